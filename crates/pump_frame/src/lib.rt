@@ -1,0 +1,12 @@
+//! The values that every layer of the relay speaks of: names, payloads, frames and session rows.
+#![tactic(auto)]
+
+mod frame;
+mod name;
+mod payload;
+mod row;
+
+pub use frame::{Frame, Item, Kind};
+pub use name::Name;
+pub use payload::Payload;
+pub use row::{RowKey, SessionRow};

@@ -1,0 +1,149 @@
+use crate::stream::{ReadFault, Sink, Source, WriteFault};
+use std::marker::Model;
+
+ghost use Rattle.std.specs.Prelude.{◌≡◌, ℕ, ◌+◌, ◌-◌, ◌^◌, ◌<◌, ◌≤◌, ◌↔◌, ◌⊎◌, List, [], ◌++◌, length, take, drop, min, Contains, Some, IfOk, OnErr, OnOk, IsErr};
+ghost use Rattle.std.specs.Io.{ReadsAtMost};
+ghost use Rattle.std.specs.Io.KnownBytes.{ReadConsumes, WriteAppends};
+ghost use Rattle.pump_link.specs.Causes.{HasCause};
+ghost use Rattle.pump_link.specs.Memory.{MemorySource, MemorySink};
+
+/// Bytes in memory as a source, given in pieces; some of its reads fail.
+#[derive(Drop)]
+pub struct MemSource {
+    bytes: Vec<u8>,
+    at: usize,
+    piece: usize,
+    fails: Vec<u64>,
+    calls: u64,
+    faults: u64,
+}
+
+impl Model for MemSource {
+    ghost Value = { MemorySource };
+
+    ghost view = { λ s. record { left = drop s.at s.bytes.items; piece = s.piece; calls = s.calls; fails = s.fails.items; faults = s.faults } };
+
+    ghost invariant = { λ s. (s.at ≤ length s.bytes.items) × (0 < s.piece) };
+}
+
+impl MemSource {
+    /// Gives at most `piece` bytes a read; the reads with these numbers, from 0, fail.
+    pub fn new(bytes: Vec<u8>, piece: usize, fails: Vec<u64>) -> Self
+        requires { 0 < piece }
+        ensures { result ≡ record { left = bytes.items; piece = piece; calls = 0; fails = fails.items; faults = 0 } }
+    {
+        MemSource {
+            bytes,
+            at: 0,
+            piece,
+            fails,
+            calls: 0,
+            faults: 0,
+        }
+    }
+}
+
+impl Source for MemSource {
+    ghost left = { λ s. Some s.left };
+
+    ghost faults = { λ s. s.faults };
+
+    fn read(&mut self, into: &mut [u8]) -> Result<usize, ReadFault>
+        requires { 0 < length into.old }
+        ensures bound { ReadsAtMost result into.new }
+        ensures bytes { ReadConsumes (Some self.old.left) (Some self.new.left) result into.new }
+        ensures cause { HasCause self.old.faults self.new.faults result }
+        ensures fails { IsErr result ↔ Contains self.old.fails self.old.calls }
+        ensures pieces { IfOk result (λ n. n ≡ min self.old.piece (min (length into.old) (length self.old.left))) }
+        ensures counted { (self.new.calls ≡ min (self.old.calls + 1) (2 ^ 64 - 1)) × (self.new.fails ≡ self.old.fails) × (self.new.piece ≡ self.old.piece) }
+    {
+        let number = self.calls;
+        self.calls = number.saturating_add(1);
+        if self.fails.contains(&number) {
+            self.faults = self.faults.saturating_add(1);
+            return Err(ReadFault);
+        }
+        let rest = &self.bytes[self.at..];
+        let count = self.piece.min(into.len()).min(rest.len());
+        into[..count].copy_from_slice(&rest[..count]);
+        self.at += count;
+        Ok(count)
+    }
+
+    fn faults(&self) -> u64 {
+        self.faults
+    }
+}
+
+/// A sink in memory, with a room that is handed in; some of its writes fail.
+#[derive(Drop)]
+pub struct MemSink {
+    bytes: Vec<u8>,
+    at: usize,
+    piece: usize,
+    fails: Vec<u64>,
+    calls: u64,
+    faults: u64,
+}
+
+impl Model for MemSink {
+    ghost Value = { MemorySink };
+
+    ghost view = { λ s. record { written = take s.at s.bytes.items; room = length s.bytes.items - s.at; piece = s.piece; calls = s.calls; fails = s.fails.items; faults = s.faults } };
+
+    ghost invariant = { λ s. (s.at ≤ length s.bytes.items) × (0 < s.piece) };
+}
+
+impl MemSink {
+    /// Takes at most `piece` bytes a write into the room handed in; the writes with these numbers, from 0, fail.
+    pub fn new(room: Vec<u8>, piece: usize, fails: Vec<u64>) -> Self
+        requires { 0 < piece }
+        ensures { result ≡ record { written = []; room = length room.items; piece = piece; calls = 0; fails = fails.items; faults = 0 } }
+    {
+        MemSink {
+            bytes: room,
+            at: 0,
+            piece,
+            fails,
+            calls: 0,
+            faults: 0,
+        }
+    }
+
+    pub fn written(&self) -> &[u8]
+        ensures { result.now ≡ self.now.written }
+    {
+        &self.bytes[..self.at]
+    }
+}
+
+impl Sink for MemSink {
+    ghost written = { λ s. Some s.written };
+
+    ghost faults = { λ s. s.faults };
+
+    fn write(&mut self, bytes: &[u8]) -> Result<usize, WriteFault>
+        requires { 0 < length bytes.now }
+        ensures some { IfOk result (λ n. (0 < n) × (n ≤ length bytes.now)) }
+        ensures bytes { WriteAppends (Some self.old.written) (Some self.new.written) result bytes.now }
+        ensures cause { HasCause self.old.faults self.new.faults result }
+        ensures fails { OnErr result ((self.old.room ≡ 0) ⊎ Contains self.old.fails self.old.calls) }
+        ensures pieces { IfOk result (λ n. n ≡ min self.old.piece (min (length bytes.now) self.old.room)) }
+    {
+        let number = self.calls;
+        self.calls = number.saturating_add(1);
+        if self.at == self.bytes.len() || self.fails.contains(&number) {
+            self.faults = self.faults.saturating_add(1);
+            return Err(WriteFault);
+        }
+        let count = self.piece.min(bytes.len()).min(self.bytes.len() - self.at);
+        let end = self.at + count;
+        self.bytes[self.at..end].copy_from_slice(&bytes[..count]);
+        self.at = end;
+        Ok(count)
+    }
+
+    fn faults(&self) -> u64 {
+        self.faults
+    }
+}

@@ -2,11 +2,13 @@
 #![tactic(auto)]
 
 mod frame;
+mod memory;
 mod name;
 mod payload;
 mod row;
 
 pub use frame::{Frame, Item, Kind};
+pub use memory::OutOfMemory;
 pub use name::Name;
 pub use payload::Payload;
 pub use row::{RowKey, SessionRow};

@@ -1,8 +1,8 @@
-use std::marker::Model;
-
 ghost use Rattle.std.specs.Prelude.{◌≡◌, ◌↔◌, IsSome, IsTrue, IfSome};
 ghost use Rattle.std.specs.List.{list_all};
 ghost use Rattle.pump_frame.specs.Names.{IsName, is_name_byte};
+
+use std::marker::Model;
 
 /// The name of a low or a high party: 1 to 32 of the bytes `a` to `z`, `0` to `9` and `-`.
 /// Contracts see it as the list of its bytes.

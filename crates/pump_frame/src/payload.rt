@@ -1,6 +1,6 @@
-use std::marker::Model;
-
 ghost use Rattle.std.specs.Prelude.{◌≡◌, ◌≤◌, ◌↔◌, length, IsSome, IfSome};
+
+use std::marker::Model;
 
 /// What a message carries: at most 1024 bytes. Contracts see it as the list of its bytes.
 #[derive(Clone, Copy)]

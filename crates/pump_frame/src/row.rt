@@ -1,7 +1,7 @@
-use crate::name::Name;
-
 ghost use Rattle.std.specs.Prelude.{◌≡◌, nat_le, ◌&&◌};
 ghost use Rattle.pump_frame.specs.Rows.{first_bad};
+
+use crate::name::Name;
 
 /// One session of the table: who may use it, and its numbers. All times are in microseconds.
 #[derive(Clone, Copy)]

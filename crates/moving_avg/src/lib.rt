@@ -1,0 +1,119 @@
+//! The moving average of High's acknowledgement times.
+#![tactic(auto)]
+
+ghost use Rattle.std.specs.Prelude.{◌≡◌, ℕ, ◌+◌, ◌-◌, ◌*◌, ◌^◌, ◌<◌, ◌≤◌, List, [], ◌∷◌, ◌++◌, length, min, IfOk};
+ghost use Rattle.std.specs.List.{All};
+
+use circular_buffer::HeapCircularBuffer;
+use pump_frame::OutOfMemory;
+use std::alloc::Global;
+
+/// All times that were pushed since it was made or cleared, in microseconds. Contracts see them as
+/// a whole list, by `HoldsTimes`; it keeps the last ones and their sum, so that a push costs the
+/// same for every window size.
+#[derive(Drop)]
+pub struct Window {
+    ring: HeapCircularBuffer<u32>,
+    sum: u64,
+    count: u32,
+    start: u32,
+    ghost total: { sum ≡ Rattle.std.specs.Prelude.sum ring.items },
+    ghost bounded: { All (λ time. time ≤ 10 ^ 9) ring.items },
+    ghost filled: { length ring.items ≡ min ring.capacity count },
+    ghost room: { (0 < ring.capacity) × (ring.capacity ≤ 256) },
+    ghost low_start: { start ≤ 10 ^ 9 },
+}
+
+impl Window {
+    ghost use Rattle.pump_frame.specs.Averages.{average_of};
+    ghost use Rattle.moving_avg.specs.Windows.{HoldsTimes, window_of, start_of, count_of};
+
+    /// A window over the last `m` times, 1 to 256, with no time yet. Its average is `start`, at
+    /// most 10^9, until the first push.
+    pub fn new(alloc: Global, m: u32, start: u32) -> Result<Window, OutOfMemory>
+        requires size { (1 ≤ m) × (m ≤ 256) }
+        requires start { start ≤ 10 ^ 9 }
+        ensures empty { IfOk result (λ window. HoldsTimes window []) }
+        ensures count { IfOk result (λ window. count_of window ≡ 0) }
+        ensures size { IfOk result (λ window. window_of window ≡ m) }
+        ensures start { IfOk result (λ window. start_of window ≡ start) }
+    {
+        let ring = HeapCircularBuffer::with_capacity(alloc, m as usize)?;
+        Ok(Window {
+            ring,
+            sum: 0,
+            count: 0,
+            start,
+        })
+    }
+
+    /// Adds a time, at most 10^9, at the end.
+    pub fn push(&mut self, micros: u32)
+        requires micros { micros ≤ 10 ^ 9 }
+        requires room { count_of self.old < 2 ^ 32 - 1 }
+        ensures times { (times : List ℕ) → HoldsTimes self.old times → HoldsTimes self.new (times ++ micros ∷ []) }
+        ensures count { count_of self.new ≡ count_of self.old + 1 }
+        ensures size { window_of self.new ≡ window_of self.old }
+        ensures start { start_of self.new ≡ start_of self.old }
+    {
+        let fallen_out = self.ring.push_back(micros).unwrap_or(0);
+        self.sum = self.sum + micros as u64 - fallen_out as u64;
+        self.count += 1;
+    }
+
+    /// The mean of the last times, rounded down: of the window's size, or of all where there are
+    /// fewer; the start where there is none.
+    pub fn average(&self) -> u32
+        ensures average { (times : List ℕ) → HoldsTimes self.now times → result ≡ average_of (window_of self.now) (start_of self.now) times }
+        ensures bound { result ≤ 10 ^ 9 }
+    {
+        if self.count == 0 {
+            return self.start;
+        }
+        let _start = self.start;
+        let length = self.ring.len();
+        (self.sum / length as u64) as u32
+    }
+
+    /// How many times there are.
+    pub fn count(&self) -> u32
+        ensures times { (times : List ℕ) → HoldsTimes self.now times → result ≡ length times }
+        ensures count { result ≡ count_of self.now }
+    {
+        self.count
+    }
+
+    /// Forgets all times. It is then as it was made.
+    pub fn clear(&mut self)
+        ensures empty { HoldsTimes self.new [] }
+        ensures count { count_of self.new ≡ 0 }
+        ensures size { window_of self.new ≡ window_of self.old }
+        ensures start { start_of self.new ≡ start_of self.old }
+    {
+        self.ring.clear();
+        self.sum = 0;
+        self.count = 0;
+    }
+}
+
+#[cfg(test)]
+mod tests {
+    use super::*;
+
+    #[test]
+    fn averages_the_last_two_times(rt: HostRuntime) -> Result<(), OutOfMemory> {
+        let mut window = Window::new(rt.alloc(), 2, 20000)?;
+        assert_eq!(rt; window.average(), 20000);
+        window.push(100);
+        assert_eq!(rt; window.average(), 100);
+        window.push(300);
+        assert_eq!(rt; window.average(), 200);
+        window.push(500);
+        assert_eq!(rt; window.average(), 400);
+        assert_eq!(rt; window.count(), 3);
+        window.clear();
+        assert_eq!(rt; window.average(), 20000);
+        assert_eq!(rt; window.count(), 0);
+        Ok(())
+    }
+}

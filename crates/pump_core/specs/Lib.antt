@@ -1,3 +1,12 @@
+pub mod Comings
 pub mod Events
+pub mod Exchanges
+pub mod History
 pub mod Lawful
+pub mod Pairs
+pub mod Phases
+pub mod Replies
+pub mod Standing
+pub mod Step
+pub mod Thinned
 pub mod World

@@ -1,7 +1,9 @@
-//! The plain core of the relay: its world, what may happen in it, and the laws that hold whatever
-//! happens.
+//! The plain core of the relay: its world, what may happen in it, the histories of its low process
+//! with their replies, and the laws that hold whatever happens.
 #![tactic(auto)]
 
 mod event;
+mod feedback;
 
 pub use event::{Event, Hostile};
+pub use feedback::{Feedback, Seen};

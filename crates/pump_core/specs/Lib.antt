@@ -9,4 +9,5 @@ pub mod Replies
 pub mod Standing
 pub mod Step
 pub mod Thinned
+pub mod View
 pub mod World

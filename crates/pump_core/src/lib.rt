@@ -4,6 +4,9 @@
 
 mod event;
 mod feedback;
+mod refill;
+mod world;
 
 pub use event::{Event, Hostile};
 pub use feedback::{Feedback, Seen};
+pub use world::World;

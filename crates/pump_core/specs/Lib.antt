@@ -6,8 +6,10 @@ pub mod Lawful
 pub mod Pairs
 pub mod Phases
 pub mod Replies
+pub mod Runs
 pub mod Standing
 pub mod Step
 pub mod Thinned
+pub mod Timed
 pub mod View
 pub mod World

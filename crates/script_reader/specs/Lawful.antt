@@ -1,6 +1,5 @@
 -- The lines that a reader gives: their numbers are in the ranges of the grammar.
-use Rattle.std.specs.Prelude.{◌≡◌, ℕ, ◌^◌, ◌<◌, ◌≤◌, length}
-use Rattle.pump_frame.specs.declared.row.SessionRow.{SessionRow}
+use Rattle.std.specs.Prelude.{◌≡◌, ◌^◌, ◌<◌, ◌≤◌, length}
 use Rattle.script_reader.specs.declared.line.Line.{Line}
 use Rattle.script_reader.specs.declared.line.Line.TheVariants.{Skip, Session, Look, Gone, Done}
 use Rattle.script_reader.specs.declared.line.Arriving.{Arriving}

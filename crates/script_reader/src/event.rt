@@ -1,3 +1,4 @@
+use pump_core::Seen;
 use pump_frame::Frame;
 
 /// A line of a transcript; `docs/formats.md`, "Transcript", says when each comes. Moments and
@@ -14,6 +15,23 @@ pub enum Event {
     Full {
         session: u32,
         moment: u64,
+    },
+    /// The message in the low hand was passed, and its acknowledgement is owed.
+    Passed {
+        session: u32,
+        moment: u64,
+        seen: Seen,
+    },
+    /// The message in the low hand was passed, and nobody waits for its acknowledgement.
+    Released {
+        session: u32,
+        moment: u64,
+    },
+    /// A message came that is stored already.
+    Repeat {
+        session: u32,
+        moment: u64,
+        seen: Seen,
     },
     /// The low process replied: a lawful WELCOME, ACK or REFUSE.
     Low {
@@ -36,6 +54,11 @@ pub enum Event {
     },
     /// The receiver took a message.
     Took {
+        session: u32,
+        number: u64,
+    },
+    /// The receiver had the message already.
+    Again {
         session: u32,
         number: u64,
     },

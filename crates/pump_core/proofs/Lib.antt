@@ -1,6 +1,14 @@
+pub mod Agreement
 pub mod Bounded
+pub mod Cuts
 pub mod Delivered
+pub mod Greetings
+pub mod Grows
 pub mod Laws
 pub mod Lists
 pub mod Once
+pub mod Runs
+pub mod Sides
+pub mod Standings
 pub mod Stepping
+pub mod Thinning

@@ -5,7 +5,7 @@ use Rattle.pump_frame.specs.declared.frame.Frame.{Frame}
 use Rattle.pump_frame.specs.declared.row.SessionRow.{SessionRow}
 use Rattle.pump_core.specs.declared.feedback.Feedback.{Feedback}
 use Rattle.pump_core.specs.History.{Arrival}
-use Rattle.pump_core.specs.History.{Nothing, Came, Bad, Gone}
+use Rattle.pump_core.specs.History.{Nothing, Came, Bad}
 use Rattle.pump_core.specs.History.{Look, Opening, Life, History}
 use Rattle.pump_core.specs.Exchanges.{is_gone, Part, is_finished, is_left_by, IsCut}
 use Rattle.pump_core.specs.Pairs.{uncounted}

@@ -1,11 +1,8 @@
 -- Two histories that agree in all but the counts that were told.
-use Rattle.std.specs.Prelude.{◌≡◌, ℕ, Bool, List, [], ◌∷◌}
-use Rattle.pump_frame.specs.declared.row.SessionRow.{SessionRow}
-use Rattle.pump_core.specs.declared.feedback.Seen.{Seen}
+use Rattle.std.specs.Prelude.{◌≡◌, List, [], ◌∷◌}
 use Rattle.pump_core.specs.declared.feedback.Feedback.{Feedback}
 use Rattle.pump_core.specs.declared.feedback.Feedback.TheVariants.{Quiet, Full, Passed, Released, Repeat}
-use Rattle.pump_core.specs.History.{Look, Opening, Life, History}
-use Rattle.pump_core.specs.Replies.{Sent, LowReplies}
+use Rattle.pump_core.specs.History.{Look, Life, History}
 
 -- the feedback with its count forgotten
 abbrev pub uncounted : Feedback → Feedback

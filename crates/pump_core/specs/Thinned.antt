@@ -1,9 +1,9 @@
 -- A history from which looks are left out that change no reply: those that find nothing, those that
 -- wait for a due moment, and those that find the passage full.
-use Rattle.std.specs.Prelude.{◌≡◌, ℕ, Bool, List, [], ◌∷◌}
+use Rattle.std.specs.Prelude.{◌≡◌, List, [], ◌∷◌}
 use Rattle.pump_frame.specs.declared.row.SessionRow.{SessionRow}
-use Rattle.pump_core.specs.History.{Look, Opening, Life, History}
-use Rattle.pump_core.specs.Exchanges.{Wait, Waiting, Over, Part, Holding, Release, Empty, Leaving, Answer, Repeated, Offering, Dropped, Delivery, Loss, looks_of, IsCut}
+use Rattle.pump_core.specs.History.{Look, Life, History}
+use Rattle.pump_core.specs.Exchanges.{Wait, Waiting, Over, Part, Empty, Repeated, Offering, Dropped, Delivery, looks_of, IsCut}
 
 -- the second list is the first with looks left out
 pub data Fewer : List Look → List Look → Type 0 where

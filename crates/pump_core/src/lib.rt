@@ -4,9 +4,14 @@
 
 mod event;
 mod feedback;
+mod histories;
 mod refill;
 mod world;
 
 pub use event::{Event, Hostile};
 pub use feedback::{Feedback, Seen};
+pub use histories::{
+    cuts_are_one, greetings_are_permitted_by_name, pairs_agree, replies_are_one, sides_decide,
+    thinned_histories_agree,
+};
 pub use world::World;

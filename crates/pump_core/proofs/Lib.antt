@@ -7,6 +7,7 @@ pub mod Grows
 pub mod Laws
 pub mod Lists
 pub mod Once
+pub mod PassageSteps
 pub mod Runs
 pub mod Sides
 pub mod Standings

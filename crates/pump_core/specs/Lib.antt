@@ -4,6 +4,7 @@ pub mod Exchanges
 pub mod History
 pub mod Lawful
 pub mod Pairs
+pub mod Passage
 pub mod Phases
 pub mod Replies
 pub mod Runs

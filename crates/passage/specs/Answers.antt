@@ -1,0 +1,16 @@
+-- A fact for each answer of an end.
+use Rattle.pump_frame.specs.declared.frame.Item.{Item}
+use Rattle.passage.specs.declared.ends.Forwarded.{Forwarded}
+use Rattle.passage.specs.declared.ends.Forwarded.TheVariants.{Passed, Full}
+use Rattle.passage.specs.declared.ends.Next.{Next}
+use Rattle.passage.specs.declared.ends.Next.TheVariants.{Got, Empty}
+
+-- one fact where the item passed, and another of the item that came back
+abbrev pub MatchForwarded : Forwarded → Type 0 → (Item → Type 0) → Type 0
+MatchForwarded Passed P Q = P
+MatchForwarded (Full back) P Q = Q back
+
+-- one fact of the item that was got, and another where there was none
+abbrev pub MatchNext : Next → (Item → Type 0) → Type 0 → Type 0
+MatchNext (Got item) P Q = P item
+MatchNext Empty P Q = Q

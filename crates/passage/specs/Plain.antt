@@ -1,0 +1,20 @@
+-- What both ends on one thread stand for.
+use Rattle.std.specs.Prelude.{◌≡◌, ◌++◌, List}
+use Rattle.pump_frame.specs.declared.frame.Item.{Item}
+use Rattle.moving_avg.specs.Windows.{HoldsTimes, window_of, start_of}
+use Rattle.pump_core.specs.Passage.{Shape, Low, High, Fits}
+use Rattle.passage.specs.declared.plain.PlainEnds.{PlainEnds}
+
+abbrev pub shape_of : PlainEnds → Shape
+shape_of e = record { places = e.items.capacity; window = window_of e.window; start = start_of e.window }
+
+-- the items in between, the next one first
+abbrev pub held_in : PlainEnds → List Item
+held_in e = e.items.items
+
+-- the ends did this in all: they keep the law of a passage, and hold the items that were forwarded
+-- and not taken up, and the times that were published
+pub record StandsFor (e : PlainEnds) (l : Low) (h : High) : Type 0 where
+  pub lawful : Fits (shape_of e) l h
+  pub between : l.forwarded ≡ h.taken ++ held_in e
+  pub times : HoldsTimes e.window h.times

@@ -1,0 +1,104 @@
+ghost use Rattle.std.specs.Prelude.{◌≡◌, ◌+◌, ◌-◌, ◌^◌, ◌<◌, ◌≤◌, length};
+ghost use Rattle.pump_core.specs.Passage.{Low, High, ComesNext, publishes, Passes, Refuses, Reads, Gives, GivesNone};
+ghost use Rattle.passage.specs.Answers.{MatchForwarded, MatchNext};
+
+use pump_core::Seen;
+use pump_frame::Item;
+
+/// What became of an item that was offered.
+#[derive(Clone, Copy)]
+pub enum Forwarded {
+    /// It is in the passage.
+    Passed,
+    /// All places were full at a step of this call. The item comes back.
+    Full(Item),
+}
+
+/// What a high end found.
+#[derive(Clone, Copy)]
+pub enum Next {
+    /// The item is taken up.
+    Got(Item),
+    /// Nothing was held at a step of this call.
+    Empty,
+}
+
+/// What a low end means. It stands for what it did, beside what the high end of its passage did; an
+/// end that knows nothing of the other one stands beside any.
+pub trait LowSide {
+    ghost use Rattle.std.specs.Prelude.{Bool, List};
+    ghost use Rattle.atomic_table.specs.Seated.{TableId};
+    ghost use Rattle.pump_core.specs.Passage.{Shape, Low, High};
+
+    /// The passage's places, and how times are averaged in it.
+    ghost shape: { Self → Shape };
+
+    /// Which passage it is an end of: the tables that both ends share.
+    ghost place: { Self → List TableId };
+
+    /// Both ends are on one thread, so that a call sees the other end as it is.
+    ghost exact: { Bool };
+
+    /// What was done at this end, and at the other one.
+    ghost stands: { Self → Low → High → Type 0 };
+}
+
+/// What a high end means, in the same way.
+pub trait HighSide {
+    ghost use Rattle.std.specs.Prelude.{Bool, List};
+    ghost use Rattle.atomic_table.specs.Seated.{TableId};
+    ghost use Rattle.pump_core.specs.Passage.{Shape, Low, High};
+
+    /// The passage's places, and how times are averaged in it.
+    ghost shape: { Self → Shape };
+
+    /// Which passage it is an end of: the tables that both ends share.
+    ghost place: { Self → List TableId };
+
+    /// Both ends are on one thread, so that a call sees the other end as it is.
+    ghost exact: { Bool };
+
+    /// What was done at the other end, and at this one.
+    ghost stands: { Self → Low → High → Type 0 };
+}
+
+/// The end of the low process, whose calls wait for nobody.
+pub trait LowEnd: LowSide {
+    /// Offers an item. Its number is below 2^48 and, where an item was forwarded before, one above
+    /// that of the last. It is full only where all places were taken at a step of this call, which
+    /// is told as a try.
+    fn forward(&mut self, item: Item) -> Forwarded
+        requires { (l : Low) × (h : High) × Self.stands self.old l h × ComesNext l.forwarded item.number × (item.number < 2 ^ 48) }
+        ensures same { (Self.shape self.new ≡ Self.shape self.old) × (Self.place self.new ≡ Self.place self.old) }
+        ensures step { (l : Low) (h : High) → Self.stands self.old l h → ComesNext l.forwarded item.number
+            → MatchForwarded result (Passes (Self.shape self.old) Self.exact (Self.stands self.new) l h item)
+            (λ back. (back ≡ item) × Refuses (Self.shape self.old) Self.exact (Self.stands self.new) l h) };
+
+    /// What was published at a step of this call: how many times, not fewer than were read before,
+    /// and their average in microseconds, at most 10^9.
+    fn average(&mut self) -> Seen
+        requires { (l : Low) × (h : High) × Self.stands self.old l h }
+        ensures same { (Self.shape self.new ≡ Self.shape self.old) × (Self.place self.new ≡ Self.place self.old) }
+        ensures bound { result.average ≤ 10 ^ 9 }
+        ensures step { (l : Low) (h : High) → Self.stands self.old l h
+            → Reads (Self.shape self.old) Self.exact (Self.stands self.new) l h result.count result.average };
+}
+
+/// The end of the high process, whose calls wait for nobody.
+pub trait HighEnd: HighSide {
+    /// Takes up the next item. `removed`, the number of messages removed so far, is above that of
+    /// every earlier call that got an item. Nothing comes only where nothing was held at a step of
+    /// this call, which is told as a try.
+    fn next(&mut self, removed: u64) -> Next
+        requires { (l : Low) × (h : High) × Self.stands self.old l h × (h.floor ≤ removed) }
+        ensures same { (Self.shape self.new ≡ Self.shape self.old) × (Self.place self.new ≡ Self.place self.old) }
+        ensures step { (l : Low) (h : High) → Self.stands self.old l h
+            → MatchNext result (λ item. Gives (Self.shape self.old) Self.exact (Self.stands self.new) l h item removed)
+            (GivesNone (Self.shape self.old) Self.exact (Self.stands self.new) l h) };
+
+    /// Publishes a time in microseconds, at most 10^9, where fewer than 2^32 - 1 were published.
+    fn publish(&mut self, micros: u32)
+        requires { (l : Low) × (h : High) × Self.stands self.old l h × (micros ≤ 10 ^ 9) × (length h.times < 2 ^ 32 - 1) }
+        ensures same { (Self.shape self.new ≡ Self.shape self.old) × (Self.place self.new ≡ Self.place self.old) }
+        ensures step { (l : Low) (h : High) → Self.stands self.old l h → Self.stands self.new l (publishes h micros) };
+}

@@ -1,0 +1,108 @@
+ghost use Rattle.std.specs.Prelude.{◌≡◌, ◌+◌, ◌<◌, ◌≤◌, length, IfOk};
+
+use crate::ends::{Forwarded, HighEnd, HighSide, LowEnd, LowSide, Next};
+use circular_buffer::HeapCircularBuffer;
+use moving_avg::Window;
+use pump_core::Seen;
+use pump_frame::{Item, OutOfMemory, SessionRow};
+use std::alloc::Global;
+
+/// Both ends of a passage on one thread, which sees them as they are: an item is refused exactly
+/// where all places are full, nothing comes exactly where nothing is held, the first item held
+/// comes first, and the average is that of all times published.
+#[derive(Drop)]
+pub struct PlainEnds {
+    items: HeapCircularBuffer<Item>,
+    window: Window,
+    ghost fits: { length items.items ≤ items.capacity },
+    ghost room: { (0 < items.capacity) × (items.capacity ≤ 62) },
+}
+
+impl LowSide for PlainEnds {
+    ghost use Rattle.std.specs.Prelude.{true, []};
+    ghost use Rattle.passage.specs.Plain.{shape_of, StandsFor};
+
+    ghost shape = { shape_of };
+
+    ghost place = { λ e. [] };
+
+    ghost exact = { true };
+
+    ghost stands = { StandsFor };
+}
+
+impl HighSide for PlainEnds {
+    ghost use Rattle.std.specs.Prelude.{true, []};
+    ghost use Rattle.passage.specs.Plain.{shape_of, StandsFor};
+
+    ghost shape = { shape_of };
+
+    ghost place = { λ e. [] };
+
+    ghost exact = { true };
+
+    ghost stands = { StandsFor };
+}
+
+impl PlainEnds {
+    ghost use Rattle.pump_frame.specs.Rows.{IsLawfulRow};
+    ghost use Rattle.pump_core.specs.Passage.{Low, High, new_low, new_high, shape_of_row};
+    ghost use Rattle.passage.specs.Plain.{shape_of, StandsFor};
+
+    /// The passage of a lawful row: of its capacity two less, since two messages are in the hands of
+    /// the processes.
+    pub fn new(alloc: Global, row: &SessionRow) -> Result<PlainEnds, OutOfMemory>
+        requires { IsLawfulRow row.now }
+        ensures empty { IfOk result (λ ends. StandsFor ends new_low new_high) }
+        ensures shape { IfOk result (λ ends. shape_of ends ≡ shape_of_row row.now) }
+    {
+        let items = HeapCircularBuffer::with_capacity(alloc, row.capacity as usize - 2)?;
+        let window = Window::new(alloc, row.window, row.start)?;
+        Ok(PlainEnds { items, window })
+    }
+
+    /// Forgets all items and times. It is then as it was made.
+    pub fn clear(&mut self)
+        ensures empty { StandsFor self.new new_low new_high }
+        ensures shape { shape_of self.new ≡ shape_of self.old }
+    {
+        self.items.clear();
+        self.window.clear();
+    }
+
+    /// How many items are held.
+    pub fn held(&self) -> u32
+        ensures { (l : Low) (h : High) → StandsFor self.now l h → length l.forwarded ≡ length h.taken + result }
+    {
+        self.items.len() as u32
+    }
+}
+
+impl LowEnd for PlainEnds {
+    fn forward(&mut self, item: Item) -> Forwarded {
+        match self.items.try_push_back(item) {
+            Ok(()) => Forwarded::Passed,
+            Err(item) => Forwarded::Full(item),
+        }
+    }
+
+    fn average(&mut self) -> Seen {
+        Seen {
+            count: self.window.count(),
+            average: self.window.average(),
+        }
+    }
+}
+
+impl HighEnd for PlainEnds {
+    fn next(&mut self, _removed: u64) -> Next {
+        match self.items.pop_front() {
+            Some(item) => Next::Got(item),
+            None => Next::Empty,
+        }
+    }
+
+    fn publish(&mut self, micros: u32) {
+        self.window.push(micros);
+    }
+}

@@ -1,0 +1,120 @@
+-- A passage between the two processes: what each of its ends did, the law that ties them, and what
+-- one call of an end leaves.
+use Rattle.std.specs.Prelude.{◌≡◌, ℕ, ◌+◌, ◌-◌, ◌<◌, ◌≤◌, Bool, true, List, [], ◌∷◌, ◌++◌, length, take}
+use Rattle.std.specs.List.{All}
+use Rattle.pump_frame.specs.Averages.{average_of}
+use Rattle.pump_frame.specs.declared.frame.Item.{Item}
+use Rattle.pump_frame.specs.declared.row.SessionRow.{SessionRow}
+
+-- how many items fit into it; how many times are averaged; the average before the first time
+pub record Shape : Type 0 where
+  pub places : ℕ
+  pub window : ℕ
+  pub start : ℕ
+
+-- the passage of a session: two of its messages are in the hands of the processes
+abbrev pub shape_of_row : SessionRow → Shape
+shape_of_row row = record { places = row.capacity - 2; window = row.window; start = row.start }
+
+-- what a low end did: the items forwarded; its tries that found no room, each with the number
+-- forwarded and the number taken up; the pairs of count and average that it read
+pub record Low : Type 0 where
+  pub forwarded : List Item
+  pub tries : List (ℕ × ℕ)
+  pub pairs : List (ℕ × ℕ)
+
+-- what a high end did: the items taken up; one above the number removed at the last of them, or 0;
+-- the times published; its tries that found nothing, each with the number forwarded and taken up
+pub record High : Type 0 where
+  pub taken : List Item
+  pub floor : ℕ
+  pub times : List ℕ
+  pub tries : List (ℕ × ℕ)
+
+-- an end that did nothing yet
+abbrev pub new_low : Low
+new_low = record { forwarded = []; tries = []; pairs = [] }
+
+abbrev pub new_high : High
+new_high = record { taken = []; floor = 0; times = []; tries = [] }
+
+-- the items have the numbers from `first` on
+abbrev pub Numbered : ℕ → List Item → Type 0
+Numbered first [] = Unit {0}
+Numbered first (x ∷ xs) = (x.number ≡ first) × Numbered (first + 1) xs
+
+-- the numbers rise by one
+abbrev pub Rises : List Item → Type 0
+Rises items = (first : ℕ) × Numbered first items
+
+-- this number may come next: the last item, if there is one, has the number before it
+abbrev pub ComesNext : List Item → ℕ → Type 0
+ComesNext [] n = Unit {0}
+ComesNext (x ∷ []) n = n ≡ x.number + 1
+ComesNext (x ∷ y ∷ ys) n = ComesNext (y ∷ ys) n
+
+-- the counts of the pairs never fall
+abbrev pub NeverFall : List (ℕ × ℕ) → Type 0
+NeverFall [] = Unit {0}
+NeverFall (p ∷ ps) = All (λ q. p.0 ≤ q.0) ps × NeverFall ps
+
+-- the pair is a count of times, and the average of the first so many
+abbrev pub IsAverage : Shape → List ℕ → ℕ × ℕ → Type 0
+IsAverage s times p = (p.0 ≤ length times) × (p.1 ≡ average_of s.window s.start (take p.0 times))
+
+-- the law of the two ends of one passage: what was taken up is the beginning of what was forwarded
+pub record Agrees (s : Shape) (l : Low) (h : High) : Type 0 where
+  pub held : (rest : List Item) × (l.forwarded ≡ h.taken ++ rest)
+  pub rises : Rises l.forwarded
+  pub averages : All (IsAverage s h.times) l.pairs
+  pub never_fall : NeverFall l.pairs
+  pub low_tries : All (λ t. t.1 ≤ length h.taken) l.tries
+  pub high_tries : All (λ t. t.0 ≤ length l.forwarded) h.tries
+
+-- .. and no more is in between than has room
+pub record Fits (s : Shape) (l : Low) (h : High) : Type 0 where
+  pub agrees : Agrees s l h
+  pub room : length l.forwarded ≤ length h.taken + s.places
+
+-- the steps of a low end: an item passes; a try finds no room; a pair is read
+abbrev pub forwards : Low → Item → Low
+forwards l x = record l { forwarded = l.forwarded ++ x ∷ [] }
+
+abbrev pub tried : Low → ℕ → Low
+tried l taken = record l { tries = l.tries ++ (length l.forwarded, taken) ∷ [] }
+
+abbrev pub read_pair : Low → ℕ → ℕ → Low
+read_pair l count average = record l { pairs = l.pairs ++ (count, average) ∷ [] }
+
+-- the steps of a high end: an item is taken up; a try finds nothing; a time is published
+abbrev pub takes : High → Item → ℕ → High
+takes h x removed = record h { taken = h.taken ++ x ∷ []; floor = removed + 1 }
+
+abbrev pub sought : High → ℕ → High
+sought h forwarded = record h { tries = h.tries ++ (forwarded, length h.taken) ∷ [] }
+
+abbrev pub publishes : High → ℕ → High
+publishes h micros = record h { times = h.times ++ micros ∷ [] }
+
+-- What one call leaves. `after` is what the end stands for at the return, and `exact` says that
+-- both ends are on one thread, so that the call sees the other end as it is.
+module _ (s : Shape) (exact : Bool) (after : Low → High → Type 0) (l : Low) (h : High) where
+  -- the item passed
+  abbrev pub Passes : Item → Type 0
+  Passes x = (exact ≡ true → length l.forwarded < length h.taken + s.places) × after (forwards l x) h
+
+  -- a try found all places full
+  abbrev pub Refuses : Type 0
+  Refuses = (taken : ℕ) × (length l.forwarded ≡ taken + s.places) × (exact ≡ true → taken ≡ length h.taken) × after (tried l taken) h
+
+  -- a count not below those before was read, with its average
+  abbrev pub Reads : ℕ → ℕ → Type 0
+  Reads count average = All (λ p. p.0 ≤ count) l.pairs × (exact ≡ true → (count ≡ length h.times) × (average ≡ average_of s.window s.start h.times)) × after (read_pair l count average) h
+
+  -- the item was taken up
+  abbrev pub Gives : Item → ℕ → Type 0
+  Gives x removed = (exact ≡ true → (rest : List Item) × (l.forwarded ≡ (h.taken ++ x ∷ []) ++ rest)) × after l (takes h x removed)
+
+  -- a try found nothing
+  abbrev pub GivesNone : Type 0
+  GivesNone = (exact ≡ true → length h.taken ≡ length l.forwarded) × after l (sought h (length h.taken))

@@ -2,10 +2,13 @@ pub mod Agreement
 pub mod Bounded
 pub mod Cuts
 pub mod Delivered
+pub mod Example
 pub mod Greetings
 pub mod Grows
+pub mod Held
 pub mod Laws
 pub mod Lists
+pub mod Onward
 pub mod Once
 pub mod PassageSteps
 pub mod Runs

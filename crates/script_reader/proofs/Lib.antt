@@ -1,0 +1,10 @@
+pub mod FieldChains
+pub mod FieldLaws
+pub mod FreeFields
+pub mod LineEnds
+pub mod LineLaws
+pub mod LookLaws
+pub mod MomentLaws
+pub mod NextLaws
+pub mod SessionLaws
+pub mod Splits

@@ -1,6 +1,12 @@
+pub mod Fields
+pub mod Fronts
+pub mod Grammar
 pub mod Highs
 pub mod Lawful
+pub mod Lines
 pub mod Lows
+pub mod Parsing
 pub mod Past
 pub mod Scripts
 pub mod Steps
+pub mod Transcript

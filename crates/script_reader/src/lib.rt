@@ -1,8 +1,18 @@
-//! The lines of a script and of its transcript.
+//! The lines of a script and of its transcript: which bytes they are, and a reader of lines from a
+//! stream.
 #![tactic(auto)]
 
 mod event;
+mod fault;
+mod fields;
 mod line;
+mod lines;
+mod printing;
+mod reading;
 
 pub use event::Event;
+pub use fault::Fault;
 pub use line::{Arriving, Line};
+pub use lines::{Lined, Lines};
+pub use printing::{print_event, print_fault};
+pub use reading::read_line;

@@ -1,0 +1,36 @@
+-- The lines of a session and a moment on lists are the grammar's.
+use Rattle.std.proofs.Common.{◌≡◌, ℕ, ◌+◌, ◌^◌, ◌<◌, ◌≤◌, List, [], ◌∷◌, Some, codes, decimal, refl, subst, arith}
+use Rattle.script_reader.specs.declared.line.Line.{Line}
+use Rattle.script_reader.specs.declared.line.Line.TheVariants.{Gone, Done}
+use Rattle.script_reader.specs.Grammar.{HasFields}
+use Rattle.script_reader.specs.Parsing.{gone_of, done_of}
+use Rattle.script_reader.proofs.FieldChains.{take_number, number_put, end_at}
+
+pub gone_takes : (fields : List (List ℕ)) (line : Line) → gone_of fields ≡ Some line → HasFields line (codes "gone" ∷ fields)
+unfolding gone_of
+gone_takes fields line e =
+    take_number (2 ^ 32) fields _ line e (λ session fa ha ea e.
+    take_number (2 ^ 62 + 1) fa _ line e (λ moment fb hb eb e.
+    let k = end_at _ fb line e in
+    subst (λ l. HasFields l (codes "gone" ∷ fields)) k.1 (ha, omega (arith, hb), rw (ea, eb, k.0) refl)
+    ))
+
+pub gone_put : (session moment : ℕ) → session < 2 ^ 32 → moment ≤ 2 ^ 62 → gone_of (decimal session ∷ decimal moment ∷ []) ≡ Some (Gone session moment)
+unfolding gone_of
+gone_put session moment hs hm =
+    rw (number_put (2 ^ 32) session _ hs (omega arith), number_put (2 ^ 62 + 1) moment _ (omega arith) (omega arith)) refl
+
+pub done_takes : (fields : List (List ℕ)) (line : Line) → done_of fields ≡ Some line → HasFields line (codes "done" ∷ fields)
+unfolding done_of
+done_takes fields line e =
+    take_number (2 ^ 32) fields _ line e (λ session fa ha ea e.
+    take_number (2 ^ 62 + 1) fa _ line e (λ moment fb hb eb e.
+    take_number (10 ^ 9 + 1) fb _ line e (λ time fc hc ec e.
+    let k = end_at _ fc line e in
+    subst (λ l. HasFields l (codes "done" ∷ fields)) k.1 (ha, omega (arith, hb), omega (arith, hc), rw (ea, eb, ec, k.0) refl)
+    )))
+
+pub done_put : (session moment time : ℕ) → session < 2 ^ 32 → moment ≤ 2 ^ 62 → time ≤ 10 ^ 9 → done_of (decimal session ∷ decimal moment ∷ decimal time ∷ []) ≡ Some (Done session moment time)
+unfolding done_of
+done_put session moment time hs hm ht =
+    rw (number_put (2 ^ 32) session _ hs (omega arith), number_put (2 ^ 62 + 1) moment _ (omega arith) (omega arith), number_put (10 ^ 9 + 1) time _ (omega arith) (omega arith)) refl

@@ -1,0 +1,22 @@
+use Rattle.std.proofs.Common.{◌≡◌, ◌+◌, ◌-◌, ◌++◌, ◌≤◌, List, ℕ, length, append-nil, take, drop, sym, ap, ◌∙◌, arith}
+use borrow.Rule.Slice.PartMut.{put_mid}
+use Rattle.script_reader.proofs.LineEnds.{held_more, Keeps-moved}
+use Rattle.script_reader.proofs.lines.Lines.fill.Goals as goal
+
+grown_to : (cells turned into : List ℕ) (start end count : ℕ) → turned ≡ drop start cells ++ take start cells → start ≤ end → end ≤ length cells → count ≤ length into
+    → take (end - start + count - 0) (put_mid (end - start) (4096 - (end - start)) turned into) ≡ take (end - start) (drop start cells) ++ take count into
+grown_to cells turned into start end count e order fits few =
+    let zero : end - start + count - 0 ≡ end - start + count = omega arith in
+    rw (zero, e) (held_more cells into start end count (4096 - (end - start)) order fits few)
+
+pub returns-clause-kept : goal.returns-clause-kept
+returns-clause-kept g c =
+    let s = c.self.inside in
+    let grown = grown_to s.cells c.rotate_left.new.self c.read.new.into s.start s.end c.in_ok-count.count c.rotate_left.ensures.after (omega arith) (omega (arith, c.self.told)) (omega (arith, c.in_ok-count.ensures.bound)) in
+    rw (← c.self.view_is, grown) (Keeps-moved _ _ _ _ c.in_ok-count.ensures.bytes.0)
+
+pub returns-clause-same : goal.returns-clause-same
+returns-clause-same g c =
+    let s = c.self.inside in
+    let grown = grown_to s.cells c.rotate_left.new.self c.read.new.into s.start s.end c.in_ok-count.count c.rotate_left.ensures.after (omega arith) (omega (arith, c.self.told)) (omega (arith, c.in_ok-count.ensures.bound)) in
+    λ none. rw (← c.self.view_is) (grown ∙ ap (λ n. take (s.end - s.start) (drop s.start s.cells) ++ take n c.read.new.into) none ∙ append-nil (take (s.end - s.start) (drop s.start s.cells)))

@@ -1,0 +1,158 @@
+-- Reading a line field by field, as the code does it. It serves proofs alone: no public clause names it, and
+-- proofs/LineLaws.antt ties it to the grammar.
+use Rattle.std.specs.Prelude.{◌≡◌, ℕ, ◌+◌, ◌^◌, ◌/◌, ◌≤◌, ◌==◌, slice_index, ◌&&◌, nat_lt, nat_le, Bool, true, false, if◌then◌else◌, List, [], ◌∷◌, length, codes, decimal, Option, None, Some, Result, Ok, Err}
+use Rattle.std.specs.List.{slice_split, list_all}
+use Rattle.std.specs.Str.{bytes_eq}
+use Rattle.std.specs.Str.Parse.{digits_value}
+use Rattle.std.specs.Int.{from_be_bytes, w32}
+use Rattle.hex.specs.Hex.{decode_sized}
+use Rattle.arrayvec.specs.ArrayVec.{ArrayVec}
+use Rattle.hex.specs.declared.FromHexError.{FromHexError}
+use Rattle.pump_frame.specs.Names.{is_name_byte}
+use Rattle.pump_frame.specs.declared.row.SessionRow.{SessionRow}
+use Rattle.script_reader.specs.Fields.{is_space}
+use Rattle.script_reader.specs.declared.line.Line.{Line}
+use Rattle.script_reader.specs.declared.line.Line.TheVariants.{Skip, Session, Look, Gone, Done}
+use Rattle.script_reader.specs.declared.line.Arriving.{Arriving}
+use Rattle.script_reader.specs.declared.line.Arriving.TheVariants.{Nothing, Hello, Data, Raw}
+
+infixl 10 ◌>>=◌
+abbrev pub ◌>>=◌ : {A B : Type 0} → Option A → (A → Option B) → Option B
+(Some x) >>= f = f x
+None >>= f = None
+
+abbrev pub with_rest : {A : Type 0} → Option A → List (List ℕ) → Option (A × List (List ℕ))
+with_rest None rest = None
+with_rest (Some x) rest = Some (x, rest)
+
+-- the first field that is left, read by `read`, and the fields after it
+abbrev pub field_at : {A : Type 0} → (List ℕ → Option A) → List (List ℕ) → Option (A × List (List ℕ))
+field_at read [] = None
+field_at read (field ∷ fields) = with_rest (read field) fields
+
+-- What a reader of one field answered, and the fields that it left, are what reading gives.
+abbrev pub Reads : {A : Type 0} → Option A → List (List ℕ) → Option (A × List (List ℕ)) → Type 0
+Reads None left read = read ≡ None
+Reads (Some x) left read = read ≡ Some (x, left)
+
+-- it begins with a digit, and 0 stands alone
+pub record IsPlain (field : List ℕ) : Type 0 where
+  pub low : 48 ≤ slice_index field 0
+  pub high : slice_index field 0 ≤ 57
+  pub alone : slice_index field 0 ≡ 48 → length field ≡ 1
+
+-- the number below the bound whose digits the field is
+unfoldable pub number : ℕ → List ℕ → Option ℕ
+number bound field =
+    if bytes_eq (decimal (digits_value 10 field)) field && nat_lt (digits_value 10 field) bound then Some (digits_value 10 field) else None
+
+abbrev pub word_from : Result (List ℕ) FromHexError → Option ℕ
+word_from (Ok bytes) = Some (from_be_bytes w32 bytes)
+word_from (Err e) = None
+
+unfoldable pub word : List ℕ → Option ℕ
+word field = word_from (decode_sized field 4)
+
+unfoldable pub name : List ℕ → Option (List ℕ)
+name field = if nat_lt 0 (length field) && (nat_le (length field) 32 && list_all is_name_byte field) then Some field else None
+
+abbrev pub at_end : {A : Type 0} → A → List (List ℕ) → Option A
+at_end x [] = Some x
+at_end x (field ∷ fields) = None
+
+unfoldable pub session_of : List (List ℕ) → Option Line
+session_of fields = do
+  id ← field_at (number (2 ^ 32)) fields
+  capacity ← field_at (number (2 ^ 32)) id.1
+  message ← field_at (number (2 ^ 32)) capacity.1
+  window ← field_at (number (2 ^ 32)) message.1
+  start ← field_at (number (2 ^ 32)) window.1
+  longest ← field_at (number (2 ^ 32)) start.1
+  resend ← field_at (number (2 ^ 32)) longest.1
+  low ← field_at name resend.1
+  high ← field_at name low.1
+  at_end (Session record { id = id.0; low = low.0; high = high.0; capacity = capacity.0; message = message.0; window = window.0; start = start.0; longest = longest.0; resend = resend.0; low_port = 0; high_port = 0 }) high.1
+
+abbrev pub bytes_from : Result (List ℕ) FromHexError → Option (List ℕ)
+bytes_from (Ok bytes) = Some bytes
+bytes_from (Err e) = None
+
+unfoldable pub hex : List ℕ → Option (List ℕ)
+hex field =
+    if bytes_eq field (codes "-") then Some []
+    else if nat_lt 0 (length field / 2) && nat_le (length field / 2) 1024 then bytes_from (decode_sized field (length field / 2))
+    else None
+
+abbrev pub held_from : Option (List ℕ) → Option (ArrayVec ℕ)
+held_from None = None
+held_from (Some bytes) = Some record { items = bytes }
+
+unfoldable pub raw : List ℕ → Option (ArrayVec ℕ)
+raw field =
+    if nat_lt 0 (length field / 2) && nat_le (length field / 2) 1042 then held_from (bytes_from (decode_sized field (length field / 2)))
+    else None
+
+unfoldable pub raw_of : List (List ℕ) → Option Arriving
+raw_of fields = do
+  bytes ← field_at raw fields
+  at_end (Raw bytes.0) bytes.1
+
+unfoldable pub hello_of : List (List ℕ) → Option Arriving
+hello_of fields = do
+  low ← field_at name fields
+  high ← field_at name low.1
+  at_end (Hello low.0 high.0) high.1
+
+unfoldable pub data_of : List (List ℕ) → Option Arriving
+data_of fields = do
+  number ← field_at (number (2 ^ 48)) fields
+  payload ← field_at hex number.1
+  at_end (Data number.0 payload.0) payload.1
+
+unfoldable pub arriving_of : List (List ℕ) → Option Arriving
+arriving_of [] = Some Nothing
+arriving_of (word ∷ fields) =
+    if bytes_eq word (codes "hello") then hello_of fields
+    else if bytes_eq word (codes "data") then data_of fields
+    else if bytes_eq word (codes "raw") then raw_of fields
+    else None
+
+unfoldable pub look_of : List (List ℕ) → Option Line
+look_of fields = do
+  session ← field_at (number (2 ^ 32)) fields
+  moment ← field_at (number (2 ^ 62 + 1)) session.1
+  hex ← field_at word moment.1
+  arrival ← arriving_of hex.1
+  Some (Look session.0 moment.0 hex.0 arrival)
+
+unfoldable pub gone_of : List (List ℕ) → Option Line
+gone_of fields = do
+  session ← field_at (number (2 ^ 32)) fields
+  moment ← field_at (number (2 ^ 62 + 1)) session.1
+  at_end (Gone session.0 moment.0) moment.1
+
+unfoldable pub done_of : List (List ℕ) → Option Line
+done_of fields = do
+  session ← field_at (number (2 ^ 32)) fields
+  moment ← field_at (number (2 ^ 62 + 1)) session.1
+  time ← field_at (number (10 ^ 9 + 1)) moment.1
+  at_end (Done session.0 moment.0 time.0) time.1
+
+unfoldable pub line_of : List (List ℕ) → Option Line
+line_of [] = None
+line_of (word ∷ fields) =
+    if bytes_eq word (codes "session") then session_of fields
+    else if bytes_eq word (codes "look") then look_of fields
+    else if bytes_eq word (codes "gone") then gone_of fields
+    else if bytes_eq word (codes "done") then done_of fields
+    else None
+
+abbrev pub is_skipped : List ℕ → Bool
+is_skipped [] = true
+is_skipped (b ∷ bytes) = b == 35
+
+unfoldable pub line_at : List ℕ → Option Line
+line_at bytes =
+    if nat_lt 2400 (length bytes) then None
+    else if is_skipped bytes then Some Skip
+    else line_of (slice_split is_space bytes)

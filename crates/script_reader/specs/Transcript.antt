@@ -1,0 +1,65 @@
+-- Which bytes a line of a transcript is.
+use Rattle.std.specs.Prelude.{◌≡◌, ◌⊎◌, ℕ, List, [], ◌∷◌, ◌++◌, Option, None, Some, codes, decimal, slice_index}
+use Rattle.pump_frame.specs.Frames.{IsLawful}
+use Rattle.pump_frame.specs.declared.frame.Kind.{Kind}
+use Rattle.pump_frame.specs.declared.frame.Kind.TheVariants.{Hello, Welcome, Data, Ack, Refuse, Attach, Taken}
+use Rattle.pump_frame.specs.declared.frame.Frame.{Frame}
+use Rattle.script_reader.specs.declared.event.Event.{Event}
+use Rattle.script_reader.specs.declared.event.Event.TheVariants.{Stored, Full, Low, Removed, Sent, Took, End}
+use Rattle.script_reader.specs.declared.fault.Fault.{Fault}
+use Rattle.script_reader.specs.declared.fault.Fault.TheVariants.{Words, Read, Script}
+use Rattle.script_reader.specs.Grammar.{spaced}
+
+-- a frame that the low process replies
+abbrev pub IsReply : Frame → Type 0
+IsReply frame = IsLawful frame × ((frame.kind ≡ Welcome) ⊎ ((frame.kind ≡ Ack) ⊎ (frame.kind ≡ Refuse)))
+
+-- the fields of a reply; the one payload byte of a REFUSE is its code
+abbrev pub reply_fields : Kind → ℕ → List ℕ → List (List ℕ)
+reply_fields Welcome number payload = codes "welcome" ∷ decimal number ∷ []
+reply_fields Ack number payload = codes "ack" ∷ decimal number ∷ []
+reply_fields Refuse number payload = codes "refuse" ∷ decimal (slice_index payload 0) ∷ decimal number ∷ []
+reply_fields Hello number payload = []
+reply_fields Data number payload = []
+reply_fields Attach number payload = []
+reply_fields Taken number payload = []
+
+-- a time, or a dash where none was published
+abbrev pub time_field : Option ℕ → List ℕ
+time_field None = codes "-"
+time_field (Some time) = decimal time
+
+-- how many were removed and taken, or dashes for a low side alone
+abbrev pub high_fields : Option (ℕ × ℕ) → List (List ℕ)
+high_fields None = codes "-" ∷ codes "-" ∷ []
+high_fields (Some high) = decimal high.0 ∷ decimal high.1 ∷ []
+
+abbrev pub event_fields : Event → List (List ℕ)
+event_fields (Stored session moment number) = codes "stored" ∷ decimal session ∷ decimal moment ∷ decimal number ∷ []
+event_fields (Full session moment) = codes "full" ∷ decimal session ∷ decimal moment ∷ []
+event_fields (Low session moment reply) = codes "low" ∷ decimal session ∷ decimal moment ∷ reply_fields reply.kind reply.number reply.payload
+event_fields (Removed session moment number time) = codes "removed" ∷ decimal session ∷ decimal moment ∷ decimal number ∷ time_field time ∷ []
+event_fields (Sent session moment number) = codes "sent" ∷ decimal session ∷ decimal moment ∷ decimal number ∷ []
+event_fields (Took session number) = codes "took" ∷ decimal session ∷ decimal number ∷ []
+event_fields (End session accepted high) = codes "end" ∷ decimal session ∷ decimal accepted ∷ high_fields high
+
+-- an event that can be printed: what the low process replied is a reply
+abbrev pub IsPrintable : Event → Type 0
+IsPrintable (Low session moment reply) = IsReply reply
+IsPrintable _ = Unit {0}
+
+-- fields as a line, with its line end
+abbrev pub line_with_end : List (List ℕ) → List ℕ
+line_with_end fields = spaced fields ++ 10 ∷ []
+
+abbrev pub event_line : Event → List ℕ
+event_line event = line_with_end (event_fields event)
+
+-- the fields of the last line of an output that stops
+abbrev pub fault_fields : Fault → List (List ℕ)
+fault_fields Words = codes "fault" ∷ codes "words" ∷ []
+fault_fields Read = codes "fault" ∷ codes "read" ∷ []
+fault_fields (Script line) = codes "fault" ∷ codes "script" ∷ decimal line ∷ []
+
+abbrev pub fault_line : Fault → List ℕ
+fault_line fault = line_with_end (fault_fields fault)

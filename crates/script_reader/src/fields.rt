@@ -1,0 +1,205 @@
+ghost use Rattle.std.specs.Prelude.{◌≡◌, ℕ, ◌+◌, ◌^◌, ◌<◌, ◌≤◌, List, [], ◌∷◌, length, decimal, IfSome, IfNone, MatchOption, IsTrue, ◌↔◌};
+ghost use Rattle.std.specs.Prelude.{position};
+ghost use Rattle.std.specs.Option.{option_copied};
+ghost use Rattle.script_reader.specs.Fields.{is_space};
+ghost use Rattle.script_reader.specs.Parsing.{Reads, field_at, IsPlain, number, word, name, hex, raw, held_from, bytes_from};
+ghost use Rattle.hex.specs.Hex.{decode_sized};
+
+use arrayvec::ArrayVec;
+use pump_frame::{Name, Payload};
+use std::marker::Model;
+use std::str;
+
+/// The fields of a line that are left, with one space between.
+#[derive(Drop)]
+pub struct Fields<'a> {
+    rest: Option<&'a [u8]>,
+}
+
+impl<'a> Model for Fields<'a> {
+    ghost use Rattle.std.specs.Prelude.{ℕ, List};
+    ghost use Rattle.std.specs.Option.{option_copied};
+    ghost use Rattle.script_reader.specs.Fields.{fields_from};
+
+    ghost Value = { List (List ℕ) };
+
+    ghost view = { λ s. fields_from (option_copied s.rest) };
+}
+
+fn first_space(bytes: &[u8]) -> Option<usize>
+    ensures { result ≡ position is_space bytes.now }
+{
+    bytes.iter().position(|b| *b == b' ')
+}
+
+#[tactic(auto, using(crate::proofs::FieldLaws::reads_field))]
+impl<'a> Fields<'a> {
+    ghost use Rattle.std.specs.List.{slice_split};
+
+    pub fn new(bytes: &'a [u8]) -> Self
+        ensures { result ≡ slice_split is_space bytes.now }
+    {
+        Fields { rest: Some(bytes) }
+    }
+
+    pub fn is_done(&self) -> bool
+        ensures { IsTrue result ↔ (self.now ≡ []) }
+    {
+        self.rest.is_none()
+    }
+
+    pub fn next(&mut self) -> Option<&'a [u8]>
+        ensures { MatchOption result (self.old ≡ []) (λ field. self.old ≡ field.now ∷ self.new) }
+    {
+        let rest = self.rest?;
+        match first_space(rest) {
+            Some(at) => {
+                self.rest = Some(&rest[at + 1..]);
+                Some(&rest[..at])
+            }
+            None => {
+                self.rest = None;
+                Some(rest)
+            }
+        }
+    }
+
+    /// A number below the bound.
+    pub fn number(&mut self, bound: u64) -> Option<u64>
+        ensures reads { Reads result self.new (field_at (number bound) self.old) }
+        ensures below { IfSome result (λ n. n < bound) }
+    {
+        number_of(self.next()?, bound)
+    }
+
+    /// A number below 2^32.
+    pub fn small(&mut self) -> Option<u32>
+        ensures { Reads result self.new (field_at (number (2 ^ 32)) self.old) }
+    {
+        let n = self.number(1 << 32)?;
+        Some(n as u32)
+    }
+
+    /// Eight hexadecimal digits.
+    pub fn word(&mut self) -> Option<u32>
+        ensures { Reads result self.new (field_at word self.old) }
+    {
+        word_of(self.next()?)
+    }
+
+    pub fn name(&mut self) -> Option<Name>
+        ensures { Reads result self.new (field_at name self.old) }
+    {
+        name_of(self.next()?)
+    }
+
+    /// Bytes for a reader of frames.
+    pub fn raw(&mut self) -> Option<ArrayVec<u8, 1042>>
+        ensures { Reads result self.new (field_at raw self.old) }
+    {
+        raw_of(self.next()?)
+    }
+
+    /// Bytes in hexadecimal digits.
+    pub fn hex(&mut self) -> Option<Payload>
+        ensures { Reads result self.new (field_at hex self.old) }
+    {
+        hex_of(self.next()?)
+    }
+}
+
+#[tactic(auto, unfolding(crate::specs::Parsing::raw))]
+fn raw_of(field: &[u8]) -> Option<ArrayVec<u8, 1042>>
+    ensures { result ≡ raw field.now }
+{
+    let half = field.len() / 2;
+    if half == 0 || half > 1042 {
+        return None;
+    }
+    held(field, half)
+}
+
+fn held(field: &[u8], half: usize) -> Option<ArrayVec<u8, 1042>>
+    requires { half ≤ 1042 }
+    ensures { result ≡ held_from (bytes_from (decode_sized field.now half)) }
+{
+    let mut bytes = [0; 1042];
+    let room = &mut bytes[..half];
+    match hex::decode_to_slice(field, room) {
+        Ok(()) => {
+            let mut raw = ArrayVec::new();
+            raw.try_extend_from_slice(room).unwrap();
+            Some(raw)
+        }
+        Err(_) => None,
+    }
+}
+
+#[tactic(auto, unfolding(crate::specs::Parsing::hex))]
+fn hex_of(field: &[u8]) -> Option<Payload>
+    ensures { result ≡ hex field.now }
+{
+    if field == b"-".as_slice() {
+        return Payload::from_slice(&[]);
+    }
+    let half = field.len() / 2;
+    if half == 0 || half > 1024 {
+        return None;
+    }
+    decoded(field, half)
+}
+
+fn decoded(field: &[u8], half: usize) -> Option<Payload>
+    requires { half ≤ 1024 }
+    ensures { result ≡ bytes_from (decode_sized field.now half) }
+{
+    let mut bytes = [0; 1024];
+    let room = &mut bytes[..half];
+    match hex::decode_to_slice(field, room) {
+        Ok(()) => Payload::from_slice(room),
+        Err(_) => None,
+    }
+}
+
+/// Whether the field begins with a digit, and has no leading zero.
+fn is_plain(field: &[u8]) -> bool
+    ensures { IsTrue result ↔ IsPlain field.now }
+{
+    match field {
+        [] => false,
+        [first] => first.is_ascii_digit(),
+        [first, ..] => *first > b'0' && *first <= b'9',
+    }
+}
+
+fn number_of(field: &[u8], bound: u64) -> Option<u64>
+    ensures read { result ≡ number bound field.now }
+    ensures below { IfSome result (λ n. n < bound) }
+{
+    if !is_plain(field) {
+        return None;
+    }
+    let Ok(text) = str::from_utf8(field) else {
+        return None;
+    };
+    let Ok(n) = text.parse::<u64>() else {
+        return None;
+    };
+    if n < bound { Some(n) } else { None }
+}
+
+fn word_of(field: &[u8]) -> Option<u32>
+    ensures { result ≡ word field.now }
+{
+    let mut bytes = [0; 4];
+    match hex::decode_to_slice(field, &mut bytes) {
+        Ok(()) => Some(u32::from_be_bytes(bytes)),
+        Err(_) => None,
+    }
+}
+
+fn name_of(field: &[u8]) -> Option<Name>
+    ensures { result ≡ name field.now }
+{
+    Name::from_slice(field)
+}

@@ -1,0 +1,170 @@
+ghost use Rattle.std.specs.Prelude.{◌≡◌, ◌≢◌, ℕ, ◌+◌, ◌-◌, ◌^◌, ◌<◌, ◌≤◌, min, List, [], ◌++◌, length, take, drop, position, IsTrue, ◌↔◌, IfOk, OnErr, OnOk};
+ghost use Rattle.std.specs.Io.KnownBytes.{Keeps, IsAtEnd};
+ghost use Rattle.pump_link.specs.Causes.{HasCause, Rose};
+ghost use Rattle.script_reader.specs.Lines.{Reading, to_come, is_end, IsNext};
+ghost use Rattle.script_reader.specs.Fronts.{IsFront};
+
+use crate::line::Line;
+use crate::reading::read_line;
+use pump_link::{ReadFault, Source};
+use std::marker::Model;
+
+/// What the next line of a script is.
+#[derive(Drop)]
+pub enum Lined {
+    Line(Line),
+    Bad,
+    End,
+    Failed,
+}
+
+/// What stands at the front of the bytes held.
+#[derive(Drop)]
+enum Front {
+    Whole(Line, usize),
+    Bad,
+    Short,
+}
+
+/// A reader of lines, with its room inside.
+#[derive(Drop)]
+pub struct Lines {
+    cells: [u8; 4096],
+    start: usize,
+    end: usize,
+    number: u32,
+}
+
+impl Model for Lines {
+    ghost use Rattle.std.specs.Prelude.{◌≡◌, ◌-◌, ◌≤◌, length, take, drop};
+    ghost use Rattle.script_reader.specs.Lines.{Reading};
+
+    ghost Value = { Reading };
+
+    ghost view = { λ s. record { held = take (s.end - s.start) (drop s.start s.cells); number = s.number } };
+
+    ghost invariant = { λ s. (s.start ≤ s.end) × (s.end ≤ 4096) × (length s.cells ≡ 4096) };
+}
+
+fn line_end(bytes: &[u8]) -> Option<usize>
+    ensures { result ≡ position is_end bytes.now }
+{
+    bytes.iter().position(|b| *b == b'\n')
+}
+
+fn front_of(held: &[u8]) -> Front
+    ensures { IsFront held.now result }
+{
+    match line_end(held) {
+        Some(at) => match read_line(&held[..at]) {
+            Some(line) => Front::Whole(line, at),
+            None => Front::Bad,
+        },
+        None => {
+            if held.len() > 2400 {
+                Front::Bad
+            } else {
+                Front::Short
+            }
+        }
+    }
+}
+
+impl Lines {
+    pub fn new() -> Self
+        ensures { result ≡ record { held = []; number = 0 } }
+    {
+        Lines {
+            cells: [0; 4096],
+            start: 0,
+            end: 0,
+            number: 0,
+        }
+    }
+
+    /// The number of the line last answered.
+    pub fn number(&self) -> u32
+        ensures { result ≡ self.now.number }
+    {
+        self.number
+    }
+
+    fn held(&self) -> &[u8]
+        ensures held { result.now ≡ self.now.held }
+        ensures short { length result.now ≤ 4096 }
+    {
+        &self.cells[self.start..self.end]
+    }
+
+    fn advance(&mut self, len: usize)
+        requires held { len ≤ length self.old.held }
+        requires few { self.old.number < 2 ^ 32 - 1 }
+        ensures { self.new ≡ record { held = drop len self.old.held; number = self.old.number + 1 } }
+    {
+        self.start += len;
+        self.number += 1;
+    }
+
+    fn refuse(&mut self)
+        ensures { self.new ≡ record { held = self.old.held; number = min (self.old.number + 1) (2 ^ 32 - 1) } }
+    {
+        self.number = self.number.saturating_add(1);
+    }
+
+    fn fill<I: Source>(&mut self, script: &mut I) -> Result<usize, ReadFault>
+        requires { length self.old.held < 4096 }
+        ensures kept { Keeps (to_come self.old (I.left script.old)) (to_come self.new (I.left script.new)) }
+        ensures grown { IfOk result (λ n. length self.new.held ≡ length self.old.held + n) }
+        ensures same { IfOk result (λ n. n ≡ 0 → self.new.held ≡ self.old.held) }
+        ensures room { length self.new.held ≤ 4096 }
+        ensures end { IfOk result (λ n. n ≡ 0 → IsAtEnd (I.left script.new)) }
+        ensures number { self.new.number ≡ self.old.number }
+        ensures cause { HasCause (I.faults script.old) (I.faults script.new) result }
+    {
+        self.cells.rotate_left(self.start);
+        self.end -= self.start;
+        self.start = 0;
+        let count = script.read(&mut self.cells[self.end..])?;
+        self.end += count;
+        Ok(count)
+    }
+
+    /// The next line of the script. The source is asked only where no whole line is held.
+    pub fn next<I: Source>(&mut self, script: &mut I) -> Lined
+        ensures next { IsNext self.old self.new (I.left script.old) (I.left script.new) result }
+        ensures failed { result ≡ Lined.Failed → Rose (I.faults script.old) (I.faults script.new) }
+        ensures later { I.faults script.old ≤ I.faults script.new }
+        ensures few { result ≢ Lined.Failed → result ≢ Lined.End → self.new.number < 2 ^ 32 }
+    {
+        'turns: loop {
+            match front_of(self.held()) {
+                Front::Whole(line, len) if self.number() < u32::MAX => {
+                    self.advance(len + 1);
+                    return Lined::Line(line);
+                }
+                Front::Short => {}
+                _ => {
+                    self.refuse();
+                    return Lined::Bad;
+                }
+            }
+            match self.fill(script) {
+                Ok(0) => return self.last(),
+                Ok(_) => {}
+                Err(_) => return Lined::Failed,
+            }
+        }
+    }
+
+    /// What is held at the end of the script, where no line end stands in it.
+    fn last(&mut self) -> Lined
+        ensures end { self.old.held ≡ [] → (result ≡ Lined.End) × (self.new ≡ self.old) }
+        ensures bad { self.old.held ≢ [] → (result ≡ Lined.Bad) × (self.new ≡ record { held = self.old.held; number = min (self.old.number + 1) (2 ^ 32 - 1) }) }
+    {
+        if self.held().is_empty() {
+            return Lined::End;
+        }
+        self.refuse();
+        Lined::Bad
+    }
+}

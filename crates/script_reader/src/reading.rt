@@ -1,0 +1,187 @@
+ghost use Rattle.std.specs.Prelude.{◌≡◌, ◌+◌, ◌^◌, IfSome, Some};
+ghost use Rattle.script_reader.specs.Grammar.{IsLine};
+ghost use Rattle.script_reader.specs.Lawful.{IsLawfulLine};
+ghost use Rattle.script_reader.specs.Parsing.{Reads, field_at, number, session_of, hello_of, data_of, raw_of, arriving_of, look_of, gone_of, done_of, line_of, line_at};
+
+use crate::fields::Fields;
+use crate::line::{Arriving, Line};
+use pump_frame::SessionRow;
+
+/// The line that the bytes are, without a line end; `None` exactly where they are outside the
+/// grammar of `docs/formats.md`, "Script", also where there are more than 2,400 of them.
+pub fn read_line(bytes: &[u8]) -> Option<Line>
+    // The bytes are the line answered,
+    ensures found { IfSome result (λ line. IsLine line bytes.now) }
+    // and where they are a line, it is answered.
+    ensures only { (line : Line) → IsLine line bytes.now → result ≡ Some line }
+    ensures lawful { IfSome result IsLawfulLine }
+{
+    read(bytes)
+}
+
+#[tactic(auto, unfolding(crate::specs::Parsing::line_at))]
+fn read(bytes: &[u8]) -> Option<Line>
+    ensures { result ≡ line_at bytes.now }
+{
+    if bytes.len() > 2400 {
+        return None;
+    }
+    match bytes {
+        [] | [b'#', ..] => Some(Line::Skip),
+        _ => read_fields(&mut Fields::new(bytes)),
+    }
+}
+
+#[tactic(auto, unfolding(crate::specs::Parsing::line_of))]
+fn read_fields(fields: &mut Fields) -> Option<Line>
+    ensures { result ≡ line_of fields.old }
+{
+    let word = fields.next()?;
+    if word == b"session".as_slice() {
+        read_session(fields)
+    } else if word == b"look".as_slice() {
+        read_look(fields)
+    } else if word == b"gone".as_slice() {
+        read_gone(fields)
+    } else if word == b"done".as_slice() {
+        read_done(fields)
+    } else {
+        None
+    }
+}
+
+#[tactic(auto, unfolding(crate::specs::Parsing::session_of))]
+fn read_session(fields: &mut Fields) -> Option<Line>
+    ensures { result ≡ session_of fields.old }
+{
+    let id = fields.small()?;
+    let capacity = fields.small()?;
+    let message = fields.small()?;
+    let window = fields.small()?;
+    let start = fields.small()?;
+    let longest = fields.small()?;
+    let resend = fields.small()?;
+    let low = fields.name()?;
+    let high = fields.name()?;
+    if !fields.is_done() {
+        return None;
+    }
+    Some(Line::Session(SessionRow {
+        id,
+        low,
+        high,
+        capacity,
+        message,
+        window,
+        start,
+        longest,
+        resend,
+        low_port: 0,
+        high_port: 0,
+    }))
+}
+
+#[tactic(auto, unfolding(crate::specs::Parsing::hello_of))]
+fn read_hello(fields: &mut Fields) -> Option<Arriving>
+    ensures { result ≡ hello_of fields.old }
+{
+    let low = fields.name()?;
+    let high = fields.name()?;
+    if !fields.is_done() {
+        return None;
+    }
+    Some(Arriving::Hello { low, high })
+}
+
+#[tactic(auto, unfolding(crate::specs::Parsing::data_of))]
+fn read_data(fields: &mut Fields) -> Option<Arriving>
+    ensures { result ≡ data_of fields.old }
+{
+    let number = fields.number(1 << 48)?;
+    let payload = fields.hex()?;
+    if !fields.is_done() {
+        return None;
+    }
+    Some(Arriving::Data { number, payload })
+}
+
+#[tactic(auto, unfolding(crate::specs::Parsing::raw_of))]
+fn read_raw(fields: &mut Fields) -> Option<Arriving>
+    ensures { result ≡ raw_of fields.old }
+{
+    let bytes = fields.raw()?;
+    if !fields.is_done() {
+        return None;
+    }
+    Some(Arriving::Raw(bytes))
+}
+
+#[tactic(auto, unfolding(crate::specs::Parsing::arriving_of))]
+fn read_arriving(fields: &mut Fields) -> Option<Arriving>
+    ensures { result ≡ arriving_of fields.old }
+{
+    let Some(word) = fields.next() else {
+        return Some(Arriving::Nothing);
+    };
+    if word == b"hello".as_slice() {
+        read_hello(fields)
+    } else if word == b"data".as_slice() {
+        read_data(fields)
+    } else if word == b"raw".as_slice() {
+        read_raw(fields)
+    } else {
+        None
+    }
+}
+
+#[tactic(auto, unfolding(crate::specs::Parsing::look_of))]
+fn read_look(fields: &mut Fields) -> Option<Line>
+    ensures { result ≡ look_of fields.old }
+{
+    let session = fields.small()?;
+    let moment = read_moment(fields)?;
+    let word = fields.word()?;
+    let arrival = read_arriving(fields)?;
+    Some(Line::Look {
+        session,
+        moment,
+        word,
+        arrival,
+    })
+}
+
+/// A moment, at most 2^62 microseconds.
+fn read_moment(fields: &mut Fields) -> Option<u64>
+    ensures { Reads result fields.new (field_at (number (2 ^ 62 + 1)) fields.old) }
+{
+    fields.number((1 << 62) + 1)
+}
+
+#[tactic(auto, unfolding(crate::specs::Parsing::gone_of))]
+fn read_gone(fields: &mut Fields) -> Option<Line>
+    ensures { result ≡ gone_of fields.old }
+{
+    let session = fields.small()?;
+    let moment = read_moment(fields)?;
+    if !fields.is_done() {
+        return None;
+    }
+    Some(Line::Gone { session, moment })
+}
+
+#[tactic(auto, unfolding(crate::specs::Parsing::done_of))]
+fn read_done(fields: &mut Fields) -> Option<Line>
+    ensures { result ≡ done_of fields.old }
+{
+    let session = fields.small()?;
+    let moment = read_moment(fields)?;
+    let time = fields.number(1_000_000_001)?;
+    if !fields.is_done() {
+        return None;
+    }
+    Some(Line::Done {
+        session,
+        moment,
+        time: time as u32,
+    })
+}

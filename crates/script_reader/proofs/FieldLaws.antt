@@ -1,6 +1,6 @@
 -- What a reader of one field gives.
-use Rattle.std.proofs.Common.{◌≡◌, ℕ, ◌+◌, ◌*◌, ◌/◌, ◌^◌, ◌<◌, ◌≤◌, ◌⊎◌, ◌&&◌, Bool, true, false, cond, ltb, leb, List, [], ◌∷◌, Option, None, Some, Result, Ok, Err, IsTrue, IsSome, IfSome, ◌↔◌, MatchResult, length, get_or, codes, decimal, refl, sym, ap, ◌∙◌, arith, inl, inr}
-use Rattle.std.proofs.lemmas.Bool.{cases_eq, false_from_ne_true, ltb-true, lt-ltb, leb-true, le-leb, and_parts, and_from}
+use Rattle.std.proofs.Common.{◌≡◌, ℕ, ◌*◌, ◌/◌, ◌^◌, ◌<◌, ◌≤◌, ◌⊎◌, ◌&&◌, Bool, true, false, cond, ltb, leb, List, [], ◌∷◌, Option, None, Some, Result, Ok, Err, IsSome, IfSome, ◌↔◌, MatchResult, length, get_or, codes, decimal, refl, sym, ap, ◌∙◌, arith, inl, inr}
+use Rattle.std.proofs.lemmas.Bool.{cases_eq, false_from_ne_true, ltb-true, lt-ltb, leb-true, le-leb, and_parts}
 use Rattle.std.proofs.lemmas.Option.{cond_some, same_Some, some_pair_parts}
 use Rattle.std.proofs.lemmas.Result.{OkIff-at_ok}
 use Rattle.std.proofs.lemmas.Slice.Eq.{bytes_eq-Decides}
@@ -10,13 +10,12 @@ use Rattle.std.proofs.lemmas.Fmt.{parse-decimal, digits_decimal, digits_value-de
 use Rattle.std.proofs.lemmas.Nat.{be_bytes_4, from_be_bytes-to_be_bytes_4}
 use Rattle.std.specs.Str.{bytes_eq, IsUtf8}
 use Rattle.std.specs.Str.Parse.{AllDigits, digits_value, ParsesUnsigned}
-use Rattle.std.specs.List.{list_all}
 use Rattle.std.specs.Int.{from_be_bytes, to_be_bytes, w32}
 use Rattle.arrayvec.specs.ArrayVec.{ArrayVec}
 use Rattle.hex.specs.Hex.{decode_sized, decode_of}
 use Rattle.hex.specs.declared.FromHexError.{FromHexError}
 use Rattle.hex.proofs.HexLemmas.{decode_sized-ok, decode_sized-twice, decode_of-ok}
-use Rattle.pump_frame.specs.Names.{IsName, is_name_byte}
+use Rattle.pump_frame.specs.Names.{IsName}
 use Rattle.script_reader.specs.Grammar.{IsWord, IsHex, IsRaw}
 use Rattle.script_reader.specs.Parsing.{Reads, field_at, with_rest, IsPlain, number, word, word_from, name, hex, bytes_from, raw, held_from}
 

@@ -1,17 +1,17 @@
 -- Where lines end, and what a reader of lines holds.
-use Rattle.std.proofs.Common.{◌≡◌, ℕ, ◌+◌, ◌-◌, ◌*◌, ◌<◌, ◌≤◌, ◌≢◌, Bool, true, false, cond, ltb, eqb, List, [], ◌∷◌, ◌++◌, Option, None, Some, IfSome, length, get_or, take, drop, refl, sym, ap, ◌∙◌, append_assoc, append-nil, arith, length-append, length-drop, length-take}
-use Rattle.std.proofs.lemmas.Bool.{ltb-false, ltb-true, eqb-true, both_ways, eq-eqb}
+use Rattle.std.proofs.Common.{inl, inr, is_some, IsTrue, ◌≡◌, ℕ, ◌+◌, ◌-◌, ◌<◌, ◌≤◌, ◌≢◌, Bool, true, false, cond, ltb, List, [], ◌∷◌, ◌++◌, Option, None, Some, IfSome, length, get_or, take, drop, refl, sym, ap, ◌∙◌, append_assoc, append-nil, arith, length-append, length-drop, length-take}
+use Rattle.std.proofs.lemmas.Bool.{ltb-false, ltb-true, lt-ltb, eqb-true, both_ways, eq-eqb}
 use Rattle.std.proofs.lemmas.Option.{cond_some}
 use Rattle.std.proofs.lemmas.List.{get_or_append_left, get_or_at, get_or-take, take-append-le, drop_at, drop-take, drop-drop, length-take-le}
 use borrow.Rule.Slice.PartMut.{put_mid}
 use Rattle.std.proofs.Math.Seq.{take-append-add}
 use Rattle.std.proofs.lemmas.List.Sums.{split_at_first, fails_before_first, passes_at_first}
 use Rattle.std.proofs.lemmas.List.Elements.{All-from_get_or, All-head, All-tail, All-get_or}
-use Rattle.std.specs.List.{position, position_or_len, All}
+use Rattle.std.specs.List.{position, position_or_len}
 use Rattle.std.specs.Io.KnownBytes.{prepend_known, Consumes, Keeps, IsAtEnd}
 use Rattle.script_reader.specs.declared.line.Line.{Line}
 use Rattle.script_reader.specs.Grammar.{IsLine}
-use Rattle.script_reader.specs.Lines.{is_end, IsUnended, BeginsWith, IsBad}
+use Rattle.script_reader.specs.Lines.{is_end, IsUnended, IsBad, IsReady}
 
 none_test : (b : Bool) (x : ℕ) → cond b (Some x) None ≡ None → b ≡ false
 none_test true x e = cc
@@ -154,3 +154,28 @@ pub rest_is : (held bytes rest : List ℕ) (len : ℕ) → held ≡ bytes ++ 10 
 rest_is held bytes rest len e long =
     let whole : held ≡ (bytes ++ 10 ∷ []) ++ rest = e ∙ sym (append_assoc bytes (10 ∷ []) rest) in
     rw whole (drop_at (bytes ++ 10 ∷ []) rest (len + 1) (omega (arith, length-append bytes (10 ∷ []), long)))
+
+-- bytes whose front is short are not ready
+pub unready : (held : List ℕ) → IsUnended held → length held ≤ 2400 → IsReady held → ⊥
+unready held unended short ready =
+    elim ready [
+      | inl ends ↦ ends unended
+      | inr long ↦ absurd (omega arith)
+    ]
+
+pub ready_here : (held : List ℕ) (o : Option ℕ) → o ≡ position is_end held → is_some o ≡ true → IsReady held
+ready_here held None e h = cc
+ready_here held (Some i) e h =
+    let p = ended held i (sym e) in
+    inl (λ unended. ten_not 10 (rw (get_or_at (take i held) 10 (drop (i + 1) held) 0 i (length-take-le i held (omega (arith, p.2)))) at (rw p.1 at (All-get_or (λ b. is_end b ≡ false) held i 0 p.2 unended))) refl)
+
+pub ready_by_length : (held : List ℕ) (o : Option ℕ) → o ≡ position is_end held → is_some o ≡ false
+    → (IsTrue (ltb 2400 (length held)) → IsReady held) × (IsReady held → IsTrue (ltb 2400 (length held)))
+ready_by_length held None e h = (
+  λ long. inr (ltb-true _ _ long),
+  λ ready. elim ready [
+    | inl ends ↦ absurd (ends (not_ended held (sym e)))
+    | inr long ↦ lt-ltb 2400 (length held) long
+  ],
+)
+ready_by_length held (Some i) e h = cc

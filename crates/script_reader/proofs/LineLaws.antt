@@ -1,5 +1,5 @@
 -- Reading a line on lists is the grammar.
-use Rattle.std.proofs.Common.{◌≡◌, ℕ, ◌^◌, ◌<◌, ◌≤◌, ◌⊎◌, inl, inr, Bool, true, false, ltb, List, [], ◌∷◌, Option, None, Some, IfSome, length, codes, decimal, refl, sym, ap, ◌∙◌, subst, arith}
+use Rattle.std.proofs.Common.{◌≡◌, ℕ, ◌≤◌, inl, inr, true, false, ltb, List, [], ◌∷◌, Option, None, Some, IfSome, length, codes, decimal, refl, sym, ◌∙◌, subst, arith}
 use Rattle.std.proofs.lemmas.Bool.{ltb-false, le-ltb, eqb-true, eq-eqb}
 use Rattle.std.proofs.lemmas.Option.{same_Some}
 use Rattle.std.proofs.lemmas.Slice.Eq.{bytes_eq-Decides}
@@ -11,9 +11,9 @@ use Rattle.script_reader.specs.declared.line.Line.TheVariants.{Skip, Session, Lo
 use Rattle.script_reader.specs.declared.line.Arriving.{Arriving}
 use Rattle.script_reader.specs.declared.line.Arriving.TheVariants.{Nothing, Hello, Data, Raw}
 use Rattle.script_reader.specs.Fields.{is_space}
-use Rattle.script_reader.specs.Grammar.{spaced, row_fields, IsArriving, HasFields, IsSkipped, IsSpelled, IsLine}
+use Rattle.script_reader.specs.Grammar.{spaced, row_fields, IsArriving, HasFields, IsSkipped, IsLine}
 use Rattle.script_reader.specs.Lawful.{IsLawfulArriving, IsLawfulLine}
-use Rattle.script_reader.specs.Parsing.{session_of, look_of, gone_of, done_of, line_of, is_skipped, line_at}
+use Rattle.script_reader.specs.Parsing.{done_of, line_of, is_skipped, line_at}
 use Rattle.script_reader.proofs.Splits.{split_joined}
 use Rattle.script_reader.proofs.FieldChains.{chosen}
 use Rattle.script_reader.proofs.FreeFields.{free_text, free_name, free_word, free_decimal}

@@ -1,5 +1,5 @@
 -- A look line on lists is the grammar's.
-use Rattle.std.proofs.Common.{◌≡◌, ℕ, ◌+◌, ◌^◌, ◌<◌, ◌≤◌, ◌⊎◌, inl, inr, Bool, true, false, List, [], ◌∷◌, Option, None, Some, codes, decimal, refl, sym, ap, ◌∙◌, subst, arith}
+use Rattle.std.proofs.Common.{◌≡◌, ℕ, ◌+◌, ◌^◌, ◌<◌, ◌≤◌, inl, inr, List, [], ◌∷◌, None, Some, codes, decimal, refl, ap, ◌∙◌, subst, arith}
 use Rattle.std.proofs.lemmas.Option.{same_Some}
 use Rattle.std.proofs.lemmas.Slice.Eq.{bytes_eq-Decides}
 use Rattle.std.specs.Str.{bytes_eq}
@@ -10,7 +10,7 @@ use Rattle.script_reader.specs.declared.line.Line.TheVariants.{Look}
 use Rattle.script_reader.specs.declared.line.Arriving.{Arriving}
 use Rattle.script_reader.specs.declared.line.Arriving.TheVariants.{Nothing, Hello, Data, Raw}
 use Rattle.script_reader.specs.Grammar.{IsWord, IsHex, IsRaw, IsArriving, HasFields}
-use Rattle.script_reader.specs.Parsing.{◌>>=◌, field_at, with_rest, hello_of, data_of, raw, raw_of, arriving_of, look_of}
+use Rattle.script_reader.specs.Parsing.{field_at, with_rest, hello_of, data_of, raw, raw_of, arriving_of, look_of}
 use Rattle.script_reader.proofs.Splits.{AreFree}
 use Rattle.script_reader.proofs.FieldChains.{bind_some, chosen, take_number, take_name, take_word, take_hex, number_put, name_put, word_put, hex_put, end_at}
 use Rattle.script_reader.proofs.FieldLaws.{field_takes, raw_takes, raw_again}

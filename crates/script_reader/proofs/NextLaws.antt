@@ -1,13 +1,13 @@
 -- What one call of the reader of lines answers.
-use Rattle.std.proofs.Common.{◌≡◌, ℕ, ◌+◌, ◌-◌, ◌^◌, ◌<◌, ◌≤◌, ◌≢◌, ◌⊎◌, inl, inr, min, List, [], ◌∷◌, ◌++◌, Option, None, Some, length, take, drop, refl, sym, ap, ◌∙◌, arith, length-append}
-use Rattle.std.specs.Io.KnownBytes.{prepend_known, Consumes, Keeps, IsAtEnd}
+use Rattle.std.proofs.Common.{◌≡◌, ℕ, ◌+◌, ◌-◌, ◌^◌, ◌≤◌, ◌≢◌, ◌⊎◌, inl, inr, min, List, [], ◌∷◌, ◌++◌, Option, length, drop, refl, sym, ap, ◌∙◌, arith, length-append}
+use Rattle.std.specs.Io.KnownBytes.{Keeps, IsAtEnd}
 use Rattle.script_reader.specs.declared.line.Line.{Line}
 use Rattle.script_reader.specs.declared.lines.Lined.{Lined}
 use Rattle.script_reader.specs.declared.lines.Lined.TheVariants as lined
 use Rattle.script_reader.specs.declared.lines.Front.TheVariants as front
-use Rattle.script_reader.specs.Lines.{Reading, to_come, IsUnended, BeginsWith, IsBad, IsNext}
+use Rattle.script_reader.specs.Lines.{Reading, to_come, IsUnended, IsNext}
 use Rattle.script_reader.specs.Fronts.{IsFront}
-use Rattle.script_reader.proofs.LineEnds.{Keeps-then, line_come, bad_come, bad_last, end_come, rest_is}
+use Rattle.script_reader.proofs.LineEnds.{line_come, bad_last, end_come, rest_is}
 
 pub whole_next : (old now new : Reading) (left rest : Option (List ℕ)) (held : List ℕ) (line : Line) (len : ℕ)
     → Keeps (to_come old left) (to_come now rest) → now.number ≡ old.number → held ≡ now.held → length held ≤ 4096 → IsFront held (front.Whole line len)

@@ -1,5 +1,5 @@
 -- A script as the lines of a stream.
-use Rattle.std.specs.Prelude.{◌≡◌, ◌≢◌, ℕ, ◌+◌, ◌-◌, ◌^◌, ◌≤◌, ◌==◌, ◌⊎◌, min, Bool, false, List, [], ◌∷◌, ◌++◌, length, Option, IfSome, All}
+use Rattle.std.specs.Prelude.{◌≡◌, ◌≢◌, ℕ, ◌+◌, ◌-◌, ◌^◌, ◌<◌, ◌≤◌, ◌==◌, ◌⊎◌, min, Bool, false, List, [], ◌∷◌, ◌++◌, length, Option, IfSome, All}
 use Rattle.std.specs.Io.KnownBytes.{prepend_known, Consumes, Keeps, IsAtEnd}
 use Rattle.script_reader.specs.Grammar.{IsLine}
 use Rattle.script_reader.specs.declared.line.Line.{Line}
@@ -32,6 +32,10 @@ pub record BeginsWith (all : List ℕ) (bytes : List ℕ) (rest : List ℕ) (lin
 pub record IsBad (all : List ℕ) : Type 0 where
   pub some : all ≢ []
   pub bad : (line : Line) (bytes rest : List ℕ) → BeginsWith all bytes rest line → ⊥
+
+-- a line end stands in the bytes held, or they are too long for a line
+abbrev pub IsReady : List ℕ → Type 0
+IsReady held = (IsUnended held → ⊥) ⊎ (2400 < length held)
 
 -- What the next line of a stream is, by what is to come before the call and after it. `length new.held` says how little
 -- of the source was taken ahead.

@@ -5,7 +5,7 @@ use Rattle.pump_frame.specs.declared.frame.Kind.{Kind}
 use Rattle.pump_frame.specs.declared.frame.Kind.TheVariants.{Hello, Welcome, Data, Ack, Refuse, Attach, Taken}
 use Rattle.pump_frame.specs.declared.frame.Frame.{Frame}
 use Rattle.script_reader.specs.declared.event.Event.{Event}
-use Rattle.script_reader.specs.declared.event.Event.TheVariants.{Stored, Full, Low, Removed, Sent, Took, End}
+use Rattle.script_reader.specs.declared.event.Event.TheVariants.{Stored, Full, Passed, Released, Repeat, Low, Removed, Sent, Took, Again, End}
 use Rattle.script_reader.specs.declared.fault.Fault.{Fault}
 use Rattle.script_reader.specs.declared.fault.Fault.TheVariants.{Words, Read, Script}
 use Rattle.script_reader.specs.Grammar.{spaced}
@@ -37,10 +37,14 @@ high_fields (Some high) = decimal high.0 ∷ decimal high.1 ∷ []
 abbrev pub event_fields : Event → List (List ℕ)
 event_fields (Stored session moment number) = codes "stored" ∷ decimal session ∷ decimal moment ∷ decimal number ∷ []
 event_fields (Full session moment) = codes "full" ∷ decimal session ∷ decimal moment ∷ []
+event_fields (Passed session moment seen) = codes "passed" ∷ decimal session ∷ decimal moment ∷ decimal seen.count ∷ decimal seen.average ∷ []
+event_fields (Released session moment) = codes "released" ∷ decimal session ∷ decimal moment ∷ []
+event_fields (Repeat session moment seen) = codes "repeat" ∷ decimal session ∷ decimal moment ∷ decimal seen.count ∷ decimal seen.average ∷ []
 event_fields (Low session moment reply) = codes "low" ∷ decimal session ∷ decimal moment ∷ reply_fields reply.kind reply.number reply.payload
 event_fields (Removed session moment number time) = codes "removed" ∷ decimal session ∷ decimal moment ∷ decimal number ∷ time_field time ∷ []
 event_fields (Sent session moment number) = codes "sent" ∷ decimal session ∷ decimal moment ∷ decimal number ∷ []
 event_fields (Took session number) = codes "took" ∷ decimal session ∷ decimal number ∷ []
+event_fields (Again session number) = codes "again" ∷ decimal session ∷ decimal number ∷ []
 event_fields (End session accepted high) = codes "end" ∷ decimal session ∷ decimal accepted ∷ high_fields high
 
 -- an event that can be printed: what the low process replied is a reply

@@ -1,7 +1,7 @@
 ghost use Rattle.std.specs.Prelude.{◌≡◌, ◌≢◌, ℕ, ◌+◌, ◌-◌, ◌^◌, ◌<◌, ◌≤◌, min, List, [], ◌++◌, length, take, drop, position, IsTrue, ◌↔◌, IfOk, OnErr, OnOk};
 ghost use Rattle.std.specs.Io.KnownBytes.{Keeps, IsAtEnd};
 ghost use Rattle.pump_link.specs.Causes.{HasCause, Rose};
-ghost use Rattle.script_reader.specs.Lines.{Reading, to_come, is_end, IsNext};
+ghost use Rattle.script_reader.specs.Lines.{Reading, to_come, is_end, IsNext, IsReady};
 ghost use Rattle.script_reader.specs.Fronts.{IsFront};
 
 use crate::line::Line;
@@ -9,12 +9,17 @@ use crate::reading::read_line;
 use pump_link::{ReadFault, Source};
 use std::marker::Model;
 
-/// What the next line of a script is.
+/// What comes next in a script.
 #[derive(Drop)]
 pub enum Lined {
+    /// The next line.
     Line(Line),
+    /// The next line is outside the grammar, longer than 2,400 bytes, without a line end, or would
+    /// have the number 2^32.
     Bad,
+    /// No line is left.
     End,
+    /// The source could not be read.
     Failed,
 }
 
@@ -26,7 +31,8 @@ enum Front {
     Short,
 }
 
-/// A reader of lines, with its room inside.
+/// A reader of the lines of a script. It takes no memory: its room of 4,096 bytes is in the value.
+/// Contracts see the bytes that it holds and the number of the line last answered.
 #[derive(Drop)]
 pub struct Lines {
     cells: [u8; 4096],
@@ -71,6 +77,7 @@ fn front_of(held: &[u8]) -> Front
 }
 
 impl Lines {
+    /// A reader that holds nothing yet.
     pub fn new() -> Self
         ensures { result ≡ record { held = []; number = 0 } }
     {
@@ -82,7 +89,9 @@ impl Lines {
         }
     }
 
-    /// The number of the line last answered.
+    /// The number of the line last answered, counted from 1. After `Bad` it is the number of the bad
+    /// line, and 4294967295 for a line that would have the number 2^32; after `End` and `Failed` it
+    /// is the number of the lines before.
     pub fn number(&self) -> u32
         ensures { result ≡ self.now.number }
     {
@@ -129,12 +138,23 @@ impl Lines {
         Ok(count)
     }
 
-    /// The next line of the script. The source is asked only where no whole line is held.
+    /// Whether a whole line is held, or bytes that no line can begin with: then `next` does not ask
+    /// the source.
+    pub fn is_ready(&self) -> bool
+        ensures { IsTrue result ↔ IsReady self.now.held }
+    {
+        let held = self.held();
+        line_end(held).is_some() || held.len() > 2400
+    }
+
+    /// The next line of the script. The source is asked only where `is_ready` is false. After any
+    /// answer but a line, what is still to come is as it was before.
     pub fn next<I: Source>(&mut self, script: &mut I) -> Lined
         ensures next { IsNext self.old self.new (I.left script.old) (I.left script.new) result }
         ensures failed { result ≡ Lined.Failed → Rose (I.faults script.old) (I.faults script.new) }
         ensures later { I.faults script.old ≤ I.faults script.new }
         ensures few { result ≢ Lined.Failed → result ≢ Lined.End → self.new.number < 2 ^ 32 }
+        ensures unasked { IsReady self.old.held → script.new ≡ script.old }
     {
         'turns: loop {
             match front_of(self.held()) {

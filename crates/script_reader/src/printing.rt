@@ -6,6 +6,7 @@ use crate::event::Event;
 use crate::fault::Fault;
 use arrayvec::ArrayVec;
 use itoa::Buffer;
+use pump_core::Seen;
 use pump_frame::{Frame, Kind};
 
 /// The room that a printed line is put into.
@@ -170,42 +171,72 @@ fn put_end(into: &mut Room, session: u32, accepted: u64, high: Option<(u64, u64)
     }
 }
 
+/// A pair that the low process read of High's times.
+fn put_seen(into: &mut Room, word: &[u8], session: u32, moment: u64, seen: &Seen)
+    requires empty { into.old.items ≡ [] }
+    requires short { length word.now ≤ 40 }
+    ensures { into.new.items ≡ line_with_end (word.now ∷ decimal session ∷ decimal moment ∷ decimal seen.now.count ∷ decimal seen.now.average ∷ []) }
+{
+    put_four(
+        into,
+        word,
+        u64::from(session),
+        moment,
+        u64::from(seen.count),
+        u64::from(seen.average),
+    );
+}
+
 /// The room then holds the event's line, with its line end. The reply of a `Low` is to be a lawful
-/// WELCOME, ACK or REFUSE.
+/// WELCOME, ACK or REFUSE. `docs/formats.md`, "Transcript", has the lines.
 pub fn print_event(event: &Event, into: &mut ArrayVec<u8, 2400>)
     requires printable { IsPrintable event.now }
     ensures line { into.new.items ≡ event_line event.now }
 {
     into.clear();
-    match event {
+    match *event {
         Event::Stored {
             session,
             moment,
             number,
-        } => put_three(into, b"stored", u64::from(*session), *moment, *number),
-        Event::Full { session, moment } => put_two(into, b"full", u64::from(*session), *moment),
+        } => put_three(into, b"stored", u64::from(session), moment, number),
+        Event::Full { session, moment } => put_two(into, b"full", u64::from(session), moment),
+        Event::Passed {
+            session,
+            moment,
+            seen,
+        } => put_seen(into, b"passed", session, moment, &seen),
+        Event::Released { session, moment } => {
+            put_two(into, b"released", u64::from(session), moment)
+        }
+        Event::Repeat {
+            session,
+            moment,
+            seen,
+        } => put_seen(into, b"repeat", session, moment, &seen),
         Event::Low {
             session,
             moment,
             reply,
-        } => put_reply(into, *session, *moment, reply),
+        } => put_reply(into, session, moment, &reply),
         Event::Removed {
             session,
             moment,
             number,
             time,
-        } => put_removed(into, *session, *moment, *number, *time),
+        } => put_removed(into, session, moment, number, time),
         Event::Sent {
             session,
             moment,
             number,
-        } => put_three(into, b"sent", u64::from(*session), *moment, *number),
-        Event::Took { session, number } => { put_two(into, b"took", u64::from(*session), *number) }
+        } => put_three(into, b"sent", u64::from(session), moment, number),
+        Event::Took { session, number } => put_two(into, b"took", u64::from(session), number),
+        Event::Again { session, number } => put_two(into, b"again", u64::from(session), number),
         Event::End {
             session,
             accepted,
             high,
-        } => put_end(into, *session, *accepted, *high),
+        } => put_end(into, session, accepted, high),
     }
 }
 

@@ -1,7 +1,6 @@
-use Rattle.std.proofs.Common.{◌≡◌, ◌^◌, ◌<◌, ◌≤◌, Ok, Err, Some, decimal, sym, ap, ◌∙◌, arith}
+use Rattle.std.proofs.Common.{sym, arith}
 use Rattle.std.proofs.lemmas.Bool.{iff_false}
 use Rattle.std.specs.Str.Parse.{ParsesUnsigned}
-use Rattle.script_reader.specs.Parsing.{IsPlain}
 use Rattle.script_reader.proofs.FieldLaws.{number_unplain, number_untext, number_unparsed, parsed_is, number_again, number_over}
 use Rattle.script_reader.proofs.fields.number_of.Goals as goal
 

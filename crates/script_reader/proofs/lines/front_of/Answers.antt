@@ -1,6 +1,4 @@
-use Rattle.std.proofs.Common.{◌≡◌, ◌+◌, List, ℕ, take, drop, sym, ◌∙◌, arith, min, length-take, refl, None, Some}
-use Rattle.script_reader.specs.Grammar.{IsLine}
-use Rattle.script_reader.specs.Lines.{is_end}
+use Rattle.std.proofs.Common.{◌+◌, take, drop, sym, ◌∙◌, arith}
 use Rattle.std.proofs.lemmas.List.{length-take-le}
 use Rattle.script_reader.proofs.LineEnds.{ended, not_ended, bad_line, too_long}
 use Rattle.script_reader.proofs.lines.front_of.Goals as goal

@@ -1,4 +1,4 @@
-use Rattle.std.proofs.Common.{◌≡◌, ◌+◌, ◌-◌, ◌≤◌, List, ℕ, length, take, drop, sym, ap, ◌∙◌, arith, length-take}
+use Rattle.std.proofs.Common.{◌+◌, ◌-◌, ◌≤◌, List, ℕ, length, drop, ap, arith, length-take}
 use Rattle.script_reader.specs.Lines.{Reading}
 use Rattle.script_reader.proofs.LineEnds.{advanced}
 use Rattle.script_reader.proofs.lines.Lines.advance.Goals as goal

@@ -1,4 +1,4 @@
-use Rattle.std.proofs.Common.{◌≡◌, ◌≤◌, length, sym, ap, ◌∙◌, arith}
+use Rattle.std.proofs.Common.{◌≡◌, ◌∙◌}
 use Rattle.script_reader.specs.Lines.{IsUnended}
 use Rattle.script_reader.proofs.LineEnds.{Keeps-then}
 use Rattle.script_reader.proofs.NextLaws.{whole_next, last_next}

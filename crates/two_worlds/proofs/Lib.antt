@@ -1,0 +1,4 @@
+pub mod Acknowledged
+pub mod Pairs
+pub mod Replied
+pub mod Worlds

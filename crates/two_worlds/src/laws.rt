@@ -1,0 +1,48 @@
+//! The laws over the world and over runs. Each is a function without parameters and without a result,
+//! whose contract is the law; its body does nothing.
+
+ghost use Rattle.two_worlds.specs.Laws.{EveryWorldIsLawful, ForgedWorldsAreBounded, TimedWorldsAreLawful, RunsHaveReplies, PairsAgree, AcknowledgedIsAccepted, ThinnedHistoriesAgree};
+
+/// Whatever happens, and in whatever order, with crashes of the pump, the receiver or both at any
+/// event, the world stays lawful: the receiver has the beginning of what was accepted, and no
+/// message that is still needed is written over.
+pub fn every_world_is_lawful()
+    ensures { EveryWorldIsLawful }
+{}
+
+/// Whatever comes back to it, forged or not, the pump keeps its bounds.
+pub fn forged_worlds_are_bounded()
+    ensures { ForgedWorldsAreBounded }
+{}
+
+/// The world to which a timed run comes is lawful.
+pub fn timed_worlds_are_lawful()
+    ensures { TimedWorldsAreLawful }
+{}
+
+/// Each timed run has replies to the low party.
+pub fn runs_have_replies()
+    ensures { RunsHaveReplies }
+{}
+
+/// The low party's replies and their moments are a function of what is low's own, and of the feedback
+/// up to its counts: two timed runs of one row that agree in these have the same replies, whatever
+/// High, the network, the receiver and the high side do in each.
+pub fn pairs_agree()
+    ensures { PairsAgree }
+{
+    pump_core::sides_decide();
+}
+
+/// Leaving out looks that find nothing, looks of a wait before its end and looks that find the
+/// passage full changes no reply.
+pub fn thinned_histories_agree()
+    ensures { ThinnedHistoriesAgree }
+{
+    pump_core::thinned_histories_agree();
+}
+
+/// What a timed run acknowledged is among the accepted messages of its world, whatever crashed since.
+pub fn acknowledged_is_accepted()
+    ensures { AcknowledgedIsAccepted }
+{}

@@ -1,0 +1,4 @@
+//! The whole relay on one thread, and the laws over all that may happen in it.
+#![tactic(auto)]
+
+pub mod laws;

@@ -1,17 +1,27 @@
 -- Looks that are left out change no reply.
-use Rattle.std.proofs.Common.{◌≡◌, ℕ, Bool, true, List, [], ◌∷◌, ◌++◌, refl, sym, ap, ◌∙◌, subst, append-nil}
+use Rattle.std.proofs.Common.{◌≡◌, ℕ, Bool, true, false, ◌||◌, if◌then◌else◌, List, [], ◌∷◌, ◌++◌, refl, sym, ap, ◌∙◌, subst, append-nil}
 use Rattle.std.specs.List.{AllByRecursion}
 use Rattle.pump_frame.specs.declared.row.SessionRow.{SessionRow}
 use Rattle.pump_core.specs.History.{Look, Opening, Life}
-use Rattle.pump_core.specs.Exchanges.{due, Wait, Part, is_finished, is_over, count_in, count_after, greeted_in, greeted_by_wait, greeted_after, is_left, is_left_by, is_release, IsQuiet, IsWait, IsFull, IsPart, AreParts}
+use Rattle.pump_core.specs.Exchanges.{is_gone, any_gone, IsHeld, due, Wait, Part, is_finished, is_over, count_in, count_after, greeted_in, greeted_by_wait, greeted_after, is_left, is_left_by, is_release, IsQuiet, IsWait, IsFull, IsPart, AreParts}
 use Rattle.pump_core.specs.Replies.{Sent, number_in, acknowledged, replies_in, replies_of, LifeReplies, LivesReplies}
-use Rattle.pump_core.specs.Thinned.{Fewer, same, without, with, ShorterWait, waiting, over, ShorterPart, whole, repeated, offering, dropped, delivery, Shorter, none, empty, part, ThinnedLife, ThinnedLives}
+use Rattle.pump_core.specs.Thinned.{Fewer, same, without, with, FewerHeld, all_held, without_held, with_held, ShorterWait, waiting, over, ShorterPart, whole, holding, released, repeated, offering, dropped, delivery, Shorter, none, empty, part, ThinnedLife, ThinnedLives}
 use Rattle.pump_core.proofs.Runs.{one_list}
 
 all_of_fewer : (P : Look → Type 0) {xs ys : List Look} → Fewer xs ys → AllByRecursion P xs → AllByRecursion P ys
 all_of_fewer P same h = h
 all_of_fewer P (without f) h = all_of_fewer P f h.1
 all_of_fewer P (with f) h = (h.0, all_of_fewer P f h.1)
+
+all_of_fewer_held : (P : Look → Type 0) {xs ys : List Look} → FewerHeld xs ys → AllByRecursion P xs → AllByRecursion P ys
+all_of_fewer_held P all_held h = h
+all_of_fewer_held P (without_held e f) h = all_of_fewer_held P f h.1
+all_of_fewer_held P (with_held f) h = (h.0, all_of_fewer_held P f h.1)
+
+same_gone : {xs ys : List Look} → FewerHeld xs ys → any_gone ys ≡ any_gone xs
+same_gone all_held = refl
+same_gone (without_held {x} {xs} {ys} e f) = rw e (same_gone f)
+same_gone (with_held {x} {xs} {ys} f) = ap (λ b. is_gone x.arrival || b) (same_gone f)
 
 record SameWait (due : ℕ) (w v : Wait) : Type 0 where
   is_wait : IsWait due w → IsWait due v
@@ -34,6 +44,8 @@ record SamePart (row : SessionRow) (p q : Part) : Type 0 where
 
 same_part : (row : SessionRow) {p q : Part} → ShorterPart p q → SamePart row p q
 same_part row whole = record { is_part = λ n g h. h; finished = refl; release = refl; left = refl; count = λ n. refl; greeted = λ g. refl; replies = λ n g. refl }
+same_part row (holding {x} {y} {xs} {ys} f) = record { is_part = λ n g h. all_of_fewer_held IsHeld f h; finished = refl; release = refl; left = refl; count = λ n. refl; greeted = λ g. ap (λ b. if b then false else g) (same_gone f); replies = λ n g. refl }
+same_part row (released {xs} {ys} {last} f) = record { is_part = λ n g h. (all_of_fewer_held IsHeld f h.0, h.1, h.2); finished = refl; release = refl; left = refl; count = λ n. refl; greeted = λ g. ap (λ b. if b then false else g) (same_gone f); replies = λ n g. refl }
 same_part row (repeated {first} w) =
     let s = same_wait (due row first) w in
     record { is_part = λ n g h. (h.0, h.1, s.is_wait h.2); finished = s.finished; release = refl; left = refl; count = λ n. refl; greeted = s.greeted; replies = λ n g. s.replies row (number_in first.arrival) }

@@ -1,15 +1,21 @@
 -- A history from which looks are left out that change no reply: those that find nothing, those that
 -- wait for a due moment, and those that find the passage full.
-use Rattle.std.specs.Prelude.{◌≡◌, List, [], ◌∷◌}
+use Rattle.std.specs.Prelude.{◌≡◌, false, List, [], ◌∷◌}
 use Rattle.pump_frame.specs.declared.row.SessionRow.{SessionRow}
 use Rattle.pump_core.specs.History.{Look, Life, History}
-use Rattle.pump_core.specs.Exchanges.{Wait, Waiting, Over, Part, Empty, Repeated, Offering, Dropped, Delivery, looks_of, IsCut}
+use Rattle.pump_core.specs.Exchanges.{is_gone, Wait, Waiting, Over, Part, Holding, Release, Empty, Repeated, Offering, Dropped, Delivery, looks_of, IsCut}
 
 -- the second list is the first with looks left out
 pub data Fewer : List Look → List Look → Type 0 where
   same : {xs : List Look} → Fewer xs xs
   without : {x : Look} {xs ys : List Look} → Fewer xs ys → Fewer (x ∷ xs) ys
   with : {x : Look} {xs ys : List Look} → Fewer xs ys → Fewer (x ∷ xs) (x ∷ ys)
+
+-- the second list is the first with looks left out whose connection was not gone
+pub data FewerHeld : List Look → List Look → Type 0 where
+  all_held : {xs : List Look} → FewerHeld xs xs
+  without_held : {x : Look} {xs ys : List Look} → is_gone x.arrival ≡ false → FewerHeld xs ys → FewerHeld (x ∷ xs) ys
+  with_held : {x : Look} {xs ys : List Look} → FewerHeld xs ys → FewerHeld (x ∷ xs) (x ∷ ys)
 
 -- the second wait is the first with looks before its end left out
 pub data ShorterWait : Wait → Wait → Type 0 where
@@ -19,6 +25,8 @@ pub data ShorterWait : Wait → Wait → Type 0 where
 -- the second part is the first with waiting looks and Full looks left out
 pub data ShorterPart : Part → Part → Type 0 where
   whole : {p : Part} → ShorterPart p p
+  holding : {x y : Look} {xs ys : List Look} → FewerHeld (x ∷ xs) (y ∷ ys) → ShorterPart (Holding x xs) (Holding y ys)
+  released : {xs ys : List Look} {last : Look} → FewerHeld xs ys → ShorterPart (Release xs last) (Release ys last)
   repeated : {first : Look} {w v : Wait} → ShorterWait w v → ShorterPart (Repeated first w) (Repeated first v)
   offering : {first : Look} {xs ys : List Look} → Fewer xs ys → ShorterPart (Offering first xs) (Offering first ys)
   dropped : {first gone : Look} {xs ys : List Look} → Fewer xs ys → ShorterPart (Dropped first xs gone) (Dropped first ys gone)

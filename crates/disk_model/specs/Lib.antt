@@ -1,0 +1,10 @@
+pub mod Contents
+pub mod Counts
+pub mod Disk
+pub mod Mem
+pub mod Plain
+pub mod Ranges
+pub mod Record
+pub mod RecordLaws
+pub mod Spare
+pub mod Written

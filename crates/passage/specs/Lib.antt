@@ -1,2 +1,3 @@
 pub mod Answers
 pub mod Plain
+pub mod Ready

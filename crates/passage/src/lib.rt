@@ -6,3 +6,6 @@ mod plain;
 
 pub use ends::{Forwarded, HighEnd, HighSide, LowEnd, LowSide, Next};
 pub use plain::PlainEnds;
+
+#[cfg(test)]
+mod tests;

@@ -35,6 +35,12 @@ pub rises_snoc : (xs : List Item) (x : Item) → Rises xs → ComesNext xs x.num
 rises_snoc [] x h f = (x.number, (refl, tt))
 rises_snoc (y ∷ ys) x h f = (h.0, numbered_snoc h.0 (y ∷ ys) x h.1 (follows_at h.0 x.number y ys h.1 f))
 
+-- behind an item the next number may come
+pub comes_after : (xs : List Item) (x : Item) (n : ℕ) → x.number ≡ n → ComesNext (xs ++ x ∷ []) (n + 1)
+comes_after [] x n e = omega (arith, e)
+comes_after (y ∷ []) x n e = omega (arith, e)
+comes_after (y ∷ z ∷ zs) x n e = comes_after (z ∷ zs) x n e
+
 -- the numbers go on from one more item
 pub goes_on : (n : ℕ) (xs : List Item) (x : Item) → Numbered n xs → n + length xs ≤ 2 ^ 48 → ComesNext xs x.number → x.number < 2 ^ 48
     → (m : ℕ) × Numbered m (xs ++ x ∷ []) × (m + length (xs ++ x ∷ []) ≤ 2 ^ 48)

@@ -1,0 +1,16 @@
+use Rattle.std.proofs.Common.{refl}
+use Rattle.pump_core.specs.Passage.{forwards}
+use Rattle.pump_core.proofs.PassageSteps.{comes_after}
+use Rattle.passage.proofs.tests.Both.offer.Goals as goal
+
+pub returns-in-Passed : goal.returns-in-Passed
+returns-in-Passed c =
+    let r = c.requires in
+    record {
+      l = forwards r.l _;
+      h = r.h;
+      stand = (c.in-Passed.ensures.step r.l r.h r.stand r.follows).1;
+      follows = comes_after r.l.forwarded _ c.args.self.now.next refl;
+      above = r.above;
+      count = r.count;
+    }

@@ -1,0 +1,4 @@
+pub mod Log
+pub mod Numbers
+pub mod Register
+pub mod Stands

@@ -1,0 +1,68 @@
+-- What the disks of a session stand for.
+use Rattle.std.specs.Prelude.{◌≡◌, ◌⊎◌, ℕ, ◌+◌, ◌*◌, ◌%◌, ◌<◌, ◌≤◌, List, [], ◌∷◌, ◌++◌, length, take, drop, slice_index_or}
+use Rattle.byteorder.specs.Endian.{big_bytes}
+use Rattle.pump_frame.specs.declared.row.SessionRow.{SessionRow}
+use Rattle.stable_buffer.specs.Register.{value_of}
+
+-- the first bytes of a disk: the mark, the role and the version, and the row's three numbers
+pub record HasHeader (row : SessionRow) (role : ℕ) (front : List ℕ) : Type 0 where
+  pub mark : take 6 front ≡ 78 ∷ 80 ∷ 68 ∷ 49 ∷ role ∷ 1 ∷ []
+  pub numbers : take 12 (drop 8 front) ≡ big_bytes 4 row.id ++ big_bytes 4 row.capacity ++ big_bytes 4 row.message
+
+-- a message as it stands on a disk: its length in two bytes, and its bytes
+abbrev pub spelled : List ℕ → List ℕ
+spelled message = big_bytes 2 (length message) ++ message
+
+-- where message n stands
+abbrev pub slot_of : SessionRow → ℕ → ℕ
+slot_of row n = 80 + (n % row.capacity) * (2 + row.message)
+
+-- where a message with this number and these bytes ends
+abbrev pub slot_end : SessionRow → ℕ → List ℕ → ℕ
+slot_end row n message = slot_of row n + 2 + length message
+
+abbrev pub low_size : SessionRow → ℕ
+low_size row = 80 + row.capacity * (2 + row.message)
+
+-- a message stands in its slot
+pub record InSlot (row : SessionRow) (n : ℕ) (message disk : List ℕ) : Type 0 where
+  pub fits : length message ≤ row.message
+  pub bytes : take (2 + length message) (drop (slot_of row n) disk) ≡ spelled message
+
+-- a low disk stands for the count E and the messages from b to E - 1
+pub record LowStands (row : SessionRow) (E b : ℕ) (messages : List (List ℕ)) (disk : List ℕ) : Type 0 where
+  pub header : HasHeader row 76 (take 32 disk)
+  pub size : length disk ≡ low_size row
+  pub value : value_of disk ≡ (E, 0)
+  pub kept : E ≤ b + row.capacity
+  pub count : b + length messages ≡ E
+  pub slots : (i : ℕ) → i < length messages → InSlot row (b + i) (slice_index_or messages i []) disk
+
+-- what stood for a count and messages that leave a slot free stands for them still
+pub record StandsOn (row : SessionRow) (old new : List ℕ) : Type 0 where
+  pub same : (E b : ℕ) (messages : List (List ℕ)) → E + 1 ≤ b + row.capacity → LowStands row E b messages old
+      → LowStands row E b messages new
+
+-- it stands for them still, or for one message more
+pub record MayGain (row : SessionRow) (message : List ℕ) (old new : List ℕ) : Type 0 where
+  pub either : (E b : ℕ) (messages : List (List ℕ)) → E + 1 ≤ b + row.capacity → LowStands row E b messages old
+      → LowStands row E b messages new ⊎ LowStands row (E + 1) b (messages ++ message ∷ []) new
+
+-- it stands for one message more
+pub record Gains (row : SessionRow) (message : List ℕ) (old new : List ℕ) : Type 0 where
+  pub more : (E b : ℕ) (messages : List (List ℕ)) → E + 1 ≤ b + row.capacity → LowStands row E b messages old
+      → LowStands row (E + 1) b (messages ++ message ∷ []) new
+
+-- a high disk stands for the count B
+pub record HighStands (row : SessionRow) (B : ℕ) (disk : List ℕ) : Type 0 where
+  pub header : HasHeader row 72 (take 32 disk)
+  pub size : length disk ≡ 80
+  pub value : value_of disk ≡ (B, 0)
+
+-- what stood for a count stands for it still, or for one more
+pub record MayRemove (old new : List ℕ) : Type 0 where
+  pub either : (row : SessionRow) (B : ℕ) → HighStands row B old → HighStands row B new ⊎ HighStands row (B + 1) new
+
+-- it stands for one more
+pub record Removes (old new : List ℕ) : Type 0 where
+  pub more : (row : SessionRow) (B : ℕ) → HighStands row B old → HighStands row (B + 1) new

@@ -1,0 +1,11 @@
+//! Counts and messages on disks, which outlive a crash at any moment: the register of two numbers,
+//! the stores of the low and the high process, and new disks. The bytes are those of
+//! `docs/formats.md`, "Disks".
+#![tactic(auto)]
+
+mod bytes;
+mod device;
+mod register;
+
+pub use device::Device;
+pub use register::Register;

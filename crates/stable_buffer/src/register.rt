@@ -1,0 +1,199 @@
+ghost use Rattle.std.specs.Prelude.{◌≡◌, ◌+◌, ◌≤◌, false, length, take, drop, IfOk, OnOk, OnErr, IfErr};
+ghost use Rattle.disk_model.specs.Disk.{Moves, Same, Torn, Holds, Settled, Answers};
+
+use crate::Device;
+use crate::bytes::{cell_of, read_number};
+use crate::device::{write, write_and_sync};
+use disk_model::{Disk, DiskFault};
+
+/// Two numbers on bytes 32 to 79 of a disk: a selector, and two cells of which it selects one. A
+/// change of them is whole or not at all, whenever a crash comes.
+#[derive(Drop)]
+pub struct Register<D> {
+    disk: D,
+    parity: u8,
+    first: u64,
+    second: u64,
+    next_first: u64,
+    next_second: u64,
+    is_open: bool,
+}
+
+impl<D: Disk> Register<D> {
+    ghost use Rattle.std.specs.Borrow.{sem, Lends};
+    ghost use Rattle.stable_buffer.specs.contracts.register.Register.{the_row};
+    ghost use Rattle.stable_buffer.specs.Register.{IsReady, IsStaged, KeepsValue, MayTurnTo, register_disk, register_value, register_is_open, staged_value, staging_end, with_disk, value_of, disk_of};
+
+    /// Syncs the disk, and finds what its register holds. Where a call of the disk fails, the disk
+    /// comes back.
+    pub fn open(mut disk: D) -> Result<Register<D>, (D, DiskFault)>
+        ensures ready { IfOk result (λ register. IsReady D.told register) }
+        ensures settled { IfOk result (λ register. Settled D.told (register_disk register)) }
+        ensures found { IfOk result (λ register. D.told.tells
+            → register_value register ≡ value_of (D.told.reading disk)) }
+        ensures moves { Moves D.told Same disk (disk_of result) }
+        ensures answers { Answers D.told (80 ≤ length (D.told.reading disk))
+            disk (disk_of result) result }
+    {
+        let mut area = [0; 48];
+        if let Err(fault) = disk.sync() {
+            return Err((disk, fault));
+        }
+        if let Err(fault) = disk.read(32, &mut area) {
+            return Err((disk, fault));
+        }
+        let parity = area[0] % 2;
+        let cell = 16 + 16 * parity as usize;
+        let first = read_number(&area, cell);
+        let second = read_number(&area, cell + 8);
+        Ok(Register {
+            disk,
+            parity,
+            first,
+            second,
+            next_first: first,
+            next_second: second,
+            is_open: true,
+        })
+    }
+
+    /// The two numbers that it holds.
+    pub fn value(&self) -> (u64, u64)
+        ensures { result ≡ register_value self.now }
+    {
+        (self.first, self.second)
+    }
+
+    /// Writes the cell that isn't selected, and syncs.
+    pub fn stage(&mut self, first: u64, second: u64) -> Result<(), Device>
+        requires { IsReady D.told self.old }
+
+        ensures staged { OnOk result (IsStaged D.told self.new) }
+        ensures next { OnOk result (staged_value self.new ≡ (first, second)) }
+        ensures settled { OnOk result (Settled D.told (register_disk self.new)) }
+        ensures value { register_value self.new ≡ register_value self.old }
+
+        // At each moment a crash leaves the value from before the call.
+        ensures moves { Moves D.told KeepsValue (register_disk self.old) (register_disk self.new) }
+
+        ensures closed { OnErr result (register_is_open self.new ≡ false) }
+        ensures answers { Answers D.told (staging_end self.old ≤ D.told.room (register_disk self.old))
+            (register_disk self.old) (register_disk self.new) result }
+        ensures device { IfErr result (λ e. e.faults ≡ D.told.count (register_disk self.new)) }
+    {
+        let at = 48 + 16 * (1 - self.parity as u64);
+        let cell = cell_of(first, second);
+        if let Err(device) = write_and_sync(&mut self.disk, at, &cell) {
+            self.is_open = false;
+            return Err(device);
+        }
+        self.next_first = first;
+        self.next_second = second;
+        Ok(())
+    }
+
+    /// Selects the cell that was staged, and syncs.
+    pub fn commit(&mut self) -> Result<(), Device>
+        requires { IsStaged D.told self.old }
+
+        ensures ready { OnOk result (IsReady D.told self.new) }
+        ensures settled { OnOk result (Settled D.told (register_disk self.new)) }
+        ensures value { OnOk result (register_value self.new ≡ staged_value self.old) }
+        ensures value_err { OnErr result (register_value self.new ≡ register_value self.old) }
+
+        // At each moment a crash leaves the value from before the call, or the one that was staged.
+        ensures moves { Moves D.told (MayTurnTo (staged_value self.old))
+            (register_disk self.old) (register_disk self.new) }
+
+        ensures closed { OnErr result (register_is_open self.new ≡ false) }
+        ensures answers { Answers D.told (33 ≤ D.told.room (register_disk self.old))
+            (register_disk self.old) (register_disk self.new) result }
+        ensures device { IfErr result (λ e. e.faults ≡ D.told.count (register_disk self.new)) }
+    {
+        let parity = 1 - self.parity;
+        if let Err(device) = write_and_sync(&mut self.disk, 32, &[parity]) {
+            self.is_open = false;
+            return Err(device);
+        }
+        self.parity = parity;
+        self.first = self.next_first;
+        self.second = self.next_second;
+        Ok(())
+    }
+
+    /// No call has failed. Once one has, only `is_open` and `into_disk` may be called.
+    pub fn is_open(&self) -> bool
+        ensures { result ≡ register_is_open self.now }
+    {
+        self.is_open
+    }
+
+    // Writes beside the register.
+    pub(crate) fn write_beside(&mut self, at: u64, bytes: &[u8]) -> Result<(), Device>
+        requires ready { IsReady D.told self.old }
+        requires beside { 80 ≤ at }
+        requires within { D.told.tells → at ≤ length (D.told.reading (register_disk self.old)) }
+
+        ensures ready { OnOk result (IsReady D.told self.new) }
+        ensures value { register_value self.new ≡ register_value self.old }
+        ensures written { OnOk result (D.told.tells → Holds (D.told.reading (register_disk self.old))
+            at bytes.now (D.told.reading (register_disk self.new))) }
+        ensures moves { Moves D.told (Torn at (length bytes.now))
+            (register_disk self.old) (register_disk self.new) }
+
+        ensures closed { OnErr result (register_is_open self.new ≡ false) }
+        ensures answers { Answers D.told (at + length bytes.now ≤ D.told.room (register_disk self.old))
+            (register_disk self.old) (register_disk self.new) result }
+        ensures device { IfErr result (λ e. e.faults ≡ D.told.count (register_disk self.new)) }
+    {
+        if let Err(device) = write(&mut self.disk, at, bytes) {
+            self.is_open = false;
+            return Err(device);
+        }
+        Ok(())
+    }
+
+    pub(crate) fn read_at(&mut self, at: u64, into: &mut [u8]) -> Result<(), Device>
+        requires ready { IsReady D.told self.old }
+
+        ensures ready { OnOk result (IsReady D.told self.new) }
+        ensures value { register_value self.new ≡ register_value self.old }
+        ensures size { length into.new ≡ length into.old }
+        ensures within { OnOk result (D.told.tells
+            → at + length into.old ≤ length (D.told.reading (register_disk self.old))) }
+        ensures bytes { OnOk result (D.told.tells → into.new
+            ≡ take (length into.old) (drop at (D.told.reading (register_disk self.old)))) }
+        ensures moves { Moves D.told Same (register_disk self.old) (register_disk self.new) }
+
+        ensures closed { OnErr result (register_is_open self.new ≡ false) }
+        ensures answers { Answers D.told
+            (at + length into.old ≤ length (D.told.reading (register_disk self.old)))
+            (register_disk self.old) (register_disk self.new) result }
+        ensures device { IfErr result (λ e. e.faults ≡ D.told.count (register_disk self.new)) }
+    {
+        if let Err(DiskFault) = self.disk.read(at, into) {
+            self.is_open = false;
+            return Err(Device {
+                faults: self.disk.faults(),
+            });
+        }
+        Ok(())
+    }
+
+    /// The disk itself. Its bytes 32 to 79 are the register's: once they are written through it, only
+    /// `into_disk` may be called.
+    pub fn disk(&mut self) -> &mut D
+        ensures value { result.now ≡ register_disk self.old }
+        ensures* writes_back { sem 𝓛 (Lends (the_row D.row) D.row self.entry result
+            (λ disk. with_disk self.old disk)) }
+    {
+        &mut self.disk
+    }
+
+    /// The disk, with no further call.
+    pub fn into_disk(self) -> D
+        ensures { result ≡ register_disk self }
+    {
+        self.disk
+    }
+}

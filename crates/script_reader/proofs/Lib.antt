@@ -6,5 +6,6 @@ pub mod LineLaws
 pub mod LookLaws
 pub mod MomentLaws
 pub mod NextLaws
+pub mod OneReading
 pub mod SessionLaws
 pub mod Splits

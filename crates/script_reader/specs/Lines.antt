@@ -47,3 +47,8 @@ IsNext old new left rest lined.Bad = Keeps (to_come old left) (to_come new rest)
     × (new.number ≡ min (old.number + 1) (2 ^ 32 - 1)) × (length new.held ≤ 4096)
 IsNext old new left rest lined.End = Keeps (to_come old left) (to_come new rest) × IsAtEnd (to_come old left) × (new.number ≡ old.number)
 IsNext old new left rest lined.Failed = Keeps (to_come old left) (to_come new rest) × (new.number ≡ old.number) × (length new.held ≤ 4096)
+
+-- the bytes are these lines, each with its line end, and then the rest, where they are known
+abbrev pub AreLines : Option (List ℕ) → List Line → Option (List ℕ) → Type 0
+AreLines all [] rest = Keeps all rest
+AreLines all (line ∷ lines) rest = (bytes : List ℕ) × (mid : Option (List ℕ)) × IsUnended bytes × IsLine line bytes × Consumes all mid (bytes ++ 10 ∷ []) × AreLines mid lines rest

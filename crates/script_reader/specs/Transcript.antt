@@ -1,20 +1,15 @@
 -- Which bytes a line of a transcript is.
-use Rattle.std.specs.Prelude.{◌≡◌, ◌⊎◌, ℕ, List, [], ◌∷◌, ◌++◌, Option, None, Some, codes, decimal, slice_index}
-use Rattle.pump_frame.specs.Frames.{IsLawful}
+use Rattle.std.specs.Prelude.{ℕ, List, [], ◌∷◌, ◌++◌, Option, None, Some, codes, decimal, slice_index}
+use Rattle.std.specs.List.{flat_map}
 use Rattle.pump_frame.specs.declared.frame.Kind.{Kind}
 use Rattle.pump_frame.specs.declared.frame.Kind.TheVariants.{Hello, Welcome, Data, Ack, Refuse, Attach, Taken}
-use Rattle.pump_frame.specs.declared.frame.Frame.{Frame}
 use Rattle.script_reader.specs.declared.event.Event.{Event}
 use Rattle.script_reader.specs.declared.event.Event.TheVariants.{Stored, Full, Passed, Released, Repeat, Low, Removed, Sent, Took, Again, End}
 use Rattle.script_reader.specs.declared.fault.Fault.{Fault}
 use Rattle.script_reader.specs.declared.fault.Fault.TheVariants.{Words, Read, Script}
 use Rattle.script_reader.specs.Grammar.{spaced}
 
--- a frame that the low process replies
-abbrev pub IsReply : Frame → Type 0
-IsReply frame = IsLawful frame × ((frame.kind ≡ Welcome) ⊎ ((frame.kind ≡ Ack) ⊎ (frame.kind ≡ Refuse)))
-
--- the fields of a reply; the one payload byte of a REFUSE is its code
+-- the fields of a reply, which is a WELCOME, an ACK or a REFUSE; the payload byte of a REFUSE is its code
 abbrev pub reply_fields : Kind → ℕ → List ℕ → List (List ℕ)
 reply_fields Welcome number payload = codes "welcome" ∷ decimal number ∷ []
 reply_fields Ack number payload = codes "ack" ∷ decimal number ∷ []
@@ -47,17 +42,16 @@ event_fields (Took session number) = codes "took" ∷ decimal session ∷ decima
 event_fields (Again session number) = codes "again" ∷ decimal session ∷ decimal number ∷ []
 event_fields (End session accepted high) = codes "end" ∷ decimal session ∷ decimal accepted ∷ high_fields high
 
--- an event that can be printed: what the low process replied is a reply
-abbrev pub IsPrintable : Event → Type 0
-IsPrintable (Low session moment reply) = IsReply reply
-IsPrintable _ = Unit {0}
-
 -- fields as a line, with its line end
 abbrev pub line_with_end : List (List ℕ) → List ℕ
 line_with_end fields = spaced fields ++ 10 ∷ []
 
 abbrev pub event_line : Event → List ℕ
 event_line event = line_with_end (event_fields event)
+
+-- the lines of these events, one after another
+abbrev pub text : List Event → List ℕ
+text events = flat_map event_line events
 
 -- the fields of the last line of an output that stops
 abbrev pub fault_fields : Fault → List (List ℕ)

@@ -5,6 +5,7 @@
 mod event;
 mod fault;
 mod fields;
+mod laws;
 mod line;
 mod lines;
 mod printing;
@@ -12,6 +13,7 @@ mod reading;
 
 pub use event::Event;
 pub use fault::Fault;
+pub use laws::one_reading;
 pub use line::{Arriving, Line};
 pub use lines::{Lined, Lines};
 pub use printing::{print_event, print_fault};

@@ -1,6 +1,6 @@
-ghost use Rattle.std.specs.Prelude.{◌≡◌, ℕ, ◌+◌, ◌≤◌, List, [], ◌∷◌, ◌++◌, None, Some, length, codes, decimal};
+ghost use Rattle.std.specs.Prelude.{◌≡◌, ℕ, ◌+◌, ◌≤◌, List, [], ◌∷◌, ◌++◌, None, Some, length, codes, decimal, slice_index};
 ghost use Rattle.arrayvec.specs.ArrayVec.{array_vec_len};
-ghost use Rattle.script_reader.specs.Transcript.{IsReply, IsPrintable, reply_fields, high_fields, time_field, event_line, fault_line, line_with_end};
+ghost use Rattle.script_reader.specs.Transcript.{reply_fields, high_fields, time_field, event_line, fault_line, line_with_end};
 
 use crate::event::Event;
 use crate::fault::Fault;
@@ -125,16 +125,33 @@ fn put_refusal(into: &mut Room, session: u32, moment: u64, code: u8, number: u64
     put(into, b"\n");
 }
 
+/// The reason of a REFUSE.
+fn code_of(reply: &Frame) -> u8
+    ensures { result ≡ slice_index reply.now.payload 0 }
+{
+    match reply.payload.as_slice() {
+        [code, ..] => *code,
+        [] => 0,
+    }
+}
+
+fn put_other(into: &mut Room, session: u32, moment: u64)
+    requires { into.old.items ≡ [] }
+    ensures { into.new.items ≡ line_with_end (codes "low" ∷ decimal session ∷ decimal moment ∷ []) }
+{
+    put_front(into, b"low", session, moment);
+    put(into, b"\n");
+}
+
 fn put_reply(into: &mut Room, session: u32, moment: u64, reply: &Frame)
-    requires empty { into.old.items ≡ [] }
-    requires reply { IsReply reply.now }
+    requires { into.old.items ≡ [] }
     ensures { into.new.items ≡ line_with_end (codes "low" ∷ decimal session ∷ decimal moment ∷ reply_fields reply.now.kind reply.now.number reply.now.payload) }
 {
-    match (reply.kind, reply.payload.as_slice()) {
-        (Kind::Welcome, _) => put_numbered(into, session, moment, b"welcome", reply.number),
-        (Kind::Ack, _) => put_numbered(into, session, moment, b"ack", reply.number),
-        (_, [code, ..]) => put_refusal(into, session, moment, *code, reply.number),
-        _ => {}
+    match reply.kind {
+        Kind::Welcome => put_numbered(into, session, moment, b"welcome", reply.number),
+        Kind::Ack => put_numbered(into, session, moment, b"ack", reply.number),
+        Kind::Refuse => put_refusal(into, session, moment, code_of(reply), reply.number),
+        Kind::Hello | Kind::Data | Kind::Attach | Kind::Taken => put_other(into, session, moment),
     }
 }
 
@@ -187,10 +204,10 @@ fn put_seen(into: &mut Room, word: &[u8], session: u32, moment: u64, seen: &Seen
     );
 }
 
-/// The room then holds the event's line, with its line end. The reply of a `Low` is to be a lawful
-/// WELCOME, ACK or REFUSE. `docs/formats.md`, "Transcript", has the lines.
+/// The room then holds the event's line, with its line end; `docs/formats.md`, "Transcript", has
+/// the lines. The reply of a `Low` is a WELCOME, an ACK or a REFUSE; of another frame only the word,
+/// the session and the moment are printed.
 pub fn print_event(event: &Event, into: &mut ArrayVec<u8, 2400>)
-    requires printable { IsPrintable event.now }
     ensures line { into.new.items ≡ event_line event.now }
 {
     into.clear();

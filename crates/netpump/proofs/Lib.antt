@@ -1,0 +1,2 @@
+pub mod LowGreetings
+pub mod LowLooking

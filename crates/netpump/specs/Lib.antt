@@ -1,0 +1,3 @@
+pub mod LowHands
+pub mod LowLooks
+pub mod LowSteps

@@ -1,2 +1,6 @@
 pub mod Cells
+pub mod Fresh
+pub mod Logs
 mod Numbers
+pub mod Slots
+pub mod Store

@@ -5,7 +5,13 @@
 
 mod bytes;
 mod device;
+mod high;
+mod low;
+mod new_disk;
 mod register;
 
 pub use device::Device;
+pub use high::HighStore;
+pub use low::LowStore;
+pub use new_disk::format;
 pub use register::Register;

@@ -1,0 +1,171 @@
+ghost use Rattle.std.specs.Prelude.{◌≡◌, ◌+◌, ◌^◌, ◌<◌, ◌≤◌, false, length, IfOk, OnOk, OnErr, IfErr};
+ghost use Rattle.disk_model.specs.Disk.{Moves, Same, Settled, Answers};
+ghost use Rattle.pump_frame.specs.Rows.{IsLawfulRow};
+ghost use Rattle.stable_buffer.specs.Numbers.{length_at, message_at};
+ghost use Rattle.stable_buffer.specs.Stands.{slot_of, slot_end, low_size, InSlot, StandsOn, MayGain, Gains};
+
+use crate::bytes::{read_length, spell};
+use crate::{Device, Register};
+use disk_model::Disk;
+use pump_frame::{Payload, SessionRow};
+
+/// The messages that the low process has accepted, on its disk: the last of them, in a ring of slots.
+#[derive(Drop)]
+pub struct LowStore<D> {
+    register: Register<D>,
+    row: SessionRow,
+}
+
+impl<D: Disk> LowStore<D> {
+    ghost use Rattle.stable_buffer.specs.Low.{IsLowReady, HasRanges, StandsForCount, low_disk, low_count, low_row, low_is_open};
+    ghost use Rattle.stable_buffer.specs.Register.{IsReady, register_disk, register_value};
+
+    /// A store over a register, whose disk stands for a count of at most 2^48 and some messages.
+    pub fn over(register: Register<D>, row: &SessionRow) -> LowStore<D>
+        requires ready { IsReady D.told register }
+        requires lawful { IsLawfulRow row.now }
+        requires count { (register_value register).0 ≤ 2 ^ 48 }
+        requires second { (register_value register).1 ≡ 0 }
+        requires settled { Settled D.told (register_disk register) }
+        requires stands { D.told.tells → StandsForCount row.now (register_value register).0
+            (D.told.reading (register_disk register)) }
+        ensures ready { IsLowReady D.told result }
+        ensures disk { low_disk result ≡ register_disk register }
+        ensures count { low_count result ≡ (register_value register).0 }
+        ensures row { low_row result ≡ row.now }
+    {
+        LowStore {
+            register,
+            row: *row,
+        }
+    }
+
+    /// No call has failed. Once one has, only `is_open` and `into_disk` may be called.
+    pub fn is_open(&self) -> bool
+        ensures { result ≡ low_is_open self.now }
+    {
+        self.register.is_open()
+    }
+
+    /// The disk, with no further call.
+    pub fn into_disk(self) -> D
+        ensures { result ≡ low_disk self }
+    {
+        self.register.into_disk()
+    }
+
+    /// How many messages are accepted.
+    pub fn accepted(&self) -> u64
+        ensures { result ≡ low_count self.now }
+    {
+        self.register.value().0
+    }
+
+    // Where a message stands.
+    fn place(&self, n: u64) -> u64
+        requires ranges { HasRanges (low_row self.now) }
+        ensures place { result ≡ slot_of (low_row self.now) n }
+        ensures low { result ≤ 65744 }
+    {
+        80 + n % self.row.capacity as u64 * (2 + self.row.message as u64)
+    }
+
+    // Writes a message into its slot.
+    fn write_slot(&mut self, payload: &Payload) -> Result<(), Device>
+        requires ready { IsLowReady D.told self.old }
+        requires fits { length payload.now ≤ (low_row self.old).message }
+
+        ensures ready { OnOk result (IsReady D.told self.new.register) }
+        ensures value { register_value self.new.register ≡ register_value self.old.register }
+        ensures row { low_row self.new ≡ low_row self.old }
+        ensures slot { OnOk result (D.told.tells → InSlot (low_row self.old) (low_count self.old)
+            payload.now (D.told.reading (low_disk self.new))) }
+        ensures moves { Moves D.told (StandsOn (low_row self.old)) (low_disk self.old) (low_disk self.new) }
+
+        ensures closed { OnErr result (low_is_open self.new ≡ false) }
+        ensures answers { Answers D.told
+            (slot_end (low_row self.old) (low_count self.old) payload.now ≤ D.told.room (low_disk self.old))
+            (low_disk self.old) (low_disk self.new) result }
+        ensures device { IfErr result (λ e. e.faults ≡ D.told.count (low_disk self.new)) }
+    {
+        let number = self.register.value().0;
+        let at = self.place(number);
+        let slot = spell(payload);
+        let end = 2 + payload.len() as usize;
+        self.register.write_beside(at, &slot[..end])
+    }
+
+    /// Stores a message, and gives its number.
+    pub fn store(&mut self, payload: &Payload) -> Result<u64, Device>
+        requires ready { IsLowReady D.told self.old }
+        requires fits { length payload.now ≤ (low_row self.old).message }
+        requires below { low_count self.old < 2 ^ 48 }
+
+        ensures number { IfOk result (λ n. n ≡ low_count self.old) }
+        ensures ready { OnOk result (IsLowReady D.told self.new) }
+        ensures count { OnOk result (low_count self.new ≡ low_count self.old + 1) }
+        ensures row { low_row self.new ≡ low_row self.old }
+
+        // A crash at any moment leaves the messages from before the call, with this one or without.
+        ensures moves { Moves D.told (MayGain (low_row self.old) payload.now)
+            (low_disk self.old) (low_disk self.new) }
+        ensures gained { OnOk result (D.told.tells → Gains (low_row self.old) payload.now
+            (D.told.reading (low_disk self.old)) (D.told.reading (low_disk self.new))) }
+
+        ensures closed { OnErr result (low_is_open self.new ≡ false) }
+        ensures answers { Answers D.told
+            (slot_end (low_row self.old) (low_count self.old) payload.now ≤ D.told.room (low_disk self.old))
+            (low_disk self.old) (low_disk self.new) result }
+        ensures device { IfErr result (λ e. e.faults ≡ D.told.count (low_disk self.new)) }
+    {
+        let number = self.register.value().0;
+        self.write_slot(payload)?;
+        self.register.stage(number + 1, 0)?;
+        self.register.commit()?;
+        Ok(number)
+    }
+
+    /// The message in a slot, and its length. A length above the row's leaves `into` as it was.
+    pub fn slot(&mut self, n: u64, into: &mut Payload) -> Result<u32, Device>
+        requires ready { IsLowReady D.told self.old }
+        requires stored { n < low_count self.old }
+        requires kept { low_count self.old ≤ n + (low_row self.old).capacity }
+
+        ensures length { IfOk result (λ l. D.told.tells
+            → l ≡ length_at (D.told.reading (low_disk self.old)) (slot_of (low_row self.old) n)) }
+        ensures message { IfOk result (λ l. l ≤ (low_row self.old).message → D.told.tells
+            → into.new ≡ message_at (D.told.reading (low_disk self.old)) (slot_of (low_row self.old) n)) }
+        ensures fits { IfOk result (λ l. l ≤ (low_row self.old).message → length into.new ≡ l) }
+        ensures stands { IfOk result (λ l. l ≤ (low_row self.old).message → D.told.tells
+            → InSlot (low_row self.old) n into.new (D.told.reading (low_disk self.old))) }
+        ensures left { IfOk result (λ l. (low_row self.old).message < l → into.new ≡ into.old) }
+        ensures small { IfOk result (λ l. l < 2 ^ 16) }
+
+        ensures ready { OnOk result (IsLowReady D.told self.new) }
+        ensures count { low_count self.new ≡ low_count self.old }
+        ensures row { low_row self.new ≡ low_row self.old }
+        ensures moves { Moves D.told Same (low_disk self.old) (low_disk self.new) }
+
+        ensures closed { OnErr result (low_is_open self.new ≡ false) }
+        ensures answers { Answers D.told
+            (low_size (low_row self.old) ≤ length (D.told.reading (low_disk self.old)))
+            (low_disk self.old) (low_disk self.new) result }
+        ensures device { IfErr result (λ e. e.faults ≡ D.told.count (low_disk self.new)) }
+    {
+        let at = self.place(n);
+        let mut head = [0; 2];
+        self.register.read_at(at, &mut head)?;
+        let length = read_length(&head);
+        if length > self.row.message {
+            return Ok(length);
+        }
+        let mut bytes = [0; 1024];
+        self.register
+            .read_at(at + 2, &mut bytes[..length as usize])?;
+        match Payload::from_slice(&bytes[..length as usize]) {
+            Some(payload) => *into = payload,
+            None => unreachable!(),
+        }
+        Ok(length)
+    }
+}

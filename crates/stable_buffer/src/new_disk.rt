@@ -1,0 +1,109 @@
+// A new disk.
+ghost use Rattle.std.specs.Prelude.{◌≡◌, ◌+◌, ◌^◌, ◌≤◌, false, [], ◌∷◌, ◌++◌, length, take, OnOk, IfErr};
+ghost use Rattle.disk_model.specs.Disk.{Settled, Answers};
+ghost use Rattle.disk_model.specs.declared.name.Role.TheVariants.{Recv};
+ghost use Rattle.byteorder.specs.Endian.{big_bytes};
+ghost use Rattle.pump_frame.specs.Rows.{IsLawfulRow};
+ghost use Rattle.stable_buffer.specs.Low.{HasRanges};
+ghost use Rattle.stable_buffer.specs.Format.{header_of, role_byte, second_of, size_of, FormatStands};
+
+use crate::Device;
+use crate::bytes::cell_of;
+use crate::device::{sync, write};
+use byteorder::{BigEndian, ByteOrder};
+use disk_model::{Disk, Role};
+use pump_frame::SessionRow;
+
+fn letter(role: Role) -> u8
+    ensures { result ≡ role_byte role }
+{
+    match role {
+        Role::Low => b'L',
+        Role::High => b'H',
+        Role::Recv => b'R',
+    }
+}
+
+fn second(role: Role) -> u64
+    ensures { result ≡ second_of role }
+{
+    match role {
+        Role::Low | Role::High => 0,
+        Role::Recv => 80,
+    }
+}
+
+fn size(row: &SessionRow, role: Role) -> u64
+    requires { HasRanges row.now }
+    ensures size { result ≡ size_of row.now role }
+    ensures whole { 80 ≤ result }
+{
+    match role {
+        Role::Low => 80 + row.capacity as u64 * (2 + row.message as u64),
+        Role::High | Role::Recv => 80,
+    }
+}
+
+// The row's three numbers.
+fn numbers(row: &SessionRow) -> [u8; 12]
+    ensures { result ≡ big_bytes 4 row.now.id ++ big_bytes 4 row.now.capacity ++ big_bytes 4 row.now.message }
+{
+    let mut numbers = [0; 12];
+    BigEndian::write_u32(&mut numbers, row.id);
+    BigEndian::write_u32(&mut numbers[4..], row.capacity);
+    BigEndian::write_u32(&mut numbers[8..], row.message);
+    numbers
+}
+
+fn header(row: &SessionRow, role: Role, count: u64) -> [u8; 80]
+    ensures { result ≡ header_of row.now (role_byte role) count (second_of role) }
+{
+    let mut front = [0; 80];
+    front[..6].copy_from_slice(&[b'N', b'P', b'D', b'1', letter(role), 1]);
+    front[8..20].copy_from_slice(&numbers(row));
+    front[48..64].copy_from_slice(&cell_of(count, second(role)));
+    front
+}
+
+// Writes zeros from the end of the disk on.
+fn fill_zeros<D: Disk>(disk: &mut D, from: u64, to: u64) -> Result<(), Device>
+    requires ordered { from ≤ to }
+    requires starts { D.told.tells → length (D.told.reading disk.old) ≡ from }
+    requires calm { D.told.tells_plan → D.told.armed disk.old ≡ false }
+    ensures size { OnOk result (D.told.tells → length (D.told.reading disk.new) ≡ to) }
+    ensures front { OnOk result (D.told.tells
+        → take from (D.told.reading disk.new) ≡ take from (D.told.reading disk.old)) }
+    ensures answers { Answers D.told (to ≤ D.told.room disk.old) disk.old disk.new result }
+    ensures device { IfErr result (λ e. e.faults ≡ D.told.count disk.new) }
+{
+    let zeros = [0; 64];
+    let mut at = from;
+    while at < to {
+        let count = (to - at).min(64);
+        write(disk, at, &zeros[..count as usize])?;
+        at += count;
+    }
+    Ok(())
+}
+
+/// Makes an empty disk one that stands for a count and, for `Role::Low`, no message. What a crash
+/// inside it leaves is not said: format again on an emptied disk.
+pub fn format<D: Disk>(disk: &mut D, row: &SessionRow, role: Role, count: u64) -> Result<(), Device>
+    requires empty { D.told.tells → D.told.reading disk.old ≡ [] }
+    requires lawful { IsLawfulRow row.now }
+    requires count { count ≤ 2 ^ 48 }
+    requires receiver { role ≡ Recv → count ≡ 0 }
+
+    ensures stands { OnOk result (D.told.tells
+        → FormatStands row.now role count (D.told.reading disk.new)) }
+    ensures settled { OnOk result (Settled D.told disk.new) }
+    ensures answers { Answers D.told (size_of row.now role ≤ D.told.room disk.old)
+        disk.old disk.new result }
+    ensures device { IfErr result (λ e. e.faults ≡ D.told.count disk.new) }
+{
+    let front = header(row, role, count);
+    write(disk, 0, &front)?;
+    fill_zeros(disk, 80, size(row, role))?;
+    sync(disk)?;
+    Ok(())
+}

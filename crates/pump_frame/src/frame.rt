@@ -29,7 +29,7 @@ pub struct Frame {
 }
 
 /// A message with its number, counted from 0 in its session.
-#[derive(Clone, Copy)]
+#[derive(Clone, Copy, Default)]
 pub struct Item {
     pub number: u64,
     pub payload: Payload,

@@ -61,3 +61,13 @@ impl Payload {
         self.len as u32
     }
 }
+
+/// The payload without bytes.
+impl Default for Payload {
+    fn default() -> Payload {
+        Payload {
+            cells: [0; 1024],
+            len: 0,
+        }
+    }
+}

@@ -48,12 +48,14 @@ LeadTo running (line ∷ later) after printed =
     (mid : Option Running) × (first : List Event) × (second : List Event)
     × Leads running line mid first × LeadTo mid later after second × (printed ≡ first ++ second)
 
--- what the end of a script prints of its session: how many messages were accepted, removed and
--- received
+-- how many messages of the session were accepted, removed and received
+abbrev pub end_of : SessionRow → Past → Event
+end_of row p = End row.id (length p.world.accepted) (Some (p.world.removed, length p.world.received))
+
+-- what the end of a script prints
 abbrev pub ends : Option Running → List Event
 ends None = []
-ends (Some s) =
-    End s.row.id (length s.past.world.accepted) (Some (s.past.world.removed, length s.past.world.received)) ∷ []
+ends (Some s) = end_of s.row s.past ∷ []
 
 -- the transcript of a whole script, whose lines can all be applied
 abbrev pub IsTranscript : List Line → List Event → Type 0

@@ -70,3 +70,13 @@ pub enum Event {
         high: Option<(u64, u64)>,
     },
 }
+
+/// What a list of events holds where it has none yet.
+impl Default for Event {
+    fn default() -> Event {
+        Event::Full {
+            session: 0,
+            moment: 0,
+        }
+    }
+}

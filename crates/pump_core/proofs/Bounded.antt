@@ -30,7 +30,8 @@ length-option None = omega arith
 length-option (Some n) = omega arith
 
 -- with an empty low hand there is a place
-pub place : (w : World) → IsBounded w → w.low_hand ≡ None → HasPlace w.capacity w.removed (length w.accepted) w.low_hand
+pub place : (w : World) → IsBounded w → w.low_hand ≡ None
+    → HasPlace w.capacity w.removed (length w.accepted) w.low_hand
 place w b low =
     let e = ap (λ o. length (numbers w.high_hand w.held o)) (sym low) ∙ ap length b.order.order ∙ length-range_with_len w.removed (length w.accepted - w.removed) in
     let f = length-append (option_to_list w.high_hand) (w.held ++ []) in
@@ -43,17 +44,20 @@ place w b low =
     }
 
 -- a number in the high hand is that of the first live message
-pub first_live : (removed k n : ℕ) (rest : List ℕ) → n ∷ rest ≡ range_with_len removed k → (n ≡ removed) × (0 < k)
+pub first_live : (removed k n : ℕ) (rest : List ℕ) → n ∷ rest ≡ range_with_len removed k
+    → (n ≡ removed) × (0 < k)
 first_live removed zero n rest e = absurd (cc)
 first_live removed (suc k) n rest e = (cc, omega arith)
 
-pub rest_live : (removed k n : ℕ) (rest : List ℕ) → n ∷ rest ≡ range_with_len removed k → rest ≡ range_with_len (removed + 1) (k - 1)
+pub rest_live : (removed k n : ℕ) (rest : List ℕ) → n ∷ rest ≡ range_with_len removed k
+    → rest ≡ range_with_len (removed + 1) (k - 1)
 rest_live removed zero n rest e = absurd (cc)
 rest_live removed (suc k) n rest e =
     let f : suc k - 1 ≡ k = omega arith in
     rw f (cc)
 
-pub in_hand : (w : World) (n : ℕ) → IsBounded w → w.high_hand ≡ Some n → (n ≡ w.removed) × (w.removed < length w.accepted)
+pub in_hand : (w : World) (n : ℕ) → IsBounded w → w.high_hand ≡ Some n
+    → (n ≡ w.removed) × (w.removed < length w.accepted)
 in_hand w n b high =
     let e = ap (λ o. numbers o w.held w.low_hand) (sym high) ∙ b.order.order in
     let f = first_live w.removed (length w.accepted - w.removed) n (w.held ++ option_to_list w.low_hand) e in
@@ -61,7 +65,10 @@ in_hand w n b high =
 
 -- ---- what the pump does not see ----
 
-pub elsewhere : (w : World) (received : List Payload) (packet : Option Payload) (taking : Bool) (returned : List ℕ) → IsBounded w → IsBounded (record w { received = received; packet = packet; taking = taking; returned = returned })
+pub elsewhere : (w : World) (received : List Payload) (packet : Option Payload) (taking : Bool)
+    (returned : List ℕ)
+    → IsBounded w
+    → IsBounded (record w { received = received; packet = packet; taking = taking; returned = returned })
 elsewhere w received packet taking returned b = record {
   size = b.size;
   within = b.within;
@@ -86,7 +93,8 @@ takes w p b = elsewhere w (w.received ++ p ∷ []) None false (w.returned ++ len
 
 -- ---- the low side ----
 
-pub begins_store : (w : World) (p : Payload) → IsBounded w → w.low_hand ≡ None → IsBounded (record w { storing = Some p })
+pub begins_store : (w : World) (p : Payload) → IsBounded w → w.low_hand ≡ None
+    → IsBounded (record w { storing = Some p })
 begins_store w p b low = record {
   size = b.size;
   within = b.within;
@@ -98,23 +106,30 @@ begins_store w p b low = record {
 }
 
 -- what is sent and acknowledged stays so over more messages
-more_sent : (removed : ℕ) (accepted later : List Payload) (ds : List Item) → All (IsMessage removed accepted) ds → All (IsMessage removed (accepted ++ later)) ds
-more_sent removed accepted later ds = All-map (IsMessage removed accepted) (IsMessage removed (accepted ++ later)) ds
+more_sent : (removed : ℕ) (accepted later : List Payload) (ds : List Item)
+    → All (IsMessage removed accepted) ds → All (IsMessage removed (accepted ++ later)) ds
+more_sent removed accepted later ds =
+    All-map (IsMessage removed accepted) (IsMessage removed (accepted ++ later)) ds
     (λ d h. record { number = h.number; payload = slice_get-append accepted later d.number d.payload h.payload })
 
-more_acknowledged : (accepted later : List Payload) (ns : List ℕ) → All (λ n. n < length accepted) ns → All (λ n. n < length (accepted ++ later)) ns
-more_acknowledged accepted later ns = All-map (λ n. n < length accepted) (λ n. n < length (accepted ++ later)) ns
+more_acknowledged : (accepted later : List Payload) (ns : List ℕ)
+    → All (λ n. n < length accepted) ns → All (λ n. n < length (accepted ++ later)) ns
+more_acknowledged accepted later ns =
+    All-map (λ n. n < length accepted) (λ n. n < length (accepted ++ later)) ns
     (λ n h. omega (arith, h, length-append accepted later))
 
 -- the numbers with one more
-more_numbers : (high : Option ℕ) (held : List ℕ) (removed e : ℕ) → removed ≤ e → numbers high held None ≡ range_with_len removed (e - removed) → numbers high held (Some e) ≡ range_with_len removed (e + 1 - removed)
+more_numbers : (high : Option ℕ) (held : List ℕ) (removed e : ℕ) → removed ≤ e
+    → numbers high held None ≡ range_with_len removed (e - removed)
+    → numbers high held (Some e) ≡ range_with_len removed (e + 1 - removed)
 more_numbers high held removed e le h =
     let split : numbers high held (Some e) ≡ numbers high held None ++ e ∷ [] = rw append-nil (sym (append_assoc (option_to_list high) held (e ∷ []))) in
     let last : removed + (e - removed) ≡ e = omega arith in
     let count : e - removed + 1 ≡ e + 1 - removed = omega arith in
     split ∙ ap (λ l. l ++ e ∷ []) h ∙ (rw (last, count) at (range-push removed (e - removed)))
 
-pub ends_store : (w : World) (p : Payload) → IsBounded w → w.storing ≡ Some p → IsBounded (stored w p)
+pub ends_store : (w : World) (p : Payload) → IsBounded w → w.storing ≡ Some p
+    → IsBounded (stored w p)
 ends_store w p b storing =
     let s = subst (StoresWithPlace w.capacity w.removed (length w.accepted) w.low_hand) storing b.store in
     let n = length-push w.accepted p in
@@ -131,11 +146,15 @@ ends_store w p b storing =
       acknowledged = more_acknowledged w.accepted (p ∷ []) w.acknowledged b.acknowledged;
     }
 
-no_store : (capacity removed accepted n : ℕ) (low : Option ℕ) (s : Option Payload) → low ≡ Some n → StoresWithPlace capacity removed accepted low s → StoresWithPlace capacity removed accepted None s
+no_store : (capacity removed accepted n : ℕ) (low : Option ℕ) (s : Option Payload) → low ≡ Some n
+    → StoresWithPlace capacity removed accepted low s
+    → StoresWithPlace capacity removed accepted None s
 no_store capacity removed accepted n low None e h = tt
 no_store capacity removed accepted n low (Some p) e h = let f = h.hand in absurd (cc)
 
-pub forwards : (w : World) (n : ℕ) → IsBounded w → w.low_hand ≡ Some n → length w.held < w.capacity - 2 → IsBounded (record w { held = w.held ++ n ∷ []; low_hand = None })
+pub forwards : (w : World) (n : ℕ) → IsBounded w → w.low_hand ≡ Some n
+    → length w.held < w.capacity - 2
+    → IsBounded (record w { held = w.held ++ n ∷ []; low_hand = None })
 forwards w n b low room = record {
   size = b.size;
   within = b.within;
@@ -149,7 +168,8 @@ forwards w n b low room = record {
   acknowledged = b.acknowledged;
 }
 
-pub acknowledges : (w : World) (n : ℕ) → IsBounded w → n < length w.accepted → IsBounded (record w { acknowledged = w.acknowledged ++ n ∷ [] })
+pub acknowledges : (w : World) (n : ℕ) → IsBounded w → n < length w.accepted
+    → IsBounded (record w { acknowledged = w.acknowledged ++ n ∷ [] })
 acknowledges w n b less = record {
   size = b.size;
   within = b.within;
@@ -162,7 +182,8 @@ acknowledges w n b less = record {
 
 -- ---- the high side ----
 
-pub takes_up : (w : World) (n : ℕ) (rest : List ℕ) → IsBounded w → w.high_hand ≡ None → w.held ≡ n ∷ rest → IsBounded (record w { held = rest; high_hand = Some n })
+pub takes_up : (w : World) (n : ℕ) (rest : List ℕ) → IsBounded w → w.high_hand ≡ None
+    → w.held ≡ n ∷ rest → IsBounded (record w { held = rest; high_hand = Some n })
 takes_up w n rest b high held = record {
   size = b.size;
   within = b.within;
@@ -176,7 +197,9 @@ takes_up w n rest b high held = record {
   removal = record { hand = λ d. (let e = b.removal.hand d in absurd (cc)); cause = b.removal.cause };
 }
 
-pub sends : (w : World) (n : ℕ) (p : Payload) → IsBounded w → w.high_hand ≡ Some n → slice_get w.accepted n ≡ Some p → IsBounded (record w { sent = w.sent ++ record { number = n; payload = p } ∷ [] })
+pub sends : (w : World) (n : ℕ) (p : Payload) → IsBounded w → w.high_hand ≡ Some n
+    → slice_get w.accepted n ≡ Some p
+    → IsBounded (record w { sent = w.sent ++ record { number = n; payload = p } ∷ [] })
 sends w n p b high at = record {
   size = b.size;
   within = b.within;
@@ -213,7 +236,8 @@ answers w n b =
       | false ↦ λ e. b
     ] refl
 
-pub begins_removal : (w : World) → IsBounded w → w.due ≡ true → IsBounded (record w { removing = true })
+pub begins_removal : (w : World) → IsBounded w → w.due ≡ true
+    → IsBounded (record w { removing = true })
 begins_removal w b due = record {
   size = b.size;
   within = b.within;
@@ -225,7 +249,9 @@ begins_removal w b due = record {
 }
 
 -- with one more removed
-place_more : (capacity removed accepted : ℕ) (low : Option ℕ) (s : Option Payload) → StoresWithPlace capacity removed accepted low s → StoresWithPlace capacity (removed + 1) accepted low s
+place_more : (capacity removed accepted : ℕ) (low : Option ℕ) (s : Option Payload)
+    → StoresWithPlace capacity removed accepted low s
+    → StoresWithPlace capacity (removed + 1) accepted low s
 place_more capacity removed accepted low None h = tt
 place_more capacity removed accepted low (Some p) h = record {
   hand = h.hand;
@@ -233,11 +259,14 @@ place_more capacity removed accepted low (Some p) h = record {
   slot = λ n from to. h.slot n (omega arith) to;
 }
 
-sent_more : (removed more : ℕ) (accepted : List Payload) (ds : List Item) → removed ≤ more → All (IsMessage removed accepted) ds → All (IsMessage more accepted) ds
-sent_more removed more accepted ds le = All-map (IsMessage removed accepted) (IsMessage more accepted) ds
+sent_more : (removed more : ℕ) (accepted : List Payload) (ds : List Item) → removed ≤ more
+    → All (IsMessage removed accepted) ds → All (IsMessage more accepted) ds
+sent_more removed more accepted ds le =
+    All-map (IsMessage removed accepted) (IsMessage more accepted) ds
     (λ d h. record { number = omega (arith, le, h.number); payload = h.payload })
 
-pub ends_removal : (w : World) → IsBounded w → w.removing ≡ true → IsBounded (record w { removed = w.removed + 1; high_hand = None; due = false; removing = false })
+pub ends_removal : (w : World) → IsBounded w → w.removing ≡ true
+    → IsBounded (record w { removed = w.removed + 1; high_hand = None; due = false; removing = false })
 ends_removal w b removing =
     let high = b.removal.hand (b.removal.cause removing) in
     let live = (in_hand w w.removed b high).1 in
@@ -281,7 +310,10 @@ refilled_order capacity removed (suc k) two le =
     ] refl
 
 -- a pump that is filled anew
-pub refills : (w : World) → (3 ≤ w.capacity) × (w.capacity ≤ 64) → IsWithin w.capacity w.removed (length w.accepted) → All (IsMessage w.removed w.accepted) w.sent → All (λ n. n < length w.accepted) w.acknowledged → IsBounded (refilled w)
+pub refills : (w : World) → (3 ≤ w.capacity) × (w.capacity ≤ 64)
+    → IsWithin w.capacity w.removed (length w.accepted)
+    → All (IsMessage w.removed w.accepted) w.sent → All (λ n. n < length w.accepted) w.acknowledged
+    → IsBounded (refilled w)
 refills w size within sent acknowledged = record {
   size = size;
   within = within;
@@ -303,7 +335,11 @@ pub record Grown (capacity removed : ℕ) (accepted after : List Payload) : Type
   pub grown : after ≡ accepted ++ later
   pub above : length after ≤ removed + capacity
 
-pub keeps_store : (capacity removed : ℕ) (accepted : List Payload) (low : Option ℕ) (kept : Bool) (s : Option Payload) → 1 ≤ capacity → IsWithin capacity removed (length accepted) → StoresWithPlace capacity removed (length accepted) low s → Grown capacity removed accepted (with_kept kept s accepted)
+pub keeps_store : (capacity removed : ℕ) (accepted : List Payload) (low : Option ℕ) (kept : Bool)
+    (s : Option Payload)
+    → 1 ≤ capacity → IsWithin capacity removed (length accepted)
+    → StoresWithPlace capacity removed (length accepted) low s
+    → Grown capacity removed accepted (with_kept kept s accepted)
 keeps_store capacity removed accepted low false s one within h = record { later = []; grown = sym (append-nil accepted); above = within.above }
 keeps_store capacity removed accepted low true None one within h = record { later = []; grown = sym (append-nil accepted); above = within.above }
 keeps_store capacity removed accepted low true (Some p) one within h = record { later = p ∷ []; grown = refl; above = omega (arith, length-push accepted p, h.place, within.below) }
@@ -313,7 +349,8 @@ pub record Moved (removed after accepted : ℕ) : Type 0 where
   pub above : removed ≤ after
   pub below : after ≤ accepted
 
-keeps_removal : (w : World) (kept : Bool) → IsBounded w → Moved w.removed (if kept && w.removing then w.removed + 1 else w.removed) (length w.accepted)
+keeps_removal : (w : World) (kept : Bool) → IsBounded w
+    → Moved w.removed (if kept && w.removing then w.removed + 1 else w.removed) (length w.accepted)
 keeps_removal w kept b =
     elim (kept && w.removing) as (λ t. (kept && w.removing) ≡ t → Moved w.removed (cond t (w.removed + 1) w.removed) (length w.accepted)) [
       | true ↦ λ e.
@@ -322,7 +359,8 @@ keeps_removal w kept b =
       | false ↦ λ e. record { above = omega arith; below = b.within.below }
     ] refl
 
-pub pump_crashes : (w : World) (kept : Option (Bool × Bool)) → IsBounded w → IsBounded (pump_crashed w kept)
+pub pump_crashes : (w : World) (kept : Option (Bool × Bool)) → IsBounded w
+    → IsBounded (pump_crashed w kept)
 pump_crashes w None b = b
 pump_crashes w (Some kept) b =
     let g = keeps_store w.capacity w.removed w.accepted w.low_hand kept.0 w.storing (omega (arith, b.size.0)) b.within b.store in
@@ -335,6 +373,8 @@ pump_crashes w (Some kept) b =
     (more_sent _ w.accepted g.later w.sent (sent_more w.removed _ w.accepted w.sent m.above b.sent)))
     (subst (λ (l : List Payload). All (λ n. n < length l) w.acknowledged) (sym g.grown) (more_acknowledged w.accepted g.later w.acknowledged b.acknowledged))
 
-pub receiver_crashes : (w : World) (kept : Option Bool) → IsBounded w → IsBounded (receiver_crashed w kept)
+pub receiver_crashes : (w : World) (kept : Option Bool) → IsBounded w
+    → IsBounded (receiver_crashed w kept)
 receiver_crashes w None b = b
-receiver_crashes w (Some kept) b = elsewhere w (with_kept (kept && w.taking) w.packet w.received) None false (with_answer (kept && w.taking) w.packet w.received w.returned) b
+receiver_crashes w (Some kept) b =
+    elsewhere w (with_kept (kept && w.taking) w.packet w.received) None false (with_answer (kept && w.taking) w.packet w.received w.returned) b

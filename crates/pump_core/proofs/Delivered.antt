@@ -12,7 +12,10 @@ use Rattle.pump_core.proofs.Lists.{slice_get-append, rest_begins, All-at, All-pu
 use Rattle.pump_core.proofs.Bounded.{keeps_store}
 
 -- what the receiver does not see
-pub aside : (w : World) (storing : Option Payload) (low_hand : Option ℕ) (held : List ℕ) (high_hand : Option ℕ) (removing : Bool) (sent : List Item) (acknowledged : List ℕ) → IsDelivered w → IsDelivered (record w { storing = storing; low_hand = low_hand; held = held; high_hand = high_hand; removing = removing; sent = sent; acknowledged = acknowledged })
+pub aside : (w : World) (storing : Option Payload) (low_hand : Option ℕ) (held : List ℕ)
+    (high_hand : Option ℕ) (removing : Bool) (sent : List Item) (acknowledged : List ℕ)
+    → IsDelivered w
+    → IsDelivered (record w { storing = storing; low_hand = low_hand; held = held; high_hand = high_hand; removing = removing; sent = sent; acknowledged = acknowledged })
 aside w storing low_hand held high_hand removing sent acknowledged d = record {
   prefix = d.prefix;
   removed = d.removed;
@@ -22,12 +25,16 @@ aside w storing low_hand held high_hand removing sent acknowledged d = record {
 }
 
 -- more is accepted
-longer : (accepted later received : List Payload) → IsPrefixOf received accepted → IsPrefixOf received (accepted ++ later)
-longer accepted later received (rest, e) = (rest ++ later, sym (append_assoc received rest later) ∙ ap (λ l. l ++ later) e)
+longer : (accepted later received : List Payload) → IsPrefixOf received accepted
+    → IsPrefixOf received (accepted ++ later)
+longer accepted later received (rest, e) =
+    (rest ++ later, sym (append_assoc received rest later) ∙ ap (λ l. l ++ later) e)
 
-still_next : (accepted later received : List Payload) (packet : Option Payload) (taking : Bool) → IsNext accepted received packet taking → IsNext (accepted ++ later) received packet taking
+still_next : (accepted later received : List Payload) (packet : Option Payload) (taking : Bool)
+    → IsNext accepted received packet taking → IsNext (accepted ++ later) received packet taking
 still_next accepted later received None taking h = h
-still_next accepted later received (Some p) taking h = slice_get-append accepted later (length received) p h
+still_next accepted later received (Some p) taking h =
+    slice_get-append accepted later (length received) p h
 
 pub ends_store : (w : World) (p : Payload) → IsDelivered w → IsDelivered (stored w p)
 ends_store w p d = record {
@@ -38,7 +45,9 @@ ends_store w p d = record {
   returned = d.returned;
 }
 
-pub carries : (w : World) (k : ℕ) (m : Item) → IsBounded w → IsDelivered w → slice_get w.sent k ≡ Some m → w.packet ≡ None → m.number ≤ length w.received → IsDelivered (carried w m)
+pub carries : (w : World) (k : ℕ) (m : Item) → IsBounded w → IsDelivered w
+    → slice_get w.sent k ≡ Some m → w.packet ≡ None → m.number ≤ length w.received
+    → IsDelivered (carried w m)
 carries w k m b d at free le =
     elim (nat_lt m.number (length w.received)) as (λ t. nat_lt m.number (length w.received) ≡ t → IsDelivered (cond t (record w { returned = w.returned ++ m.number ∷ [] }) (record w { packet = Some m.payload }))) [
       | true ↦ λ e. record {
@@ -60,10 +69,15 @@ carries w k m b d at free le =
           }
     ] refl
 
-at_packet : (accepted received : List Payload) (packet : Option Payload) (taking : Bool) (p : Payload) → packet ≡ Some p → IsNext accepted received packet taking → slice_get accepted (length received) ≡ Some p
-at_packet accepted received packet taking p e h = subst (λ (o : Option Payload). IsNext accepted received o taking) e h
+at_packet : (accepted received : List Payload) (packet : Option Payload) (taking : Bool)
+    (p : Payload)
+    → packet ≡ Some p → IsNext accepted received packet taking
+    → slice_get accepted (length received) ≡ Some p
+at_packet accepted received packet taking p e h =
+    subst (λ (o : Option Payload). IsNext accepted received o taking) e h
 
-pub begins_taking : (w : World) (p : Payload) → IsDelivered w → w.packet ≡ Some p → IsDelivered (record w { taking = true })
+pub begins_taking : (w : World) (p : Payload) → IsDelivered w → w.packet ≡ Some p
+    → IsDelivered (record w { taking = true })
 begins_taking w p d at = record {
   prefix = d.prefix;
   removed = d.removed;
@@ -73,12 +87,15 @@ begins_taking w p d at = record {
 }
 
 -- one more is taken
-prefix_more : (accepted received : List Payload) (p : Payload) → slice_get accepted (length received) ≡ Some p → IsPrefixOf received accepted → IsPrefixOf (received ++ p ∷ []) accepted
+prefix_more : (accepted received : List Payload) (p : Payload)
+    → slice_get accepted (length received) ≡ Some p → IsPrefixOf received accepted
+    → IsPrefixOf (received ++ p ∷ []) accepted
 prefix_more accepted received p at (rest, e) =
     let b = rest_begins received rest p (subst (λ (l : List Payload). slice_get l (length received) ≡ Some p) (sym e) at) in
     (b.0, append_assoc received (p ∷ []) b.0 ∙ ap (λ l. received ++ l) (sym b.1) ∙ e)
 
-pub takes : (w : World) (p : Payload) → IsDelivered w → slice_get w.accepted (length w.received) ≡ Some p → IsDelivered (took w p)
+pub takes : (w : World) (p : Payload) → IsDelivered w
+    → slice_get w.accepted (length w.received) ≡ Some p → IsDelivered (took w p)
 takes w p d at =
     let n = length-push w.received p in
     record {
@@ -91,10 +108,12 @@ takes w p d at =
           (omega (arith, n));
     }
 
-pub ends_taking : (w : World) (p : Payload) → IsDelivered w → w.packet ≡ Some p → IsDelivered (took w p)
+pub ends_taking : (w : World) (p : Payload) → IsDelivered w → w.packet ≡ Some p
+    → IsDelivered (took w p)
 ends_taking w p d at = takes w p d (at_packet w.accepted w.received w.packet w.taking p at d.packet)
 
-pub answers : (w : World) (k n : ℕ) → IsDelivered w → slice_get w.returned k ≡ Some n → IsDelivered (answered w n)
+pub answers : (w : World) (k n : ℕ) → IsDelivered w → slice_get w.returned k ≡ Some n
+    → IsDelivered (answered w n)
 answers w k n d at =
     elim (n == w.removed && holds w.high_hand n) as (λ t. (n == w.removed && holds w.high_hand n) ≡ t → IsDelivered (cond t (record w { due = true }) w)) [
       | true ↦ λ e.
@@ -104,21 +123,24 @@ answers w k n d at =
       | false ↦ λ e. d
     ] refl
 
-pub ends_removal : (w : World) → IsBounded w → IsDelivered w → w.removing ≡ true → IsDelivered (record w { removed = w.removed + 1; high_hand = None; due = false; removing = false })
+pub ends_removal : (w : World) → IsBounded w → IsDelivered w → w.removing ≡ true
+    → IsDelivered (record w { removed = w.removed + 1; high_hand = None; due = false; removing = false })
 ends_removal w b d removing =
     let h = d.due (b.removal.cause removing) in
     record { prefix = d.prefix; packet = d.packet; returned = d.returned; due = λ e. absurd (cc); removed = omega (arith, h) }
 
 -- ---- crashes ----
 
-moved : (w : World) (kept : Bool) → IsBounded w → IsDelivered w → (if kept && w.removing then w.removed + 1 else w.removed) ≤ length w.received
+moved : (w : World) (kept : Bool) → IsBounded w → IsDelivered w
+    → (if kept && w.removing then w.removed + 1 else w.removed) ≤ length w.received
 moved w kept b d =
     elim (kept && w.removing) as (λ t. (kept && w.removing) ≡ t → cond t (w.removed + 1) w.removed ≤ length w.received) [
       | true ↦ λ e. (let h = d.due (b.removal.cause (and_parts kept w.removing e).1) in omega (arith, h))
       | false ↦ λ e. d.removed
     ] refl
 
-pub pump_crashes : (w : World) (kept : Option (Bool × Bool)) → IsBounded w → IsDelivered w → IsDelivered (pump_crashed w kept)
+pub pump_crashes : (w : World) (kept : Option (Bool × Bool)) → IsBounded w → IsDelivered w
+    → IsDelivered (pump_crashed w kept)
 pump_crashes w None b d = d
 pump_crashes w (Some kept) b d =
     let g = keeps_store w.capacity w.removed w.accepted w.low_hand kept.0 w.storing (omega (arith, b.size.0)) b.within b.store in
@@ -130,12 +152,15 @@ pump_crashes w (Some kept) b d =
       returned = d.returned;
     }
 
-crashed_receiver : (w : World) (kept : Bool) (packet : Option Payload) → IsDelivered w → w.packet ≡ packet → IsDelivered (record w { returned = with_answer kept packet w.received w.returned; received = with_kept kept packet w.received; packet = None; taking = false })
+crashed_receiver : (w : World) (kept : Bool) (packet : Option Payload) → IsDelivered w
+    → w.packet ≡ packet
+    → IsDelivered (record w { returned = with_answer kept packet w.received w.returned; received = with_kept kept packet w.received; packet = None; taking = false })
 crashed_receiver w true (Some p) d e = ends_taking w p d e
 crashed_receiver w true None d e = record { prefix = d.prefix; removed = d.removed; due = d.due; packet = refl; returned = d.returned }
 crashed_receiver w false packet d e = record { prefix = d.prefix; removed = d.removed; due = d.due; packet = refl; returned = d.returned }
 
-pub receiver_crashes : (w : World) (kept : Option Bool) → IsDelivered w → IsDelivered (receiver_crashed w kept)
+pub receiver_crashes : (w : World) (kept : Option Bool) → IsDelivered w
+    → IsDelivered (receiver_crashed w kept)
 receiver_crashes w None d = d
 receiver_crashes w (Some kept) d = crashed_receiver w (kept && w.taking) w.packet d refl
 
@@ -143,9 +168,11 @@ receiver_crashes w (Some kept) d = crashed_receiver w (kept && w.taking) w.packe
 
 last_below : (received : List Payload) → All (λ n. n < length received) (last_taken received)
 last_below [] = All-nil (λ n. n < 0)
-last_below (p ∷ ps) = All-cons (λ n. n < length (p ∷ ps)) (length ps) [] (omega arith) (All-nil (λ n. n < length (p ∷ ps)))
+last_below (p ∷ ps) =
+    All-cons (λ n. n < length (p ∷ ps)) (length ps) [] (omega arith) (All-nil (λ n. n < length (p ∷ ps)))
 
-pub opens : (capacity removed : ℕ) (received later : List Payload) → removed ≤ length received → IsDelivered (opened capacity removed received later)
+pub opens : (capacity removed : ℕ) (received later : List Payload) → removed ≤ length received
+    → IsDelivered (opened capacity removed received later)
 opens capacity removed received later le = record {
   prefix = (later, refl);
   removed = le;

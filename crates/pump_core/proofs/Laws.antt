@@ -23,7 +23,8 @@ stays_bounded w Forward v b h = onto v _ h.3 (bounded.forwards w h.0 b h.1 h.2)
 stays_bounded w TakeUp v b h = onto v _ h.4 (bounded.takes_up w h.0 h.1 b h.2 h.3)
 stays_bounded w Send v b h = onto v _ h.5 (bounded.sends w h.0 h.1 b h.2 h.4)
 stays_bounded w (CarryData k) v b h = onto v _ h.4 (bounded.carries w h.0 b)
-stays_bounded w TakeBegin v b h = onto v _ h.3 (bounded.elsewhere w w.received w.packet true w.returned b)
+stays_bounded w TakeBegin v b h =
+    onto v _ h.3 (bounded.elsewhere w w.received w.packet true w.returned b)
 stays_bounded w TakeEnd v b h = onto v _ h.3 (bounded.takes w h.0 b)
 stays_bounded w (ReturnTaken k) v b h = onto v _ h.3 (bounded.answers w h.0 b)
 stays_bounded w RemoveBegin v b h = onto v _ h.2 (bounded.begins_removal w b h.0)
@@ -31,27 +32,37 @@ stays_bounded w RemoveEnd v b h = onto v _ h.1 (bounded.ends_removal w b h.0)
 stays_bounded w (Acknowledge n) v b h = onto v _ h.3 (bounded.acknowledges w n b h.0)
 stays_bounded w (Crash None None) v b h = absurd h
 stays_bounded w (Crash None (Some r)) v b h = onto v _ h (bounded.receiver_crashes w (Some r) b)
-stays_bounded w (Crash (Some p) r) v b h = onto v _ h (bounded.receiver_crashes (pump_crashed w (Some p)) r (bounded.pump_crashes w (Some p) b))
+stays_bounded w (Crash (Some p) r) v b h =
+    onto v _ h (bounded.receiver_crashes (pump_crashed w (Some p)) r (bounded.pump_crashes w (Some p) b))
 
 abbrev into : (v x : World) → v ≡ x → IsDelivered x → IsDelivered v
 into v x e d = subst IsDelivered (sym e) d
 
-pub stays_delivered : (w : World) (e : Event) (v : World) → IsBounded w → IsDelivered w → Happens w e v → IsDelivered v
-stays_delivered w (StoreBegin p) v b d h = into v _ h.2 (delivered.aside w (Some p) w.low_hand w.held w.high_hand w.removing w.sent w.acknowledged d)
+pub stays_delivered : (w : World) (e : Event) (v : World) → IsBounded w → IsDelivered w
+    → Happens w e v → IsDelivered v
+stays_delivered w (StoreBegin p) v b d h =
+    into v _ h.2 (delivered.aside w (Some p) w.low_hand w.held w.high_hand w.removing w.sent w.acknowledged d)
 stays_delivered w StoreEnd v b d h = into v _ h.2 (delivered.ends_store w h.0 d)
-stays_delivered w Forward v b d h = into v _ h.3 (delivered.aside w w.storing None (w.held ++ h.0 ∷ []) w.high_hand w.removing w.sent w.acknowledged d)
-stays_delivered w TakeUp v b d h = into v _ h.4 (delivered.aside w w.storing w.low_hand h.1 (Some h.0) w.removing w.sent w.acknowledged d)
-stays_delivered w Send v b d h = into v _ h.5 (delivered.aside w w.storing w.low_hand w.held w.high_hand w.removing (w.sent ++ record { number = h.0; payload = h.1 } ∷ []) w.acknowledged d)
+stays_delivered w Forward v b d h =
+    into v _ h.3 (delivered.aside w w.storing None (w.held ++ h.0 ∷ []) w.high_hand w.removing w.sent w.acknowledged d)
+stays_delivered w TakeUp v b d h =
+    into v _ h.4 (delivered.aside w w.storing w.low_hand h.1 (Some h.0) w.removing w.sent w.acknowledged d)
+stays_delivered w Send v b d h =
+    into v _ h.5 (delivered.aside w w.storing w.low_hand w.held w.high_hand w.removing (w.sent ++ record { number = h.0; payload = h.1 } ∷ []) w.acknowledged d)
 stays_delivered w (CarryData k) v b d h = into v _ h.4 (delivered.carries w k h.0 b d h.1 h.2 h.3)
 stays_delivered w TakeBegin v b d h = into v _ h.3 (delivered.begins_taking w h.0 d h.1)
 stays_delivered w TakeEnd v b d h = into v _ h.3 (delivered.ends_taking w h.0 d h.1)
 stays_delivered w (ReturnTaken k) v b d h = into v _ h.3 (delivered.answers w k h.0 d h.1)
-stays_delivered w RemoveBegin v b d h = into v _ h.2 (delivered.aside w w.storing w.low_hand w.held w.high_hand true w.sent w.acknowledged d)
+stays_delivered w RemoveBegin v b d h =
+    into v _ h.2 (delivered.aside w w.storing w.low_hand w.held w.high_hand true w.sent w.acknowledged d)
 stays_delivered w RemoveEnd v b d h = into v _ h.1 (delivered.ends_removal w b d h.0)
-stays_delivered w (Acknowledge n) v b d h = into v _ h.3 (delivered.aside w w.storing w.low_hand w.held w.high_hand w.removing w.sent (w.acknowledged ++ n ∷ []) d)
+stays_delivered w (Acknowledge n) v b d h =
+    into v _ h.3 (delivered.aside w w.storing w.low_hand w.held w.high_hand w.removing w.sent (w.acknowledged ++ n ∷ []) d)
 stays_delivered w (Crash None None) v b d h = absurd h
-stays_delivered w (Crash None (Some r)) v b d h = into v _ h (delivered.receiver_crashes w (Some r) d)
-stays_delivered w (Crash (Some p) r) v b d h = into v _ h (delivered.receiver_crashes (pump_crashed w (Some p)) r (delivered.pump_crashes w (Some p) b d))
+stays_delivered w (Crash None (Some r)) v b d h =
+    into v _ h (delivered.receiver_crashes w (Some r) d)
+stays_delivered w (Crash (Some p) r) v b d h =
+    into v _ h (delivered.receiver_crashes (pump_crashed w (Some p)) r (delivered.pump_crashes w (Some p) b d))
 
 -- ---- beginnings ----
 
@@ -66,7 +77,9 @@ empty_is_bounded capacity low high = record {
   acknowledged = All-nil (λ n. n < 0);
 }
 
-opened_is_bounded : (capacity removed : ℕ) (received later : List Payload) → 3 ≤ capacity → capacity ≤ 64 → Agree capacity removed received later → IsBounded (opened capacity removed received later)
+opened_is_bounded : (capacity removed : ℕ) (received later : List Payload) → 3 ≤ capacity
+    → capacity ≤ 64 → Agree capacity removed received later
+    → IsBounded (opened capacity removed received later)
 opened_is_bounded capacity removed received later low high a =
     bounded.refills (record (empty capacity) { accepted = received ++ later; removed = removed; received = received; returned = last_taken received })
     (low, high)
@@ -76,7 +89,8 @@ opened_is_bounded capacity removed received later low high a =
 
 pub begins_bounded : (w : World) → Begins w → IsBounded w
 begins_bounded _ (Empty capacity low high) = empty_is_bounded capacity low high
-begins_bounded _ (Opened capacity removed received later low high a) = opened_is_bounded capacity removed received later low high a
+begins_bounded _ (Opened capacity removed received later low high a) =
+    opened_is_bounded capacity removed received later low high a
 
 pub begins_lawful : (w : World) → Begins w → IsLawful w
 begins_lawful _ (Empty capacity low high) = record { bounded = empty_is_bounded capacity low high; delivered = delivered.empties capacity }
@@ -94,10 +108,13 @@ runs_lawfully w (e ∷ es) v l (next, h, r) = runs_lawfully next es v (stays_law
 
 -- ---- forged ----
 
-pub stays_bounded_forged : (w : World) (e : Hostile) (v : World) → IsBounded w → HappensForged w e v → IsBounded v
+pub stays_bounded_forged : (w : World) (e : Hostile) (v : World) → IsBounded w → HappensForged w e v
+    → IsBounded v
 stays_bounded_forged w (Core e) v b h = stays_bounded w e v b h
 stays_bounded_forged w (Forge n) v b h = onto v _ h.1 (bounded.answers w n b)
 
-pub runs_bounded : (w : World) (es : List Hostile) (v : World) → IsBounded w → RunForged w es v → IsBounded v
+pub runs_bounded : (w : World) (es : List Hostile) (v : World) → IsBounded w → RunForged w es v
+    → IsBounded v
 runs_bounded w [] v b r = subst IsBounded (sym r) b
-runs_bounded w (e ∷ es) v b (next, h, r) = runs_bounded next es v (stays_bounded_forged w e next b h) r
+runs_bounded w (e ∷ es) v b (next, h, r) =
+    runs_bounded next es v (stays_bounded_forged w e next b h) r

@@ -1,6 +1,6 @@
 -- A timed run goes on: what one line of a script has to show, by one look, one arrival, one high look, one
 -- carry or one restart.
-use Rattle.std.proofs.Common.{◌≡◌, ℕ, ◌≤◌, Bool, List, [], ◌∷◌, map, refl, ap, ◌∙◌}
+use Rattle.std.proofs.Common.{◌≡◌, ℕ, Bool, List, [], ◌∷◌, map, refl, ap, ◌∙◌}
 use Rattle.pump_frame.specs.declared.row.SessionRow.{SessionRow}
 use Rattle.pump_core.specs.declared.event.Event.TheVariants.{CarryData, TakeBegin, TakeEnd}
 use Rattle.pump_core.specs.declared.feedback.Feedback.{Feedback}
@@ -14,7 +14,8 @@ use Rattle.pump_core.specs.Timed.{Step, Occurs, HighSide, Point, opening_in, hap
 use Rattle.pump_core.specs.Runs.{LifeFeedback, feedback_of, steps_in, with_feedback, IsRun}
 
 -- how many arrivals were taken on the connection that stands
-abbrev pub taken_in : (row : SessionRow) (past : List Step) (t : Point) (h : History) → IsRun row past t h → ℕ
+abbrev pub taken_in : (row : SessionRow) (past : List Step) (t : Point) (h : History)
+    → IsRun row past t h → ℕ
 taken_in row past t h r = r.low.1.0
 
 -- ---- the low side ----

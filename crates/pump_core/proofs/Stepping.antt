@@ -6,14 +6,18 @@ use Rattle.pump_frame.specs.declared.frame.Item.{Item}
 use Rattle.pump_core.specs.World.{World}
 use Rattle.pump_core.specs.Events.{carried, holds, answered}
 
-pub carried_here : (w : World) (d : Item) → length w.received ≤ d.number → carried w d ≡ record w { packet = Some d.payload }
-carried_here w d le = cond-false (nat_lt d.number (length w.received)) _ _ (le-ltb d.number (length w.received) le)
+pub carried_here : (w : World) (d : Item) → length w.received ≤ d.number
+    → carried w d ≡ record w { packet = Some d.payload }
+carried_here w d le =
+    cond-false (nat_lt d.number (length w.received)) _ _ (le-ltb d.number (length w.received) le)
 
-pub answered_due : (w : World) (n : ℕ) → n ≡ w.removed → holds w.high_hand n ≡ true → answered w n ≡ record w { due = true }
+pub answered_due : (w : World) (n : ℕ) → n ≡ w.removed → holds w.high_hand n ≡ true
+    → answered w n ≡ record w { due = true }
 answered_due w n same held = rw (eq-eqb n w.removed same, held) refl
 
 pub answered_elsewhere : (w : World) (n : ℕ) → (n ≡ w.removed → ⊥) → answered w n ≡ w
 answered_elsewhere w n apart = rw (ne_eqb n w.removed apart) refl
 
-pub answered_idle : (w : World) (n : ℕ) → n ≡ w.removed → holds w.high_hand n ≡ false → answered w n ≡ w
+pub answered_idle : (w : World) (n : ℕ) → n ≡ w.removed → holds w.high_hand n ≡ false
+    → answered w n ≡ w
 answered_idle w n same held = rw (eq-eqb n w.removed same, held) refl

@@ -38,7 +38,8 @@ abbrev pub holds : Option ℕ → ℕ → Bool
 holds None n = false
 holds (Some m) n = m == n
 
--- the TAKEN of message n comes back: the removal is due where n is the first live message and in the high hand
+-- the TAKEN of message n comes back: its removal is due where it is the first live message and in the
+-- high hand
 abbrev pub answered : World → ℕ → World
 answered w n = if n == w.removed && holds w.high_hand n then record w { due = true } else w
 

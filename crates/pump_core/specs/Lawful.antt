@@ -17,7 +17,8 @@ abbrev pub numbers : Option ℕ → List ℕ → Option ℕ → List ℕ
 numbers high held low = option_to_list high ++ (held ++ option_to_list low)
 
 -- these are the live numbers without a gap, and two places are the hands'
-pub record AreInOrder (capacity removed accepted : ℕ) (high : Option ℕ) (held : List ℕ) (low : Option ℕ) : Type 0 where
+pub record AreInOrder (capacity removed accepted : ℕ) (high : Option ℕ) (held : List ℕ)
+    (low : Option ℕ) : Type 0 where
   pub order : numbers high held low ≡ range_with_len removed (accepted - removed)
   pub room : length held ≤ capacity - 2
 
@@ -29,11 +30,12 @@ pub record HasPlace (capacity removed accepted : ℕ) (low : Option ℕ) : Type 
   pub slot : (n : ℕ) → removed ≤ n → n < accepted → n % capacity ≢ accepted % capacity
 
 -- a store is unfinished only where there is a place for it
-abbrev pub StoresWithPlace : (capacity removed accepted : ℕ) → Option ℕ → Option Payload → Type 0
+abbrev pub StoresWithPlace : ℕ → ℕ → ℕ → Option ℕ → Option Payload → Type 0
 StoresWithPlace capacity removed accepted low None = Unit {0}
 StoresWithPlace capacity removed accepted low (Some p) = HasPlace capacity removed accepted low
 
--- a removal is due only where the first live message is in the high hand, and unfinished only where it is due
+-- a removal is due only where the first live message is in the high hand, and unfinished only where
+-- it is due
 pub record RemovesTheHand (removed : ℕ) (high : Option ℕ) (due removing : Bool) : Type 0 where
   pub hand : due ≡ true → high ≡ Some removed
   pub cause : removing ≡ true → due ≡ true
@@ -55,12 +57,12 @@ pub record IsBounded (w : World) : Type 0 where
 
 -- ---- what the receiver has ----
 
--- the second list begins with the first
+-- the second list begins with the first, which so is no longer
 abbrev pub IsPrefixOf : List Payload → List Payload → Type 0
 IsPrefixOf xs ys = (rest : List Payload) × (xs ++ rest ≡ ys)
 
 -- what waits at the receiver is the next message, and a taking is unfinished only where one waits
-abbrev pub IsNext : (accepted received : List Payload) (packet : Option Payload) (taking : Bool) → Type 0
+abbrev pub IsNext : List Payload → List Payload → Option Payload → Bool → Type 0
 IsNext accepted received None taking = taking ≡ false
 IsNext accepted received (Some p) taking = slice_get accepted (length received) ≡ Some p
 

@@ -32,12 +32,19 @@ feedback_of_side s = record { is_held = s.opening.is_held; looks = feedbacks s.e
 abbrev pub sides : Point → List Side
 sides t = map (λ (l : LowLife). l.side) (t.life ∷ t.earlier)
 
+-- the steps that stood in the looks of these lives
+abbrev pub stood_in : Point → List (List (List Step))
+stood_in t = map (λ (l : LowLife). l.stood) (t.life ∷ t.earlier)
+
 -- the feedback of the run that came to this point
 abbrev pub feedback_of : Point → List LifeFeedback
 feedback_of t = map feedback_of_side (sides t)
 
 abbrev pub feedback_of_life : Life → LifeFeedback
-feedback_of_life l = record { is_held = l.opening.is_held; looks = map (λ (x : Look). x.feedback) l.looks }
+feedback_of_life l = record {
+  is_held = l.opening.is_held;
+  looks = map (λ (x : Look). x.feedback) l.looks;
+}
 
 -- the feedback that stands in a history
 abbrev pub feedback_in : History → List LifeFeedback
@@ -60,13 +67,17 @@ acknowledged_in last n = if is_gone last.arrival then [] else Occurs (Acknowledg
 -- offers it, and where this passes it on, reads the average if its acknowledgement is owed; the first
 -- look of a repeat reads it too
 abbrev pub steps_in : List Part → List Step
-steps_in (Offering first [] ∷ before) = Occurs (StoreBegin (payload_in first.arrival)) ∷ Occurs StoreEnd ∷ []
-steps_in (Loss first [] ∷ before) = Occurs (StoreBegin (payload_in first.arrival)) ∷ []
+steps_in (Offering first [] ∷ before) =
+    Occurs (StoreBegin (payload_in first.arrival)) ∷ Occurs StoreEnd ∷ []
+steps_in (Loss first [] ∷ before) =
+    Occurs (StoreBegin (payload_in first.arrival)) ∷ []
 steps_in (Offering first (x ∷ full) ∷ before) = Offer ∷ []
 steps_in (Holding newest older ∷ before) = if is_gone newest.arrival then [] else Offer ∷ []
 steps_in (Release looks last ∷ before) = Offer ∷ Occurs Forward ∷ []
-steps_in (Delivery first full passing (Waiting []) ∷ before) = Offer ∷ Occurs Forward ∷ Read ∷ []
-steps_in (Delivery first full passing (Over quiet last) ∷ before) = acknowledged_in last (number_in first.arrival)
+steps_in (Delivery first full passing (Waiting []) ∷ before) =
+    Offer ∷ Occurs Forward ∷ Read ∷ []
+steps_in (Delivery first full passing (Over quiet last) ∷ before) =
+    acknowledged_in last (number_in first.arrival)
 steps_in (Repeated first (Waiting []) ∷ before) = Read ∷ []
 steps_in (Repeated first (Over quiet last) ∷ before) = acknowledged_in last (number_in first.arrival)
 steps_in _ = []
@@ -75,7 +86,8 @@ steps_in _ = []
 abbrev pub StandInPlace : SessionRow → Opening → List Look → List (List Step) → Type 0
 StandInPlace row o [] [] = Unit {0}
 StandInPlace row o (x ∷ looks) (steps ∷ stood) =
-    ((parts : List Part) × IsCut row (record { opening = o; looks = x ∷ looks }) parts × (steps ≡ steps_in parts))
+    ((parts : List Part) × IsCut row (record { opening = o; looks = x ∷ looks }) parts
+    × (steps ≡ steps_in parts))
     × StandInPlace row o looks stood
 StandInPlace row o [] (steps ∷ stood) = ⊥
 StandInPlace row o (x ∷ looks) [] = ⊥
@@ -83,7 +95,8 @@ StandInPlace row o (x ∷ looks) [] = ⊥
 -- .. and so in each life
 abbrev pub AllInPlace : SessionRow → List Life → List (List (List Step)) → Type 0
 AllInPlace row [] [] = Unit {0}
-AllInPlace row (l ∷ ls) (stood ∷ more) = StandInPlace row l.opening l.looks stood × AllInPlace row ls more
+AllInPlace row (l ∷ ls) (stood ∷ more) =
+    StandInPlace row l.opening l.looks stood × AllInPlace row ls more
 AllInPlace row [] (stood ∷ more) = ⊥
 AllInPlace row (l ∷ ls) [] = ⊥
 
@@ -103,4 +116,4 @@ pub record IsRun (row : SessionRow) (steps : List Step) (t : Point) (h : History
   pub leads : LeadsTo row steps t
   pub low : HasSides row (map (side_with uncounted) (sides t)) h
   pub feedback : feedback_in h ≡ feedback_of t
-  pub places : AllInPlace row (h.life ∷ h.earlier) (map (λ (l : LowLife). l.stood) (t.life ∷ t.earlier))
+  pub places : AllInPlace row (h.life ∷ h.earlier) (stood_in t)

@@ -54,7 +54,8 @@ pub record Point : Type 0 where
 
 -- ---- openings ----
 
--- what the low side finds at an opening: how many messages were accepted, and whether all places are full
+-- what the low side finds at an opening: how many messages were accepted, and whether all places are
+-- full
 abbrev pub opening_in : World → Opening
 opening_in w = record { count = length w.accepted; is_held = live w == w.capacity }
 
@@ -63,7 +64,13 @@ life_in w = record { side = record { opening = opening_in w; events = [] }; stoo
 
 -- the high side at an opening
 abbrev pub high_from : ℕ → HighSide
-high_from moment = record { published = []; first_sent = None; unpublished = None; looking = false; moment = moment }
+high_from moment = record {
+  published = [];
+  first_sent = None;
+  unpublished = None;
+  looking = false;
+  moment = moment;
+}
 
 -- the point at the first opening
 abbrev pub opens : World → Point
@@ -127,7 +134,24 @@ first_moment (Some first) m = Some first
 -- opening, or where 2^32 - 1 times were published
 abbrev pub time_of : Option ℕ → ℕ → List ℕ → Option ℕ
 time_of None now times = None
-time_of (Some first) now times = if nat_lt (length times) (2 ^ 32 - 1) then Some (min (now - first) (10 ^ 9)) else None
+time_of (Some first) now times =
+    if nat_lt (length times) (2 ^ 32 - 1) then Some (min (now - first) (10 ^ 9)) else None
+
+-- the high side after it began a look, sent the message in its hand, removed it, and published a time
+abbrev pub high_looking : HighSide → ℕ → HighSide
+high_looking h m = record h { looking = true; moment = m }
+
+abbrev pub high_sent : HighSide → HighSide
+high_sent h = record h { first_sent = first_moment h.first_sent h.moment }
+
+abbrev pub high_removed : HighSide → HighSide
+high_removed h = record h {
+  first_sent = None;
+  unpublished = time_of h.first_sent h.moment h.published;
+}
+
+abbrev pub high_published : HighSide → ℕ → HighSide
+high_published h time = record h { published = h.published ++ time ∷ []; unpublished = None }
 
 -- the event stands in the low look, and leads to the world v
 abbrev pub occurs : Point → Event → World → Point
@@ -138,14 +162,8 @@ occurs t e v = record t {
 
 -- the point after an event that leads to the world v
 abbrev pub after_event : Point → Event → World → Point
-after_event t Send v = record t {
-  world = v;
-  high = record t.high { first_sent = first_moment t.high.first_sent t.high.moment };
-}
-after_event t RemoveEnd v = record t {
-  world = v;
-  high = record t.high { first_sent = None; unpublished = time_of t.high.first_sent t.high.moment t.high.published };
-}
+after_event t Send v = record t { world = v; high = high_sent t.high }
+after_event t RemoveEnd v = record t { world = v; high = high_removed t.high }
 after_event t (Crash (Some kept) receiver) v = reopens t v
 after_event t (StoreBegin p) v = occurs t (StoreBegin p) v
 after_event t StoreEnd v = occurs t StoreEnd v
@@ -188,12 +206,11 @@ Moves row t (Arrives c) u = u ≡ record t { life = happened t (Comes c) }
 Moves row t (LowLook m w gone d) u =
     (t.looked ≤ m) × (u ≡ record t { looked = m; life = looks_next t (Looks m w gone d Quiet) })
 Moves row t (HighLook m) u =
-    (t.high.moment ≤ m) × IsPublished t.high × (u ≡ record t { high = record t.high { looking = true; moment = m } })
+    (t.high.moment ≤ m) × IsPublished t.high × (u ≡ record t { high = high_looking t.high m })
 Moves row t Offer u = u ≡ standing t Offer (offered t.world)
 Moves row t Read u = u ≡ standing t Read (with_read (seen row t.high.published))
 Moves row t Publish u =
-    (time : ℕ) × (t.high.unpublished ≡ Some time)
-    × (u ≡ record t { high = record t.high { published = t.high.published ++ time ∷ []; unpublished = None } })
+    (time : ℕ) × (t.high.unpublished ≡ Some time) × (u ≡ record t { high = high_published t.high time })
 Moves row t (Occurs e) u =
     (v : World) × Happens t.world e v × HasItsLook t.high e × (u ≡ after_event t e v)
 

@@ -1,4 +1,4 @@
--- What the code's world stands for, and what the code's refill does. Only serves the code's own contracts.
+-- What the code's world stands for, and what it makes anew after a crash. This serves the code alone.
 use Rattle.std.specs.Prelude.{◌≡◌, Bool, Some}
 use Rattle.pump_core.specs.World as worlds
 use Rattle.pump_core.specs.Lawful.{IsLawful}

@@ -15,3 +15,6 @@ pub use histories::{
     thinned_histories_agree,
 };
 pub use world::World;
+
+#[cfg(test)]
+mod tests;

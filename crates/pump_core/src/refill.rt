@@ -77,7 +77,7 @@ pub fn put<T: Copy>(list: &mut Vec<T>, item: T)
     requires room { vec_len list.old < vec_capacity list.old }
     ensures { list.new.items ≡ list.old.items ++ item ∷ [] }
 {
-    let _ = list.push(item);
+    list.push(item).unwrap();
 }
 
 /// Adds an unfinished message where the crash kept it.

@@ -291,8 +291,7 @@ impl World {
     {
         let refill = self.refill(kept)?;
         self.accepted.reserve(1)?;
-        keep(&mut self.accepted, self.storing, kept.0);
-        self.storing = None;
+        keep(&mut self.accepted, self.storing.take(), kept.0);
         self.low_hand = refill.low_hand;
         self.held = refill.held;
         self.high_hand = refill.high_hand;
@@ -324,8 +323,7 @@ impl World {
         self.accepted.reserve(1)?;
         self.returned.reserve(1)?;
         self.received.reserve(1)?;
-        keep(&mut self.accepted, self.storing, pump.0);
-        self.storing = None;
+        keep(&mut self.accepted, self.storing.take(), pump.0);
         self.low_hand = refill.low_hand;
         self.held = refill.held;
         self.high_hand = refill.high_hand;

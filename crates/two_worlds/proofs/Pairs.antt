@@ -6,7 +6,10 @@ use Rattle.pump_core.specs.Timed.{Point}
 use Rattle.pump_core.specs.Runs.{LifeFeedback, feedbacks, feedback_of_side, sides, with_feedback, side_with}
 use Rattle.two_worlds.specs.Agreement.{nothing_told, without_counts, AgreeForLow}
 
-same_events : (xs ys : List Timed) → map (with_feedback nothing_told) xs ≡ map (with_feedback nothing_told) ys → map uncounted (feedbacks xs) ≡ map uncounted (feedbacks ys) → map (with_feedback uncounted) xs ≡ map (with_feedback uncounted) ys
+same_events : (xs ys : List Timed)
+    → map (with_feedback nothing_told) xs ≡ map (with_feedback nothing_told) ys
+    → map uncounted (feedbacks xs) ≡ map uncounted (feedbacks ys)
+    → map (with_feedback uncounted) xs ≡ map (with_feedback uncounted) ys
 same_events [] [] e f = refl
 same_events [] (Comes a ∷ ys) e f = absurd (cc)
 same_events [] (Looks m w g d t ∷ ys) e f = absurd (cc)
@@ -22,7 +25,9 @@ same_events (Looks m w g d t ∷ xs) (Looks m' w' g' d' t' ∷ ys) e f =
     let r : map (with_feedback uncounted) xs ≡ map (with_feedback uncounted) ys = same_events xs ys (cc) (cc) in
     cc
 
-same_sides : (ss ts : List Side) → map (side_with nothing_told) ss ≡ map (side_with nothing_told) ts → map without_counts (map feedback_of_side ss) ≡ map without_counts (map feedback_of_side ts) → map (side_with uncounted) ss ≡ map (side_with uncounted) ts
+same_sides : (ss ts : List Side) → map (side_with nothing_told) ss ≡ map (side_with nothing_told) ts
+    → map without_counts (map feedback_of_side ss) ≡ map without_counts (map feedback_of_side ts)
+    → map (side_with uncounted) ss ≡ map (side_with uncounted) ts
 same_sides [] [] e f = refl
 same_sides [] (t ∷ ts) e f = absurd (cc)
 same_sides (s ∷ ss) [] e f = absurd (cc)
@@ -34,5 +39,6 @@ same_sides (s ∷ ss) (t ∷ ts) e f =
     λ i. record { opening = (head i).opening; events = events i } ∷ r i
 
 -- .. so that the low sides of both runs are one, up to the counts that were told
-pub same_low : (t u : Point) → AgreeForLow t u → map (side_with uncounted) (sides t) ≡ map (side_with uncounted) (sides u)
+pub same_low : (t u : Point) → AgreeForLow t u
+    → map (side_with uncounted) (sides t) ≡ map (side_with uncounted) (sides u)
 same_low t u a = same_sides (sides t) (sides u) a.own a.feedback

@@ -31,15 +31,19 @@ onto u t e l = subst IsLawful (sym e) l
 abbrev world : Point → World
 world t = t.world
 
-moves_lawfully : (row : SessionRow) (t : Point) (s : Step) (u : Point) → IsLawful t.world → Moves row t s u → IsLawful u.world
+moves_lawfully : (row : SessionRow) (t : Point) (s : Step) (u : Point) → IsLawful t.world
+    → Moves row t s u → IsLawful u.world
 moves_lawfully row t (Arrives c) u l m = onto u t (ap world m) l
 moves_lawfully row t (LowLook a b c d) u l m = onto u t (ap world m.1) l
 moves_lawfully row t (HighLook a) u l m = onto u t (ap world m.2) l
 moves_lawfully row t Offer u l m = onto u t (ap world m) l
 moves_lawfully row t Read u l m = onto u t (ap world m) l
 moves_lawfully row t Publish u l m = onto u t (ap world m.2) l
-moves_lawfully row t (Occurs e) u l (v, h, waits, m) = subst IsLawful (sym (ap world m ∙ world_after t e v)) (stays_lawful t.world e v l h)
+moves_lawfully row t (Occurs e) u l (v, h, waits, m) =
+    subst IsLawful (sym (ap world m ∙ world_after t e v)) (stays_lawful t.world e v l h)
 
-pub leads_lawfully : (row : SessionRow) (steps : List Step) (t : Point) → LeadsTo row steps t → IsLawful t.world
+pub leads_lawfully : (row : SessionRow) (steps : List Step) (t : Point) → LeadsTo row steps t
+    → IsLawful t.world
 leads_lawfully row [] t (w, b, c, e) = subst IsLawful (sym (ap world e)) (begins_lawful w b)
-leads_lawfully row (s ∷ past) u (t, before, m) = moves_lawfully row t s u (leads_lawfully row past t before) m
+leads_lawfully row (s ∷ past) u (t, before, m) =
+    moves_lawfully row t s u (leads_lawfully row past t before) m

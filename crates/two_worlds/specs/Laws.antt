@@ -42,7 +42,8 @@ RunsHaveReplies = (row : SessionRow) (steps : List Step) (t : Point) (h : Histor
 
 -- two timed runs of one row that agree for low have the same replies, at the same moments
 abbrev pub PairsAgree : Type 0
-PairsAgree = (row : SessionRow) (steps others : List Step) (t u : Point) (h k : History) (xs ys : List Sent)
+PairsAgree = (row : SessionRow) (steps others : List Step) (t u : Point) (h k : History)
+    (xs ys : List Sent)
     → IsRun row steps t h → IsRun row others u k → AgreeForLow t u
     → LowReplies row h xs → LowReplies row k ys → xs ≡ ys
 
@@ -60,5 +61,5 @@ AcksBelow count replies = AllByRecursion (λ (s : Sent). IsAckBelow count s.repl
 
 -- what a timed run acknowledged is among the accepted messages of its world, whatever crashed since
 abbrev pub AcknowledgedIsAccepted : Type 0
-AcknowledgedIsAccepted = (row : SessionRow) (steps : List Step) (t : Point) (h : History) (replies : List Sent)
-    → IsRun row steps t h → LowReplies row h replies → AcksBelow (length t.world.accepted) replies
+AcknowledgedIsAccepted = (row : SessionRow) (steps : List Step) (t : Point) (h : History)
+    (replies : List Sent) → IsRun row steps t h → LowReplies row h replies → AcksBelow (length t.world.accepted) replies

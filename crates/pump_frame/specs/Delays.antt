@@ -1,5 +1,5 @@
 -- The delay of an acknowledgement: a quantile of an exponential law with a given mean, in fixed point.
-use Rattle.std.specs.Prelude.{ℕ, ◌+◌, ◌-◌, ◌*◌, ◌/◌, ◌^◌, min, List, map, sum}
+use Rattle.std.specs.Prelude.{ℕ, ◌+◌, ◌-◌, ◌*◌, ◌/◌, ◌^◌, min, map, sum}
 use Rattle.std.specs.List.{range_with_len}
 
 -- Rényi's form of the expected order statistics of 256 unit exponentials, times 2^24:

@@ -3,4 +3,8 @@ pub mod Delays
 pub mod Frames
 pub mod Names
 pub mod Padded
+pub mod Places
+pub mod Readings
 pub mod Rows
+pub mod Spellings
+pub mod Streams

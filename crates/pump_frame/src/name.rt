@@ -32,7 +32,7 @@ impl Model for Name {
     } };
 }
 
-fn is_plain(byte: u8) -> bool
+pub(crate) fn is_plain(byte: u8) -> bool
     ensures { result ≡ is_name_byte byte }
 {
     (byte >= b'a' && byte <= b'z') || (byte >= b'0' && byte <= b'9') || byte == b'-'

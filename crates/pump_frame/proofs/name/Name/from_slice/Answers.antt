@@ -1,4 +1,4 @@
-use Rattle.std.proofs.Common.{arith, sym, length, drop, replicate}
+use Rattle.std.proofs.Common.{length, drop, replicate}
 use Rattle.pump_frame.specs.Names.{IsName}
 use Rattle.pump_frame.specs.Padded.{padded_new, padded_whole, padded_front}
 use Rattle.pump_frame.proofs.name.Name.from_slice.Goals as goal

@@ -1,0 +1,103 @@
+ghost use Rattle.std.specs.Prelude.{◌≡◌, ◌↔◌, [], IsTrue};
+ghost use Rattle.pump_frame.specs.Frames.{IsLawful};
+ghost use Rattle.pump_frame.specs.Spellings.{spelling};
+ghost use Rattle.pump_frame.specs.Places.{IsWhole};
+ghost use Rattle.pump_frame.specs.Readings.{Reading, Within, Stopped, HasBegun};
+ghost use Rattle.pump_frame.specs.Streams.{Feeds};
+
+use crate::frame::Frame;
+use crate::payload::Payload;
+use crate::place::{Place, kind_of};
+use arrayvec::ArrayVec;
+use byteorder::{BigEndian, ByteOrder};
+use std::marker::Model;
+
+/// What one more byte made of a reader.
+#[derive(Clone, Copy)]
+pub enum Fed {
+    /// The bytes since the last whole frame are the front of a lawful frame.
+    More,
+    /// They are a lawful frame, and the next byte begins a new one.
+    Whole(Frame),
+    /// No lawful frame begins so: the byte at this offset of its frame is the first such.
+    Bad { at: u32 },
+}
+
+/// Reads frames byte by byte. Contracts see the bytes since the last whole frame, or the bad place.
+#[derive(Drop)]
+pub struct Reader {
+    held: ArrayVec<u8, 1042>,
+    place: Place,
+    bad: Option<u32>,
+}
+
+impl Model for Reader {
+    ghost use Rattle.pump_frame.specs.Readings.{Reading};
+    ghost use Rattle.pump_frame.specs.Places.{reading_of, StandsAt};
+
+    ghost Value = { Reading };
+
+    ghost view = { λ r. reading_of r.bad r.held.items };
+
+    ghost invariant = { λ r. StandsAt r.bad r.held.items r.place };
+}
+
+/// The frame of whole bytes.
+fn decode(bytes: &[u8]) -> Frame
+    requires { IsWhole bytes.now }
+    ensures lawful { IsLawful result }
+    ensures bytes { spelling result ≡ bytes.now }
+{
+    Frame {
+        kind: kind_of(bytes[3]).unwrap(),
+        session: BigEndian::read_u32(&bytes[4..]),
+        number: BigEndian::read_u64(&bytes[8..]),
+        payload: Payload::from_slice(&bytes[18..]).unwrap(),
+    }
+}
+
+impl Reader {
+    /// A reader before the first byte of a stream.
+    pub fn new() -> Reader
+        ensures value { result ≡ Within [] }
+        ensures begun { HasBegun result }
+    {
+        Reader {
+            held: ArrayVec::new(),
+            place: Place::FirstMark,
+            bad: None,
+        }
+    }
+
+    /// Reads one more byte of the stream (`docs/formats.md`, "Frames"). After `Bad` every call
+    /// answers the same `Bad`, and changes nothing.
+    pub fn feed(&mut self, byte: u8) -> Fed
+        ensures answer { Feeds self.old byte result self.new }
+        ensures begun { HasBegun self.new }
+    {
+        if let Some(at) = self.bad {
+            return Fed::Bad { at };
+        }
+        let Some(place) = self.place.after(byte) else {
+            let at = self.held.len() as u32;
+            self.bad = Some(at);
+            return Fed::Bad { at };
+        };
+        self.held.push(byte);
+        if !place.is_end() {
+            self.place = place;
+            return Fed::More;
+        }
+        let frame = decode(self.held.as_slice());
+        self.held.clear();
+        self.place = Place::FirstMark;
+        Fed::Whole(frame)
+    }
+
+    /// Whether no byte of an unfinished frame is held; false after `Bad`.
+    pub fn is_between(&self) -> bool
+        ensures { IsTrue result ↔ (self.now ≡ Within []) }
+    {
+        self.bad.is_none() && self.held.is_empty()
+    }
+}

@@ -1,11 +1,10 @@
-use arrayvec::ArrayVec;
-
-use crate::name::Name;
-use crate::payload::Payload;
-
 ghost use Rattle.std.specs.Prelude.{◌≡◌, ◌↔◌, ◌<◌, ◌≢◌, ℕ, length, slice_index, IsTrue, IsSome, IsNone, IfSome};
 ghost use Rattle.pump_frame.specs.Names.{IsName};
 ghost use Rattle.pump_frame.specs.Frames.{IsLawful, IsForm, AreNames, IsCode, greeting};
+
+use crate::name::Name;
+use crate::payload::Payload;
+use arrayvec::ArrayVec;
 
 /// What a frame says.
 #[derive(Clone, Copy, PartialEq, Eq, Debug)]

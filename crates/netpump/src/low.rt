@@ -1,7 +1,7 @@
 //! The low process: it takes the low party's messages, stores them, passes them on, and acknowledges
 //! each after a random delay. A look is a decision over values: it is made at once, or it asks the
-//! passage something and is made by the answer. `docs/definitions.md`, "Low histories", tells what
-//! its replies are.
+//! passage something and is made by the answer. `docs/definitions.md`, "The low side's history",
+//! tells what its replies are. Moments are in microseconds.
 
 ghost use Rattle.std.specs.Prelude.{◌≡◌, ℕ, ◌+◌, ◌^◌, ◌≤◌, ◌<◌, List, [], Option, Bool, true, false, IsTrue};
 ghost use Rattle.std.specs.Str.{bytes_eq};
@@ -194,6 +194,16 @@ fn refuse(row: &SessionRow, code: u8, number: u64) -> Frame
     }
 }
 
+/// A message in the hand that nobody waits for.
+fn left(item: Item) -> Phase
+    ensures { result ≡ Phase.Passing item false }
+{
+    Phase::Passing {
+        item,
+        is_owed: false,
+    }
+}
+
 impl Arrival<'_> {
     ghost use Rattle.netpump.specs.LowLooks.{arrival_of};
 
@@ -243,10 +253,7 @@ impl LowProcess {
         ensures hand { hand_of result ≡ hand }
     {
         let phase = match hand {
-            Some(item) => Phase::Passing {
-                item,
-                is_owed: false,
-            },
+            Some(item) => left(item),
             None => Phase::Idle,
         };
         LowProcess {
@@ -390,10 +397,7 @@ impl LowProcess {
                 let item = *item;
                 if arrival.is_gone() {
                     self.greeted = false;
-                    self.phase = Phase::Passing {
-                        item,
-                        is_owed: false,
-                    };
+                    self.phase = left(item);
                     return Ask::Done(taking(None));
                 }
                 self.asking = Asking::Forward;

@@ -17,3 +17,6 @@ pub use mem::MemDisk;
 pub use name::{DiskName, Role};
 pub use plain::PlainDisk;
 pub use record::Outcome;
+
+#[cfg(test)]
+mod tests;

@@ -165,14 +165,38 @@ impl MemDisk {
 impl Disk for MemDisk {
     ghost told = { mem_meaning };
 
-    fn size(&mut self) -> Result<u64, DiskFault> {
+    fn size(&mut self) -> Result<u64, DiskFault>
+        ensures size { IfOk result (λ n. n ≡ length (mem_reading self.new)) }
+        ensures moves { Moves mem_meaning Same self.old self.new }
+        ensures images { KeepsImages mem_meaning self.old self.new }
+        ensures answers { Answers mem_meaning ⊤ self.old self.new result }
+        ensures called { Called self.old self.new result }
+        ensures kept { LogsNothing self.old self.new }
+        ensures fails { Contains self.old.fails self.old.number → IsErr result }
+        ensures works { ¬ Contains self.old.fails self.old.number → IsOk result }
+    {
         if self.is_next_failing() {
             return Err(self.fault());
         }
         Ok(self.current.bytes().len() as u64)
     }
 
-    fn read(&mut self, at: u64, into: &mut [u8]) -> Result<(), DiskFault> {
+    fn read(&mut self, at: u64, into: &mut [u8]) -> Result<(), DiskFault>
+        ensures within { OnOk result (at + length into.old ≤ length (mem_reading self.old)) }
+        ensures bytes { OnOk result
+            (into.new ≡ take (length into.old) (drop at (mem_reading self.old))) }
+        ensures moves { Moves mem_meaning Same self.old self.new }
+        ensures images { KeepsImages mem_meaning self.old self.new }
+        ensures answers { Answers mem_meaning (at + length into.old ≤ length (mem_reading self.old))
+            self.old self.new result }
+        ensures past { FailsPast mem_meaning (length (mem_reading self.old)) (at + length into.old)
+            result }
+        ensures called { Called self.old self.new result }
+        ensures kept { LogsNothing self.old self.new }
+        ensures fails { Contains self.old.fails self.old.number → IsErr result }
+        ensures works { at + length into.old ≤ length (mem_reading self.old)
+            → ¬ Contains self.old.fails self.old.number → IsOk result }
+    {
         let fails = self.is_next_failing();
         let bytes = self.current.bytes();
         if fails || !ends_within(at, into.len() as u64, bytes.len() as u64) {

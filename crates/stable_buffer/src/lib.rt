@@ -15,3 +15,6 @@ pub use high::HighStore;
 pub use low::LowStore;
 pub use new_disk::format;
 pub use register::Register;
+
+#[cfg(test)]
+mod tests;

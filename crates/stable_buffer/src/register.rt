@@ -1,5 +1,5 @@
-ghost use Rattle.std.specs.Prelude.{◌≡◌, ◌+◌, ◌≤◌, false, length, take, drop, IfOk, OnOk, OnErr, IfErr};
-ghost use Rattle.disk_model.specs.Disk.{Moves, Same, Torn, Holds, Settled, Answers};
+ghost use Rattle.std.specs.Prelude.{◌≡◌, ◌⊎◌, ◌+◌, ◌≤◌, false, length, take, drop, IfOk, OnOk, OnErr, IfErr};
+ghost use Rattle.disk_model.specs.Disk.{Moves, Same, Torn, Holds, Settled, Leaves, Answers};
 
 use crate::Device;
 use crate::bytes::{cell_of, read_number};
@@ -73,8 +73,10 @@ impl<D: Disk> Register<D> {
         ensures settled { OnOk result (Settled D.told (register_disk self.new)) }
         ensures value { register_value self.new ≡ register_value self.old }
 
-        // At each moment a crash leaves the value from before the call.
+        // A crash at any moment leaves the value from before the call.
         ensures moves { Moves D.told KeepsValue (register_disk self.old) (register_disk self.new) }
+        ensures during { Leaves D.told (register_disk self.old) (register_disk self.new)
+            (λ image. value_of image ≡ register_value self.old) }
 
         ensures closed { OnErr result (register_is_open self.new ≡ false) }
         ensures answers { Answers D.told (staging_end self.old ≤ D.told.room (register_disk self.old))
@@ -101,9 +103,12 @@ impl<D: Disk> Register<D> {
         ensures value { OnOk result (register_value self.new ≡ staged_value self.old) }
         ensures value_err { OnErr result (register_value self.new ≡ register_value self.old) }
 
-        // At each moment a crash leaves the value from before the call, or the one that was staged.
+        // A crash at any moment leaves the value from before the call, or the one that was staged.
         ensures moves { Moves D.told (MayTurnTo (staged_value self.old))
             (register_disk self.old) (register_disk self.new) }
+        ensures during { Leaves D.told (register_disk self.old) (register_disk self.new)
+            (λ image. (value_of image ≡ register_value self.old)
+                ⊎ (value_of image ≡ staged_value self.old)) }
 
         ensures closed { OnErr result (register_is_open self.new ≡ false) }
         ensures answers { Answers D.told (33 ≤ D.told.room (register_disk self.old))

@@ -1,8 +1,9 @@
-use Rattle.std.proofs.Common.{ℕ, ◌-◌, length, ap, subst, arith}
-use Rattle.disk_model.specs.Disk.{Moves, Holds, Torn}
-use Rattle.disk_model.proofs.Run.{weaker, each_after, each_settled}
-use Rattle.stable_buffer.specs.Register.{Selects, HoldsNext, KeepsValue, place_of}
-use Rattle.stable_buffer.proofs.Cells.{staging, staging_keeps, cell_written}
+use Rattle.std.proofs.Common.{◌≡◌, ◌∙◌, ℕ, ◌-◌, length, ap, subst, arith}
+use Rattle.disk_model.specs.Disk.{Meaning, Moves, Holds, Torn, Leaves}
+use Rattle.disk_model.proofs.Run.{weaker, each_after, each_settled, leaves}
+use Rattle.stable_buffer.specs.Register.{Selects, HoldsNext, KeepsValue, IsReady, place_of, value_of}
+use Rattle.stable_buffer.specs.declared.register.Register.{Register}
+use Rattle.stable_buffer.proofs.Cells.{staging, staging_keeps, cell_written, value-selects}
 use Rattle.stable_buffer.proofs.register.Register.stage.Goals as goal
 
 pub returns-in-Err-clause-moves : goal.returns-in-Err-clause-moves
@@ -44,3 +45,16 @@ returns-clause-moves g c =
     subst (λ (n : ℕ). Moves m (Torn at n) r.disk c.write_and_sync.new.disk) (ap length c.cell_of-cell.ensures) c.write_and_sync.ensures.moves in
     weaker m (Selects r.parity r.first r.second) (Torn at 16) KeepsValue r.disk c.write_and_sync.new.disk c.requires.each
     (λ a b is torn. staging_keeps r.parity r.first r.second a b c.requires.parity is torn) moved
+
+-- every image since the start has the value of then
+during : {D : Type 0} (m : Meaning D) (r : Register D) (new : D) → IsReady m r → Moves m KeepsValue r.disk new
+    → Leaves m r.disk new (λ c. value_of c ≡ (r.first, r.second))
+during m r new ready moved =
+    leaves m (Selects r.parity r.first r.second) (λ c. value_of c ≡ (r.first, r.second)) KeepsValue r.disk new ready.each
+    (λ a is. value-selects r.parity r.first r.second a is) (λ a b is keeps. keeps.value ∙ value-selects r.parity r.first r.second a is) moved
+
+pub returns-in-Err-clause-during : goal.returns-in-Err-clause-during
+returns-in-Err-clause-during g c = during g.D.Disk.told c.args.self.now c.write_and_sync.new.disk c.requires (returns-in-Err-clause-moves g c)
+
+pub returns-clause-during : goal.returns-clause-during
+returns-clause-during g c = during g.D.Disk.told c.args.self.now c.write_and_sync.new.disk c.requires (returns-clause-moves g c)

@@ -1,3 +1,6 @@
 pub mod Causes
+pub mod Doors
 pub mod Memory
+pub mod Ports
+pub mod Running
 pub mod Tells

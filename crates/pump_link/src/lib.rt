@@ -1,11 +1,30 @@
-//! The outside of the relay as traits: where bytes come from and go to, and random words. What can
-//! fail counts its failures, so that a caller can show that a fault was not its own.
+//! The outside of the relay as traits: streams of bytes, links, doors and ports, clocks and random
+//! words, each with a form in memory. What can fail counts its failures, so that a caller can show
+//! that a fault was not its own.
 #![tactic(auto)]
 
+mod clock;
+mod door;
+mod link;
+mod list_words;
+mod mem_door;
+mod mem_link;
+mod mem_ports;
 mod memory;
+mod ports;
+mod step_clock;
 mod stream;
 mod words;
 
+pub use clock::Clock;
+pub use door::{Accepted, Door};
+pub use link::{Link, Looked, SendFault};
+pub use list_words::ListWords;
+pub use mem_door::MemDoor;
+pub use mem_link::MemLink;
+pub use mem_ports::MemPorts;
 pub use memory::{MemSink, MemSource};
+pub use ports::{Ports, PortsFault};
+pub use step_clock::StepClock;
 pub use stream::{ReadFault, Sink, Source, WriteFault, write_all};
 pub use words::Words;

@@ -1,11 +1,11 @@
-use crate::stream::{ReadFault, Sink, Source, WriteFault};
-use std::marker::Model;
-
 ghost use Rattle.std.specs.Prelude.{◌≡◌, ℕ, ◌+◌, ◌-◌, ◌^◌, ◌<◌, ◌≤◌, ◌↔◌, ◌⊎◌, List, [], ◌++◌, length, take, drop, min, Contains, Some, IfOk, OnErr, OnOk, IsErr};
 ghost use Rattle.std.specs.Io.{ReadsAtMost};
 ghost use Rattle.std.specs.Io.KnownBytes.{ReadConsumes, WriteAppends};
-ghost use Rattle.pump_link.specs.Causes.{HasCause};
+ghost use Rattle.pump_link.specs.Causes.{HasCause, raised};
 ghost use Rattle.pump_link.specs.Memory.{MemorySource, MemorySink};
+
+use crate::stream::{ReadFault, Sink, Source, WriteFault};
+use std::marker::Model;
 
 /// Bytes in memory as a source, given in pieces; some of its reads fail.
 #[derive(Drop)]
@@ -27,7 +27,7 @@ impl Model for MemSource {
 }
 
 impl MemSource {
-    /// Gives at most `piece` bytes a read; the reads with these numbers, from 0, fail.
+    /// Gives at most `piece` bytes a read; the reads with the numbers `fails`, from 0, fail.
     pub fn new(bytes: Vec<u8>, piece: usize, fails: Vec<u64>) -> Self
         requires { 0 < piece }
         ensures { result ≡ record { left = bytes.items; piece = piece; calls = 0; fails = fails.items; faults = 0 } }
@@ -55,7 +55,8 @@ impl Source for MemSource {
         ensures cause { HasCause self.old.faults self.new.faults result }
         ensures fails { IsErr result ↔ Contains self.old.fails self.old.calls }
         ensures pieces { IfOk result (λ n. n ≡ min self.old.piece (min (length into.old) (length self.old.left))) }
-        ensures counted { (self.new.calls ≡ min (self.old.calls + 1) (2 ^ 64 - 1)) × (self.new.fails ≡ self.old.fails) × (self.new.piece ≡ self.old.piece) }
+        ensures ok { IfOk result (λ n. self.new ≡ record self.old { left = drop n self.old.left; calls = raised self.old.calls }) }
+        ensures err { OnErr result (self.new ≡ record self.old { calls = raised self.old.calls; faults = raised self.old.faults }) }
     {
         let number = self.calls;
         self.calls = number.saturating_add(1);
@@ -95,7 +96,8 @@ impl Model for MemSink {
 }
 
 impl MemSink {
-    /// Takes at most `piece` bytes a write into the room handed in; the writes with these numbers, from 0, fail.
+    /// Takes at most `piece` bytes a write into the room handed in; the writes with the numbers
+    /// `fails`, from 0, fail, and so does one without room.
     pub fn new(room: Vec<u8>, piece: usize, fails: Vec<u64>) -> Self
         requires { 0 < piece }
         ensures { result ≡ record { written = []; room = length room.items; piece = piece; calls = 0; fails = fails.items; faults = 0 } }
@@ -110,6 +112,7 @@ impl MemSink {
         }
     }
 
+    /// The bytes that were written.
     pub fn written(&self) -> &[u8]
         ensures { result.now ≡ self.now.written }
     {
@@ -127,8 +130,10 @@ impl Sink for MemSink {
         ensures some { IfOk result (λ n. (0 < n) × (n ≤ length bytes.now)) }
         ensures bytes { WriteAppends (Some self.old.written) (Some self.new.written) result bytes.now }
         ensures cause { HasCause self.old.faults self.new.faults result }
-        ensures fails { OnErr result ((self.old.room ≡ 0) ⊎ Contains self.old.fails self.old.calls) }
+        ensures fails { IsErr result ↔ ((self.old.room ≡ 0) ⊎ Contains self.old.fails self.old.calls) }
         ensures pieces { IfOk result (λ n. n ≡ min self.old.piece (min (length bytes.now) self.old.room)) }
+        ensures ok { IfOk result (λ n. self.new ≡ record self.old { written = self.old.written ++ take n bytes.now; room = self.old.room - n; calls = raised self.old.calls }) }
+        ensures err { OnErr result (self.new ≡ record self.old { calls = raised self.old.calls; faults = raised self.old.faults }) }
     {
         let number = self.calls;
         self.calls = number.saturating_add(1);
@@ -145,5 +150,38 @@ impl Sink for MemSink {
 
     fn faults(&self) -> u64 {
         self.faults
+    }
+}
+
+#[cfg(test)]
+mod tests {
+    use super::*;
+    use crate::stream::write_all;
+    use std::alloc::AllocError;
+
+    fn take<S: Source>(source: &mut S) -> (Result<usize, ReadFault>, [u8; 4]) {
+        let mut into = [0; 4];
+        (source.read(&mut into), into)
+    }
+
+    fn put<S: Sink>(sink: &mut S) -> Result<(), WriteFault> {
+        write_all(sink, b"pump")
+    }
+
+    #[test]
+    fn pieces_and_faults(rt: HostRuntime) -> Result<(), AllocError> {
+        let alloc = rt.alloc();
+        let mut source = MemSource::new(vec![in alloc; 7, 8, 9]?, 2, vec![in alloc; 1]?);
+        assert_eq!(rt; take(&mut source), (Ok(2), [7, 8, 0, 0]));
+        assert_eq!(rt; take(&mut source), (Err(ReadFault), [0; 4]));
+        assert_eq!(rt; take(&mut source), (Ok(1), [9, 0, 0, 0]));
+        assert_eq!(rt; take(&mut source), (Ok(0), [0; 4]));
+        assert_eq!(rt; source.faults(), 1);
+        let mut sink = MemSink::new(vec![in alloc; 0; 8]?, 3, vec![in alloc; 3]?);
+        assert_eq!(rt; put(&mut sink), Ok(()));
+        assert_eq!(rt; put(&mut sink), Err(WriteFault));
+        assert_eq!(rt; sink.written(), b"pumppum");
+        assert_eq!(rt; sink.faults(), 1);
+        Ok(())
     }
 }

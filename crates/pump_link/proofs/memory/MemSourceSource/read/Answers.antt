@@ -9,8 +9,7 @@ returns-clause-bytes c =
     let rest = drop c.self.inside.at c.self.inside.bytes.items in
     let copied : c.copy_from_slice.new.self ≡ take c.min-count.result rest = simp (whole, take_rest) at c.copy_from_slice.ensures.after in
     let count : c.min-count.result ≡ min c.min.result (length rest) = simp (whole, take_rest) at c.min-count.ensures in
-    let first : c.min.result ≡ min c.self.inside.piece (length c.args.into.now) = c.min.ensures in
-    (
+    let first : c.min.result ≡ min c.self.inside.piece (length c.args.into.now) = c.min.ensures in (
       ap (λ s. s.left) (sym c.self.view_is) ∙ front_and_rest c.min-count.result c.self.inside.at c.self.inside.bytes.items c.args.into.now _ (omega arith) copied,
       λ zero room. drop_all (c.self.inside.at + c.min-count.result) c.self.inside.bytes.items (omega (arith, first, count, c.requires, c.self.invariant, length-drop c.self.inside.at c.self.inside.bytes.items)),
     )

@@ -1,5 +1,5 @@
-//! The laws over the world and over runs. Each is a function without parameters and without a result,
-//! whose contract is the law; its body does nothing.
+//! The laws over the world and over runs. Each is a function without parameters and without a result
+//! whose contract is the law; calling it does nothing.
 
 ghost use Rattle.two_worlds.specs.Laws.{EveryWorldIsLawful, ForgedWorldsAreBounded, TimedWorldsAreLawful, RunsHaveReplies, PairsAgree, AcknowledgedIsAccepted, ThinnedHistoriesAgree};
 

@@ -1,2 +1,13 @@
+pub mod Carries
+pub mod Fits
+pub mod HighLines
+pub mod LooksLead
 pub mod LowGreetings
+pub mod LowLines
 pub mod LowLooking
+pub mod Opens
+pub mod Removals
+pub mod Sendings
+pub mod Sorts
+pub mod Tells
+pub mod Worlds

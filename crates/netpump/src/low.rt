@@ -549,4 +549,14 @@ impl LowProcess {
             Ask::Average => self.step_on(Answer::Average(told.seen)),
         }
     }
+
+    /// The message in the hand.
+    pub fn hand(&self) -> Option<Item>
+        ensures { result ≡ hand_of self.now }
+    {
+        match &self.phase {
+            Phase::Passing { item, .. } => Some(*item),
+            _ => None,
+        }
+    }
 }

@@ -2,5 +2,6 @@
 #![tactic(auto)]
 
 mod low;
+mod session;
 
 fn main(_rt: HostRuntime) {}

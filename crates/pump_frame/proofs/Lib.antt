@@ -5,4 +5,5 @@ pub mod Living
 pub mod Names
 pub mod Reading
 pub mod Steps
+pub mod Streams
 pub mod Writing

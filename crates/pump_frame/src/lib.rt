@@ -2,6 +2,7 @@
 #![tactic(auto)]
 
 mod frame;
+mod laws;
 mod memory;
 mod name;
 mod payload;
@@ -11,9 +12,16 @@ mod row;
 mod spelling;
 
 pub use frame::{Frame, Item, Kind};
+pub use laws::{
+    all_bytes_are_a_stream, answers_are_exact, cuts_do_not_matter, names_are_one,
+    spellings_are_free, streams_are_one,
+};
 pub use memory::OutOfMemory;
 pub use name::Name;
 pub use payload::Payload;
 pub use reader::{Fed, Reader};
 pub use row::{RowKey, SessionRow};
 pub use spelling::encode;
+
+#[cfg(test)]
+mod tests;

@@ -10,13 +10,17 @@ use Rattle.pump_core.specs.History.{History}
 use Rattle.pump_core.specs.Replies.{Sent, LowReplies}
 use Rattle.pump_core.specs.Thinned.{IsThinned}
 use Rattle.pump_core.specs.World.{World}
-use Rattle.pump_core.specs.Events.{Begins, Run, RunForged}
+use Rattle.pump_core.specs.Events.{Begins, Happens, Run, RunForged}
 use Rattle.pump_core.specs.Lawful.{IsBounded, IsLawful}
 use Rattle.pump_core.specs.Timed.{Step, Point}
 use Rattle.pump_core.specs.Runs.{IsRun}
 use Rattle.two_worlds.specs.Agreement.{AgreeForLow}
 
 -- ---- worlds ----
+
+-- an event leads from a world to one world at most
+abbrev pub EventsAreCertain : Type 0
+EventsAreCertain = (w u v : World) (event : Event) → Happens w event u → Happens w event v → u ≡ v
 
 -- from a world that begins, all events lead to lawful worlds
 abbrev pub EveryWorldIsLawful : Type 0

@@ -1,7 +1,12 @@
 //! The laws over the world and over runs. Each is a function without parameters and without a result
 //! whose contract is the law; calling it does nothing.
 
-ghost use Rattle.two_worlds.specs.Laws.{EveryWorldIsLawful, ForgedWorldsAreBounded, TimedWorldsAreLawful, RunsHaveReplies, PairsAgree, AcknowledgedIsAccepted, ThinnedHistoriesAgree};
+ghost use Rattle.two_worlds.specs.Laws.{EventsAreCertain, EveryWorldIsLawful, ForgedWorldsAreBounded, TimedWorldsAreLawful, RunsHaveReplies, PairsAgree, AcknowledgedIsAccepted, ThinnedHistoriesAgree};
+
+/// An event leads to one world at most, so that what a step makes of a world is settled.
+pub fn events_are_certain()
+    ensures { EventsAreCertain }
+{}
 
 /// Whatever happens, and in whatever order, with crashes of the pump, the receiver or both at any
 /// event, the world stays lawful: the receiver has the beginning of what was accepted, and no

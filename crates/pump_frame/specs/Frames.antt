@@ -11,7 +11,8 @@ greeting low high = low ++ 58 ∷ high
 
 -- the payload of a HELLO
 abbrev pub AreNames : List ℕ → Type 0
-AreNames payload = (low : List ℕ) × (high : List ℕ) × IsName low × IsName high × (payload ≡ greeting low high)
+AreNames payload = (low : List ℕ) × (high : List ℕ)
+    × IsName low × IsName high × (payload ≡ greeting low high)
 
 -- the payload of a REFUSE, why a frame was not taken
 abbrev pub IsCode : List ℕ → Type 0

@@ -1,4 +1,5 @@
--- What a reader of frames waits for, byte by byte. It only serves proofs: what a frame's bytes are stands in `Spellings`.
+-- What a reader of frames waits for, byte by byte. It only serves proofs: what a frame's bytes are
+-- stands in `Spellings`.
 use Rattle.std.specs.Prelude.{ℕ, ◌+◌, ◌-◌, ◌*◌, ◌≤◌, ◌==◌, ◌&&◌, ◌||◌, nat_le, Bool, true, false, not, IsTrue, if◌then◌else◌, List, [], ◌∷◌, Option, None, Some, option_and_then, ◌≡◌, ◌<◌, length, get_or, drop}
 use Rattle.byteorder.specs.Endian.{big_number}
 use Rattle.pump_frame.specs.Names.{is_name_byte}
@@ -75,13 +76,16 @@ step KindByte byte = at_session (kind_of byte)
 step (Session kind left) byte = Some (if left == 1 then NumberTop kind else Session kind (left - 1))
 step (NumberTop kind) byte = goes (byte == 0) (NumberSecond kind)
 step (NumberSecond kind) byte = at_rest kind byte
-step (NumberRest kind left zero) byte = goes (not zero || byte == 0) (if left == 1 then LengthHigh kind else NumberRest kind (left - 1) zero)
-step (LengthHigh kind) byte = goes (byte == 0 || (is_long kind && nat_le byte 4)) (LengthLow kind byte)
+step (NumberRest kind left zero) byte =
+    goes (not zero || byte == 0) (if left == 1 then LengthHigh kind else NumberRest kind (left - 1) zero)
+step (LengthHigh kind) byte =
+    goes (byte == 0 || (is_long kind && nat_le byte 4)) (LengthLow kind byte)
 step (LengthLow kind high) byte = at_payload kind (high * 256 + byte)
 step (PayloadBytes left) byte = Some (if left == 1 then End else PayloadBytes (left - 1))
 step RefuseCode byte = goes (nat_le 1 byte && nat_le byte 5) End
 step (LowName left read) byte = at_name left read byte
-step (HighName left) byte = goes (is_name_byte byte) (if left == 1 then End else HighName (left - 1))
+step (HighName left) byte =
+    goes (is_name_byte byte) (if left == 1 then End else HighName (left - 1))
 step End byte = None
 
 -- the place after these bytes

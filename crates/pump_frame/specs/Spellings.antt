@@ -16,9 +16,11 @@ kind_byte Refuse = 5
 kind_byte Attach = 6
 kind_byte Taken = 7
 
--- what stands before a payload of this length: the mark 4E 50, the version, the kind, the session, the number, the length
+-- what stands before a payload of this length: the mark 4E 50, the version, the kind, the session,
+-- the number and the length
 unfoldable pub header_of : Kind → ℕ → ℕ → ℕ → List ℕ
-header_of kind session number size = 78 ∷ 80 ∷ 1 ∷ kind_byte kind ∷ big_bytes 4 session ++ big_bytes 8 number ++ big_bytes 2 size
+header_of kind session number size =
+    78 ∷ 80 ∷ 1 ∷ kind_byte kind ∷ big_bytes 4 session ++ big_bytes 8 number ++ big_bytes 2 size
 
 -- the bytes of a frame
 unfoldable pub spelling : Frame → List ℕ
@@ -30,4 +32,5 @@ Begins bytes = (f : Frame) × (rest : List ℕ) × IsLawful f × (spelling f ≡
 
 -- a lawful frame begins with these bytes, and has more
 abbrev pub IsPartial : List ℕ → Type 0
-IsPartial bytes = (f : Frame) × (byte : ℕ) × (rest : List ℕ) × IsLawful f × (spelling f ≡ bytes ++ byte ∷ rest)
+IsPartial bytes = (f : Frame) × (byte : ℕ) × (rest : List ℕ)
+    × IsLawful f × (spelling f ≡ bytes ++ byte ∷ rest)

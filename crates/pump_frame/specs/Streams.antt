@@ -11,17 +11,24 @@ use Rattle.pump_frame.specs.Spellings.{spelling, Begins, IsPartial}
 abbrev pub spellings : List Frame → List ℕ
 spellings frames = flat_map spelling frames
 
--- the bytes are those of lawful frames, and then the front of one more, or a byte at the bad place behind such a front
+-- the bytes are those of lawful frames, and then the front of one more; or such a front, and behind
+-- it a byte after which no lawful frame begins so, whose offset in its frame is the bad place
 abbrev pub IsStream : List ℕ → List Frame → Reading → Type 0
-IsStream bytes frames (Within rest) = AllByRecursion IsLawful frames × IsPartial rest × (bytes ≡ spellings frames ++ rest)
-IsStream bytes frames (Stopped at) = AllByRecursion IsLawful frames × (front : List ℕ) × (byte : ℕ) × (more : List ℕ)
-    × IsPartial front × (Begins (front ++ byte ∷ []) → ⊥) × (at ≡ length front) × (bytes ≡ spellings frames ++ (front ++ byte ∷ more))
+IsStream bytes frames (Within rest) = AllByRecursion IsLawful frames × IsPartial rest
+    × (bytes ≡ spellings frames ++ rest)
+IsStream bytes frames (Stopped at) = AllByRecursion IsLawful frames
+    × (front : List ℕ) × (byte : ℕ) × (more : List ℕ) × IsPartial front
+    × (Begins (front ++ byte ∷ []) → ⊥) × (at ≡ length front)
+    × (bytes ≡ spellings frames ++ (front ++ byte ∷ more))
 
 -- what a reader answers to one more byte, and what it is after it
 abbrev pub Feeds : Reading → ℕ → Fed → Reading → Type 0
-Feeds (Within held) byte More new = IsPartial (held ++ byte ∷ []) × (new ≡ Within (held ++ byte ∷ []))
-Feeds (Within held) byte (Whole f) new = IsLawful f × (spelling f ≡ held ++ byte ∷ []) × (new ≡ Within [])
-Feeds (Within held) byte (Bad at) new = (Begins (held ++ byte ∷ []) → ⊥) × (at ≡ length held) × (new ≡ Stopped at)
+Feeds (Within held) byte More new =
+    IsPartial (held ++ byte ∷ []) × (new ≡ Within (held ++ byte ∷ []))
+Feeds (Within held) byte (Whole f) new =
+    IsLawful f × (spelling f ≡ held ++ byte ∷ []) × (new ≡ Within [])
+Feeds (Within held) byte (Bad at) new =
+    (Begins (held ++ byte ∷ []) → ⊥) × (at ≡ length held) × (new ≡ Stopped at)
 Feeds (Stopped at) byte fed new = (fed ≡ Bad at) × (new ≡ Stopped at)
 
 -- the frame of an answer, if it has one
@@ -38,5 +45,6 @@ Reads old (byte ∷ bytes) frames new = (fed : Fed) × (mid : Reading) × (later
 -- the pieces, one after the other, gave these frames
 abbrev pub ReadsPieces : Reading → List (List ℕ) → List Frame → Reading → Type 0
 ReadsPieces old [] frames new = (frames ≡ []) × (new ≡ old)
-ReadsPieces old (piece ∷ pieces) frames new = (first : List Frame) × (mid : Reading) × (later : List Frame)
+ReadsPieces old (piece ∷ pieces) frames new =
+    (first : List Frame) × (mid : Reading) × (later : List Frame)
     × Reads old piece first mid × ReadsPieces mid pieces later new × (frames ≡ first ++ later)

@@ -1,11 +1,16 @@
+pub mod Bounds
 pub mod FieldChains
 pub mod FieldLaws
 pub mod FreeFields
+pub mod Fresh
 pub mod LineEnds
 pub mod LineLaws
 pub mod LookLaws
 pub mod MomentLaws
 pub mod NextLaws
+pub mod One
 pub mod OneReading
+pub mod Replying
 pub mod SessionLaws
 pub mod Splits
+pub mod Waiting

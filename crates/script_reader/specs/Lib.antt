@@ -7,6 +7,7 @@ pub mod Lines
 pub mod Lows
 pub mod Parsing
 pub mod Past
+pub mod Readouts
 pub mod Scripts
 pub mod Steps
 pub mod Transcript

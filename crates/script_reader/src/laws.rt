@@ -1,8 +1,32 @@
-ghost use Rattle.std.specs.Prelude.{◌≡◌, ℕ, List, [], Some};
+ghost use Rattle.std.specs.Prelude.{◌≡◌, ℕ, List, [], None, Some};
 ghost use Rattle.script_reader.specs.declared.line.Line.{Line};
 ghost use Rattle.script_reader.specs.Lines.{AreLines};
+ghost use Rattle.pump_core.specs.Replies.{LowReplies};
+ghost use Rattle.script_reader.specs.declared.event.Event.{Event as Printed};
+ghost use Rattle.script_reader.specs.Scripts.{Running, LeadTo, IsTranscript};
+ghost use Rattle.script_reader.specs.Readouts.{low_lines, KeepsBounds};
 
 /// The bytes of a whole script are one list of lines at most.
 pub fn one_reading()
     ensures { (all : List ℕ) (a b : List Line) → AreLines (Some all) a (Some []) → AreLines (Some all) b (Some []) → a ≡ b }
+{}
+
+/// The `low` lines of a transcript are the replies of its low history.
+pub fn low_lines_are_replies()
+    ensures { (script : List Line) (s : Running) (printed : List Printed) →
+        LeadTo None script (Some s) printed → LowReplies s.row s.past.history (low_lines printed) }
+{}
+
+/// Whatever a script does, no more messages are live than there are places, no more are held than
+/// lie between the hands, the receiver's list is a front of the accepted one, and at most 64
+/// arrivals wait.
+pub fn transcripts_are_bounded()
+    ensures { (script : List Line) (s : Running) (printed : List Printed) →
+        LeadTo None script (Some s) printed → KeepsBounds s }
+{}
+
+/// A script has one transcript at most.
+pub fn transcripts_are_one()
+    ensures { (script : List Line) (xs ys : List Printed) →
+        IsTranscript script xs → IsTranscript script ys → xs ≡ ys }
 {}

@@ -13,7 +13,7 @@ mod reading;
 
 pub use event::Event;
 pub use fault::Fault;
-pub use laws::one_reading;
+pub use laws::{low_lines_are_replies, one_reading, transcripts_are_bounded, transcripts_are_one};
 pub use line::{Arriving, Line};
 pub use lines::{Lined, Lines};
 pub use printing::{print_event, print_fault};

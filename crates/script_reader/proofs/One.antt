@@ -1,0 +1,197 @@
+-- A script has one transcript at most.
+use Rattle.std.proofs.Common.{◌≡◌, ⊎_elim, ℕ, ◌+◌, Bool, true, false, List, [], ◌∷◌, ◌++◌, drop, Option, Some, None, sym, ap, ◌∙◌, subst}
+use Rattle.std.specs.Prelude.{if◌then◌else◌, slice_get, option_to_list, ◌&&◌, ◌||◌}
+use Rattle.std.proofs.lemmas.Option.{same_Some}
+use Rattle.pump_frame.specs.declared.row.SessionRow.{SessionRow}
+use Rattle.pump_core.specs.declared.feedback.Feedback.{Feedback}
+use Rattle.pump_core.specs.declared.event.Event.{Event as WorldEvent}
+use Rattle.pump_core.specs.declared.event.Event.TheVariants.{StoreBegin, StoreEnd, Forward, TakeUp, Send, CarryData, TakeBegin, TakeEnd, ReturnTaken, RemoveBegin, RemoveEnd, Acknowledge, Crash}
+use Rattle.pump_core.specs.History.{Look, looked}
+use Rattle.pump_core.specs.History.{Arrival, Gone}
+use Rattle.pump_core.specs.Exchanges.{Part}
+use Rattle.pump_core.specs.Replies.{Sent, takes, stores}
+use Rattle.pump_core.specs.World.{World}
+use Rattle.pump_core.specs.Events.{stored, carried, took, answered, Happens, Run}
+use Rattle.pump_core.proofs.Runs.{one_list_of_lives}
+use Rattle.pump_core.proofs.Cuts.{one_cut}
+use Rattle.script_reader.specs.declared.line.Line.{Line}
+use Rattle.script_reader.specs.declared.line.Line.TheVariants as lines
+use Rattle.script_reader.specs.declared.event.Event.{Event}
+use Rattle.script_reader.specs.Past.{Past}
+use Rattle.script_reader.specs.Lows.{first_of, is_bad, feedback, offers, stored_events, acks_of, printed_store, printed_feedback, printed_replies, IsLook}
+use Rattle.script_reader.specs.Highs.{Perhaps, Returns, Sends, time_of, printed_removal, sends_hand, sending_of, printed_sending, printed_carry, IsRemoval, IsSending, IsHighLook, IsCarried, place}
+use Rattle.script_reader.specs.Steps.{joined, lost, look_of, IsLowLook, GoesOn, Step}
+use Rattle.script_reader.specs.Scripts.{Running, Goes, Leads, LeadTo, ends, IsTranscript}
+
+-- ---- events ----
+
+happens_one : (w : World) (e : WorldEvent) (v u : World) → Happens w e v → Happens w e u → v ≡ u
+happens_one w (StoreBegin p) v u h k = h.2 ∙ sym k.2
+happens_one w StoreEnd v u h k = h.2 ∙ ap (stored w) (same_Some h.0 k.0 (sym h.1 ∙ k.1)) ∙ sym k.2
+happens_one w Forward v u h k = h.3 ∙ ap (λ (n : ℕ). record w { held = w.held ++ n ∷ []; low_hand = None }) (same_Some h.0 k.0 (sym h.1 ∙ k.1)) ∙ sym k.3
+happens_one w TakeUp v u h k =
+    let e : h.0 ∷ h.1 ≡ k.0 ∷ k.1 = sym h.3 ∙ k.3 in
+    let a : h.0 ≡ k.0 = cc in
+    let b : h.1 ≡ k.1 = cc in
+    h.4 ∙ (λ i. record w { held = b i; high_hand = Some (a i) }) ∙ sym k.4
+happens_one w Send v u h k =
+    let a : h.0 ≡ k.0 = same_Some h.0 k.0 (sym h.2 ∙ k.2) in
+    let b : h.1 ≡ k.1 = same_Some h.1 k.1 (sym h.4 ∙ ap (slice_get w.accepted) a ∙ k.4) in
+    h.5 ∙ (λ i. record w { sent = w.sent ++ record { number = a i; payload = b i } ∷ [] }) ∙ sym k.5
+happens_one w (CarryData n) v u h k = h.4 ∙ ap (carried w) (same_Some h.0 k.0 (sym h.1 ∙ k.1)) ∙ sym k.4
+happens_one w TakeBegin v u h k = h.3 ∙ sym k.3
+happens_one w TakeEnd v u h k = h.3 ∙ ap (took w) (same_Some h.0 k.0 (sym h.1 ∙ k.1)) ∙ sym k.3
+happens_one w (ReturnTaken n) v u h k = h.3 ∙ ap (answered w) (same_Some h.0 k.0 (sym h.1 ∙ k.1)) ∙ sym k.3
+happens_one w RemoveBegin v u h k = h.2 ∙ sym k.2
+happens_one w RemoveEnd v u h k = h.1 ∙ sym k.1
+happens_one w (Acknowledge n) v u h k = h.3 ∙ sym k.3
+happens_one w (Crash None None) v u h k = absurd h
+happens_one w (Crash None (Some r)) v u h k = h ∙ sym k
+happens_one w (Crash (Some p) r) v u h k = h ∙ sym k
+
+run_one : (w : World) (es : List WorldEvent) (v u : World) → Run w es v → Run w es u → v ≡ u
+run_one w [] v u h k = h ∙ sym k
+run_one w (e ∷ es) v u (a, h, r) (b, k, t) = run_one a es v u r (subst (λ (x : World). Run x es u) (happens_one w e b a k h) t)
+
+perhaps_one : (w : World) (e : WorldEvent) (es : List WorldEvent) (v u : World) → Perhaps w e es v → Perhaps w e es u → v ≡ u
+perhaps_one w e es v u h k = ⊎_elim
+    (λ (r : Run w (e ∷ es) v). ⊎_elim
+    (λ (t : Run w (e ∷ es) u). run_one w (e ∷ es) v u r t)
+    (λ (n : ((x : World) → Happens w e x → ⊥) × (u ≡ w)). absurd (n.0 r.0 r.1)) k)
+    (λ (n : ((x : World) → Happens w e x → ⊥) × (v ≡ w)). ⊎_elim
+    (λ (t : Run w (e ∷ es) u). absurd (n.0 t.0 t.1))
+    (λ (o : ((x : World) → Happens w e x → ⊥) × (u ≡ w)). n.1 ∙ sym o.1) k)
+    h
+
+returns_one : (w : World) (back : Option ℕ) (v u : World) → Returns w back v → Returns w back u → v ≡ u
+returns_one w None v u h k = h ∙ sym k
+returns_one w (Some n) v u h k = happens_one w (ReturnTaken n) v u h k
+
+sends_one : (b : Bool) (w v u : World) → Sends b w v → Sends b w u → v ≡ u
+sends_one true w v u h k = happens_one w Send v u h k
+sends_one false w v u h k = h ∙ sym k
+
+-- ---- lines ----
+
+record Same (q r : Past) (xs ys : List Event) : Type 0 where
+  past : q ≡ r
+  printed : xs ≡ ys
+
+removal_one : (s : SessionRow) (p : Past) (m : ℕ) (back : Option ℕ) (q r : Past) (xs ys : List Event) → IsRemoval s p m back q xs → IsRemoval s p m back r ys → Same q r xs ys
+removal_one s p m back q r xs ys h k =
+    let a = returns_one p.world back h.answered k.answered h.returns k.returns in
+    let b = perhaps_one h.answered RemoveBegin (RemoveEnd ∷ []) q.world r.world h.removes (subst (λ (w : World). Perhaps w RemoveBegin (RemoveEnd ∷ []) r.world) (sym a) k.removes) in
+    let t : h.time ≡ k.time = h.is_time ∙ ap (λ (u : World × World). time_of p m u.0 u.1) (λ i. (a i, b i)) ∙ sym k.is_time in
+    record {
+      past = h.rest ∙ (λ i. record p { world = b i; times = p.times ++ option_to_list (t i) }) ∙ sym k.rest;
+      printed = h.printed_is ∙ (λ i. printed_removal s.id m (a i) (b i) (t i)) ∙ sym k.printed_is;
+    }
+
+sending_one : (s : SessionRow) (p : Past) (m : ℕ) (q r : Past) (xs ys : List Event) → IsSending s p m q xs → IsSending s p m r ys → Same q r xs ys
+sending_one s p m q r xs ys h k =
+    let a = perhaps_one p.world TakeUp [] h.taken k.taken h.takes_up k.takes_up in
+    let c : h.is_sent ≡ k.is_sent = h.cause ∙ ap (λ (w : World). sends_hand s p.sends m w.high_hand) a ∙ sym k.cause in
+    let b = sends_one h.is_sent h.taken q.world r.world h.sends (subst (λ (u : Bool × World). Sends u.0 u.1 r.world) (λ i. (sym c i, sym a i)) k.sends) in
+    record {
+      past = h.rest ∙ (λ i. record p { world = b i; sends = if c i then sending_of m (a i).high_hand ++ p.sends else p.sends; moment = m }) ∙ sym k.rest;
+      printed = h.printed_is ∙ (λ i. if c i then printed_sending s.id m (a i).high_hand else []) ∙ sym k.printed_is;
+    }
+
+high_one : (s : SessionRow) (p : Past) (m : ℕ) (back : Option ℕ) (q r : Past) (xs ys : List Event) → IsHighLook s p m back q xs → IsHighLook s p m back r ys → Same q r xs ys
+high_one s p m back q r xs ys (mid, a, b, h, t, e) (mid', a', b', h', t', e') =
+    let x = removal_one s p m back mid mid' a a' h h' in
+    let y = sending_one s mid m q r b b' t (subst (λ (u : Past). IsSending s u m r b') (sym x.past) t') in
+    record { past = y.past; printed = e ∙ (λ i. x.printed i ++ y.printed i) ∙ sym e' }
+
+carry_one : (s : SessionRow) (p : Past) (back : ℕ) (q r : Past) (xs ys : List Event) → IsCarried s p back q xs → IsCarried s p back r ys → Same q r xs ys
+carry_one s p back q r xs ys h k =
+    let d = same_Some h.packet k.packet (sym h.at ∙ k.at) in
+    let a = happens_one p.world (CarryData (place p.world.sent back)) h.carried k.carried h.carries k.carries in
+    let b = perhaps_one h.carried TakeBegin (TakeEnd ∷ []) q.world r.world h.takes (subst (λ (w : World). Perhaps w TakeBegin (TakeEnd ∷ []) r.world) (sym a) k.takes) in
+    record {
+      past = h.rest ∙ (λ i. record p { world = b i }) ∙ sym k.rest;
+      printed = h.printed_is ∙ (λ i. printed_carry s.id p.world (d i) ∷ []) ∙ sym k.printed_is;
+    }
+
+cancel : (xs a b : List Sent) → xs ++ a ≡ xs ++ b → a ≡ b
+cancel [] a b e = e
+cancel (x ∷ xs) a b e = cancel xs a b (let f : xs ++ a ≡ xs ++ b = cc in f)
+
+look_same : (s : SessionRow) (p : Past) (x : Look) (q r : Past) (xs ys : List Event) → IsLook s p x q xs → IsLook s p x r ys → Same q r xs ys
+look_same s p x q r xs ys h k =
+    let h' = looked p.history x in
+    let c = one_cut s h'.life h.after k.after h.cut_with k.cut_with in
+    let rs : h.replies ≡ k.replies = one_list_of_lives s (p.history.life ∷ p.history.earlier) h.replies k.replies h.are_replies k.are_replies in
+    let all : h.replies ++ h.new ≡ k.replies ++ k.new = one_list_of_lives s (h'.life ∷ h'.earlier) (h.replies ++ h.new) (k.replies ++ k.new) h.are_replies_with k.are_replies_with in
+    let n : h.new ≡ k.new = cancel h.replies h.new k.new (all ∙ ap (λ l. l ++ k.new) (sym rs)) in
+    let w = run_one p.world (offers x.feedback ++ (stored_events (stores h.after) x.arrival ++ acks_of h.new)) q.world r.world h.world
+    (subst (λ (u : List Part × List Sent). Run p.world (offers x.feedback ++ (stored_events (stores u.0) x.arrival ++ acks_of u.1)) r.world) (λ i. (sym c i, sym n i)) k.world) in
+    let hi : q.history ≡ r.history = h.history ∙ sym k.history in
+    let wa : q.waits ≡ r.waits = h.waits ∙ ap (λ (u : List Part). if takes u then drop 1 p.waits else p.waits) c ∙ sym k.waits in
+    let br : q.is_broken ≡ r.is_broken = h.broken ∙ ap (λ (u : List Part). p.is_broken || (takes u && is_bad x.arrival)) c ∙ sym k.broken in
+    let un : q.unread ≡ r.unread = h.unread ∙ sym k.unread in
+    let ti : q.times ≡ r.times = h.times ∙ sym k.times in
+    let se : q.sends ≡ r.sends = h.sends ∙ sym k.sends in
+    let mo : q.moment ≡ r.moment = h.moment ∙ sym k.moment in
+    record {
+      past = λ i. record { history = hi i; waits = wa i; is_broken = br i; unread = un i; world = w i; times = ti i; sends = se i; moment = mo i };
+      printed = h.printed_is ∙ (λ i. printed_store s.id x.moment (stores (c i)) ++ (printed_feedback s.id x.moment x.feedback ++ printed_replies s.id (n i))) ∙ sym k.printed_is;
+    }
+
+look_one : (s : SessionRow) (p : Past) (m w : ℕ) (a : Arrival) (q r : Past) (xs ys : List Event) → IsLowLook s p m w a q xs → IsLowLook s p m w a r ys → Same q r xs ys
+look_one s p m w a q r xs ys (f, h) (g, k) =
+    let c = one_cut s p.history.life h.before k.before h.cut k.cut in
+    let e : f ≡ g = h.told ∙ ap (λ (b : List Part). feedback s p b a) c ∙ sym k.told in
+    look_same s p (look_of m w a f) q r xs ys h (subst (λ (t : Feedback). IsLook s p (look_of m w a t) r ys) (sym e) k)
+
+goes_one : (s : SessionRow) (hand : Option ℕ) (p : Past) (m : ℕ) (q r : Past) (xs ys : List Event) → GoesOn s hand p m q xs → GoesOn s hand p m r ys → Same q r xs ys
+goes_one s None p m q r xs ys h k = record { past = h.0 ∙ sym k.0; printed = h.1 ∙ sym k.1 }
+goes_one s (Some n) p m q r xs ys (mid, a, b, c, t, e) (mid', a', b', c', t', e') =
+    let x = carry_one s p 0 mid mid' a a' c c' in
+    let y = high_one s mid m (Some (place mid.world.returned 0)) q r b b' t (subst (λ (u : Past). IsHighLook s u m (Some (place u.world.returned 0)) r b') (sym x.past) t') in
+    record { past = y.past; printed = e ∙ (λ i. x.printed i ++ y.printed i) ∙ sym e' }
+
+step_one : (s : SessionRow) (p : Past) (line : Line) (q r : Past) (xs ys : List Event) → Step s p line q xs → Step s p line r ys → Same q r xs ys
+step_one s p lines.Skip q r xs ys h k = absurd h
+step_one s p (lines.Session row) q r xs ys h k = absurd h
+step_one s p (lines.Look session m w a) q r xs ys h k = look_one s (joined p session a) m w (first_of p.is_broken (joined p session a).waits) q r xs ys h k
+step_one s p (lines.Gone session m) q r xs ys h k = look_one s (lost p) m 0 Gone q r xs ys h k
+step_one s p (lines.Done session m t) q r xs ys (mid, a, b, h, g, e) (mid', a', b', h', g', e') =
+    let x = high_one s p m None mid mid' a a' h h' in
+    let y = goes_one s mid.world.high_hand mid (m + t) q r b b' g (subst (λ (u : Past). GoesOn s u.world.high_hand u (m + t) r b') (sym x.past) g') in
+    record { past = y.past; printed = e ∙ (λ i. x.printed i ++ y.printed i) ∙ sym e' }
+
+-- ---- scripts ----
+
+record Alike (a b : Option Running) (xs ys : List Event) : Type 0 where
+  after : a ≡ b
+  printed : xs ≡ ys
+
+goes_one_way : (s : Running) (line : Line) (a b : Option Running) (xs ys : List Event) → Goes s line a xs → Goes s line b ys → Alike a b xs ys
+goes_one_way s line a b xs ys (can, (q, h, e)) (can', (r, k, f)) =
+    let x = step_one s.row s.past line q r xs ys h k in
+    record { after = e ∙ ap (λ (t : Past). Some (record { row = s.row; past = t })) x.past ∙ sym f; printed = x.printed }
+
+leads_one : (running : Option Running) (line : Line) (a b : Option Running) (xs ys : List Event) → Leads running line a xs → Leads running line b ys → Alike a b xs ys
+leads_one None lines.Skip a b xs ys h k = record { after = h.0 ∙ sym k.0; printed = h.1 ∙ sym k.1 }
+leads_one (Some s) lines.Skip a b xs ys h k = record { after = h.0 ∙ sym k.0; printed = h.1 ∙ sym k.1 }
+leads_one None (lines.Session row) a b xs ys h k = record { after = h.0.1 ∙ sym k.0.1; printed = h.1 ∙ sym k.1 }
+leads_one None (lines.Look session m w z) a b xs ys h k = absurd h
+leads_one None (lines.Gone session m) a b xs ys h k = absurd h
+leads_one None (lines.Done session m t) a b xs ys h k = absurd h
+leads_one (Some s) (lines.Session row) a b xs ys h k = goes_one_way s (lines.Session row) a b xs ys h k
+leads_one (Some s) (lines.Look session m w z) a b xs ys h k = goes_one_way s (lines.Look session m w z) a b xs ys h k
+leads_one (Some s) (lines.Gone session m) a b xs ys h k = goes_one_way s (lines.Gone session m) a b xs ys h k
+leads_one (Some s) (lines.Done session m t) a b xs ys h k = goes_one_way s (lines.Done session m t) a b xs ys h k
+
+lead_one : (running : Option Running) (script : List Line) (a b : Option Running) (xs ys : List Event) → LeadTo running script a xs → LeadTo running script b ys → Alike a b xs ys
+lead_one running [] a b xs ys h k = record { after = h.0 ∙ sym k.0; printed = h.1 ∙ sym k.1 }
+lead_one running (line ∷ script) a b xs ys (mid, c, d, h, t, e) (mid', c', d', h', t', e') =
+    let x = leads_one running line mid mid' c c' h h' in
+    let y = lead_one mid script a b d d' t (subst (λ (u : Option Running). LeadTo u script b d') (sym x.after) t') in
+    record { after = y.after; printed = e ∙ (λ i. x.printed i ++ y.printed i) ∙ sym e' }
+
+pub transcript_one : (script : List Line) (xs ys : List Event) → IsTranscript script xs → IsTranscript script ys → xs ≡ ys
+transcript_one script xs ys (a, c, h, e) (b, d, k, f) =
+    let x = lead_one None script a b c d h k in
+    e ∙ (λ i. x.printed i ++ ends (x.after i)) ∙ sym f

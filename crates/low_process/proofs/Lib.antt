@@ -1,0 +1,6 @@
+pub mod Asked
+pub mod Effects
+pub mod Greetings
+pub mod Keeping
+pub mod Looking
+pub mod Offering

@@ -1,0 +1,38 @@
+use Rattle.std.proofs.Common.{sym, ◌∙◌}
+use Rattle.low_process.specs.Looks.{arrival_of, StandsFor, AsksFor}
+use Rattle.low_process.proofs.Looking.{look_from}
+use Rattle.low_process.proofs.process.LowProcess.look.Goals as goal
+
+pub returns-in-Forward-clause-looks : goal.returns-in-Forward-clause-looks
+returns-in-Forward-clause-looks g c =
+    let a = arrival_of c.args.arrival in
+    let r = c.begin.new.self in
+    let begun = c.in-Forward.ensures.begins in
+    let d = begun.0 in
+    let step = begun.1 in (
+      d,
+      record {
+        looks = look_from (λ h. AsksFor r h c.args.moment c.args.word a d) (StandsFor c.args.self.now) _ _ _ _ _
+            c.begin.ensures.row step.begins.1 (c.offer_hand.ensures.looks c.args.moment c.args.word a d);
+        keeps = step.keeps;
+        falls = c.offer_hand.ensures.up ∙ sym c.in-Forward.ensures.hand.3 ∙ step.falls;
+        refuses = λ e. (let none = sym c.offer_hand.ensures.reply ∙ e in absurd (cc));
+      },
+    )
+
+pub returns-in-Average-clause-looks : goal.returns-in-Average-clause-looks
+returns-in-Average-clause-looks g c =
+    let a = arrival_of c.args.arrival in
+    let r = c.begin.new.self in
+    let begun = c.in-Average.ensures.begins in
+    let d = begun.0 in
+    let step = begun.1 in (
+      d,
+      record {
+        looks = look_from (λ h. AsksFor r h c.args.moment c.args.word a d) (StandsFor c.args.self.now) _ _ _ _ _
+            c.begin.ensures.row step.begins.1 (c.finish.ensures.looks c.args.moment c.args.word a d);
+        keeps = step.keeps;
+        falls = c.finish.ensures.up ∙ sym c.in-Average.ensures.hand.2 ∙ step.falls;
+        refuses = λ e. (let none = sym c.finish.ensures.reply ∙ e in absurd (cc));
+      },
+    )

@@ -1,0 +1,13 @@
+use Rattle.std.proofs.Common.{None, Some, refl, ap, sym}
+use Rattle.std.specs.Prelude.{if◌then◌else◌}
+use Rattle.low_process.specs.Looks.{arrival_of, phase_of}
+use Rattle.low_process.proofs.process.LowProcess.step.Goals as goal
+
+pub returns-in-Waiting-clause-step : goal.returns-in-Waiting-clause-step
+returns-in-Waiting-clause-step c =
+    (c.wait.ensures.quiet, c.wait.ensures.step (arrival_of c.args.arrival) c.args.is_fault c.is_gone.ensures)
+
+pub returns-else-is_gone-clause-step : goal.returns-else-is_gone-clause-step
+returns-else-is_gone-clause-step c =
+    let i = c.in-Passing in
+    (refl, refl, ((if i.is_owed then Some i.item.number else None, ap phase_of i.is), sym c.if-is_gone.ensures))

@@ -1,0 +1,12 @@
+//! The low process: it takes the low party's messages, stores them, passes them on, and acknowledges
+//! each after a random delay. `docs/definitions.md`, "Low histories", tells what its replies are.
+#![tactic(auto)]
+
+mod frames;
+mod look;
+mod process;
+mod store;
+mod values;
+
+pub use process::LowProcess;
+pub use values::{Answer, Arrival, Ask, LowLook};

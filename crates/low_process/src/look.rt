@@ -1,0 +1,158 @@
+ghost use Rattle.std.specs.Prelude.{◌≡◌, ℕ, ◌+◌, ◌^◌, ◌<◌, ◌≤◌, Bool, true, false, List, Option, Some, None};
+ghost use Rattle.disk_model.specs.Disk.{Leaves};
+ghost use Rattle.stable_buffer.specs.Stands.{LowStands};
+ghost use Rattle.stable_buffer.specs.Low.{low_disk, low_row};
+ghost use Rattle.pump_core.specs.History.{Arrival as Offered};
+ghost use Rattle.pump_core.specs.Passage.{Low, High, ComesNext};
+ghost use Rattle.low_process.specs.declared.values.Asking.TheVariants.{Forward as AsksForward};
+ghost use Rattle.low_process.specs.Looks.{Answers, IsBetweenLooks, AsksToForward, AsksFor, IsLawful, Looks, HandBegins, arrival_of, look_of, row_of, next_of, last_of, is_down, owes, hand_of, hand_after, hand_passed};
+ghost use Rattle.low_process.specs.Ends.{OfferStep, EndStep, FitsEnd, StandsFitting};
+ghost use Rattle.low_process.specs.Whole.{HasStore, BeginStep, LookStep, KeepsAcknowledged, HasOrGains, reply_in};
+
+use crate::LowProcess;
+use crate::store::store_message;
+use crate::values::{Answer, Arrival, Ask, LowLook};
+use disk_model::Disk;
+use passage::{Forwarded, LowEnd};
+use pump_core::Seen;
+use pump_frame::Item;
+use stable_buffer::LowStore;
+
+// What stands in an answer whose average nobody needs.
+const UNREAD: Seen = Seen {
+    count: 0,
+    average: 0,
+};
+
+// Offers a message, and reads the average where it passed and an acknowledgement is owed.
+fn offer<L: LowEnd>(item: Item, is_owed: bool, ends: &mut L) -> Answer
+    requires { (l : Low) × (h : High) × L.stands ends.old l h × ComesNext l.forwarded item.number × (item.number < 2 ^ 48) }
+    ensures same { (L.shape ends.new ≡ L.shape ends.old) × (L.place ends.new ≡ L.place ends.old) }
+    ensures fits { Answers AsksForward result }
+    ensures step { (l : Low) (h : High) → L.stands ends.old l h → ComesNext l.forwarded item.number
+        → OfferStep (L.shape ends.old) L.exact (L.stands ends.new) l h item is_owed result }
+{
+    match ends.forward(item) {
+        Forwarded::Full(_) => Answer::Full,
+        Forwarded::Passed => {
+            if is_owed {
+                Answer::Passed(ends.average())
+            } else {
+                Answer::Passed(UNREAD)
+            }
+        }
+    }
+}
+
+impl LowProcess {
+    /// The first half of a look: of this moment in microseconds, which is not below the last one
+    /// and at most 2^62, with this random word and this arrival. It stores what the arrival asks to
+    /// store. A crash at any moment leaves what was stored before it, or this message too; after a
+    /// device fault the process is down, and it replies nothing from then on.
+    pub fn begin<D: Disk>(
+        &mut self,
+        moment: u64,
+        word: u32,
+        arrival: Arrival,
+        store: &mut LowStore<D>,
+    ) -> Ask
+        requires between { IsBetweenLooks self.old }
+        requires order { last_of self.old ≤ moment }
+        requires moment { moment ≤ 2 ^ 62 }
+        requires lawful { IsLawful (arrival_of arrival) }
+        requires store { HasStore D.told self.old store.old }
+
+        ensures begins { (is_fault : Bool) × BeginStep D.told self.old self.new store.old store.new
+            moment word (arrival_of arrival.entry) is_fault result }
+        ensures store { HasStore D.told self.new store.new }
+        ensures images { (b : ℕ) (messages : List (List ℕ)) → is_down self.old ≡ false
+            → next_of self.old + 1 ≤ b + (low_row store.old).capacity
+            → (D.told.tells → LowStands (low_row store.old) (next_of self.old) b messages
+            (D.told.reading (low_disk store.old)))
+            → Leaves D.told (low_disk store.old) (low_disk store.new)
+            (HasOrGains (low_row store.old) (next_of self.old) b messages (arrival_of arrival.entry)) }
+        ensures down { is_down self.old ≡ true → (store.new ≡ store.old) × (reply_in result ≡ None) }
+        ensures acknowledged { KeepsAcknowledged D.told (row_of self.old) (reply_in result) (low_disk store.new) }
+
+        ensures hand { HandBegins self.old self.new (arrival_of arrival.entry) result }
+        ensures fits { (l : Low) → FitsEnd self.old l → FitsEnd self.new l }
+        ensures row { row_of self.new ≡ row_of self.old }
+        ensures last { last_of self.new ≡ moment }
+    {
+        let message = self.wanted(&arrival);
+        let is_fault = store_message(message, store);
+        self.step(moment, word, arrival, is_fault)
+    }
+
+    // Offers the message in the hand, and ends the look.
+    fn offer_hand<L: LowEnd>(&mut self, item: Item, ends: &mut L) -> LowLook
+        requires asking { AsksToForward self.old }
+        requires hand { hand_of self.old ≡ Some item }
+        requires number { item.number + 1 ≡ next_of self.old }
+        requires ends { (l : Low) × (h : High) × L.stands ends.old l h × ComesNext l.forwarded item.number }
+
+        ensures looks { (moment word : ℕ) (arrival : Offered) (is_fault : Bool) →
+            Looks (λ h. AsksFor self.old h moment word arrival is_fault) self.new (row_of self.old)
+            (look_of moment word arrival is_fault result.feedback) result }
+        ensures reply { result.reply ≡ None }
+        ensures stored { result.stored ≡ None }
+        ensures hand { hand_of self.new ≡ hand_passed (hand_of self.old) result.feedback }
+        ensures row { row_of self.new ≡ row_of self.old }
+        ensures next { next_of self.new ≡ next_of self.old }
+        ensures last { last_of self.new ≡ last_of self.old }
+        ensures up { is_down self.new ≡ false }
+        ensures same { (L.shape ends.new ≡ L.shape ends.old) × (L.place ends.new ≡ L.place ends.old) }
+        ensures ends { (l : Low) (h : High) → L.stands ends.old l h → ComesNext l.forwarded item.number
+            → EndStep (L.shape ends.old) L.exact (StandsFitting (L.stands ends.new) self.new) l h
+            (Some item) result.feedback }
+    {
+        let answer = offer(item, self.owes(), ends);
+        self.finish(answer)
+    }
+
+    /// A whole look over the store and the low end of the passage: `begin`, what it asks of the end,
+    /// and `finish`. Unless the process is down, where an item was forwarded to the end before, the
+    /// last one has the number before that of the message in the hand, or before `next()` where the
+    /// hand is empty; afterwards this holds again.
+    pub fn look<D: Disk, L: LowEnd>(
+        &mut self,
+        moment: u64,
+        word: u32,
+        arrival: Arrival,
+        store: &mut LowStore<D>,
+        ends: &mut L,
+    ) -> LowLook
+        requires between { IsBetweenLooks self.old }
+        requires order { last_of self.old ≤ moment }
+        requires moment { moment ≤ 2 ^ 62 }
+        requires lawful { IsLawful (arrival_of arrival) }
+        requires store { HasStore D.told self.old store.old }
+        requires ends { (l : Low) × (h : High) × StandsFitting (L.stands ends.old) self.old l h }
+
+        ensures looks { (is_fault : Bool) × LookStep D.told self.old self.new store.old store.new
+            moment word (arrival_of arrival.entry) is_fault result }
+        ensures store { HasStore D.told self.new store.new }
+        ensures images { (b : ℕ) (messages : List (List ℕ)) → is_down self.old ≡ false
+            → next_of self.old + 1 ≤ b + (low_row store.old).capacity
+            → (D.told.tells → LowStands (low_row store.old) (next_of self.old) b messages
+            (D.told.reading (low_disk store.old)))
+            → Leaves D.told (low_disk store.old) (low_disk store.new)
+            (HasOrGains (low_row store.old) (next_of self.old) b messages (arrival_of arrival.entry)) }
+        ensures down { is_down self.old ≡ true → (store.new ≡ store.old) × (result.reply ≡ None) }
+        ensures acknowledged { KeepsAcknowledged D.told (row_of self.old) result.reply (low_disk store.new) }
+
+        ensures hand { hand_of self.new ≡ hand_after (hand_of self.old) (arrival_of arrival.entry) result }
+        ensures row { row_of self.new ≡ row_of self.old }
+        ensures last { last_of self.new ≡ moment }
+        ensures same { (L.shape ends.new ≡ L.shape ends.old) × (L.place ends.new ≡ L.place ends.old) }
+        ensures ends { (l : Low) (h : High) → StandsFitting (L.stands ends.old) self.old l h
+            → EndStep (L.shape ends.old) L.exact (StandsFitting (L.stands ends.new) self.new) l h
+            (hand_of self.old) result.feedback }
+    {
+        match self.begin(moment, word, arrival, store) {
+            Ask::Done(look) => look,
+            Ask::Forward(item) => self.offer_hand(item, ends),
+            Ask::Average => self.finish(Answer::Average(ends.average())),
+        }
+    }
+}

@@ -9,6 +9,7 @@ pub mod LookLaws
 pub mod MomentLaws
 pub mod NextLaws
 pub mod One
+pub mod OneEnd
 pub mod OneReading
 pub mod Replying
 pub mod SessionLaws

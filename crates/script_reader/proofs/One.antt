@@ -163,16 +163,16 @@ step_one s p (lines.Done session m t) q r xs ys (mid, a, b, h, g, e) (mid', a', 
 
 -- ---- scripts ----
 
-record Alike (a b : Option Running) (xs ys : List Event) : Type 0 where
-  after : a ≡ b
-  printed : xs ≡ ys
+pub record Alike (a b : Option Running) (xs ys : List Event) : Type 0 where
+  pub after : a ≡ b
+  pub printed : xs ≡ ys
 
 goes_one_way : (s : Running) (line : Line) (a b : Option Running) (xs ys : List Event) → Goes s line a xs → Goes s line b ys → Alike a b xs ys
 goes_one_way s line a b xs ys (can, (q, h, e)) (can', (r, k, f)) =
     let x = step_one s.row s.past line q r xs ys h k in
     record { after = e ∙ ap (λ (t : Past). Some (record { row = s.row; past = t })) x.past ∙ sym f; printed = x.printed }
 
-leads_one : (running : Option Running) (line : Line) (a b : Option Running) (xs ys : List Event) → Leads running line a xs → Leads running line b ys → Alike a b xs ys
+pub leads_one : (running : Option Running) (line : Line) (a b : Option Running) (xs ys : List Event) → Leads running line a xs → Leads running line b ys → Alike a b xs ys
 leads_one None lines.Skip a b xs ys h k = record { after = h.0 ∙ sym k.0; printed = h.1 ∙ sym k.1 }
 leads_one (Some s) lines.Skip a b xs ys h k = record { after = h.0 ∙ sym k.0; printed = h.1 ∙ sym k.1 }
 leads_one None (lines.Session row) a b xs ys h k = record { after = h.0.1 ∙ sym k.0.1; printed = h.1 ∙ sym k.1 }

@@ -6,11 +6,11 @@ use Rattle.script_reader.specs.Lines.{AreLines}
 use Rattle.script_reader.proofs.LineEnds.{one_front}
 use Rattle.script_reader.proofs.LineLaws.{one_line}
 
-taken : (all bytes : List ℕ) (mid : Option (List ℕ)) → Consumes (Some all) mid (bytes ++ 10 ∷ []) → (rest : List ℕ) × (mid ≡ Some rest) × (all ≡ bytes ++ 10 ∷ rest)
+pub taken : (all bytes : List ℕ) (mid : Option (List ℕ)) → Consumes (Some all) mid (bytes ++ 10 ∷ []) → (rest : List ℕ) × (mid ≡ Some rest) × (all ≡ bytes ++ 10 ∷ rest)
 taken all bytes None h = absurd h
 taken all bytes (Some rest) h = (rest, refl, h ∙ append_assoc bytes (10 ∷ []) rest)
 
-not_nothing : (bytes rest : List ℕ) → bytes ++ 10 ∷ rest ≡ [] → ⊥
+pub not_nothing : (bytes rest : List ℕ) → bytes ++ 10 ∷ rest ≡ [] → ⊥
 not_nothing [] rest e = cc
 not_nothing (b ∷ bytes) rest e = cc
 

@@ -1,9 +1,10 @@
-ghost use Rattle.std.specs.Prelude.{◌≡◌, ℕ, List, [], None, Some};
+ghost use Rattle.std.specs.Prelude.{◌≡◌, ℕ, List, [], Option, None, Some};
 ghost use Rattle.script_reader.specs.declared.line.Line.{Line};
 ghost use Rattle.script_reader.specs.Lines.{AreLines};
 ghost use Rattle.pump_core.specs.Replies.{LowReplies};
 ghost use Rattle.script_reader.specs.declared.event.Event.{Event as Printed};
 ghost use Rattle.script_reader.specs.Scripts.{Running, LeadTo, IsTranscript};
+ghost use Rattle.script_reader.specs.Faults.{IsFaultyNext};
 ghost use Rattle.script_reader.specs.Readouts.{low_lines, KeepsBounds};
 
 /// The bytes of a whole script are one list of lines at most.
@@ -29,4 +30,12 @@ pub fn transcripts_are_bounded()
 pub fn transcripts_are_one()
     ensures { (script : List Line) (xs ys : List Printed) →
         IsTranscript script xs → IsTranscript script ys → xs ≡ ys }
+{}
+
+/// A script with a line that is outside the grammar, or can't be applied after the lines before it,
+/// has no transcript.
+pub fn faulty_scripts_have_no_transcript()
+    ensures { (all rest : List ℕ) (lines script : List Line) (running : Option Running) (events printed : List Printed) →
+        AreLines (Some all) lines (Some rest) → LeadTo None lines running events → IsFaultyNext rest running →
+        AreLines (Some all) script (Some []) → IsTranscript script printed → ⊥ }
 {}

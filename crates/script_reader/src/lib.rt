@@ -13,7 +13,10 @@ mod reading;
 
 pub use event::Event;
 pub use fault::Fault;
-pub use laws::{low_lines_are_replies, one_reading, transcripts_are_bounded, transcripts_are_one};
+pub use laws::{
+    faulty_scripts_have_no_transcript, low_lines_are_replies, one_reading, transcripts_are_bounded,
+    transcripts_are_one,
+};
 pub use line::{Arriving, Line};
 pub use lines::{Lined, Lines};
 pub use printing::{print_event, print_fault};

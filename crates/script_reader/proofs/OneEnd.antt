@@ -1,0 +1,78 @@
+-- A script with a faulty line has no transcript.
+use Rattle.std.proofs.Common.{◌≡◌, inl, inr, ℕ, List, [], ◌∷◌, ◌++◌, Option, None, Some, sym, ◌∙◌, subst}
+use Rattle.std.proofs.lemmas.Bool.{both_ways}
+use Rattle.script_reader.specs.declared.event.Event.{Event}
+use Rattle.script_reader.specs.declared.line.Line.{Line}
+use Rattle.script_reader.specs.declared.line.Line.TheVariants as lines
+use Rattle.script_reader.specs.Grammar.{IsLine}
+use Rattle.script_reader.specs.Lines.{AreLines, IsUnended}
+use Rattle.script_reader.specs.Scripts.{Running, Leads, LeadTo, IsRefused, IsTranscript}
+use Rattle.script_reader.specs.Faults.{IsFaultyNext}
+use Rattle.script_reader.proofs.LineEnds.{one_front}
+use Rattle.script_reader.proofs.LineLaws.{one_line}
+use Rattle.script_reader.proofs.OneReading.{taken, not_nothing}
+use Rattle.script_reader.proofs.One.{leads_one}
+
+no_key : {A : Type 0} (o : Option A) (x : A) → o ≡ None → o ≡ Some x → ⊥
+no_key o x e f = cc
+
+-- a line that can't be applied leads nowhere
+refused_leads : (running : Option Running) (line : Line) (mid : Option Running) (printed : List Event) → IsRefused running line → Leads running line mid printed → ⊥
+refused_leads running lines.Skip mid printed r h = absurd r
+refused_leads None (lines.Session row) mid printed r h = no_key _ r.0 h.0.0 r.1
+refused_leads None (lines.Look session m w a) mid printed r h = absurd h
+refused_leads None (lines.Gone session m) mid printed r h = absurd h
+refused_leads None (lines.Done session m t) mid printed r h = absurd h
+refused_leads (Some s) (lines.Session row) mid printed r h = both_ways _ r h.0
+refused_leads (Some s) (lines.Look session m w a) mid printed r h = both_ways _ r h.0
+refused_leads (Some s) (lines.Gone session m) mid printed r h = both_ways _ r h.0
+refused_leads (Some s) (lines.Done session m t) mid printed r h = both_ways _ r h.0
+
+-- no line stands at the end
+end_is_fine : (running : Option Running) (rest : List ℕ) → rest ≡ [] → IsFaultyNext rest running → ⊥
+end_is_fine running rest e f =
+    elim f [
+      | inl bad ↦ bad.some e
+      | inr r ↦
+          let t = taken rest r.2.0 r.2.1 r.2.4 in
+          not_nothing r.2.0 t.0 (sym t.2 ∙ e)
+    ]
+
+-- the next line is the one that there is
+next_is_fine : (running mid : Option Running) (rest bytes left : List ℕ) (line : Line) (printed : List Event) → rest ≡ bytes ++ 10 ∷ left → IsUnended bytes → IsLine line bytes
+    → Leads running line mid printed → IsFaultyNext rest running → ⊥
+next_is_fine running mid rest bytes left line printed e u i h f =
+    elim f [
+      | inl bad ↦ bad.bad line bytes left (record { unended = u; spelled = i; whole = e })
+      | inr r ↦
+          let t = taken rest r.2.0 r.2.1 r.2.4 in
+          let same = one_front bytes r.2.0 left t.0 u r.2.2 (sym e ∙ t.2) in
+          let line_is : line ≡ r.0 = one_line bytes line r.0 i (rw same.0 r.2.3) in
+          refused_leads running line mid printed (subst (λ l. IsRefused running l) (sym line_is) r.3) h
+    ]
+
+both_end : (all rest : List ℕ) (ls script : List Line) (from running after : Option Running) (events body : List Event)
+    → AreLines (Some all) ls (Some rest) → LeadTo from ls running events → IsFaultyNext rest running
+    → AreLines (Some all) script (Some []) → LeadTo from script after body → ⊥
+both_end all rest [] [] from running after events body p h f q k =
+    end_is_fine running rest (p ∙ sym q) f
+both_end all rest [] (x ∷ xs) from running after events body p h f q k =
+    let t = taken all q.0 q.1 q.4 in
+    next_is_fine from k.0 rest q.0 t.0 x k.1 (p ∙ t.2) q.2 q.3 k.3 (subst (λ r. IsFaultyNext rest r) h.0 f)
+both_end all rest (x ∷ xs) [] from running after events body p h f q k =
+    let t = taken all p.0 p.1 p.4 in
+    not_nothing p.0 t.0 (sym t.2 ∙ sym q)
+both_end all rest (x ∷ xs) (y ∷ ys) from running after events body p h f q k =
+    let t = taken all p.0 p.1 p.4 in
+    let u = taken all q.0 q.1 q.4 in
+    let same = one_front p.0 q.0 t.0 u.0 p.2 q.2 (sym t.2 ∙ u.2) in
+    let first : x ≡ y = one_line q.0 x y (rw same.0 at p.3) q.3 in
+    let left : AreLines (Some u.0) xs (Some rest) = rw (t.1, same.1) at p.5 in
+    let right : AreLines (Some u.0) ys (Some []) = rw u.1 at q.5 in
+    let led = leads_one from x h.0 k.0 h.1 k.1 h.3 (subst (λ l. Leads from l k.0 k.1) (sym first) k.3) in
+    both_end u.0 rest xs ys h.0 running after h.2 k.2 left h.4 f right (subst (λ r. LeadTo r ys after k.2) (sym led.after) k.4)
+
+pub faulty_scripts : (all rest : List ℕ) (ls script : List Line) (running : Option Running) (events printed : List Event)
+    → AreLines (Some all) ls (Some rest) → LeadTo None ls running events → IsFaultyNext rest running
+    → AreLines (Some all) script (Some []) → IsTranscript script printed → ⊥
+faulty_scripts all rest ls script running events printed p h f q k = both_end all rest ls script None running k.0 events k.1 p h f q k.2

@@ -119,8 +119,12 @@ mod tests {
     use super::*;
     use std::alloc::AllocError;
 
-    fn two_looks<L: Link>(link: &mut L) -> [Looked; 2] {
-        [link.look(), link.look()]
+    fn looks<L: Link>(link: &mut L) -> [Looked; 4] {
+        [link.look(), link.look(), link.look(), link.look()]
+    }
+
+    fn sends<L: Link>(link: &mut L) -> [Result<(), SendFault>; 3] {
+        [link.send(b"ab"), link.send(b"c"), link.send(b"cd")]
     }
 
     #[test]
@@ -128,15 +132,19 @@ mod tests {
         let alloc = rt.alloc();
         let arrivals = vec![in alloc; Looked::NotYet, Looked::Byte(65), Looked::Failed]?;
         let mut link = MemLink::new(arrivals, vec![in alloc; 0; 3]?, vec![in alloc; 1]?);
-        assert_eq!(rt; two_looks(&mut link), [Looked::NotYet, Looked::Byte(65)]);
-        assert_eq!(rt; two_looks(&mut link), [Looked::Failed, Looked::Ended]);
-        assert_eq!(rt; link.faults(), 1);
-        assert_eq!(rt; link.send(b"ab"), Ok(()));
-        assert_eq!(rt; link.send(b"c"), Err(SendFault));
-        assert_eq!(rt; link.sent(), b"ab");
-        assert_eq!(rt; link.send(b"cd"), Err(SendFault));
-        assert_eq!(rt; link.sent(), b"abc");
-        assert_eq!(rt; link.faults(), 3);
+        let looks = looks(&mut link);
+        assert_eq!(rt;
+            looks,
+            [
+                Looked::NotYet,
+                Looked::Byte(65),
+                Looked::Failed,
+                Looked::Ended
+            ]
+        );
+        let sends = sends(&mut link);
+        assert_eq!(rt; sends, [Ok(()), Err(SendFault), Err(SendFault)]);
+        assert_eq!(rt; (link.sent(), link.faults()), (b"abc".as_slice(), 3));
         Ok(())
     }
 }

@@ -196,16 +196,11 @@ mod tests {
         let alloc = rt.alloc();
         let links = vec![in alloc; link_of(alloc, 1)?, link_of(alloc, 2)?]?;
         let mut ports = MemPorts::new(links, vec![in alloc; 1]?);
-        assert_eq!(rt;
-            serve(&mut ports, 9),
-            Some([Looked::Byte(1), Looked::NotYet])
-        );
-        assert_eq!(rt; ports.given_back().len(), 1);
-        assert_eq!(rt; serve(&mut ports, 9), None);
-        assert_eq!(rt; call(&mut ports, 9), Some(Looked::Byte(2)));
-        assert_eq!(rt; call(&mut ports, 9), None);
-        assert_eq!(rt; ports.given_back().len(), 2);
-        assert_eq!(rt; ports.faults(), 2);
+        let served = [serve(&mut ports, 9), serve(&mut ports, 9)];
+        assert_eq!(rt; served, [Some([Looked::Byte(1), Looked::NotYet]), None]);
+        let called = [call(&mut ports, 9), call(&mut ports, 9)];
+        assert_eq!(rt; called, [Some(Looked::Byte(2)), None]);
+        assert_eq!(rt; (ports.given_back().len(), ports.faults()), (2, 2));
         Ok(())
     }
 }

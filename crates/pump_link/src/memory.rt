@@ -172,16 +172,18 @@ mod tests {
     fn pieces_and_faults(rt: HostRuntime) -> Result<(), AllocError> {
         let alloc = rt.alloc();
         let mut source = MemSource::new(vec![in alloc; 7, 8, 9]?, 2, vec![in alloc; 1]?);
-        assert_eq!(rt; take(&mut source), (Ok(2), [7, 8, 0, 0]));
-        assert_eq!(rt; take(&mut source), (Err(ReadFault), [0; 4]));
-        assert_eq!(rt; take(&mut source), (Ok(1), [9, 0, 0, 0]));
-        assert_eq!(rt; take(&mut source), (Ok(0), [0; 4]));
-        assert_eq!(rt; source.faults(), 1);
+        let taken = [take(&mut source), take(&mut source), take(&mut source)];
+        assert_eq!(rt;
+            taken,
+            [
+                (Ok(2), [7, 8, 0, 0]),
+                (Err(ReadFault), [0; 4]),
+                (Ok(1), [9, 0, 0, 0])
+            ]
+        );
         let mut sink = MemSink::new(vec![in alloc; 0; 8]?, 3, vec![in alloc; 3]?);
-        assert_eq!(rt; put(&mut sink), Ok(()));
-        assert_eq!(rt; put(&mut sink), Err(WriteFault));
-        assert_eq!(rt; sink.written(), b"pumppum");
-        assert_eq!(rt; sink.faults(), 1);
+        assert_eq!(rt; [put(&mut sink), put(&mut sink)], [Ok(()), Err(WriteFault)]);
+        assert_eq!(rt; (sink.written(), sink.faults()), (b"pumppum".as_slice(), 1));
         Ok(())
     }
 }

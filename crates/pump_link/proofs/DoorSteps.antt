@@ -1,5 +1,5 @@
 -- What a door in memory did, after one step more.
-use Rattle.std.proofs.Common.{◌≡◌, ℕ, List, [], ◌∷◌, ◌++◌, Option, None, Some, refl, sym, ap, subst, ◌∙◌, append-nil}
+use Rattle.std.proofs.Common.{◌≡◌, List, [], ◌∷◌, ◌++◌, Option, None, Some, refl, sym, ap, subst, ◌∙◌, append-nil}
 use Rattle.pump_link.specs.Doors.{DoorStep, CameLink, NoLink, FailedAccept, BackLink, answers_of, last_back, Answered, DidSteps, ComesFrom, answered, accepted}
 use Rattle.pump_link.specs.Tells.{Draws, Grows}
 use Rattle.pump_link.specs.declared.door.Accepted.{Accepted}

@@ -1,9 +1,8 @@
 -- What ports in memory did and will answer, after one step more.
-use Rattle.std.proofs.Common.{◌≡◌, ℕ, zero, suc, ◌+◌, ◌-◌, ◌≤◌, ◌<◌, ◌⊎◌, Bool, true, false, List, [], ◌∷◌, ◌++◌, length, take, drop, Contains, Option, None, Some, refl, sym, ap, subst, ◌∙◌, append_assoc, append-nil, arith, length-append}
+use Rattle.std.proofs.Common.{◌≡◌, ℕ, zero, suc, ◌+◌, ◌-◌, ◌≤◌, ◌<◌, true, false, List, [], ◌∷◌, ◌++◌, length, take, drop, Option, None, Some, refl, sym, ap, subst, ◌∙◌, append_assoc, append-nil, arith, length-append}
 use Rattle.std.proofs.lemmas.List.{take_at, drop_at, length-take-le}
-use Rattle.pump_link.specs.Causes.{raised}
 use Rattle.pump_link.specs.Doors.{MemoryDoor}
-use Rattle.pump_link.specs.Ports.{PortsStep, Listened, NoDoor, Connected, NoConnection, BackToPorts, ShutDoor, MemoryPorts, AnswersFrom, DidPorts, backs, last_port, option_list, first_of}
+use Rattle.pump_link.specs.Ports.{PortsStep, Listened, NoDoor, Connected, NoConnection, BackToPorts, ShutDoor, MemoryPorts, AnswersFrom, DidPorts, backs, last_port, option_list}
 use Rattle.pump_link.specs.Tells.{Draws, Grows}
 
 -- an insert behind the front

@@ -1,4 +1,4 @@
-use Rattle.std.proofs.Common.{◌≡◌, ◌+◌, ◌-◌, ◌<◌, ◌∷◌, ◌++◌, [], take, drop, vec_len, vec_capacity, arith, ap, sym, ◌∙◌}
+use Rattle.std.proofs.Common.{◌+◌, ◌<◌, ◌∷◌, ◌++◌, [], take, drop, vec_len, vec_capacity, arith, ap, ◌∙◌}
 use Rattle.pump_link.proofs.PortsSteps.{insert_front, insert_rest, same_fields}
 use Rattle.pump_link.proofs.mem_ports.MemPorts.keep.Goals as goal
 

@@ -1,4 +1,4 @@
-use Rattle.std.proofs.Common.{◌≡◌, ◌≤◌, ◌+◌, ◌-◌, [], min, take, length, drop, arith, length-drop, length-take, sym, ap, ◌∙◌}
+use Rattle.std.proofs.Common.{◌≡◌, ◌+◌, min, take, length, drop, arith, length-drop, sym, ap, ◌∙◌}
 use Rattle.std.proofs.lemmas.List.{take_rest, drop_all}
 use Rattle.pump_link.proofs.Known.{front_and_rest}
 use Rattle.pump_link.proofs.memory.MemSourceSource.read.Goals as goal

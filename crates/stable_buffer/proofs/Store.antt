@@ -1,9 +1,9 @@
 -- The calls of a store, one after another.
-use Rattle.std.proofs.Common.{◌≡◌, ℕ, ◌+◌, ◌≤◌, List, [], ◌∷◌, ◌++◌, sym, ◌∙◌, ap, subst}
-use Rattle.disk_model.specs.Disk.{Meaning, Moves, Each, Settled}
-use Rattle.disk_model.proofs.Run.{weaker, goes_on, each_settled, each_both}
+use Rattle.std.proofs.Common.{◌≡◌, inl, ℕ, ◌+◌, ◌≤◌, List, [], ◌∷◌, ◌++◌, sym, ◌∙◌, ap, subst}
+use Rattle.disk_model.specs.Disk.{Meaning, Moves, Each, Settled, Leaves}
+use Rattle.disk_model.proofs.Run.{weaker, goes_on, each_settled, each_both, leaves}
 use Rattle.stable_buffer.specs.Register.{SameOutside, value_of, KeepsValue, MayTurnTo, Selects}
-use Rattle.stable_buffer.specs.Stands.{InSlot, StandsOn, MayGain, Gains}
+use Rattle.stable_buffer.specs.Stands.{InSlot, LowStands, StandsOn, MayGain, Gains, StandsOrGains, HighStands, MayRemove, StandsOrRemoves}
 use Rattle.pump_frame.specs.declared.row.SessionRow.{SessionRow}
 use Rattle.stable_buffer.proofs.Slots.{register_stands_on, on_after, gain_after, on_gains, turn_gains, slot_stays, register_gains, with_room}
 use Rattle.stable_buffer.specs.Low.{StandsForCount}
@@ -50,3 +50,16 @@ module _ {D : Type 0} (m : Meaning D) (row : SessionRow) (message : List ℕ) wh
   pub stands_after : (first : ℕ) (old new : List ℕ) → 1 ≤ row.capacity → Gains row message old new → StandsForCount row first old → StandsForCount row (first + 1) new
   stands_after first old new some gains stands =
       let free = with_room row first stands.0 stands.1 old some stands.2 in (free.b, free.messages ++ message ∷ [], gains.more first free.b free.messages free.free free.stands)
+
+  -- what a crash at any moment since the start leaves
+  pub stored_during : (E b : ℕ) (messages : List (List ℕ)) (old new : D) → Settled m old → E + 1 ≤ b + row.capacity → LowStands row E b messages (m.reading old)
+      → Moves m (MayGain row message) old new → Leaves m old new (StandsOrGains row E b messages message)
+  stored_during E b messages old new settled free stands moved =
+      leaves m (LowStands row E b messages) (StandsOrGains row E b messages message) (MayGain row message) old new
+      (each_settled m (LowStands row E b messages) old settled (λ told. stands)) (λ c is. inl is) (λ c d is gain. gain.either E b messages free is) moved
+
+pub removed_during : {D : Type 0} (m : Meaning D) (row : SessionRow) (B : ℕ) (old new : D) → Settled m old → HighStands row B (m.reading old) → Moves m MayRemove old new
+    → Leaves m old new (StandsOrRemoves row B)
+removed_during m row B old new settled stands moved =
+    leaves m (HighStands row B) (StandsOrRemoves row B) MayRemove old new
+    (each_settled m (HighStands row B) old settled (λ told. stands)) (λ c is. inl is) (λ c d is step. step.either row B is) moved

@@ -53,6 +53,10 @@ pub record Gains (row : SessionRow) (message : List ℕ) (old new : List ℕ) : 
   pub more : (E b : ℕ) (messages : List (List ℕ)) → E + 1 ≤ b + row.capacity → LowStands row E b messages old
       → LowStands row (E + 1) b (messages ++ message ∷ []) new
 
+-- it stands for this count and these messages, or for one message more
+abbrev pub StandsOrGains : SessionRow → ℕ → ℕ → List (List ℕ) → List ℕ → List ℕ → Type 0
+StandsOrGains row E b messages message disk = LowStands row E b messages disk ⊎ LowStands row (E + 1) b (messages ++ message ∷ []) disk
+
 -- a high disk stands for the count B
 pub record HighStands (row : SessionRow) (B : ℕ) (disk : List ℕ) : Type 0 where
   pub header : HasHeader row 72 (take 32 disk)
@@ -66,3 +70,7 @@ pub record MayRemove (old new : List ℕ) : Type 0 where
 -- it stands for one more
 pub record Removes (old new : List ℕ) : Type 0 where
   pub more : (row : SessionRow) (B : ℕ) → HighStands row B old → HighStands row (B + 1) new
+
+-- it stands for this count, or for one more
+abbrev pub StandsOrRemoves : SessionRow → ℕ → List ℕ → Type 0
+StandsOrRemoves row B disk = HighStands row B disk ⊎ HighStands row (B + 1) disk

@@ -1,6 +1,7 @@
 ghost use Rattle.std.specs.Prelude.{◌≡◌, ◌+◌, ◌^◌, ◌<◌, ◌≤◌, false, IfOk, OnOk, OnErr, IfErr};
-ghost use Rattle.disk_model.specs.Disk.{Moves, Settled, Answers};
-ghost use Rattle.stable_buffer.specs.Stands.{MayRemove, Removes};
+ghost use Rattle.disk_model.specs.Disk.{Moves, Settled, Leaves, Answers};
+ghost use Rattle.stable_buffer.specs.Stands.{HighStands, MayRemove, Removes, StandsOrRemoves};
+ghost use Rattle.pump_frame.specs.declared.row.SessionRow.{SessionRow};
 
 use crate::{Device, Register};
 use disk_model::Disk;
@@ -62,6 +63,10 @@ impl<D: Disk> HighStore<D> {
 
         // A crash at any moment leaves the count from before the call, or one more.
         ensures moves { Moves D.told MayRemove (high_disk self.old) (high_disk self.new) }
+        ensures during { (row : SessionRow)
+            → HighStands row (high_count self.old) (D.told.reading (high_disk self.old))
+            → Leaves D.told (high_disk self.old) (high_disk self.new)
+            (StandsOrRemoves row (high_count self.old)) }
         ensures removed { OnOk result (D.told.tells
             → Removes (D.told.reading (high_disk self.old)) (D.told.reading (high_disk self.new))) }
 

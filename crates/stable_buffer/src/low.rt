@@ -1,8 +1,8 @@
-ghost use Rattle.std.specs.Prelude.{◌≡◌, ◌+◌, ◌^◌, ◌<◌, ◌≤◌, false, length, IfOk, OnOk, OnErr, IfErr};
-ghost use Rattle.disk_model.specs.Disk.{Moves, Same, Settled, Answers};
+ghost use Rattle.std.specs.Prelude.{◌≡◌, ℕ, List, ◌+◌, ◌^◌, ◌<◌, ◌≤◌, false, length, IfOk, OnOk, OnErr, IfErr};
+ghost use Rattle.disk_model.specs.Disk.{Moves, Same, Settled, Leaves, Answers};
 ghost use Rattle.pump_frame.specs.Rows.{IsLawfulRow};
 ghost use Rattle.stable_buffer.specs.Numbers.{length_at, message_at};
-ghost use Rattle.stable_buffer.specs.Stands.{slot_of, slot_end, low_size, InSlot, StandsOn, MayGain, Gains};
+ghost use Rattle.stable_buffer.specs.Stands.{slot_of, slot_end, low_size, InSlot, LowStands, StandsOn, MayGain, Gains, StandsOrGains};
 
 use crate::bytes::{read_length, spell};
 use crate::{Device, Register};
@@ -109,6 +109,12 @@ impl<D: Disk> LowStore<D> {
         // A crash at any moment leaves the messages from before the call, with this one or without.
         ensures moves { Moves D.told (MayGain (low_row self.old) payload.now)
             (low_disk self.old) (low_disk self.new) }
+        ensures during { (b : ℕ) (messages : List (List ℕ))
+            → low_count self.old + 1 ≤ b + (low_row self.old).capacity
+            → LowStands (low_row self.old) (low_count self.old) b messages
+            (D.told.reading (low_disk self.old))
+            → Leaves D.told (low_disk self.old) (low_disk self.new)
+            (StandsOrGains (low_row self.old) (low_count self.old) b messages payload.now) }
         ensures gained { OnOk result (D.told.tells → Gains (low_row self.old) payload.now
             (D.told.reading (low_disk self.old)) (D.told.reading (low_disk self.new))) }
 

@@ -19,6 +19,22 @@ pub struct Register<D> {
     is_open: bool,
 }
 
+fn sync_and_read<D: Disk>(disk: &mut D, at: u64, into: &mut [u8]) -> Result<(), DiskFault>
+    ensures within { OnOk result (D.told.tells
+        → at + length into.old ≤ length (D.told.reading disk.old)) }
+    ensures bytes { OnOk result (D.told.tells
+        → into.new ≡ take (length into.old) (drop at (D.told.reading disk.old))) }
+    ensures size { length into.new ≡ length into.old }
+    ensures settled { OnOk result (Settled D.told disk.new) }
+    ensures moves { Moves D.told Same disk.old disk.new }
+    ensures answers { Answers D.told (at + length into.old ≤ length (D.told.reading disk.old))
+        disk.old disk.new result }
+{
+    disk.sync()?;
+    disk.read(at, into)?;
+    Ok(())
+}
+
 impl<D: Disk> Register<D> {
     ghost use Rattle.std.specs.Borrow.{sem, Lends};
     ghost use Rattle.stable_buffer.specs.contracts.register.Register.{the_row};
@@ -36,10 +52,7 @@ impl<D: Disk> Register<D> {
             disk (disk_of result) result }
     {
         let mut area = [0; 48];
-        if let Err(fault) = disk.sync() {
-            return Err((disk, fault));
-        }
-        if let Err(fault) = disk.read(32, &mut area) {
+        if let Err(fault) = sync_and_read(&mut disk, 32, &mut area) {
             return Err((disk, fault));
         }
         let parity = area[0] % 2;
@@ -108,7 +121,7 @@ impl<D: Disk> Register<D> {
             (register_disk self.old) (register_disk self.new) }
         ensures during { Leaves D.told (register_disk self.old) (register_disk self.new)
             (λ image. (value_of image ≡ register_value self.old)
-                ⊎ (value_of image ≡ staged_value self.old)) }
+            ⊎ (value_of image ≡ staged_value self.old)) }
 
         ensures closed { OnErr result (register_is_open self.new ≡ false) }
         ensures answers { Answers D.told (33 ≤ D.told.room (register_disk self.old))

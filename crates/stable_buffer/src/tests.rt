@@ -1,8 +1,7 @@
 ghost use Rattle.std.specs.Prelude.{◌≡◌, [], IfSome, IfOk};
-ghost use Rattle.disk_model.specs.Disk.{Meaning};
 ghost use Rattle.pump_frame.specs.Rows.{IsLawfulRow};
-ghost use Rattle.stable_buffer.specs.Low.{IsLowReady, low_row};
-ghost use Rattle.stable_buffer.specs.High.{IsHighReady};
+ghost use Rattle.stable_buffer.specs.Low.{IsLowReady, low_count, low_row};
+ghost use Rattle.stable_buffer.specs.High.{IsHighReady, high_count};
 
 use crate::{HighStore, LowStore, Register, format};
 use disk_model::{Disk, MemDisk, Outcome, PlainDisk, Role};
@@ -34,6 +33,7 @@ fn fresh_low<D: Disk>(mut disk: D, row: &SessionRow) -> Result<LowStore<D>, D>
     requires empty { D.told.tells → D.told.reading disk ≡ [] }
     requires lawful { IsLawfulRow row.now }
     ensures ready { IfOk result (λ store. IsLowReady D.told store) }
+    ensures count { IfOk result (λ store. low_count store ≡ 0) }
     ensures row { IfOk result (λ store. low_row store ≡ row.now) }
 {
     if format(&mut disk, row, Role::Low, 0).is_err() {
@@ -54,6 +54,7 @@ fn fresh_high<D: Disk>(mut disk: D, row: &SessionRow) -> Result<HighStore<D>, D>
     requires empty { D.told.tells → D.told.reading disk ≡ [] }
     requires lawful { IsLawfulRow row.now }
     ensures ready { IfOk result (λ store. IsHighReady D.told store) }
+    ensures count { IfOk result (λ store. high_count store ≡ 0) }
 {
     if format(&mut disk, row, Role::High, 0).is_err() {
         return Err(disk);

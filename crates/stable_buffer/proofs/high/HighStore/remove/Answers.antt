@@ -5,6 +5,7 @@ use Rattle.stable_buffer.specs.Register.{KeepsValue, MayTurnTo, Selects, SameOut
 use Rattle.stable_buffer.specs.Stands.{MayRemove}
 use Rattle.stable_buffer.specs.High.{StandsForRemoved}
 use Rattle.stable_buffer.proofs.Cells.{value-selects}
+use Rattle.stable_buffer.proofs.Store.{removed_during}
 use Rattle.stable_buffer.proofs.Slots.{high_keeps, high_turns, high_removes}
 use Rattle.stable_buffer.proofs.high.HighStore.remove.Goals as goal
 
@@ -64,18 +65,32 @@ pub returns-clause-ready : goal.returns-clause-ready
 returns-clause-ready g c =
     let m = g.D.Disk.told in
     let r = c.args.self.now.register in
-    let q = c.stage.new.self in
     let n = c.commit.new.self in
     let number : c.value-number.result.0 ≡ r.first = ap (λ (v : ℕ × ℕ). v.0) c.value-number.ensures in
-    let next : (q.next_first, q.next_second) ≡ (r.first + 1, 0) = c.in_ok-stage.ensures.next ∙ (λ i. (number i + 1, 0)) in
-    let first : n.first ≡ r.first + 1 = ap (λ (v : ℕ × ℕ). v.0) (c.in_ok-commit.ensures.value ∙ next) in
+    let value : (n.first, n.second) ≡ (r.first + 1, 0) = c.in_ok-commit.ensures.value ∙ c.in_ok-stage.ensures.next ∙ (λ i. (number i + 1, 0)) in
+    let first : n.first ≡ r.first + 1 = ap (λ (v : ℕ × ℕ). v.0) value in
     record {
       ready = c.in_ok-commit.ensures.ready;
       count = omega (arith, first, c.requires.below);
-      second = ap (λ (v : ℕ × ℕ). v.1) (c.in_ok-commit.ensures.value ∙ next);
+      second = ap (λ (v : ℕ × ℕ). v.1) value;
       settled = c.in_ok-commit.ensures.settled;
       stands = λ told.
           let old = c.requires.ready.stands told in
           let gone = returns-clause-removed g c told in
           subst (λ k. StandsForRemoved k (m.reading n.disk)) (sym first) (old.0, gone.more old.0 r.first old.1);
     }
+
+pub returns-in_err-stage-clause-during : goal.returns-in_err-stage-clause-during
+returns-in_err-stage-clause-during g c = λ row stands.
+    let r = c.args.self.now.register in
+    removed_during g.D.Disk.told row r.first r.disk c.stage.new.self.disk c.requires.ready.settled stands (returns-in_err-stage-clause-moves g c)
+
+pub returns-in_err-commit-clause-during : goal.returns-in_err-commit-clause-during
+returns-in_err-commit-clause-during g c = λ row stands.
+    let r = c.args.self.now.register in
+    removed_during g.D.Disk.told row r.first r.disk c.commit.new.self.disk c.requires.ready.settled stands (returns-in_err-commit-clause-moves g c)
+
+pub returns-clause-during : goal.returns-clause-during
+returns-clause-during g c = λ row stands.
+    let r = c.args.self.now.register in
+    removed_during g.D.Disk.told row r.first r.disk c.commit.new.self.disk c.requires.ready.settled stands (returns-clause-moves g c)

@@ -6,7 +6,7 @@ use Rattle.pump_frame.specs.Rows.{IsLawfulRow}
 use Rattle.stable_buffer.specs.Low.{HasRanges, StandsForCount}
 use Rattle.pump_frame.specs.declared.row.SessionRow.{SessionRow}
 use Rattle.stable_buffer.proofs.Cells.{value-selects}
-use Rattle.stable_buffer.proofs.Store.{so_far, staged, slot_settled, turned, stored, gained, stands_after}
+use Rattle.stable_buffer.proofs.Store.{so_far, staged, slot_settled, turned, stored, gained, stands_after, stored_during}
 use Rattle.stable_buffer.proofs.low.LowStore.store.Goals as goal
 
 pub returns-in_err-write_slot-clause-moves : goal.returns-in_err-write_slot-clause-moves
@@ -112,3 +112,23 @@ returns-clause-ready g c =
           stands_after m row message r.first (m.reading r.disk) (m.reading n.disk) c.requires.ready.ranges.some (returns-clause-gained g c told) (c.requires.ready.stands told) in
           subst (λ (w : SessionRow). StandsForCount w n.first (m.reading n.disk)) (sym same) (subst (λ f. StandsForCount row f (m.reading n.disk)) (sym first) after);
     }
+
+pub returns-in_err-write_slot-clause-during : goal.returns-in_err-write_slot-clause-during
+returns-in_err-write_slot-clause-during g c = λ b messages free stands.
+    let s = c.args.self.now in
+    stored_during g.D.Disk.told s.row c.args.payload.now s.register.first b messages s.register.disk c.write_slot.new.self.register.disk c.requires.ready.settled free stands (returns-in_err-write_slot-clause-moves g c)
+
+pub returns-in_err-stage-clause-during : goal.returns-in_err-stage-clause-during
+returns-in_err-stage-clause-during g c = λ b messages free stands.
+    let s = c.args.self.now in
+    stored_during g.D.Disk.told s.row c.args.payload.now s.register.first b messages s.register.disk c.stage.new.self.disk c.requires.ready.settled free stands (returns-in_err-stage-clause-moves g c)
+
+pub returns-in_err-commit-clause-during : goal.returns-in_err-commit-clause-during
+returns-in_err-commit-clause-during g c = λ b messages free stands.
+    let s = c.args.self.now in
+    stored_during g.D.Disk.told s.row c.args.payload.now s.register.first b messages s.register.disk c.commit.new.self.disk c.requires.ready.settled free stands (returns-in_err-commit-clause-moves g c)
+
+pub returns-clause-during : goal.returns-clause-during
+returns-clause-during g c = λ b messages free stands.
+    let s = c.args.self.now in
+    stored_during g.D.Disk.told s.row c.args.payload.now s.register.first b messages s.register.disk c.commit.new.self.disk c.requires.ready.settled free stands (returns-clause-moves g c)

@@ -44,21 +44,22 @@ down_at Down = refl
 record Tied (n : ℕ) (down w d : Bool) (q : State) : Type 0 where
   pub none : w ≡ false → q.next ≡ n
   pub one : w ≡ true → d ≡ false → q.next ≡ n + 1
+  pub lost : d ≡ true → q.next ≡ n
   pub falls : is_down_at q.phase ≡ (down || (w && d))
 
-tied_chosen : (r s d : Bool) (a b c e : State) (n : ℕ) → (s ≡ true → r ≡ false) → a.next ≡ n → is_down_at a.phase ≡ false → is_down_at b.phase ≡ true → c.next ≡ n + 1 → is_down_at c.phase ≡ false → e.next ≡ n → is_down_at e.phase ≡ false → Tied n false s d (cond r a (cond s (cond d b c) e))
-tied_chosen true true d a b c e n h ea da db ec dc ee de = let f : true ≡ false = h refl in absurd (cc)
-tied_chosen true false d a b c e n h ea da db ec dc ee de = record { none = λ _. ea; one = λ f. absurd (cc); falls = da }
-tied_chosen false true true a b c e n h ea da db ec dc ee de = record { none = λ f. absurd (cc); one = λ _ f. absurd (cc); falls = db }
-tied_chosen false true false a b c e n h ea da db ec dc ee de = record { none = λ f. absurd (cc); one = λ _ _. ec; falls = dc }
-tied_chosen false false d a b c e n h ea da db ec dc ee de = record { none = λ _. ee; one = λ f. absurd (cc); falls = de }
+tied_chosen : (r s d : Bool) (a b c e : State) (n : ℕ) → (s ≡ true → r ≡ false) → a.next ≡ n → is_down_at a.phase ≡ false → b.next ≡ n → is_down_at b.phase ≡ true → c.next ≡ n + 1 → is_down_at c.phase ≡ false → e.next ≡ n → is_down_at e.phase ≡ false → Tied n false s d (cond r a (cond s (cond d b c) e))
+tied_chosen true true d a b c e n h ea da eb db ec dc ee de = let f : true ≡ false = h refl in absurd (cc)
+tied_chosen true false d a b c e n h ea da eb db ec dc ee de = record { none = λ _. ea; one = λ f. absurd (cc); lost = λ _. ea; falls = da }
+tied_chosen false true true a b c e n h ea da eb db ec dc ee de = record { none = λ f. absurd (cc); one = λ _ f. absurd (cc); lost = λ _. eb; falls = db }
+tied_chosen false true false a b c e n h ea da eb db ec dc ee de = record { none = λ f. absurd (cc); one = λ _ _. ec; lost = λ f. absurd (cc); falls = dc }
+tied_chosen false false d a b c e n h ea da eb db ec dc ee de = record { none = λ _. ee; one = λ f. absurd (cc); lost = λ _. ee; falls = de }
 
 record Stays (n : ℕ) (q : State) : Type 0 where
   next : q.next ≡ n
   up : is_down_at q.phase ≡ false
 
 stays_tied : (n : ℕ) (d : Bool) (q : State) → Stays n q → Tied n false false d q
-stays_tied n d q s = record { none = λ _. s.next; one = λ f. absurd (cc); falls = s.up }
+stays_tied n d q s = record { none = λ _. s.next; one = λ f. absurd (cc); lost = λ _. s.next; falls = s.up }
 
 two : (b c : Bool) (s t u : State) (n : ℕ) → Stays n s → Stays n t → Stays n u → Stays n (cond b s (cond c t u))
 two true c s t u n es et eu = es
@@ -78,11 +79,11 @@ module _ (row : SessionRow) (n : ℕ) (g : Bool) (x : Look) where
       tied_chosen (is_repeat row n g f) (is_next row n g f) x.is_fault
       (at n g (phases.Waiting f.number (due row x))) (at n g phases.Down) (at (n + 1) g (phases.Passing (Some f.number)))
       (at n (cond (is_hello f.kind) (permits_frame row f) g) phases.Idle)
-      n (not_repeat row (record { count = 0; is_held = false }) n g f) refl refl refl refl refl refl refl
+      n (not_repeat row (record { count = 0; is_held = false }) n g f) refl refl refl refl refl refl refl refl
 
   tied : (ph : Phase) → Tied n (is_down_in ph) (wants_in row n g ph x.arrival) x.is_fault (after row (at n g (phase_of ph)) x)
   tied Idle = tied_idle x.arrival
-  tied Down = record { none = λ _. refl; one = λ f. absurd (cc); falls = refl }
+  tied Down = record { none = λ _. refl; one = λ f. absurd (cc); lost = λ _. refl; falls = refl }
   tied (Waiting k at') = stays_tied n x.is_fault _ (two (is_gone x.arrival) (nat_le at' x.moment) (at n false phases.Idle) (at n g phases.Idle) (at n g (phases.Waiting k at')) n (record { next = refl; up = refl }) (record { next = refl; up = refl }) (record { next = refl; up = refl }))
   tied (Passing item owed) =
       let number : Option ℕ = if owed then Some item.number else None in
@@ -114,6 +115,7 @@ asks_tied : (p q : LowProcess) (w d : Bool) → state_of q ≡ state_of p → w 
 asks_tied p q w d same none = record {
   none = λ _. ap (λ t. t.next) same;
   one = λ f. absurd (cc);
+  lost = λ _. ap (λ t. t.next) same;
   falls = ap (λ (t : State). is_down_at t.phase) same ∙ down_at p.phase ∙ or_none (is_down p) w d none;
 }
   where
@@ -133,10 +135,11 @@ begin_tied p q m w a d Average step = asks_tied p q (wants p a) d step.0 (repeat
 pub record Begun (p q : LowProcess) (a : Arrival) (d : Bool) : Type 0 where
   pub none : wants p a ≡ false → q.next ≡ p.next
   pub one : wants p a ≡ true → d ≡ false → q.next ≡ p.next + 1
+  pub lost : d ≡ true → q.next ≡ p.next
   pub falls : is_down q ≡ (is_down p || (wants p a && d))
 
 pub begun_so : (p q : LowProcess) (m w : ℕ) (a : Arrival) (d : Bool) (r : Ask) → StepBegins p q m w a d r → Begun p q a d
-begun_so p q m w a d r step = let t = begin_tied p q m w a d r step in record { none = t.none; one = t.one; falls = sym (down_at q.phase) ∙ t.falls }
+begun_so p q m w a d r step = let t = begin_tied p q m w a d r step in record { none = t.none; one = t.one; lost = t.lost; falls = sym (down_at q.phase) ∙ t.falls }
 
 -- ---- the replies ----
 

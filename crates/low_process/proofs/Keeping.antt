@@ -14,7 +14,7 @@ use Rattle.low_process.specs.declared.values.Phase.TheVariants.{Idle, Passing, W
 use Rattle.low_process.specs.declared.process.LowProcess.{LowProcess}
 use Rattle.stable_buffer.proofs.Cells.{value-selects}
 use Rattle.low_process.specs.Looks.{is_down, is_down_in, row_of, next_of}
-use Rattle.low_process.specs.Storing.{wants, wants_in, wants_idle, message_of, message_in, StoreStep}
+use Rattle.low_process.specs.Storing.{wants, wants_in, wants_idle, message_of, message_in, StoreStep, counted}
 use Rattle.low_process.specs.Whole.{IsStoreOf, HasStore, FallsBy, HasOrGains, CountsBeyond}
 use Rattle.low_process.proofs.Effects.{Begun}
 
@@ -140,3 +140,15 @@ beyond m q new j has up lt =
 -- a process that is up was up before
 pub was_up : (d : Bool) (p q : LowProcess) → FallsBy d p q → is_down q ≡ false → is_down p ≡ false
 was_up d p q falls up = (neither (is_down p) d (sym falls ∙ up)).0
+
+-- the number of the next message after the first half of a look
+pub counts_so : (p q : LowProcess) (a : Arrival) (d : Bool) → Begun p q a d → next_of q ≡ counted (message_in p a) d (next_of p)
+counts_so p q a d b = counts (wants p a) a d (came p a) b.none b.one b.lost
+  where
+    counts : (w : Bool) (a : Arrival) (d : Bool) → (w ≡ true → IsCame a) → (w ≡ false → next_of q ≡ next_of p) → (w ≡ true → d ≡ false → next_of q ≡ next_of p + 1) → (d ≡ true → next_of q ≡ next_of p) → next_of q ≡ counted (message_of w a) d (next_of p)
+    counts false a d is none one lost = none refl
+    counts true (Came f) true is none one lost = lost refl
+    counts true (Came f) false is none one lost = one refl refl
+    counts true Nothing d is none one lost = absurd (is refl)
+    counts true Bad d is none one lost = absurd (is refl)
+    counts true Gone d is none one lost = absurd (is refl)

@@ -56,3 +56,9 @@ pub record Storing {D : Type 0} (m : Meaning D) (message : List ℕ) (old new : 
 abbrev pub StoreStep : {D : Type 0} → Meaning D → Option (List ℕ) → LowStore D → LowStore D → Bool → Type 0
 StoreStep m None old new is_fault = (is_fault ≡ false) × (new ≡ old)
 StoreStep m (Some message) old new is_fault = Storing m message old new is_fault
+
+-- the number of the next message after such a look: one more where the message was stored
+abbrev pub counted : Option (List ℕ) → Bool → ℕ → ℕ
+counted None is_fault next = next
+counted (Some message) true next = next
+counted (Some message) false next = next + 1

@@ -3,7 +3,7 @@ use Rattle.low_process.specs.Looks.{arrival_of}
 use Rattle.low_process.specs.Storing.{StoreStep, message_in}
 use Rattle.low_process.proofs.Looking.{begun}
 use Rattle.low_process.proofs.Effects.{begun_so, acknowledges_so, refuses_so}
-use Rattle.low_process.proofs.Keeping.{store_kept, falls_by, look_images, beyond}
+use Rattle.low_process.proofs.Keeping.{store_kept, counts_so, falls_by, look_images, beyond}
 use Rattle.low_process.proofs.process.LowProcess.begin.Goals as goal
 
 pub returns-clause-begins : goal.returns-clause-begins
@@ -21,6 +21,7 @@ returns-clause-begins g c =
       record {
         begins = begun p q c.args.moment c.args.word a d c.step.result e.step e.row e.last e.word c.requires.order;
         keeps = keeps;
+        count = counts_so p q a d (begun_so p q c.args.moment c.args.word a d c.step.result e.step);
         falls = falls_by m p q a d old new (begun_so p q c.args.moment c.args.word a d c.step.result e.step) keeps;
         refuses = λ r. refuses_so p q c.args.moment c.args.word a d c.step.result e.step r;
       },

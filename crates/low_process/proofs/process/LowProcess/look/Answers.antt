@@ -15,6 +15,7 @@ returns-in-Forward-clause-looks g c =
         looks = look_from (λ h. AsksFor r h c.args.moment c.args.word a d) (StandsFor c.args.self.now) _ _ _ _ _
             c.begin.ensures.row step.begins.1 (c.offer_hand.ensures.looks c.args.moment c.args.word a d);
         keeps = step.keeps;
+        count = c.offer_hand.ensures.next ∙ step.count;
         falls = c.offer_hand.ensures.up ∙ sym c.in-Forward.ensures.hand.3 ∙ step.falls;
         refuses = λ e. (let none = sym c.offer_hand.ensures.reply ∙ e in absurd (cc));
       },
@@ -32,6 +33,7 @@ returns-in-Average-clause-looks g c =
         looks = look_from (λ h. AsksFor r h c.args.moment c.args.word a d) (StandsFor c.args.self.now) _ _ _ _ _
             c.begin.ensures.row step.begins.1 (c.finish.ensures.looks c.args.moment c.args.word a d);
         keeps = step.keeps;
+        count = c.finish.ensures.next ∙ step.count;
         falls = c.finish.ensures.up ∙ sym c.in-Average.ensures.hand.2 ∙ step.falls;
         refuses = λ e. (let none = sym c.finish.ensures.reply ∙ e in absurd (cc));
       },

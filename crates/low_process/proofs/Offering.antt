@@ -1,9 +1,10 @@
 -- What a look does with the low end, from the answers of the end and the feedback.
 use Rattle.std.proofs.Common.{◌≡◌, ℕ, ◌+◌, Bool, true, false, [], ◌∷◌, ◌++◌, Option, Some, None, refl, sym, ap, ◌∙◌, subst}
 use Rattle.pump_frame.specs.declared.frame.Item.{Item}
-use Rattle.pump_core.specs.Passage.{Shape, Low, High, ComesNext}
+use Rattle.pump_core.specs.Passage.{Shape, Low, High, ComesNext, forwards, tried, read_pair}
 use Rattle.pump_core.proofs.PassageSteps.{comes_after}
 use Rattle.pump_core.specs.declared.feedback.Feedback.{Feedback}
+use Rattle.pump_core.specs.declared.feedback.Feedback.TheVariants.{Quiet, Full, Passed, Released, Repeat}
 use Rattle.low_process.specs.declared.values.Answer.{Answer}
 use Rattle.low_process.specs.declared.values.Answer.TheVariants.{Full as ToldFull, Passed as ToldPassed, Average as ToldAverage}
 use Rattle.low_process.specs.declared.process.LowProcess.{LowProcess}
@@ -32,3 +33,13 @@ module _ (s : Shape) (exact : Bool) (stands : Low → High → Type 0) (q : LowP
       subst (λ (t : Feedback). EndStep s exact (StandsFitting stands q) l h (Some item) t) (sym tells)
       (o.0, (o.1, λ up. after item empty next))
   offered item owed (ToldAverage seen) f o tells hand next comes = absurd o
+
+-- there is something that the end stands for after a look
+pub stands_for_some : (s : Shape) (exact : Bool) (after : Low → High → Type 0) (l : Low) (h : High) (hand : Option Item) (f : Feedback) → EndStep s exact after l h hand f → (l' : Low) × ((h' : High) × after l' h')
+stands_for_some s exact after l h hand Quiet e = (l, (h, e))
+stands_for_some s exact after l h hand Full e = (tried l e.0, (h, e.3))
+stands_for_some s exact after l h (Some item) (Passed seen) e = (read_pair (forwards l item) seen.count seen.average, (h, e.1.2))
+stands_for_some s exact after l h None (Passed seen) e = absurd e
+stands_for_some s exact after l h (Some item) Released e = (forwards l item, (h, e.1))
+stands_for_some s exact after l h None Released e = absurd e
+stands_for_some s exact after l h hand (Repeat seen) e = (read_pair l seen.count seen.average, (h, e.2))

@@ -1,6 +1,7 @@
 pub mod Ends
 pub mod Hands
 pub mod Looks
+pub mod Ready
 pub mod Steps
 pub mod Storing
 pub mod Whole

@@ -10,3 +10,6 @@ mod values;
 
 pub use process::LowProcess;
 pub use values::{Answer, Arrival, Ask, LowLook};
+
+#[cfg(test)]
+mod tests;

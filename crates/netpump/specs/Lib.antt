@@ -1,7 +1,10 @@
 pub mod LowHands
 pub mod LowLooks
 pub mod LowSteps
+pub mod Outputs
 pub mod PlainApplies
 pub mod PlainSteps
+pub mod Replays
+pub mod Runners
 pub mod Sessions
 pub mod Standing

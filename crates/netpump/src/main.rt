@@ -1,7 +1,39 @@
 //! A verified one-way relay from a low party to a high party.
 #![tactic(auto)]
 
+mod batch;
+mod explain;
 mod low;
+mod output;
+mod replay;
 mod session;
+mod standard;
 
-fn main(_rt: HostRuntime) {}
+use batch::batch;
+use explain::explain;
+use standard::{StdSink, StdSource};
+use std::process::ExitCode;
+use std::{env, io};
+
+/// The words after the program's name.
+fn words(rt: &HostRuntime) -> io::Result<Vec<String>> {
+    let mut words: Vec<String> = Vec::new(rt.alloc());
+    for word in env::args(rt)?.skip(1) {
+        words.push(word)?;
+    }
+    Ok(words)
+}
+
+fn main(rt: HostRuntime) -> ExitCode {
+    let words = match words(&rt) {
+        Ok(words) => words,
+        // Words that can't be told are no command.
+        Err(_) => Vec::new(rt.alloc()),
+    };
+    let mut script = StdSource::new(rt.stdin());
+    let mut out = StdSink::new(rt.stdout());
+    let status = batch(rt.alloc(), &words, &mut script, &mut out);
+    // The status tells it too, where standard error can't be written.
+    let _ = explain(&rt, status, out.last());
+    ExitCode::from(status)
+}

@@ -1,0 +1,65 @@
+ghost use Rattle.std.specs.Prelude.{◌≡◌, ◌≤◌, ◌↔◌, ◌⊎◌, [], map, string_bytes, IsTrue};
+ghost use Rattle.std.specs.Io.KnownBytes.{Appends};
+ghost use Rattle.pump_link.specs.Causes.{Rose};
+ghost use Rattle.script_reader.specs.Transcript.{fault_line};
+ghost use Rattle.netpump.specs.Replays.{IsReplay, IsDone, IsUnread, IsStopped, IsCutOff};
+
+use crate::output::Output;
+use crate::replay::{Ended, replay};
+use pump_link::{Sink, Source};
+use script_reader::Fault;
+use std::alloc::Global;
+
+fn is_replay(words: &Vec<String>) -> bool
+    ensures { IsTrue result ↔ IsReplay (map string_bytes words.now.items) }
+{
+    match words.as_slice() {
+        [word] => word.as_str() == "replay",
+        _ => false,
+    }
+}
+
+/// Runs the command that the words are, over the script and the output. The answer is the status
+/// of the program:
+///
+/// - 0: the script was read to its end, and its transcript was written.
+/// - 1: there was not enough memory; nothing was written.
+/// - 2: the words are no command, which is what the output says.
+/// - 3: the script could not be read; the transcript of the lines before was written.
+/// - 4: the output could not be written; a front of what is to be written was.
+/// - 5: a line is outside the grammar or can't be applied; the transcript of the lines before was
+///   written.
+///
+/// `docs/formats.md` has the script, the transcript and the last line at the statuses 2, 3 and 5.
+pub fn batch<I: Source, O: Sink>(
+    alloc: Global,
+    words: &Vec<String>,
+    script: &mut I,
+    out: &mut O,
+) -> u8
+    ensures done { result ≡ 0 → IsDone (I.left script.old) (O.written out.old) (O.written out.new) }
+    ensures memory { result ≡ 1 → Appends (O.written out.old) (O.written out.new) [] }
+    ensures words { result ≡ 2 → Appends (O.written out.old) (O.written out.new) (fault_line Fault.Words) }
+    ensures unread { result ≡ 3 → IsUnread (I.left script.old) (I.left script.new) (O.written out.old) (O.written out.new) (I.faults script.old) (I.faults script.new) }
+    ensures unwritten { result ≡ 4 → Rose (O.faults out.old) (O.faults out.new) }
+    ensures cut_off { result ≡ 4 → IsReplay (map string_bytes words.now.items) → IsCutOff (I.left script.old) (I.left script.new) (O.written out.old) (O.written out.new) (I.faults script.old) (I.faults script.new) }
+    ensures stopped { result ≡ 5 → IsStopped (I.left script.old) (I.left script.new) (O.written out.old) (O.written out.new) }
+    // Status 2 comes exactly where the words are not the one word "replay", where it can be written.
+    ensures replay { IsReplay (map string_bytes words.now.items) → (result ≡ 2 → ⊥) }
+    ensures no_replay { (IsReplay (map string_bytes words.now.items) → ⊥) → (result ≡ 2) ⊎ (result ≡ 4) }
+    ensures status { result ≤ 5 }
+{
+    if !is_replay(words) {
+        return match Output::new().stop(&Fault::Words, out) {
+            Ok(()) => 2,
+            Err(_) => 4,
+        };
+    }
+    match replay(alloc, script, out) {
+        Ended::Done => 0,
+        Ended::Memory => 1,
+        Ended::Read => 3,
+        Ended::Write => 4,
+        Ended::Script => 5,
+    }
+}

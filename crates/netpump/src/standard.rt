@@ -1,0 +1,94 @@
+ghost use Rattle.std.specs.Prelude.{◌≡◌};
+
+use arrayvec::ArrayVec;
+use pump_link::{ReadFault, Sink, Source, WriteFault};
+use std::io::{Read, Write};
+
+/// A reader of std as a source.
+#[derive(Drop)]
+pub struct StdSource<R> {
+    inner: R,
+    faults: u64,
+}
+
+impl<R> StdSource<R> {
+    pub fn new(inner: R) -> Self {
+        StdSource { inner, faults: 0 }
+    }
+}
+
+impl<R: Read> Source for StdSource<R> {
+    ghost left = { λ s. R.remaining s.inner };
+
+    ghost faults = { λ s. s.faults };
+
+    fn read(&mut self, into: &mut [u8]) -> Result<usize, ReadFault> {
+        match self.inner.read(into) {
+            Ok(count) => Ok(count),
+            Err(_) => {
+                self.faults = self.faults.saturating_add(1);
+                Err(ReadFault)
+            }
+        }
+    }
+
+    fn faults(&self) -> u64 {
+        self.faults
+    }
+}
+
+/// A writer of std as a sink. A write that takes nothing is a fault.
+#[derive(Drop)]
+pub struct StdSink<W> {
+    inner: W,
+    faults: u64,
+    /// The end of the piece that was written last, from which `main` tells what was wrong.
+    last: ArrayVec<u8, 64>,
+}
+
+impl<W> StdSink<W> {
+    pub fn new(inner: W) -> Self {
+        StdSink {
+            inner,
+            faults: 0,
+            last: ArrayVec::new(),
+        }
+    }
+
+    /// The end of the piece that was written last.
+    pub fn last(&self) -> &[u8] {
+        self.last.as_slice()
+    }
+
+    fn keep_last(&mut self, piece: &[u8])
+        ensures inner { self.new.inner ≡ self.old.inner }
+        ensures faults { self.new.faults ≡ self.old.faults }
+    {
+        let end = &piece[piece.len().saturating_sub(64)..];
+        self.last.clear();
+        self.last.try_extend_from_slice(end).unwrap();
+    }
+}
+
+impl<W: Write> Sink for StdSink<W> {
+    ghost written = { λ s. W.contents s.inner };
+
+    ghost faults = { λ s. s.faults };
+
+    fn write(&mut self, bytes: &[u8]) -> Result<usize, WriteFault> {
+        match self.inner.write(bytes) {
+            Ok(count) if count > 0 => {
+                self.keep_last(&bytes[..count]);
+                Ok(count)
+            }
+            _ => {
+                self.faults = self.faults.saturating_add(1);
+                Err(WriteFault)
+            }
+        }
+    }
+
+    fn faults(&self) -> u64 {
+        self.faults
+    }
+}

@@ -11,8 +11,8 @@ use Rattle.low_process.specs.declared.values.Asking.TheVariants.{Nothing, Forwar
 abbrev pub HasNumber : Frame → Type 0
 HasNumber f = is_data f.kind ≡ true → f.number < 2 ^ 48
 
--- the message in the hand is the last one that was stored, and one that waits to be acknowledged was
--- stored, where `next` is the number after the last
+-- the message in the hand is the last one that was stored, and one that waits to be acknowledged
+-- was stored, where `next` is the number after the last
 abbrev pub is_hand_of : ℕ → Phase → Bool
 is_hand_of next (Passing item owed) = item.number + 1 == next
 is_hand_of next (Waiting number due) = nat_lt number next

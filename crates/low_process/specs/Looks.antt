@@ -39,13 +39,15 @@ phase_of (Passing item owed) = phases.Passing (if owed then Some item.number els
 phase_of (Waiting number due) = phases.Waiting number due
 phase_of Down = phases.Down
 
--- the row of the session, the number of the next message, the moment of the last look, and 0 before one
+-- the row of the session
 abbrev pub row_of : LowProcess → SessionRow
 row_of p = p.row
 
+-- the number of the next message
 abbrev pub next_of : LowProcess → ℕ
 next_of p = p.next
 
+-- the moment of the last look, and 0 before one
 abbrev pub last_of : LowProcess → ℕ
 last_of p = p.last
 
@@ -81,7 +83,13 @@ abbrev pub state_of : LowProcess → State
 state_of p = record { next = p.next; greeted = p.greeted; phase = phase_of p.phase }
 
 abbrev pub look_of : ℕ → ℕ → Arrival → Bool → Feedback → Look
-look_of moment word arrival is_fault feedback = record { moment = moment; word = word; arrival = arrival; is_fault = is_fault; feedback = feedback }
+look_of moment word arrival is_fault feedback = record {
+  moment = moment;
+  word = word;
+  arrival = arrival;
+  is_fault = is_fault;
+  feedback = feedback;
+}
 
 -- an opening with this count, and a message in the hand or none
 abbrev pub opening_of : ℕ → Option Item → Opening
@@ -100,11 +108,14 @@ pub record StandsFor (p : LowProcess) (h : History) : Type 0 where
 -- a process in this state asks this of the passage in a look with this arrival
 abbrev pub Asks : SessionRow → State → Arrival → Asking → Type 0
 Asks row s a AsksNothing = ⊥
-Asks row s a AsksForward = ((owed : Option ℕ) × (s.phase ≡ phases.Passing owed)) × (is_gone a ≡ false)
-Asks row s a (AsksAverage number) = (s.phase ≡ phases.Idle) × IsFrame (is_repeat row s.next s.greeted) a × (number_in a ≡ number)
+Asks row s a AsksForward =
+    ((owed : Option ℕ) × (s.phase ≡ phases.Passing owed)) × (is_gone a ≡ false)
+Asks row s a (AsksAverage number) =
+    (s.phase ≡ phases.Idle) × IsFrame (is_repeat row s.next s.greeted) a × (number_in a ≡ number)
 
 -- within a look of this moment, word, arrival and outcome: it stands for the history before
-pub record AsksFor (p : LowProcess) (h : History) (m w : ℕ) (arrival : Arrival) (is_fault : Bool) : Type 0 where
+pub record AsksFor (p : LowProcess) (h : History) (m w : ℕ) (arrival : Arrival) (is_fault : Bool)
+    : Type 0 where
   pub asks : Asks p.row (state_of p) arrival p.asking
   pub before : ℕ
   pub stands : StandsAt p.row (state_of p) before h
@@ -130,15 +141,19 @@ Tells true (ToldPassed s) f = f ≡ Passed s
 Tells false (ToldPassed s) f = f ≡ Released
 Tells owed (ToldAverage s) f = f ≡ Repeat s
 
--- the look leads to this process: any history that it stood for before, it stands for after with the
--- look added; the reply is added to the replies; and what the look took and stored is what the history
--- says
-pub record Looks (stood : History → Type 0) (q : LowProcess) (row : SessionRow) (x : Look) (l : LowLook) : Type 0 where
+-- the look leads to this process: any history that it stood for before, it stands for after with
+-- the look added; the reply is added to the replies; and what the look took and stored is what the
+-- history says
+pub record Looks (stood : History → Type 0) (q : LowProcess) (row : SessionRow) (x : Look) (l : LowLook)
+    : Type 0 where
   pub asking : q.asking ≡ AsksNothing
   pub history : (h : History) → stood h → StandsFor q (looked h x)
-  pub replies : (h : History) (before : List Sent) → stood h → LowReplies row h before → LowReplies row (looked h x) (before ++ sent x l.reply)
-  pub taken : (h : History) (parts : List Part) → stood h → IsCut row (looked h x).life parts → l.taken ≡ takes parts
-  pub stored : (h : History) (parts : List Part) → stood h → IsCut row (looked h x).life parts → l.stored ≡ stores parts
+  pub replies : (h : History) (before : List Sent) → stood h → LowReplies row h before
+      → LowReplies row (looked h x) (before ++ sent x l.reply)
+  pub taken : (h : History) (parts : List Part) → stood h → IsCut row (looked h x).life parts
+      → l.taken ≡ takes parts
+  pub stored : (h : History) (parts : List Part) → stood h → IsCut row (looked h x).life parts
+      → l.stored ≡ stores parts
 
 -- the process has asked whether the passage takes a message, or what the average is
 abbrev pub AsksToForward : LowProcess → Type 0
@@ -149,9 +164,12 @@ AsksTheAverage p = (n : ℕ) × (p.asking ≡ AsksAverage n)
 
 -- the look is made without a question, or the process asks
 abbrev pub Begins : LowProcess → LowProcess → ℕ → ℕ → Arrival → Bool → Ask → Type 0
-Begins p q m w a d (Done l) = (l.feedback ≡ Quiet) × Looks (StandsFor p) q p.row (look_of m w a d l.feedback) l
-Begins p q m w a d (Forward item) = AsksToForward q × ((h : History) → StandsFor p h → AsksFor q h m w a d)
-Begins p q m w a d Average = AsksTheAverage q × ((h : History) → StandsFor p h → AsksFor q h m w a d)
+Begins p q m w a d (Done l) =
+    (l.feedback ≡ Quiet) × Looks (StandsFor p) q p.row (look_of m w a d l.feedback) l
+Begins p q m w a d (Forward item) =
+    AsksToForward q × ((h : History) → StandsFor p h → AsksFor q h m w a d)
+Begins p q m w a d Average =
+    AsksTheAverage q × ((h : History) → StandsFor p h → AsksFor q h m w a d)
 
 -- ---- the message in the hand ----
 
@@ -190,9 +208,11 @@ hand_stored hand a (Some number) = item_of a number
 abbrev pub hand_after : Option Item → Arrival → LowLook → Option Item
 hand_after hand a l = hand_stored (hand_passed hand l.feedback) a l.stored
 
--- the hand after the first half of a look; an offer is of the message in the hand, the last one stored,
--- and a process that asks is up
+-- the hand after the first half of a look; an offer is of the message in the hand, the last one
+-- stored, and a process that asks is up
 abbrev pub HandBegins : LowProcess → LowProcess → Arrival → Ask → Type 0
 HandBegins p q a (Done l) = hand_of q ≡ hand_after (hand_of p) a l
-HandBegins p q a (Forward item) = (hand_of p ≡ Some item) × (hand_of q ≡ Some item) × (item.number + 1 ≡ q.next) × (is_down q ≡ false)
+HandBegins p q a (Forward item) =
+    (hand_of p ≡ Some item) × (hand_of q ≡ Some item)
+    × (item.number + 1 ≡ q.next) × (is_down q ≡ false)
 HandBegins p q a Average = (hand_of p ≡ None) × (hand_of q ≡ None) × (is_down q ≡ false)

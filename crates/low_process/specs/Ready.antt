@@ -8,7 +8,8 @@ use Rattle.low_process.specs.Ends.{StandsFitting}
 use Rattle.low_process.specs.Whole.{HasStore}
 
 -- the process, its store and its end are in step
-pub record Ready {D : Type 0} (m : Meaning D) (p : LowProcess) (store : LowStore D) (stands : Low → High → Type 0) : Type 0 where
+pub record Ready {D : Type 0} (m : Meaning D) (p : LowProcess) (store : LowStore D)
+    (stands : Low → High → Type 0) : Type 0 where
   pub between : IsBetweenLooks p
   pub of : HasStore m p store
   pub l : Low

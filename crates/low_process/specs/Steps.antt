@@ -13,7 +13,8 @@ use Rattle.low_process.specs.declared.process.LowProcess.{LowProcess}
 use Rattle.low_process.specs.Looks.{state_of, look_of, Asks}
 
 -- the look leads from this state to that process
-pub record Stepped (row : SessionRow) (s : State) (q : LowProcess) (x : Look) (l : LowLook) : Type 0 where
+pub record Stepped (row : SessionRow) (s : State) (q : LowProcess) (x : Look) (l : LowLook)
+    : Type 0 where
   pub fits : Fits row s x
   pub state : state_of q ≡ after row s x
   pub reply : l.reply ≡ reply_at row s x
@@ -23,6 +24,10 @@ pub record Stepped (row : SessionRow) (s : State) (q : LowProcess) (x : Look) (l
 
 -- the look is such a step, or the process asks and is as before
 abbrev pub StepBegins : LowProcess → LowProcess → ℕ → ℕ → Arrival → Bool → Ask → Type 0
-StepBegins p q m w a d (Done l) = (l.feedback ≡ Quiet) × Stepped p.row (state_of p) q (look_of m w a d l.feedback) l
-StepBegins p q m w a d (Forward item) = (q.asking ≡ AsksForward) × (state_of q ≡ state_of p) × Asks p.row (state_of p) a AsksForward
-StepBegins p q m w a d Average = (state_of q ≡ state_of p) × ((n : ℕ) × (q.asking ≡ AsksAverage n) × Asks p.row (state_of p) a (AsksAverage n))
+StepBegins p q m w a d (Done l) =
+    (l.feedback ≡ Quiet) × Stepped p.row (state_of p) q (look_of m w a d l.feedback) l
+StepBegins p q m w a d (Forward item) =
+    (q.asking ≡ AsksForward) × (state_of q ≡ state_of p) × Asks p.row (state_of p) a AsksForward
+StepBegins p q m w a d Average =
+    (state_of q ≡ state_of p)
+    × ((n : ℕ) × (q.asking ≡ AsksAverage n) × Asks p.row (state_of p) a (AsksAverage n))

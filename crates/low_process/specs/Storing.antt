@@ -20,7 +20,8 @@ abbrev pub wants_in : SessionRow → ℕ → Bool → Phase → Arrival → Bool
 wants_in row next greeted Idle a = wants_idle row next greeted a
 wants_in row next greeted _ a = false
 
--- a look with this arrival begins to store: it may take it, and it is a fit frame with the next message
+-- a look with this arrival begins to store: it may take it, and it is a fit frame with the next
+-- message
 abbrev pub wants : LowProcess → Arrival → Bool
 wants p a = wants_in p.row p.next p.greeted p.phase a
 
@@ -41,19 +42,24 @@ abbrev pub outcome : Bool → Result (Unit {0}) (Unit {0})
 outcome true = Err tt
 outcome false = Ok tt
 
--- the message is stored, or the device failed: a crash at any moment leaves the messages from before,
--- with this one or without; a store that failed is no longer open
-pub record Storing {D : Type 0} (m : Meaning D) (message : List ℕ) (old new : LowStore D) (is_fault : Bool) : Type 0 where
+-- the message is stored, or the device failed: a crash at any moment leaves the messages from
+-- before, with this one or without; a store that failed is no longer open
+pub record Storing {D : Type 0} (m : Meaning D) (message : List ℕ) (old new : LowStore D) (is_fault : Bool)
+    : Type 0 where
   pub moves : Moves m (MayGain (low_row old) message) (low_disk old) (low_disk new)
-  pub gained : is_fault ≡ false → m.tells → Gains (low_row old) message (m.reading (low_disk old)) (m.reading (low_disk new))
+  pub gained : is_fault ≡ false → m.tells
+      → Gains (low_row old) message (m.reading (low_disk old)) (m.reading (low_disk new))
   pub ready : is_fault ≡ false → IsLowReady m new
   pub count : is_fault ≡ false → low_count new ≡ low_count old + 1
   pub row : low_row new ≡ low_row old
   pub closed : is_fault ≡ true → low_is_open new ≡ false
-  pub answers : Answers m (slot_end (low_row old) (low_count old) message ≤ m.room (low_disk old)) (low_disk old) (low_disk new) (outcome is_fault)
+  pub answers : Answers m (slot_end (low_row old) (low_count old) message ≤ m.room (low_disk old))
+      (low_disk old) (low_disk new) (outcome is_fault)
 
--- what becomes of the store in a look that stores this message, or none; then it makes no device call
-abbrev pub StoreStep : {D : Type 0} → Meaning D → Option (List ℕ) → LowStore D → LowStore D → Bool → Type 0
+-- what becomes of the store in a look that stores this message, or none; then it makes no device
+-- call
+abbrev pub StoreStep : {D : Type 0} → Meaning D → Option (List ℕ) → LowStore D → LowStore D → Bool
+    → Type 0
 StoreStep m None old new is_fault = (is_fault ≡ false) × (new ≡ old)
 StoreStep m (Some message) old new is_fault = Storing m message old new is_fault
 

@@ -1,9 +1,9 @@
 -- A look over a store and an end.
-use Rattle.std.specs.Prelude.{◌≡◌, ◌⊎◌, ℕ, ◌+◌, ◌<◌, ◌||◌, Bool, true, false, List, [], ◌∷◌, ◌++◌, Option, Some, None}
-use Rattle.disk_model.specs.Disk.{Meaning, Each}
+use Rattle.std.specs.Prelude.{◌≡◌, ◌⊎◌, ℕ, ◌+◌, ◌<◌, ◌≤◌, ◌||◌, Bool, true, false, List, [], ◌∷◌, ◌++◌, Option, Some, None}
+use Rattle.disk_model.specs.Disk.{Meaning, Each, Leaves}
 use Rattle.stable_buffer.specs.Register.{value_of}
 use Rattle.stable_buffer.specs.Stands.{LowStands}
-use Rattle.stable_buffer.specs.Low.{IsLowReady, low_count, low_row}
+use Rattle.stable_buffer.specs.Low.{IsLowReady, low_count, low_row, low_disk}
 use Rattle.stable_buffer.specs.declared.low.LowStore.{LowStore}
 use Rattle.pump_frame.specs.declared.frame.Frame.{Frame}
 use Rattle.pump_frame.specs.declared.row.SessionRow.{SessionRow}
@@ -16,8 +16,10 @@ use Rattle.low_process.specs.declared.values.Ask.TheVariants.{Done, Forward, Ave
 use Rattle.low_process.specs.Looks.{row_of, next_of, is_down, look_of, StandsFor, Begins, Looks}
 use Rattle.low_process.specs.Storing.{message_in, StoreStep, counted}
 
--- the store is open, was made with the process's row, and has just the messages that the process counts
-pub record IsStoreOf {D : Type 0} (m : Meaning D) (p : LowProcess) (store : LowStore D) : Type 0 where
+-- the store is open, was made with the process's row, and has just the messages that the process
+-- counts
+pub record IsStoreOf {D : Type 0} (m : Meaning D) (p : LowProcess) (store : LowStore D)
+    : Type 0 where
   pub ready : IsLowReady m store
   pub count : low_count store ≡ next_of p
   pub row : low_row store ≡ row_of p
@@ -41,7 +43,8 @@ reply_in (Forward item) = None
 reply_in Average = None
 
 -- the first half of a look, in which the device failed or not
-pub record BeginStep {D : Type 0} (m : Meaning D) (p q : LowProcess) (old new : LowStore D) (moment word : ℕ) (a : Arrival) (is_fault : Bool) (ask : Ask) : Type 0 where
+pub record BeginStep {D : Type 0} (m : Meaning D) (p q : LowProcess) (old new : LowStore D)
+    (moment word : ℕ) (a : Arrival) (is_fault : Bool) (ask : Ask) : Type 0 where
   pub begins : Begins p q moment word a is_fault ask
   pub keeps : StoreStep m (message_in p a) old new is_fault
   pub count : next_of q ≡ counted (message_in p a) is_fault (next_of p)
@@ -49,7 +52,8 @@ pub record BeginStep {D : Type 0} (m : Meaning D) (p q : LowProcess) (old new : 
   pub refuses : RefusesBy is_fault (row_of p) (reply_in ask)
 
 -- a look, in which the device failed or not
-pub record LookStep {D : Type 0} (m : Meaning D) (p q : LowProcess) (old new : LowStore D) (moment word : ℕ) (a : Arrival) (is_fault : Bool) (look : LowLook) : Type 0 where
+pub record LookStep {D : Type 0} (m : Meaning D) (p q : LowProcess) (old new : LowStore D)
+    (moment word : ℕ) (a : Arrival) (is_fault : Bool) (look : LowLook) : Type 0 where
   pub looks : Looks (StandsFor p) q (row_of p) (look_of moment word a is_fault look.feedback) look
   pub keeps : StoreStep m (message_in p a) old new is_fault
   pub count : next_of q ≡ counted (message_in p a) is_fault (next_of p)
@@ -58,8 +62,19 @@ pub record LookStep {D : Type 0} (m : Meaning D) (p q : LowProcess) (old new : L
 
 -- a disk has the count and the messages of before, or one more, which is that of the frame
 abbrev pub HasOrGains : SessionRow → ℕ → ℕ → List (List ℕ) → Arrival → List ℕ → Type 0
-HasOrGains row E b messages (Came f) disk = LowStands row E b messages disk ⊎ LowStands row (E + 1) b (messages ++ f.payload ∷ []) disk
+HasOrGains row E b messages (Came f) disk =
+    LowStands row E b messages disk ⊎ LowStands row (E + 1) b (messages ++ f.payload ∷ []) disk
 HasOrGains row E b messages _ disk = LowStands row E b messages disk
+
+-- where the disk stood for the messages from some b on, and a slot was free, a crash at any moment
+-- since leaves what stands for them, or for the message of this look too
+abbrev pub LeavesStored : {D : Type 0} → Meaning D → LowProcess → LowStore D → LowStore D → Arrival
+    → Type 0
+LeavesStored m p old new a =
+    (b : ℕ) (messages : List (List ℕ)) → is_down p ≡ false
+    → next_of p + 1 ≤ b + (low_row old).capacity
+    → (m.tells → LowStands (low_row old) (next_of p) b messages (m.reading (low_disk old)))
+    → Leaves m (low_disk old) (low_disk new) (HasOrGains (low_row old) (next_of p) b messages a)
 
 -- a disk counts the message with this number
 abbrev pub CountsBeyond : ℕ → List ℕ → Type 0
@@ -67,4 +82,5 @@ CountsBeyond n disk = (E : ℕ) × (value_of disk ≡ (E, 0)) × (n < E)
 
 -- what is acknowledged is counted, whatever a crash leaves
 abbrev pub KeepsAcknowledged : {D : Type 0} → Meaning D → SessionRow → Option Frame → D → Type 0
-KeepsAcknowledged m row reply disk = (n : ℕ) → reply ≡ Some (acknowledgement row n) → Each m (CountsBeyond n) disk
+KeepsAcknowledged m row reply disk =
+    (n : ℕ) → reply ≡ Some (acknowledgement row n) → Each m (CountsBeyond n) disk

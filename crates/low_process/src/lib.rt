@@ -1,5 +1,6 @@
-//! The low process: it takes the low party's messages, stores them, passes them on, and acknowledges
-//! each after a random delay. `docs/definitions.md`, "Low histories", tells what its replies are.
+//! The low process: it takes the low party's messages, stores them, passes them on, and
+//! acknowledges each after a random delay. `docs/definitions.md`, "Low histories", tells what its
+//! replies are.
 #![tactic(auto)]
 
 mod frames;

@@ -1,13 +1,11 @@
-ghost use Rattle.std.specs.Prelude.{◌≡◌, ℕ, ◌+◌, ◌^◌, ◌<◌, ◌≤◌, Bool, true, false, List, Option, Some, None};
-ghost use Rattle.disk_model.specs.Disk.{Leaves};
-ghost use Rattle.stable_buffer.specs.Stands.{LowStands};
-ghost use Rattle.stable_buffer.specs.Low.{low_disk, low_row};
+ghost use Rattle.std.specs.Prelude.{◌≡◌, ℕ, ◌+◌, ◌^◌, ◌<◌, ◌≤◌, Bool, true, false, Option, Some, None};
+ghost use Rattle.stable_buffer.specs.Low.{low_disk};
 ghost use Rattle.pump_core.specs.History.{Arrival as Offered};
 ghost use Rattle.pump_core.specs.Passage.{Low, High, ComesNext};
 ghost use Rattle.low_process.specs.declared.values.Asking.TheVariants.{Forward as AsksForward};
 ghost use Rattle.low_process.specs.Looks.{Answers, IsBetweenLooks, AsksToForward, AsksFor, IsLawful, Looks, HandBegins, arrival_of, look_of, row_of, next_of, last_of, is_down, owes, hand_of, hand_after, hand_passed};
 ghost use Rattle.low_process.specs.Ends.{OfferStep, EndStep, FitsEnd, StandsFitting};
-ghost use Rattle.low_process.specs.Whole.{HasStore, BeginStep, LookStep, KeepsAcknowledged, HasOrGains, reply_in};
+ghost use Rattle.low_process.specs.Whole.{HasStore, BeginStep, LookStep, KeepsAcknowledged, LeavesStored, reply_in};
 
 use crate::LowProcess;
 use crate::store::store_message;
@@ -26,8 +24,11 @@ const UNREAD: Seen = Seen {
 
 // Offers a message, and reads the average where it passed and an acknowledgement is owed.
 fn offer<L: LowEnd>(item: Item, is_owed: bool, ends: &mut L) -> Answer
-    requires { (l : Low) × (h : High) × L.stands ends.old l h × ComesNext l.forwarded item.number × (item.number < 2 ^ 48) }
-    ensures same { (L.shape ends.new ≡ L.shape ends.old) × (L.place ends.new ≡ L.place ends.old) }
+    requires ends { (l : Low) × (h : High)
+        × L.stands ends.old l h × ComesNext l.forwarded item.number }
+    requires number { item.number < 2 ^ 48 }
+    ensures shape { L.shape ends.new ≡ L.shape ends.old }
+    ensures place { L.place ends.new ≡ L.place ends.old }
     ensures fits { Answers AsksForward result }
     ensures step { (l : Low) (h : High) → L.stands ends.old l h → ComesNext l.forwarded item.number
         → OfferStep (L.shape ends.old) L.exact (L.stands ends.new) l h item is_owed result }
@@ -65,14 +66,12 @@ impl LowProcess {
         ensures begins { (is_fault : Bool) × BeginStep D.told self.old self.new store.old store.new
             moment word (arrival_of arrival.entry) is_fault result }
         ensures store { HasStore D.told self.new store.new }
-        ensures images { (b : ℕ) (messages : List (List ℕ)) → is_down self.old ≡ false
-            → next_of self.old + 1 ≤ b + (low_row store.old).capacity
-            → (D.told.tells → LowStands (low_row store.old) (next_of self.old) b messages
-            (D.told.reading (low_disk store.old)))
-            → Leaves D.told (low_disk store.old) (low_disk store.new)
-            (HasOrGains (low_row store.old) (next_of self.old) b messages (arrival_of arrival.entry)) }
-        ensures down { is_down self.old ≡ true → (store.new ≡ store.old) × (reply_in result ≡ None) }
-        ensures acknowledged { KeepsAcknowledged D.told (row_of self.old) (reply_in result) (low_disk store.new) }
+        ensures images { LeavesStored D.told self.old store.old store.new
+            (arrival_of arrival.entry) }
+        ensures still { is_down self.old ≡ true → store.new ≡ store.old }
+        ensures silent { is_down self.old ≡ true → reply_in result ≡ None }
+        ensures acknowledged { KeepsAcknowledged D.told (row_of self.old) (reply_in result)
+            (low_disk store.new) }
 
         ensures hand { HandBegins self.old self.new (arrival_of arrival.entry) result }
         ensures fits { (l : Low) → FitsEnd self.old l → FitsEnd self.new l }
@@ -89,7 +88,8 @@ impl LowProcess {
         requires asking { AsksToForward self.old }
         requires hand { hand_of self.old ≡ Some item }
         requires number { item.number + 1 ≡ next_of self.old }
-        requires ends { (l : Low) × (h : High) × L.stands ends.old l h × ComesNext l.forwarded item.number }
+        requires ends { (l : Low) × (h : High)
+            × L.stands ends.old l h × ComesNext l.forwarded item.number }
 
         ensures looks { (moment word : ℕ) (arrival : Offered) (is_fault : Bool) →
             Looks (λ h. AsksFor self.old h moment word arrival is_fault) self.new (row_of self.old)
@@ -101,8 +101,10 @@ impl LowProcess {
         ensures next { next_of self.new ≡ next_of self.old }
         ensures last { last_of self.new ≡ last_of self.old }
         ensures up { is_down self.new ≡ false }
-        ensures same { (L.shape ends.new ≡ L.shape ends.old) × (L.place ends.new ≡ L.place ends.old) }
-        ensures ends { (l : Low) (h : High) → L.stands ends.old l h → ComesNext l.forwarded item.number
+        ensures shape { L.shape ends.new ≡ L.shape ends.old }
+        ensures place { L.place ends.new ≡ L.place ends.old }
+        ensures ends { (l : Low) (h : High)
+            → L.stands ends.old l h → ComesNext l.forwarded item.number
             → EndStep (L.shape ends.old) L.exact (StandsFitting (L.stands ends.new) self.new) l h
             (Some item) result.feedback }
     {
@@ -110,10 +112,10 @@ impl LowProcess {
         self.finish(answer)
     }
 
-    /// A whole look over the store and the low end of the passage: `begin`, what it asks of the end,
-    /// and `finish`. Unless the process is down, where an item was forwarded to the end before, the
-    /// last one has the number before that of the message in the hand, or before `next()` where the
-    /// hand is empty; afterwards this holds again.
+    /// A whole look over the store and the low end of the passage: `begin`, what it asks of the
+    /// end, and `finish`. Unless the process is down, where an item was forwarded to the end before,
+    /// the last one has the number before that of the message in the hand, or before `next()` where
+    /// the hand is empty; afterwards this holds again.
     pub fn look<D: Disk, L: LowEnd>(
         &mut self,
         moment: u64,
@@ -132,19 +134,19 @@ impl LowProcess {
         ensures looks { (is_fault : Bool) × LookStep D.told self.old self.new store.old store.new
             moment word (arrival_of arrival.entry) is_fault result }
         ensures store { HasStore D.told self.new store.new }
-        ensures images { (b : ℕ) (messages : List (List ℕ)) → is_down self.old ≡ false
-            → next_of self.old + 1 ≤ b + (low_row store.old).capacity
-            → (D.told.tells → LowStands (low_row store.old) (next_of self.old) b messages
-            (D.told.reading (low_disk store.old)))
-            → Leaves D.told (low_disk store.old) (low_disk store.new)
-            (HasOrGains (low_row store.old) (next_of self.old) b messages (arrival_of arrival.entry)) }
-        ensures down { is_down self.old ≡ true → (store.new ≡ store.old) × (result.reply ≡ None) }
-        ensures acknowledged { KeepsAcknowledged D.told (row_of self.old) result.reply (low_disk store.new) }
+        ensures images { LeavesStored D.told self.old store.old store.new
+            (arrival_of arrival.entry) }
+        ensures still { is_down self.old ≡ true → store.new ≡ store.old }
+        ensures silent { is_down self.old ≡ true → result.reply ≡ None }
+        ensures acknowledged { KeepsAcknowledged D.told (row_of self.old) result.reply
+            (low_disk store.new) }
 
-        ensures hand { hand_of self.new ≡ hand_after (hand_of self.old) (arrival_of arrival.entry) result }
+        ensures hand { hand_of self.new
+            ≡ hand_after (hand_of self.old) (arrival_of arrival.entry) result }
         ensures row { row_of self.new ≡ row_of self.old }
         ensures last { last_of self.new ≡ moment }
-        ensures same { (L.shape ends.new ≡ L.shape ends.old) × (L.place ends.new ≡ L.place ends.old) }
+        ensures shape { L.shape ends.new ≡ L.shape ends.old }
+        ensures place { L.place ends.new ≡ L.place ends.old }
         ensures ends { (l : Low) (h : High) → StandsFitting (L.stands ends.old) self.old l h
             → EndStep (L.shape ends.old) L.exact (StandsFitting (L.stands ends.new) self.new) l h
             (hand_of self.old) result.feedback }

@@ -37,7 +37,8 @@ const QUIET: LowLook = LowLook {
 
 /// A look that takes its arrival, with a reply or without one.
 fn taking(reply: Option<Frame>) -> LowLook
-    ensures { result ≡ record { taken = true; stored = None; reply = reply; feedback = Feedback.Quiet } }
+    ensures { result ≡ record
+        { taken = true; stored = None; reply = reply; feedback = Feedback.Quiet } }
 {
     LowLook {
         taken: true,
@@ -198,7 +199,8 @@ impl LowProcess {
         requires asking { self.old.asking ≡ Asking.Nothing }
         requires fit { is_fit self.old.row self.old.greeted frame.now ≡ true }
         requires number { frame.now.number < 2 ^ 48 }
-        ensures step { StepBegins self.old self.new self.old.last self.old.word (Came frame.now) is_fault result }
+        ensures step { StepBegins self.old self.new self.old.last self.old.word
+            (Came frame.now) is_fault result }
         ensures hand { HandBegins self.old self.new (Came frame.now) result }
         ensures offers { is_down self.new ≡ false → number_offered self.new.next (hand_of self.new)
             ≡ number_offered self.old.next (hand_of self.old) }
@@ -239,7 +241,8 @@ impl LowProcess {
         requires idle { self.old.phase ≡ Phase.Idle }
         requires asking { self.old.asking ≡ Asking.Nothing }
         requires lawful { HasNumber frame.now }
-        ensures step { StepBegins self.old self.new self.old.last self.old.word (Came frame.now) is_fault result }
+        ensures step { StepBegins self.old self.new self.old.last self.old.word
+            (Came frame.now) is_fault result }
         ensures hand { HandBegins self.old self.new (Came frame.now) result }
         ensures offers { is_down self.new ≡ false → number_offered self.new.next (hand_of self.new)
             ≡ number_offered self.old.next (hand_of self.old) }
@@ -309,7 +312,8 @@ impl LowProcess {
         requires asking { self.old.asking ≡ Asking.Nothing }
         requires moment { moment ≤ 2 ^ 62 }
         requires lawful { IsLawful (arrival_of arrival) }
-        ensures step { StepBegins self.old self.new moment word (arrival_of arrival.entry) is_fault result }
+        ensures step { StepBegins self.old self.new moment word
+            (arrival_of arrival.entry) is_fault result }
         ensures hand { HandBegins self.old self.new (arrival_of arrival.entry) result }
         ensures offers { is_down self.new ≡ false → number_offered self.new.next (hand_of self.new)
             ≡ number_offered self.old.next (hand_of self.old) }
@@ -356,7 +360,8 @@ impl LowProcess {
     // The moment at which an acknowledgement is due that is decided in this look.
     fn due(&self, seen: Seen) -> u64
         requires { seen.average ≤ 10 ^ 9 }
-        ensures { result ≡ self.now.last + delay_of seen.average self.now.word self.now.row.longest }
+        ensures { result
+            ≡ self.now.last + delay_of seen.average self.now.word self.now.row.longest }
     {
         self.last + u64::from(delay(seen.average, self.word, self.row.longest))
     }

@@ -6,7 +6,11 @@ use Rattle.pump_core.specs.Passage.{Shape, Low, High, Fits}
 use Rattle.passage.specs.declared.plain.PlainEnds.{PlainEnds}
 
 abbrev pub shape_of : PlainEnds → Shape
-shape_of e = record { places = e.items.capacity; window = window_of e.window; start = start_of e.window }
+shape_of e = record {
+  places = e.items.capacity;
+  window = window_of e.window;
+  start = start_of e.window;
+}
 
 -- the items in between, the next one first
 abbrev pub held_in : PlainEnds → List Item

@@ -1,6 +1,6 @@
 ghost use Rattle.std.specs.Prelude.{◌≡◌, ◌+◌, ◌-◌, ◌^◌, ◌<◌, ◌≤◌, length};
 ghost use Rattle.pump_core.specs.Passage.{Low, High, ComesNext, publishes, Passes, Refuses, Reads, Gives, GivesNone};
-ghost use Rattle.passage.specs.Answers.{MatchForwarded, MatchNext};
+ghost use Rattle.passage.specs.Answers.{IfFull, MatchForwarded, MatchNext};
 
 use pump_core::Seen;
 use pump_frame::Item;
@@ -68,20 +68,27 @@ pub trait LowEnd: LowSide {
     /// that of the last. It is full only where all places were taken at a step of this call, which
     /// is told as a try.
     fn forward(&mut self, item: Item) -> Forwarded
-        requires { (l : Low) × (h : High) × Self.stands self.old l h × ComesNext l.forwarded item.number × (item.number < 2 ^ 48) }
-        ensures same { (Self.shape self.new ≡ Self.shape self.old) × (Self.place self.new ≡ Self.place self.old) }
+        requires stands { (l : Low) × (h : High)
+            × Self.stands self.old l h × ComesNext l.forwarded item.number }
+        requires number { item.number < 2 ^ 48 }
+        ensures shape { Self.shape self.new ≡ Self.shape self.old }
+        ensures place { Self.place self.new ≡ Self.place self.old }
+        ensures back { IfFull result (λ back. back ≡ item) }
         ensures step { (l : Low) (h : High) → Self.stands self.old l h → ComesNext l.forwarded item.number
-            → MatchForwarded result (Passes (Self.shape self.old) Self.exact (Self.stands self.new) l h item)
-            (λ back. (back ≡ item) × Refuses (Self.shape self.old) Self.exact (Self.stands self.new) l h) };
+            → MatchForwarded result
+            (Passes (Self.shape self.old) Self.exact (Self.stands self.new) l h item)
+            (Refuses (Self.shape self.old) Self.exact (Self.stands self.new) l h) };
 
     /// What was published at a step of this call: how many times, not fewer than were read before,
     /// and their average in microseconds, at most 10^9.
     fn average(&mut self) -> Seen
         requires { (l : Low) × (h : High) × Self.stands self.old l h }
-        ensures same { (Self.shape self.new ≡ Self.shape self.old) × (Self.place self.new ≡ Self.place self.old) }
+        ensures shape { Self.shape self.new ≡ Self.shape self.old }
+        ensures place { Self.place self.new ≡ Self.place self.old }
         ensures bound { result.average ≤ 10 ^ 9 }
         ensures step { (l : Low) (h : High) → Self.stands self.old l h
-            → Reads (Self.shape self.old) Self.exact (Self.stands self.new) l h result.count result.average };
+            → Reads (Self.shape self.old) Self.exact (Self.stands self.new) l h
+            result.count result.average };
 }
 
 /// The end of the high process, whose calls wait for nobody.
@@ -91,14 +98,20 @@ pub trait HighEnd: HighSide {
     /// this call, which is told as a try.
     fn next(&mut self, removed: u64) -> Next
         requires { (l : Low) × (h : High) × Self.stands self.old l h × (h.floor ≤ removed) }
-        ensures same { (Self.shape self.new ≡ Self.shape self.old) × (Self.place self.new ≡ Self.place self.old) }
+        ensures shape { Self.shape self.new ≡ Self.shape self.old }
+        ensures place { Self.place self.new ≡ Self.place self.old }
         ensures step { (l : Low) (h : High) → Self.stands self.old l h
-            → MatchNext result (λ item. Gives (Self.shape self.old) Self.exact (Self.stands self.new) l h item removed)
+            → MatchNext result
+            (λ item. Gives (Self.shape self.old) Self.exact (Self.stands self.new) l h item removed)
             (GivesNone (Self.shape self.old) Self.exact (Self.stands self.new) l h) };
 
     /// Publishes a time in microseconds, at most 10^9, where fewer than 2^32 - 1 were published.
     fn publish(&mut self, micros: u32)
-        requires { (l : Low) × (h : High) × Self.stands self.old l h × (micros ≤ 10 ^ 9) × (length h.times < 2 ^ 32 - 1) }
-        ensures same { (Self.shape self.new ≡ Self.shape self.old) × (Self.place self.new ≡ Self.place self.old) }
-        ensures step { (l : Low) (h : High) → Self.stands self.old l h → Self.stands self.new l (publishes h micros) };
+        requires stands { (l : Low) × (h : High)
+            × Self.stands self.old l h × (length h.times < 2 ^ 32 - 1) }
+        requires micros { micros ≤ 10 ^ 9 }
+        ensures shape { Self.shape self.new ≡ Self.shape self.old }
+        ensures place { Self.place self.new ≡ Self.place self.old }
+        ensures step { (l : Low) (h : High) → Self.stands self.old l h
+            → Self.stands self.new l (publishes h micros) };
 }

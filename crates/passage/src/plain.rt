@@ -49,8 +49,8 @@ impl PlainEnds {
     ghost use Rattle.pump_core.specs.Passage.{Low, High, new_low, new_high, shape_of_row};
     ghost use Rattle.passage.specs.Plain.{shape_of, StandsFor};
 
-    /// The passage of a lawful row: of its capacity two less, since two messages are in the hands of
-    /// the processes.
+    /// The passage of a lawful row. It has two places fewer than the row's capacity, since two
+    /// messages are in the hands of the processes.
     pub fn new(alloc: Global, row: &SessionRow) -> Result<PlainEnds, OutOfMemory>
         requires { IsLawfulRow row.now }
         ensures empty { IfOk result (λ ends. StandsFor ends new_low new_high) }
@@ -72,7 +72,8 @@ impl PlainEnds {
 
     /// How many items are held.
     pub fn held(&self) -> u32
-        ensures { (l : Low) (h : High) → StandsFor self.now l h → length l.forwarded ≡ length h.taken + result }
+        ensures { (l : Low) (h : High) → StandsFor self.now l h
+            → length l.forwarded ≡ length h.taken + result }
     {
         self.items.len() as u32
     }

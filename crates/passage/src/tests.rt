@@ -18,8 +18,10 @@ struct Both {
 impl Both {
     /// Offers the next item. True where it passed.
     fn offer(&mut self) -> bool
-        requires { Ready (StandsFor self.old.ends) self.old.next self.old.removed self.old.published }
-        ensures { Ready (StandsFor self.new.ends) self.new.next self.new.removed self.new.published }
+        requires { Ready (StandsFor self.old.ends) self.old.next self.old.removed
+            self.old.published }
+        ensures { Ready (StandsFor self.new.ends) self.new.next self.new.removed
+            self.new.published }
     {
         if self.next >= 1 << 48 {
             return false;
@@ -41,16 +43,20 @@ impl Both {
     }
 
     fn read(&mut self) -> Seen
-        requires { Ready (StandsFor self.old.ends) self.old.next self.old.removed self.old.published }
-        ensures { Ready (StandsFor self.new.ends) self.new.next self.new.removed self.new.published }
+        requires { Ready (StandsFor self.old.ends) self.old.next self.old.removed
+            self.old.published }
+        ensures { Ready (StandsFor self.new.ends) self.new.next self.new.removed
+            self.new.published }
     {
         self.ends.average()
     }
 
     /// Asks for the next item, and tells its number.
     fn ask(&mut self) -> Option<u64>
-        requires { Ready (StandsFor self.old.ends) self.old.next self.old.removed self.old.published }
-        ensures { Ready (StandsFor self.new.ends) self.new.next self.new.removed self.new.published }
+        requires { Ready (StandsFor self.old.ends) self.old.next self.old.removed
+            self.old.published }
+        ensures { Ready (StandsFor self.new.ends) self.new.next self.new.removed
+            self.new.published }
     {
         if self.removed == u64::MAX {
             return None;
@@ -65,8 +71,10 @@ impl Both {
     }
 
     fn publish(&mut self, micros: u32)
-        requires { Ready (StandsFor self.old.ends) self.old.next self.old.removed self.old.published }
-        ensures { Ready (StandsFor self.new.ends) self.new.next self.new.removed self.new.published }
+        requires { Ready (StandsFor self.old.ends) self.old.next self.old.removed
+            self.old.published }
+        ensures { Ready (StandsFor self.new.ends) self.new.next self.new.removed
+            self.new.published }
     {
         if micros > 1_000_000_000 || self.published == u32::MAX {
             return;

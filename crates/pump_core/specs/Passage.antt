@@ -101,19 +101,29 @@ publishes h micros = record h { times = h.times ++ micros ∷ [] }
 module _ (s : Shape) (exact : Bool) (after : Low → High → Type 0) (l : Low) (h : High) where
   -- the item passed
   abbrev pub Passes : Item → Type 0
-  Passes x = (exact ≡ true → length l.forwarded < length h.taken + s.places) × after (forwards l x) h
+  Passes x =
+      (exact ≡ true → length l.forwarded < length h.taken + s.places)
+      × after (forwards l x) h
 
   -- a try found all places full
   abbrev pub Refuses : Type 0
-  Refuses = (taken : ℕ) × (length l.forwarded ≡ taken + s.places) × (exact ≡ true → taken ≡ length h.taken) × after (tried l taken) h
+  Refuses =
+      (taken : ℕ) × (length l.forwarded ≡ taken + s.places)
+      × (exact ≡ true → taken ≡ length h.taken)
+      × after (tried l taken) h
 
   -- a count not below those before was read, with its average
   abbrev pub Reads : ℕ → ℕ → Type 0
-  Reads count average = All (λ p. p.0 ≤ count) l.pairs × (exact ≡ true → (count ≡ length h.times) × (average ≡ average_of s.window s.start h.times)) × after (read_pair l count average) h
+  Reads count average =
+      All (λ p. p.0 ≤ count) l.pairs
+      × (exact ≡ true → (count ≡ length h.times) × (average ≡ average_of s.window s.start h.times))
+      × after (read_pair l count average) h
 
   -- the item was taken up
   abbrev pub Gives : Item → ℕ → Type 0
-  Gives x removed = (exact ≡ true → (rest : List Item) × (l.forwarded ≡ (h.taken ++ x ∷ []) ++ rest)) × after l (takes h x removed)
+  Gives x removed =
+      (exact ≡ true → (rest : List Item) × (l.forwarded ≡ (h.taken ++ x ∷ []) ++ rest))
+      × after l (takes h x removed)
 
   -- a try found nothing
   abbrev pub GivesNone : Type 0

@@ -6,4 +6,4 @@ pub returns-in-Ok-clause-step : goal.returns-in-Ok-clause-step
 returns-in-Ok-clause-step c l h s f = passes c.args.self.now _ l h refl s c.args.item (search rules) f
 
 pub returns-in-Err-clause-step : goal.returns-in-Err-clause-step
-returns-in-Err-clause-step c l h s f = (search rules, refuses c.args.self.now _ l h refl s (search rules) (search rules))
+returns-in-Err-clause-step c l h s f = refuses c.args.self.now _ l h refl s (search rules) (search rules)

@@ -1,0 +1,169 @@
+use Rattle.std.proofs.Common.{◌≡◌, ℕ, ◌+◌, length, take, ◌∙◌, ap, subst}
+use Rattle.disk_model.specs.Disk.{Moves, Each, Torn, Holds}
+use Rattle.disk_model.proofs.Run.{weaker}
+use Rattle.stable_buffer.specs.Register.{MayTurnTo, Selects, SameOutside, value_of}
+use Rattle.stable_buffer.specs.Stands.{spelled}
+use Rattle.stable_buffer.proofs.Cells.{value-selects}
+use Rattle.high_receiver.specs.Steps.{StandsOn}
+use Rattle.high_receiver.proofs.Appends.{StandsAt, torn_on, at_written, end_within}
+use Rattle.high_receiver.proofs.Calls.{so_far, staged, at_settled, turned, stored, taken, stored_during}
+use Rattle.high_receiver.proofs.receiver.Receiver.write.Goals as goal
+
+pub returns-in_err-write_beside-clause-moves : goal.returns-in_err-write_beside-clause-moves
+returns-in_err-write_beside-clause-moves g c =
+    let m = g.D.Disk.told in
+    let s = c.args.self.now in
+    let row = s.row in
+    let r = s.register in
+    let message = c.args.payload.now in
+    let short = c.requires.ready.short in
+    let bytes = take (2 + c.len-length.result) c.spell-record.result in
+    let end : c.value-count.result.1 ≡ r.second = ap (λ (v : ℕ × ℕ). v.1) c.value-count.ensures in
+    let w = c.write_beside.new.register in
+    let wrote : Moves m (StandsOn row) r.disk w.disk =
+    weaker m (Selects r.parity r.first r.second) (Torn c.value-count.result.1 (length bytes)) (StandsOn row) r.disk w.disk c.requires.ready.ready.each
+    (λ a b is torn. torn_on row r.parity r.first r.second (length bytes) a b is (subst (λ k. Torn k (length bytes) a b) end torn)) c.write_beside.ensures.moves in
+    so_far m row message r.disk w.disk wrote
+
+pub returns-in_err-stage-clause-moves : goal.returns-in_err-stage-clause-moves
+returns-in_err-stage-clause-moves g c =
+    let m = g.D.Disk.told in
+    let s = c.args.self.now in
+    let row = s.row in
+    let r = s.register in
+    let message = c.args.payload.now in
+    let short = c.requires.ready.short in
+    let bytes = take (2 + c.len-length.result) c.spell-record.result in
+    let end : c.value-count.result.1 ≡ r.second = ap (λ (v : ℕ × ℕ). v.1) c.value-count.ensures in
+    let w = c.write_beside.new.register in
+    let wrote : Moves m (StandsOn row) r.disk w.disk =
+    weaker m (Selects r.parity r.first r.second) (Torn c.value-count.result.1 (length bytes)) (StandsOn row) r.disk w.disk c.requires.ready.ready.each
+    (λ a b is torn. torn_on row r.parity r.first r.second (length bytes) a b is (subst (λ k. Torn k (length bytes) a b) end torn)) c.write_beside.ensures.moves in
+    let q = c.stage.new.self in
+    let stood : Moves m (StandsOn row) r.disk q.disk = staged m row message r.disk w.disk q.disk wrote c.stage.ensures.moves in
+    so_far m row message r.disk q.disk stood
+
+pub returns-in_err-commit-clause-moves : goal.returns-in_err-commit-clause-moves
+returns-in_err-commit-clause-moves g c =
+    let m = g.D.Disk.told in
+    let s = c.args.self.now in
+    let row = s.row in
+    let r = s.register in
+    let message = c.args.payload.now in
+    let short = c.requires.ready.short in
+    let bytes = take (2 + c.len-length.result) c.spell-record.result in
+    let end : c.value-count.result.1 ≡ r.second = ap (λ (v : ℕ × ℕ). v.1) c.value-count.ensures in
+    let w = c.write_beside.new.register in
+    let wrote : Moves m (StandsOn row) r.disk w.disk =
+    weaker m (Selects r.parity r.first r.second) (Torn c.value-count.result.1 (length bytes)) (StandsOn row) r.disk w.disk c.requires.ready.ready.each
+    (λ a b is torn. torn_on row r.parity r.first r.second (length bytes) a b is (subst (λ k. Torn k (length bytes) a b) end torn)) c.write_beside.ensures.moves in
+    let q = c.stage.new.self in
+    let stood : Moves m (StandsOn row) r.disk q.disk = staged m row message r.disk w.disk q.disk wrote c.stage.ensures.moves in
+    let was = c.in_ok-stage.ensures.staged in
+    let size : c.len-length.result ≡ length message = c.len-length.ensures.value in
+    let is : bytes ≡ spelled message = ap (λ k. take (2 + k) c.spell-record.result) size ∙ c.spell-record.ensures in
+    let count : c.value-count.result.0 ≡ r.first = ap (λ (v : ℕ × ℕ). v.0) c.value-count.ensures in
+    let same : (q.first, q.second) ≡ (r.first, r.second) = c.stage.ensures.value ∙ c.write_beside.ensures.value in
+    let next : (q.next_first, q.next_second) ≡ (r.first + 1, r.second + 2 + length message) =
+    c.in_ok-stage.ensures.next ∙ (λ i. (count i + 1, end i + 2 + size i)) in
+    let written : m.tells → StandsAt r.second message (m.reading w.disk) = λ told.
+    at_written r.second message bytes (m.reading r.disk) (m.reading w.disk) is
+    (let stands = c.requires.ready.stands told in end_within row r.parity r.first r.second stands.0 (m.reading r.disk) (c.requires.ready.ready.each.reading told) stands.1)
+    (subst (λ k. Holds (m.reading r.disk) k bytes (m.reading w.disk)) end (c.in_ok-write_beside.ensures.written told)) in
+    let has : Each m (StandsAt r.second message) q.disk =
+    at_settled m row message r.second w.disk q.disk c.requires.ready.from written c.stage.ensures.moves c.in_ok-stage.ensures.settled in
+    let selects : Each m (Selects q.parity r.first r.second) q.disk = subst (λ (f : ℕ × ℕ). Each m (Selects q.parity f.0 f.1) q.disk) same was.ready.each in
+    let n = c.commit.new.self in
+    let turn : Moves m (MayTurnTo (r.first + 1, r.second + 2 + length message)) q.disk n.disk = subst (λ (v : ℕ × ℕ). Moves m (MayTurnTo v) q.disk n.disk) next c.commit.ensures.moves in
+    stored m row message r.disk q.disk n.disk stood (turned m row message q.parity r.first r.second q.disk n.disk c.requires.fits short selects has turn)
+
+pub returns-clause-moves : goal.returns-clause-moves
+returns-clause-moves g c =
+    let m = g.D.Disk.told in
+    let s = c.args.self.now in
+    let row = s.row in
+    let r = s.register in
+    let message = c.args.payload.now in
+    let short = c.requires.ready.short in
+    let bytes = take (2 + c.len-length.result) c.spell-record.result in
+    let end : c.value-count.result.1 ≡ r.second = ap (λ (v : ℕ × ℕ). v.1) c.value-count.ensures in
+    let w = c.write_beside.new.register in
+    let wrote : Moves m (StandsOn row) r.disk w.disk =
+    weaker m (Selects r.parity r.first r.second) (Torn c.value-count.result.1 (length bytes)) (StandsOn row) r.disk w.disk c.requires.ready.ready.each
+    (λ a b is torn. torn_on row r.parity r.first r.second (length bytes) a b is (subst (λ k. Torn k (length bytes) a b) end torn)) c.write_beside.ensures.moves in
+    let q = c.stage.new.self in
+    let stood : Moves m (StandsOn row) r.disk q.disk = staged m row message r.disk w.disk q.disk wrote c.stage.ensures.moves in
+    let was = c.in_ok-stage.ensures.staged in
+    let size : c.len-length.result ≡ length message = c.len-length.ensures.value in
+    let is : bytes ≡ spelled message = ap (λ k. take (2 + k) c.spell-record.result) size ∙ c.spell-record.ensures in
+    let count : c.value-count.result.0 ≡ r.first = ap (λ (v : ℕ × ℕ). v.0) c.value-count.ensures in
+    let same : (q.first, q.second) ≡ (r.first, r.second) = c.stage.ensures.value ∙ c.write_beside.ensures.value in
+    let next : (q.next_first, q.next_second) ≡ (r.first + 1, r.second + 2 + length message) =
+    c.in_ok-stage.ensures.next ∙ (λ i. (count i + 1, end i + 2 + size i)) in
+    let written : m.tells → StandsAt r.second message (m.reading w.disk) = λ told.
+    at_written r.second message bytes (m.reading r.disk) (m.reading w.disk) is
+    (let stands = c.requires.ready.stands told in end_within row r.parity r.first r.second stands.0 (m.reading r.disk) (c.requires.ready.ready.each.reading told) stands.1)
+    (subst (λ k. Holds (m.reading r.disk) k bytes (m.reading w.disk)) end (c.in_ok-write_beside.ensures.written told)) in
+    let has : Each m (StandsAt r.second message) q.disk =
+    at_settled m row message r.second w.disk q.disk c.requires.ready.from written c.stage.ensures.moves c.in_ok-stage.ensures.settled in
+    let selects : Each m (Selects q.parity r.first r.second) q.disk = subst (λ (f : ℕ × ℕ). Each m (Selects q.parity f.0 f.1) q.disk) same was.ready.each in
+    let n = c.commit.new.self in
+    let turn : Moves m (MayTurnTo (r.first + 1, r.second + 2 + length message)) q.disk n.disk = subst (λ (v : ℕ × ℕ). Moves m (MayTurnTo v) q.disk n.disk) next c.commit.ensures.moves in
+    stored m row message r.disk q.disk n.disk stood (turned m row message q.parity r.first r.second q.disk n.disk c.requires.fits short selects has turn)
+
+pub returns-clause-taken : goal.returns-clause-taken
+returns-clause-taken g c = λ told.
+    let m = g.D.Disk.told in
+    let s = c.args.self.now in
+    let row = s.row in
+    let r = s.register in
+    let message = c.args.payload.now in
+    let short = c.requires.ready.short in
+    let bytes = take (2 + c.len-length.result) c.spell-record.result in
+    let end : c.value-count.result.1 ≡ r.second = ap (λ (v : ℕ × ℕ). v.1) c.value-count.ensures in
+    let w = c.write_beside.new.register in
+    let wrote : Moves m (StandsOn row) r.disk w.disk =
+    weaker m (Selects r.parity r.first r.second) (Torn c.value-count.result.1 (length bytes)) (StandsOn row) r.disk w.disk c.requires.ready.ready.each
+    (λ a b is torn. torn_on row r.parity r.first r.second (length bytes) a b is (subst (λ k. Torn k (length bytes) a b) end torn)) c.write_beside.ensures.moves in
+    let q = c.stage.new.self in
+    let stood : Moves m (StandsOn row) r.disk q.disk = staged m row message r.disk w.disk q.disk wrote c.stage.ensures.moves in
+    let was = c.in_ok-stage.ensures.staged in
+    let size : c.len-length.result ≡ length message = c.len-length.ensures.value in
+    let is : bytes ≡ spelled message = ap (λ k. take (2 + k) c.spell-record.result) size ∙ c.spell-record.ensures in
+    let count : c.value-count.result.0 ≡ r.first = ap (λ (v : ℕ × ℕ). v.0) c.value-count.ensures in
+    let same : (q.first, q.second) ≡ (r.first, r.second) = c.stage.ensures.value ∙ c.write_beside.ensures.value in
+    let next : (q.next_first, q.next_second) ≡ (r.first + 1, r.second + 2 + length message) =
+    c.in_ok-stage.ensures.next ∙ (λ i. (count i + 1, end i + 2 + size i)) in
+    let written : m.tells → StandsAt r.second message (m.reading w.disk) = λ told.
+    at_written r.second message bytes (m.reading r.disk) (m.reading w.disk) is
+    (let stands = c.requires.ready.stands told in end_within row r.parity r.first r.second stands.0 (m.reading r.disk) (c.requires.ready.ready.each.reading told) stands.1)
+    (subst (λ k. Holds (m.reading r.disk) k bytes (m.reading w.disk)) end (c.in_ok-write_beside.ensures.written told)) in
+    let has : Each m (StandsAt r.second message) q.disk =
+    at_settled m row message r.second w.disk q.disk c.requires.ready.from written c.stage.ensures.moves c.in_ok-stage.ensures.settled in
+    let selects : Each m (Selects q.parity r.first r.second) q.disk = subst (λ (f : ℕ × ℕ). Each m (Selects q.parity f.0 f.1) q.disk) same was.ready.each in
+    let n = c.commit.new.self in
+    let value : value_of (m.reading n.disk) ≡ (r.first + 1, r.second + 2 + length message) =
+    value-selects n.parity n.first n.second (m.reading n.disk) (let ready = c.in_ok-commit.ensures.ready in ready.each.reading told) ∙ c.in_ok-commit.ensures.value ∙ next in
+    let outside : SameOutside (m.reading q.disk) (m.reading n.disk) = let t = c.commit.ensures.moves.reads told in t.outside in
+    taken m row message q.parity r.first r.second (m.reading r.disk) (m.reading q.disk) (m.reading n.disk) c.requires.fits short
+    (selects.reading told) (stood.reads told) (has.reading told) outside value
+
+pub returns-in_err-write_beside-clause-during : goal.returns-in_err-write_beside-clause-during
+returns-in_err-write_beside-clause-during g c = λ messages stands.
+    let s = c.args.self.now in
+    stored_during g.D.Disk.told s.row c.args.payload.now messages s.register.disk c.write_beside.new.register.disk c.requires.ready.settled stands (returns-in_err-write_beside-clause-moves g c)
+
+pub returns-in_err-stage-clause-during : goal.returns-in_err-stage-clause-during
+returns-in_err-stage-clause-during g c = λ messages stands.
+    let s = c.args.self.now in
+    stored_during g.D.Disk.told s.row c.args.payload.now messages s.register.disk c.stage.new.self.disk c.requires.ready.settled stands (returns-in_err-stage-clause-moves g c)
+
+pub returns-in_err-commit-clause-during : goal.returns-in_err-commit-clause-during
+returns-in_err-commit-clause-during g c = λ messages stands.
+    let s = c.args.self.now in
+    stored_during g.D.Disk.told s.row c.args.payload.now messages s.register.disk c.commit.new.self.disk c.requires.ready.settled stands (returns-in_err-commit-clause-moves g c)
+
+pub returns-clause-during : goal.returns-clause-during
+returns-clause-during g c = λ messages stands.
+    let s = c.args.self.now in
+    stored_during g.D.Disk.told s.row c.args.payload.now messages s.register.disk c.commit.new.self.disk c.requires.ready.settled stands (returns-clause-moves g c)

@@ -1,0 +1,10 @@
+//! High's receiver: the messages that it has taken, in order, on a disk that outlives a crash at any
+//! moment. The bytes are those of `docs/formats.md`, "Disks".
+#![tactic(auto)]
+
+mod beside;
+mod receiver;
+mod values;
+
+pub use receiver::Receiver;
+pub use values::{TakeFault, Taken};

@@ -1,0 +1,180 @@
+ghost use Rattle.std.specs.Prelude.{◌≡◌, ◌+◌, ◌^◌, ◌<◌, ◌≤◌, ℕ, List, None, false, length, IfSome, OnOk, OnErr, IfErr};
+ghost use Rattle.disk_model.specs.Disk.{Moves, Settled, Leaves, Answers};
+ghost use Rattle.pump_frame.specs.Rows.{IsLawfulRow};
+ghost use Rattle.stable_buffer.specs.Log.{RecvStands};
+
+use crate::beside::{spell, write_beside};
+use crate::{TakeFault, Taken};
+use disk_model::Disk;
+use pump_frame::{Payload, SessionRow};
+use stable_buffer::{Device, Register};
+
+/// The messages that high has taken, on its disk: one record after another from byte 80, and a
+/// register that holds their number and where they end.
+#[derive(Drop)]
+pub struct Receiver<D> {
+    register: Register<D>,
+    row: SessionRow,
+    size: u64,
+    is_open: bool,
+}
+
+impl<D: Disk> Receiver<D> {
+    ghost use Rattle.stable_buffer.specs.Register.{IsReady, register_disk, register_value};
+    ghost use Rattle.high_receiver.specs.Steps.{MayTake, Takes, StandsOrTakes};
+    ghost use Rattle.high_receiver.specs.Receiving.{IsRecvReady, StandsForSome, Stores, answer_at_once, recv_disk, recv_count, recv_end, recv_row, recv_size, recv_is_open};
+
+    /// A receiver over a register, whose disk stands for a list of at most 2^48 messages, and has
+    /// `size` bytes to fill.
+    pub fn over(register: Register<D>, row: &SessionRow, size: u64) -> Receiver<D>
+        requires ready { IsReady D.told register }
+        requires lawful { IsLawfulRow row.now }
+        requires count { (register_value register).0 ≤ 2 ^ 48 }
+        requires from { 80 ≤ (register_value register).1 }
+        requires within { (register_value register).1 ≤ size }
+        requires settled { Settled D.told (register_disk register) }
+        requires stands { D.told.tells → StandsForSome row.now
+            (D.told.reading (register_disk register)) }
+        ensures ready { IsRecvReady D.told result }
+        ensures disk { recv_disk result ≡ register_disk register }
+        ensures count { recv_count result ≡ (register_value register).0 }
+        ensures end { recv_end result ≡ (register_value register).1 }
+        ensures row { recv_row result ≡ row.now }
+        ensures size { recv_size result ≡ size }
+    {
+        Receiver {
+            register,
+            row: *row,
+            size,
+            is_open: true,
+        }
+    }
+
+    /// No call has failed. Once one has, only `is_open` and `into_disk` may be called.
+    pub fn is_open(&self) -> bool
+        ensures { result ≡ recv_is_open self.now }
+    {
+        self.is_open
+    }
+
+    /// The disk, with no further call.
+    pub fn into_disk(self) -> D
+        ensures { result ≡ recv_disk self }
+    {
+        self.register.into_disk()
+    }
+
+    /// How many messages are taken.
+    pub fn count(&self) -> u64
+        ensures { result ≡ recv_count self.now }
+    {
+        self.register.value().0
+    }
+
+    // What a message of this number and length is answered where it isn't to be stored.
+    fn answer_at_once(&self, number: u64, length: u32) -> Option<Result<Taken, TakeFault>>
+        requires within { recv_end self.now ≤ recv_size self.now }
+        requires short { length ≤ 1024 }
+        ensures { result ≡ answer_at_once (recv_count self.now) (recv_end self.now)
+            (recv_size self.now) number length }
+    {
+        let (count, end) = self.register.value();
+        if number < count {
+            return Some(Ok(Taken::Repeat));
+        }
+        if number > count {
+            return Some(Err(TakeFault::Ahead { number, count }));
+        }
+        // The end of the message itself may be no u64.
+        if self.size - end < 2 + length as u64 {
+            return Some(Err(TakeFault::LogFull {
+                end,
+                length,
+                size: self.size,
+            }));
+        }
+        None
+    }
+
+    // Writes a message at the end, and turns the register to it.
+    fn write(&mut self, payload: &Payload) -> Result<(), Device>
+        requires ready { IsRecvReady D.told self.old }
+        requires fits { length payload.now ≤ (recv_row self.old).message }
+        requires below { recv_count self.old < 2 ^ 48 }
+        requires room { recv_end self.old + 2 + length payload.now ≤ recv_size self.old }
+
+        ensures ready { OnOk result (IsReady D.told self.new.register) }
+        ensures settled { OnOk result (Settled D.told (recv_disk self.new)) }
+        ensures count { OnOk result (recv_count self.new ≡ recv_count self.old + 1) }
+        ensures end { OnOk result (recv_end self.new
+            ≡ recv_end self.old + 2 + length payload.now) }
+        ensures row { recv_row self.new ≡ recv_row self.old }
+        ensures size { recv_size self.new ≡ recv_size self.old }
+        ensures open { recv_is_open self.new ≡ recv_is_open self.old }
+
+        ensures moves { Moves D.told (MayTake (recv_row self.old) payload.now)
+            (recv_disk self.old) (recv_disk self.new) }
+        ensures during { (messages : List (List ℕ))
+            → RecvStands (recv_row self.old) messages (D.told.reading (recv_disk self.old))
+            → Leaves D.told (recv_disk self.old) (recv_disk self.new)
+            (StandsOrTakes (recv_row self.old) messages payload.now) }
+        ensures taken { OnOk result (D.told.tells → Takes (recv_row self.old) payload.now
+            (D.told.reading (recv_disk self.old)) (D.told.reading (recv_disk self.new))) }
+
+        ensures answers { Answers D.told
+            (recv_end self.old + 2 + length payload.now ≤ D.told.room (recv_disk self.old))
+            (recv_disk self.old) (recv_disk self.new) result }
+        ensures device { IfErr result (λ e. e.faults ≡ D.told.count (recv_disk self.new)) }
+    {
+        let (count, end) = self.register.value();
+        let record = spell(payload);
+        let length = payload.len();
+        write_beside(&mut self.register, end, &record[..2 + length as usize])?;
+        self.register.stage(count + 1, end + 2 + length as u64)?;
+        self.register.commit()?;
+        Ok(())
+    }
+
+    fn store(&mut self, payload: &Payload) -> Result<Taken, TakeFault>
+        requires ready { IsRecvReady D.told self.old }
+        requires fits { length payload.now ≤ (recv_row self.old).message }
+        requires below { recv_count self.old < 2 ^ 48 }
+        requires room { recv_end self.old + 2 + length payload.now ≤ recv_size self.old }
+        ensures stores { Stores D.told payload.now self.old self.new result }
+        ensures row { recv_row self.new ≡ recv_row self.old }
+        ensures size { recv_size self.new ≡ recv_size self.old }
+    {
+        match self.write(payload) {
+            Ok(()) => Ok(Taken::Took),
+            Err(device) => {
+                self.is_open = false;
+                Err(TakeFault::Device {
+                    faults: device.faults,
+                })
+            }
+        }
+    }
+
+    /// Takes a message where it is the next one. A number below the count is a repeat, one above it
+    /// is ahead, and a message that would end past the size makes the log full: these change nothing.
+    /// After `Device` the disk must be opened again.
+    pub fn take(&mut self, number: u64, payload: &Payload) -> Result<Taken, TakeFault>
+        requires ready { IsRecvReady D.told self.old }
+        requires number { number < 2 ^ 48 }
+        requires fits { length payload.now ≤ (recv_row self.old).message }
+        ensures at_once { IfSome (answer_at_once (recv_count self.old) (recv_end self.old)
+            (recv_size self.old) number (length payload.now)) (λ answer. result ≡ answer) }
+        ensures unchanged { IfSome (answer_at_once (recv_count self.old) (recv_end self.old)
+            (recv_size self.old) number (length payload.now)) (λ answer. self.new ≡ self.old) }
+        ensures stores { answer_at_once (recv_count self.old) (recv_end self.old)
+            (recv_size self.old) number (length payload.now) ≡ None
+            → Stores D.told payload.now self.old self.new result }
+        ensures row { recv_row self.new ≡ recv_row self.old }
+        ensures size { recv_size self.new ≡ recv_size self.old }
+    {
+        match self.answer_at_once(number, payload.len()) {
+            Some(answer) => answer,
+            None => self.store(payload),
+        }
+    }
+}

@@ -115,7 +115,7 @@ module _ (c d : Plain) (p : Past) (back : ℕ) (out out' : List Event) (stands :
           waits = stands.waits;
           lawful_waits = stands.lawful_waits;
           broken = stands.broken;
-          unread = stands.unread;
+          reading = stands.reading;
           world = holds;
           rest = rest;
           lawful = runs_lawfully w (CarryData (place w.sent back) ∷ es) u stands.lawful (v, carries, run);

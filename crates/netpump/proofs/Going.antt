@@ -7,7 +7,7 @@ use Rattle.script_reader.specs.declared.line.Line.TheVariants as lines
 use Rattle.pump_frame.specs.declared.row.RowKey.{RowKey}
 use Rattle.pump_frame.specs.Rows.{first_bad}
 use Rattle.script_reader.specs.Past.{fresh}
-use Rattle.script_reader.specs.Steps.{can_apply, Step}
+use Rattle.script_reader.specs.Steps.{is_timely, IsBarred, Step}
 use Rattle.script_reader.specs.Scripts.{Running, Goes, Leads, IsRefused}
 use Rattle.netpump.specs.declared.session.Session.{Session}
 use Rattle.netpump.specs.declared.session.Stop.{Stop}
@@ -23,7 +23,7 @@ leads_from running (lines.Look session moment word arrival) after printed h = h
 leads_from running (lines.Gone session moment) after printed h = h
 leads_from running (lines.Done session moment time) after printed h = h
 
-refused_from : (running : Running) (line : Line) → line ≢ lines.Skip → can_apply running.row running.past line ≡ false → IsRefused (Some running) line
+refused_from : (running : Running) (line : Line) → line ≢ lines.Skip → IsBarred running.row running.past line → IsRefused (Some running) line
 refused_from running lines.Skip some h = absurd (some refl)
 refused_from running (lines.Session row) some h = h
 refused_from running (lines.Look session moment word arrival) some h = h
@@ -35,15 +35,15 @@ pub goes : (s t : Session) (running : Running) (line : Line) (printed : List Eve
 goes s t running line printed (Some x) none row same h = cc
 goes s t running line printed None none row same h =
     let q = h.1.0 in
-    let can : can_apply running.row running.past line ≡ true = rw row at h.0 in
+    let timely : is_timely running.row running.past line ≡ true = rw row at h.0 in
     let step : Step running.row running.past line q printed = subst (λ r. Step r running.past line q printed) row h.1.1 in
     let after : Running = record { row = running.row; past = q } in
-    (Some after, leads_from running line (Some after) printed (can, (q, step, refl)), (same ∙ row, h.1.2))
+    (Some after, leads_from running line (Some after) printed (timely, (q, step, refl)), (same ∙ row, h.1.2))
 
 pub stays : (s t : Session) (running : Running) (line : Line) (printed : List Event) (stop : Option Stop) (x : Stop) → stop ≡ Some x → row_of s ≡ running.row → line ≢ lines.Skip
     → Applies s t line running.past printed stop → IsRefused (Some running) line
 stays s t running line printed None x e row some h = cc
-stays s t running line printed (Some stops.Line) x e row some h = refused_from running line some (rw row at h.0)
+stays s t running line printed (Some stops.Line) x e row some h = refused_from running line some (subst (λ r. IsBarred r running.past line) row h.0)
 
 pub begun_does : (session : Option Session) (s t : Session) (running : Option Running) (line : Line) (outcome : Outcome) → session ≡ Some s
     → ((r : Running) → row_of s ≡ r.row → StandsFor s r.past → Does (Some r) line (Some t) outcome)

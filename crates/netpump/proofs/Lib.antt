@@ -1,3 +1,4 @@
+pub mod Adding
 pub mod Carries
 pub mod Finished
 pub mod Fits
@@ -10,6 +11,7 @@ pub mod LowLines
 pub mod LowLooking
 pub mod OneWord
 pub mod Opens
+pub mod RawBytes
 pub mod Removals
 pub mod Sendings
 pub mod SoFar

@@ -174,7 +174,7 @@ module _ (c d : Plain) (p : Past) (m w : ℕ) (a : Arrival) (l : LowLook) (step 
     history = looked p.history x;
     waits = if takes now.parts then drop 1 p.waits else p.waits;
     is_broken = p.is_broken || (takes now.parts && is_bad a);
-    unread = p.unread;
+    reading = p.reading;
     world = led.end;
     times = p.times;
     sends = p.sends;
@@ -198,7 +198,7 @@ module _ (c d : Plain) (p : Past) (m w : ℕ) (a : Arrival) (l : LowLook) (step 
         history = refl;
         waits = refl;
         broken = refl;
-        unread = refl;
+        reading = refl;
         times = refl;
         sends = refl;
         moment = refl;
@@ -235,7 +235,7 @@ module _ (c d : Plain) (p : Past) (m w : ℕ) (a : Arrival) (l : LowLook) (step 
     waits = waits_are;
     lawful_waits = subst AreLawful (sym step.waits) (lawful_drop l.taken c.waits.items stands.lawful_waits);
     broken = broken_is;
-    unread = stands.unread;
+    reading = stands.reading;
     world = subst (λ (t : Option Item × List Item × ℕ). HoldsWorld (record (kept_of c) { low_hand = t.0; held = t.1; accepted = t.2 }) led.end)
         (λ i. (sym hand_is i, sym step.held i, sym (ap (λ (t : State). t.next) step.look.step.state) i)) led.holds;
     rest = led.rest;

@@ -1,5 +1,5 @@
 -- A session before its first line stands for the fresh past.
-use Rattle.std.proofs.Common.{◌≡◌, ◌≤◌, false, true, [], Option, Some, None, refl, sym, ap, ◌∙◌, subst, arith}
+use Rattle.std.proofs.Common.{◌≡◌, false, true, [], None, refl, sym, ap, ◌∙◌, subst, arith}
 use Rattle.pump_frame.specs.declared.row.SessionRow.{SessionRow}
 use Rattle.netpump.specs.declared.low.LowProcess.{LowProcess}
 use Rattle.pump_core.specs.History.{Opening, first_life}
@@ -8,18 +8,12 @@ use Rattle.netpump.specs.LowLooks as low
 use Rattle.pump_core.specs.Step.{opened}
 use Rattle.pump_core.specs.Standing.{State}
 use Rattle.pump_core.proofs.Runs.{run, ran}
-use Rattle.std.specs.Prelude.{Bool, nat_le, if◌then◌else◌}
-use Rattle.std.proofs.lemmas.Bool.{and_parts}
-use Rattle.std.proofs.lemmas.Bool.Decides.{nat_tests}
-use Rattle.pump_frame.specs.Rows.{is_within, IsLawfulRow}
-use Rattle.pump_frame.specs.declared.row.RowKey.{RowKey}
-use Rattle.pump_frame.specs.declared.row.RowKey.TheVariants.{Capacity}
+use Rattle.pump_frame.specs.Readings.{Within}
+use Rattle.pump_frame.specs.Rows.{IsLawfulRow}
 use Rattle.pump_core.specs.World as worlds
-use Rattle.pump_core.specs.Lawful.{IsLawful}
-use Rattle.pump_core.specs.Events.{Empty}
-use Rattle.pump_core.proofs.Laws.{begins_lawful}
 use Rattle.netpump.specs.declared.session.plain.Plain.{Plain}
 use Rattle.script_reader.specs.Past.{fresh}
+use Rattle.script_reader.proofs.Fresh.{fresh_lawful}
 use Rattle.moving_avg.specs.Windows.{HoldsTimes, window_of, start_of}
 use Rattle.netpump.specs.Standing.{Kept, HoldsWorld, AreLawful, arrivals_of, is_full, item_of, HoldsSends, StandsFor}
 
@@ -35,6 +29,7 @@ pub record IsNew (c : Plain) (s : SessionRow) : Type 0 where
   pub low : low.StandsFor c.low (first_life (record { count = 0; is_held = false }))
   pub waits : c.waits.items ≡ []
   pub broken : c.is_broken ≡ false
+  pub reader : c.reader ≡ Within []
   pub low_hand : hand_of c.low ≡ None
   pub held : c.held.items ≡ []
   pub high_hand : c.high_hand ≡ None
@@ -47,22 +42,8 @@ pub record IsNew (c : Plain) (s : SessionRow) : Type 0 where
   pub start : start_of c.window ≡ s.start
   pub moment : c.moment ≡ 0
 
-capacity_within : (b : Bool) (rest : Option RowKey) → (if b then rest else Some Capacity) ≡ None → b ≡ true
-capacity_within true rest e = refl
-capacity_within false rest e = absurd (cc)
-
-pub row_capacity : (row : SessionRow) → IsLawfulRow row → (3 ≤ row.capacity) × (row.capacity ≤ 64)
-row_capacity row h =
-    let parts = and_parts (nat_le 3 row.capacity) (nat_le row.capacity 64) (capacity_within (is_within 3 64 row.capacity) _ h) in
-    let a = parts.0 in
-    let b = parts.1 in
-    (grind (arith, nat_tests), grind (arith, nat_tests))
-
-pub fresh_lawful : (s : SessionRow) → 3 ≤ s.capacity → s.capacity ≤ 64 → IsLawful (fresh s).world
-fresh_lawful s least most = begins_lawful (worlds.empty s.capacity) (Empty s.capacity least most)
-
-pub new_stands : (c : Plain) (s : SessionRow) → IsNew c s → 3 ≤ s.capacity → s.capacity ≤ 64 → StandsFor c (fresh s)
-new_stands c s n least most =
+pub new_stands : (c : Plain) (s : SessionRow) → IsNew c s → IsLawfulRow s → StandsFor c (fresh s)
+new_stands c s n lawful_row =
     let o : Opening = record { count = 0; is_held = false } in
     let e = open_state c.low o n.low in
     record {
@@ -71,7 +52,7 @@ new_stands c s n least most =
       waits = ap arrivals_of n.waits;
       lawful_waits = subst AreLawful (sym n.waits) tt;
       broken = n.broken;
-      unread = refl;
+      reading = n.reader;
       world = subst (λ (k : Kept). HoldsWorld k (worlds.empty s.capacity))
           (λ i. record {
             capacity = sym (ap (λ (t : SessionRow). t.capacity) n.row) i;
@@ -99,7 +80,7 @@ new_stands c s n least most =
             returned = refl;
           });
       rest = record { storing = refl; due = refl; removing = refl; packet = refl; taking = refl };
-      lawful = fresh_lawful s least most;
+      lawful = fresh_lawful s lawful_row;
       times = n.times;
       window = (n.capacity ∙ sym (ap (λ (t : SessionRow). t.window) n.row), n.start ∙ sym (ap (λ (t : SessionRow). t.start) n.row));
       sends = subst (λ h. HoldsSends h c.removed []) (sym n.high_hand) (λ k le. refl);

@@ -135,7 +135,7 @@ module _ (c : Plain) (p : Past) (m : ℕ) (stands : StandsFor c p) where
             waits = stands.waits;
             lawful_waits = stands.lawful_waits;
             broken = stands.broken;
-            unread = stands.unread;
+            reading = stands.reading;
             world = record {
               capacity = stands.world.capacity;
               low_hand = stands.world.low_hand;

@@ -107,7 +107,7 @@ module _ (c : Plain) (p : Past) (m : ℕ) (stands : StandsFor c p) (order : c.mo
           waits = stands.waits;
           lawful_waits = stands.lawful_waits;
           broken = stands.broken;
-          unread = stands.unread;
+          reading = stands.reading;
           world = stands.world;
           rest = stands.rest;
           lawful = stands.lawful;
@@ -168,7 +168,7 @@ module _ (c : Plain) (p : Past) (m : ℕ) (stands : StandsFor c p) (order : c.mo
           waits = stands.waits;
           lawful_waits = stands.lawful_waits;
           broken = stands.broken;
-          unread = stands.unread;
+          reading = stands.reading;
           world = subst (λ (t : Option Hand × List Item). HoldsWorld (record (kept_of c) { high_hand = item_of t.0; held = t.1; sent = d.sent.items }) v) (λ i. (sym step.0 i, sym step.1 i)) world;
           rest = record { storing = rest.storing; due = rest.due; removing = rest.removing; packet = rest.packet; taking = rest.taking };
           lawful = stays_lawful w Send v lawful happens;

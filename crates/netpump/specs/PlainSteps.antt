@@ -1,11 +1,11 @@
 -- What the private functions of a session's code do; no public clause cites this.
-use Rattle.std.specs.Prelude.{◌≡◌, ℕ, ◌+◌, ◌-◌, ◌^◌, Bool, true, false, ◌&&◌, ◌||◌, not, ◌==◌, nat_lt, nat_le, min, if◌then◌else◌, List, [], ◌∷◌, ◌++◌, length, drop, slice_get, option_to_list, Option, Some, None}
+use Rattle.std.specs.Prelude.{◌≡◌, ℕ, ◌+◌, ◌-◌, ◌^◌, ◌<◌, ◌≤◌, Bool, true, false, ◌&&◌, ◌||◌, not, ◌==◌, nat_lt, nat_le, min, if◌then◌else◌, List, [], ◌∷◌, ◌++◌, length, take, drop, slice_get, option_to_list, Option, Some, None}
 use Rattle.pump_frame.specs.declared.frame.Frame.{Frame}
 use Rattle.pump_frame.specs.declared.frame.Item.{Item}
 use Rattle.pump_core.specs.declared.feedback.Feedback.{Feedback}
 use Rattle.pump_core.specs.declared.feedback.Feedback.TheVariants.{Passed, Released}
 use Rattle.pump_core.specs.History.{Arrival}
-use Rattle.pump_core.specs.History.{Nothing, Came}
+use Rattle.pump_core.specs.History.{Nothing}
 use Rattle.pump_frame.specs.Averages.{average_of}
 use Rattle.moving_avg.specs.Windows.{HoldsTimes, window_of, start_of, count_of}
 use Rattle.script_reader.specs.declared.event.Event.{Event}
@@ -13,16 +13,21 @@ use Rattle.script_reader.specs.declared.event.Event.TheVariants.{Low, Removed, S
 use Rattle.script_reader.specs.declared.line.Line.{Line}
 use Rattle.script_reader.specs.declared.line.Line.TheVariants as lines
 use Rattle.script_reader.specs.Lows.{printed_store, printed_feedback, is_bad}
-use Rattle.script_reader.specs.Steps.{arrivals, is_known}
+use Rattle.script_reader.specs.Past.{Past}
+use Rattle.script_reader.specs.Steps.{Coming, bad_of, came, joined, IsRead, Arrives, is_timely, IsCrowded, IsBarred, IsJoinedLook, Step}
 use Rattle.netpump.specs.LowLooks.{state_of, look_of, Heard, hand_of, hand_after}
 use Rattle.netpump.specs.LowSteps.{Stepped}
 use Rattle.netpump.specs.declared.low.LowLook.{LowLook}
 use Rattle.netpump.specs.declared.low.LowProcess.{LowProcess}
 use Rattle.netpump.specs.declared.low.Told.{Told}
 use Rattle.netpump.specs.declared.session.plain.Waiting.{Waiting}
+use Rattle.netpump.specs.declared.session.plain.Waiting.TheVariants.{Frame as WaitingFrame}
 use Rattle.netpump.specs.declared.session.plain.Hand.{Hand}
 use Rattle.netpump.specs.declared.session.plain.Plain.{Plain}
-use Rattle.netpump.specs.Standing.{arrival_of, arrivals_of, is_full, last_64}
+use Rattle.netpump.specs.Standing.{arrival_of, arrivals_of, is_full, last_64, StandsFor, Leads}
+use Rattle.pump_frame.specs.Readings.{Reading, Within, Stopped}
+use Rattle.pump_frame.specs.Streams.{Reads}
+use Rattle.script_reader.specs.declared.line.Arriving.{Arriving}
 
 -- ---- a low look ----
 
@@ -73,10 +78,49 @@ abbrev pub first_waiting : Option Waiting → Arrival
 first_waiting None = Nothing
 first_waiting (Some w) = arrival_of w
 
--- a frame that comes with a line
-abbrev pub came : Option Frame → List Arrival
-came None = []
-came (Some f) = Came f ∷ []
+-- ---- what comes with a line ----
+
+-- an arrival, if there is one
+abbrev pub added_of : Option Waiting → List Arrival
+added_of None = []
+added_of (Some w) = arrival_of w ∷ []
+
+-- bad bytes add one Bad where they are met first
+abbrev pub newly_bad : Reading → Reading → List Arrival
+newly_bad (Within held) r = bad_of r
+newly_bad (Stopped at) r = []
+
+-- this came of bytes, fed one after the other
+abbrev pub IsFed : Reading → List ℕ → Coming → Type 0
+IsFed r bytes c = (frames : List Frame) × Reads r bytes frames c.reading × (c.added ≡ came frames ++ newly_bad r c.reading)
+
+-- of these arrivals the first 64 are held, and all are counted
+pub record Gathers (added : List Arrival) (held : List Waiting) (count : ℕ) : Type 0 where
+  pub all : List Waiting
+  pub are : arrivals_of all ≡ added
+  pub held_are : held ≡ take 64 all
+  pub counted : count ≡ length all
+
+-- this joins what waits
+pub record Joins (c d : Plain) (k : Coming) : Type 0 where
+  pub waits : arrivals_of d.waits.items ≡ arrivals_of c.waits.items ++ k.added
+  pub reader : d.reader ≡ k.reading
+  pub rest : d ≡ record c { waits = d.waits; reader = d.reader }
+
+-- a frame joins what waits, or there is no room for it and nothing has changed
+abbrev pub AddsFrame : Plain → Plain → Frame → Bool → Type 0
+AddsFrame c d f true = (length (c.waits.items ++ WaitingFrame f ∷ []) ≤ 64) × (d.waits.items ≡ c.waits.items ++ WaitingFrame f ∷ []) × (d ≡ record c { waits = d.waits })
+AddsFrame c d f false = (64 < length (c.waits.items ++ WaitingFrame f ∷ [])) × (d ≡ c)
+
+-- so does what raw bytes bring
+abbrev pub AddsRaw : Plain → Plain → List ℕ → Bool → Type 0
+AddsRaw c d bytes true = (k : Coming) × IsRead c.reader bytes k × (length (arrivals_of c.waits.items ++ k.added) ≤ 64) × Joins c d k
+AddsRaw c d bytes false = (k : Coming) × IsRead c.reader bytes k × (64 < length (arrivals_of c.waits.items ++ k.added)) × (d ≡ c)
+
+-- so does what comes with a line
+abbrev pub Adds : Plain → Plain → ℕ → Arriving → Bool → Type 0
+Adds c d session a true = (k : Coming) × Arrives session c.reader a k × (length (arrivals_of c.waits.items ++ k.added) ≤ 64) × Joins c d k
+Adds c d session a false = (k : Coming) × Arrives session c.reader a k × (64 < length (arrivals_of c.waits.items ++ k.added)) × (d ≡ c)
 
 -- ---- the high side ----
 
@@ -142,11 +186,26 @@ abbrev pub is_empty : List Item → Bool
 is_empty [] = true
 is_empty (x ∷ xs) = false
 
+-- .. and what comes with a line plays no part
 abbrev pub fits_code : Plain → Line → Bool
 fits_code c lines.Skip = false
 fits_code c (lines.Session row) = false
-fits_code c (lines.Look session m w a) =
-    session == c.row.id && (nat_le c.moment m && (is_known a && nat_le (length (arrivals_of c.waits.items ++ arrivals session a)) 64))
+fits_code c (lines.Look session m w a) = session == c.row.id && nat_le c.moment m
 fits_code c (lines.Gone session m) = session == c.row.id && nat_le c.moment m
 fits_code c (lines.Done session m t) =
     session == c.row.id && (nat_le c.moment m && (not (is_full c.high_hand || not (is_empty c.held.items)) || nat_le (m + t) (2 ^ 62)))
+
+-- a line for which the code's test holds was applied, or nothing has changed since too much would wait
+abbrev pub Runs : Plain → Plain → Line → List Event → List Event → Bool → Type 0
+Runs c d line out out' true = Leads c d out out' (λ p q printed. Step c.row p line q printed)
+Runs c d line out out' false = (d ≡ c) × (out' ≡ out) × ((p : Past) → StandsFor c p → IsCrowded p line)
+
+-- so does a look with which this comes
+abbrev pub LooksSo : Plain → Plain → ℕ → ℕ → Arriving → List Event → List Event → Bool → Type 0
+LooksSo c d m w a out out' true = Leads c d out out' (λ p q printed. (k : Coming) × Arrives c.row.id p.reading a k × IsJoinedLook c.row p m w k q printed)
+LooksSo c d m w a out out' false = (d ≡ c) × (out' ≡ out) × ((p : Past) → StandsFor c p → (k : Coming) × Arrives c.row.id p.reading a k × (64 < length (joined p k).waits))
+
+-- a line could be applied, or nothing has changed
+abbrev pub Attempts : Plain → Plain → Line → List Event → List Event → Bool → Type 0
+Attempts c d line out out' true = Leads c d out out' (λ p q printed. (is_timely c.row p line ≡ true) × Step c.row p line q printed)
+Attempts c d line out out' false = (d ≡ c) × (out' ≡ out) × ((p : Past) → StandsFor c p → IsBarred c.row p line)

@@ -1,5 +1,5 @@
 -- What the code's session stands for. It serves the private functions and the proofs.
-use Rattle.std.specs.Prelude.{◌≡◌, ℕ, ◌+◌, ◌-◌, ◌<◌, ◌≤◌, ◌++◌, Bool, true, false, List, [], map, length, drop, slice_get, Option, Some, None}
+use Rattle.std.specs.Prelude.{◌≡◌, ℕ, ◌+◌, ◌-◌, ◌<◌, ◌≤◌, ◌++◌, Bool, true, false, List, map, length, drop, slice_get, Option, Some, None}
 use Rattle.std.specs.List.{AllByRecursion}
 use Rattle.pump_frame.specs.declared.frame.Item.{Item}
 use Rattle.pump_core.specs.History.{Arrival}
@@ -117,7 +117,7 @@ pub record StandsFor (c : Plain) (p : Past) : Type 0 where
   pub waits : arrivals_of c.waits.items ≡ p.waits
   pub lawful_waits : AreLawful c.waits.items
   pub broken : c.is_broken ≡ p.is_broken
-  pub unread : p.unread ≡ []
+  pub reading : c.reader ≡ p.reading
   pub world : HoldsWorld (kept_of c) p.world
   pub rest : IsAtRest p.world
   pub lawful : IsLawful p.world

@@ -6,6 +6,7 @@ use pump_frame::{OutOfMemory, SessionRow};
 use script_reader::{Event, Line};
 use std::alloc::Global;
 
+mod arrivals;
 mod carry;
 mod high_look;
 mod lines;

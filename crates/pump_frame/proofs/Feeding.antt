@@ -64,3 +64,7 @@ nothing_held bad items none empty =
     let P : Option ℕ → Type 0 = λ b. HasBegun (reading_of b items) in
     let Q : List ℕ → Type 0 = IsPartial in
     subst P (sym none) (subst Q (sym empty) (partial_from [] FirstMark (λ i. omega arith) refl (λ e. cc)))
+
+pub begun_at : (bad : Option ℕ) (held : List ℕ) (place : Place) → StandsAt bad held place → HasBegun (reading_of bad held)
+begun_at None held place stands = partial_from held place stands.2 stands.0 stands.1
+begun_at (Some at) held place stands = tt

@@ -1,5 +1,5 @@
 -- What a reader of frames holds.
-use Rattle.std.specs.Prelude.{ℕ, List}
+use Rattle.std.specs.Prelude.{ℕ, Bool, true, false, List}
 use Rattle.pump_frame.specs.Spellings.{IsPartial}
 
 -- the bytes since the last whole frame, or the bad place where it stopped
@@ -11,3 +11,8 @@ pub data Reading : Type 0 where
 abbrev pub HasBegun : Reading → Type 0
 HasBegun (Within held) = IsPartial held
 HasBegun (Stopped at) = Unit {0}
+
+-- it met bad bytes
+abbrev pub is_stopped : Reading → Bool
+is_stopped (Within held) = false
+is_stopped (Stopped at) = true

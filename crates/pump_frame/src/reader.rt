@@ -2,7 +2,7 @@ ghost use Rattle.std.specs.Prelude.{◌≡◌, ◌↔◌, [], IsTrue};
 ghost use Rattle.pump_frame.specs.Frames.{IsLawful};
 ghost use Rattle.pump_frame.specs.Spellings.{spelling};
 ghost use Rattle.pump_frame.specs.Places.{IsWhole};
-ghost use Rattle.pump_frame.specs.Readings.{Reading, Within, Stopped, HasBegun};
+ghost use Rattle.pump_frame.specs.Readings.{Reading, Within, Stopped, HasBegun, is_stopped};
 ghost use Rattle.pump_frame.specs.Streams.{Feeds};
 
 use crate::frame::Frame;
@@ -92,6 +92,27 @@ impl Reader {
         self.held.clear();
         self.place = Place::FirstMark;
         Fed::Whole(frame)
+    }
+
+    /// Whether it met bad bytes, and reads no further.
+    pub fn is_stopped(&self) -> bool
+        ensures value { result ≡ is_stopped self.now }
+        ensures begun { HasBegun self.now }
+    {
+        self.bad.is_some()
+    }
+
+    /// A second reader that has read the same bytes.
+    pub fn duplicate(&self) -> Reader
+        ensures value { result ≡ self.now }
+    {
+        let mut held = ArrayVec::new();
+        held.try_extend_from_slice(self.held.as_slice()).unwrap();
+        Reader {
+            held,
+            place: self.place,
+            bad: self.bad,
+        }
     }
 
     /// Whether no byte of an unfinished frame is held; false after `Bad`.

@@ -98,7 +98,7 @@ goes_lawful n s (Some k) p m q printed l (mid, first, second, c, h, e) = high_la
 step_lawful : (n : ℕ) (s : SessionRow) (p : Past) (line : Line) (q : Past) (printed : List Event) → (Stays n) p.world → Step s p line q printed → (Stays n) q.world
 step_lawful n s p lines.Skip q printed l h = absurd h
 step_lawful n s p (lines.Session row) q printed l h = absurd h
-step_lawful n s p (lines.Look session m w a) q printed l (f, i) = stays_by n p.world _ q.world l i.world
+step_lawful n s p (lines.Look session m w a) q printed l (c, comes, (few, (f, i))) = stays_by n p.world _ q.world l i.world
 step_lawful n s p (lines.Gone session m) q printed l (f, i) = stays_by n p.world _ q.world l i.world
 step_lawful n s p (lines.Done session m t) q printed l (mid, first, second, h, g, e) = goes_lawful n s mid.world.high_hand mid (m + t) q second (high_lawful n s p m None mid first l h) g
 
@@ -111,8 +111,8 @@ begins_so : (row : SessionRow) → IsLawfulRow row → Holds (Some (record { row
 begins_so row lawful = (record { lawful = fresh_lawful row lawful; capacity = refl }, omega arith)
 
 goes_so : (s : Running) (line : Line) (after : Option Running) (printed : List Event) → Goes s line after printed → Holds (Some s) → Holds after
-goes_so s line after printed (can, (q, step, e)) (l, few) =
-    subst Holds (sym e) (step_lawful s.row.capacity s.row s.past line q printed l step, step_waits s.row s.past line q printed can few step)
+goes_so s line after printed (timely, (q, step, e)) (l, few) =
+    subst Holds (sym e) (step_lawful s.row.capacity s.row s.past line q printed l step, step_waits s.row s.past line q printed few step)
 
 leads_so : (running : Option Running) (line : Line) (after : Option Running) (printed : List Event) → Leads running line after printed → Holds running → Holds after
 leads_so None lines.Skip after printed h k = subst Holds (sym h.0) k

@@ -20,7 +20,12 @@ use Rattle.script_reader.specs.declared.event.Event.{Event}
 use Rattle.script_reader.specs.Past.{Past}
 use Rattle.script_reader.specs.Lows.{first_of, is_bad, feedback, offers, stored_events, acks_of, printed_store, printed_feedback, printed_replies, IsLook}
 use Rattle.script_reader.specs.Highs.{Perhaps, Returns, Sends, time_of, printed_removal, sends_hand, sending_of, printed_sending, printed_carry, IsRemoval, IsSending, IsHighLook, IsCarried, place}
-use Rattle.script_reader.specs.Steps.{joined, lost, look_of, IsLowLook, GoesOn, Step}
+use Rattle.script_reader.specs.Steps.{Coming, bad_of, came, IsRead, Arrives, joined, lost, look_of, IsLowLook, IsOfferedLook, GoesOn, IsDone, Step}
+use Rattle.script_reader.specs.declared.line.Arriving.{Arriving}
+use Rattle.script_reader.specs.declared.line.Arriving.TheVariants as arriving
+use Rattle.pump_frame.specs.declared.frame.Frame.{Frame}
+use Rattle.pump_frame.specs.Readings.{Reading, Within, Stopped}
+use Rattle.pump_frame.proofs.Streams.{streams_one}
 use Rattle.script_reader.specs.Scripts.{Running, Goes, Leads, LeadTo, ends, IsTranscript}
 
 -- ---- events ----
@@ -129,12 +134,12 @@ look_same s p x q r xs ys h k =
     let hi : q.history ≡ r.history = h.history ∙ sym k.history in
     let wa : q.waits ≡ r.waits = h.waits ∙ ap (λ (u : List Part). if takes u then drop 1 p.waits else p.waits) c ∙ sym k.waits in
     let br : q.is_broken ≡ r.is_broken = h.broken ∙ ap (λ (u : List Part). p.is_broken || (takes u && is_bad x.arrival)) c ∙ sym k.broken in
-    let un : q.unread ≡ r.unread = h.unread ∙ sym k.unread in
+    let un : q.reading ≡ r.reading = h.reading ∙ sym k.reading in
     let ti : q.times ≡ r.times = h.times ∙ sym k.times in
     let se : q.sends ≡ r.sends = h.sends ∙ sym k.sends in
     let mo : q.moment ≡ r.moment = h.moment ∙ sym k.moment in
     record {
-      past = λ i. record { history = hi i; waits = wa i; is_broken = br i; unread = un i; world = w i; times = ti i; sends = se i; moment = mo i };
+      past = λ i. record { history = hi i; waits = wa i; is_broken = br i; reading = un i; world = w i; times = ti i; sends = se i; moment = mo i };
       printed = h.printed_is ∙ (λ i. printed_store s.id x.moment (stores (c i)) ++ (printed_feedback s.id x.moment x.feedback ++ printed_replies s.id (n i))) ∙ sym k.printed_is;
     }
 
@@ -151,10 +156,27 @@ goes_one s (Some n) p m q r xs ys (mid, a, b, c, t, e) (mid', a', b', c', t', e'
     let y = high_one s mid m (Some (place mid.world.returned 0)) q r b b' t (subst (λ (u : Past). IsHighLook s u m (Some (place u.world.returned 0)) r b') (sym x.past) t') in
     record { past = y.past; printed = e ∙ (λ i. x.printed i ++ y.printed i) ∙ sym e' }
 
+-- ---- what comes ----
+
+stream_one : (r : Reading) (bytes : List ℕ) (c d : Coming) → IsRead r bytes c → IsRead r bytes d → c ≡ d
+stream_one (Within held) bytes c d (fs, h, e) (gs, k, f) =
+    let same = streams_one (held ++ bytes) fs gs c.reading d.reading h k in
+    let added : c.added ≡ d.added = e ∙ ap (λ (t : List Frame × Reading). came t.0 ++ bad_of t.1) (λ i. (same.0 i, same.1 i)) ∙ sym f in
+    λ i. record { added = added i; reading = same.1 i }
+stream_one (Stopped at) bytes c d h k = h ∙ sym k
+
+pub arrives_one : (session : ℕ) (r : Reading) (a : Arriving) (c d : Coming) → Arrives session r a c → Arrives session r a d → c ≡ d
+arrives_one session r arriving.Nothing c d h k = h ∙ sym k
+arrives_one session r (arriving.Hello l n) c d h k = h ∙ sym k
+arrives_one session r (arriving.Data n b) c d h k = h ∙ sym k
+arrives_one session r (arriving.Raw bytes) c d h k = stream_one r bytes.items c d h k
+
 step_one : (s : SessionRow) (p : Past) (line : Line) (q r : Past) (xs ys : List Event) → Step s p line q xs → Step s p line r ys → Same q r xs ys
 step_one s p lines.Skip q r xs ys h k = absurd h
 step_one s p (lines.Session row) q r xs ys h k = absurd h
-step_one s p (lines.Look session m w a) q r xs ys h k = look_one s (joined p session a) m w (first_of p.is_broken (joined p session a).waits) q r xs ys h k
+step_one s p (lines.Look session m w a) q r xs ys (c, comes, (few, h)) (d, comes', (few', k)) =
+    let same = arrives_one session p.reading a c d comes comes' in
+    look_one s (joined p c) m w (first_of p.is_broken (joined p c).waits) q r xs ys h (subst (λ (t : Coming). IsOfferedLook s (joined p t) m w r ys) (sym same) k)
 step_one s p (lines.Gone session m) q r xs ys h k = look_one s (lost p) m 0 Gone q r xs ys h k
 step_one s p (lines.Done session m t) q r xs ys (mid, a, b, h, g, e) (mid', a', b', h', g', e') =
     let x = high_one s p m None mid mid' a a' h h' in
@@ -168,7 +190,7 @@ pub record Alike (a b : Option Running) (xs ys : List Event) : Type 0 where
   pub printed : xs ≡ ys
 
 goes_one_way : (s : Running) (line : Line) (a b : Option Running) (xs ys : List Event) → Goes s line a xs → Goes s line b ys → Alike a b xs ys
-goes_one_way s line a b xs ys (can, (q, h, e)) (can', (r, k, f)) =
+goes_one_way s line a b xs ys (timely, (q, h, e)) (timely', (r, k, f)) =
     let x = step_one s.row s.past line q r xs ys h k in
     record { after = e ∙ ap (λ (t : Past). Some (record { row = s.row; past = t })) x.past ∙ sym f; printed = x.printed }
 

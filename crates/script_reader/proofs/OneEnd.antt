@@ -1,20 +1,36 @@
 -- A script with a faulty line has no transcript.
-use Rattle.std.proofs.Common.{◌≡◌, inl, inr, ℕ, List, [], ◌∷◌, ◌++◌, Option, None, Some, sym, ◌∙◌, subst}
+use Rattle.std.proofs.Common.{◌≡◌, inl, inr, ℕ, ap, arith, length, List, [], ◌∷◌, ◌++◌, Option, None, Some, sym, ◌∙◌, subst}
 use Rattle.std.proofs.lemmas.Bool.{both_ways}
 use Rattle.script_reader.specs.declared.event.Event.{Event}
 use Rattle.script_reader.specs.declared.line.Line.{Line}
 use Rattle.script_reader.specs.declared.line.Line.TheVariants as lines
 use Rattle.script_reader.specs.Grammar.{IsLine}
 use Rattle.script_reader.specs.Lines.{AreLines, IsUnended}
-use Rattle.script_reader.specs.Scripts.{Running, Leads, LeadTo, IsRefused, IsTranscript}
+use Rattle.script_reader.specs.Scripts.{Running, Goes, Leads, LeadTo, IsRefused, IsTranscript}
 use Rattle.script_reader.specs.Faults.{IsFaultyNext}
 use Rattle.script_reader.proofs.LineEnds.{one_front}
 use Rattle.script_reader.proofs.LineLaws.{one_line}
 use Rattle.script_reader.proofs.OneReading.{taken, not_nothing}
-use Rattle.script_reader.proofs.One.{leads_one}
+use Rattle.pump_frame.specs.declared.row.SessionRow.{SessionRow}
+use Rattle.script_reader.specs.Past.{Past}
+use Rattle.script_reader.specs.Steps.{Coming, joined, IsCrowded, IsBarred, Step}
+use Rattle.script_reader.proofs.One.{arrives_one, leads_one}
 
 no_key : {A : Type 0} (o : Option A) (x : A) → o ≡ None → o ≡ Some x → ⊥
 no_key o x e f = cc
+
+crowded_steps : (row : SessionRow) (p : Past) (line : Line) (q : Past) (printed : List Event) → IsCrowded p line → Step row p line q printed → ⊥
+crowded_steps row p lines.Skip q printed h k = h
+crowded_steps row p (lines.Session other) q printed h k = h
+crowded_steps row p (lines.Look session m w a) q printed (c, comes, many) (d, comes', (few, look)) =
+    let same = ap (λ (t : Coming). length (joined p t).waits) (arrives_one session p.reading a c d comes comes') in
+    absurd (omega (arith, many, few, same))
+crowded_steps row p (lines.Gone session m) q printed h k = h
+crowded_steps row p (lines.Done session m t) q printed h k = h
+
+barred_goes : (s : Running) (line : Line) (mid : Option Running) (printed : List Event) → IsBarred s.row s.past line → Goes s line mid printed → ⊥
+barred_goes s line mid printed h (timely, (q, step, e)) =
+    elim h [ inl late ↦ both_ways _ late timely | inr crowded ↦ crowded_steps s.row s.past line q printed crowded step ]
 
 -- a line that can't be applied leads nowhere
 refused_leads : (running : Option Running) (line : Line) (mid : Option Running) (printed : List Event) → IsRefused running line → Leads running line mid printed → ⊥
@@ -23,10 +39,10 @@ refused_leads None (lines.Session row) mid printed r h = no_key _ r.0 h.0.0 r.1
 refused_leads None (lines.Look session m w a) mid printed r h = absurd h
 refused_leads None (lines.Gone session m) mid printed r h = absurd h
 refused_leads None (lines.Done session m t) mid printed r h = absurd h
-refused_leads (Some s) (lines.Session row) mid printed r h = both_ways _ r h.0
-refused_leads (Some s) (lines.Look session m w a) mid printed r h = both_ways _ r h.0
-refused_leads (Some s) (lines.Gone session m) mid printed r h = both_ways _ r h.0
-refused_leads (Some s) (lines.Done session m t) mid printed r h = both_ways _ r h.0
+refused_leads (Some s) (lines.Session row) mid printed r h = barred_goes s (lines.Session row) mid printed r h
+refused_leads (Some s) (lines.Look session m w a) mid printed r h = barred_goes s (lines.Look session m w a) mid printed r h
+refused_leads (Some s) (lines.Gone session m) mid printed r h = barred_goes s (lines.Gone session m) mid printed r h
+refused_leads (Some s) (lines.Done session m t) mid printed r h = barred_goes s (lines.Done session m t) mid printed r h
 
 -- no line stands at the end
 end_is_fine : (running : Option Running) (rest : List ℕ) → rest ≡ [] → IsFaultyNext rest running → ⊥

@@ -111,7 +111,7 @@ look_grows s p x q printed i rs h =
 step_grows : (s : SessionRow) (p : Past) (line : Line) (q : Past) (printed : List Event) → Step s p line q printed → Grows s p q printed
 step_grows s p lines.Skip q printed h = absurd h
 step_grows s p (lines.Session row) q printed h = absurd h
-step_grows s p (lines.Look session m w a) q printed (f, i) = look_grows s (joined p session a) _ q printed i
+step_grows s p (lines.Look session m w a) q printed (c, comes, (few, (f, i))) = look_grows s (joined p c) _ q printed i
 step_grows s p (lines.Gone session m) q printed (f, i) = look_grows s (lost p) _ q printed i
 step_grows s p (lines.Done session m t) q printed h = aside_grows s p q printed (done_aside s p m t q printed h)
 
@@ -133,7 +133,7 @@ begins_so row after printed rs e f k =
     subst (λ (t : Option Running × List Sent). Replies t.0 t.1) (λ i. (sym e i, sym none i)) (fresh_replies row)
 
 goes_so : (s : Running) (line : Line) (after : Option Running) (printed : List Event) (rs : List Sent) → Goes s line after printed → Replies (Some s) rs → Replies after (rs ++ low_lines printed)
-goes_so s line after printed rs (can, (q, step, e)) k =
+goes_so s line after printed rs (timely, (q, step, e)) k =
     subst (λ (t : Option Running). Replies t (rs ++ low_lines printed)) (sym e) (step_grows s.row s.past line q printed step rs k)
 
 leads_so : (running : Option Running) (line : Line) (after : Option Running) (printed : List Event) (rs : List Sent) → Leads running line after printed → Replies running rs → Replies after (rs ++ low_lines printed)

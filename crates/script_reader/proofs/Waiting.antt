@@ -11,7 +11,7 @@ use Rattle.script_reader.specs.declared.line.Line.TheVariants as lines
 use Rattle.script_reader.specs.declared.event.Event.{Event}
 use Rattle.script_reader.specs.Past.{Past}
 use Rattle.script_reader.specs.Highs.{IsHighLook}
-use Rattle.script_reader.specs.Steps.{joined, is_known, can_apply, GoesOn, Step}
+use Rattle.script_reader.specs.Steps.{joined, GoesOn, Step}
 
 abbrev waits_in : Past → List Arrival
 waits_in p = p.waits
@@ -23,19 +23,14 @@ goes_waits : (s : SessionRow) (hand : Option ℕ) (p : Past) (m : ℕ) (q : Past
 goes_waits s None p m q printed h = ap waits_in h.0
 goes_waits s (Some n) p m q printed (mid, a, b, c, h, e) = high_waits s mid m _ q b h ∙ ap waits_in c.rest
 
-less : (n : ℕ) → nat_le n 64 ≡ true → n ≤ 64
-less n e = grind (arith, nat_tests)
-
 dropped : (b : Bool) (xs : List Arrival) → length xs ≤ 64 → length (if b then drop 1 xs else xs) ≤ 64
 dropped false xs h = h
 dropped true [] h = h
 dropped true (x ∷ xs) h = omega arith
 
-pub step_waits : (s : SessionRow) (p : Past) (line : Line) (q : Past) (printed : List Event) → can_apply s p line ≡ true → length p.waits ≤ 64 → Step s p line q printed → length q.waits ≤ 64
-step_waits s p lines.Skip q printed can h t = absurd t
-step_waits s p (lines.Session row) q printed can h t = absurd t
-step_waits s p (lines.Look session m w a) q printed can h (f, i) =
-    let few : nat_le (length (joined p session a).waits) 64 ≡ true = (and_parts (is_known a) _ (and_parts (nat_le p.moment m) _ (and_parts (session == s.id) _ can).1).1).1 in
-    rw i.waits (dropped (takes i.after) (joined p session a).waits (less (length (joined p session a).waits) few))
-step_waits s p (lines.Gone session m) q printed can h (f, i) = rw i.waits (dropped (takes i.after) [] (omega arith))
-step_waits s p (lines.Done session m t) q printed can h (mid, a, b, c, g, e) = rw (goes_waits s mid.world.high_hand mid (m + t) q b g ∙ high_waits s p m None mid a c) h
+pub step_waits : (s : SessionRow) (p : Past) (line : Line) (q : Past) (printed : List Event) → length p.waits ≤ 64 → Step s p line q printed → length q.waits ≤ 64
+step_waits s p lines.Skip q printed h t = absurd t
+step_waits s p (lines.Session row) q printed h t = absurd t
+step_waits s p (lines.Look session m w a) q printed h (c, comes, (few, (f, i))) = rw i.waits (dropped (takes i.after) (joined p c).waits few)
+step_waits s p (lines.Gone session m) q printed h (f, i) = rw i.waits (dropped (takes i.after) [] (omega arith))
+step_waits s p (lines.Done session m t) q printed h (mid, a, b, k, g, e) = rw (goes_waits s mid.world.high_hand mid (m + t) q b g ∙ high_waits s p m None mid a k) h

@@ -127,7 +127,7 @@ pub record IsLook (row : SessionRow) (p : Past) (x : Look) (q : Past) (printed :
   pub history : q.history ≡ looked p.history x
   pub waits : q.waits ≡ (if takes after then drop 1 p.waits else p.waits)
   pub broken : q.is_broken ≡ (p.is_broken || (takes after && is_bad x.arrival))
-  pub unread : q.unread ≡ p.unread
+  pub reading : q.reading ≡ p.reading
   pub times : q.times ≡ p.times
   pub sends : q.sends ≡ p.sends
   pub moment : q.moment ≡ x.moment

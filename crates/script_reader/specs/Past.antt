@@ -1,6 +1,7 @@
 -- What a session has been through, when a script has run so far.
 use Rattle.std.specs.Prelude.{ℕ, ◌==◌, Bool, false, if◌then◌else◌, List, [], ◌∷◌, length, Option, Some, None}
 use Rattle.pump_frame.specs.Averages.{average_of}
+use Rattle.pump_frame.specs.Readings.{Reading, Within}
 use Rattle.pump_frame.specs.declared.row.SessionRow.{SessionRow}
 use Rattle.pump_core.specs.declared.feedback.Seen.{Seen}
 use Rattle.pump_core.specs.History.{Arrival, History, first_life}
@@ -19,8 +20,9 @@ pub record Past : Type 0 where
   pub waits : List Arrival
   -- bad bytes were taken on this connection: what waits is behind them
   pub is_broken : Bool
-  -- the last bytes of the connection, which are no whole frame yet
-  pub unread : List ℕ
+  -- what the reader of the connection holds: the bytes since the last whole frame, or the place where
+  -- it met bad bytes
+  pub reading : Reading
   -- what was accepted, the hands and what is held, the receiver's list, the packets
   pub world : World
   -- the times that were published since the opening, the oldest first
@@ -36,7 +38,7 @@ fresh row = record {
   history = first_life (record { count = 0; is_held = false });
   waits = [];
   is_broken = false;
-  unread = [];
+  reading = Within [];
   world = worlds.empty row.capacity;
   times = [];
   sends = [];

@@ -1,5 +1,5 @@
 -- The transcript of a whole script, which has one session.
-use Rattle.std.specs.Prelude.{◌≡◌, true, false, List, [], ◌∷◌, ◌++◌, length, Option, Some, None}
+use Rattle.std.specs.Prelude.{◌≡◌, true, List, [], ◌∷◌, ◌++◌, length, Option, Some, None}
 use Rattle.pump_frame.specs.Rows.{first_bad, IsLawfulRow}
 use Rattle.pump_frame.specs.declared.row.RowKey.{RowKey}
 use Rattle.pump_frame.specs.declared.row.SessionRow.{SessionRow}
@@ -8,7 +8,7 @@ use Rattle.script_reader.specs.declared.line.Line.TheVariants as lines
 use Rattle.script_reader.specs.declared.event.Event.{Event}
 use Rattle.script_reader.specs.declared.event.Event.TheVariants.{End}
 use Rattle.script_reader.specs.Past.{Past, fresh}
-use Rattle.script_reader.specs.Steps.{can_apply, Step}
+use Rattle.script_reader.specs.Steps.{is_timely, Step, IsBarred}
 
 -- a session that a script has begun: its row, and what it has been through
 pub record Running : Type 0 where
@@ -22,7 +22,7 @@ Begins row running = IsLawfulRow row × (running ≡ Some (record { row = row; p
 -- a line of the session can be applied, and does what it does
 abbrev pub Goes : Running → Line → Option Running → List Event → Type 0
 Goes s line running printed =
-    (can_apply s.row s.past line ≡ true)
+    (is_timely s.row s.past line ≡ true)
     × ((q : Past) × Step s.row s.past line q printed × (running ≡ Some (record { row = s.row; past = q })))
 
 -- the line can be applied, leads from `running` to `after`, and prints this: a skipped line does
@@ -39,7 +39,7 @@ abbrev pub IsRefused : Option Running → Line → Type 0
 IsRefused running lines.Skip = ⊥
 IsRefused None (lines.Session row) = (key : RowKey) × (first_bad row ≡ Some key)
 IsRefused None line = Unit {0}
-IsRefused (Some s) line = can_apply s.row s.past line ≡ false
+IsRefused (Some s) line = IsBarred s.row s.past line
 
 -- these lines lead from `running` to `after`, and print this
 abbrev pub LeadTo : Option Running → List Line → Option Running → List Event → Type 0

@@ -1,12 +1,14 @@
 -- What a line of a script does to its session, and what is printed.
-use Rattle.std.specs.Prelude.{◌≡◌, ℕ, ◌+◌, ◌^◌, Bool, true, false, ◌&&◌, ◌||◌, ◌==◌, not, nat_lt, nat_le, List, [], ◌∷◌, ◌++◌, length, option_to_list, Option, Some, None}
+use Rattle.std.specs.Prelude.{◌≡◌, ◌⊎◌, ℕ, ◌<◌, ◌≤◌, ◌+◌, ◌^◌, Bool, true, false, ◌&&◌, ◌||◌, ◌==◌, not, nat_lt, nat_le, List, [], ◌∷◌, ◌++◌, map, length, option_to_list, Option, Some, None}
 use Rattle.pump_frame.specs.Frames.{greeting}
 use Rattle.pump_frame.specs.declared.frame.Frame.{Frame}
 use Rattle.pump_frame.specs.declared.frame.Kind.TheVariants as kinds
 use Rattle.pump_frame.specs.declared.row.SessionRow.{SessionRow}
 use Rattle.pump_core.specs.declared.feedback.Feedback.{Feedback}
 use Rattle.pump_core.specs.History.{Arrival, Look}
-use Rattle.pump_core.specs.History.{Came, Gone}
+use Rattle.pump_core.specs.History.{Came, Bad, Gone}
+use Rattle.pump_frame.specs.Readings.{Reading, Within, Stopped}
+use Rattle.pump_frame.specs.Streams.{IsStream}
 use Rattle.pump_core.specs.World.{World}
 use Rattle.script_reader.specs.declared.line.Arriving.{Arriving}
 use Rattle.script_reader.specs.declared.line.Arriving.TheVariants.{Nothing, Hello, Data, Raw}
@@ -26,42 +28,69 @@ hello_frame session low high = record { kind = kinds.Hello; session = session; n
 abbrev pub data_frame : ℕ → ℕ → List ℕ → Frame
 data_frame session number payload = record { kind = kinds.Data; session = session; number = number; payload = payload }
 
--- what is added to what waits
-abbrev pub arrivals : ℕ → Arriving → List Arrival
-arrivals session Nothing = []
-arrivals session (Hello low high) = Came (hello_frame session low high) ∷ []
-arrivals session (Data number payload) = Came (data_frame session number payload) ∷ []
-arrivals session (Raw bytes) = []
+-- what comes with a line: what is added to what waits, and what the reader of the connection then
+-- holds
+pub record Coming : Type 0 where
+  pub added : List Arrival
+  pub reading : Reading
+
+abbrev pub coming : List Arrival → Reading → Coming
+coming added reading = record { added = added; reading = reading }
+
+-- a stream that meets bad bytes ends with one Bad
+abbrev pub bad_of : Reading → List Arrival
+bad_of (Within held) = []
+bad_of (Stopped at) = Bad ∷ []
+
+abbrev pub came : List Frame → List Arrival
+came frames = map (λ f. Came f) frames
+
+-- raw bytes go on from what the reader holds: with it they are a stream of frames and its end; after bad
+-- bytes no further byte is read
+abbrev pub IsRead : Reading → List ℕ → Coming → Type 0
+IsRead (Within held) bytes c =
+    (frames : List Frame) × IsStream (held ++ bytes) frames c.reading × (c.added ≡ came frames ++ bad_of c.reading)
+IsRead (Stopped at) bytes c = c ≡ coming [] (Stopped at)
+
+-- this comes with a `look` line of the session
+abbrev pub Arrives : ℕ → Reading → Arriving → Coming → Type 0
+Arrives session r Nothing c = c ≡ coming [] r
+Arrives session r (Hello low high) c = c ≡ coming (Came (hello_frame session low high) ∷ []) r
+Arrives session r (Data number payload) c = c ≡ coming (Came (data_frame session number payload) ∷ []) r
+Arrives session r (Raw bytes) c = IsRead r bytes.items c
 
 -- the past with what comes added
-abbrev pub joined : Past → ℕ → Arriving → Past
-joined p session a = record p { waits = p.waits ++ arrivals session a }
+abbrev pub joined : Past → Coming → Past
+joined p c = record p { waits = p.waits ++ c.added; reading = c.reading }
 
 -- the past after the connection is lost: nothing waits, and a new connection begins
 abbrev pub lost : Past → Past
-lost p = record p { waits = []; is_broken = false; unread = [] }
+lost p = record p { waits = []; is_broken = false; reading = Within [] }
 
 -- ---- which lines can be applied ----
-
--- raw bytes can't come yet
-abbrev pub is_known : Arriving → Bool
-is_known (Raw bytes) = false
-is_known _ = true
 
 -- a high look without a TAKEN leaves a message in the high hand: one is in it, or one can be taken up
 abbrev pub goes_on : World → Bool
 goes_on w = nat_lt 0 (length (option_to_list w.high_hand ++ w.held))
 
--- the line names this session, no moment falls, at most 64 arrivals wait, and the return of `done` is
--- at a moment of at most 2^62
-abbrev pub can_apply : SessionRow → Past → Line → Bool
-can_apply row p lines.Skip = false
-can_apply row p (lines.Session other) = false
-can_apply row p (lines.Look session m w a) =
-    session == row.id && (nat_le p.moment m && (is_known a && nat_le (length (joined p session a).waits) 64))
-can_apply row p (lines.Gone session m) = session == row.id && nat_le p.moment m
-can_apply row p (lines.Done session m t) =
+-- the line names this session, no moment falls, and the return of `done` is at a moment of at most 2^62
+abbrev pub is_timely : SessionRow → Past → Line → Bool
+is_timely row p lines.Skip = false
+is_timely row p (lines.Session other) = false
+is_timely row p (lines.Look session m w a) = session == row.id && nat_le p.moment m
+is_timely row p (lines.Gone session m) = session == row.id && nat_le p.moment m
+is_timely row p (lines.Done session m t) =
     session == row.id && (nat_le p.moment m && (not (goes_on p.world) || nat_le (m + t) (2 ^ 62)))
+
+-- with what comes with the line, more than 64 arrivals would wait
+abbrev pub IsCrowded : Past → Line → Type 0
+IsCrowded p (lines.Look session m w a) =
+    (c : Coming) × Arrives session p.reading a c × (64 < length (joined p c).waits)
+IsCrowded p line = ⊥
+
+-- the line can't be applied
+abbrev pub IsBarred : SessionRow → Past → Line → Type 0
+IsBarred row p line = (is_timely row p line ≡ false) ⊎ IsCrowded p line
 
 -- ---- what a line does ----
 
@@ -92,10 +121,15 @@ IsDone row p m t q printed =
     × GoesOn row mid.world.high_hand mid (m + t) q second
     × (printed ≡ first ++ second)
 
+-- the look of a `look` line, with which this comes: at most 64 arrivals wait before it
+abbrev pub IsJoinedLook : SessionRow → Past → ℕ → ℕ → Coming → Past → List Event → Type 0
+IsJoinedLook row p m w c q printed = (length (joined p c).waits ≤ 64) × IsOfferedLook row (joined p c) m w q printed
+
 -- the line leads from p to q, and prints this
 abbrev pub Step : SessionRow → Past → Line → Past → List Event → Type 0
 Step row p lines.Skip q printed = ⊥
 Step row p (lines.Session other) q printed = ⊥
-Step row p (lines.Look session m w a) q printed = IsOfferedLook row (joined p session a) m w q printed
+Step row p (lines.Look session m w a) q printed =
+    (c : Coming) × Arrives session p.reading a c × IsJoinedLook row p m w c q printed
 Step row p (lines.Gone session m) q printed = IsLowLook row (lost p) m 0 Gone q printed
 Step row p (lines.Done session m t) q printed = IsDone row p m t q printed

@@ -1,17 +1,17 @@
 //! The lines of a script.
 
-ghost use Rattle.std.specs.Prelude.{◌≡◌, ◌+◌, ◌^◌, ◌<◌, ◌≤◌, ◌++◌, ◌&&◌, nat_le, Bool, true, length};
+ghost use Rattle.std.specs.Prelude.{◌≡◌, ◌+◌, ◌^◌, ◌<◌, ◌≤◌, Bool, true, length};
 ghost use Rattle.script_reader.specs.Lawful.{IsLawfulLine};
 ghost use Rattle.script_reader.specs.Past.{Past};
-ghost use Rattle.script_reader.specs.Steps.{arrivals, is_known, IsDone, Step};
+ghost use Rattle.script_reader.specs.Steps.{IsDone};
 ghost use Rattle.netpump.specs.PlainApplies.{Applies};
-ghost use Rattle.netpump.specs.PlainSteps.{fits_code};
-ghost use Rattle.netpump.specs.Standing.{Stands, StandsFor, Leads, arrivals_of, is_full};
+ghost use Rattle.netpump.specs.PlainSteps.{fits_code, Runs, Attempts};
+ghost use Rattle.netpump.specs.Standing.{Stands, StandsFor, Leads, is_full};
 
 use crate::session::plain::Plain;
 use crate::session::{Applied, Stop};
 use arrayvec::ArrayVec;
-use script_reader::{Arriving, Event, Line};
+use script_reader::{Event, Line};
 
 impl Plain {
     /// Whether the high hand is full.
@@ -39,19 +39,7 @@ impl Plain {
         }
     }
 
-    /// Whether what comes can wait beside what waits.
-    fn has_place(&self, session: u32, arriving: &Arriving) -> bool
-        ensures { result ≡ (is_known arriving.now && nat_le (length (arrivals_of self.now.waits.items ++ arrivals session arriving.now)) 64) }
-    {
-        let coming = match arriving {
-            Arriving::Nothing => 0,
-            Arriving::Hello { .. } | Arriving::Data { .. } => 1,
-            Arriving::Raw(_) => return false,
-        };
-        self.waits.len() + coming <= 64
-    }
-
-    /// Whether the line can be applied.
+    /// Whether the line can be applied, where there is room for what comes with it.
     fn fits(&self, line: &Line) -> bool
         requires { IsLawfulLine line.now }
         ensures { result ≡ fits_code self.now line.now }
@@ -61,14 +49,11 @@ impl Plain {
             Line::Look {
                 session,
                 moment,
-                arrival,
                 ..
-            } => {
-                *session == self.row.id
-                    && self.moment <= *moment
-                    && self.has_place(*session, arrival)
             }
-            Line::Gone { session, moment } => *session == self.row.id && self.moment <= *moment,
+            | Line::Gone { session, moment } => {
+                *session == self.row.id && self.moment <= *moment
+            }
             Line::Done {
                 session,
                 moment,
@@ -82,26 +67,46 @@ impl Plain {
         }
     }
 
-    /// A line that can be applied.
-    fn run(&mut self, line: &Line, out: &mut ArrayVec<Event, 4>)
+    /// A line that can be applied where there is room for what comes with it: whether there was.
+    fn run(&mut self, line: &Line, out: &mut ArrayVec<Event, 4>) -> bool
         requires stands { ∥ Stands self.old ∥₁ }
         requires lawful { IsLawfulLine line.now }
         requires fits { fits_code self.old line.now ≡ true }
         requires out { length out.old.items ≤ 0 }
-        ensures leads { Leads self.old self.new out.old.items out.new.items (λ p q printed. Step self.old.row p line.now q printed) }
+        ensures runs { Runs self.old self.new line.now out.old.items out.new.items result }
         ensures row { self.new.row ≡ self.old.row }
     {
         match line {
-            Line::Skip | Line::Session(_) => {}
+            Line::Skip | Line::Session(_) => false,
             Line::Look {
                 moment,
                 word,
                 arrival,
                 ..
             } => self.look_line(*moment, *word, arrival, out),
-            Line::Gone { moment, .. } => self.gone_line(*moment, out),
-            Line::Done { moment, time, .. } => self.done_line(*moment, *time, out),
+            Line::Gone { moment, .. } => {
+                self.gone_line(*moment, out);
+                true
+            }
+            Line::Done { moment, time, .. } => {
+                self.done_line(*moment, *time, out);
+                true
+            }
         }
+    }
+
+    /// A line, if it can be applied: whether it could.
+    fn attempt(&mut self, line: &Line, out: &mut ArrayVec<Event, 4>) -> bool
+        requires stands { ∥ Stands self.old ∥₁ }
+        requires lawful { IsLawfulLine line.now }
+        requires out { length out.old.items ≤ 0 }
+        ensures attempts { Attempts self.old self.new line.now out.old.items out.new.items result }
+        ensures row { self.new.row ≡ self.old.row }
+    {
+        if !self.fits(line) {
+            return false;
+        }
+        self.run(line, out)
     }
 
     /// A line of the script.
@@ -113,13 +118,12 @@ impl Plain {
         ensures row { self.new.row ≡ self.old.row }
     {
         let mut events = ArrayVec::new();
-        if !self.fits(line) {
-            return Applied {
-                events,
-                stop: Some(Stop::Line),
-            };
+        if self.attempt(line, &mut events) {
+            return Applied { events, stop: None };
         }
-        self.run(line, &mut events);
-        Applied { events, stop: None }
+        Applied {
+            events,
+            stop: Some(Stop::Line),
+        }
     }
 }

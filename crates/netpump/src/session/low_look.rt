@@ -4,35 +4,19 @@ ghost use Rattle.std.specs.Prelude.{◌≡◌, ℕ, ◌+◌, ◌-◌, ◌^◌, �
 ghost use Rattle.script_reader.specs.Lawful.{IsLawfulArriving};
 ghost use Rattle.script_reader.specs.Lows.{first_of, is_bad};
 ghost use Rattle.script_reader.specs.Past.{Past};
-ghost use Rattle.script_reader.specs.Steps.{arrivals, joined, lost, IsLowLook, IsOfferedLook};
+ghost use Rattle.script_reader.specs.Steps.{lost, IsLowLook, IsOfferedLook};
 ghost use Rattle.pump_core.specs.History.{Gone};
 ghost use Rattle.netpump.specs.LowLooks.{IsLawful, arrival_of};
 ghost use Rattle.netpump.specs.declared.low.Asking.TheVariants.{Nothing as AsksNothing};
-ghost use Rattle.netpump.specs.PlainSteps.{LooksOnly, held_by, moves, has_room, look_prints, first_waiting, came};
+ghost use Rattle.netpump.specs.PlainSteps.{LooksOnly, held_by, moves, has_room, look_prints, first_waiting, LooksSo};
 ghost use Rattle.netpump.specs.Standing.{Stands, Leads, arrivals_of, AreLawful};
 
 use crate::low::{Arrival, LowLook, Told};
 use crate::session::plain::{Plain, Waiting};
 use arrayvec::ArrayVec;
 use pump_core::{Feedback, Seen};
-use pump_frame::{Frame, Item, Kind};
+use pump_frame::{Item, Reader};
 use script_reader::{Arriving, Event};
-
-/// The frame that comes with a `look` line.
-fn coming(session: u32, arriving: &Arriving) -> Option<Frame>
-    ensures { came result ≡ arrivals session arriving.now }
-{
-    match arriving {
-        Arriving::Hello { low, high } => Some(Frame::hello(session, low, high)),
-        Arriving::Data { number, payload } => Some(Frame {
-            kind: Kind::Data,
-            session,
-            number: *number,
-            payload: *payload,
-        }),
-        Arriving::Nothing | Arriving::Raw(_) => None,
-    }
-}
 
 /// Whether bad bytes came.
 fn are_bad_bytes(arrival: &Arrival) -> bool
@@ -165,37 +149,28 @@ impl Plain {
         }
     }
 
-    /// What comes, waits.
-    fn add(&mut self, frame: Option<Frame>)
-        requires { length (arrivals_of self.old.waits.items ++ came frame) ≤ 64 }
-        ensures waits { arrivals_of self.new.waits.items ≡ arrivals_of self.old.waits.items ++ came frame }
-        ensures rest { self.new ≡ record self.old { waits = self.new.waits } }
-    {
-        if let Some(frame) = frame {
-            self.waits.push(Waiting::Frame(frame));
-        }
-    }
-
-    /// A `look` line.
+    /// A `look` line: what comes joins what waits, and a look is made. False where more than 64 would
+    /// wait, and then nothing has changed.
     pub fn look_line(
         &mut self,
         moment: u64,
         word: u32,
         arriving: &Arriving,
         out: &mut ArrayVec<Event, 4>,
-    )
+    ) -> bool
         requires stands { ∥ Stands self.old ∥₁ }
         requires order { self.old.moment ≤ moment }
         requires moment { moment ≤ 2 ^ 62 }
         requires lawful { IsLawfulArriving arriving.now }
-        requires room { length (arrivals_of self.old.waits.items ++ arrivals self.old.row.id arriving.now) ≤ 64 }
         requires out { length out.old.items ≤ 1 }
-        ensures leads { Leads self.old self.new out.old.items out.new.items
-            (λ p q printed. IsOfferedLook self.old.row (joined p self.old.row.id arriving.now) moment word q printed) }
+        ensures looks { LooksSo self.old self.new moment word arriving.now out.old.items out.new.items result }
         ensures row { self.new.row ≡ self.old.row }
     {
-        self.add(coming(self.row.id, arriving));
+        if !self.add(self.row.id, arriving) {
+            return false;
+        }
         self.look_first(moment, word, out);
+        true
     }
 
     /// A `gone` line.
@@ -210,6 +185,7 @@ impl Plain {
     {
         self.waits.clear();
         self.is_broken = false;
+        self.reader = Reader::new();
         self.look_with(moment, 0, Arrival::Gone, out);
     }
 }

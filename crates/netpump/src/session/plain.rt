@@ -3,7 +3,7 @@
 use crate::low::LowProcess;
 use arrayvec::ArrayVec;
 use moving_avg::Window;
-use pump_frame::{Frame, Item, OutOfMemory, SessionRow};
+use pump_frame::{Frame, Item, OutOfMemory, Reader, SessionRow};
 use script_reader::Event;
 use std::alloc::Global;
 
@@ -38,6 +38,8 @@ pub struct Plain {
     pub waits: ArrayVec<Waiting, 64>,
     /// Bad bytes were taken on this connection.
     pub is_broken: bool,
+    /// The reader of the connection's raw bytes.
+    pub reader: Reader,
     /// The accepted messages that are not removed: one may be in the low process's hand, these are
     /// in the passage, and one may be in the high hand.
     pub held: ArrayVec<Item, 62>,
@@ -73,6 +75,7 @@ impl Plain {
             low: LowProcess::open(row, 0, None),
             waits: ArrayVec::new(),
             is_broken: false,
+            reader: Reader::new(),
             held: ArrayVec::new(),
             high_hand: None,
             removed: 0,

@@ -1,15 +1,22 @@
-use Rattle.std.proofs.Common.{sym, ◌∙◌}
-use Rattle.std.proofs.Math.Logic.{∥∥₁_map}
-use Rattle.netpump.proofs.Fits.{applied, refused}
+use Rattle.std.proofs.Common.{subst, Bool}
+use Rattle.netpump.specs.PlainSteps.{Attempts}
+use Rattle.netpump.proofs.Fits.{applied, refused, still_stands}
 use Rattle.netpump.proofs.session.plain.Plain.apply.Goals as goal
 
-pub returns-then-not-fits-clause-applies : goal.returns-then-not-fits-clause-applies
-returns-then-not-fits-clause-applies c =
-    refused c.args.self.now c.args.line.now c.new-events.result.items c.new-events.ensures (sym c.fits.ensures ∙ c.if-not-fits.true)
+pub returns-then-attempt-clause-applies : goal.returns-then-attempt-clause-applies
+returns-then-attempt-clause-applies c =
+    applied c.args.self.now c.attempt.new.self c.args.line.now c.new-events.result.items c.attempt.new.out.items c.new-events.ensures
+    (subst (λ (b : Bool). Attempts c.args.self.now c.attempt.new.self c.args.line.now c.new-events.result.items c.attempt.new.out.items b) c.if-attempt.true c.attempt.ensures.attempts)
+
+pub returns-then-attempt-clause-stands : goal.returns-then-attempt-clause-stands
+returns-then-attempt-clause-stands c =
+    still_stands c.args.self.now c.attempt.new.self c.args.line.now c.new-events.result.items c.attempt.new.out.items c.attempt.result c.attempt.ensures.attempts c.requires.stands
 
 pub returns-clause-applies : goal.returns-clause-applies
 returns-clause-applies c =
-    applied c.args.self.now c.run.new.self c.args.line.now c.new-events.result.items c.run.new.out.items c.new-events.ensures (sym c.fits.ensures ∙ c.if-not-fits.false) c.run.ensures.leads
+    refused c.args.self.now c.attempt.new.self c.args.line.now c.new-events.result.items c.attempt.new.out.items c.new-events.ensures
+    (subst (λ (b : Bool). Attempts c.args.self.now c.attempt.new.self c.args.line.now c.new-events.result.items c.attempt.new.out.items b) c.if-attempt.false c.attempt.ensures.attempts)
 
 pub returns-clause-stands : goal.returns-clause-stands
-returns-clause-stands c = ∥∥₁_map c.requires.stands (λ s. (let r = c.run.ensures.leads s.0 s.1 in (r.0, r.4)))
+returns-clause-stands c =
+    still_stands c.args.self.now c.attempt.new.self c.args.line.now c.new-events.result.items c.attempt.new.out.items c.attempt.result c.attempt.ensures.attempts c.requires.stands

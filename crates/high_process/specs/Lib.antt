@@ -1,0 +1,7 @@
+pub mod Ends
+pub mod Looks
+pub mod Past
+pub mod States
+pub mod Steps
+pub mod Storing
+pub mod Tasks

@@ -1,0 +1,57 @@
+-- What a high process holds.
+use Rattle.std.specs.Prelude.{◌≡◌, ℕ, Bool, Option, Some, None}
+use Rattle.pump_frame.specs.declared.frame.Item.{Item}
+use Rattle.pump_frame.specs.declared.row.SessionRow.{SessionRow}
+use Rattle.high_process.specs.declared.values.Sent.{Sent}
+use Rattle.high_process.specs.declared.values.Asking.{Asking}
+use Rattle.high_process.specs.declared.process.HighProcess.{HighProcess}
+
+-- the row of its session
+abbrev pub row_of : HighProcess → SessionRow
+row_of p = p.row
+
+-- how many messages are removed
+abbrev pub removed_of : HighProcess → ℕ
+removed_of p = p.removed
+
+-- the next message, if it was taken up
+abbrev pub hand_of : HighProcess → Option Item
+hand_of p = p.hand
+
+-- how many times were published since the opening
+abbrev pub published_of : HighProcess → ℕ
+published_of p = p.published
+
+-- the moment of the last look, and 0 before one
+abbrev pub last_of : HighProcess → ℕ
+last_of p = p.last
+
+-- a removal has failed
+abbrev pub is_down : HighProcess → Bool
+is_down p = p.is_down
+
+-- no look is begun and not finished
+abbrev pub IsBetweenLooks : HighProcess → Type 0
+IsBetweenLooks p = p.asking ≡ None
+
+-- when the message in the hand was first sent, and last
+abbrev pub first_sent : Option Sent → Option ℕ
+first_sent None = None
+first_sent (Some s) = Some s.first
+
+abbrev pub last_sent : Option Sent → Option ℕ
+last_sent None = None
+last_sent (Some s) = Some s.last
+
+-- all that changes
+pub record State : Type 0 where
+  pub removed : ℕ
+  pub hand : Option Item
+  pub sent : Option Sent
+  pub published : ℕ
+  pub last : ℕ
+  pub asking : Option Asking
+  pub is_down : Bool
+
+abbrev pub state_of : HighProcess → State
+state_of p = record { removed = p.removed; hand = p.hand; sent = p.sent; published = p.published; last = p.last; asking = p.asking; is_down = p.is_down }

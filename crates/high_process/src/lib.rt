@@ -1,0 +1,12 @@
+//! The high process: it keeps one message in its hand, sends it to the receiver until it is taken,
+//! removes it then, publishes the time that took, and takes up the next one from the passage.
+#![tactic(auto)]
+
+mod ask;
+mod look;
+mod process;
+mod task;
+mod values;
+
+pub use process::HighProcess;
+pub use values::{HighAsk, HighFault, HighLook};

@@ -1,0 +1,109 @@
+ghost use Rattle.std.specs.Prelude.{◌≡◌, ℕ, ◌^◌, ◌<◌, ◌≤◌, true, false, IfOk, OnOk, OnErr};
+ghost use Rattle.pump_frame.specs.declared.row.SessionRow.{SessionRow as Row};
+ghost use Rattle.disk_model.specs.Disk.{Leaves};
+ghost use Rattle.stable_buffer.specs.High.{IsHighReady, high_disk, high_count};
+ghost use Rattle.stable_buffer.specs.Stands.{HighStands};
+ghost use Rattle.pump_core.specs.Passage.{Low, High};
+ghost use Rattle.high_process.specs.Tasks.{frame_of, task_of, attaches_in};
+ghost use Rattle.high_process.specs.Past.{Past};
+ghost use Rattle.high_process.specs.States.{row_of, removed_of, hand_of, last_of, is_down, IsBetweenLooks};
+ghost use Rattle.high_process.specs.Storing.{Fares, StandsOrRemoved};
+ghost use Rattle.high_process.specs.Ends.{StandsFitting};
+ghost use Rattle.high_process.specs.Looks.{Stands, Begins, Asked, Looked};
+
+use crate::HighProcess;
+use crate::ask::fetch;
+use crate::values::{HighAsk, HighFault, HighLook};
+use disk_model::Disk;
+use passage::HighEnd;
+use pump_frame::Frame;
+use stable_buffer::HighStore;
+
+impl HighProcess {
+    /// The first half of a look: of this moment in microseconds, which is not below the last one
+    /// and at most 2^62, with this frame. It stores a removal, and says what is to be asked of the
+    /// passage. A frame that is refused as ahead or behind changes nothing; after a device fault
+    /// the process is down. A crash at any moment leaves the count from before the look, or one
+    /// more where the receiver has the message in the hand.
+    pub fn begin<D: Disk>(
+        &mut self,
+        moment: u64,
+        frame: Option<&Frame>,
+        store: &mut HighStore<D>,
+    ) -> Result<HighAsk, HighFault>
+        requires between { IsBetweenLooks self.old }
+        requires up { is_down self.old ≡ false }
+        requires order { last_of self.old ≤ moment }
+        requires moment { moment ≤ 2 ^ 62 }
+        requires store { IsHighReady D.told store.old }
+        requires count { high_count store.old ≡ removed_of self.old }
+
+        ensures fares { Fares D.told
+            (task_of (row_of self.old).id (removed_of self.old) (hand_of self.old) (frame_of frame.entry))
+            self.old self.new store.old store.new result }
+        ensures begins { IfOk result (λ ask. Begins self.old self.new moment
+            (task_of (row_of self.old).id (removed_of self.old) (hand_of self.old) (frame_of frame.entry))
+            (attaches_in (row_of self.old).id (frame_of frame.entry)) ask) }
+        ensures asked { IfOk result (λ ask. Asked self.old self.new ask) }
+        ensures images { (row : Row)
+            → (D.told.tells → HighStands row (removed_of self.old) (D.told.reading (high_disk store.old)))
+            → Leaves D.told (high_disk store.old) (high_disk store.new)
+            (StandsOrRemoved row (row_of self.old).id (removed_of self.old) (frame_of frame.entry)) }
+
+        ensures store { OnOk result (IsHighReady D.told store.new) }
+        ensures count { OnOk result (high_count store.new ≡ removed_of self.new) }
+        ensures up { OnOk result (is_down self.new ≡ false) }
+        ensures between { OnErr result (IsBetweenLooks self.new) }
+        ensures row { row_of self.new ≡ row_of self.old }
+    {
+        let task = self.task(frame);
+        let attaches = self.attaches(frame);
+        self.step(moment, task, attaches, store)
+    }
+
+    /// A whole look over the store and the high end of the passage: `begin`, what it asks of the
+    /// end, and `finish`. As many times were published at the end as by this process since its
+    /// opening, and the last message that the end gave was asked for with fewer removed than now,
+    /// or with as many where the hand is full; afterwards this holds again.
+    pub fn look<D: Disk, H: HighEnd>(
+        &mut self,
+        moment: u64,
+        frame: Option<&Frame>,
+        store: &mut HighStore<D>,
+        ends: &mut H,
+    ) -> Result<HighLook, HighFault>
+        requires between { IsBetweenLooks self.old }
+        requires up { is_down self.old ≡ false }
+        requires order { last_of self.old ≤ moment }
+        requires moment { moment ≤ 2 ^ 62 }
+        requires store { IsHighReady D.told store.old }
+        requires count { high_count store.old ≡ removed_of self.old }
+        requires ends { (l : Low) × (h : High) × StandsFitting (H.stands ends.old) self.old l h }
+
+        ensures fares { Fares D.told
+            (task_of (row_of self.old).id (removed_of self.old) (hand_of self.old) (frame_of frame.entry))
+            self.old self.new store.old store.new result }
+        ensures looks { IfOk result (λ look. (l : Low) (h : High) (t : Past)
+            → StandsFitting (H.stands ends.old) self.old l h → Stands self.old t
+            → Looked (H.shape ends.old) H.exact (StandsFitting (H.stands ends.new) self.new)
+            l h self.old self.new t moment
+            (task_of (row_of self.old).id (removed_of self.old) (hand_of self.old) (frame_of frame.entry))
+            (attaches_in (row_of self.old).id (frame_of frame.entry)) look) }
+        ensures images { (row : Row)
+            → (D.told.tells → HighStands row (removed_of self.old) (D.told.reading (high_disk store.old)))
+            → Leaves D.told (high_disk store.old) (high_disk store.new)
+            (StandsOrRemoved row (row_of self.old).id (removed_of self.old) (frame_of frame.entry)) }
+        ensures refused { OnErr result (ends.new ≡ ends.old) }
+
+        ensures store { OnOk result (IsHighReady D.told store.new) }
+        ensures count { OnOk result (high_count store.new ≡ removed_of self.new) }
+        ensures up { OnOk result (is_down self.new ≡ false) }
+        ensures between { IsBetweenLooks self.new }
+        ensures row { row_of self.new ≡ row_of self.old }
+        ensures same { (H.shape ends.new ≡ H.shape ends.old) × (H.place ends.new ≡ H.place ends.old) }
+    {
+        let ask = self.begin(moment, frame, store)?;
+        let item = fetch(&ask, ends);
+        Ok(self.finish(item))
+    }
+}

@@ -1,10 +1,13 @@
 -- What a high process holds.
 use Rattle.std.specs.Prelude.{◌≡◌, ℕ, Bool, Option, Some, None}
+use Rattle.pump_frame.specs.declared.frame.Frame.{Frame}
 use Rattle.pump_frame.specs.declared.frame.Item.{Item}
 use Rattle.pump_frame.specs.declared.row.SessionRow.{SessionRow}
 use Rattle.high_process.specs.declared.values.Sent.{Sent}
 use Rattle.high_process.specs.declared.values.Asking.{Asking}
+use Rattle.high_process.specs.declared.values.Task.{Task}
 use Rattle.high_process.specs.declared.process.HighProcess.{HighProcess}
+use Rattle.high_process.specs.Tasks.{task_of, attaches_in}
 
 -- the row of its session
 abbrev pub row_of : HighProcess → SessionRow
@@ -34,6 +37,14 @@ is_down p = p.is_down
 abbrev pub IsBetweenLooks : HighProcess → Type 0
 IsBetweenLooks p = p.asking ≡ None
 
+-- what this frame, or none, asks of the process
+abbrev pub task_at : HighProcess → Option Frame → Task
+task_at p frame = task_of p.row.id p.removed p.hand frame
+
+-- a receiver of its session attaches
+abbrev pub attaches_at : HighProcess → Option Frame → Bool
+attaches_at p frame = attaches_in p.row.id frame
+
 -- when the message in the hand was first sent, and last
 abbrev pub first_sent : Option Sent → Option ℕ
 first_sent None = None
@@ -54,4 +65,12 @@ pub record State : Type 0 where
   pub is_down : Bool
 
 abbrev pub state_of : HighProcess → State
-state_of p = record { removed = p.removed; hand = p.hand; sent = p.sent; published = p.published; last = p.last; asking = p.asking; is_down = p.is_down }
+state_of p = record {
+  removed = p.removed;
+  hand = p.hand;
+  sent = p.sent;
+  published = p.published;
+  last = p.last;
+  asking = p.asking;
+  is_down = p.is_down;
+}

@@ -1,6 +1,6 @@
 -- What a look does with the store.
 use Rattle.std.specs.Prelude.{◌≡◌, ◌⊎◌, ℕ, ◌+◌, ◌≤◌, true, false, List, Option, Some, None, Result, Err, OnOk, OnErr, IfErr}
-use Rattle.disk_model.specs.Disk.{Meaning, Moves, Answers}
+use Rattle.disk_model.specs.Disk.{Meaning, Moves, Answers, Leaves}
 use Rattle.stable_buffer.specs.High.{IsHighReady, high_disk, high_count, high_is_open, removal_end}
 use Rattle.stable_buffer.specs.Stands.{HighStands, MayRemove, Removes}
 use Rattle.stable_buffer.specs.declared.high.HighStore.{HighStore}
@@ -12,7 +12,7 @@ use Rattle.high_process.specs.declared.values.HighFault.TheVariants.{Device}
 use Rattle.high_process.specs.declared.values.Task.{Task}
 use Rattle.high_process.specs.declared.values.Task.TheVariants.{Refuse, Remove, Keep}
 use Rattle.high_process.specs.declared.process.HighProcess.{HighProcess}
-use Rattle.high_process.specs.States.{is_down}
+use Rattle.high_process.specs.States.{row_of, removed_of, is_down}
 
 -- one message more is removed, or the device failed: a crash at any moment leaves the count from
 -- before, or one more; a store that failed is no longer open
@@ -40,3 +40,10 @@ GivenBack session removed (Some f) = (f.session ≡ session) × (((f.kind ≡ Ta
 -- a disk stands for this count, or for one more where a receiver has the message
 abbrev pub StandsOrRemoved : SessionRow → ℕ → ℕ → Option Frame → List ℕ → Type 0
 StandsOrRemoved row session removed frame disk = HighStands row removed disk ⊎ (GivenBack session removed frame × HighStands row (removed + 1) disk)
+
+-- where the disk stood for the process's count, a crash at any moment since leaves what stands for it, or
+-- for one more where a receiver has the message
+abbrev pub LeavesCounted : {D : Type 0} → Meaning D → HighProcess → HighStore D → HighStore D → Option Frame → Type 0
+LeavesCounted m p old new frame =
+    (row : SessionRow) → (m.tells → HighStands row (removed_of p) (m.reading (high_disk old)))
+    → Leaves m (high_disk old) (high_disk new) (StandsOrRemoved row (row_of p).id (removed_of p) frame)

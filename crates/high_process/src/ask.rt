@@ -10,7 +10,8 @@ use pump_frame::Item;
 // Publishes the time, if there is one.
 fn tell<H: HighEnd>(time: Option<u32>, ends: &mut H)
     requires { (l : Low) × (h : High) × H.stands ends.old l h × IfSome time (IsTime (length h.times)) }
-    ensures same { (H.shape ends.new ≡ H.shape ends.old) × (H.place ends.new ≡ H.place ends.old) }
+    ensures shape { H.shape ends.new ≡ H.shape ends.old }
+    ensures place { H.place ends.new ≡ H.place ends.old }
     ensures tells { (l : Low) (h : High) → H.stands ends.old l h → H.stands ends.new l (told_time time h) }
 {
     if let Some(micros) = time {
@@ -21,7 +22,8 @@ fn tell<H: HighEnd>(time: Option<u32>, ends: &mut H)
 // Takes up the next message, if it is wanted and there is one.
 fn take_up<H: HighEnd>(wants: bool, removed: u64, ends: &mut H) -> Option<Item>
     requires { (l : Low) × (h : High) × H.stands ends.old l h × (wants ≡ true → h.floor ≤ removed) }
-    ensures same { (H.shape ends.new ≡ H.shape ends.old) × (H.place ends.new ≡ H.place ends.old) }
+    ensures shape { H.shape ends.new ≡ H.shape ends.old }
+    ensures place { H.place ends.new ≡ H.place ends.old }
     ensures none { wants ≡ false → result ≡ None }
     ensures takes { (l : Low) (h : High) → H.stands ends.old l h
         → Takes (H.shape ends.old) H.exact (H.stands ends.new) l h wants removed result }
@@ -40,7 +42,8 @@ pub fn fetch<H: HighEnd>(ask: &HighAsk, ends: &mut H) -> Option<Item>
     requires { (l : Low) × (h : High) × H.stands ends.old l h
         × IfSome ask.now.publish (IsTime (length h.times))
         × (ask.now.wants ≡ true → h.floor ≤ ask.now.removed) }
-    ensures same { (H.shape ends.new ≡ H.shape ends.old) × (H.place ends.new ≡ H.place ends.old) }
+    ensures shape { H.shape ends.new ≡ H.shape ends.old }
+    ensures place { H.place ends.new ≡ H.place ends.old }
     ensures none { ask.now.wants ≡ false → result ≡ None }
     ensures takes { (l : Low) (h : High) → H.stands ends.old l h
         → Takes (H.shape ends.old) H.exact (H.stands ends.new)

@@ -1,13 +1,10 @@
 ghost use Rattle.std.specs.Prelude.{◌≡◌, ℕ, ◌^◌, ◌<◌, ◌≤◌, true, false, IfOk, OnOk, OnErr};
-ghost use Rattle.pump_frame.specs.declared.row.SessionRow.{SessionRow as Row};
-ghost use Rattle.disk_model.specs.Disk.{Leaves};
-ghost use Rattle.stable_buffer.specs.High.{IsHighReady, high_disk, high_count};
-ghost use Rattle.stable_buffer.specs.Stands.{HighStands};
+ghost use Rattle.stable_buffer.specs.High.{IsHighReady, high_count};
 ghost use Rattle.pump_core.specs.Passage.{Low, High};
-ghost use Rattle.high_process.specs.Tasks.{frame_of, task_of, attaches_in};
+ghost use Rattle.high_process.specs.Tasks.{frame_of};
 ghost use Rattle.high_process.specs.Past.{Past};
-ghost use Rattle.high_process.specs.States.{row_of, removed_of, hand_of, last_of, is_down, IsBetweenLooks};
-ghost use Rattle.high_process.specs.Storing.{Fares, StandsOrRemoved};
+ghost use Rattle.high_process.specs.States.{row_of, removed_of, last_of, is_down, task_at, attaches_at, IsBetweenLooks};
+ghost use Rattle.high_process.specs.Storing.{Fares, LeavesCounted};
 ghost use Rattle.high_process.specs.Ends.{StandsFitting};
 ghost use Rattle.high_process.specs.Looks.{Stands, Begins, Asked, Looked};
 
@@ -38,17 +35,12 @@ impl HighProcess {
         requires store { IsHighReady D.told store.old }
         requires count { high_count store.old ≡ removed_of self.old }
 
-        ensures fares { Fares D.told
-            (task_of (row_of self.old).id (removed_of self.old) (hand_of self.old) (frame_of frame.entry))
+        ensures fares { Fares D.told (task_at self.old (frame_of frame.entry))
             self.old self.new store.old store.new result }
         ensures begins { IfOk result (λ ask. Begins self.old self.new moment
-            (task_of (row_of self.old).id (removed_of self.old) (hand_of self.old) (frame_of frame.entry))
-            (attaches_in (row_of self.old).id (frame_of frame.entry)) ask) }
+            (task_at self.old (frame_of frame.entry)) (attaches_at self.old (frame_of frame.entry)) ask) }
         ensures asked { IfOk result (λ ask. Asked self.old self.new ask) }
-        ensures images { (row : Row)
-            → (D.told.tells → HighStands row (removed_of self.old) (D.told.reading (high_disk store.old)))
-            → Leaves D.told (high_disk store.old) (high_disk store.new)
-            (StandsOrRemoved row (row_of self.old).id (removed_of self.old) (frame_of frame.entry)) }
+        ensures images { LeavesCounted D.told self.old store.old store.new (frame_of frame.entry) }
 
         ensures store { OnOk result (IsHighReady D.told store.new) }
         ensures count { OnOk result (high_count store.new ≡ removed_of self.new) }
@@ -80,19 +72,14 @@ impl HighProcess {
         requires count { high_count store.old ≡ removed_of self.old }
         requires ends { (l : Low) × (h : High) × StandsFitting (H.stands ends.old) self.old l h }
 
-        ensures fares { Fares D.told
-            (task_of (row_of self.old).id (removed_of self.old) (hand_of self.old) (frame_of frame.entry))
+        ensures fares { Fares D.told (task_at self.old (frame_of frame.entry))
             self.old self.new store.old store.new result }
         ensures looks { IfOk result (λ look. (l : Low) (h : High) (t : Past)
             → StandsFitting (H.stands ends.old) self.old l h → Stands self.old t
             → Looked (H.shape ends.old) H.exact (StandsFitting (H.stands ends.new) self.new)
             l h self.old self.new t moment
-            (task_of (row_of self.old).id (removed_of self.old) (hand_of self.old) (frame_of frame.entry))
-            (attaches_in (row_of self.old).id (frame_of frame.entry)) look) }
-        ensures images { (row : Row)
-            → (D.told.tells → HighStands row (removed_of self.old) (D.told.reading (high_disk store.old)))
-            → Leaves D.told (high_disk store.old) (high_disk store.new)
-            (StandsOrRemoved row (row_of self.old).id (removed_of self.old) (frame_of frame.entry)) }
+            (task_at self.old (frame_of frame.entry)) (attaches_at self.old (frame_of frame.entry)) look) }
+        ensures images { LeavesCounted D.told self.old store.old store.new (frame_of frame.entry) }
         ensures refused { OnErr result (ends.new ≡ ends.old) }
 
         ensures store { OnOk result (IsHighReady D.told store.new) }
@@ -100,7 +87,8 @@ impl HighProcess {
         ensures up { OnOk result (is_down self.new ≡ false) }
         ensures between { IsBetweenLooks self.new }
         ensures row { row_of self.new ≡ row_of self.old }
-        ensures same { (H.shape ends.new ≡ H.shape ends.old) × (H.place ends.new ≡ H.place ends.old) }
+        ensures shape { H.shape ends.new ≡ H.shape ends.old }
+        ensures place { H.place ends.new ≡ H.place ends.old }
     {
         let ask = self.begin(moment, frame, store)?;
         let item = fetch(&ask, ends);

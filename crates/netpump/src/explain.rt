@@ -10,7 +10,7 @@ fn number_of(last: &[u8]) -> Option<&str> {
 fn explain_script(rt: &HostRuntime, last: &[u8]) -> io::Result<()> {
     match number_of(last) {
         Some(number) => eprintln!(rt;
-            "netpump: line {number} of the script is written wrong or can't be applied there; mend it and replay the script again (docs/formats.md, \"Script\", tells how lines are written and when they can be applied)"
+            "netpump: line {number} of the script is written wrong or can't be applied there; mend it and replay the script again (docs/formats.md, \"Scripts\", tells how lines are written and when they can be applied)"
         ),
         None => eprintln!(rt;
             "netpump: a line of the script is written wrong or can't be applied there; the last line of the output has its number"

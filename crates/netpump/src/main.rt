@@ -8,6 +8,8 @@ mod output;
 mod replay;
 mod session;
 mod standard;
+#[cfg(test)]
+mod tests;
 
 use batch::batch;
 use explain::explain;

@@ -1,7 +1,7 @@
 use pump_core::Seen;
 use pump_frame::Frame;
 
-/// A line of a transcript; `docs/formats.md`, "Transcript", says when each comes. Moments and
+/// A line of a transcript; `docs/formats.md`, "Transcripts", says when each comes. Moments and
 /// times are in microseconds.
 #[derive(Clone, Copy)]
 pub enum Event {

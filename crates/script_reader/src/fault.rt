@@ -1,4 +1,4 @@
-/// Why a command stops, as its last line of output says; `docs/formats.md`, "Fault lines".
+/// Why a command stops, as its last line of output says; `docs/formats.md`, "Statuses and fault lines".
 #[derive(Clone, Copy, PartialEq, Eq, Debug)]
 pub enum Fault {
     /// The words are no command.

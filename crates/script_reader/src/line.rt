@@ -13,7 +13,7 @@ pub enum Arriving {
     Raw(ArrayVec<u8, 1042>),
 }
 
-/// A line of a script; `docs/formats.md`, "Script", says what each does. Moments are in
+/// A line of a script; `docs/formats.md`, "Scripts", says what each does. Moments are in
 /// microseconds, at most 2^62.
 #[derive(Drop)]
 pub enum Line {

@@ -204,7 +204,7 @@ fn put_seen(into: &mut Room, word: &[u8], session: u32, moment: u64, seen: &Seen
     );
 }
 
-/// The room then holds the event's line, with its line end; `docs/formats.md`, "Transcript", has
+/// The room then holds the event's line, with its line end; `docs/formats.md`, "Transcripts", has
 /// the lines. The reply of a `Low` is a WELCOME, an ACK or a REFUSE; of another frame only the word,
 /// the session and the moment are printed.
 pub fn print_event(event: &Event, into: &mut ArrayVec<u8, 2400>)

@@ -8,7 +8,7 @@ use crate::line::{Arriving, Line};
 use pump_frame::SessionRow;
 
 /// The line that the bytes are, without a line end; `None` exactly where they are outside the
-/// grammar of `docs/formats.md`, "Script", also where there are more than 2,400 of them.
+/// grammar of `docs/formats.md`, "Scripts", also where there are more than 2,400 of them.
 pub fn read_line(bytes: &[u8]) -> Option<Line>
     // The bytes are the line answered,
     ensures found { IfSome result (λ line. IsLine line bytes.now) }

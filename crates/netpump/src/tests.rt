@@ -1,0 +1,235 @@
+ghost use Rattle.std.specs.Prelude.{◌<◌};
+
+use crate::batch::batch;
+use pump_link::{MemSink, MemSource};
+use std::alloc::{AllocError, Global};
+use std::test::Fail;
+
+const P: &str = "session 1 3 8 2 20000 100000 500000 weather watch\n";
+
+const H: &str = "look 1 10 00000000 hello weather watch\n";
+
+const WELCOME: &str = "low 1 10 welcome 0\n";
+
+const STORE: &str = "look 1 100 00000000 data 0 61\nlook 1 100 00000000\n";
+
+const STORED: &str = "stored 1 100 0\npassed 1 100 0 20000\n";
+
+const ACK: &str = "look 1 177 00000000\nlook 1 178 00000000\n";
+
+const ACKED: &str = "low 1 178 ack 0\n";
+
+fn joined(alloc: Global, parts: &[&str]) -> Result<Vec<u8>, AllocError> {
+    let mut bytes = Vec::new(alloc);
+    for part in parts {
+        bytes.extend_from_slice(part.as_bytes())?;
+    }
+    Ok(bytes)
+}
+
+/// The status and the output of a command over a script that comes in pieces.
+fn run(
+    alloc: Global,
+    word: &str,
+    script: Vec<u8>,
+    piece: usize,
+    read_fails: &[u64],
+    write_fails: &[u64],
+) -> Result<(u8, Vec<u8>), AllocError>
+    requires { 0 < piece }
+{
+    let mut words = Vec::new(alloc);
+    words.push(String::from_str(alloc, word)?)?;
+    let mut source = MemSource::new(script, piece, Vec::from_slice(alloc, read_fails)?);
+    let room = vec![in alloc; 0; 4096]?;
+    let mut sink = MemSink::new(room, 4096, Vec::from_slice(alloc, write_fails)?);
+    let status = batch(alloc, &words, &mut source, &mut sink);
+    Ok((status, Vec::from_slice(alloc, sink.written())?))
+}
+
+/// Whether the replay of the parts ends with this status and writes this.
+fn replays(alloc: Global, parts: &[&str], status: u8, output: &[&str]) -> Result<bool, AllocError> {
+    let wanted = joined(alloc, output)?;
+    let (ended, written) = run(alloc, "replay", joined(alloc, parts)?, 7, &[], &[])?;
+    Ok(ended == status && written.as_slice() == wanted.as_slice())
+}
+
+#[test]
+fn replays_greetings_and_acknowledgements(rt: HostRuntime) -> Result<(), Fail> {
+    let alloc = rt.alloc();
+    assert!(rt; replays(alloc, &[P], 0, &["end 1 0 0 0\n"])?);
+    assert!(rt; replays(alloc, &[P, H], 0, &[WELCOME, "end 1 0 0 0\n"])?);
+    assert!(rt;
+        replays(
+            alloc,
+            &[P, H, STORE, ACK],
+            0,
+            &[WELCOME, STORED, ACKED, "end 1 1 0 0\n"],
+        )?
+    );
+    // The word of the passing look makes the delay: 156 microseconds, and the longest.
+    assert!(rt;
+        replays(
+            alloc,
+            &[
+                P,
+                H,
+                "look 1 100 00000000 data 0 61\nlook 1 100 01000000\n",
+                "look 1 255 00000000\nlook 1 256 00000000\n",
+            ],
+            0,
+            &[WELCOME, STORED, "low 1 256 ack 0\n", "end 1 1 0 0\n"],
+        )?
+    );
+    assert!(rt;
+        replays(
+            alloc,
+            &[
+                P,
+                H,
+                "look 1 100 00000000 data 0 61\nlook 1 100 FFFFFFFF\n",
+                "look 1 100099 00000000\nlook 1 100100 00000000\n",
+            ],
+            0,
+            &[WELCOME, STORED, "low 1 100100 ack 0\n", "end 1 1 0 0\n"],
+        )?
+    );
+    Ok(())
+}
+
+#[test]
+fn replays_repeats(rt: HostRuntime) -> Result<(), Fail> {
+    let alloc = rt.alloc();
+    assert!(rt;
+        replays(
+            alloc,
+            &[
+                P,
+                H,
+                STORE,
+                ACK,
+                "look 1 200 01000000 data 0 61\nlook 1 356 00000000\n",
+                "look 1 400 00000000 data 5 61\nlook 1 410 00000000 data 1 62\n",
+            ],
+            0,
+            &[
+                WELCOME,
+                STORED,
+                ACKED,
+                "repeat 1 200 0 20000\nlow 1 356 ack 0\n",
+                "low 1 400 refuse 4 1\nstored 1 410 1\nend 1 2 0 0\n",
+            ],
+        )?
+    );
+    assert!(rt;
+        replays(
+            alloc,
+            &[
+                P,
+                H,
+                "look 1 20 00000000 data 0 616161616161616161\n",
+                "look 1 30 00000000 data 0 -\n",
+            ],
+            0,
+            &[WELCOME, "low 1 20 refuse 3 0\nstored 1 30 0\nend 1 1 0 0\n"],
+        )?
+    );
+    assert!(rt;
+        replays(
+            alloc,
+            &[
+                P,
+                "look 1 5 00000000 hello weather other\nlook 1 6 00000000 data 0 61\n",
+                "look 1 7 00000000 hello weather watch\n",
+            ],
+            0,
+            &["low 1 5 refuse 1 0\nlow 1 6 refuse 2 0\nlow 1 7 welcome 0\nend 1 0 0 0\n"],
+        )?
+    );
+    Ok(())
+}
+
+#[test]
+fn stops_at_faults(rt: HostRuntime) -> Result<(), Fail> {
+    let alloc = rt.alloc();
+    assert!(rt;
+        replays(
+            alloc,
+            &[
+                P,
+                H,
+                "look 1 20 00000000\nlook 1 30 00000000\nlook 1 40 00000000\nlook 1 50 00000000\n",
+                "look 1 49 00000000\n",
+            ],
+            5,
+            &[WELCOME, "fault script 7\n"],
+        )?
+    );
+    assert!(rt; replays(alloc, &[P, "look 1 10"], 5, &["fault script 2\n"])?);
+    Ok(())
+}
+
+#[test]
+fn replays_refusals(rt: HostRuntime) -> Result<(), Fail> {
+    let alloc = rt.alloc();
+    assert!(rt; replays(alloc, &[P, P], 5, &["fault script 2\n"])?);
+    assert!(rt;
+        replays(
+            alloc,
+            &["# no\n\nsession 1 2 8 2 20000 100000 500000 weather watch\n"],
+            5,
+            &["fault script 3\n"],
+        )?
+    );
+    assert!(rt; replays(alloc, &[H], 5, &["fault script 1\n"])?);
+    assert!(rt; replays(alloc, &[P, "gone 2 5\n"], 5, &["fault script 2\n"])?);
+    Ok(())
+}
+
+#[test]
+fn tells_failed_reads_and_writes(rt: HostRuntime) -> Result<(), Fail> {
+    let alloc = rt.alloc();
+    let (status, written) = run(alloc, "replay now", joined(alloc, &[P, H])?, 64, &[], &[])?;
+    assert_eq!(rt; status, 2);
+    assert_eq!(rt; written.as_slice(), b"fault words\n".as_slice());
+    // The third read fails after the two lines and half of another one.
+    let script = joined(alloc, &[P, H, "look 1 20 00000000\n"])?;
+    let (status, written) = run(alloc, "replay", script, 50, &[2], &[])?;
+    assert_eq!(rt; status, 3);
+    assert_eq!(rt;
+        written.as_slice(),
+        b"low 1 10 welcome 0\nfault read\n".as_slice()
+    );
+    let (status, written) = run(alloc, "replay", joined(alloc, &[P, H])?, 64, &[], &[0])?;
+    assert_eq!(rt; status, 4);
+    assert_eq!(rt; written.as_slice(), b"".as_slice());
+    Ok(())
+}
+
+fn many_looks(alloc: Global, first: &str, count: u32) -> Result<Vec<u8>, AllocError> {
+    let mut script = joined(alloc, &[P, H, first])?;
+    for _ in 0..count {
+        script.extend_from_slice(b"look 1 20 00000000\n")?;
+    }
+    Ok(script)
+}
+
+#[test]
+fn reads_no_more_than_it_needs(rt: HostRuntime) -> Result<(), Fail> {
+    let alloc = rt.alloc();
+    let script = many_looks(alloc, "x\n", 100_000)?;
+    let (status, written) = run(alloc, "replay", script, 64, &[], &[])?;
+    assert_eq!(rt; status, 5);
+    assert_eq!(rt;
+        written.as_slice(),
+        b"low 1 10 welcome 0\nfault script 3\n".as_slice()
+    );
+    let script = many_looks(alloc, "", 200_000)?;
+    let (status, written) = run(alloc, "replay", script, 4096, &[], &[])?;
+    assert_eq!(rt; status, 0);
+    assert_eq!(rt;
+        written.as_slice(),
+        b"low 1 10 welcome 0\nend 1 0 0 0\n".as_slice()
+    );
+    Ok(())
+}

@@ -108,7 +108,8 @@ impl LowProcess {
             → EndStep (L.shape ends.old) L.exact (StandsFitting (L.stands ends.new) self.new) l h
             (Some item) result.feedback }
     {
-        let answer = offer(item, self.owes(), ends);
+        let is_owed = self.owes();
+        let answer = offer(item, is_owed, ends);
         self.finish(answer)
     }
 

@@ -60,6 +60,13 @@ answer_at_once count end size number length =
     else if nat_lt size (end + 2 + length) then Some (Err (LogFull end length size))
     else None
 
+-- the answer is that the disk failed
+abbrev pub is_device : Result Taken TakeFault → Bool
+is_device (Ok taken) = false
+is_device (Err (Device faults)) = true
+is_device (Err (Ahead number count)) = false
+is_device (Err (LogFull end length size)) = false
+
 -- A message is stored, or its device fails. A crash at any moment leaves the messages from before, with this one or without.
 pub record Stores {D : Type 0} (m : Meaning D) (message : List ℕ) (old new : Receiver D) (result : Result Taken TakeFault) : Type 0 where
   pub took : OnOk result (result ≡ Ok Took)

@@ -8,3 +8,6 @@ mod values;
 
 pub use receiver::Receiver;
 pub use values::{TakeFault, Taken};
+
+#[cfg(test)]
+mod tests;

@@ -1,4 +1,4 @@
-ghost use Rattle.std.specs.Prelude.{◌≡◌, ◌+◌, ◌^◌, ◌<◌, ◌≤◌, ℕ, List, None, false, length, IfSome, OnOk, OnErr, IfErr};
+ghost use Rattle.std.specs.Prelude.{◌≡◌, ◌+◌, ◌^◌, ◌<◌, ◌≤◌, ℕ, List, None, true, false, length, IfSome, OnOk, OnErr, IfErr};
 ghost use Rattle.disk_model.specs.Disk.{Moves, Settled, Leaves, Answers};
 ghost use Rattle.pump_frame.specs.Rows.{IsLawfulRow};
 ghost use Rattle.stable_buffer.specs.Log.{RecvStands};
@@ -22,7 +22,7 @@ pub struct Receiver<D> {
 impl<D: Disk> Receiver<D> {
     ghost use Rattle.stable_buffer.specs.Register.{IsReady, register_disk, register_value};
     ghost use Rattle.high_receiver.specs.Steps.{MayTake, Takes, StandsOrTakes};
-    ghost use Rattle.high_receiver.specs.Receiving.{IsRecvReady, StandsForSome, Stores, answer_at_once, recv_disk, recv_count, recv_end, recv_row, recv_size, recv_is_open};
+    ghost use Rattle.high_receiver.specs.Receiving.{IsRecvReady, StandsForSome, Stores, answer_at_once, is_device, recv_disk, recv_count, recv_end, recv_row, recv_size, recv_is_open};
 
     /// A receiver over a register, whose disk stands for a list of at most 2^48 messages, and has
     /// `size` bytes to fill.
@@ -75,8 +75,9 @@ impl<D: Disk> Receiver<D> {
     fn answer_at_once(&self, number: u64, length: u32) -> Option<Result<Taken, TakeFault>>
         requires within { recv_end self.now ≤ recv_size self.now }
         requires short { length ≤ 1024 }
-        ensures { result ≡ answer_at_once (recv_count self.now) (recv_end self.now)
+        ensures answer { result ≡ answer_at_once (recv_count self.now) (recv_end self.now)
             (recv_size self.now) number length }
+        ensures no_device { IfSome result (λ answer. is_device answer ≡ false) }
     {
         let (count, end) = self.register.value();
         if number < count {
@@ -141,6 +142,8 @@ impl<D: Disk> Receiver<D> {
         requires below { recv_count self.old < 2 ^ 48 }
         requires room { recv_end self.old + 2 + length payload.now ≤ recv_size self.old }
         ensures stores { Stores D.told payload.now self.old self.new result }
+        ensures ready { is_device result ≡ false → IsRecvReady D.told self.new }
+        ensures closed { is_device result ≡ true → recv_is_open self.new ≡ false }
         ensures row { recv_row self.new ≡ recv_row self.old }
         ensures size { recv_size self.new ≡ recv_size self.old }
     {
@@ -169,6 +172,8 @@ impl<D: Disk> Receiver<D> {
         ensures stores { answer_at_once (recv_count self.old) (recv_end self.old)
             (recv_size self.old) number (length payload.now) ≡ None
             → Stores D.told payload.now self.old self.new result }
+        ensures ready { is_device result ≡ false → IsRecvReady D.told self.new }
+        ensures closed { is_device result ≡ true → recv_is_open self.new ≡ false }
         ensures row { recv_row self.new ≡ recv_row self.old }
         ensures size { recv_size self.new ≡ recv_size self.old }
     {

@@ -39,3 +39,6 @@ returns-in-Ok-clause-stores g c =
       answers = record { counts = a.counts; rose = a.rose; never = a.never; always = a.always; room = a.room; disarmed = a.disarmed };
       device = tt;
     }
+
+pub returns-in-Ok-clause-ready : goal.returns-in-Ok-clause-ready
+returns-in-Ok-clause-ready g c = λ answered. let stores = returns-in-Ok-clause-stores g c in stores.ready

@@ -233,3 +233,57 @@ fn reads_no_more_than_it_needs(rt: HostRuntime) -> Result<(), Fail> {
     );
     Ok(())
 }
+
+/// A DATA without payload, number 0, of session 1.
+const FRAME: &str = "4e5001030000000100000000000000000000";
+
+/// Seven of them.
+const FRAMES: &str =
+    "4e50010300000001000000000000000000004e50010300000001000000000000000000004e50010300000001000000000000000000004e50010300000001000000000000000000004e50010300000001000000000000000000004e50010300000001000000000000000000004e5001030000000100000000000000000000";
+
+#[test]
+fn replays_raw_bytes(rt: HostRuntime) -> Result<(), Fail> {
+    let alloc = rt.alloc();
+    // Behind bad bytes nothing is offered until the connection is lost.
+    assert!(rt;
+        replays(
+            alloc,
+            &[
+                P,
+                "look 1 5 00000000 raw 4e51\nlook 1 6 00000000 hello weather watch\n",
+                "gone 1 7\nlook 1 8 00000000 hello weather watch\n",
+            ],
+            0,
+            &["low 1 5 refuse 2 0\nlow 1 8 welcome 0\nend 1 0 0 0\n"],
+        )?
+    );
+    // 57 frames wait, then 64; 65 would be too many.
+    assert!(rt;
+        replays(
+            alloc,
+            &[
+                P,
+                "look 1 10 00000000 raw ",
+                FRAMES,
+                FRAMES,
+                FRAMES,
+                FRAMES,
+                FRAMES,
+                FRAMES,
+                FRAMES,
+                FRAMES,
+                FRAME,
+                "\nlook 1 20 00000000 raw ",
+                FRAMES,
+                FRAME,
+                "\nlook 1 30 00000000 raw ",
+                FRAME,
+                FRAME,
+                "\n",
+            ],
+            5,
+            &["low 1 10 refuse 2 0\nlow 1 20 refuse 2 0\nfault script 4\n"],
+        )?
+    );
+    Ok(())
+}

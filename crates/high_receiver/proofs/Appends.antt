@@ -42,7 +42,7 @@ unfolding length_at
 length_spelled message small = big_number-reads_back 2 (length message) message (omega (arith, small))
 
 -- a length depends on the first two bytes
-length_front : (a b : List ℕ) → 2 ≤ length a → length_at (a ++ b) 0 ≡ length_at a 0
+pub length_front : (a b : List ℕ) → 2 ≤ length a → length_at (a ++ b) 0 ≡ length_at a 0
 unfolding length_at
 length_front [] b le = absurd (omega (arith, le))
 length_front (x ∷ []) b le = absurd (omega (arith, le))
@@ -65,7 +65,7 @@ records_push most (m ∷ ms) message bytes fits small (within, is, few, here, fi
     )
 
 -- the count and the end that a register selects
-end_is : (row : SessionRow) (messages : List (List ℕ)) (first second : ℕ) (disk : List ℕ) → value_of disk ≡ (first, second) → (stands : RecvStands row messages disk)
+pub end_is : (row : SessionRow) (messages : List (List ℕ)) (first second : ℕ) (disk : List ℕ) → value_of disk ≡ (first, second) → (stands : RecvStands row messages disk)
     → (first ≡ length messages) × (second ≡ stands.end)
 end_is row messages first second disk value stands = (ap (λ (v : ℕ × ℕ). v.0) (sym value ∙ stands.value), ap (λ (v : ℕ × ℕ). v.1) (sym value ∙ stands.value))
 

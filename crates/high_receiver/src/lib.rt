@@ -3,6 +3,7 @@
 #![tactic(auto)]
 
 mod beside;
+mod reading;
 mod receiver;
 mod values;
 

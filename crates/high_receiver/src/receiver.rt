@@ -1,9 +1,10 @@
-ghost use Rattle.std.specs.Prelude.{◌≡◌, ◌+◌, ◌^◌, ◌<◌, ◌≤◌, ℕ, List, None, true, false, length, IfSome, OnOk, OnErr, IfErr};
-ghost use Rattle.disk_model.specs.Disk.{Moves, Settled, Leaves, Answers};
+ghost use Rattle.std.specs.Prelude.{◌≡◌, ◌+◌, ◌^◌, ◌<◌, ◌≤◌, ℕ, List, None, true, false, ⊤, [], length, slice_index_or, IfSome, OnOk, OnErr, IfErr};
+ghost use Rattle.disk_model.specs.Disk.{Moves, Same, Settled, Leaves, Answers};
 ghost use Rattle.pump_frame.specs.Rows.{IsLawfulRow};
 ghost use Rattle.stable_buffer.specs.Log.{RecvStands};
 
 use crate::beside::{spell, write_beside};
+use crate::reading::read_message;
 use crate::{TakeFault, Taken};
 use disk_model::Disk;
 use pump_frame::{Payload, SessionRow};
@@ -180,6 +181,39 @@ impl<D: Disk> Receiver<D> {
         match self.answer_at_once(number, payload.len()) {
             Some(answer) => answer,
             None => self.store(payload),
+        }
+    }
+
+    /// Message `n`, as the disk stands for it. On a disk that tells nothing a record may be longer
+    /// than any message of the row; then `into` stays as it was.
+    pub fn message(&mut self, n: u64, into: &mut Payload) -> Result<(), Device>
+        requires ready { IsRecvReady D.told self.old }
+        requires taken { n < recv_count self.old }
+
+        ensures message { OnOk result (D.told.tells → (messages : List (List ℕ))
+            → RecvStands (recv_row self.old) messages (D.told.reading (recv_disk self.old))
+            → into.new ≡ slice_index_or messages n []) }
+        ensures ready { OnOk result (IsRecvReady D.told self.new) }
+        ensures count { recv_count self.new ≡ recv_count self.old }
+        ensures end { recv_end self.new ≡ recv_end self.old }
+        ensures row { recv_row self.new ≡ recv_row self.old }
+        ensures size { recv_size self.new ≡ recv_size self.old }
+        ensures moves { Moves D.told Same (recv_disk self.old) (recv_disk self.new) }
+
+        ensures closed { OnErr result (recv_is_open self.new ≡ false) }
+        ensures answers { Answers D.told ⊤ (recv_disk self.old) (recv_disk self.new) result }
+        ensures device { IfErr result (λ e. e.faults ≡ D.told.count (recv_disk self.new)) }
+    {
+        match read_message(&mut self.register, n, self.row.message) {
+            Ok(Some(payload)) => {
+                *into = payload;
+                Ok(())
+            }
+            Ok(None) => Ok(()),
+            Err(device) => {
+                self.is_open = false;
+                Err(device)
+            }
         }
     }
 }

@@ -62,3 +62,16 @@ looked_fitting s exact after l h p q t m task a look stands fits seen =
       stands = seen.stands;
       is = seen.is;
     }
+
+takes_some : (s : Shape) (exact : Bool) (after : Low → High → Type 0) (l : Low) (h : High) (b : Bool) (n : ℕ) (got : Option Item) → Takes s exact after l h b n got → (l' : Low) × ((h' : High) × after l' h')
+takes_some s exact after l h true n (Some x) (is, stands) = (l, (takes h x n, stands))
+takes_some s exact after l h true n None (is, stands) = (l, (sought h (length h.taken), stands))
+takes_some s exact after l h false n got (none, stands) = (l, (h, stands))
+
+-- there is something that the end and the process stand for after a look
+pub looked_some : (s : Shape) (exact : Bool) (after : Low → High → Type 0) (l : Low) (h : High) (p q : HighProcess) (t : Past) (m : ℕ) (task : Task) (a : Bool) (look : HighLook)
+    → Looked s exact after l h p q t m task a look → (l' : Low) × ((h' : High) × ((t' : Past) × (after l' h' × Stands q t')))
+looked_some s exact after l h p q t m task a look seen =
+    let u : Past = begun task t m in
+    let e = takes_some s exact after l (told_time (published_in task t m) h) (wants u) u.removed seen.got seen.ends in
+    (e.0, (e.1.0, (finished p.row.resend a (taken_up u seen.got) m, (e.1.1, seen.stands))))

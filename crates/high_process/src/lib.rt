@@ -10,3 +10,6 @@ mod values;
 
 pub use process::HighProcess;
 pub use values::{HighAsk, HighFault, HighLook};
+
+#[cfg(test)]
+mod tests;

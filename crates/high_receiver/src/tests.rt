@@ -85,3 +85,26 @@ fn a_message_that_fits_is_taken_once(rt: HostRuntime) -> Result<(), Fail> {
     assert_eq!(rt; record, *b"\x00\x0812345678");
     Ok(())
 }
+
+#[test]
+fn a_taken_message_is_given_back(rt: HostRuntime) -> Result<(), Fail> {
+    let Some(row) = row() else {
+        return Err(Fail::new("no row"));
+    };
+    let Ok(mut receiver) = fresh(PlainDisk::new(rt.alloc(), 90)?, &row, 90) else {
+        return Err(Fail::new("no receiver"));
+    };
+    let Some(eight) = Payload::from_slice(b"12345678") else {
+        return Err(Fail::new("no payload"));
+    };
+    let Ok(Taken::Took) = receiver.take(0, &eight) else {
+        return Err(Fail::new("not taken"));
+    };
+    if receiver.count() == 0 {
+        return Err(Fail::new("no message"));
+    }
+    let mut found = Payload::default();
+    assert!(rt; receiver.message(0, &mut found).is_ok());
+    assert_eq!(rt; found.as_slice(), b"12345678".as_slice());
+    Ok(())
+}

@@ -2,6 +2,7 @@ ghost use Rattle.std.specs.Prelude.{◌≡◌, ◌≢◌, [], ◌++◌, Option, 
 ghost use Rattle.std.specs.Io.KnownBytes.{Appends};
 ghost use Rattle.pump_link.specs.Causes.{HasCause, AppendsFront, Rose};
 ghost use Rattle.script_reader.specs.Lawful.{IsLawfulLine};
+ghost use Rattle.script_reader.specs.Lines.{IsReady};
 ghost use Rattle.script_reader.specs.Scripts.{Running, ends};
 ghost use Rattle.script_reader.specs.Transcript.{text, fault_line};
 ghost use Rattle.netpump.specs.Sessions.{StandsFor, row_of};
@@ -85,6 +86,7 @@ fn apply(alloc: Global, session: &mut Option<Session>, line: &Line) -> Outcome
 
 /// Hands on what is held where the next line is not there yet, so that nobody waits for it.
 fn show<O: Sink>(lines: &Lines, output: &mut Output, out: &mut O) -> Result<(), WriteFault>
+    ensures shown { OnOk result ((IsReady lines.now.held → ⊥) → held_of output.new ≡ []) }
     ensures ok { OnOk result (Gathers (held_of output.old) (held_of output.new) (O.written out.old) (O.written out.new) []) }
     ensures err { OnErr result (AppendsFront (O.written out.old) (O.written out.new) (held_of output.old)) }
     ensures cause { HasCause (O.faults out.old) (O.faults out.new) result }

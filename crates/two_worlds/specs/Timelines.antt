@@ -1,0 +1,86 @@
+-- What a script's session has been through, as a timed run: its lines are looks, arrivals and events of
+-- the world, and what it was told, it was told by the run.
+use Rattle.std.specs.Prelude.{◌≡◌, ℕ, ◌≤◌, Bool, false, List, ◌++◌, length, map, take, drop, Some, None}
+use Rattle.std.specs.List.{AllByRecursion, list_any}
+use Rattle.pump_frame.specs.declared.row.SessionRow.{SessionRow}
+use Rattle.pump_core.specs.History.{Arrival, History}
+use Rattle.pump_core.specs.Comings.{Coming, is_broken, comings, arrival_of_coming}
+use Rattle.pump_core.specs.World.{World}
+use Rattle.pump_core.specs.Timed.{Step, HighSide, IsPublished, Point}
+use Rattle.pump_core.specs.Runs.{IsRun}
+use Rattle.script_reader.specs.declared.line.Line.{Line}
+use Rattle.script_reader.specs.declared.event.Event.{Event}
+use Rattle.script_reader.specs.Past.{Past, Sending, first_sending}
+use Rattle.script_reader.specs.Scripts.{Running, Goes, LeadTo}
+
+-- ---- what waits ----
+
+-- how many arrivals the looks of the run took on the connection that stands
+abbrev pub taken_in : (row : SessionRow) (steps : List Step) (t : Point) (h : History)
+    → IsRun row steps t h → ℕ
+taken_in row steps t h run = run.low.1.0
+
+-- the arrival of what came
+abbrev pub arrival_of : Coming → Arrival
+arrival_of c = arrival_of_coming (Some c)
+
+-- the first `taken` of all that came were taken: what waits is the rest in its order, and it is behind
+-- bad bytes where these were among those taken
+pub record AreLeft (came : List Coming) (taken : ℕ) (waits : List Arrival) (is_behind : Bool) : Type 0 where
+  pub came_before : taken ≤ length came
+  pub rest : waits ≡ map arrival_of (drop taken came)
+  pub behind : is_behind ≡ list_any is_broken (take taken came)
+
+-- ---- the world and the high side ----
+
+-- nothing of the world is unfinished
+pub record IsAtRest (w : World) : Type 0 where
+  pub storing : w.storing ≡ None
+  pub due : w.due ≡ false
+  pub removing : w.removing ≡ false
+  pub packet : w.packet ≡ None
+  pub taking : w.taking ≡ false
+
+-- the high side of the run published these times and made these sendings since the opening, and it
+-- has nothing left to publish. The message in the high hand has the number of those removed: it has
+-- its first sending, and no later message was sent
+pub record HasSent (removed : ℕ) (times : List ℕ) (sends : List Sending) (high : HighSide) : Type 0 where
+  pub published : high.published ≡ times
+  pub nothing_left : IsPublished high
+  pub first : high.first_sent ≡ first_sending removed sends
+  pub no_later : AllByRecursion (λ (s : Sending). s.number ≤ removed) sends
+
+-- ---- the timed run of a session ----
+
+-- these steps, the newest first, are a timed run that came to the point t, and its low history is the
+-- session's: so each look was told what the run told it, and offered what came. The run came to the
+-- session's world, its high side has published and sent what the session did, and what waits came on
+-- the connection that stands and was not taken
+pub record IsTimeline (row : SessionRow) (p : Past) (steps : List Step) (t : Point) : Type 0 where
+  pub run : IsRun row steps t p.history
+  pub world : t.world ≡ p.world
+  pub rest : IsAtRest p.world
+  pub high : HasSent p.world.removed p.times p.sends t.high
+  pub waits : AreLeft (comings t.life.side.events) (taken_in row steps t p.history run) p.waits p.is_broken
+  -- neither side has looked after the session's last moment
+  pub low_moment : t.looked ≤ p.moment
+  pub high_moment : t.high.moment ≤ p.moment
+
+-- the session has a timed run, in which these steps came last
+abbrev pub GoesOn : SessionRow → Past → List Step → Type 0
+GoesOn row p steps = (more : List Step) × (t : Point) × IsTimeline row p (more ++ steps) t
+
+-- ---- the laws ----
+
+-- a line goes on with any timed run of its session
+abbrev pub LinesAreSteps : Type 0
+LinesAreSteps = (s : Running) (line : Line) (q : Past) (printed : List Event) (steps : List Step)
+    (t : Point)
+    → Goes s line (Some (record { row = s.row; past = q })) printed
+    → IsTimeline s.row s.past steps t → GoesOn s.row q steps
+
+-- what a script's session has been through is a timed run
+abbrev pub ScriptsAreTimedRuns : Type 0
+ScriptsAreTimedRuns = (script : List Line) (s : Running) (printed : List Event)
+    → LeadTo None script (Some s) printed
+    → (steps : List Step) × (t : Point) × IsTimeline s.row s.past steps t

@@ -1,0 +1,12 @@
+use Rattle.std.proofs.Common.{List, [], ◌∷◌, sym, subst, append-nil}
+use Rattle.pump_core.specs.History.{Arrival}
+use Rattle.two_worlds.specs.Arrivals.{Gathers}
+use Rattle.two_worlds.specs.Arrivals.{arrival_of}
+use Rattle.two_worlds.proofs.RawBytes.{gathers_more}
+use Rattle.two_worlds.proofs.connection.read_byte.Goals as goal
+
+pub returns-in-None-clause-gathers : goal.returns-in-None-clause-gathers
+returns-in-None-clause-gathers c = λ added g. ([], c.in-None.ensures, subst (λ (l : List Arrival). Gathers l c.args.held.now.items c.args.count) (sym (append-nil added)) g)
+
+pub returns-in-Some-clause-gathers : goal.returns-in-Some-clause-gathers
+returns-in-Some-clause-gathers c = λ added g. (arrival_of c.in-Some.next ∷ [], c.in-Some.ensures, gathers_more added c.args.held.now.items _ c.args.count c.in-Some.next g c.hold.ensures)

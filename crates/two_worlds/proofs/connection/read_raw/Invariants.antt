@@ -1,0 +1,10 @@
+use Rattle.std.proofs.Common.{◌≤◌, take, List}
+use Rattle.pump_core.specs.History.{Arrival}
+use Rattle.script_reader.specs.Steps.{coming}
+use Rattle.two_worlds.specs.Arrivals.{IsFed, Gathers}
+use Rattle.two_worlds.proofs.connection.read_raw.Given as goal
+
+abbrev pub invariant-loop-byte : goal.invariant-loop-byte
+invariant-loop-byte l =
+    ((added : List Arrival) × IsFed l.fn.reader (take l.byte-index l.bytes) (coming added l.reader) × Gathers added l.held.items l.count)
+    × (l.count ≤ l.byte-index)

@@ -47,6 +47,13 @@ impl<D: Disk> LowStore<D> {
         self.register.is_open()
     }
 
+    /// How often a call of the disk failed, up to the greatest u64.
+    pub fn faults(&self) -> u64
+        ensures { result ≡ D.told.count (low_disk self.now) }
+    {
+        self.register.faults()
+    }
+
     /// The disk, with no further call.
     pub fn into_disk(self) -> D
         ensures { result ≡ low_disk self }

@@ -146,6 +146,13 @@ impl<D: Disk> Register<D> {
         self.is_open
     }
 
+    /// How often a call of the disk failed, up to the greatest u64.
+    pub fn faults(&self) -> u64
+        ensures { result ≡ D.told.count (register_disk self.now) }
+    {
+        self.disk.faults()
+    }
+
     // Writes beside the register.
     pub(crate) fn write_beside(&mut self, at: u64, bytes: &[u8]) -> Result<(), Device>
         requires ready { IsReady D.told self.old }

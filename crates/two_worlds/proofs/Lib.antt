@@ -4,4 +4,12 @@ pub mod Joining
 pub mod Pairs
 pub mod RawBytes
 pub mod Replied
+pub mod TimelineCarries
+pub mod TimelineCuts
+pub mod TimelineHighs
+pub mod TimelineLooks
+pub mod TimelineLows
+pub mod TimelineScripts
+pub mod TimelineWaits
+pub mod TimelineWorlds
 pub mod Worlds

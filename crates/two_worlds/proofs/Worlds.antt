@@ -9,7 +9,7 @@ use Rattle.pump_core.proofs.Laws.{begins_lawful, stays_lawful}
 use Rattle.pump_core.specs.Timed.{Step, Arrives, LowLook, HighLook, Offer, Read, Publish, Occurs, Point, after_event, LeadsTo, Moves}
 
 -- the world after an event is that to which it leads
-world_after : (t : Point) (e : Event) (v : World) → (after_event t e v).world ≡ v
+pub world_after : (t : Point) (e : Event) (v : World) → (after_event t e v).world ≡ v
 world_after t (StoreBegin p) v = refl
 world_after t StoreEnd v = refl
 world_after t Forward v = refl

@@ -2,6 +2,7 @@
 //! whose contract is the law; calling it does nothing.
 
 ghost use Rattle.two_worlds.specs.Laws.{EventsAreCertain, EveryWorldIsLawful, ForgedWorldsAreBounded, TimedWorldsAreLawful, RunsHaveReplies, PairsAgree, AcknowledgedIsAccepted, ThinnedHistoriesAgree};
+ghost use Rattle.two_worlds.specs.Timelines.{LinesAreSteps, ScriptsAreTimedRuns};
 
 /// An event leads to one world at most, so that what a step makes of a world is settled.
 pub fn events_are_certain()
@@ -50,4 +51,16 @@ pub fn thinned_histories_agree()
 /// What a timed run acknowledged is among the accepted messages of its world, whatever crashed since.
 pub fn acknowledged_is_accepted()
     ensures { AcknowledgedIsAccepted }
+{}
+
+/// A line of a script goes on with any timed run of its session, by the steps that stand for it.
+pub fn lines_are_steps()
+    ensures { LinesAreSteps }
+{}
+
+/// What the session of a script has been through is a timed run, whatever the script's lines are: what
+/// its looks were told is the feedback of that run, what they were offered is what came on the
+/// connections, and its world is the one to which the run came.
+pub fn scripts_are_timed_runs()
+    ensures { ScriptsAreTimedRuns }
 {}

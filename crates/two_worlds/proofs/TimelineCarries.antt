@@ -1,0 +1,100 @@
+-- A packet that is carried to the receiver goes on with a timed run of its session.
+use Rattle.std.proofs.Common.{◌≡◌, ⊎_elim, ℕ, Bool, true, false, cond, List, [], ◌∷◌, ◌++◌, length, Option, Some, None, refl, sym, ap, ◌∙◌, subst, arith}
+use Rattle.std.specs.Prelude.{nat_lt}
+use Rattle.pump_frame.specs.declared.payload.Payload.{Payload}
+use Rattle.pump_frame.specs.declared.row.SessionRow.{SessionRow}
+use Rattle.pump_core.specs.declared.event.Event.TheVariants.{CarryData, TakeBegin, TakeEnd}
+use Rattle.pump_core.specs.History.{Arrival}
+use Rattle.pump_core.specs.Comings.{comings}
+use Rattle.pump_core.specs.World.{World}
+use Rattle.pump_core.specs.Events.{Happens, Run}
+use Rattle.pump_core.specs.Timed.{Step, Occurs, Point, LeadsTo}
+use Rattle.script_reader.specs.declared.event.Event.{Event}
+use Rattle.script_reader.specs.Past.{Past, Sending}
+use Rattle.script_reader.specs.Highs.{IsCarried, place}
+use Rattle.two_worlds.specs.Timelines.{taken_in, AreLeft, IsAtRest, HasSent, IsTimeline, GoesOn}
+use Rattle.two_worlds.proofs.TimelineLooks.{timeline}
+
+-- nothing is unfinished, but a packet may wait at the receiver
+record IsOpen (removed : ℕ) (w : World) : Type 0 where
+  removed_is : w.removed ≡ removed
+  storing : w.storing ≡ None
+  due : w.due ≡ false
+  removing : w.removing ≡ false
+  taking : w.taking ≡ false
+
+either : (n : ℕ) (b : Bool) (v u : World) → IsOpen n v → IsOpen n u → IsOpen n (cond b v u)
+either n true v u h k = h
+either n false v u h k = k
+
+carried_open : (w : World) (k : ℕ) (v : World) → IsAtRest w → Happens w (CarryData k) v → IsOpen w.removed v
+carried_open w k v r h =
+    subst (IsOpen w.removed) (sym h.4) (either w.removed (nat_lt h.0.number (length w.received)) _ _
+    (record { removed_is = refl; storing = r.storing; due = r.due; removing = r.removing; taking = r.taking })
+    (record { removed_is = refl; storing = r.storing; due = r.due; removing = r.removing; taking = r.taking }))
+
+-- the run goes on from t to this world, where nothing is unfinished
+record Carried (row : SessionRow) (past : List Step) (t : Point) (removed : ℕ) (v : World) : Type 0 where
+  more : List Step
+  leads : LeadsTo row (more ++ past) (record t { world = v })
+  removed_is : v.removed ≡ removed
+  rest : IsAtRest v
+
+-- no packet waits where none can be taken
+none_waits : (w : World) → w.taking ≡ false → ((u : World) → Happens w TakeBegin u → ⊥) → w.packet ≡ None
+none_waits w idle never = elim w.packet as (λ (o : Option Payload). w.packet ≡ o → w.packet ≡ None) [
+  | None ↦ λ e. e
+  | Some p ↦ λ e. absurd (never (record w { taking = true }) (p, e, idle, refl))
+] refl
+
+module _ (row : SessionRow) (past : List Step) (t : Point) (n : ℕ) (w v : World) (more : List Step) (leads : LeadsTo row (more ++ past) (record t { world = w })) (r : IsOpen n w) where
+  taken : Run w (TakeBegin ∷ TakeEnd ∷ []) v → Carried row past t n v
+  taken (v₁, h₁, (v₂, h₂, e)) = record {
+    more = Occurs TakeEnd ∷ Occurs TakeBegin ∷ more;
+    leads = (record t { world = v₁ }, (record t { world = w }, leads, (v₁, h₁, tt, refl)), (v₂, h₂, tt, ap (λ (u : World). record t { world = u }) e));
+    removed_is = ap (λ (u : World). u.removed) (e ∙ h₂.3) ∙ ap (λ (u : World). u.removed) h₁.3 ∙ r.removed_is;
+    rest = subst IsAtRest (sym (e ∙ h₂.3)) (record {
+      storing = ap (λ (u : World). u.storing) h₁.3 ∙ r.storing;
+      due = ap (λ (u : World). u.due) h₁.3 ∙ r.due;
+      removing = ap (λ (u : World). u.removing) h₁.3 ∙ r.removing;
+      packet = refl;
+      taking = refl;
+    });
+  }
+
+  not_taken : ((u : World) → Happens w TakeBegin u → ⊥) × (v ≡ w) → Carried row past t n v
+  not_taken (never, e) = record {
+    more = more;
+    leads = subst (λ (u : World). LeadsTo row (more ++ past) (record t { world = u })) (sym e) leads;
+    removed_is = ap (λ (u : World). u.removed) e ∙ r.removed_is;
+    rest = subst IsAtRest (sym e) (record { storing = r.storing; due = r.due; removing = r.removing; packet = none_waits w r.taking never; taking = r.taking });
+  }
+
+-- a DATA is carried, and taken where it is the receiver's next
+pub carry : (row : SessionRow) (p : Past) (steps : List Step) (t : Point) (back : ℕ) (q : Past) (printed : List Event)
+    → IsTimeline row p steps t → IsCarried row p back q printed → GoesOn row q steps
+carry row p steps t back q printed i h =
+    let k = place p.world.sent back in
+    let start : LeadsTo row steps (record t { world = p.world }) = subst (λ (u : World). LeadsTo row steps (record t { world = u })) i.world i.run.leads in
+    let leads : LeadsTo row (Occurs (CarryData k) ∷ steps) (record t { world = h.carried }) = (record t { world = p.world }, start, (h.carried, h.carries, tt, refl)) in
+    let opened = carried_open p.world k h.carried i.rest h.carries in
+    let more : List Step = Occurs (CarryData k) ∷ [] in
+    let c : Carried row steps t p.world.removed q.world =
+    ⊎_elim (taken row steps t p.world.removed h.carried q.world more leads opened) (not_taken row steps t p.world.removed h.carried q.world more leads opened) h.takes in
+    let moment : q.moment ≡ p.moment = ap (λ (x : Past). x.moment) h.rest in
+    let low = i.low_moment in
+    let high = i.high_moment in
+    let removed_back = sym c.removed_is in
+    let times_back = sym (ap (λ (x : Past). x.times) h.rest) in
+    let sends_back = sym (ap (λ (x : Past). x.sends) h.rest) in
+    let waits_back = sym (ap (λ (x : Past). x.waits) h.rest) in
+    let broken_back = sym (ap (λ (x : Past). x.is_broken) h.rest) in (
+      c.more,
+      record t { world = q.world },
+      timeline row q (c.more ++ steps) (record t { world = q.world }) p.history (ap (λ (x : Past). x.history) h.rest)
+          (record { leads = c.leads; low = i.run.low; feedback = i.run.feedback; places = i.run.places })
+          refl c.rest
+          (subst (λ (l : ℕ × List ℕ × List Sending). HasSent l.0 l.1 l.2 t.high) (λ j. (removed_back j, times_back j, sends_back j)) i.high)
+          (subst (λ (l : List Arrival × Bool). AreLeft (comings t.life.side.events) (taken_in row steps t p.history i.run) l.0 l.1) (λ j. (waits_back j, broken_back j)) i.waits)
+          (omega (arith, low, moment)) (omega (arith, high, moment)),
+    )

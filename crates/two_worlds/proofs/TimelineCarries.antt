@@ -12,8 +12,8 @@ use Rattle.pump_core.specs.Timed.{Step, Occurs, Point, LeadsTo}
 use Rattle.script_reader.specs.declared.event.Event.{Event}
 use Rattle.script_reader.specs.Past.{Past, Sending}
 use Rattle.script_reader.specs.Highs.{IsCarried, place}
-use Rattle.two_worlds.specs.Timelines.{taken_in, AreLeft, IsAtRest, HasSent, IsTimeline, GoesOn}
-use Rattle.two_worlds.proofs.TimelineLooks.{timeline}
+use Rattle.two_worlds.specs.Timelines.{taken_in, AreLeft, IsAtRest, HasSent, IsTimeline, outline}
+use Rattle.two_worlds.proofs.TimelineLooks.{timeline, HasMore}
 
 -- nothing is unfinished, but a packet may wait at the receiver
 record IsOpen (removed : ℕ) (w : World) : Type 0 where
@@ -36,6 +36,7 @@ carried_open w k v r h =
 -- the run goes on from t to this world, where nothing is unfinished
 record Carried (row : SessionRow) (past : List Step) (t : Point) (removed : ℕ) (v : World) : Type 0 where
   more : List Step
+  out : outline more ≡ []
   leads : LeadsTo row (more ++ past) (record t { world = v })
   removed_is : v.removed ≡ removed
   rest : IsAtRest v
@@ -47,10 +48,11 @@ none_waits w idle never = elim w.packet as (λ (o : Option Payload). w.packet �
   | Some p ↦ λ e. absurd (never (record w { taking = true }) (p, e, idle, refl))
 ] refl
 
-module _ (row : SessionRow) (past : List Step) (t : Point) (n : ℕ) (w v : World) (more : List Step) (leads : LeadsTo row (more ++ past) (record t { world = w })) (r : IsOpen n w) where
+module _ (row : SessionRow) (past : List Step) (t : Point) (n : ℕ) (w v : World) (more : List Step) (out : outline more ≡ []) (leads : LeadsTo row (more ++ past) (record t { world = w })) (r : IsOpen n w) where
   taken : Run w (TakeBegin ∷ TakeEnd ∷ []) v → Carried row past t n v
   taken (v₁, h₁, (v₂, h₂, e)) = record {
     more = Occurs TakeEnd ∷ Occurs TakeBegin ∷ more;
+    out = out;
     leads = (record t { world = v₁ }, (record t { world = w }, leads, (v₁, h₁, tt, refl)), (v₂, h₂, tt, ap (λ (u : World). record t { world = u }) e));
     removed_is = ap (λ (u : World). u.removed) (e ∙ h₂.3) ∙ ap (λ (u : World). u.removed) h₁.3 ∙ r.removed_is;
     rest = subst IsAtRest (sym (e ∙ h₂.3)) (record {
@@ -65,6 +67,7 @@ module _ (row : SessionRow) (past : List Step) (t : Point) (n : ℕ) (w v : Worl
   not_taken : ((u : World) → Happens w TakeBegin u → ⊥) × (v ≡ w) → Carried row past t n v
   not_taken (never, e) = record {
     more = more;
+    out = out;
     leads = subst (λ (u : World). LeadsTo row (more ++ past) (record t { world = u })) (sym e) leads;
     removed_is = ap (λ (u : World). u.removed) e ∙ r.removed_is;
     rest = subst IsAtRest (sym e) (record { storing = r.storing; due = r.due; removing = r.removing; packet = none_waits w r.taking never; taking = r.taking });
@@ -72,7 +75,7 @@ module _ (row : SessionRow) (past : List Step) (t : Point) (n : ℕ) (w v : Worl
 
 -- a DATA is carried, and taken where it is the receiver's next
 pub carry : (row : SessionRow) (p : Past) (steps : List Step) (t : Point) (back : ℕ) (q : Past) (printed : List Event)
-    → IsTimeline row p steps t → IsCarried row p back q printed → GoesOn row q steps
+    → IsTimeline row p steps t → IsCarried row p back q printed → HasMore row q steps []
 carry row p steps t back q printed i h =
     let k = place p.world.sent back in
     let start : LeadsTo row steps (record t { world = p.world }) = subst (λ (u : World). LeadsTo row steps (record t { world = u })) i.world i.run.leads in
@@ -80,7 +83,7 @@ carry row p steps t back q printed i h =
     let opened = carried_open p.world k h.carried i.rest h.carries in
     let more : List Step = Occurs (CarryData k) ∷ [] in
     let c : Carried row steps t p.world.removed q.world =
-    ⊎_elim (taken row steps t p.world.removed h.carried q.world more leads opened) (not_taken row steps t p.world.removed h.carried q.world more leads opened) h.takes in
+    ⊎_elim (taken row steps t p.world.removed h.carried q.world more refl leads opened) (not_taken row steps t p.world.removed h.carried q.world more refl leads opened) h.takes in
     let moment : q.moment ≡ p.moment = ap (λ (x : Past). x.moment) h.rest in
     let low = i.low_moment in
     let high = i.high_moment in
@@ -97,4 +100,5 @@ carry row p steps t back q printed i h =
           (subst (λ (l : ℕ × List ℕ × List Sending). HasSent l.0 l.1 l.2 t.high) (λ j. (removed_back j, times_back j, sends_back j)) i.high)
           (subst (λ (l : List Arrival × Bool). AreLeft (comings t.life.side.events) (taken_in row steps t p.history i.run) l.0 l.1) (λ j. (waits_back j, broken_back j)) i.waits)
           (omega (arith, low, moment)) (omega (arith, high, moment)),
+      c.out,
     )

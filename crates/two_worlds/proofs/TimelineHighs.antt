@@ -13,9 +13,10 @@ use Rattle.pump_core.specs.Timed.{Step, HighLook, Publish, Occurs, HighSide, Poi
 use Rattle.pump_core.proofs.Bounded.{in_hand}
 use Rattle.script_reader.specs.declared.event.Event.{Event}
 use Rattle.script_reader.specs.Past.{Past, Sending, or_else, first_sending}
+use Rattle.script_reader.specs.Steps.{goes_on}
 use Rattle.script_reader.specs.Highs.{Perhaps, Returns, has_removed, time_since, published, sending_of, Sends, IsHighLook}
-use Rattle.two_worlds.specs.Timelines.{taken_in, AreLeft, IsAtRest, HasSent, IsTimeline, GoesOn}
-use Rattle.two_worlds.proofs.TimelineLooks.{timeline}
+use Rattle.two_worlds.specs.Timelines.{taken_in, AreLeft, IsAtRest, HasSent, IsTimeline, outline}
+use Rattle.two_worlds.proofs.TimelineLooks.{timeline, HasMore}
 use Rattle.two_worlds.proofs.Worlds.{leads_lawfully}
 
 -- ---- where a run stands within a high look ----
@@ -40,6 +41,7 @@ rests w r due = record { storing = r.storing; due = due; removing = r.removing; 
 -- the run goes on from t to this world, where its high side looks at m and has published and sent this
 record Stands (row : SessionRow) (past : List Step) (t : Point) (m : ℕ) (times : List ℕ) (sends : List Sending) (v : World) : Type 0 where
   more : List Step
+  out : outline more ≡ HighLook m ∷ []
   high : HighSide
   leads : LeadsTo row (more ++ past) (at t v high)
   looking : high.looking ≡ true
@@ -51,9 +53,11 @@ record Stands (row : SessionRow) (past : List Step) (t : Point) (m : ℕ) (times
 -- one event that changes the world alone, and not how many are removed
 aside : (row : SessionRow) (past : List Step) (t : Point) (m : ℕ) (times : List ℕ) (sends : List Sending) (w v : World)
     (s : Stands row past t m times sends w) (step : Step)
-    → LeadsTo row ((step ∷ s.more) ++ past) (at t v s.high) → v.removed ≡ w.removed → Stands row past t m times sends v
-aside row past t m times sends w v s step leads e = record {
+    → LeadsTo row ((step ∷ s.more) ++ past) (at t v s.high) → outline (step ∷ s.more) ≡ outline s.more
+    → v.removed ≡ w.removed → Stands row past t m times sends v
+aside row past t m times sends w v s step leads no_look e = record {
   more = step ∷ s.more;
+  out = no_look ∙ s.out;
   high = s.high;
   leads = leads;
   looking = s.looking;
@@ -83,7 +87,7 @@ module _ (row : SessionRow) (past : List Step) (t : Point) (m : ℕ) where
     rest = subst IsReady (sym e) (ready w r);
   }
   returned times sends w v (Some k) s r h = record {
-    stands = aside row past t m times sends w v s (Occurs (ReturnTaken k)) (at t w s.high, s.leads, (v, h, s.looking, refl))
+    stands = aside row past t m times sends w v s (Occurs (ReturnTaken k)) (at t w s.high, s.leads, (v, h, s.looking, refl)) refl
         (ap (λ (u : World). u.removed) h.3 ∙ either (h.0 == w.removed && holds w.high_hand h.0) _ _ w.removed refl refl);
     rest = subst IsReady (sym h.3) (same_rest (h.0 == w.removed && holds w.high_hand h.0) _ _
         (record { storing = r.storing; removing = r.removing; packet = r.packet; taking = r.taking }) (ready w r));
@@ -131,19 +135,21 @@ not_less a b e = le-ltb a b (omega (arith, e))
 module _ (row : SessionRow) (past : List Step) (t : Point) (m : ℕ) where
   -- what is to be published is published
   publishes : (times : List ℕ) (sends : List Sending) (v : World) (steps : List Step) (h : HighSide) (time : Option ℕ)
-      → LeadsTo row (steps ++ past) (at t v h) → h.looking ≡ true → h.moment ≡ m → h.published ≡ times → h.unpublished ≡ time
+      → outline steps ≡ HighLook m ∷ [] → LeadsTo row (steps ++ past) (at t v h) → h.looking ≡ true → h.moment ≡ m → h.published ≡ times → h.unpublished ≡ time
       → h.first_sent ≡ first_sending v.removed sends → NoLater v.removed sends
       → Stands row past t m (times ++ option_to_list time) sends v
-  publishes times sends v steps h None leads looking moment published left first none = record {
+  publishes times sends v steps h None out leads looking moment published left first none = record {
     more = steps;
+    out = out;
     high = h;
     leads = leads;
     looking = looking;
     moment = moment;
     sent = record { published = published ∙ sym (append-nil times); nothing_left = left; first = first; no_later = none };
   }
-  publishes times sends v steps h (Some τ) leads looking moment published left first none = record {
+  publishes times sends v steps h (Some τ) out leads looking moment published left first none = record {
     more = Publish ∷ steps;
+    out = out;
     high = high_published h τ;
     leads = (at t v h, leads, (τ, left, refl));
     looking = looking;
@@ -167,7 +173,7 @@ module _ (row : SessionRow) (past : List Step) (t : Point) (m : ℕ) where
         let same : time_of s.high.first_sent s.high.moment s.high.published ≡ time =
         run_time ∙ sym (is_time ∙ ap (λ (b : Bool). if b then published times (time_since (first_sending w.removed sends) m) else None) yes) in
         record {
-          stands = publishes times sends v (Occurs RemoveEnd ∷ Occurs RemoveBegin ∷ s.more) (high_removed s.high) time
+          stands = publishes times sends v (Occurs RemoveEnd ∷ Occurs RemoveBegin ∷ s.more) (high_removed s.high) time s.out
               (at t w₁ s.high, (at t w s.high, s.leads, (w₁, h₁, s.looking, refl)), (w₂, h₂, s.looking, ap (λ (u : World). at t u (high_removed s.high)) e))
               s.looking s.moment s.sent.published same
               (sym (no_first w.removed v.removed sends s.sent.no_later (omega (arith, more))))
@@ -213,7 +219,7 @@ module _ (row : SessionRow) (past : List Step) (t : Point) (m : ℕ) (times : Li
       (λ (k : Run w (TakeUp ∷ []) v).
       let e : v ≡ k.0 = k.2 in
       record {
-        stands = aside row past t m times sends w v s (Occurs TakeUp) (at t w s.high, s.leads, (k.0, k.1, (s.looking, s.sent.nothing_left), ap (λ (u : World). at t u s.high) e)) (ap (λ (u : World). u.removed) (e ∙ k.1.4));
+        stands = aside row past t m times sends w v s (Occurs TakeUp) (at t w s.high, s.leads, (k.0, k.1, (s.looking, s.sent.nothing_left), ap (λ (u : World). at t u s.high) e)) refl (ap (λ (u : World). u.removed) (e ∙ k.1.4));
         rest = subst IsAtRest (sym (e ∙ k.1.4)) (record { storing = r.storing; due = r.due; removing = r.removing; packet = r.packet; taking = r.taking });
       })
       (λ (k : ((u : World) → Happens w TakeUp u → ⊥) × (v ≡ w)).
@@ -237,6 +243,7 @@ module _ (row : SessionRow) (past : List Step) (t : Point) (m : ℕ) (times : Li
       let new : List Sending = record { number = h.0; moment = m } ∷ sends in
       let stands : Stands row past t m times new v = record {
         more = Occurs Send ∷ s.more;
+        out = s.out;
         high = high_sent s.high;
         leads = (at t w s.high, s.leads, (v, h, s.looking, refl));
         looking = s.looking;
@@ -266,6 +273,7 @@ module _ (row : SessionRow) (p : Past) (steps : List Step) (t : Point) (m : ℕ)
       let was = i.high_moment in
       record {
         more = HighLook m ∷ [];
+        out = refl;
         high = high_looking t.high m;
         leads = (at t p.world t.high, subst (λ (u : World). LeadsTo row steps (at t u t.high)) i.world i.run.leads, (omega (arith, was, late), i.high.nothing_left, refl));
         looking = refl;
@@ -274,7 +282,7 @@ module _ (row : SessionRow) (p : Past) (steps : List Step) (t : Point) (m : ℕ)
       }
 
   ended : (q : Past) → q.history ≡ p.history → q.waits ≡ p.waits → q.is_broken ≡ p.is_broken → q.moment ≡ m
-      → Removed row steps t m q.times q.sends q.world → GoesOn row q steps
+      → Removed row steps t m q.times q.sends q.world → HasMore row q steps (HighLook m ∷ [])
   ended q history waits broken moment r =
       let s = r.stands in
       let low = i.low_moment in
@@ -288,9 +296,10 @@ module _ (row : SessionRow) (p : Past) (steps : List Step) (t : Point) (m : ℕ)
             refl r.rest s.sent
             (subst (λ (k : List Arrival × Bool). AreLeft (comings t.life.side.events) (taken_in row steps t p.history i.run) k.0 k.1) (λ j. (waits_back j, broken_back j)) i.waits)
             (omega (arith, low, late, moment)) (omega (arith, high, moment)),
+        s.out,
       )
 
-  pub high_look : (back : Option ℕ) (q : Past) (printed : List Event) → IsHighLook row p m back q printed → GoesOn row q steps
+  pub high_look : (back : Option ℕ) (q : Past) (printed : List Event) → IsHighLook row p m back q printed → HasMore row q steps (HighLook m ∷ [])
   high_look back q printed (mid, first, second, r, k, e) =
       let a = returned row steps t m p.times p.sends p.world r.answered back began i.rest r.returns in
       let b = removed row steps t m p.times p.sends r.answered mid.world a.stands a.rest r.time r.is_time r.removes in
@@ -308,3 +317,48 @@ module _ (row : SessionRow) (p : Past) (steps : List Step) (t : Point) (m : ℕ)
       (ap (λ (x : Past). x.is_broken) k.rest ∙ ap (λ (x : Past). x.is_broken) r.rest)
       (ap (λ (x : Past). x.moment) k.rest)
       (subst (λ (l : List ℕ × List Sending). Removed row steps t m l.0 l.1 q.world) (λ j. (times_after j, sends_after j)) d)
+
+-- ---- whether a message is in the hand after it ----
+
+abbrev pub is_full : Option ℕ → Bool
+is_full None = false
+is_full (Some n) = true
+
+some_live : (n : ℕ) (held : List ℕ) → true ≡ nat_lt 0 (length (n ∷ held))
+some_live n held = sym (lt-ltb 0 (length (n ∷ held)) (omega arith))
+
+-- where nothing can be taken up
+nothing_waits : (w : World) (hand : Option ℕ) (held : List ℕ) → w.high_hand ≡ hand → w.held ≡ held → ((u : World) → Happens w TakeUp u → ⊥)
+    → is_full hand ≡ nat_lt 0 (length (option_to_list hand ++ held))
+nothing_waits w None [] e k never = refl
+nothing_waits w None (n ∷ rest) e k never = absurd (never (record w { held = rest; high_hand = Some n }) (n, rest, e, k, refl))
+nothing_waits w (Some n) held e k never = some_live n held
+
+taken_is : (w v : World) → Perhaps w TakeUp [] v → is_full v.high_hand ≡ goes_on w
+taken_is w v h = ⊎_elim
+    (λ (k : Run w (TakeUp ∷ []) v).
+    let e : v ≡ k.0 = k.2 in
+    ap (λ (u : World). is_full u.high_hand) (e ∙ k.1.4) ∙ some_live k.1.0 k.1.1
+    ∙ sym (λ i. nat_lt 0 (length (option_to_list (k.1.2 i) ++ k.1.3 i))))
+    (λ (k : ((u : World) → Happens w TakeUp u → ⊥) × (v ≡ w)).
+    ap (λ (u : World). is_full u.high_hand) k.1 ∙ nothing_waits w w.high_hand w.held refl refl k.0)
+    h
+
+sent_is : (w v : World) (is_sent : Bool) → Sends is_sent w v → v.high_hand ≡ w.high_hand
+sent_is w v true h = ap (λ (u : World). u.high_hand) h.5
+sent_is w v false e = ap (λ (u : World). u.high_hand) e
+
+-- without a TAKEN nothing is removed
+kept : (w v : World) → w.due ≡ false → Perhaps w RemoveBegin (RemoveEnd ∷ []) v → v ≡ w
+kept w v rest h = ⊎_elim
+    (λ (k : Run w (RemoveBegin ∷ RemoveEnd ∷ []) v). let no_due : true ≡ false = sym k.1.0 ∙ rest in absurd (cc))
+    (λ (k : ((u : World) → Happens w RemoveBegin u → ⊥) × (v ≡ w)). k.1)
+    h
+
+-- a high look without a TAKEN leaves a message in the hand exactly where one is in it or waits for it
+pub hand_after : (row : SessionRow) (p : Past) (m : ℕ) (q : Past) (printed : List Event) → IsAtRest p.world → IsHighLook row p m None q printed
+    → is_full q.world.high_hand ≡ goes_on p.world
+hand_after row p m q printed rest (mid, first, second, r, k, e) =
+    let due : r.answered.due ≡ false = ap (λ (u : World). u.due) r.returns ∙ rest.due in
+    let same : mid.world ≡ p.world = kept r.answered mid.world due r.removes ∙ r.returns in
+    ap is_full (sent_is k.taken q.world k.is_sent k.sends) ∙ taken_is mid.world k.taken k.takes_up ∙ ap goes_on same

@@ -1,21 +1,23 @@
 -- A look of a script goes on with a timed run of its session, and so does what comes before it.
 use Rattle.std.proofs.Common.{◌≡◌, ℕ, ◌+◌, ◌≤◌, Bool, true, false, List, [], ◌∷◌, ◌++◌, map, drop, refl, sym, ap, ◌∙◌, subst, arith, append_assoc, append-nil}
-use Rattle.std.specs.Prelude.{if◌then◌else◌, ◌&&◌, ◌||◌}
+use Rattle.std.specs.Prelude.{if◌then◌else◌, ◌&&◌, ◌||◌, reverse}
 use Rattle.std.proofs.Math.Bool.{or-false}
+use Rattle.std.proofs.lemmas.List.{reverse-append}
 use Rattle.pump_frame.specs.declared.row.SessionRow.{SessionRow}
 use Rattle.pump_core.specs.declared.feedback.Feedback.{Feedback}
 use Rattle.pump_core.specs.History.{Arrival, Gone, History, looked}
+use Rattle.pump_core.specs.Exchanges.{is_gone}
 use Rattle.pump_core.specs.Replies.{takes}
 use Rattle.pump_core.specs.Comings.{Coming, comings, is_nothing}
 use Rattle.pump_core.specs.World.{World}
-use Rattle.pump_core.specs.Timed.{Step, HighSide, Arrives, Point}
+use Rattle.pump_core.specs.Timed.{Step, HighSide, Arrives, LowLook, HighLook, Offer, Read, Publish, Occurs, Point}
 use Rattle.pump_core.specs.Runs.{IsRun}
 use Rattle.pump_core.proofs.Onward.{arrives_to}
 use Rattle.script_reader.specs.declared.event.Event.{Event}
 use Rattle.script_reader.specs.Past.{Past, Sending}
 use Rattle.script_reader.specs.Lows.{first_of, is_bad, IsLook}
 use Rattle.script_reader.specs.Steps.{lost, look_of}
-use Rattle.two_worlds.specs.Timelines.{taken_in, arrival_of, AreLeft, IsAtRest, HasSent, IsTimeline, GoesOn}
+use Rattle.two_worlds.specs.Timelines.{taken_in, arrived, AreLeft, IsAtRest, HasSent, IsTimeline, outline}
 use Rattle.two_worlds.proofs.TimelineLows.{taken_after, HasLooked, look_on}
 use Rattle.two_worlds.proofs.TimelineWaits.{comes_more, offered_first, offers_no_gone, takes_first}
 
@@ -30,18 +32,37 @@ timeline row q steps t h e run world rest high left low_moment high_moment =
     let r = subst (λ (k : History). (run : IsRun row steps t k) × AreLeft (comings t.life.side.events) (taken_in row steps t k run) q.waits q.is_broken) (sym e) (run, left) in
     record { run = r.0; world = world; rest = rest; high = high; waits = r.1; low_moment = low_moment; high_moment = high_moment }
 
+-- the session has a timed run, in which these steps came last, and after them more, with these arrivals
+-- and looks among them
+abbrev pub HasMore : SessionRow → Past → List Step → List Step → Type 0
+HasMore row q steps out = (more : List Step) × (t : Point) × IsTimeline row q (more ++ steps) t × (outline more ≡ out)
+
+outline-append : (xs ys : List Step) → outline (xs ++ ys) ≡ outline xs ++ outline ys
+outline-append [] ys = refl
+outline-append (Arrives c ∷ xs) ys = ap (λ l. Arrives c ∷ l) (outline-append xs ys)
+outline-append (LowLook m w gone d ∷ xs) ys = ap (λ l. LowLook m w gone d ∷ l) (outline-append xs ys)
+outline-append (HighLook m ∷ xs) ys = ap (λ l. HighLook m ∷ l) (outline-append xs ys)
+outline-append (Offer ∷ xs) ys = outline-append xs ys
+outline-append (Read ∷ xs) ys = outline-append xs ys
+outline-append (Publish ∷ xs) ys = outline-append xs ys
+outline-append (Occurs e ∷ xs) ys = outline-append xs ys
+
 -- two times on
-pub both : (row : SessionRow) (mid q : Past) (steps : List Step) → GoesOn row mid steps
-    → ((past : List Step) (t : Point) → IsTimeline row mid past t → GoesOn row q past) → GoesOn row q steps
-both row mid q steps (more, t, i) next =
-    let (further, u, k) = next (more ++ steps) t i in
-    (further ++ more, u, subst (λ (l : List Step). IsTimeline row q l u) (sym (append_assoc further more steps)) k)
+pub both : (row : SessionRow) (mid q : Past) (steps first second : List Step) → HasMore row mid steps first
+    → ((past : List Step) (t : Point) → IsTimeline row mid past t → HasMore row q past second) → HasMore row q steps (second ++ first)
+both row mid q steps first second (more, t, i, out) next =
+    let (further, u, k, out_of) = next (more ++ steps) t i in (
+      further ++ more,
+      u,
+      subst (λ (l : List Step). IsTimeline row q l u) (sym (append_assoc further more steps)) k,
+      outline-append further more ∙ (λ j. out_of j ++ out j),
+    )
 
 -- ---- what comes ----
 
 -- one more comes
 pub one_comes : (row : SessionRow) (p : Past) (steps : List Step) (t : Point) (c : Coming) → IsTimeline row p steps t
-    → IsTimeline row (record p { waits = p.waits ++ arrival_of c ∷ [] }) (Arrives c ∷ steps) (arrives_to t c)
+    → IsTimeline row (record p { waits = p.waits ++ arrived c ∷ [] }) (Arrives c ∷ steps) (arrives_to t c)
 one_comes row p steps t c i = record {
   run = record { leads = (t, i.run.leads, refl); low = i.run.low; feedback = i.run.feedback; places = i.run.places };
   world = i.world;
@@ -53,16 +74,17 @@ one_comes row p steps t c i = record {
 }
 
 pub all_come : (row : SessionRow) (p : Past) (steps : List Step) (t : Point) (cs : List Coming) → IsTimeline row p steps t
-    → GoesOn row (record p { waits = p.waits ++ map arrival_of cs }) steps
+    → HasMore row (record p { waits = p.waits ++ map arrived cs }) steps (reverse (map (λ k. Arrives k) cs))
 all_come row p steps t [] i =
-    ([], t, subst (λ (ws : List Arrival). IsTimeline row (record p { waits = ws }) steps t) (sym (append-nil p.waits)) i)
+    ([], t, subst (λ (ws : List Arrival). IsTimeline row (record p { waits = ws }) steps t) (sym (append-nil p.waits)) i, refl)
 all_come row p steps t (c ∷ cs) i =
-    let one : Past = record p { waits = p.waits ++ arrival_of c ∷ [] } in
-    let (more, u, k) = all_come row one (Arrives c ∷ steps) (arrives_to t c) cs (one_comes row p steps t c i) in (
+    let one : Past = record p { waits = p.waits ++ arrived c ∷ [] } in
+    let (more, u, k, out) = all_come row one (Arrives c ∷ steps) (arrives_to t c) cs (one_comes row p steps t c i) in (
       more ++ Arrives c ∷ [],
       u,
       subst (λ (s : List Step × List Arrival). IsTimeline row (record p { waits = s.1 }) s.0 u)
-          (let steps_so = sym (append_assoc more (Arrives c ∷ []) steps) in let waits_so = append_assoc p.waits (arrival_of c ∷ []) (map arrival_of cs) in λ j. (steps_so j, waits_so j)) k,
+          (let steps_so = sym (append_assoc more (Arrives c ∷ []) steps) in let waits_so = append_assoc p.waits (arrived c ∷ []) (map arrived cs) in λ j. (steps_so j, waits_so j)) k,
+      outline-append more (Arrives c ∷ []) ∙ ap (λ l. l ++ Arrives c ∷ []) out ∙ sym (reverse-append (Arrives c ∷ []) (map (λ k. Arrives k) cs)),
     )
 
 -- ---- a look ----
@@ -73,7 +95,7 @@ module _ (row : SessionRow) (p : Past) (steps : List Step) (t : Point) (m w : �
   after_look : (l : HasLooked row steps t p.history run m w a f (takes i.after) q.world)
       → IsAtRest p.world → HasSent p.world.removed p.times p.sends t.high → t.high.moment ≤ m
       → AreLeft (comings l.to.life.side.events) (taken_in row (l.more ++ steps) l.to (looked p.history (look_of m w a f)) l.run_on) q.waits q.is_broken
-      → GoesOn row q steps
+      → HasMore row q steps (LowLook m w (is_gone a) false ∷ [])
   after_look l rest high high_moment left =
       let removed : q.world.removed ≡ p.world.removed = l.leaves.removed ∙ ap (λ (u : World). u.removed) world in
       let removed_back = sym removed in
@@ -89,6 +111,7 @@ module _ (row : SessionRow) (p : Past) (steps : List Step) (t : Point) (m w : �
             (l.leaves.rest (subst IsAtRest (sym world) rest))
             (subst (λ (k : ℕ × List ℕ × List Sending × HighSide). HasSent k.0 k.1 k.2 k.3) (λ j. (removed_back j, times_back j, sends_back j, high_back j)) high)
             left (omega (arith, late, moment)) (omega (arith, high_same, high_moment, moment)),
+        l.out,
       )
 
 -- what waits after a look that may take the first of it
@@ -101,7 +124,8 @@ left_after came taken waits behind false left some =
 
 -- a look that is offered what waits
 pub offered_look : (row : SessionRow) (p : Past) (steps : List Step) (t : Point) (m w : ℕ) (f : Feedback) (q : Past) (printed : List Event)
-    → IsTimeline row p steps t → p.moment ≤ m → IsLook row p (look_of m w (first_of p.is_broken p.waits) f) q printed → GoesOn row q steps
+    → IsTimeline row p steps t → p.moment ≤ m → IsLook row p (look_of m w (first_of p.is_broken p.waits) f) q printed
+    → HasMore row q steps (LowLook m w false false ∷ [])
 offered_look row p steps t m w f q printed k late i =
     let came = comings t.life.side.events in
     let taken = taken_in row steps t p.history k.run in
@@ -119,8 +143,9 @@ offered_look row p steps t m w f q printed k late i =
     let count_back = sym count in
     let waits_back = sym i.waits in
     let broken_back = sym i.broken in
-    after_look row p steps t m w a f q printed k.run k.world i l k.rest k.high (omega (arith, high_moment, late))
-    (subst (λ (u : List Coming × ℕ × List Arrival × Bool). AreLeft u.0 u.1 u.2 u.3) (λ j. (events_back j, count_back j, waits_back j, broken_back j)) left)
+    subst (λ (b : Bool). HasMore row q steps (LowLook m w b false ∷ [])) stays
+    (after_look row p steps t m w a f q printed k.run k.world i l k.rest k.high (omega (arith, high_moment, late))
+    (subst (λ (u : List Coming × ℕ × List Arrival × Bool). AreLeft u.0 u.1 u.2 u.3) (λ j. (events_back j, count_back j, waits_back j, broken_back j)) left))
 
 none_left : (takes : Bool) (waits : List Arrival) (behind : Bool) → waits ≡ (if takes then [] else []) → behind ≡ (takes && false)
     → AreLeft [] 0 waits behind
@@ -129,7 +154,8 @@ none_left false waits behind e k = record { came_before = omega arith; rest = e;
 
 -- a look with the news that the connection is lost
 pub lost_look : (row : SessionRow) (p : Past) (steps : List Step) (t : Point) (m w : ℕ) (f : Feedback) (q : Past) (printed : List Event)
-    → IsTimeline row p steps t → p.moment ≤ m → IsLook row (lost p) (look_of m w Gone f) q printed → GoesOn row q steps
+    → IsTimeline row p steps t → p.moment ≤ m → IsLook row (lost p) (look_of m w Gone f) q printed
+    → HasMore row q steps (LowLook m w true false ∷ [])
 lost_look row p steps t m w f q printed k late i =
     let low_moment = k.low_moment in
     let high_moment = k.high_moment in

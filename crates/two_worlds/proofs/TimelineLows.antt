@@ -23,7 +23,7 @@ use Rattle.script_reader.specs.declared.event.Event.{Event}
 use Rattle.script_reader.specs.Past.{Past, pair}
 use Rattle.script_reader.specs.Lows.{is_owed, comes_again, feedback_at, feedback, offers, stored_events, acks_of, IsLook}
 use Rattle.script_reader.specs.Steps.{look_of}
-use Rattle.two_worlds.specs.Timelines.{taken_in}
+use Rattle.two_worlds.specs.Timelines.{taken_in, outline}
 use Rattle.two_worlds.proofs.TimelineCuts.{Deed, Rests, Stores, FindsFull, Releases, Passes, Reads, Acknowledges, feedback_by, own_events, events_by, steps_by, Newest, newest_of}
 use Rattle.two_worlds.proofs.TimelineWorlds.{Leaves, deed_leaves, has_places}
 use Rattle.pump_core.specs.declared.event.Event.TheVariants.{StoreBegin, StoreEnd, Forward, Acknowledge}
@@ -92,8 +92,9 @@ says row p before a = says_gone (length p.world.held == row.capacity - 2) (is_go
 abbrev looked_to : Point → ℕ → ℕ → Bool → Feedback → List Step → World → Point
 looked_to t m w gone f stood v = looks_to t (record t { world = v; looked = m }) m w gone false f stood
 
-abbrev Leads : SessionRow → List Step → Point → Type 0
-Leads row past u = (more : List Step) × LeadsTo row (more ++ past) u
+-- .. to which more steps lead, with these arrivals and looks among them
+abbrev Leads : SessionRow → List Step → List Step → Point → Type 0
+Leads row past out u = (more : List Step) × LeadsTo row (more ++ past) u × (outline more ≡ out)
 
 is_offered : (full : Bool) (f : Feedback) → full ≡ true → (if full then Full else f) ≡ Full
 is_offered full f e = rw e refl
@@ -112,17 +113,19 @@ module _ (row : SessionRow) (past : List Step) (t : Point) (m w : ℕ) (gone : B
   offers_so f e = (to Quiet [] t.world, began, ap (λ (g : Feedback). to g (Offer ∷ []) t.world) (sym e))
 
   pub deed_leads : (d : Deed) (v : World) → Says (length t.world.held == t.world.capacity - 2) (seen row t.high.published) (feedback_by d)
-      → Run t.world (events_by d) v → Leads row past (to (feedback_by d) (steps_by d) v)
-  deed_leads Rests v s r = (LowLook m w gone false ∷ [], subst (λ (u : World). LeadsTo row (LowLook m w gone false ∷ past) (to Quiet [] u)) (sym r) began)
+      → Run t.world (events_by d) v → Leads row past (LowLook m w gone false ∷ []) (to (feedback_by d) (steps_by d) v)
+  deed_leads Rests v s r = (LowLook m w gone false ∷ [], subst (λ (u : World). LeadsTo row (LowLook m w gone false ∷ past) (to Quiet [] u)) (sym r) began, refl)
   deed_leads (Stores p) v s (v₁, h₁, (v₂, h₂, e)) = (
     Occurs StoreEnd ∷ Occurs (StoreBegin p) ∷ LowLook m w gone false ∷ [],
     (to Quiet (Occurs (StoreBegin p) ∷ []) v₁, (to Quiet [] t.world, began, (v₁, h₁, tt, refl)), (v₂, h₂, tt, ap (λ (u : World). to Quiet (Occurs (StoreBegin p) ∷ Occurs StoreEnd ∷ []) u) e)),
+    refl,
   )
   deed_leads FindsFull v s r =
-      (Offer ∷ LowLook m w gone false ∷ [], subst (λ (u : World). LeadsTo row (Offer ∷ LowLook m w gone false ∷ past) (to Full (Offer ∷ []) u)) (sym r) (offers_so Full (is_offered _ Released s)))
+      (Offer ∷ LowLook m w gone false ∷ [], subst (λ (u : World). LeadsTo row (Offer ∷ LowLook m w gone false ∷ past) (to Full (Offer ∷ []) u)) (sym r) (offers_so Full (is_offered _ Released s)), refl)
   deed_leads Releases v s (v₁, h₁, e) = (
     Occurs Forward ∷ Offer ∷ LowLook m w gone false ∷ [],
     (to Released (Offer ∷ []) t.world, offers_so Released (is_released _ Released s), (v₁, h₁, tt, ap (λ (u : World). to Released (Offer ∷ Occurs Forward ∷ []) u) e)),
+    refl,
   )
   deed_leads (Passes a) v s (v₁, h₁, e) = (
     Read ∷ Occurs Forward ∷ Offer ∷ LowLook m w gone false ∷ [],
@@ -131,15 +134,18 @@ module _ (row : SessionRow) (past : List Step) (t : Point) (m w : ℕ) (gone : B
       (to Released (Offer ∷ []) t.world, offers_so Released (is_released _ Released s.0), (v₁, h₁, tt, ap (λ (u : World). to Released (Offer ∷ Occurs Forward ∷ []) u) e)),
       ap (λ (b : Seen). to (Passed b) (Offer ∷ Occurs Forward ∷ Read ∷ []) v) s.1,
     ),
+    refl,
   )
   deed_leads (Reads a) v s r = (
     Read ∷ LowLook m w gone false ∷ [],
     subst (λ (u : World). LeadsTo row (Read ∷ LowLook m w gone false ∷ past) (to (Repeat a) (Read ∷ []) u)) (sym r)
         (to Quiet [] t.world, began, ap (λ (b : Seen). to (Repeat b) (Read ∷ []) t.world) s),
+    refl,
   )
   deed_leads (Acknowledges n) v s (v₁, h₁, e) = (
     Occurs (Acknowledge n) ∷ LowLook m w gone false ∷ [],
     (to Quiet [] t.world, began, (v₁, h₁, tt, ap (λ (u : World). to Quiet (Occurs (Acknowledge n) ∷ []) u) e)),
+    refl,
   )
 
 -- ---- the look ----
@@ -171,6 +177,7 @@ told_also f (l ∷ ls) = record { is_held = l.is_held; looks = f ∷ l.looks } �
 -- a run that went on by this look, in which the world became v
 pub record HasLooked (row : SessionRow) (steps : List Step) (t : Point) (h : History) (run : IsRun row steps t h) (m w : ℕ) (a : Arrival) (f : Feedback) (takes : Bool) (v : World) : Type 0 where
   pub more : List Step
+  pub out : outline more ≡ LowLook m w (is_gone a) false ∷ []
   pub to : Point
   pub run_on : IsRun row (more ++ steps) to (looked h (look_of m w a f))
   pub world : to.world ≡ v
@@ -223,10 +230,10 @@ module _ (row : SessionRow) (p : Past) (steps : List Step) (t : Point) (m w : �
   abbrev end : Point
   end = looks_to t (record t { world = q.world; looked = m }) m w (is_gone a) false f (steps_by n.deed)
 
-  goes : (more : List Step) × LeadsTo row (more ++ steps) end
+  goes : Leads row steps (LowLook m w (is_gone a) false ∷ []) end
   goes =
       let l = deed_leads row steps t m w (is_gone a) run.leads late n.deed q.world does happened in
-      (l.0, subst (λ (g : Feedback). LeadsTo row (l.0 ++ steps) (looks_to t (record t { world = q.world; looked = m }) m w (is_gone a) false g (steps_by n.deed))) (sym n.feedback) l.1)
+      (l.0, subst (λ (g : Feedback). LeadsTo row (l.0 ++ steps) (looks_to t (record t { world = q.world; looked = m }) m w (is_gone a) false g (steps_by n.deed))) (sym n.feedback) l.1, l.2)
 
   offered_here : IsOffered row o (map (with_feedback uncounted) t.life.side.events) m w (is_gone a) false (uncounted f) p.history.life.looks x taken now
   offered_here = record {
@@ -248,6 +255,7 @@ module _ (row : SessionRow) (p : Past) (steps : List Step) (t : Point) (m w : �
   pub look_on : HasLooked row steps t p.history run m w a f (takes i.after) q.world
   look_on = record {
     more = goes.0;
+    out = goes.2;
     to = end;
     run_on = record {
       leads = goes.1;

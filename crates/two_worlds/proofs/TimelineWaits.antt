@@ -12,45 +12,45 @@ use Rattle.pump_core.specs.Comings.{Coming, Whole, Broken, is_broken, arrival_of
 use Rattle.pump_core.specs.Comings as comings
 use Rattle.pump_core.proofs.Lists.{length-push}
 use Rattle.script_reader.specs.Lows.{first_of, is_bad}
-use Rattle.two_worlds.specs.Timelines.{arrival_of, AreLeft}
+use Rattle.two_worlds.specs.Timelines.{arrived, AreLeft}
 
 -- ---- lists ----
 
-map-push : (xs : List Coming) (c : Coming) → map arrival_of xs ++ arrival_of c ∷ [] ≡ map arrival_of (xs ++ c ∷ [])
+map-push : (xs : List Coming) (c : Coming) → map arrived xs ++ arrived c ∷ [] ≡ map arrived (xs ++ c ∷ [])
 map-push [] c = refl
-map-push (x ∷ xs) c = ap (λ l. arrival_of x ∷ l) (map-push xs c)
+map-push (x ∷ xs) c = ap (λ l. arrived x ∷ l) (map-push xs c)
 
 drop-more : {X : Type 0} (n : ℕ) (xs : List X) → drop 1 (drop n xs) ≡ drop (n + 1) xs
 drop-more zero xs = refl
 drop-more (suc n) [] = let e : suc n + 1 ≡ suc (n + 1) = omega arith in rw e refl
 drop-more (suc n) (x ∷ xs) = let e : suc n + 1 ≡ suc (n + 1) = omega arith in rw e (drop-more n xs)
 
-drop-map : (xs : List Coming) → drop 1 (map arrival_of xs) ≡ map arrival_of (drop 1 xs)
+drop-map : (xs : List Coming) → drop 1 (map arrived xs) ≡ map arrived (drop 1 xs)
 drop-map [] = refl
 drop-map (x ∷ xs) = refl
 
 -- ---- one more comes ----
 
 pub comes_more : (came : List Coming) (taken : ℕ) (waits : List Arrival) (behind : Bool) (c : Coming) → AreLeft came taken waits behind
-    → AreLeft (came ++ c ∷ []) taken (waits ++ arrival_of c ∷ []) behind
+    → AreLeft (came ++ c ∷ []) taken (waits ++ arrived c ∷ []) behind
 comes_more came taken waits behind c left =
     let few = left.came_before in
     record {
       came_before = omega (arith, length-push came c, few);
-      rest = ap (λ l. l ++ arrival_of c ∷ []) left.rest ∙ map-push (drop taken came) c ∙ sym (ap (map arrival_of) (drop-append-le taken came (c ∷ []) few));
+      rest = ap (λ l. l ++ arrived c ∷ []) left.rest ∙ map-push (drop taken came) c ∙ sym (ap (map arrived) (drop-append-le taken came (c ∷ []) few));
       behind = left.behind ∙ sym (ap (list_any is_broken) (take-append-le taken came (c ∷ []) few));
     }
 
 -- ---- what is offered ----
 
-front : (came : List Coming) (taken : ℕ) → first_of false (map arrival_of (drop taken came)) ≡ arrival_of_coming (slice_get came taken)
+front : (came : List Coming) (taken : ℕ) → first_of false (map arrived (drop taken came)) ≡ arrival_of_coming (slice_get came taken)
 front [] zero = refl
 front [] (suc n) = refl
 front (c ∷ came) zero = refl
 front (c ∷ came) (suc n) = front came n
 
 offers : (behind : Bool) (came : List Coming) (taken : ℕ)
-    → first_of behind (map arrival_of (drop taken came)) ≡ (if behind then Nothing else arrival_of_coming (slice_get came taken))
+    → first_of behind (map arrived (drop taken came)) ≡ (if behind then Nothing else arrival_of_coming (slice_get came taken))
 offers true came taken = refl
 offers false came taken = front came taken
 
@@ -77,7 +77,7 @@ offers_no_gone came taken waits behind left =
 
 -- ---- the first is taken ----
 
-is_bad_of : (c : Coming) → is_bad (arrival_of c) ≡ is_broken c
+is_bad_of : (c : Coming) → is_bad (arrived c) ≡ is_broken c
 is_bad_of (Whole f) = refl
 is_bad_of Broken = refl
 
@@ -102,10 +102,10 @@ takes_first came taken waits behind left some =
     let next = something (slice_get came taken) free.1 in
     let c = next.0 in
     let within = slice_get_within came taken c next.1 in
-    let same : first_of behind waits ≡ arrival_of c = is ∙ (λ i. if free.0 i then Nothing else arrival_of_coming (next.1 i)) in
+    let same : first_of behind waits ≡ arrived c = is ∙ (λ i. if free.0 i then Nothing else arrival_of_coming (next.1 i)) in
     record {
       came_before = omega (arith, within);
-      rest = ap (drop 1) left.rest ∙ drop-map (drop taken came) ∙ ap (map arrival_of) (drop-more taken came);
+      rest = ap (drop 1) left.rest ∙ drop-map (drop taken came) ∙ ap (map arrived) (drop-more taken came);
       behind = ap (λ b. b || is_bad (first_of behind waits)) left.behind
           ∙ ap (λ b. list_any is_broken (take taken came) || b) (ap is_bad same ∙ is_bad_of c ∙ sym (ap is_broken (get_or_from_slice_get came taken c c next.1)))
           ∙ sym (list_any_more is_broken came taken c within);

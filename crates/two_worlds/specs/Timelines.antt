@@ -1,16 +1,18 @@
 -- What a script's session has been through, as a timed run: its lines are looks, arrivals and events of
 -- the world, and what it was told, it was told by the run.
-use Rattle.std.specs.Prelude.{◌≡◌, ℕ, ◌≤◌, Bool, false, List, ◌++◌, length, map, take, drop, Some, None}
+use Rattle.std.specs.Prelude.{◌≡◌, ℕ, ◌+◌, ◌≤◌, Bool, true, false, if◌then◌else◌, List, [], ◌∷◌, ◌++◌, length, map, take, drop, reverse, Some, None}
 use Rattle.std.specs.List.{AllByRecursion, list_any}
 use Rattle.pump_frame.specs.declared.row.SessionRow.{SessionRow}
 use Rattle.pump_core.specs.History.{Arrival, History}
 use Rattle.pump_core.specs.Comings.{Coming, is_broken, comings, arrival_of_coming}
 use Rattle.pump_core.specs.World.{World}
-use Rattle.pump_core.specs.Timed.{Step, HighSide, IsPublished, Point}
+use Rattle.pump_core.specs.Timed.{Step, Arrives, LowLook, HighLook, Offer, Read, Publish, Occurs, HighSide, IsPublished, Point}
 use Rattle.pump_core.specs.Runs.{IsRun}
 use Rattle.script_reader.specs.declared.line.Line.{Line}
+use Rattle.script_reader.specs.declared.line.Line.TheVariants as lines
 use Rattle.script_reader.specs.declared.event.Event.{Event}
 use Rattle.script_reader.specs.Past.{Past, Sending, first_sending}
+use Rattle.script_reader.specs.Steps as script
 use Rattle.script_reader.specs.Scripts.{Running, Goes, LeadTo}
 
 -- ---- what waits ----
@@ -21,14 +23,14 @@ abbrev pub taken_in : (row : SessionRow) (steps : List Step) (t : Point) (h : Hi
 taken_in row steps t h run = run.low.1.0
 
 -- the arrival of what came
-abbrev pub arrival_of : Coming → Arrival
-arrival_of c = arrival_of_coming (Some c)
+abbrev pub arrived : Coming → Arrival
+arrived c = arrival_of_coming (Some c)
 
 -- the first `taken` of all that came were taken: what waits is the rest in its order, and it is behind
 -- bad bytes where these were among those taken
 pub record AreLeft (came : List Coming) (taken : ℕ) (waits : List Arrival) (is_behind : Bool) : Type 0 where
   pub came_before : taken ≤ length came
-  pub rest : waits ≡ map arrival_of (drop taken came)
+  pub rest : waits ≡ map arrived (drop taken came)
   pub behind : is_behind ≡ list_any is_broken (take taken came)
 
 -- ---- the world and the high side ----
@@ -66,9 +68,37 @@ pub record IsTimeline (row : SessionRow) (p : Past) (steps : List Step) (t : Poi
   pub low_moment : t.looked ≤ p.moment
   pub high_moment : t.high.moment ≤ p.moment
 
--- the session has a timed run, in which these steps came last
-abbrev pub GoesOn : SessionRow → Past → List Step → Type 0
-GoesOn row p steps = (more : List Step) × (t : Point) × IsTimeline row p (more ++ steps) t
+-- ---- the steps of a line ----
+
+-- the arrivals and the looks among steps
+abbrev pub outline : List Step → List Step
+outline [] = []
+outline (Arrives c ∷ past) = Arrives c ∷ outline past
+outline (LowLook m w gone d ∷ past) = LowLook m w gone d ∷ outline past
+outline (HighLook m ∷ past) = HighLook m ∷ outline past
+outline (Offer ∷ past) = outline past
+outline (Read ∷ past) = outline past
+outline (Publish ∷ past) = outline past
+outline (Occurs e ∷ past) = outline past
+
+-- a `look` line is what comes with it and one low look, a `gone` line one low look with the news that
+-- the connection is lost, and a `done` line one high look, and one more where a message was carried
+abbrev pub IsOutline : SessionRow → Past → Line → List Step → Type 0
+IsOutline row p lines.Skip out = ⊥
+IsOutline row p (lines.Session other) out = ⊥
+IsOutline row p (lines.Look session m w a) out =
+    (c : script.Coming) × script.Arrives session p.reading a c × (came : List Coming)
+    × (c.added ≡ map arrived came)
+    × (out ≡ LowLook m w false false ∷ reverse (map (λ k. Arrives k) came))
+IsOutline row p (lines.Gone session m) out = out ≡ LowLook m 0 true false ∷ []
+IsOutline row p (lines.Done session m time) out =
+    out ≡ (if script.goes_on p.world then HighLook (m + time) ∷ HighLook m ∷ [] else HighLook m ∷ [])
+
+-- the session of the past p, which has this timed run, came to the past q by this line: the run goes on
+-- by more steps, whose arrivals and looks are the line's
+abbrev pub GoesOn : SessionRow → Past → Line → List Step → Past → Type 0
+GoesOn row p line steps q =
+    (more : List Step) × (t : Point) × IsTimeline row q (more ++ steps) t × IsOutline row p line (outline more)
 
 -- ---- the laws ----
 
@@ -77,7 +107,7 @@ abbrev pub LinesAreSteps : Type 0
 LinesAreSteps = (s : Running) (line : Line) (q : Past) (printed : List Event) (steps : List Step)
     (t : Point)
     → Goes s line (Some (record { row = s.row; past = q })) printed
-    → IsTimeline s.row s.past steps t → GoesOn s.row q steps
+    → IsTimeline s.row s.past steps t → GoesOn s.row s.past line steps q
 
 -- what a script's session has been through is a timed run
 abbrev pub ScriptsAreTimedRuns : Type 0

@@ -6,10 +6,14 @@ pub mod RawBytes
 pub mod Replied
 pub mod TimelineCarries
 pub mod TimelineCuts
+pub mod TimelineDeeds
 pub mod TimelineHighs
 pub mod TimelineLooks
 pub mod TimelineLows
+pub mod TimelineRemovals
 pub mod TimelineScripts
+pub mod TimelineSendings
+pub mod TimelineStands
 pub mod TimelineWaits
 pub mod TimelineWorlds
 pub mod Worlds

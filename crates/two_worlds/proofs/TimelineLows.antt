@@ -24,7 +24,8 @@ use Rattle.script_reader.specs.Past.{Past, pair}
 use Rattle.script_reader.specs.Lows.{is_owed, comes_again, feedback_at, feedback, offers, stored_events, acks_of, IsLook}
 use Rattle.script_reader.specs.Steps.{look_of}
 use Rattle.two_worlds.specs.Timelines.{taken_in, outline}
-use Rattle.two_worlds.proofs.TimelineCuts.{Deed, Rests, Stores, FindsFull, Releases, Passes, Reads, Acknowledges, feedback_by, own_events, events_by, steps_by, Newest, newest_of}
+use Rattle.two_worlds.proofs.TimelineCuts.{Newest, newest_of}
+use Rattle.two_worlds.proofs.TimelineDeeds.{Deed, Rests, Stores, FindsFull, Releases, Passes, Reads, Acknowledges, feedback_by, own_events, events_by, steps_by}
 use Rattle.two_worlds.proofs.TimelineWorlds.{Leaves, deed_leaves, has_places}
 use Rattle.pump_core.specs.declared.event.Event.TheVariants.{StoreBegin, StoreEnd, Forward, Acknowledge}
 

@@ -27,7 +27,8 @@ use Rattle.script_reader.specs.Scripts.{Running, Goes, Leads, LeadTo}
 use Rattle.script_reader.proofs.Fresh.{row_capacity}
 use Rattle.two_worlds.specs.Timelines.{arrived, IsTimeline, IsOutline, GoesOn}
 use Rattle.two_worlds.proofs.TimelineLooks.{timeline, HasMore, both, all_come, offered_look, lost_look}
-use Rattle.two_worlds.proofs.TimelineHighs.{different, is_full, high_look, hand_after}
+use Rattle.two_worlds.proofs.TimelineHighs.{is_full, high_look, hand_after}
+use Rattle.two_worlds.proofs.TimelineRemovals.{different}
 use Rattle.two_worlds.proofs.TimelineCarries.{carry}
 
 -- ---- the beginning ----

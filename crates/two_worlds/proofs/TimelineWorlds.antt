@@ -9,7 +9,7 @@ use Rattle.pump_core.specs.Events.{Happens, Run, holds, pump_crashed, receiver_c
 use Rattle.pump_core.specs.Timed.{Step, Arrives, LowLook, HighLook, Offer, Read, Publish, Occurs, Point, LeadsTo, Moves}
 use Rattle.two_worlds.specs.Timelines.{IsAtRest}
 use Rattle.two_worlds.proofs.Worlds.{world_after}
-use Rattle.two_worlds.proofs.TimelineCuts.{Deed, Rests, Stores, FindsFull, Releases, Passes, Reads, Acknowledges, events_by}
+use Rattle.two_worlds.proofs.TimelineDeeds.{Deed, Rests, Stores, FindsFull, Releases, Passes, Reads, Acknowledges, events_by}
 
 -- ---- the places ----
 

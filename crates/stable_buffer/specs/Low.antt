@@ -3,7 +3,7 @@ use Rattle.std.specs.Prelude.{◌≡◌, ℕ, ◌^◌, ◌≤◌, Bool, List}
 use Rattle.pump_frame.specs.Rows.{IsLawfulRow}
 use Rattle.pump_frame.specs.declared.row.SessionRow.{SessionRow}
 use Rattle.disk_model.specs.Disk.{Meaning, Settled}
-use Rattle.stable_buffer.specs.Register.{IsReady}
+use Rattle.stable_buffer.specs.Register.{IsReady, with_disk}
 use Rattle.stable_buffer.specs.Stands.{LowStands}
 use Rattle.stable_buffer.specs.declared.low.LowStore.{LowStore}
 
@@ -30,6 +30,10 @@ pub record IsLowReady {D : Type 0} (m : Meaning D) (store : LowStore D) : Type 0
 -- the disk under a store
 abbrev pub low_disk : {D : Type 0} → LowStore D → D
 low_disk store = store.register.disk
+
+-- the store with another disk under it
+abbrev pub low_with_disk : {D : Type 0} → LowStore D → D → LowStore D
+low_with_disk store disk = record store { register = with_disk store.register disk }
 
 -- how many messages are accepted
 abbrev pub low_count : {D : Type 0} → LowStore D → ℕ

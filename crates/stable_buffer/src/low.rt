@@ -17,7 +17,9 @@ pub struct LowStore<D> {
 }
 
 impl<D: Disk> LowStore<D> {
-    ghost use Rattle.stable_buffer.specs.Low.{IsLowReady, HasRanges, StandsForCount, low_disk, low_count, low_row, low_is_open};
+    ghost use Rattle.std.specs.Borrow.{sem, Lends};
+    ghost use Rattle.stable_buffer.specs.contracts.low.LowStore.{the_row};
+    ghost use Rattle.stable_buffer.specs.Low.{IsLowReady, HasRanges, StandsForCount, low_disk, low_with_disk, low_count, low_row, low_is_open};
     ghost use Rattle.stable_buffer.specs.Register.{IsReady, register_disk, register_value};
 
     /// A store over a register, whose disk stands for a count of at most 2^48 and some messages.
@@ -52,6 +54,16 @@ impl<D: Disk> LowStore<D> {
         ensures { result ≡ D.told.count (low_disk self.now) }
     {
         self.register.faults()
+    }
+
+    /// The disk itself. Its bytes are the store's: once they are written through it, only
+    /// `into_disk` may be called.
+    pub fn disk(&mut self) -> &mut D
+        ensures value { result.now ≡ low_disk self.old }
+        ensures* writes_back { sem 𝓛 (Lends (the_row D.row) D.row self.entry result
+            (λ disk. low_with_disk self.old disk)) }
+    {
+        self.register.disk()
     }
 
     /// The disk, with no further call.

@@ -1,7 +1,6 @@
 -- A session to which a script leads keeps its bounds.
 use Rattle.std.proofs.Common.{◌≡◌, ⊎_elim, ℕ, ◌+◌, ◌-◌, ◌≤◌, Bool, true, false, cond, List, [], ◌∷◌, Option, Some, None, refl, sym, ap, ◌∙◌, subst, arith}
 use Rattle.std.specs.Prelude.{◌==◌, ◌&&◌, nat_lt, length}
-use Rattle.pump_frame.specs.Rows.{IsLawfulRow}
 use Rattle.pump_frame.specs.declared.row.SessionRow.{SessionRow}
 use Rattle.pump_core.specs.declared.event.Event.{Event as WorldEvent}
 use Rattle.pump_core.specs.declared.event.Event.TheVariants.{StoreBegin, StoreEnd, Forward, TakeUp, Send, CarryData, TakeBegin, TakeEnd, ReturnTaken, RemoveBegin, RemoveEnd, Acknowledge, Crash}
@@ -12,13 +11,15 @@ use Rattle.pump_core.proofs.Laws.{runs_lawfully}
 use Rattle.script_reader.specs.declared.line.Line.{Line}
 use Rattle.script_reader.specs.declared.line.Line.TheVariants as lines
 use Rattle.script_reader.specs.declared.event.Event.{Event}
-use Rattle.script_reader.specs.Past.{Past, fresh}
-use Rattle.script_reader.specs.Highs.{Perhaps, Returns, Sends, IsHighLook, IsCarried, place}
+use Rattle.script_reader.specs.Past.{Past}
+use Rattle.script_reader.specs.Highs.{Perhaps, Returns, Sends, IsHighLook, is_ahead, IsReturnBy, IsReturn, IsCarried, place}
 use Rattle.script_reader.specs.Steps.{GoesOn, Step}
-use Rattle.script_reader.specs.Scripts.{Running, Goes, Leads, LeadTo}
+use Rattle.script_reader.specs.Tolds.{LowPast}
+use Rattle.script_reader.specs.Scripts.{Begun, Whole, Alone, GoesOn as GoesOnBegun, Leads, LeadTo}
 use Rattle.script_reader.specs.Readouts.{KeepsBounds}
 use Rattle.script_reader.proofs.Fresh.{fresh_lawful}
-use Rattle.script_reader.proofs.Waiting.{step_waits}
+use Rattle.script_reader.proofs.Leading.{IsNew, led}
+use Rattle.script_reader.proofs.Waiting.{step_waits, step_low_waits}
 
 -- the capacity stays
 pub record Stays (n : ℕ) (w : World) : Type 0 where
@@ -88,52 +89,64 @@ high_lawful n s p m back q printed l (mid, first, second, r, t, e) =
     let c = perhaps_lawful n mid.world TakeUp [] t.taken b t.takes_up in
     sends_lawful n t.is_sent t.taken q.world c t.sends
 
+return_by_lawful : (b : Bool) (n : ℕ) (s : SessionRow) (p : Past) (m k : ℕ) (q : Past) (printed : List Event) → (Stays n) p.world → IsReturnBy b s p m k q printed → (Stays n) q.world
+return_by_lawful true n s p m k q printed l h = subst (λ (t : Past). (Stays n) t.world) (sym h.0) l
+return_by_lawful false n s p m k q printed l h = high_lawful n s p m (Some k) q printed l h
+
+return_lawful : (n : ℕ) (s : SessionRow) (p : Past) (m k : ℕ) (q : Past) (printed : List Event) → (Stays n) p.world → IsReturn s p m k q printed → (Stays n) q.world
+return_lawful n s p m k q printed l h = return_by_lawful (is_ahead p.world k) n s p m k q printed l h
+
 carry_lawful : (n : ℕ) (s : SessionRow) (p : Past) (back : ℕ) (q : Past) (printed : List Event) → (Stays n) p.world → IsCarried s p back q printed → (Stays n) q.world
 carry_lawful n s p back q printed l c = perhaps_lawful n c.carried TakeBegin (TakeEnd ∷ []) q.world (stays_one n p.world (CarryData (place p.world.sent back)) c.carried l c.carries) c.takes
 
 goes_lawful : (n : ℕ) (s : SessionRow) (hand : Option ℕ) (p : Past) (m : ℕ) (q : Past) (printed : List Event) → (Stays n) p.world → GoesOn s hand p m q printed → (Stays n) q.world
 goes_lawful n s None p m q printed l (e, f) = subst (λ (t : Past). (Stays n) t.world) (sym e) l
-goes_lawful n s (Some k) p m q printed l (mid, first, second, c, h, e) = high_lawful n s mid m _ q second (carry_lawful n s p 0 mid first l c) h
+goes_lawful n s (Some k) p m q printed l (mid, first, second, c, h, e) = return_lawful n s mid m (place mid.world.returned 0) q second (carry_lawful n s p 0 mid first l c) h
 
 step_lawful : (n : ℕ) (s : SessionRow) (p : Past) (line : Line) (q : Past) (printed : List Event) → (Stays n) p.world → Step s p line q printed → (Stays n) q.world
 step_lawful n s p lines.Skip q printed l h = absurd h
 step_lawful n s p (lines.Session row) q printed l h = absurd h
+step_lawful n s p (lines.LowSession row next held) q printed l h = absurd h
+step_lawful n s p (lines.Told session m w fault told a) q printed l h = absurd h
 step_lawful n s p (lines.Look session m w a) q printed l (c, comes, (few, (f, i))) = stays_by n p.world _ q.world l i.world
 step_lawful n s p (lines.Gone session m) q printed l (f, i) = stays_by n p.world _ q.world l i.world
+step_lawful n s p (lines.High session m) q printed l h = high_lawful n s p m None q printed l h
+step_lawful n s p (lines.Carry session back) q printed l h = carry_lawful n s p back q printed l h
+step_lawful n s p (lines.Return session m back) q printed l h = return_lawful n s p m (place p.world.returned back) q printed l h
 step_lawful n s p (lines.Done session m t) q printed l (mid, first, second, h, g, e) = goes_lawful n s mid.world.high_hand mid (m + t) q second (high_lawful n s p m None mid first l h) g
 
 -- what holds of the session that runs: its world stays lawful, and at most 64 wait
-abbrev pub Holds : Option Running → Type 0
+abbrev pub Holds : Option Begun → Type 0
 Holds None = Unit {0}
-Holds (Some s) = Stays s.row.capacity s.past.world × (length s.past.waits ≤ 64)
+Holds (Some (Whole s)) = Stays s.row.capacity s.past.world × (length s.past.waits ≤ 64)
+Holds (Some (Alone s)) = length s.past.waits ≤ 64
 
-begins_so : (row : SessionRow) → IsLawfulRow row → Holds (Some (record { row = row; past = fresh row }))
-begins_so row lawful = (record { lawful = fresh_lawful row lawful; capacity = refl }, omega arith)
+begins_so : (s : Begun) → IsNew s → Holds (Some s)
+begins_so (Whole s) new =
+    subst (λ (p : Past). Stays s.row.capacity p.world × (length p.waits ≤ 64)) (sym new.1) (record { lawful = fresh_lawful s.row new.0; capacity = refl }, omega arith)
+begins_so (Alone s) new = subst (λ (p : LowPast). length p.waits ≤ 64) (sym new.2) (omega arith)
 
-goes_so : (s : Running) (line : Line) (after : Option Running) (printed : List Event) → Goes s line after printed → Holds (Some s) → Holds after
-goes_so s line after printed (timely, (q, step, e)) (l, few) =
+goes_so : (s : Begun) (line : Line) (after : Option Begun) (printed : List Event) → GoesOnBegun s line after printed → Holds (Some s) → Holds after
+goes_so (Whole s) line after printed (timely, (q, step, e)) (l, few) =
     subst Holds (sym e) (step_lawful s.row.capacity s.row s.past line q printed l step, step_waits s.row s.past line q printed few step)
+goes_so (Alone s) line after printed (timely, (q, step, e)) few = subst Holds (sym e) (step_low_waits s.row s.past line q printed step)
 
-leads_so : (running : Option Running) (line : Line) (after : Option Running) (printed : List Event) → Leads running line after printed → Holds running → Holds after
-leads_so None lines.Skip after printed h k = subst Holds (sym h.0) k
-leads_so (Some s) lines.Skip after printed h k = subst Holds (sym h.0) k
-leads_so None (lines.Session row) after printed h k = subst Holds (sym h.0.1) (begins_so row h.0.0)
-leads_so None (lines.Look session m w a) after printed h k = absurd h
-leads_so None (lines.Gone session m) after printed h k = absurd h
-leads_so None (lines.Done session m t) after printed h k = absurd h
-leads_so (Some s) (lines.Session row) after printed h k = goes_so s (lines.Session row) after printed h k
-leads_so (Some s) (lines.Look session m w a) after printed h k = goes_so s (lines.Look session m w a) after printed h k
-leads_so (Some s) (lines.Gone session m) after printed h k = goes_so s (lines.Gone session m) after printed h k
-leads_so (Some s) (lines.Done session m t) after printed h k = goes_so s (lines.Done session m t) after printed h k
+leads_so : (running : Option Begun) (line : Line) (after : Option Begun) (printed : List Event) → Leads running line after printed → Holds running → Holds after
+leads_so running line after printed h k =
+    led running line after printed h
+    (λ skip e f. subst Holds (sym e) k)
+    (λ s none new e f. subst Holds (sym e) (begins_so s new))
+    (λ s some goes. goes_so s line after printed goes (subst Holds some k))
 
-pub lead_so : (running : Option Running) (script : List Line) (after : Option Running) (printed : List Event) → LeadTo running script after printed → Holds running → Holds after
+pub lead_so : (running : Option Begun) (script : List Line) (after : Option Begun) (printed : List Event) → LeadTo running script after printed → Holds running → Holds after
 lead_so running [] after printed (e, f) k = subst Holds (sym e) k
 lead_so running (line ∷ script) after printed (mid, first, second, h, later, e) k = lead_so mid script after second later (leads_so running line mid first h k)
 
-pub bounds : (s : Running) → Holds (Some s) → KeepsBounds s
-bounds s (l, few) = record {
+pub bounds : (s : Begun) → Holds (Some s) → KeepsBounds s
+bounds (Whole s) (l, few) = record {
   waits = few;
   live = subst (λ (n : ℕ). length s.past.world.accepted ≤ s.past.world.removed + n) l.capacity l.lawful.bounded.within.above;
   held = subst (λ (n : ℕ). length s.past.world.held ≤ n - 2) l.capacity l.lawful.bounded.order.room;
   prefix = l.lawful.delivered.prefix;
 }
+bounds (Alone s) few = few

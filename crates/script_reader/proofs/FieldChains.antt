@@ -81,3 +81,14 @@ take_hex fields f y e next =
     let p = bind_some (field_at hex fields) f y e in
     let q = hex_at fields p.0 p.1 in
     next p.0.0 q.0 p.0.1 q.1 q.2 p.2
+
+-- any field
+pub take_field : {A B P : Type 0} (read : List ℕ → Option A) (fields : List (List ℕ)) (f : A × List (List ℕ) → Option B) (y : B) → (field_at read fields >>= f) ≡ Some y
+    → ((x : A) (field : List ℕ) (rest : List (List ℕ)) → read field ≡ Some x → fields ≡ field ∷ rest → f (x, rest) ≡ Some y → P) → P
+take_field read fields f y e next =
+    let p = bind_some (field_at read fields) f y e in
+    let q = field_takes read fields p.0 p.1 in
+    next p.0.0 q.0 p.0.1 q.2 q.1 p.2
+
+pub field_put : {A : Type 0} (read : List ℕ → Option A) (field : List ℕ) (x : A) (rest : List (List ℕ)) → read field ≡ Some x → field_at read (field ∷ rest) ≡ Some (x, rest)
+field_put read field x rest e = ap (λ o. with_rest o rest) e

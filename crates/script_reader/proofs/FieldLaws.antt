@@ -1,5 +1,5 @@
 -- What a reader of one field gives.
-use Rattle.std.proofs.Common.{◌≡◌, ℕ, ◌*◌, ◌/◌, ◌^◌, ◌<◌, ◌≤◌, ◌⊎◌, ◌&&◌, Bool, true, false, cond, ltb, leb, List, [], ◌∷◌, Option, None, Some, Result, Ok, Err, IsSome, IfSome, ◌↔◌, MatchResult, length, get_or, codes, decimal, refl, sym, ap, ◌∙◌, arith, inl, inr}
+use Rattle.std.proofs.Common.{◌≡◌, ℕ, ◌*◌, ◌/◌, ◌^◌, ◌<◌, ◌≤◌, ◌⊎◌, ◌&&◌, Bool, true, false, cond, ltb, leb, List, [], ◌∷◌, Option, None, Some, Result, Ok, Err, IsSome, IfSome, ◌↔◌, MatchResult, length, get_or, codes, decimal, refl, sym, ap, ◌∙◌, subst, arith, inl, inr}
 use Rattle.std.proofs.lemmas.Bool.{cases_eq, false_from_ne_true, ltb-true, lt-ltb, leb-true, le-leb, and_parts}
 use Rattle.std.proofs.lemmas.Option.{cond_some, same_Some, some_pair_parts}
 use Rattle.std.proofs.lemmas.Result.{OkIff-at_ok}
@@ -17,7 +17,7 @@ use Rattle.hex.specs.declared.FromHexError.{FromHexError}
 use Rattle.hex.proofs.HexLemmas.{decode_sized-ok, decode_sized-twice, decode_of-ok}
 use Rattle.pump_frame.specs.Names.{IsName}
 use Rattle.script_reader.specs.Grammar.{IsWord, IsHex, IsRaw}
-use Rattle.script_reader.specs.Parsing.{Reads, field_at, with_rest, IsPlain, number, word, word_from, name, hex, bytes_from, raw, held_from}
+use Rattle.script_reader.specs.Parsing.{Reads, field_at, with_rest, IsPlain, number, word, word_from, name, choice, hex, bytes_from, raw, held_from}
 
 reads_rest : {A : Type 0} (r : Option A) (left : List (List ℕ)) → Reads r left (with_rest r left)
 reads_rest None left = refl
@@ -88,6 +88,14 @@ number_over bound field n fits e low over =
     let same : m ≡ n = decimal_injective m n (omega (arith, p.0)) low (sym p.1 ∙ e) in
     absurd (omega (arith, p.0, same)))
 
+-- what is no number below 2^64 is none below a smaller bound
+pub number_fewer : (bound : ℕ) (field : List ℕ) → bound ≤ 2 ^ 64 → number (2 ^ 64) field ≡ None → None ≡ number bound field
+number_fewer bound field fits none =
+    none_from (number bound field) (λ n h.
+    let p = number_takes bound field n h in
+    let again : number (2 ^ 64) field ≡ Some n = rw p.1 (number_again (2 ^ 64) n (omega (arith, p.0)) (omega arith)) in
+    cc (sym none ∙ again))
+
 -- words
 word_ok : (r : Result (List ℕ) FromHexError) (n : ℕ) → word_from r ≡ Some n → (bytes : List ℕ) × (r ≡ Ok bytes) × (n ≡ from_be_bytes w32 bytes)
 word_ok (Ok bytes) n e = (bytes, refl, sym (same_Some _ _ e))
@@ -131,14 +139,26 @@ pub no_word : (field : List ℕ) (answer : Result (Unit {0}) FromHexError) (out 
 unfolding word
 no_word field answer out e h err = no_word_at (decode_sized field 4) answer out e h err
 
+chosen : {A : Type 0} (b : Bool) (x y : Option A) (z : A) → cond b x y ≡ Some z → ((b ≡ true) × (x ≡ Some z)) ⊎ ((b ≡ false) × (y ≡ Some z))
+chosen true x y z e = inl (refl, e)
+chosen false x y z e = inr (refl, e)
+
+-- one of two words
+pub choice_takes : (off on field : List ℕ) (b : Bool) → choice off on field ≡ Some b → field ≡ cond b on off
+unfolding choice
+choice_takes off on field b e =
+    elim (chosen (bytes_eq field off) (Some false) _ b e) [
+      | inl p ↦ subst (λ t. field ≡ cond t on off) (same_Some _ b p.1) ((bytes_eq-Decides field off).0 p.0)
+      | inr p ↦ elim (chosen (bytes_eq field on) (Some true) None b p.1) [
+        | inl q ↦ subst (λ t. field ≡ cond t on off) (same_Some _ b q.1) ((bytes_eq-Decides field on).0 q.0)
+        | inr q ↦ cc
+      ]
+    ]
+
 -- payloads
 bytes_ok : (r : Result (List ℕ) FromHexError) (x : List ℕ) → bytes_from r ≡ Some x → r ≡ Ok x
 bytes_ok (Ok bytes) x e = ap Ok (same_Some _ _ e)
 bytes_ok (Err y) x e = cc
-
-chosen : {A : Type 0} (b : Bool) (x y : Option A) (z : A) → cond b x y ≡ Some z → ((b ≡ true) × (x ≡ Some z)) ⊎ ((b ≡ false) × (y ≡ Some z))
-chosen true x y z e = inl (refl, e)
-chosen false x y z e = inr (refl, e)
 
 pub hex_takes : (field payload : List ℕ) → hex field ≡ Some payload → IsHex payload field
 unfolding hex

@@ -7,7 +7,8 @@ use Rattle.std.proofs.lemmas.Str.Parse.{IsNumeralModel, numerals_by_value, tells
 use Rattle.std.proofs.lemmas.Fmt.{digits_decimal}
 use Rattle.std.specs.Str.Parse.{AllDigits, digits_value}
 use Rattle.std.specs.Int.{IsInRange, to_be_bytes, w32}
-use Rattle.std.specs.List.{list_all, AllPass}
+use Rattle.std.specs.Prelude.{◌==◌}
+use Rattle.std.specs.List.{All, list_all, AllPass}
 use Rattle.hex.specs.Hex.{is_hex_digit}
 use Rattle.hex.proofs.HexLemmas.{decode_of-ok}
 use Rattle.pump_frame.specs.Names.{IsName, is_name_byte}
@@ -40,8 +41,11 @@ free_hex payload field h =
 pub free_raw : (bytes field : List ℕ) → IsRaw bytes field → IsFree field
 free_raw bytes field h = free_by is_hex_digit refl field (decode_of-ok field bytes h.digits).1
 
-pub free_decimal : (n : ℕ) → n < 2 ^ 64 → IsFree (decimal n)
-free_decimal n fits =
+-- no byte of a number is one that is no digit
+pub digits_without : (b n : ℕ) → n < 2 ^ 64 → (IsInRange 48 57 b → ⊥) → All (λ x. (x == b) ≡ false) (decimal n)
+digits_without b n fits out =
     let own : IsNumeralModel (AllDigits 10) (digits_value 10) = numerals_by_value _ tells_digits in
-    let out : IsInRange 48 57 32 → ⊥ = λ h. absurd (omega (arith, h.0)) in
-    All-from_get_or (λ b. is_space b ≡ false) (decimal n) 0 (λ i low. ne_eqb _ 32 (not_in_digits own (decimal n) 32 (digits_decimal own n fits) out i low))
+    All-from_get_or (λ x. (x == b) ≡ false) (decimal n) 0 (λ i low. ne_eqb _ b (not_in_digits own (decimal n) b (digits_decimal own n fits) out i low))
+
+pub free_decimal : (n : ℕ) → n < 2 ^ 64 → IsFree (decimal n)
+free_decimal n fits = digits_without 32 n fits (λ h. absurd (omega (arith, h.0)))

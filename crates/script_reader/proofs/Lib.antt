@@ -3,6 +3,8 @@ pub mod FieldChains
 pub mod FieldLaws
 pub mod FreeFields
 pub mod Fresh
+pub mod Halting
+pub mod Leading
 pub mod LineEnds
 pub mod LineLaws
 pub mod LookLaws
@@ -10,8 +12,11 @@ pub mod MomentLaws
 pub mod NextLaws
 pub mod One
 pub mod OneEnd
+pub mod OneLow
 pub mod OneReading
+pub mod OneScript
 pub mod Replying
 pub mod SessionLaws
 pub mod Splits
+pub mod ToldLaws
 pub mod Waiting

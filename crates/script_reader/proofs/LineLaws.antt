@@ -1,5 +1,5 @@
 -- Reading a line on lists is the grammar.
-use Rattle.std.proofs.Common.{◌≡◌, ℕ, ◌≤◌, inl, inr, true, false, ltb, List, [], ◌∷◌, Option, None, Some, IfSome, length, codes, decimal, refl, sym, ◌∙◌, subst, arith}
+use Rattle.std.proofs.Common.{◌≡◌, ℕ, ◌≤◌, inl, inr, true, false, cond, ltb, List, [], ◌∷◌, ◌++◌, Option, None, Some, IfSome, length, codes, decimal, refl, sym, ◌∙◌, subst, arith}
 use Rattle.std.proofs.lemmas.Bool.{ltb-false, le-ltb, eqb-true, eq-eqb}
 use Rattle.std.proofs.lemmas.Option.{same_Some}
 use Rattle.std.proofs.lemmas.Slice.Eq.{bytes_eq-Decides}
@@ -7,80 +7,84 @@ use Rattle.std.specs.Str.{bytes_eq}
 use Rattle.std.specs.List.{slice_split}
 use Rattle.std.proofs.lemmas.List.Splits.{join_with_byte-slice_split}
 use Rattle.script_reader.specs.declared.line.Line.{Line}
-use Rattle.script_reader.specs.declared.line.Line.TheVariants.{Skip, Session, Look, Gone, Done}
+use Rattle.script_reader.specs.declared.line.Line.TheVariants.{Skip, Session, LowSession, Look, Told, Gone, High, Carry, Return, Done}
 use Rattle.script_reader.specs.declared.line.Arriving.{Arriving}
 use Rattle.script_reader.specs.declared.line.Arriving.TheVariants.{Nothing, Hello, Data, Raw}
 use Rattle.script_reader.specs.Fields.{is_space}
-use Rattle.script_reader.specs.Grammar.{spaced, row_fields, IsArriving, HasFields, IsSkipped, IsLine}
-use Rattle.script_reader.specs.Lawful.{IsLawfulArriving, IsLawfulLine}
-use Rattle.script_reader.specs.Parsing.{done_of, line_of, is_skipped, line_at}
+use Rattle.script_reader.specs.declared.line.ToldFeedback.{ToldFeedback}
+use Rattle.script_reader.specs.declared.line.ToldFeedback.TheVariants.{Quiet, Full, Pair}
+use Rattle.script_reader.specs.Grammar.{held_field, outcome_field, IsFeedback, spaced, row_fields, IsArriving, HasFields, IsSkipped, IsLine}
+use Rattle.script_reader.specs.Lawful.{IsLawfulArriving, IsLawfulFeedback, IsLawfulLine}
+use Rattle.script_reader.specs.Parsing.{session_of, low_session_of, look_of, told_of, gone_of, high_of, carry_of, return_of, done_of, line_of, is_skipped, line_at}
 use Rattle.script_reader.proofs.Splits.{split_joined}
 use Rattle.script_reader.proofs.FieldChains.{chosen}
-use Rattle.script_reader.proofs.FreeFields.{free_text, free_name, free_word, free_decimal}
-use Rattle.script_reader.proofs.SessionLaws.{session_takes, session_put}
+use Rattle.script_reader.proofs.FreeFields.{free_text, free_word, free_decimal}
+use Rattle.script_reader.proofs.SessionLaws.{session_takes, session_put, low_session_takes, low_session_put, free_row, free_count}
 use Rattle.script_reader.proofs.LookLaws.{look_takes, look_put, free_arriving}
-use Rattle.script_reader.proofs.MomentLaws.{gone_takes, gone_put, done_takes, done_put}
+use Rattle.script_reader.proofs.MomentLaws.{gone_takes, gone_put, high_takes, high_put, carry_takes, carry_put, return_takes, return_put, done_takes, done_put}
+use Rattle.script_reader.proofs.ToldLaws.{told_takes, told_put, free_told}
 
--- the word at the front decides
-begins : (w text : List ℕ) (fields : List (List ℕ)) (line : Line) → bytes_eq w text ≡ true → HasFields line (text ∷ fields) → HasFields line (w ∷ fields)
-begins w text fields line e h = rw ((bytes_eq-Decides w text).0 e) h
+-- the word at the front decides: the fields after it, or the next word
+by_word : (w text : List ℕ) (fields : List (List ℕ)) (line : Line) (here later : Option Line) → cond (bytes_eq w text) here later ≡ Some line
+    → (here ≡ Some line → HasFields line (text ∷ fields)) → (later ≡ Some line → HasFields line (w ∷ fields)) → HasFields line (w ∷ fields)
+by_word w text fields line here later e same other =
+    elim (chosen (bytes_eq w text) here later line e) [
+      | inl p ↦ rw ((bytes_eq-Decides w text).0 p.0) (same p.1)
+      | inr p ↦ other p.1
+    ]
 
 line_takes : (fields : List (List ℕ)) (line : Line) → line_of fields ≡ Some line → HasFields line fields
 unfolding line_of
 line_takes [] line e = cc
 line_takes (w ∷ fields) line e =
-    elim (chosen (bytes_eq w (codes "session")) _ _ line e) [
-      | inl p ↦ begins w (codes "session") fields line p.0 (session_takes fields line p.1)
-      | inr p ↦ elim (chosen (bytes_eq w (codes "look")) _ _ line p.1) [
-        | inl q ↦ begins w (codes "look") fields line q.0 (look_takes fields line q.1)
-        | inr q ↦ elim (chosen (bytes_eq w (codes "gone")) _ _ line q.1) [
-          | inl r ↦ begins w (codes "gone") fields line r.0 (gone_takes fields line r.1)
-          | inr r ↦ elim (chosen (bytes_eq w (codes "done")) (done_of fields) None line r.1) [
-            | inl s ↦ begins w (codes "done") fields line s.0 (done_takes fields line s.1)
-            | inr s ↦ cc
-          ]
-        ]
-      ]
-    ]
+    by_word w (codes "session") fields line (session_of fields) _ e (session_takes fields line) (λ e.
+    by_word w (codes "low-session") fields line (low_session_of fields) _ e (low_session_takes fields line) (λ e.
+    by_word w (codes "look") fields line (look_of fields) _ e (look_takes fields line) (λ e.
+    by_word w (codes "told") fields line (told_of fields) _ e (told_takes fields line) (λ e.
+    by_word w (codes "gone") fields line (gone_of fields) _ e (gone_takes fields line) (λ e.
+    by_word w (codes "high") fields line (high_of fields) _ e (high_takes fields line) (λ e.
+    by_word w (codes "carry") fields line (carry_of fields) _ e (carry_takes fields line) (λ e.
+    by_word w (codes "return") fields line (return_of fields) _ e (return_takes fields line) (λ e.
+    by_word w (codes "done") fields line (done_of fields) None e (done_takes fields line) (λ e. cc)))))))))
 
 line_put : (line : Line) (fields : List (List ℕ)) → HasFields line fields → line_of fields ≡ Some line
 unfolding line_of
 line_put Skip fields h = absurd h
 line_put (Session row) fields h = rw h.1 (session_put row h.0)
+line_put (LowSession row next held) fields h = rw h.2 (low_session_put row next held h.0 h.1)
 line_put (Look session moment w arrival) fields h = rw h.6 (look_put session moment w h.2 arrival h.4 h.0 h.1 h.3 h.5)
+line_put (Told session moment w fault told arrival) fields h = rw h.8 (told_put session moment w h.2 fault told h.4 arrival h.6 h.0 h.1 h.3 h.5 h.7)
 line_put (Gone session moment) fields h = rw h.2 (gone_put session moment h.0 h.1)
+line_put (High session moment) fields h = rw h.2 (high_put session moment h.0 h.1)
+line_put (Carry session back) fields h = rw h.2 (carry_put session back h.0 h.1)
+line_put (Return session moment back) fields h = rw h.3 (return_put session moment back h.0 h.1 h.2)
 line_put (Done session moment time) fields h = rw h.3 (done_put session moment time h.0 h.1 h.2)
 
 -- bytes that are a line's fields with one space between are split into them
 split_line : (line : Line) (fields : List (List ℕ)) → HasFields line fields → slice_split is_space (spaced fields) ≡ fields
 split_line Skip fields h = absurd h
-split_line (Session row) fields h =
-    let r = h.0 in
-    rw h.1 (split_joined (codes "session") (row_fields row) (free_text (codes "session") refl) (
-      free_decimal row.id (omega (arith, r.id)),
-      (
-        free_decimal row.capacity (omega (arith, r.capacity)),
-        (
-          free_decimal row.message (omega (arith, r.message)),
-          (
-            free_decimal row.window (omega (arith, r.window)),
-            (
-              free_decimal row.start (omega (arith, r.start)),
-              (
-                free_decimal row.longest (omega (arith, r.longest)),
-                (free_decimal row.resend (omega (arith, r.resend)), (free_name row.low r.low, (free_name row.high r.high, tt))),
-              ),
-            ),
-          ),
-        ),
-      ),
-    ))
+split_line (Session row) fields h = rw h.1 (split_joined (codes "session") (row_fields row) (free_text (codes "session") refl) (free_row row [] h.0 tt))
+split_line (LowSession row next held) fields h =
+    rw h.2 (split_joined (codes "low-session") (row_fields row ++ decimal next ∷ held_field held ∷ []) (free_text (codes "low-session") refl)
+    (free_row row (decimal next ∷ held_field held ∷ []) h.0 (free_count next held h.1)))
 split_line (Look session moment w arrival) fields h =
     rw h.6 (split_joined (codes "look") (decimal session ∷ decimal moment ∷ h.2 ∷ h.4) (free_text (codes "look") refl)
     (free_decimal session (omega (arith, h.0)), (free_decimal moment (omega (arith, h.1)), (free_word w h.2 h.3, free_arriving arrival h.4 h.5))))
+split_line (Told session moment w fault told arrival) fields h =
+    rw h.8 (split_joined (codes "told") (decimal session ∷ decimal moment ∷ h.2 ∷ outcome_field fault ∷ h.4 ∷ h.6) (free_text (codes "told") refl)
+    (free_told session moment w h.2 fault told h.4 arrival h.6 h.0 h.1 h.3 h.5 h.7))
 split_line (Gone session moment) fields h =
     rw h.2 (split_joined (codes "gone") (decimal session ∷ decimal moment ∷ []) (free_text (codes "gone") refl)
     (free_decimal session (omega (arith, h.0)), (free_decimal moment (omega (arith, h.1)), tt)))
+split_line (High session moment) fields h =
+    rw h.2 (split_joined (codes "high") (decimal session ∷ decimal moment ∷ []) (free_text (codes "high") refl)
+    (free_decimal session (omega (arith, h.0)), (free_decimal moment (omega (arith, h.1)), tt)))
+split_line (Carry session back) fields h =
+    rw h.2 (split_joined (codes "carry") (decimal session ∷ decimal back ∷ []) (free_text (codes "carry") refl)
+    (free_decimal session (omega (arith, h.0)), (free_decimal back h.1, tt)))
+split_line (Return session moment back) fields h =
+    rw h.3 (split_joined (codes "return") (decimal session ∷ decimal moment ∷ decimal back ∷ []) (free_text (codes "return") refl)
+    (free_decimal session (omega (arith, h.0)), (free_decimal moment (omega (arith, h.1)), (free_decimal back h.2, tt))))
 split_line (Done session moment time) fields h =
     rw h.3 (split_joined (codes "done") (decimal session ∷ decimal moment ∷ decimal time ∷ []) (free_text (codes "done") refl)
     (free_decimal session (omega (arith, h.0)), (free_decimal moment (omega (arith, h.1)), (free_decimal time (omega (arith, h.2)), tt))))
@@ -88,8 +92,13 @@ split_line (Done session moment time) fields h =
 unskipped : (line : Line) (fields : List (List ℕ)) → HasFields line fields → is_skipped (spaced fields) ≡ false
 unskipped Skip fields h = absurd h
 unskipped (Session row) fields h = rw h.1 refl
+unskipped (LowSession row next held) fields h = rw h.2 refl
 unskipped (Look session moment w arrival) fields h = rw h.6 refl
+unskipped (Told session moment w fault told arrival) fields h = rw h.8 refl
 unskipped (Gone session moment) fields h = rw h.2 refl
+unskipped (High session moment) fields h = rw h.2 refl
+unskipped (Carry session back) fields h = rw h.2 refl
+unskipped (Return session moment back) fields h = rw h.3 refl
 unskipped (Done session moment time) fields h = rw h.3 refl
 
 skips : (bytes : List ℕ) → is_skipped bytes ≡ true → IsSkipped bytes
@@ -142,11 +151,21 @@ lawful_arriving (Hello low high) fields h = tt
 lawful_arriving (Data number payload) fields h = h.0
 lawful_arriving (Raw bytes) fields h = h.1.some
 
+lawful_feedback : (told : ToldFeedback) (field : List ℕ) → IsFeedback told field → IsLawfulFeedback told
+lawful_feedback Quiet field h = tt
+lawful_feedback Full field h = tt
+lawful_feedback (Pair count average) field h = h.1
+
 lawful_fields : (line : Line) (fields : List (List ℕ)) → HasFields line fields → IsLawfulLine line
 lawful_fields Skip fields h = tt
 lawful_fields (Session row) fields h = (h.0.low_port, h.0.high_port)
 lawful_fields (Look session moment w arrival) fields h = (h.1, lawful_arriving arrival h.4 h.5)
+lawful_fields (LowSession row next held) fields h = (h.0.low_port, h.0.high_port, h.1)
+lawful_fields (Told session moment w fault told arrival) fields h = (h.1, lawful_feedback told h.4 h.5, lawful_arriving arrival h.6 h.7)
 lawful_fields (Gone session moment) fields h = h.1
+lawful_fields (High session moment) fields h = h.1
+lawful_fields (Carry session back) fields h = tt
+lawful_fields (Return session moment back) fields h = h.1
 lawful_fields (Done session moment time) fields h = (h.1, h.2)
 
 pub lawful_line : (line : Line) (bytes : List ℕ) → IsLine line bytes → IsLawfulLine line

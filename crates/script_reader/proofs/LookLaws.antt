@@ -49,7 +49,7 @@ raw_line_put : (bytes : ArrayVec ℕ) (field : List ℕ) → IsRaw bytes.items f
 unfolding raw_of
 raw_line_put bytes field h = rw (raw_put bytes field [] h) refl
 
-arriving_takes : (fields : List (List ℕ)) (arrival : Arriving) → arriving_of fields ≡ Some arrival → IsArriving arrival fields
+pub arriving_takes : (fields : List (List ℕ)) (arrival : Arriving) → arriving_of fields ≡ Some arrival → IsArriving arrival fields
 unfolding arriving_of
 arriving_takes [] arrival e = subst (λ a. IsArriving a []) (same_Some _ _ e) refl
 arriving_takes (w ∷ fields) arrival e =
@@ -72,7 +72,7 @@ data_put : (n : ℕ) (payload field : List ℕ) → n < 2 ^ 48 → IsHex payload
 unfolding data_of
 data_put n payload field hn hp = rw (number_put (2 ^ 48) n _ hn (omega arith), hex_put payload field _ hp) refl
 
-arriving_put : (arrival : Arriving) (fields : List (List ℕ)) → IsArriving arrival fields → arriving_of fields ≡ Some arrival
+pub arriving_put : (arrival : Arriving) (fields : List (List ℕ)) → IsArriving arrival fields → arriving_of fields ≡ Some arrival
 unfolding arriving_of
 arriving_put Nothing fields h = rw h refl
 arriving_put (Hello low high) fields h = rw h.2 (hello_put low high h.0 h.1)

@@ -1,9 +1,9 @@
 -- The lines of a session and a moment on lists are the grammar's.
 use Rattle.std.proofs.Common.{◌≡◌, ℕ, ◌+◌, ◌^◌, ◌<◌, ◌≤◌, List, [], ◌∷◌, Some, codes, decimal, refl, subst, arith}
 use Rattle.script_reader.specs.declared.line.Line.{Line}
-use Rattle.script_reader.specs.declared.line.Line.TheVariants.{Gone, Done}
+use Rattle.script_reader.specs.declared.line.Line.TheVariants.{Gone, High, Carry, Return, Done}
 use Rattle.script_reader.specs.Grammar.{HasFields}
-use Rattle.script_reader.specs.Parsing.{gone_of, done_of}
+use Rattle.script_reader.specs.Parsing.{gone_of, high_of, carry_of, return_of, done_of}
 use Rattle.script_reader.proofs.FieldChains.{take_number, number_put, end_at}
 
 pub gone_takes : (fields : List (List ℕ)) (line : Line) → gone_of fields ≡ Some line → HasFields line (codes "gone" ∷ fields)
@@ -19,6 +19,50 @@ pub gone_put : (session moment : ℕ) → session < 2 ^ 32 → moment ≤ 2 ^ 62
 unfolding gone_of
 gone_put session moment hs hm =
     rw (number_put (2 ^ 32) session _ hs (omega arith), number_put (2 ^ 62 + 1) moment _ (omega arith) (omega arith)) refl
+
+pub high_takes : (fields : List (List ℕ)) (line : Line) → high_of fields ≡ Some line → HasFields line (codes "high" ∷ fields)
+unfolding high_of
+high_takes fields line e =
+    take_number (2 ^ 32) fields _ line e (λ session fa ha ea e.
+    take_number (2 ^ 62 + 1) fa _ line e (λ moment fb hb eb e.
+    let k = end_at _ fb line e in
+    subst (λ l. HasFields l (codes "high" ∷ fields)) k.1 (ha, omega (arith, hb), rw (ea, eb, k.0) refl)
+    ))
+
+pub high_put : (session moment : ℕ) → session < 2 ^ 32 → moment ≤ 2 ^ 62 → high_of (decimal session ∷ decimal moment ∷ []) ≡ Some (High session moment)
+unfolding high_of
+high_put session moment hs hm =
+    rw (number_put (2 ^ 32) session _ hs (omega arith), number_put (2 ^ 62 + 1) moment _ (omega arith) (omega arith)) refl
+
+pub carry_takes : (fields : List (List ℕ)) (line : Line) → carry_of fields ≡ Some line → HasFields line (codes "carry" ∷ fields)
+unfolding carry_of
+carry_takes fields line e =
+    take_number (2 ^ 32) fields _ line e (λ session fa ha ea e.
+    take_number (2 ^ 64) fa _ line e (λ back fb hb eb e.
+    let k = end_at _ fb line e in
+    subst (λ l. HasFields l (codes "carry" ∷ fields)) k.1 (ha, hb, rw (ea, eb, k.0) refl)
+    ))
+
+pub carry_put : (session back : ℕ) → session < 2 ^ 32 → back < 2 ^ 64 → carry_of (decimal session ∷ decimal back ∷ []) ≡ Some (Carry session back)
+unfolding carry_of
+carry_put session back hs hb =
+    rw (number_put (2 ^ 32) session _ hs (omega arith), number_put (2 ^ 64) back _ hb (omega arith)) refl
+
+pub return_takes : (fields : List (List ℕ)) (line : Line) → return_of fields ≡ Some line → HasFields line (codes "return" ∷ fields)
+unfolding return_of
+return_takes fields line e =
+    take_number (2 ^ 32) fields _ line e (λ session fa ha ea e.
+    take_number (2 ^ 62 + 1) fa _ line e (λ moment fb hb eb e.
+    take_number (2 ^ 64) fb _ line e (λ back fc hc ec e.
+    let k = end_at _ fc line e in
+    subst (λ l. HasFields l (codes "return" ∷ fields)) k.1 (ha, omega (arith, hb), hc, rw (ea, eb, ec, k.0) refl)
+    )))
+
+pub return_put : (session moment back : ℕ) → session < 2 ^ 32 → moment ≤ 2 ^ 62 → back < 2 ^ 64
+    → return_of (decimal session ∷ decimal moment ∷ decimal back ∷ []) ≡ Some (Return session moment back)
+unfolding return_of
+return_put session moment back hs hm hb =
+    rw (number_put (2 ^ 32) session _ hs (omega arith), number_put (2 ^ 62 + 1) moment _ (omega arith) (omega arith), number_put (2 ^ 64) back _ hb (omega arith)) refl
 
 pub done_takes : (fields : List (List ℕ)) (line : Line) → done_of fields ≡ Some line → HasFields line (codes "done" ∷ fields)
 unfolding done_of

@@ -1,4 +1,4 @@
--- A script has one transcript at most.
+-- A line of a whole session does one thing, and prints one thing.
 use Rattle.std.proofs.Common.{◌≡◌, ⊎_elim, ℕ, ◌+◌, Bool, true, false, List, [], ◌∷◌, ◌++◌, drop, Option, Some, None, sym, ap, ◌∙◌, subst}
 use Rattle.std.specs.Prelude.{if◌then◌else◌, slice_get, option_to_list, ◌&&◌, ◌||◌}
 use Rattle.std.proofs.lemmas.Option.{same_Some}
@@ -19,14 +19,13 @@ use Rattle.script_reader.specs.declared.line.Line.TheVariants as lines
 use Rattle.script_reader.specs.declared.event.Event.{Event}
 use Rattle.script_reader.specs.Past.{Past}
 use Rattle.script_reader.specs.Lows.{first_of, is_bad, feedback, offers, stored_events, acks_of, printed_store, printed_feedback, printed_replies, IsLook}
-use Rattle.script_reader.specs.Highs.{Perhaps, Returns, Sends, time_of, printed_removal, sends_hand, sending_of, printed_sending, printed_carry, IsRemoval, IsSending, IsHighLook, IsCarried, place}
-use Rattle.script_reader.specs.Steps.{Coming, bad_of, came, IsRead, Arrives, joined, lost, look_of, IsLowLook, IsOfferedLook, GoesOn, IsDone, Step}
+use Rattle.script_reader.specs.Highs.{Perhaps, Returns, Sends, time_of, printed_removal, sends_hand, sending_of, printed_sending, printed_carry, IsRemoval, IsSending, IsHighLook, is_ahead, IsReturnBy, IsReturn, IsCarried, place}
+use Rattle.script_reader.specs.Steps.{Coming, bad_of, came, IsRead, Arrives, joined, lost, look_of, IsLowLook, IsOfferedLook, GoesOn, Step}
 use Rattle.script_reader.specs.declared.line.Arriving.{Arriving}
 use Rattle.script_reader.specs.declared.line.Arriving.TheVariants as arriving
 use Rattle.pump_frame.specs.declared.frame.Frame.{Frame}
 use Rattle.pump_frame.specs.Readings.{Reading, Within, Stopped}
 use Rattle.pump_frame.proofs.Streams.{streams_one}
-use Rattle.script_reader.specs.Scripts.{Running, Goes, Leads, LeadTo, ends, IsTranscript}
 
 -- ---- events ----
 
@@ -78,9 +77,9 @@ sends_one false w v u h k = h ∙ sym k
 
 -- ---- lines ----
 
-record Same (q r : Past) (xs ys : List Event) : Type 0 where
-  past : q ≡ r
-  printed : xs ≡ ys
+pub record Same (q r : Past) (xs ys : List Event) : Type 0 where
+  pub past : q ≡ r
+  pub printed : xs ≡ ys
 
 removal_one : (s : SessionRow) (p : Past) (m : ℕ) (back : Option ℕ) (q r : Past) (xs ys : List Event) → IsRemoval s p m back q xs → IsRemoval s p m back r ys → Same q r xs ys
 removal_one s p m back q r xs ys h k =
@@ -102,11 +101,18 @@ sending_one s p m q r xs ys h k =
       printed = h.printed_is ∙ (λ i. if c i then printed_sending s.id m (a i).high_hand else []) ∙ sym k.printed_is;
     }
 
-high_one : (s : SessionRow) (p : Past) (m : ℕ) (back : Option ℕ) (q r : Past) (xs ys : List Event) → IsHighLook s p m back q xs → IsHighLook s p m back r ys → Same q r xs ys
+pub high_one : (s : SessionRow) (p : Past) (m : ℕ) (back : Option ℕ) (q r : Past) (xs ys : List Event) → IsHighLook s p m back q xs → IsHighLook s p m back r ys → Same q r xs ys
 high_one s p m back q r xs ys (mid, a, b, h, t, e) (mid', a', b', h', t', e') =
     let x = removal_one s p m back mid mid' a a' h h' in
     let y = sending_one s mid m q r b b' t (subst (λ (u : Past). IsSending s u m r b') (sym x.past) t') in
     record { past = y.past; printed = e ∙ (λ i. x.printed i ++ y.printed i) ∙ sym e' }
+
+return_by_one : (b : Bool) (s : SessionRow) (p : Past) (m n : ℕ) (q r : Past) (xs ys : List Event) → IsReturnBy b s p m n q xs → IsReturnBy b s p m n r ys → Same q r xs ys
+return_by_one true s p m n q r xs ys h k = record { past = h.0 ∙ sym k.0; printed = h.1 ∙ sym k.1 }
+return_by_one false s p m n q r xs ys h k = high_one s p m (Some n) q r xs ys h k
+
+return_one : (s : SessionRow) (p : Past) (m n : ℕ) (q r : Past) (xs ys : List Event) → IsReturn s p m n q xs → IsReturn s p m n r ys → Same q r xs ys
+return_one s p m n q r xs ys h k = return_by_one (is_ahead p.world n) s p m n q r xs ys h k
 
 carry_one : (s : SessionRow) (p : Past) (back : ℕ) (q r : Past) (xs ys : List Event) → IsCarried s p back q xs → IsCarried s p back r ys → Same q r xs ys
 carry_one s p back q r xs ys h k =
@@ -118,7 +124,7 @@ carry_one s p back q r xs ys h k =
       printed = h.printed_is ∙ (λ i. printed_carry s.id p.world (d i) ∷ []) ∙ sym k.printed_is;
     }
 
-cancel : (xs a b : List Sent) → xs ++ a ≡ xs ++ b → a ≡ b
+pub cancel : (xs a b : List Sent) → xs ++ a ≡ xs ++ b → a ≡ b
 cancel [] a b e = e
 cancel (x ∷ xs) a b e = cancel xs a b (let f : xs ++ a ≡ xs ++ b = cc in f)
 
@@ -153,7 +159,7 @@ goes_one : (s : SessionRow) (hand : Option ℕ) (p : Past) (m : ℕ) (q r : Past
 goes_one s None p m q r xs ys h k = record { past = h.0 ∙ sym k.0; printed = h.1 ∙ sym k.1 }
 goes_one s (Some n) p m q r xs ys (mid, a, b, c, t, e) (mid', a', b', c', t', e') =
     let x = carry_one s p 0 mid mid' a a' c c' in
-    let y = high_one s mid m (Some (place mid.world.returned 0)) q r b b' t (subst (λ (u : Past). IsHighLook s u m (Some (place u.world.returned 0)) r b') (sym x.past) t') in
+    let y = return_one s mid m (place mid.world.returned 0) q r b b' t (subst (λ (u : Past). IsReturn s u m (place u.world.returned 0) r b') (sym x.past) t') in
     record { past = y.past; printed = e ∙ (λ i. x.printed i ++ y.printed i) ∙ sym e' }
 
 -- ---- what comes ----
@@ -171,49 +177,19 @@ arrives_one session r (arriving.Hello l n) c d h k = h ∙ sym k
 arrives_one session r (arriving.Data n b) c d h k = h ∙ sym k
 arrives_one session r (arriving.Raw bytes) c d h k = stream_one r bytes.items c d h k
 
-step_one : (s : SessionRow) (p : Past) (line : Line) (q r : Past) (xs ys : List Event) → Step s p line q xs → Step s p line r ys → Same q r xs ys
+pub step_one : (s : SessionRow) (p : Past) (line : Line) (q r : Past) (xs ys : List Event) → Step s p line q xs → Step s p line r ys → Same q r xs ys
 step_one s p lines.Skip q r xs ys h k = absurd h
 step_one s p (lines.Session row) q r xs ys h k = absurd h
+step_one s p (lines.LowSession row next held) q r xs ys h k = absurd h
+step_one s p (lines.Told session m w fault told a) q r xs ys h k = absurd h
 step_one s p (lines.Look session m w a) q r xs ys (c, comes, (few, h)) (d, comes', (few', k)) =
     let same = arrives_one session p.reading a c d comes comes' in
     look_one s (joined p c) m w (first_of p.is_broken (joined p c).waits) q r xs ys h (subst (λ (t : Coming). IsOfferedLook s (joined p t) m w r ys) (sym same) k)
 step_one s p (lines.Gone session m) q r xs ys h k = look_one s (lost p) m 0 Gone q r xs ys h k
+step_one s p (lines.High session m) q r xs ys h k = high_one s p m None q r xs ys h k
+step_one s p (lines.Carry session back) q r xs ys h k = carry_one s p back q r xs ys h k
+step_one s p (lines.Return session m back) q r xs ys h k = return_one s p m (place p.world.returned back) q r xs ys h k
 step_one s p (lines.Done session m t) q r xs ys (mid, a, b, h, g, e) (mid', a', b', h', g', e') =
     let x = high_one s p m None mid mid' a a' h h' in
     let y = goes_one s mid.world.high_hand mid (m + t) q r b b' g (subst (λ (u : Past). GoesOn s u.world.high_hand u (m + t) r b') (sym x.past) g') in
     record { past = y.past; printed = e ∙ (λ i. x.printed i ++ y.printed i) ∙ sym e' }
-
--- ---- scripts ----
-
-pub record Alike (a b : Option Running) (xs ys : List Event) : Type 0 where
-  pub after : a ≡ b
-  pub printed : xs ≡ ys
-
-goes_one_way : (s : Running) (line : Line) (a b : Option Running) (xs ys : List Event) → Goes s line a xs → Goes s line b ys → Alike a b xs ys
-goes_one_way s line a b xs ys (timely, (q, h, e)) (timely', (r, k, f)) =
-    let x = step_one s.row s.past line q r xs ys h k in
-    record { after = e ∙ ap (λ (t : Past). Some (record { row = s.row; past = t })) x.past ∙ sym f; printed = x.printed }
-
-pub leads_one : (running : Option Running) (line : Line) (a b : Option Running) (xs ys : List Event) → Leads running line a xs → Leads running line b ys → Alike a b xs ys
-leads_one None lines.Skip a b xs ys h k = record { after = h.0 ∙ sym k.0; printed = h.1 ∙ sym k.1 }
-leads_one (Some s) lines.Skip a b xs ys h k = record { after = h.0 ∙ sym k.0; printed = h.1 ∙ sym k.1 }
-leads_one None (lines.Session row) a b xs ys h k = record { after = h.0.1 ∙ sym k.0.1; printed = h.1 ∙ sym k.1 }
-leads_one None (lines.Look session m w z) a b xs ys h k = absurd h
-leads_one None (lines.Gone session m) a b xs ys h k = absurd h
-leads_one None (lines.Done session m t) a b xs ys h k = absurd h
-leads_one (Some s) (lines.Session row) a b xs ys h k = goes_one_way s (lines.Session row) a b xs ys h k
-leads_one (Some s) (lines.Look session m w z) a b xs ys h k = goes_one_way s (lines.Look session m w z) a b xs ys h k
-leads_one (Some s) (lines.Gone session m) a b xs ys h k = goes_one_way s (lines.Gone session m) a b xs ys h k
-leads_one (Some s) (lines.Done session m t) a b xs ys h k = goes_one_way s (lines.Done session m t) a b xs ys h k
-
-lead_one : (running : Option Running) (script : List Line) (a b : Option Running) (xs ys : List Event) → LeadTo running script a xs → LeadTo running script b ys → Alike a b xs ys
-lead_one running [] a b xs ys h k = record { after = h.0 ∙ sym k.0; printed = h.1 ∙ sym k.1 }
-lead_one running (line ∷ script) a b xs ys (mid, c, d, h, t, e) (mid', c', d', h', t', e') =
-    let x = leads_one running line mid mid' c c' h h' in
-    let y = lead_one mid script a b d d' t (subst (λ (u : Option Running). LeadTo u script b d') (sym x.after) t') in
-    record { after = y.after; printed = e ∙ (λ i. x.printed i ++ y.printed i) ∙ sym e' }
-
-pub transcript_one : (script : List Line) (xs ys : List Event) → IsTranscript script xs → IsTranscript script ys → xs ≡ ys
-transcript_one script xs ys (a, c, h, e) (b, d, k, f) =
-    let x = lead_one None script a b c d h k in
-    e ∙ (λ i. x.printed i ++ ends (x.after i)) ∙ sym f

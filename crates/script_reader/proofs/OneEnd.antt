@@ -1,12 +1,12 @@
 -- A script with a faulty line has no transcript.
-use Rattle.std.proofs.Common.{◌≡◌, inl, inr, ℕ, ap, arith, length, List, [], ◌∷◌, ◌++◌, Option, None, Some, sym, ◌∙◌, subst}
+use Rattle.std.proofs.Common.{◌≡◌, inl, inr, ℕ, false, ap, arith, length, List, [], ◌∷◌, ◌++◌, Option, None, Some, sym, ◌∙◌, subst}
 use Rattle.std.proofs.lemmas.Bool.{both_ways}
 use Rattle.script_reader.specs.declared.event.Event.{Event}
 use Rattle.script_reader.specs.declared.line.Line.{Line}
 use Rattle.script_reader.specs.declared.line.Line.TheVariants as lines
 use Rattle.script_reader.specs.Grammar.{IsLine}
 use Rattle.script_reader.specs.Lines.{AreLines, IsUnended}
-use Rattle.script_reader.specs.Scripts.{Running, Goes, Leads, LeadTo, IsRefused, IsTranscript}
+use Rattle.script_reader.specs.Scripts.{Running, LowRunning, Begun, Whole, Alone, Goes, GoesLow, Leads, LeadTo, IsRefused, IsTranscript}
 use Rattle.script_reader.specs.Faults.{IsFaultyNext}
 use Rattle.script_reader.proofs.LineEnds.{one_front}
 use Rattle.script_reader.proofs.LineLaws.{one_line}
@@ -14,38 +14,82 @@ use Rattle.script_reader.proofs.OneReading.{taken, not_nothing}
 use Rattle.pump_frame.specs.declared.row.SessionRow.{SessionRow}
 use Rattle.script_reader.specs.Past.{Past}
 use Rattle.script_reader.specs.Steps.{Coming, joined, IsCrowded, IsBarred, Step}
-use Rattle.script_reader.proofs.One.{arrives_one, leads_one}
+use Rattle.script_reader.specs.Tolds.{LowPast, joined_low, IsCrowdedLow, IsBarredLow, StepLow}
+use Rattle.script_reader.proofs.One.{arrives_one}
+use Rattle.script_reader.proofs.OneScript.{leads_one}
 
 no_key : {A : Type 0} (o : Option A) (x : A) → o ≡ None → o ≡ Some x → ⊥
 no_key o x e f = cc
 
-crowded_steps : (row : SessionRow) (p : Past) (line : Line) (q : Past) (printed : List Event) → IsCrowded p line → Step row p line q printed → ⊥
-crowded_steps row p lines.Skip q printed h k = h
-crowded_steps row p (lines.Session other) q printed h k = h
-crowded_steps row p (lines.Look session m w a) q printed (c, comes, many) (d, comes', (few, look)) =
-    let same = ap (λ (t : Coming). length (joined p t).waits) (arrives_one session p.reading a c d comes comes') in
+crowded_steps : (s : SessionRow) (p : Past) (line : Line) (q : Past) (printed : List Event) → IsCrowded p line → Step s p line q printed → ⊥
+crowded_steps s p (lines.Look session m w z) q printed (c, comes, many) (d, comes', (few, look)) =
+    let same = ap (λ (t : Coming). length (joined p t).waits) (arrives_one session p.reading z c d comes comes') in
     absurd (omega (arith, many, few, same))
-crowded_steps row p (lines.Gone session m) q printed h k = h
-crowded_steps row p (lines.Done session m t) q printed h k = h
+crowded_steps s p lines.Skip q printed h k = h
+crowded_steps s p (lines.Session row) q printed h k = h
+crowded_steps s p (lines.LowSession row next held) q printed h k = h
+crowded_steps s p (lines.Told session m w fault told z) q printed h k = h
+crowded_steps s p (lines.Gone session m) q printed h k = h
+crowded_steps s p (lines.High session m) q printed h k = h
+crowded_steps s p (lines.Carry session back) q printed h k = h
+crowded_steps s p (lines.Return session m back) q printed h k = h
+crowded_steps s p (lines.Done session m t) q printed h k = h
 
-barred_goes : (s : Running) (line : Line) (mid : Option Running) (printed : List Event) → IsBarred s.row s.past line → Goes s line mid printed → ⊥
+barred_goes : (s : Running) (line : Line) (mid : Option Begun) (printed : List Event) → IsBarred s.row s.past line → Goes s line mid printed → ⊥
 barred_goes s line mid printed h (timely, (q, step, e)) =
     elim h [ inl late ↦ both_ways _ late timely | inr crowded ↦ crowded_steps s.row s.past line q printed crowded step ]
 
+crowded_low : (s : SessionRow) (p : LowPast) (line : Line) (q : LowPast) (printed : List Event) → IsCrowdedLow p line → StepLow s p line false q printed → ⊥
+crowded_low s p (lines.Told session m w fault told z) q printed (c, comes, many) (d, comes', (few, look)) =
+    let same = ap (λ (t : Coming). length (joined_low p fault t).waits) (arrives_one session p.reading z c d comes comes') in
+    absurd (omega (arith, many, few, same))
+crowded_low s p lines.Skip q printed h k = h
+crowded_low s p (lines.Session row) q printed h k = h
+crowded_low s p (lines.LowSession row next held) q printed h k = h
+crowded_low s p (lines.Look session m w z) q printed h k = h
+crowded_low s p (lines.Gone session m) q printed h k = h
+crowded_low s p (lines.High session m) q printed h k = h
+crowded_low s p (lines.Carry session back) q printed h k = h
+crowded_low s p (lines.Return session m back) q printed h k = h
+crowded_low s p (lines.Done session m t) q printed h k = h
+
+barred_low : (s : LowRunning) (line : Line) (mid : Option Begun) (printed : List Event) → IsBarredLow s.row s.past line → GoesLow s line mid printed → ⊥
+barred_low s line mid printed h (timely, (q, step, e)) =
+    elim h [ inl late ↦ both_ways _ late timely | inr crowded ↦ crowded_low s.row s.past line q printed crowded step ]
+
 -- a line that can't be applied leads nowhere
-refused_leads : (running : Option Running) (line : Line) (mid : Option Running) (printed : List Event) → IsRefused running line → Leads running line mid printed → ⊥
+pub refused_leads : (running : Option Begun) (line : Line) (mid : Option Begun) (printed : List Event) → IsRefused running line → Leads running line mid printed → ⊥
 refused_leads running lines.Skip mid printed r h = absurd r
 refused_leads None (lines.Session row) mid printed r h = no_key _ r.0 h.0.0 r.1
-refused_leads None (lines.Look session m w a) mid printed r h = absurd h
+refused_leads None (lines.LowSession row next held) mid printed r h = no_key _ r.0 h.0.0 r.1
+refused_leads None (lines.Look session m w z) mid printed r h = absurd h
+refused_leads None (lines.Told session m w fault told z) mid printed r h = absurd h
 refused_leads None (lines.Gone session m) mid printed r h = absurd h
+refused_leads None (lines.High session m) mid printed r h = absurd h
+refused_leads None (lines.Carry session back) mid printed r h = absurd h
+refused_leads None (lines.Return session m back) mid printed r h = absurd h
 refused_leads None (lines.Done session m t) mid printed r h = absurd h
-refused_leads (Some s) (lines.Session row) mid printed r h = barred_goes s (lines.Session row) mid printed r h
-refused_leads (Some s) (lines.Look session m w a) mid printed r h = barred_goes s (lines.Look session m w a) mid printed r h
-refused_leads (Some s) (lines.Gone session m) mid printed r h = barred_goes s (lines.Gone session m) mid printed r h
-refused_leads (Some s) (lines.Done session m t) mid printed r h = barred_goes s (lines.Done session m t) mid printed r h
+refused_leads (Some (Whole s)) (lines.Session row) mid printed r h = barred_goes s (lines.Session row) mid printed r h
+refused_leads (Some (Whole s)) (lines.LowSession row next held) mid printed r h = barred_goes s (lines.LowSession row next held) mid printed r h
+refused_leads (Some (Whole s)) (lines.Look session m w z) mid printed r h = barred_goes s (lines.Look session m w z) mid printed r h
+refused_leads (Some (Whole s)) (lines.Told session m w fault told z) mid printed r h = barred_goes s (lines.Told session m w fault told z) mid printed r h
+refused_leads (Some (Whole s)) (lines.Gone session m) mid printed r h = barred_goes s (lines.Gone session m) mid printed r h
+refused_leads (Some (Whole s)) (lines.High session m) mid printed r h = barred_goes s (lines.High session m) mid printed r h
+refused_leads (Some (Whole s)) (lines.Carry session back) mid printed r h = barred_goes s (lines.Carry session back) mid printed r h
+refused_leads (Some (Whole s)) (lines.Return session m back) mid printed r h = barred_goes s (lines.Return session m back) mid printed r h
+refused_leads (Some (Whole s)) (lines.Done session m t) mid printed r h = barred_goes s (lines.Done session m t) mid printed r h
+refused_leads (Some (Alone s)) (lines.Session row) mid printed r h = barred_low s (lines.Session row) mid printed r h
+refused_leads (Some (Alone s)) (lines.LowSession row next held) mid printed r h = barred_low s (lines.LowSession row next held) mid printed r h
+refused_leads (Some (Alone s)) (lines.Look session m w z) mid printed r h = barred_low s (lines.Look session m w z) mid printed r h
+refused_leads (Some (Alone s)) (lines.Told session m w fault told z) mid printed r h = barred_low s (lines.Told session m w fault told z) mid printed r h
+refused_leads (Some (Alone s)) (lines.Gone session m) mid printed r h = barred_low s (lines.Gone session m) mid printed r h
+refused_leads (Some (Alone s)) (lines.High session m) mid printed r h = barred_low s (lines.High session m) mid printed r h
+refused_leads (Some (Alone s)) (lines.Carry session back) mid printed r h = barred_low s (lines.Carry session back) mid printed r h
+refused_leads (Some (Alone s)) (lines.Return session m back) mid printed r h = barred_low s (lines.Return session m back) mid printed r h
+refused_leads (Some (Alone s)) (lines.Done session m t) mid printed r h = barred_low s (lines.Done session m t) mid printed r h
 
 -- no line stands at the end
-end_is_fine : (running : Option Running) (rest : List ℕ) → rest ≡ [] → IsFaultyNext rest running → ⊥
+end_is_fine : (running : Option Begun) (rest : List ℕ) → rest ≡ [] → IsFaultyNext rest running → ⊥
 end_is_fine running rest e f =
     elim f [
       | inl bad ↦ bad.some e
@@ -55,7 +99,7 @@ end_is_fine running rest e f =
     ]
 
 -- the next line is the one that there is
-next_is_fine : (running mid : Option Running) (rest bytes left : List ℕ) (line : Line) (printed : List Event) → rest ≡ bytes ++ 10 ∷ left → IsUnended bytes → IsLine line bytes
+next_is_fine : (running mid : Option Begun) (rest bytes left : List ℕ) (line : Line) (printed : List Event) → rest ≡ bytes ++ 10 ∷ left → IsUnended bytes → IsLine line bytes
     → Leads running line mid printed → IsFaultyNext rest running → ⊥
 next_is_fine running mid rest bytes left line printed e u i h f =
     elim f [
@@ -67,7 +111,7 @@ next_is_fine running mid rest bytes left line printed e u i h f =
           refused_leads running line mid printed (subst (λ l. IsRefused running l) (sym line_is) r.3) h
     ]
 
-both_end : (all rest : List ℕ) (ls script : List Line) (from running after : Option Running) (events body : List Event)
+both_end : (all rest : List ℕ) (ls script : List Line) (from running after : Option Begun) (events body : List Event)
     → AreLines (Some all) ls (Some rest) → LeadTo from ls running events → IsFaultyNext rest running
     → AreLines (Some all) script (Some []) → LeadTo from script after body → ⊥
 both_end all rest [] [] from running after events body p h f q k =
@@ -88,7 +132,7 @@ both_end all rest (x ∷ xs) (y ∷ ys) from running after events body p h f q k
     let led = leads_one from x h.0 k.0 h.1 k.1 h.3 (subst (λ l. Leads from l k.0 k.1) (sym first) k.3) in
     both_end u.0 rest xs ys h.0 running after h.2 k.2 left h.4 f right (subst (λ r. LeadTo r ys after k.2) (sym led.after) k.4)
 
-pub faulty_scripts : (all rest : List ℕ) (ls script : List Line) (running : Option Running) (events printed : List Event)
+pub faulty_scripts : (all rest : List ℕ) (ls script : List Line) (running : Option Begun) (events printed : List Event)
     → AreLines (Some all) ls (Some rest) → LeadTo None ls running events → IsFaultyNext rest running
     → AreLines (Some all) script (Some []) → IsTranscript script printed → ⊥
-faulty_scripts all rest ls script running events printed p h f q k = both_end all rest ls script None running k.0 events k.1 p h f q k.2
+faulty_scripts all rest ls script running events printed p h f q k = both_end all rest ls script None running k.0 events k.1 p h f q k.3

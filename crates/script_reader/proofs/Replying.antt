@@ -4,19 +4,23 @@ use Rattle.std.specs.Prelude.{if◌then◌else◌}
 use Rattle.pump_frame.specs.declared.row.SessionRow.{SessionRow}
 use Rattle.pump_core.specs.declared.feedback.Feedback.{Feedback}
 use Rattle.pump_core.specs.declared.feedback.Feedback.TheVariants.{Quiet, Full, Passed, Released, Repeat}
-use Rattle.pump_core.specs.History.{Look, History}
+use Rattle.pump_core.specs.History.{Look, Opening, History, first_life, looked}
 use Rattle.pump_core.specs.Replies.{Sent, LowReplies}
 use Rattle.pump_core.proofs.Runs.{one_list_of_lives}
 use Rattle.script_reader.specs.declared.line.Line.{Line}
 use Rattle.script_reader.specs.declared.line.Line.TheVariants as lines
+use Rattle.script_reader.specs.declared.line.ToldFeedback.{ToldFeedback}
+use Rattle.script_reader.specs.declared.line.ToldFeedback.TheVariants.{Quiet as Silent}
 use Rattle.script_reader.specs.declared.event.Event.{Event}
 use Rattle.script_reader.specs.declared.event.Event.TheVariants as prints
-use Rattle.script_reader.specs.Past.{Past, fresh}
+use Rattle.script_reader.specs.Past.{Past}
 use Rattle.script_reader.specs.Lows.{printed_store, printed_feedback, printed_replies, IsLook}
-use Rattle.script_reader.specs.Highs.{has_removed, printed_sending, IsRemoval, IsSending, IsHighLook, IsCarried, place}
+use Rattle.script_reader.specs.Highs.{has_removed, printed_sending, IsRemoval, IsSending, IsHighLook, is_ahead, IsReturnBy, IsReturn, IsCarried, place}
 use Rattle.script_reader.specs.Steps.{joined, lost, GoesOn, IsDone, Step}
-use Rattle.script_reader.specs.Scripts.{Running, Goes, Leads, LeadTo}
-use Rattle.script_reader.specs.Readouts.{low_line, low_lines}
+use Rattle.script_reader.specs.Tolds.{LowPast, IsToldLook, joined_low, lost_low, StepLow}
+use Rattle.script_reader.specs.Scripts.{Begun, Whole, Alone, GoesOn as GoesOnBegun, Leads, LeadTo}
+use Rattle.script_reader.specs.Readouts.{low_line, low_lines, row_of, history_of}
+use Rattle.script_reader.proofs.Leading.{IsNew, led}
 
 low-append : (xs ys : List Event) → low_lines (xs ++ ys) ≡ low_lines xs ++ low_lines ys
 low-append [] ys = refl
@@ -79,6 +83,13 @@ sending_aside s p m q printed r = record {
 high_aside : (s : SessionRow) (p : Past) (m : ℕ) (back : Option ℕ) (q : Past) (printed : List Event) → IsHighLook s p m back q printed → Aside p q printed
 high_aside s p m back q printed (mid, first, second, r, t, e) = both p mid q first second printed (removal_aside s p m back mid first r) (sending_aside s mid m q second t) e
 
+return_by_aside : (b : Bool) (s : SessionRow) (p : Past) (m n : ℕ) (q : Past) (printed : List Event) → IsReturnBy b s p m n q printed → Aside p q printed
+return_by_aside true s p m n q printed h = record { history = ap (λ (t : Past). t.history) h.0; low = ap low_lines h.1 }
+return_by_aside false s p m n q printed h = high_aside s p m (Some n) q printed h
+
+return_aside : (s : SessionRow) (p : Past) (m n : ℕ) (q : Past) (printed : List Event) → IsReturn s p m n q printed → Aside p q printed
+return_aside s p m n q printed h = return_by_aside (is_ahead p.world n) s p m n q printed h
+
 carry_aside : (s : SessionRow) (p : Past) (back : ℕ) (q : Past) (printed : List Event) → IsCarried s p back q printed → Aside p q printed
 carry_aside s p back q printed r = record {
   history = ap (λ (t : Past). t.history) r.rest;
@@ -88,67 +99,94 @@ carry_aside s p back q printed r = record {
 goes_aside : (s : SessionRow) (hand : Option ℕ) (p : Past) (m : ℕ) (q : Past) (printed : List Event) → GoesOn s hand p m q printed → Aside p q printed
 goes_aside s None p m q printed (e, f) = record { history = ap (λ (t : Past). t.history) e; low = ap low_lines f }
 goes_aside s (Some n) p m q printed (mid, first, second, c, h, e) =
-    both p mid q first second printed (carry_aside s p 0 mid first c) (high_aside s mid m (Some (place mid.world.returned 0)) q second h) e
+    both p mid q first second printed (carry_aside s p 0 mid first c) (return_aside s mid m (place mid.world.returned 0) q second h) e
 
 done_aside : (s : SessionRow) (p : Past) (m t : ℕ) (q : Past) (printed : List Event) → IsDone s p m t q printed → Aside p q printed
 done_aside s p m t q printed (mid, first, second, h, g, e) =
     both p mid q first second printed (high_aside s p m None mid first h) (goes_aside s mid.world.high_hand mid (m + t) q second g) e
 
 -- what is kept by a line: the replies of the history
-abbrev Grows : SessionRow → Past → Past → List Event → Type 0
-Grows s p q printed = (rs : List Sent) → LowReplies s p.history rs → LowReplies s q.history (rs ++ low_lines printed)
+abbrev Grows : SessionRow → History → History → List Event → Type 0
+Grows s h g printed = (rs : List Sent) → LowReplies s h rs → LowReplies s g (rs ++ low_lines printed)
 
-aside_grows : (s : SessionRow) (p q : Past) (printed : List Event) → Aside p q printed → Grows s p q printed
+aside_grows : (s : SessionRow) (p q : Past) (printed : List Event) → Aside p q printed → Grows s p.history q.history printed
 aside_grows s p q printed a rs h =
     subst (λ (t : History × List Sent). LowReplies s t.0 (rs ++ t.1)) (λ i. (sym a.history i, sym a.low i)) (subst (LowReplies s p.history) (sym (append-nil rs)) h)
 
-look_grows : (s : SessionRow) (p : Past) (x : Look) (q : Past) (printed : List Event) → IsLook s p x q printed → Grows s p q printed
-look_grows s p x q printed i rs h =
-    let same : rs ≡ i.replies = one_list_of_lives s (p.history.life ∷ p.history.earlier) rs i.replies h i.are_replies in
-    let low : low_lines printed ≡ i.new = ap low_lines i.printed_is ∙ of_look s.id x.moment _ x.feedback i.new in
-    subst (λ (t : History × List Sent × List Sent). LowReplies s t.0 (t.1 ++ t.2)) (λ j. (sym i.history j, sym same j, sym low j)) i.are_replies_with
+-- the replies of a history with one more look are those before it and the new ones
+new_grows : (s : SessionRow) (h : History) (x : Look) (g : History) (old new : List Sent) (printed : List Event) → LowReplies s h old → LowReplies s (looked h x) (old ++ new)
+    → g ≡ looked h x → low_lines printed ≡ new → Grows s h g printed
+new_grows s h x g old new printed before after is low rs k =
+    let same : rs ≡ old = one_list_of_lives s (h.life ∷ h.earlier) rs old k before in
+    subst (λ (t : History × List Sent × List Sent). LowReplies s t.0 (t.1 ++ t.2)) (λ j. (sym is j, sym same j, sym low j)) after
 
-step_grows : (s : SessionRow) (p : Past) (line : Line) (q : Past) (printed : List Event) → Step s p line q printed → Grows s p q printed
+look_grows : (s : SessionRow) (p : Past) (x : Look) (q : Past) (printed : List Event) → IsLook s p x q printed → Grows s p.history q.history printed
+look_grows s p x q printed i =
+    new_grows s p.history x q.history i.replies i.new printed i.are_replies i.are_replies_with i.history (ap low_lines i.printed_is ∙ of_look s.id x.moment _ x.feedback i.new)
+
+step_grows : (s : SessionRow) (p : Past) (line : Line) (q : Past) (printed : List Event) → Step s p line q printed → Grows s p.history q.history printed
 step_grows s p lines.Skip q printed h = absurd h
 step_grows s p (lines.Session row) q printed h = absurd h
+step_grows s p (lines.LowSession row next held) q printed h = absurd h
+step_grows s p (lines.Told session m w fault told a) q printed h = absurd h
 step_grows s p (lines.Look session m w a) q printed (c, comes, (few, (f, i))) = look_grows s (joined p c) _ q printed i
 step_grows s p (lines.Gone session m) q printed (f, i) = look_grows s (lost p) _ q printed i
+step_grows s p (lines.High session m) q printed h = aside_grows s p q printed (high_aside s p m None q printed h)
+step_grows s p (lines.Carry session back) q printed h = aside_grows s p q printed (carry_aside s p back q printed h)
+step_grows s p (lines.Return session m back) q printed h = aside_grows s p q printed (return_aside s p m (place p.world.returned back) q printed h)
 step_grows s p (lines.Done session m t) q printed h = aside_grows s p q printed (done_aside s p m t q printed h)
 
+told_grows : (s : SessionRow) (p : LowPast) (told : ToldFeedback) (x : Look) (q : LowPast) (printed : List Event) → IsToldLook s p told x q printed → Grows s p.history q.history printed
+told_grows s p told x q printed i =
+    new_grows s p.history x q.history i.replies i.new printed i.are_replies i.are_replies_with i.history (ap low_lines i.printed_is ∙ of_look s.id x.moment _ x.feedback i.new)
+
+step_low_grows : (s : SessionRow) (p : LowPast) (line : Line) (q : LowPast) (printed : List Event) → StepLow s p line false q printed → Grows s p.history q.history printed
+step_low_grows s p (lines.Told session m w fault told z) q printed (c, comes, (few, (f, i))) = told_grows s (joined_low p fault c) told _ q printed i
+step_low_grows s p (lines.Gone session m) q printed (f, i) = told_grows s (lost_low p) Silent _ q printed i
+step_low_grows s p lines.Skip q printed h = absurd h
+step_low_grows s p (lines.Session row) q printed h = absurd h
+step_low_grows s p (lines.LowSession row next held) q printed h = absurd h
+step_low_grows s p (lines.Look session m w z) q printed h = absurd h
+step_low_grows s p (lines.High session m) q printed h = absurd h
+step_low_grows s p (lines.Carry session back) q printed h = absurd h
+step_low_grows s p (lines.Return session m back) q printed h = absurd h
+step_low_grows s p (lines.Done session m t) q printed h = absurd h
+
 -- the replies of the session that runs
-abbrev pub Replies : Option Running → List Sent → Type 0
+abbrev pub Replies : Option Begun → List Sent → Type 0
 Replies None rs = rs ≡ []
-Replies (Some s) rs = LowReplies s.row s.past.history rs
+Replies (Some s) rs = LowReplies (row_of s) (history_of s) rs
 
-fresh_replies : (row : SessionRow) → LowReplies row (fresh row).history []
-fresh_replies row = ([], [], refl, ([], record { are_parts = tt; looks = refl }, refl), refl)
+opened_replies : (row : SessionRow) (o : Opening) → LowReplies row (first_life o) []
+opened_replies row o = ([], [], refl, ([], record { are_parts = tt; looks = refl }, refl), refl)
 
-stays_so : (running after : Option Running) (printed : List Event) (rs : List Sent) → after ≡ running → printed ≡ [] → Replies running rs → Replies after (rs ++ low_lines printed)
+new_replies : (s : Begun) → IsNew s → Replies (Some s) []
+new_replies (Whole s) new = subst (λ (p : Past). LowReplies s.row p.history []) (sym new.1) (opened_replies s.row (record { count = 0; is_held = false }))
+new_replies (Alone s) (next, held, e) = subst (λ (p : LowPast). LowReplies s.row p.history []) (sym e) (opened_replies s.row (record { count = next; is_held = held }))
+
+stays_so : (running after : Option Begun) (printed : List Event) (rs : List Sent) → after ≡ running → printed ≡ [] → Replies running rs → Replies after (rs ++ low_lines printed)
 stays_so running after printed rs e f k =
-    subst (λ (t : Option Running × List Sent). Replies t.0 (rs ++ t.1)) (λ i. (sym e i, sym (ap low_lines f) i)) (subst (Replies running) (sym (append-nil rs)) k)
+    subst (λ (t : Option Begun × List Sent). Replies t.0 (rs ++ t.1)) (λ i. (sym e i, sym (ap low_lines f) i)) (subst (Replies running) (sym (append-nil rs)) k)
 
-begins_so : (row : SessionRow) (after : Option Running) (printed : List Event) (rs : List Sent) → after ≡ Some (record { row = row; past = fresh row }) → printed ≡ [] → rs ≡ [] → Replies after (rs ++ low_lines printed)
-begins_so row after printed rs e f k =
+begins_so : (s : Begun) (after : Option Begun) (printed : List Event) (rs : List Sent) → IsNew s → after ≡ Some s → printed ≡ [] → rs ≡ [] → Replies after (rs ++ low_lines printed)
+begins_so s after printed rs new e f k =
     let none : rs ++ low_lines printed ≡ [] = (λ i. k i ++ low_lines (f i)) in
-    subst (λ (t : Option Running × List Sent). Replies t.0 t.1) (λ i. (sym e i, sym none i)) (fresh_replies row)
+    subst (λ (t : Option Begun × List Sent). Replies t.0 t.1) (λ i. (sym e i, sym none i)) (new_replies s new)
 
-goes_so : (s : Running) (line : Line) (after : Option Running) (printed : List Event) (rs : List Sent) → Goes s line after printed → Replies (Some s) rs → Replies after (rs ++ low_lines printed)
-goes_so s line after printed rs (timely, (q, step, e)) k =
-    subst (λ (t : Option Running). Replies t (rs ++ low_lines printed)) (sym e) (step_grows s.row s.past line q printed step rs k)
+goes_so : (s : Begun) (line : Line) (after : Option Begun) (printed : List Event) (rs : List Sent) → GoesOnBegun s line after printed → Replies (Some s) rs → Replies after (rs ++ low_lines printed)
+goes_so (Whole s) line after printed rs (timely, (q, step, e)) k =
+    subst (λ (t : Option Begun). Replies t (rs ++ low_lines printed)) (sym e) (step_grows s.row s.past line q printed step rs k)
+goes_so (Alone s) line after printed rs (timely, (q, step, e)) k =
+    subst (λ (t : Option Begun). Replies t (rs ++ low_lines printed)) (sym e) (step_low_grows s.row s.past line q printed step rs k)
 
-leads_so : (running : Option Running) (line : Line) (after : Option Running) (printed : List Event) (rs : List Sent) → Leads running line after printed → Replies running rs → Replies after (rs ++ low_lines printed)
-leads_so None lines.Skip after printed rs h k = stays_so None after printed rs h.0 h.1 k
-leads_so (Some s) lines.Skip after printed rs h k = stays_so (Some s) after printed rs h.0 h.1 k
-leads_so None (lines.Session row) after printed rs h k = begins_so row after printed rs h.0.1 h.1 k
-leads_so None (lines.Look session m w a) after printed rs h k = absurd h
-leads_so None (lines.Gone session m) after printed rs h k = absurd h
-leads_so None (lines.Done session m t) after printed rs h k = absurd h
-leads_so (Some s) (lines.Session row) after printed rs h k = goes_so s (lines.Session row) after printed rs h k
-leads_so (Some s) (lines.Look session m w a) after printed rs h k = goes_so s (lines.Look session m w a) after printed rs h k
-leads_so (Some s) (lines.Gone session m) after printed rs h k = goes_so s (lines.Gone session m) after printed rs h k
-leads_so (Some s) (lines.Done session m t) after printed rs h k = goes_so s (lines.Done session m t) after printed rs h k
+leads_so : (running : Option Begun) (line : Line) (after : Option Begun) (printed : List Event) (rs : List Sent) → Leads running line after printed → Replies running rs → Replies after (rs ++ low_lines printed)
+leads_so running line after printed rs h k =
+    led running line after printed h
+    (λ skip e f. stays_so running after printed rs e f k)
+    (λ s none new e f. begins_so s after printed rs new e f (subst (λ (r : Option Begun). Replies r rs) none k))
+    (λ s some goes. goes_so s line after printed rs goes (subst (λ (r : Option Begun). Replies r rs) some k))
 
-pub lead_so : (running : Option Running) (script : List Line) (after : Option Running) (printed : List Event) (rs : List Sent) → LeadTo running script after printed → Replies running rs → Replies after (rs ++ low_lines printed)
+pub lead_so : (running : Option Begun) (script : List Line) (after : Option Begun) (printed : List Event) (rs : List Sent) → LeadTo running script after printed → Replies running rs → Replies after (rs ++ low_lines printed)
 lead_so running [] after printed rs (e, f) k = stays_so running after printed rs e f k
 lead_so running (line ∷ script) after printed rs (mid, first, second, h, later, e) k =
     let a = leads_so running line mid first rs h k in

@@ -1,8 +1,6 @@
 -- At most 64 arrivals wait.
 use Rattle.std.proofs.Common.{◌≡◌, ℕ, ◌+◌, ◌≤◌, Bool, true, false, List, [], ◌∷◌, length, drop, Option, Some, None, ap, ◌∙◌, arith}
-use Rattle.std.specs.Prelude.{if◌then◌else◌, ◌==◌, nat_le}
-use Rattle.std.proofs.lemmas.Bool.{and_parts}
-use Rattle.std.proofs.lemmas.Bool.Decides.{nat_tests}
+use Rattle.std.specs.Prelude.{if◌then◌else◌}
 use Rattle.pump_frame.specs.declared.row.SessionRow.{SessionRow}
 use Rattle.pump_core.specs.History.{Arrival}
 use Rattle.pump_core.specs.Replies.{takes}
@@ -10,7 +8,8 @@ use Rattle.script_reader.specs.declared.line.Line.{Line}
 use Rattle.script_reader.specs.declared.line.Line.TheVariants as lines
 use Rattle.script_reader.specs.declared.event.Event.{Event}
 use Rattle.script_reader.specs.Past.{Past}
-use Rattle.script_reader.specs.Highs.{IsHighLook}
+use Rattle.script_reader.specs.Highs.{IsHighLook, is_ahead, IsReturnBy, IsReturn, place}
+use Rattle.script_reader.specs.Tolds.{LowPast, joined_low, StepLow}
 use Rattle.script_reader.specs.Steps.{joined, GoesOn, Step}
 
 abbrev waits_in : Past → List Arrival
@@ -19,9 +18,16 @@ waits_in p = p.waits
 high_waits : (s : SessionRow) (p : Past) (m : ℕ) (back : Option ℕ) (q : Past) (printed : List Event) → IsHighLook s p m back q printed → q.waits ≡ p.waits
 high_waits s p m back q printed (mid, a, b, h, t, e) = ap waits_in t.rest ∙ ap waits_in h.rest
 
+return_by_waits : (b : Bool) (s : SessionRow) (p : Past) (m n : ℕ) (q : Past) (printed : List Event) → IsReturnBy b s p m n q printed → q.waits ≡ p.waits
+return_by_waits true s p m n q printed h = ap waits_in h.0
+return_by_waits false s p m n q printed h = high_waits s p m (Some n) q printed h
+
+return_waits : (s : SessionRow) (p : Past) (m n : ℕ) (q : Past) (printed : List Event) → IsReturn s p m n q printed → q.waits ≡ p.waits
+return_waits s p m n q printed h = return_by_waits (is_ahead p.world n) s p m n q printed h
+
 goes_waits : (s : SessionRow) (hand : Option ℕ) (p : Past) (m : ℕ) (q : Past) (printed : List Event) → GoesOn s hand p m q printed → q.waits ≡ p.waits
 goes_waits s None p m q printed h = ap waits_in h.0
-goes_waits s (Some n) p m q printed (mid, a, b, c, h, e) = high_waits s mid m _ q b h ∙ ap waits_in c.rest
+goes_waits s (Some n) p m q printed (mid, a, b, c, h, e) = return_waits s mid m (place mid.world.returned 0) q b h ∙ ap waits_in c.rest
 
 dropped : (b : Bool) (xs : List Arrival) → length xs ≤ 64 → length (if b then drop 1 xs else xs) ≤ 64
 dropped false xs h = h
@@ -31,6 +37,23 @@ dropped true (x ∷ xs) h = omega arith
 pub step_waits : (s : SessionRow) (p : Past) (line : Line) (q : Past) (printed : List Event) → length p.waits ≤ 64 → Step s p line q printed → length q.waits ≤ 64
 step_waits s p lines.Skip q printed h t = absurd t
 step_waits s p (lines.Session row) q printed h t = absurd t
+step_waits s p (lines.LowSession row next held) q printed h t = absurd t
+step_waits s p (lines.Told session m w fault told a) q printed h t = absurd t
 step_waits s p (lines.Look session m w a) q printed h (c, comes, (few, (f, i))) = rw i.waits (dropped (takes i.after) (joined p c).waits few)
 step_waits s p (lines.Gone session m) q printed h (f, i) = rw i.waits (dropped (takes i.after) [] (omega arith))
+step_waits s p (lines.High session m) q printed h t = rw (high_waits s p m None q printed t) h
+step_waits s p (lines.Carry session back) q printed h t = rw t.rest h
+step_waits s p (lines.Return session m back) q printed h t = rw (return_waits s p m (place p.world.returned back) q printed t) h
 step_waits s p (lines.Done session m t) q printed h (mid, a, b, k, g, e) = rw (goes_waits s mid.world.high_hand mid (m + t) q b g ∙ high_waits s p m None mid a k) h
+
+pub step_low_waits : (s : SessionRow) (p : LowPast) (line : Line) (q : LowPast) (printed : List Event) → StepLow s p line false q printed → length q.waits ≤ 64
+step_low_waits s p (lines.Told session m w fault told a) q printed (c, comes, (few, (f, i))) = rw i.waits (dropped (takes i.after) (joined_low p fault c).waits few)
+step_low_waits s p (lines.Gone session m) q printed (f, i) = rw i.waits (dropped (takes i.after) [] (omega arith))
+step_low_waits s p lines.Skip q printed h = absurd h
+step_low_waits s p (lines.Session row) q printed h = absurd h
+step_low_waits s p (lines.LowSession row next held) q printed h = absurd h
+step_low_waits s p (lines.Look session m w z) q printed h = absurd h
+step_low_waits s p (lines.High session m) q printed h = absurd h
+step_low_waits s p (lines.Carry session back) q printed h = absurd h
+step_low_waits s p (lines.Return session m back) q printed h = absurd h
+step_low_waits s p (lines.Done session m t) q printed h = absurd h

@@ -1,12 +1,14 @@
 -- Which bytes are which line of a script.
-use Rattle.std.specs.Prelude.{◌≡◌, ℕ, ◌^◌, ◌<◌, ◌≤◌, ◌⊎◌, List, [], ◌∷◌, length, codes, decimal, Ok}
+use Rattle.std.specs.Prelude.{◌≡◌, ℕ, ◌^◌, ◌<◌, ◌≤◌, ◌⊎◌, Bool, true, false, List, [], ◌∷◌, ◌++◌, length, codes, decimal, Ok}
 use Rattle.std.specs.List.{join_with_byte}
 use Rattle.std.specs.Int.{to_be_bytes, w32}
 use Rattle.hex.specs.Hex.{decode_of}
 use Rattle.pump_frame.specs.Names.{IsName}
 use Rattle.pump_frame.specs.declared.row.SessionRow.{SessionRow}
 use Rattle.script_reader.specs.declared.line.Line.{Line}
-use Rattle.script_reader.specs.declared.line.Line.TheVariants.{Skip, Session, Look, Gone, Done}
+use Rattle.script_reader.specs.declared.line.Line.TheVariants.{Skip, Session, LowSession, Look, Told, Gone, High, Carry, Return, Done}
+use Rattle.script_reader.specs.declared.line.ToldFeedback.{ToldFeedback}
+use Rattle.script_reader.specs.declared.line.ToldFeedback.TheVariants.{Quiet, Full, Pair}
 use Rattle.script_reader.specs.declared.line.Arriving.{Arriving}
 use Rattle.script_reader.specs.declared.line.Arriving.TheVariants.{Nothing, Hello, Data, Raw}
 
@@ -54,13 +56,43 @@ IsArriving (Hello low high) fields = IsName low × IsName high × (fields ≡ co
 IsArriving (Data number payload) fields = (number < 2 ^ 48) × (hex : List ℕ) × IsHex payload hex × (fields ≡ codes "data" ∷ decimal number ∷ hex ∷ [])
 IsArriving (Raw bytes) fields = (hex : List ℕ) × IsRaw bytes.items hex × (fields ≡ codes "raw" ∷ hex ∷ [])
 
+-- whether the last of the stored messages is in the low hand
+abbrev pub held_field : Bool → List ℕ
+held_field false = codes "0"
+held_field true = codes "1"
+
+-- a number of stored messages, the last of which may be in the low hand
+pub record IsCount (next : ℕ) (held : Bool) : Type 0 where
+  pub most : next ≤ 2 ^ 48
+  pub some : held ≡ true → 1 ≤ next
+
+-- whether the next device call fails
+abbrev pub outcome_field : Bool → List ℕ
+outcome_field false = codes "fine"
+outcome_field true = codes "fault"
+
+-- what is told of the passage: a dash for nothing, or a count and an average with a slash between
+abbrev pub IsFeedback : ToldFeedback → List ℕ → Type 0
+IsFeedback Quiet field = field ≡ codes "-"
+IsFeedback Full field = field ≡ codes "full"
+IsFeedback (Pair count average) field = (count < 2 ^ 32) × (average ≤ 10 ^ 9) × (field ≡ decimal count ++ 47 ∷ decimal average)
+
 -- the fields of a line; numbers are decimal, without sign and leading zeros
 abbrev pub HasFields : Line → List (List ℕ) → Type 0
 HasFields Skip fields = ⊥
 HasFields (Session row) fields = IsRow row × (fields ≡ codes "session" ∷ row_fields row)
+HasFields (LowSession row next held) fields = IsRow row × IsCount next held
+    × (fields ≡ codes "low-session" ∷ (row_fields row ++ decimal next ∷ held_field held ∷ []))
 HasFields (Look session moment word arrival) fields = (session < 2 ^ 32) × (moment ≤ 2 ^ 62)
     × (hex : List ℕ) × IsWord word hex × (rest : List (List ℕ)) × IsArriving arrival rest
     × (fields ≡ codes "look" ∷ decimal session ∷ decimal moment ∷ hex ∷ rest)
+HasFields (Told session moment word fault feedback arrival) fields = (session < 2 ^ 32) × (moment ≤ 2 ^ 62)
+    × (hex : List ℕ) × IsWord word hex × (told : List ℕ) × IsFeedback feedback told × (rest : List (List ℕ)) × IsArriving arrival rest
+    × (fields ≡ codes "told" ∷ decimal session ∷ decimal moment ∷ hex ∷ outcome_field fault ∷ told ∷ rest)
+HasFields (High session moment) fields = (session < 2 ^ 32) × (moment ≤ 2 ^ 62) × (fields ≡ codes "high" ∷ decimal session ∷ decimal moment ∷ [])
+HasFields (Carry session back) fields = (session < 2 ^ 32) × (back < 2 ^ 64) × (fields ≡ codes "carry" ∷ decimal session ∷ decimal back ∷ [])
+HasFields (Return session moment back) fields = (session < 2 ^ 32) × (moment ≤ 2 ^ 62) × (back < 2 ^ 64)
+    × (fields ≡ codes "return" ∷ decimal session ∷ decimal moment ∷ decimal back ∷ [])
 HasFields (Gone session moment) fields = (session < 2 ^ 32) × (moment ≤ 2 ^ 62) × (fields ≡ codes "gone" ∷ decimal session ∷ decimal moment ∷ [])
 HasFields (Done session moment time) fields = (session < 2 ^ 32) × (moment ≤ 2 ^ 62) × (time ≤ 10 ^ 9)
     × (fields ≡ codes "done" ∷ decimal session ∷ decimal moment ∷ decimal time ∷ [])

@@ -1,5 +1,6 @@
 -- A high look of a session, and a packet that is carried to the receiver.
-use Rattle.std.specs.Prelude.{◌≡◌, ◌⊎◌, ℕ, ◌+◌, ◌-◌, ◌^◌, Bool, true, false, nat_lt, nat_le, min, if◌then◌else◌, List, [], ◌∷◌, ◌++◌, length, slice_get, option_to_list, Option, Some, None}
+use Rattle.std.specs.Prelude.{◌≡◌, ◌⊎◌, ℕ, ◌+◌, ◌-◌, ◌^◌, Bool, true, false, ◌&&◌, ◌==◌, nat_lt, nat_le, min, if◌then◌else◌, List, [], ◌∷◌, ◌++◌, length, slice_get, option_to_list, Option, Some, None, is_some}
+use Rattle.pump_frame.specs.declared.payload.Payload.{Payload}
 use Rattle.pump_frame.specs.declared.frame.Item.{Item}
 use Rattle.pump_frame.specs.declared.row.SessionRow.{SessionRow}
 use Rattle.pump_core.specs.declared.event.Event.{Event as WorldEvent}
@@ -94,6 +95,29 @@ IsHighLook row p m back q printed =
     (mid : Past) × (first : List Event) × (second : List Event)
     × IsRemoval row p m back mid first × IsSending row mid m q second × (printed ≡ first ++ second)
 
+-- ---- a TAKEN that comes back ----
+
+-- the number of the next message that was not sent yet
+abbrev pub expected : World → ℕ
+expected w = if is_some w.high_hand then w.removed + 1 else w.removed
+
+abbrev pub is_not_below : ℕ → Option ℕ → Bool
+is_not_below n None = false
+is_not_below n (Some number) = nat_le n number
+
+-- the TAKEN at this place is of a message that was not sent
+abbrev pub is_ahead : World → ℕ → Bool
+is_ahead w k = is_not_below (expected w) (slice_get w.returned k)
+
+-- such a TAKEN is refused, and its look does nothing; any other comes back in a high look
+abbrev pub IsReturnBy : Bool → SessionRow → Past → ℕ → ℕ → Past → List Event → Type 0
+IsReturnBy true row p m k q printed = (q ≡ record p { moment = m }) × (printed ≡ [])
+IsReturnBy false row p m k q printed = IsHighLook row p m (Some k) q printed
+
+-- a high look at m, in which the TAKEN at this place comes back
+abbrev pub IsReturn : SessionRow → Past → ℕ → ℕ → Past → List Event → Type 0
+IsReturn row p m k q printed = IsReturnBy (is_ahead p.world k) row p m k q printed
+
 -- ---- a packet that is carried ----
 
 -- the place of the packet that was sent `back` packets before the last one
@@ -104,10 +128,33 @@ place packets back = length packets - 1 - back
 abbrev pub printed_carry : ℕ → World → Item → Event
 printed_carry session w d = if nat_lt d.number (length w.received) then Again session d.number else Took session d.number
 
+-- the size of the receiver's disk
+abbrev pub receiver_size : ℕ
+receiver_size = 16777216
+
+-- where the receiver's records end: each is a length of two bytes and a message, from byte 80 on
+abbrev pub log_end : List Payload → ℕ
+log_end [] = 80
+log_end (message ∷ messages) = 2 + length message + log_end messages
+
+-- the packet is the receiver's next message, and does not fit behind its records
+abbrev pub overfills : World → Item → Bool
+overfills w d = d.number == length w.received && nat_lt receiver_size (log_end w.received + 2 + length d.payload)
+
+-- the DATA `back` places before the last one does not fit at the receiver
+pub record IsOverfull (w : World) (back end size_of_message size : ℕ) : Type 0 where
+  pub packet : Item
+  pub at : slice_get w.sent (place w.sent back) ≡ Some packet
+  pub over : overfills w packet ≡ true
+  pub end_is : end ≡ log_end w.received
+  pub length_is : size_of_message ≡ length packet.payload
+  pub size_is : size ≡ receiver_size
+
 -- the DATA `back` places before the last one is carried, and taken where it is the receiver's next
 pub record IsCarried (row : SessionRow) (p : Past) (back : ℕ) (q : Past) (printed : List Event) : Type 0 where
   pub packet : Item
   pub at : slice_get p.world.sent (place p.world.sent back) ≡ Some packet
+  pub fits : overfills p.world packet ≡ false
   pub carried : World
   pub carries : Happens p.world (CarryData (place p.world.sent back)) carried
   pub takes : Perhaps carried TakeBegin (TakeEnd ∷ []) q.world

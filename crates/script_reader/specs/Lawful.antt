@@ -1,7 +1,10 @@
 -- The lines that a reader gives: their numbers are in the ranges of the grammar.
 use Rattle.std.specs.Prelude.{◌≡◌, ◌^◌, ◌<◌, ◌≤◌, length}
 use Rattle.script_reader.specs.declared.line.Line.{Line}
-use Rattle.script_reader.specs.declared.line.Line.TheVariants.{Skip, Session, Look, Gone, Done}
+use Rattle.script_reader.specs.declared.line.Line.TheVariants.{Skip, Session, LowSession, Look, Told, Gone, High, Carry, Return, Done}
+use Rattle.script_reader.specs.declared.line.ToldFeedback.{ToldFeedback}
+use Rattle.script_reader.specs.declared.line.ToldFeedback.TheVariants.{Quiet, Full, Pair}
+use Rattle.script_reader.specs.Grammar.{IsCount}
 use Rattle.script_reader.specs.declared.line.Arriving.{Arriving}
 use Rattle.script_reader.specs.declared.line.Arriving.TheVariants.{Nothing, Hello, Data, Raw}
 
@@ -12,10 +15,22 @@ IsLawfulArriving (Hello low high) = Unit {0}
 IsLawfulArriving (Data number payload) = number < 2 ^ 48
 IsLawfulArriving (Raw bytes) = 0 < length bytes.items
 
+-- an average is at most 10^9
+abbrev pub IsLawfulFeedback : ToldFeedback → Type 0
+IsLawfulFeedback Quiet = Unit {0}
+IsLawfulFeedback Full = Unit {0}
+IsLawfulFeedback (Pair count average) = average ≤ 10 ^ 9
+
 -- moments are at most 2^62, times at most 10^9, and a row has no ports
 abbrev pub IsLawfulLine : Line → Type 0
 IsLawfulLine Skip = Unit {0}
 IsLawfulLine (Session row) = (row.low_port ≡ 0) × (row.high_port ≡ 0)
+IsLawfulLine (LowSession row next held) = (row.low_port ≡ 0) × (row.high_port ≡ 0) × IsCount next held
 IsLawfulLine (Look session moment word arrival) = (moment ≤ 2 ^ 62) × IsLawfulArriving arrival
+IsLawfulLine (Told session moment word fault feedback arrival) =
+    (moment ≤ 2 ^ 62) × IsLawfulFeedback feedback × IsLawfulArriving arrival
 IsLawfulLine (Gone session moment) = moment ≤ 2 ^ 62
+IsLawfulLine (High session moment) = moment ≤ 2 ^ 62
+IsLawfulLine (Carry session back) = Unit {0}
+IsLawfulLine (Return session moment back) = moment ≤ 2 ^ 62
 IsLawfulLine (Done session moment time) = (moment ≤ 2 ^ 62) × (time ≤ 10 ^ 9)

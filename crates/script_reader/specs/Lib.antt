@@ -1,3 +1,4 @@
+pub mod Breaks
 pub mod Faults
 pub mod Fields
 pub mod Fronts
@@ -11,4 +12,5 @@ pub mod Past
 pub mod Readouts
 pub mod Scripts
 pub mod Steps
+pub mod Tolds
 pub mod Transcript

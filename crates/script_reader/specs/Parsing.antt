@@ -1,6 +1,6 @@
 -- Reading a line field by field, as the code does it. It serves proofs alone: no public clause names it, and
 -- proofs/LineLaws.antt ties it to the grammar.
-use Rattle.std.specs.Prelude.{◌≡◌, ℕ, ◌+◌, ◌^◌, ◌/◌, ◌≤◌, ◌==◌, slice_index, ◌&&◌, nat_lt, nat_le, Bool, true, if◌then◌else◌, List, [], ◌∷◌, length, codes, decimal, Option, None, Some, Result, Ok, Err}
+use Rattle.std.specs.Prelude.{◌≡◌, ℕ, ◌+◌, ◌^◌, ◌/◌, ◌≤◌, ◌==◌, slice_index, ◌&&◌, nat_lt, nat_le, Bool, true, false, if◌then◌else◌, List, [], ◌∷◌, length, take, drop, position, codes, decimal, Option, None, Some, Result, Ok, Err}
 use Rattle.std.specs.List.{slice_split, list_all}
 use Rattle.std.specs.Str.{bytes_eq}
 use Rattle.std.specs.Str.Parse.{digits_value}
@@ -9,9 +9,12 @@ use Rattle.hex.specs.Hex.{decode_sized}
 use Rattle.arrayvec.specs.ArrayVec.{ArrayVec}
 use Rattle.hex.specs.declared.FromHexError.{FromHexError}
 use Rattle.pump_frame.specs.Names.{is_name_byte}
+use Rattle.pump_frame.specs.declared.row.SessionRow.{SessionRow}
 use Rattle.script_reader.specs.Fields.{is_space}
 use Rattle.script_reader.specs.declared.line.Line.{Line}
-use Rattle.script_reader.specs.declared.line.Line.TheVariants.{Skip, Session, Look, Gone, Done}
+use Rattle.script_reader.specs.declared.line.Line.TheVariants.{Skip, Session, LowSession, Look, Told, Gone, High, Carry, Return, Done}
+use Rattle.script_reader.specs.declared.line.ToldFeedback.{ToldFeedback}
+use Rattle.script_reader.specs.declared.line.ToldFeedback.TheVariants.{Quiet, Full, Pair}
 use Rattle.script_reader.specs.declared.line.Arriving.{Arriving}
 use Rattle.script_reader.specs.declared.line.Arriving.TheVariants.{Nothing, Hello, Data, Raw}
 
@@ -59,8 +62,9 @@ abbrev pub at_end : {A : Type 0} → A → List (List ℕ) → Option A
 at_end x [] = Some x
 at_end x (field ∷ fields) = None
 
-unfoldable pub session_of : List (List ℕ) → Option Line
-session_of fields = do
+-- the nine fields of a row, and the fields after them
+unfoldable pub row_at : List (List ℕ) → Option (SessionRow × List (List ℕ))
+row_at fields = do
   id ← field_at (number (2 ^ 32)) fields
   capacity ← field_at (number (2 ^ 32)) id.1
   message ← field_at (number (2 ^ 32)) capacity.1
@@ -70,7 +74,44 @@ session_of fields = do
   resend ← field_at (number (2 ^ 32)) longest.1
   low ← field_at name resend.1
   high ← field_at name low.1
-  at_end (Session record { id = id.0; low = low.0; high = high.0; capacity = capacity.0; message = message.0; window = window.0; start = start.0; longest = longest.0; resend = resend.0; low_port = 0; high_port = 0 }) high.1
+  Some (record { id = id.0; low = low.0; high = high.0; capacity = capacity.0; message = message.0; window = window.0; start = start.0; longest = longest.0; resend = resend.0; low_port = 0; high_port = 0 }, high.1)
+
+unfoldable pub session_of : List (List ℕ) → Option Line
+session_of fields = do
+  row ← row_at fields
+  at_end (Session row.0) row.1
+
+-- which of two words the field is: the second is true
+unfoldable pub choice : List ℕ → List ℕ → List ℕ → Option Bool
+choice off on field = if bytes_eq field off then Some false else if bytes_eq field on then Some true else None
+
+-- a message in the hand is a stored one
+abbrev pub at_count : ℕ → Bool → Option Line → Option Line
+at_count next held line = if held && next == 0 then None else line
+
+unfoldable pub low_session_of : List (List ℕ) → Option Line
+low_session_of fields = do
+  row ← row_at fields
+  next ← field_at (number (2 ^ 48 + 1)) row.1
+  held ← field_at (choice (codes "0") (codes "1")) next.1
+  at_count next.0 held.0 (at_end (LowSession row.0 next.0 held.0) held.1)
+
+abbrev pub is_slash : ℕ → Bool
+is_slash b = b == 47
+
+-- two numbers with a slash between
+unfoldable pub pair : List ℕ → Option ToldFeedback
+pair field = do
+  at ← position is_slash field
+  count ← number (2 ^ 32) (take at field)
+  average ← number (10 ^ 9 + 1) (drop (at + 1) field)
+  Some (Pair count average)
+
+unfoldable pub feedback : List ℕ → Option ToldFeedback
+feedback field =
+    if bytes_eq field (codes "-") then Some Quiet
+    else if bytes_eq field (codes "full") then Some Full
+    else pair field
 
 abbrev pub bytes_from : Result (List ℕ) FromHexError → Option (List ℕ)
 bytes_from (Ok bytes) = Some bytes
@@ -124,11 +165,40 @@ look_of fields = do
   arrival ← arriving_of hex.1
   Some (Look session.0 moment.0 hex.0 arrival)
 
+unfoldable pub told_of : List (List ℕ) → Option Line
+told_of fields = do
+  session ← field_at (number (2 ^ 32)) fields
+  moment ← field_at (number (2 ^ 62 + 1)) session.1
+  hex ← field_at word moment.1
+  fault ← field_at (choice (codes "fine") (codes "fault")) hex.1
+  told ← field_at feedback fault.1
+  arrival ← arriving_of told.1
+  Some (Told session.0 moment.0 hex.0 fault.0 told.0 arrival)
+
 unfoldable pub gone_of : List (List ℕ) → Option Line
 gone_of fields = do
   session ← field_at (number (2 ^ 32)) fields
   moment ← field_at (number (2 ^ 62 + 1)) session.1
   at_end (Gone session.0 moment.0) moment.1
+
+unfoldable pub high_of : List (List ℕ) → Option Line
+high_of fields = do
+  session ← field_at (number (2 ^ 32)) fields
+  moment ← field_at (number (2 ^ 62 + 1)) session.1
+  at_end (High session.0 moment.0) moment.1
+
+unfoldable pub carry_of : List (List ℕ) → Option Line
+carry_of fields = do
+  session ← field_at (number (2 ^ 32)) fields
+  back ← field_at (number (2 ^ 64)) session.1
+  at_end (Carry session.0 back.0) back.1
+
+unfoldable pub return_of : List (List ℕ) → Option Line
+return_of fields = do
+  session ← field_at (number (2 ^ 32)) fields
+  moment ← field_at (number (2 ^ 62 + 1)) session.1
+  back ← field_at (number (2 ^ 64)) moment.1
+  at_end (Return session.0 moment.0 back.0) back.1
 
 unfoldable pub done_of : List (List ℕ) → Option Line
 done_of fields = do
@@ -141,8 +211,13 @@ unfoldable pub line_of : List (List ℕ) → Option Line
 line_of [] = None
 line_of (word ∷ fields) =
     if bytes_eq word (codes "session") then session_of fields
+    else if bytes_eq word (codes "low-session") then low_session_of fields
     else if bytes_eq word (codes "look") then look_of fields
+    else if bytes_eq word (codes "told") then told_of fields
     else if bytes_eq word (codes "gone") then gone_of fields
+    else if bytes_eq word (codes "high") then high_of fields
+    else if bytes_eq word (codes "carry") then carry_of fields
+    else if bytes_eq word (codes "return") then return_of fields
     else if bytes_eq word (codes "done") then done_of fields
     else None
 

@@ -1,10 +1,12 @@
 -- What is read off a transcript, and what holds of the session that it leads to.
 use Rattle.std.specs.Prelude.{◌+◌, ◌-◌, ◌≤◌, List, [], ◌∷◌, ◌++◌, length}
+use Rattle.pump_frame.specs.declared.row.SessionRow.{SessionRow}
+use Rattle.pump_core.specs.History.{History}
 use Rattle.pump_core.specs.Lawful.{IsPrefixOf}
 use Rattle.pump_core.specs.Replies.{Sent}
 use Rattle.script_reader.specs.declared.event.Event.{Event}
 use Rattle.script_reader.specs.declared.event.Event.TheVariants.{Low}
-use Rattle.script_reader.specs.Scripts.{Running}
+use Rattle.script_reader.specs.Scripts.{Running, Begun, Whole, Alone}
 
 -- the `low` lines: the low process's replies, each with its moment
 abbrev pub low_line : Event → List Sent
@@ -15,10 +17,24 @@ abbrev pub low_lines : List Event → List Sent
 low_lines [] = []
 low_lines (x ∷ printed) = low_line x ++ low_lines printed
 
+-- the row and the low history of the session that a script has begun
+abbrev pub row_of : Begun → SessionRow
+row_of (Whole s) = s.row
+row_of (Alone s) = s.row
+
+abbrev pub history_of : Begun → History
+history_of (Whole s) = s.past.history
+history_of (Alone s) = s.past.history
+
 -- no more is live than there are places, no more is held than lies between the hands, the receiver
 -- has a front of the accepted list, and at most 64 arrivals wait
-pub record KeepsBounds (s : Running) : Type 0 where
+pub record IsWithin (s : Running) : Type 0 where
   pub live : length s.past.world.accepted ≤ s.past.world.removed + s.row.capacity
   pub held : length s.past.world.held ≤ s.row.capacity - 2
   pub prefix : IsPrefixOf s.past.world.received s.past.world.accepted
   pub waits : length s.past.waits ≤ 64
+
+-- .. of a low side alone only what waits is known
+abbrev pub KeepsBounds : Begun → Type 0
+KeepsBounds (Whole s) = IsWithin s
+KeepsBounds (Alone s) = length s.past.waits ≤ 64

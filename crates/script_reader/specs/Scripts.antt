@@ -1,69 +1,119 @@
--- The transcript of a whole script, which has one session.
-use Rattle.std.specs.Prelude.{◌≡◌, true, List, [], ◌∷◌, ◌++◌, length, Option, Some, None}
+-- The transcript of a whole script, which has one session: a whole one, or a low side alone.
+use Rattle.std.specs.Prelude.{◌≡◌, ℕ, Bool, true, false, List, [], ◌∷◌, ◌++◌, length, Option, Some, None}
+use Rattle.disk_model.specs.declared.name.Role.TheVariants as roles
 use Rattle.pump_frame.specs.Rows.{first_bad, IsLawfulRow}
 use Rattle.pump_frame.specs.declared.row.RowKey.{RowKey}
 use Rattle.pump_frame.specs.declared.row.SessionRow.{SessionRow}
+use Rattle.pump_core.specs.Exchanges.{count_after, Part, IsCut}
 use Rattle.script_reader.specs.declared.line.Line.{Line}
 use Rattle.script_reader.specs.declared.line.Line.TheVariants as lines
+use Rattle.script_reader.specs.declared.fault.Fault.{Fault}
+use Rattle.script_reader.specs.declared.fault.Fault.TheVariants as faults
 use Rattle.script_reader.specs.declared.event.Event.{Event}
 use Rattle.script_reader.specs.declared.event.Event.TheVariants.{End}
 use Rattle.script_reader.specs.Past.{Past, fresh}
-use Rattle.script_reader.specs.Steps.{is_timely, Step, IsBarred}
+use Rattle.script_reader.specs.Steps.{is_timely, Step, IsBarred, Overfills}
+use Rattle.script_reader.specs.Tolds.{LowPast, fresh_low, is_timely_low, StepLow, IsBarredLow}
 
--- a session that a script has begun: its row, and what it has been through
+-- a whole session that a script has begun: its row, and what it has been through
 pub record Running : Type 0 where
   pub row : SessionRow
   pub past : Past
 
+-- so a low side alone
+pub record LowRunning : Type 0 where
+  pub row : SessionRow
+  pub past : LowPast
+
+-- the session that a script has begun
+pub data Begun : Type 0 where
+  Whole : (s : Running) → Begun
+  Alone : (s : LowRunning) → Begun
+
 -- a session line begins a lawful row's session
-abbrev pub Begins : SessionRow → Option Running → Type 0
-Begins row running = IsLawfulRow row × (running ≡ Some (record { row = row; past = fresh row }))
+abbrev pub Begins : SessionRow → Option Begun → Type 0
+Begins row running = IsLawfulRow row × (running ≡ Some (Whole (record { row = row; past = fresh row })))
+
+-- so does the line of a low side alone
+abbrev pub BeginsLow : SessionRow → ℕ → Bool → Option Begun → Type 0
+BeginsLow row next held running =
+    IsLawfulRow row × (running ≡ Some (Alone (record { row = row; past = fresh_low next held })))
 
 -- a line of the session can be applied, and does what it does
-abbrev pub Goes : Running → Line → Option Running → List Event → Type 0
+abbrev pub Goes : Running → Line → Option Begun → List Event → Type 0
 Goes s line running printed =
     (is_timely s.row s.past line ≡ true)
-    × ((q : Past) × Step s.row s.past line q printed × (running ≡ Some (record { row = s.row; past = q })))
+    × ((q : Past) × Step s.row s.past line q printed × (running ≡ Some (Whole (record { row = s.row; past = q }))))
+
+abbrev pub GoesLow : LowRunning → Line → Option Begun → List Event → Type 0
+GoesLow s line running printed =
+    (is_timely_low s.row s.past line ≡ true)
+    × ((q : LowPast) × StepLow s.row s.past line false q printed × (running ≡ Some (Alone (record { row = s.row; past = q }))))
+
+abbrev pub GoesOn : Begun → Line → Option Begun → List Event → Type 0
+GoesOn (Whole s) line running printed = Goes s line running printed
+GoesOn (Alone s) line running printed = GoesLow s line running printed
 
 -- the line can be applied, leads from `running` to `after`, and prints this: a skipped line does
 -- nothing, the first line that is not skipped begins the session, and all others are the session's
-abbrev pub Leads : Option Running → Line → Option Running → List Event → Type 0
+abbrev pub Leads : Option Begun → Line → Option Begun → List Event → Type 0
 Leads running lines.Skip after printed = (after ≡ running) × (printed ≡ [])
 Leads None (lines.Session row) after printed = Begins row after × (printed ≡ [])
+Leads None (lines.LowSession row next held) after printed = BeginsLow row next held after × (printed ≡ [])
 Leads None line after printed = ⊥
-Leads (Some s) line after printed = Goes s line after printed
+Leads (Some s) line after printed = GoesOn s line after printed
 
 -- the line can't be applied: it is another line where there is no session, a session line with a
--- number outside its range, or the session's past refuses it
-abbrev pub IsRefused : Option Running → Line → Type 0
+-- number outside its range, or what the session has been through refuses it
+abbrev pub IsRefused : Option Begun → Line → Type 0
 IsRefused running lines.Skip = ⊥
 IsRefused None (lines.Session row) = (key : RowKey) × (first_bad row ≡ Some key)
+IsRefused None (lines.LowSession row next held) = (key : RowKey) × (first_bad row ≡ Some key)
 IsRefused None line = Unit {0}
-IsRefused (Some s) line = IsBarred s.row s.past line
+IsRefused (Some (Whole s)) line = IsBarred s.row s.past line
+IsRefused (Some (Alone s)) line = IsBarredLow s.row s.past line
+
+-- the line can be applied, and stops the script with this fault after it printed this: a message does
+-- not fit at the receiver, or the device of a low side alone fails in a store
+abbrev pub Halts : Option Begun → Line → List Event → Fault → Type 0
+Halts None line printed fault = ⊥
+Halts (Some (Whole s)) line printed fault =
+    (is_timely s.row s.past line ≡ true)
+    × ((end size_of_message size : ℕ) × Overfills s.row s.past line printed end size_of_message size
+    × (fault ≡ faults.Full s.row.id end size_of_message size))
+Halts (Some (Alone s)) line printed fault =
+    (is_timely_low s.row s.past line ≡ true)
+    × ((q : LowPast) × StepLow s.row s.past line true q printed × (fault ≡ faults.Device s.row.id roles.Low))
 
 -- these lines lead from `running` to `after`, and print this
-abbrev pub LeadTo : Option Running → List Line → Option Running → List Event → Type 0
+abbrev pub LeadTo : Option Begun → List Line → Option Begun → List Event → Type 0
 LeadTo running [] after printed = (after ≡ running) × (printed ≡ [])
 LeadTo running (line ∷ later) after printed =
-    (mid : Option Running) × (first : List Event) × (second : List Event)
+    (mid : Option Begun) × (first : List Event) × (second : List Event)
     × Leads running line mid first × LeadTo mid later after second × (printed ≡ first ++ second)
 
 -- how many messages of the session were accepted, removed and received
 abbrev pub end_of : SessionRow → Past → Event
 end_of row p = End row.id (length p.world.accepted) (Some (p.world.removed, length p.world.received))
 
--- what the end of a script prints
-abbrev pub ends : Option Running → List Event
-ends None = []
-ends (Some s) = end_of s.row s.past ∷ []
+-- how many messages a low side alone has stored
+abbrev pub IsLowEnd : SessionRow → LowPast → Event → Type 0
+IsLowEnd row p event = (parts : List Part) × IsCut row p.history.life parts
+    × (event ≡ End row.id (count_after p.history.life.opening parts) None)
 
--- the transcript of a whole script, whose lines can all be applied
+-- what the end of a script prints
+abbrev pub Ends : Option Begun → List Event → Type 0
+Ends None printed = printed ≡ []
+Ends (Some (Whole s)) printed = printed ≡ end_of s.row s.past ∷ []
+Ends (Some (Alone s)) printed = (event : Event) × IsLowEnd s.row s.past event × (printed ≡ event ∷ [])
+
+-- the transcript of a whole script, whose lines can all be applied, and none of which stops it
 abbrev pub IsTranscript : List Line → List Event → Type 0
 IsTranscript script printed =
-    (after : Option Running) × (body : List Event)
-    × LeadTo None script after body × (printed ≡ body ++ ends after)
+    (after : Option Begun) × (body : List Event) × (last : List Event)
+    × LeadTo None script after body × Ends after last × (printed ≡ body ++ last)
 
 -- what these lines print, all of which can be applied, where the line after them can't be
 abbrev pub IsStopped : List Line → Line → List Event → Type 0
 IsStopped script line printed =
-    (after : Option Running) × LeadTo None script after printed × IsRefused after line
+    (after : Option Begun) × LeadTo None script after printed × IsRefused after line

@@ -1,5 +1,5 @@
 -- What a line of a script does to its session, and what is printed.
-use Rattle.std.specs.Prelude.{◌≡◌, ◌⊎◌, ℕ, ◌<◌, ◌≤◌, ◌+◌, ◌^◌, Bool, true, false, ◌&&◌, ◌||◌, ◌==◌, not, nat_lt, nat_le, List, [], ◌∷◌, ◌++◌, map, length, option_to_list, Option, Some, None}
+use Rattle.std.specs.Prelude.{◌≡◌, ◌⊎◌, ℕ, ◌<◌, ◌≤◌, ◌+◌, ◌^◌, Bool, true, false, ◌&&◌, ◌||◌, ◌==◌, not, nat_lt, nat_le, min, List, [], ◌∷◌, ◌++◌, map, length, option_to_list, Option, Some, None}
 use Rattle.pump_frame.specs.Frames.{greeting}
 use Rattle.pump_frame.specs.declared.frame.Frame.{Frame}
 use Rattle.pump_frame.specs.declared.frame.Kind.TheVariants as kinds
@@ -17,7 +17,7 @@ use Rattle.script_reader.specs.declared.line.Line.TheVariants as lines
 use Rattle.script_reader.specs.declared.event.Event.{Event}
 use Rattle.script_reader.specs.Past.{Past}
 use Rattle.script_reader.specs.Lows.{first_of, IsLook}
-use Rattle.script_reader.specs.Highs.{IsHighLook, IsCarried, place}
+use Rattle.script_reader.specs.Highs.{IsHighLook, IsReturn, IsCarried, IsOverfull, place}
 
 -- ---- what comes with a line ----
 
@@ -73,12 +73,23 @@ lost p = record p { waits = []; is_broken = false; reading = Within [] }
 abbrev pub goes_on : World → Bool
 goes_on w = nat_lt 0 (length (option_to_list w.high_hand ++ w.held))
 
--- the line names this session, no moment falls, and the return of `done` is at a moment of at most 2^62
+-- so many of the packets that were ever sent are kept
+abbrev pub kept : {X : Type 0} → List X → ℕ
+kept packets = min 64 (length packets)
+
+-- the line is one for a whole session, names this one, no moment falls, a packet that it names is kept,
+-- and the return of `done` is at a moment of at most 2^62
 abbrev pub is_timely : SessionRow → Past → Line → Bool
 is_timely row p lines.Skip = false
 is_timely row p (lines.Session other) = false
+is_timely row p (lines.LowSession other next held) = false
+is_timely row p (lines.Told session m w fault told a) = false
 is_timely row p (lines.Look session m w a) = session == row.id && nat_le p.moment m
 is_timely row p (lines.Gone session m) = session == row.id && nat_le p.moment m
+is_timely row p (lines.High session m) = session == row.id && nat_le p.moment m
+is_timely row p (lines.Carry session back) = session == row.id && nat_lt back (kept p.world.sent)
+is_timely row p (lines.Return session m back) =
+    session == row.id && (nat_le p.moment m && nat_lt back (kept p.world.returned))
 is_timely row p (lines.Done session m t) =
     session == row.id && (nat_le p.moment m && (not (goes_on p.world) || nat_le (m + t) (2 ^ 62)))
 
@@ -111,7 +122,7 @@ GoesOn row None p m q printed = (q ≡ p) × (printed ≡ [])
 GoesOn row (Some n) p m q printed =
     (mid : Past) × (first : List Event) × (second : List Event)
     × IsCarried row p 0 mid first
-    × IsHighLook row mid m (Some (place mid.world.returned 0)) q second
+    × IsReturn row mid m (place mid.world.returned 0) q second
     × (printed ≡ first ++ second)
 
 abbrev pub IsDone : SessionRow → Past → ℕ → ℕ → Past → List Event → Type 0
@@ -129,7 +140,22 @@ IsJoinedLook row p m w c q printed = (length (joined p c).waits ≤ 64) × IsOff
 abbrev pub Step : SessionRow → Past → Line → Past → List Event → Type 0
 Step row p lines.Skip q printed = ⊥
 Step row p (lines.Session other) q printed = ⊥
+Step row p (lines.LowSession other next held) q printed = ⊥
+Step row p (lines.Told session m w fault told a) q printed = ⊥
 Step row p (lines.Look session m w a) q printed =
     (c : Coming) × Arrives session p.reading a c × IsJoinedLook row p m w c q printed
 Step row p (lines.Gone session m) q printed = IsLowLook row (lost p) m 0 Gone q printed
+Step row p (lines.High session m) q printed = IsHighLook row p m None q printed
+Step row p (lines.Carry session back) q printed = IsCarried row p back q printed
+Step row p (lines.Return session m back) q printed = IsReturn row p m (place p.world.returned back) q printed
 Step row p (lines.Done session m t) q printed = IsDone row p m t q printed
+
+-- the line could be applied, but a message does not fit at the receiver: this is printed before it
+-- stops, and its record would begin at `end`
+abbrev pub Overfills : SessionRow → Past → Line → List Event → ℕ → ℕ → ℕ → Type 0
+Overfills row p (lines.Carry session back) printed end size_of_message size =
+    IsOverfull p.world back end size_of_message size × (printed ≡ [])
+Overfills row p (lines.Done session m t) printed end size_of_message size =
+    (mid : Past) × (n : ℕ) × IsHighLook row p m None mid printed
+    × (mid.world.high_hand ≡ Some n) × IsOverfull mid.world 0 end size_of_message size
+Overfills row p _ printed end size_of_message size = ⊥

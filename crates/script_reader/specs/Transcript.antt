@@ -6,7 +6,9 @@ use Rattle.pump_frame.specs.declared.frame.Kind.TheVariants.{Hello, Welcome, Dat
 use Rattle.script_reader.specs.declared.event.Event.{Event}
 use Rattle.script_reader.specs.declared.event.Event.TheVariants.{Stored, Full, Passed, Released, Repeat, Low, Removed, Sent, Took, Again, End}
 use Rattle.script_reader.specs.declared.fault.Fault.{Fault}
-use Rattle.script_reader.specs.declared.fault.Fault.TheVariants.{Words, Read, Script}
+use Rattle.disk_model.specs.declared.name.Role.{Role}
+use Rattle.disk_model.specs.declared.name.Role.TheVariants as roles
+use Rattle.script_reader.specs.declared.fault.Fault.TheVariants.{Words, Read, Script, Device, Full as FullLog}
 use Rattle.script_reader.specs.Grammar.{spaced}
 
 -- the fields of a reply, which is a WELCOME, an ACK or a REFUSE; the payload byte of a REFUSE is its code
@@ -53,11 +55,19 @@ event_line event = line_with_end (event_fields event)
 abbrev pub text : List Event → List ℕ
 text events = flat_map event_line events
 
+-- which of a session's three disks
+abbrev pub role_field : Role → List ℕ
+role_field roles.Low = codes "low"
+role_field roles.High = codes "high"
+role_field roles.Recv = codes "recv"
+
 -- the fields of the last line of an output that stops
 abbrev pub fault_fields : Fault → List (List ℕ)
 fault_fields Words = codes "fault" ∷ codes "words" ∷ []
 fault_fields Read = codes "fault" ∷ codes "read" ∷ []
 fault_fields (Script line) = codes "fault" ∷ codes "script" ∷ decimal line ∷ []
+fault_fields (Device session role) = codes "fault" ∷ codes "device" ∷ decimal session ∷ role_field role ∷ []
+fault_fields (FullLog session end length size) = codes "fault" ∷ codes "full" ∷ decimal session ∷ decimal end ∷ decimal length ∷ decimal size ∷ []
 
 abbrev pub fault_line : Fault → List ℕ
 fault_line fault = line_with_end (fault_fields fault)

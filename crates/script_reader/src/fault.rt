@@ -1,3 +1,5 @@
+use disk_model::Role;
+
 /// Why a command stops, as its last line of output says; `docs/formats.md`, "Statuses and fault lines".
 #[derive(Clone, Copy, PartialEq, Eq, Debug)]
 pub enum Fault {
@@ -7,5 +9,20 @@ pub enum Fault {
     Read,
     /// The script's line with this number, counted from 1, is outside the grammar or can't be
     /// applied.
-    Script { line: u32 },
+    Script {
+        line: u32,
+    },
+    /// A device call of a disk of this session failed.
+    Device {
+        session: u32,
+        role: Role,
+    },
+    /// A message of `length` bytes does not fit behind `end` on the receiver's disk of this session,
+    /// which has `size` bytes.
+    Full {
+        session: u32,
+        end: u64,
+        length: u32,
+        size: u64,
+    },
 }

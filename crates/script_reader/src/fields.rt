@@ -2,9 +2,10 @@ ghost use Rattle.std.specs.Prelude.{◌≡◌, ℕ, ◌+◌, ◌^◌, ◌<◌, �
 ghost use Rattle.std.specs.Prelude.{position};
 ghost use Rattle.std.specs.Option.{option_copied};
 ghost use Rattle.script_reader.specs.Fields.{is_space};
-ghost use Rattle.script_reader.specs.Parsing.{Reads, field_at, IsPlain, number, word, name, hex, raw, held_from, bytes_from};
+ghost use Rattle.script_reader.specs.Parsing.{Reads, field_at, IsPlain, number, word, name, choice, is_slash, pair, feedback, hex, raw, held_from, bytes_from};
 ghost use Rattle.hex.specs.Hex.{decode_sized};
 
+use crate::line::ToldFeedback;
 use arrayvec::ArrayVec;
 use pump_frame::{Name, Payload};
 use std::marker::Model;
@@ -72,6 +73,13 @@ impl<'a> Fields<'a> {
         number_of(self.next()?, bound)
     }
 
+    /// A number without another bound than 2^64.
+    pub fn count(&mut self) -> Option<u64>
+        ensures { Reads result self.new (field_at (number (2 ^ 64)) self.old) }
+    {
+        any_number_of(self.next()?)
+    }
+
     /// A number below 2^32.
     pub fn small(&mut self) -> Option<u32>
         ensures { Reads result self.new (field_at (number (2 ^ 32)) self.old) }
@@ -91,6 +99,20 @@ impl<'a> Fields<'a> {
         ensures { Reads result self.new (field_at name self.old) }
     {
         name_of(self.next()?)
+    }
+
+    /// Which of two words it is; the second answers true.
+    pub fn choice(&mut self, off: &[u8], on: &[u8]) -> Option<bool>
+        ensures { Reads result self.new (field_at (choice off.now on.now) self.old) }
+    {
+        choice_of(self.next()?, off, on)
+    }
+
+    /// What the passage tells in a look.
+    pub fn feedback(&mut self) -> Option<ToldFeedback>
+        ensures { Reads result self.new (field_at feedback self.old) }
+    {
+        feedback_of(self.next()?)
     }
 
     /// Bytes for a reader of frames.
@@ -172,9 +194,9 @@ fn is_plain(field: &[u8]) -> bool
     }
 }
 
-fn number_of(field: &[u8], bound: u64) -> Option<u64>
-    ensures read { result ≡ number bound field.now }
-    ensures below { IfSome result (λ n. n < bound) }
+/// A number below 2^64.
+fn any_number_of(field: &[u8]) -> Option<u64>
+    ensures { result ≡ number (2 ^ 64) field.now }
 {
     if !is_plain(field) {
         return None;
@@ -185,7 +207,61 @@ fn number_of(field: &[u8], bound: u64) -> Option<u64>
     let Ok(n) = text.parse::<u64>() else {
         return None;
     };
+    Some(n)
+}
+
+fn number_of(field: &[u8], bound: u64) -> Option<u64>
+    ensures read { result ≡ number bound field.now }
+    ensures below { IfSome result (λ n. n < bound) }
+{
+    let n = any_number_of(field)?;
     if n < bound { Some(n) } else { None }
+}
+
+#[tactic(auto, unfolding(crate::specs::Parsing::choice))]
+fn choice_of(field: &[u8], off: &[u8], on: &[u8]) -> Option<bool>
+    ensures { result ≡ choice off.now on.now field.now }
+{
+    if field == off {
+        Some(false)
+    } else if field == on {
+        Some(true)
+    } else {
+        None
+    }
+}
+
+fn first_slash(bytes: &[u8]) -> Option<usize>
+    ensures { result ≡ position is_slash bytes.now }
+{
+    bytes.iter().position(|b| *b == b'/')
+}
+
+/// A count and an average with a slash between.
+#[tactic(auto, unfolding(crate::specs::Parsing::pair))]
+fn pair_of(field: &[u8]) -> Option<ToldFeedback>
+    ensures { result ≡ pair field.now }
+{
+    let at = first_slash(field)?;
+    let count = number_of(&field[..at], 1 << 32)?;
+    let average = number_of(&field[at + 1..], 1_000_000_001)?;
+    Some(ToldFeedback::Pair {
+        count: count as u32,
+        average: average as u32,
+    })
+}
+
+#[tactic(auto, unfolding(crate::specs::Parsing::feedback))]
+fn feedback_of(field: &[u8]) -> Option<ToldFeedback>
+    ensures { result ≡ feedback field.now }
+{
+    if field == b"-".as_slice() {
+        Some(ToldFeedback::Quiet)
+    } else if field == b"full".as_slice() {
+        Some(ToldFeedback::Full)
+    } else {
+        pair_of(field)
+    }
 }
 
 fn word_of(field: &[u8]) -> Option<u32>

@@ -14,10 +14,13 @@ mod reading;
 pub use event::Event;
 pub use fault::Fault;
 pub use laws::{
-    faulty_scripts_have_no_transcript, low_lines_are_replies, one_reading, transcripts_are_bounded,
-    transcripts_are_one,
+    faulty_scripts_have_no_transcript, low_lines_are_replies, one_reading, stopping_lines_are_one,
+    transcripts_are_bounded, transcripts_are_one,
 };
-pub use line::{Arriving, Line};
+pub use line::{Arriving, Line, ToldFeedback};
 pub use lines::{Lined, Lines};
 pub use printing::{print_event, print_fault};
 pub use reading::read_line;
+
+#[cfg(test)]
+mod tests;

@@ -13,6 +13,18 @@ pub enum Arriving {
     Raw(ArrayVec<u8, 1042>),
 }
 
+/// What the passage tells in a look of a low side alone.
+#[derive(Clone, Copy, PartialEq, Eq, Debug)]
+pub enum ToldFeedback {
+    /// Nothing: an offer finds the passage full, and a read finds that no time was published.
+    Quiet,
+    /// An offer finds the passage full.
+    Full,
+    /// An offer passes, and a read finds this many times and their average, at most 10^9
+    /// microseconds.
+    Pair { count: u32, average: u32 },
+}
+
 /// A line of a script; `docs/formats.md`, "Scripts", says what each does. Moments are in
 /// microseconds, at most 2^62.
 #[derive(Drop)]
@@ -21,6 +33,14 @@ pub enum Line {
     Skip,
     /// A session begins; the ports of its row are 0.
     Session(SessionRow),
+    /// A low side alone begins, whose feedback the script tells; the ports of its row are 0.
+    LowSession {
+        row: SessionRow,
+        /// How many messages are stored, at most 2^48.
+        next: u64,
+        /// The last one, without bytes, is in the low hand; then `next` is at least 1.
+        held: bool,
+    },
     /// What comes is added to what waits, then the low process looks once.
     Look {
         session: u32,
@@ -29,10 +49,37 @@ pub enum Line {
         word: u32,
         arrival: Arriving,
     },
+    /// As `Look`, of a low side alone.
+    Told {
+        session: u32,
+        moment: u64,
+        word: u32,
+        /// The next device call of the session's disk fails.
+        fault: bool,
+        feedback: ToldFeedback,
+        arrival: Arriving,
+    },
     /// The connection is lost, what waits with it, and the low process looks once.
     Gone {
         session: u32,
         moment: u64,
+    },
+    /// The high process looks, and nothing comes back to it.
+    High {
+        session: u32,
+        moment: u64,
+    },
+    /// The DATA that was sent `back` packets before the last one is carried to the receiver.
+    Carry {
+        session: u32,
+        back: u64,
+    },
+    /// The high process looks, and the TAKEN that was sent `back` packets before the last one comes
+    /// back to it.
+    Return {
+        session: u32,
+        moment: u64,
+        back: u64,
     },
     /// The high process looks; where it then holds a message, this is carried to the receiver,
     /// whose answer comes back after `time` microseconds, at most 10^9.

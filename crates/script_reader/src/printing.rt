@@ -1,10 +1,11 @@
 ghost use Rattle.std.specs.Prelude.{◌≡◌, ℕ, ◌+◌, ◌≤◌, List, [], ◌∷◌, ◌++◌, None, Some, length, codes, decimal, slice_index};
 ghost use Rattle.arrayvec.specs.ArrayVec.{array_vec_len};
-ghost use Rattle.script_reader.specs.Transcript.{reply_fields, high_fields, time_field, event_line, fault_line, line_with_end};
+ghost use Rattle.script_reader.specs.Transcript.{role_field, reply_fields, high_fields, time_field, event_line, fault_line, line_with_end};
 
 use crate::event::Event;
 use crate::fault::Fault;
 use arrayvec::ArrayVec;
+use disk_model::Role;
 use itoa::Buffer;
 use pump_core::Seen;
 use pump_frame::{Frame, Kind};
@@ -257,6 +258,30 @@ pub fn print_event(event: &Event, into: &mut ArrayVec<u8, 2400>)
     }
 }
 
+/// Which of a session's three disks.
+fn put_role(into: &mut Room, role: Role)
+    requires { array_vec_len into.old ≤ 2300 }
+    ensures items { into.new.items ≡ into.old.items ++ role_field role }
+    ensures len { array_vec_len into.new ≤ array_vec_len into.old + 40 }
+{
+    match role {
+        Role::Low => put(into, b"low"),
+        Role::High => put(into, b"high"),
+        Role::Recv => put(into, b"recv"),
+    }
+}
+
+fn put_device(into: &mut Room, session: u32, role: Role)
+    requires { into.old.items ≡ [] }
+    ensures { into.new.items ≡ line_with_end (codes "fault" ∷ codes "device" ∷ decimal session ∷ role_field role ∷ []) }
+{
+    put(into, b"fault device");
+    put_field(into, u64::from(session));
+    put(into, b" ");
+    put_role(into, role);
+    put(into, b"\n");
+}
+
 /// The room then holds the fault's line, with its line end.
 pub fn print_fault(fault: &Fault, into: &mut ArrayVec<u8, 2400>)
     ensures line { into.new.items ≡ fault_line fault.now }
@@ -266,5 +291,19 @@ pub fn print_fault(fault: &Fault, into: &mut ArrayVec<u8, 2400>)
         Fault::Words => put(into, b"fault words\n"),
         Fault::Read => put(into, b"fault read\n"),
         Fault::Script { line } => put_one(into, b"fault script", u64::from(*line)),
+        Fault::Device { session, role } => put_device(into, *session, *role),
+        Fault::Full {
+            session,
+            end,
+            length,
+            size,
+        } => put_four(
+            into,
+            b"fault full",
+            u64::from(*session),
+            *end,
+            u64::from(*length),
+            *size,
+        ),
     }
 }

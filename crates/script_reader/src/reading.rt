@@ -1,7 +1,7 @@
 ghost use Rattle.std.specs.Prelude.{◌≡◌, ◌+◌, ◌^◌, IfSome, Some};
 ghost use Rattle.script_reader.specs.Grammar.{IsLine};
 ghost use Rattle.script_reader.specs.Lawful.{IsLawfulLine};
-ghost use Rattle.script_reader.specs.Parsing.{Reads, field_at, number, session_of, hello_of, data_of, raw_of, arriving_of, look_of, gone_of, done_of, line_of, line_at};
+ghost use Rattle.script_reader.specs.Parsing.{Reads, field_at, number, row_at, session_of, low_session_of, hello_of, data_of, raw_of, arriving_of, look_of, told_of, gone_of, high_of, carry_of, return_of, done_of, line_of, line_at};
 
 use crate::fields::Fields;
 use crate::line::{Arriving, Line};
@@ -39,10 +39,20 @@ fn read_fields(fields: &mut Fields) -> Option<Line>
     let word = fields.next()?;
     if word == b"session".as_slice() {
         read_session(fields)
+    } else if word == b"low-session".as_slice() {
+        read_low_session(fields)
     } else if word == b"look".as_slice() {
         read_look(fields)
+    } else if word == b"told".as_slice() {
+        read_told(fields)
     } else if word == b"gone".as_slice() {
         read_gone(fields)
+    } else if word == b"high".as_slice() {
+        read_high(fields)
+    } else if word == b"carry".as_slice() {
+        read_carry(fields)
+    } else if word == b"return".as_slice() {
+        read_return(fields)
     } else if word == b"done".as_slice() {
         read_done(fields)
     } else {
@@ -50,9 +60,10 @@ fn read_fields(fields: &mut Fields) -> Option<Line>
     }
 }
 
-#[tactic(auto, unfolding(crate::specs::Parsing::session_of))]
-fn read_session(fields: &mut Fields) -> Option<Line>
-    ensures { result ≡ session_of fields.old }
+/// The nine fields of a row, whose ports are then 0.
+#[tactic(auto, unfolding(crate::specs::Parsing::row_at))]
+fn read_row(fields: &mut Fields) -> Option<SessionRow>
+    ensures { Reads result fields.new (row_at fields.old) }
 {
     let id = fields.small()?;
     let capacity = fields.small()?;
@@ -63,10 +74,7 @@ fn read_session(fields: &mut Fields) -> Option<Line>
     let resend = fields.small()?;
     let low = fields.name()?;
     let high = fields.name()?;
-    if !fields.is_done() {
-        return None;
-    }
-    Some(Line::Session(SessionRow {
+    Some(SessionRow {
         id,
         low,
         high,
@@ -78,7 +86,34 @@ fn read_session(fields: &mut Fields) -> Option<Line>
         resend,
         low_port: 0,
         high_port: 0,
-    }))
+    })
+}
+
+#[tactic(auto, unfolding(crate::specs::Parsing::session_of))]
+fn read_session(fields: &mut Fields) -> Option<Line>
+    ensures { result ≡ session_of fields.old }
+{
+    let row = read_row(fields)?;
+    if !fields.is_done() {
+        return None;
+    }
+    Some(Line::Session(row))
+}
+
+#[tactic(auto, unfolding(crate::specs::Parsing::low_session_of))]
+fn read_low_session(fields: &mut Fields) -> Option<Line>
+    ensures { result ≡ low_session_of fields.old }
+{
+    let row = read_row(fields)?;
+    let next = fields.number((1 << 48) + 1)?;
+    let held = fields.choice(b"0", b"1")?;
+    if held && next == 0 {
+        return None;
+    }
+    if !fields.is_done() {
+        return None;
+    }
+    Some(Line::LowSession { row, next, held })
 }
 
 #[tactic(auto, unfolding(crate::specs::Parsing::hello_of))]
@@ -150,6 +185,26 @@ fn read_look(fields: &mut Fields) -> Option<Line>
     })
 }
 
+#[tactic(auto, unfolding(crate::specs::Parsing::told_of))]
+fn read_told(fields: &mut Fields) -> Option<Line>
+    ensures { result ≡ told_of fields.old }
+{
+    let session = fields.small()?;
+    let moment = read_moment(fields)?;
+    let word = fields.word()?;
+    let fault = fields.choice(b"fine", b"fault")?;
+    let feedback = fields.feedback()?;
+    let arrival = read_arriving(fields)?;
+    Some(Line::Told {
+        session,
+        moment,
+        word,
+        fault,
+        feedback,
+        arrival,
+    })
+}
+
 /// A moment, at most 2^62 microseconds.
 fn read_moment(fields: &mut Fields) -> Option<u64>
     ensures { Reads result fields.new (field_at (number (2 ^ 62 + 1)) fields.old) }
@@ -167,6 +222,47 @@ fn read_gone(fields: &mut Fields) -> Option<Line>
         return None;
     }
     Some(Line::Gone { session, moment })
+}
+
+#[tactic(auto, unfolding(crate::specs::Parsing::high_of))]
+fn read_high(fields: &mut Fields) -> Option<Line>
+    ensures { result ≡ high_of fields.old }
+{
+    let session = fields.small()?;
+    let moment = read_moment(fields)?;
+    if !fields.is_done() {
+        return None;
+    }
+    Some(Line::High { session, moment })
+}
+
+#[tactic(auto, unfolding(crate::specs::Parsing::carry_of))]
+fn read_carry(fields: &mut Fields) -> Option<Line>
+    ensures { result ≡ carry_of fields.old }
+{
+    let session = fields.small()?;
+    let back = fields.count()?;
+    if !fields.is_done() {
+        return None;
+    }
+    Some(Line::Carry { session, back })
+}
+
+#[tactic(auto, unfolding(crate::specs::Parsing::return_of))]
+fn read_return(fields: &mut Fields) -> Option<Line>
+    ensures { result ≡ return_of fields.old }
+{
+    let session = fields.small()?;
+    let moment = read_moment(fields)?;
+    let back = fields.count()?;
+    if !fields.is_done() {
+        return None;
+    }
+    Some(Line::Return {
+        session,
+        moment,
+        back,
+    })
 }
 
 #[tactic(auto, unfolding(crate::specs::Parsing::done_of))]

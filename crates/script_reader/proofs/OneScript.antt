@@ -1,0 +1,74 @@
+-- A script has one transcript at most.
+use Rattle.std.proofs.Common.{◌≡◌, List, [], ◌∷◌, ◌++◌, false, Option, Some, None, sym, ap, ◌∙◌, subst}
+use Rattle.pump_core.specs.Exchanges.{Part, count_after}
+use Rattle.pump_core.proofs.Cuts.{one_cut}
+use Rattle.script_reader.specs.declared.line.Line.{Line}
+use Rattle.script_reader.specs.declared.line.Line.TheVariants as lines
+use Rattle.script_reader.specs.declared.event.Event.{Event}
+use Rattle.script_reader.specs.declared.event.Event.TheVariants.{End}
+use Rattle.script_reader.specs.Past.{Past}
+use Rattle.script_reader.specs.Tolds.{LowPast}
+use Rattle.script_reader.specs.Scripts.{Running, LowRunning, Begun, Whole, Alone, Goes, GoesLow, GoesOn, Leads, LeadTo, Ends, IsTranscript}
+use Rattle.script_reader.proofs.One.{step_one}
+use Rattle.script_reader.proofs.OneLow.{step_low_one}
+
+pub record Alike (a b : Option Begun) (xs ys : List Event) : Type 0 where
+  pub after : a ≡ b
+  pub printed : xs ≡ ys
+
+goes_one : (s : Running) (line : Line) (a b : Option Begun) (xs ys : List Event) → Goes s line a xs → Goes s line b ys → Alike a b xs ys
+goes_one s line a b xs ys (timely, (q, h, e)) (timely', (r, k, f)) =
+    let x = step_one s.row s.past line q r xs ys h k in
+    record { after = e ∙ ap (λ (t : Past). Some (Whole (record { row = s.row; past = t }))) x.past ∙ sym f; printed = x.printed }
+
+goes_low_one : (s : LowRunning) (line : Line) (a b : Option Begun) (xs ys : List Event) → GoesLow s line a xs → GoesLow s line b ys → Alike a b xs ys
+goes_low_one s line a b xs ys (timely, (q, h, e)) (timely', (r, k, f)) =
+    let x = step_low_one s.row s.past line false q r xs ys h k in
+    record { after = e ∙ ap (λ (t : LowPast). Some (Alone (record { row = s.row; past = t }))) x.past ∙ sym f; printed = x.printed }
+
+goes_on_one : (s : Begun) (line : Line) (a b : Option Begun) (xs ys : List Event) → GoesOn s line a xs → GoesOn s line b ys → Alike a b xs ys
+goes_on_one (Whole s) line a b xs ys h k = goes_one s line a b xs ys h k
+goes_on_one (Alone s) line a b xs ys h k = goes_low_one s line a b xs ys h k
+
+pub leads_one : (running : Option Begun) (line : Line) (a b : Option Begun) (xs ys : List Event) → Leads running line a xs → Leads running line b ys → Alike a b xs ys
+leads_one None lines.Skip a b xs ys h k = record { after = h.0 ∙ sym k.0; printed = h.1 ∙ sym k.1 }
+leads_one (Some s) lines.Skip a b xs ys h k = record { after = h.0 ∙ sym k.0; printed = h.1 ∙ sym k.1 }
+leads_one None (lines.Session row) a b xs ys h k = record { after = h.0.1 ∙ sym k.0.1; printed = h.1 ∙ sym k.1 }
+leads_one None (lines.LowSession row next held) a b xs ys h k = record { after = h.0.1 ∙ sym k.0.1; printed = h.1 ∙ sym k.1 }
+leads_one None (lines.Look session m w z) a b xs ys h k = absurd h
+leads_one None (lines.Told session m w fault told z) a b xs ys h k = absurd h
+leads_one None (lines.Gone session m) a b xs ys h k = absurd h
+leads_one None (lines.High session m) a b xs ys h k = absurd h
+leads_one None (lines.Carry session back) a b xs ys h k = absurd h
+leads_one None (lines.Return session m back) a b xs ys h k = absurd h
+leads_one None (lines.Done session m t) a b xs ys h k = absurd h
+leads_one (Some s) (lines.Session row) a b xs ys h k = goes_on_one s (lines.Session row) a b xs ys h k
+leads_one (Some s) (lines.LowSession row next held) a b xs ys h k = goes_on_one s (lines.LowSession row next held) a b xs ys h k
+leads_one (Some s) (lines.Look session m w z) a b xs ys h k = goes_on_one s (lines.Look session m w z) a b xs ys h k
+leads_one (Some s) (lines.Told session m w fault told z) a b xs ys h k = goes_on_one s (lines.Told session m w fault told z) a b xs ys h k
+leads_one (Some s) (lines.Gone session m) a b xs ys h k = goes_on_one s (lines.Gone session m) a b xs ys h k
+leads_one (Some s) (lines.High session m) a b xs ys h k = goes_on_one s (lines.High session m) a b xs ys h k
+leads_one (Some s) (lines.Carry session back) a b xs ys h k = goes_on_one s (lines.Carry session back) a b xs ys h k
+leads_one (Some s) (lines.Return session m back) a b xs ys h k = goes_on_one s (lines.Return session m back) a b xs ys h k
+leads_one (Some s) (lines.Done session m t) a b xs ys h k = goes_on_one s (lines.Done session m t) a b xs ys h k
+
+pub lead_one : (running : Option Begun) (script : List Line) (a b : Option Begun) (xs ys : List Event) → LeadTo running script a xs → LeadTo running script b ys → Alike a b xs ys
+lead_one running [] a b xs ys h k = record { after = h.0 ∙ sym k.0; printed = h.1 ∙ sym k.1 }
+lead_one running (line ∷ script) a b xs ys (mid, c, d, h, t, e) (mid', c', d', h', t', e') =
+    let x = leads_one running line mid mid' c c' h h' in
+    let y = lead_one mid script a b d d' t (subst (λ (u : Option Begun). LeadTo u script b d') (sym x.after) t') in
+    record { after = y.after; printed = e ∙ (λ i. x.printed i ++ y.printed i) ∙ sym e' }
+
+ends_one : (running : Option Begun) (xs ys : List Event) → Ends running xs → Ends running ys → xs ≡ ys
+ends_one None xs ys h k = h ∙ sym k
+ends_one (Some (Whole s)) xs ys h k = h ∙ sym k
+ends_one (Some (Alone s)) xs ys (x, (parts, cut, e), f) (y, (parts', cut', e'), f') =
+    let c = one_cut s.row s.past.history.life parts parts' cut cut' in
+    let same : x ≡ y = e ∙ ap (λ (u : List Part). End s.row.id (count_after s.past.history.life.opening u) None) c ∙ sym e' in
+    f ∙ ap (λ (u : Event). u ∷ []) same ∙ sym f'
+
+pub transcript_one : (script : List Line) (xs ys : List Event) → IsTranscript script xs → IsTranscript script ys → xs ≡ ys
+transcript_one script xs ys (a, c, l, h, end, e) (b, d, l', k, end', f) =
+    let x = lead_one None script a b c d h k in
+    let y = ends_one a l l' end (subst (λ (u : Option Begun). Ends u l') (sym x.after) end') in
+    e ∙ (λ i. x.printed i ++ y i) ∙ sym f

@@ -1,7 +1,6 @@
 -- What a script's session has been through is a timed run: line by line.
 use Rattle.std.proofs.Common.{◌≡◌, ℕ, ◌+◌, ◌≤◌, Bool, true, false, List, [], ◌∷◌, ◌++◌, map, Option, Some, None, refl, sym, ap, ◌∙◌, subst, arith}
 use Rattle.std.specs.Prelude.{◌==◌, ◌&&◌, ◌||◌, ◌^◌, nat_le, not, if◌then◌else◌, reverse}
-use Rattle.std.proofs.lemmas.Option.{same_Some}
 use Rattle.std.proofs.lemmas.Bool.{and_parts}
 use Rattle.std.proofs.lemmas.Bool.Decides.{nat_tests}
 use Rattle.pump_frame.specs.declared.frame.Frame.{Frame}
@@ -13,19 +12,20 @@ use Rattle.pump_core.specs.Comings.{Coming, Whole, Broken}
 use Rattle.pump_core.specs.World as worlds
 use Rattle.pump_core.specs.World.{live}
 use Rattle.pump_core.specs.Events.{Empty}
-use Rattle.pump_core.specs.Timed.{Step, Arrives, LowLook, HighLook, Point, opens}
+use Rattle.pump_core.specs.Timed.{Step, Arrives, LowLook, HighLook, Point, opens, high_looking}
 use Rattle.script_reader.specs.declared.line.Arriving.{Arriving}
 use Rattle.script_reader.specs.declared.line.Arriving.TheVariants as arriving
 use Rattle.script_reader.specs.declared.line.Line.{Line}
 use Rattle.script_reader.specs.declared.line.Line.TheVariants as lines
 use Rattle.script_reader.specs.declared.event.Event.{Event}
 use Rattle.script_reader.specs.Past.{Past, fresh}
-use Rattle.script_reader.specs.Highs.{IsHighLook, place}
+use Rattle.script_reader.specs.Highs.{IsHighLook, IsReturn, IsReturnBy, is_ahead, place}
 use Rattle.script_reader.specs.Steps as coming
 use Rattle.script_reader.specs.Steps.{bad_of, came, IsRead, Arrives as ArrivesWith, joined, goes_on, is_timely, GoesOn as CarriesOn, Step as LineStep}
-use Rattle.script_reader.specs.Scripts.{Running, Goes, Leads, LeadTo}
+use Rattle.script_reader.specs.Scripts.{Running, Begun, Whole as WholeSession, Alone, Goes, GoesOn as GoesOnBegun, Leads, LeadTo}
 use Rattle.script_reader.proofs.Fresh.{row_capacity}
-use Rattle.two_worlds.specs.Timelines.{arrived, IsTimeline, IsOutline, GoesOn}
+use Rattle.script_reader.proofs.Leading.{IsNew, led}
+use Rattle.two_worlds.specs.Timelines.{arrived, IsTimeline, IsOutline, RunGoesOn}
 use Rattle.two_worlds.proofs.TimelineLooks.{timeline, HasMore, both, all_come, offered_look, lost_look}
 use Rattle.two_worlds.proofs.TimelineHighs.{is_full, high_look, hand_after}
 use Rattle.two_worlds.proofs.TimelineRemovals.{different}
@@ -96,6 +96,37 @@ later session id p m e = let k = (and_parts (session == id) (nat_le p m) e).1 in
 high_moment : (row : SessionRow) (p : Past) (m : ℕ) (back : Option ℕ) (q : Past) (printed : List Event) → IsHighLook row p m back q printed → q.moment ≡ m
 high_moment row p m back q printed (mid, first, second, r, k, e) = ap (λ (x : Past). x.moment) k.rest
 
+-- a high look that refuses what comes back
+refused_look : (row : SessionRow) (p : Past) (steps : List Step) (t : Point) (m : ℕ) → IsTimeline row p steps t → p.moment ≤ m
+    → HasMore row (record p { moment = m }) steps (HighLook m ∷ [])
+refused_look row p steps t m i le =
+    let low = i.low_moment in
+    let high = i.high_moment in (
+      HighLook m ∷ [],
+      record t { high = high_looking t.high m },
+      record {
+        run = record { leads = (t, i.run.leads, (omega (arith, high, le), i.high.nothing_left, refl)); low = i.run.low; feedback = i.run.feedback; places = i.run.places };
+        world = i.world;
+        rest = i.rest;
+        high = record { published = i.high.published; nothing_left = i.high.nothing_left; first = i.high.first; no_later = i.high.no_later };
+        waits = i.waits;
+        low_moment = omega (arith, low, le);
+        high_moment = omega arith;
+      },
+      refl,
+    )
+
+return_by : (ahead : Bool) (row : SessionRow) (p : Past) (steps : List Step) (t : Point) (m k : ℕ) (q : Past) (printed : List Event)
+    → IsTimeline row p steps t → p.moment ≤ m → IsReturnBy ahead row p m k q printed → HasMore row q steps (HighLook m ∷ [])
+return_by true row p steps t m k q printed i le (e, none) =
+    subst (λ (x : Past). HasMore row x steps (HighLook m ∷ [])) (sym e) (refused_look row p steps t m i le)
+return_by false row p steps t m k q printed i le h = high_look row p steps t m i le (Some k) q printed h
+
+-- a TAKEN that comes back
+return_look : (row : SessionRow) (p : Past) (steps : List Step) (t : Point) (m k : ℕ) (q : Past) (printed : List Event)
+    → IsTimeline row p steps t → p.moment ≤ m → IsReturn row p m k q printed → HasMore row q steps (HighLook m ∷ [])
+return_look row p steps t m k q printed i le h = return_by (is_ahead p.world k) row p steps t m k q printed i le h
+
 -- the second high look of `done`
 abbrev second_look : Bool → ℕ → List Step
 second_look full m = if full then HighLook m ∷ [] else []
@@ -107,7 +138,7 @@ done_on row None p steps t m q printed i le (e, k) = ([], t, subst (λ (x : Past
 done_on row (Some n) p steps t m q printed i le (mid, first, second, c, h, e) =
     both row mid q steps [] (HighLook m ∷ []) (carry row p steps t 0 mid first i c)
     (λ past u k. let same : mid.moment ≡ p.moment = ap (λ (x : Past). x.moment) c.rest in
-    high_look row mid past u m k (omega (arith, le, same)) (Some (place mid.world.returned 0)) q second h)
+    return_look row mid past u m (place mid.world.returned 0) q second k (omega (arith, le, same)) h)
 
 -- both high looks of `done`
 two_looks : (full : Bool) (m n : ℕ) → second_look full n ++ HighLook m ∷ [] ≡ (if full then HighLook n ∷ HighLook m ∷ [] else HighLook m ∷ [])
@@ -115,15 +146,27 @@ two_looks true m n = refl
 two_looks false m n = refl
 
 -- a run with these arrivals and looks goes on by this line
-goes_by : (row : SessionRow) (p : Past) (line : Line) (steps : List Step) (q : Past) (out : List Step) → IsOutline row p line out → HasMore row q steps out
-    → GoesOn row p line steps q
-goes_by row p line steps q out is (more, t, i, e) = (more, t, i, subst (IsOutline row p line) (sym e) is)
+goes_by : (row : SessionRow) (p : Past) (line : Line) (steps : List Step) (q : Past) (out : List Step) → IsOutline p line out → HasMore row q steps out
+    → RunGoesOn row p line steps q
+goes_by row p line steps q out is (more, t, i, e) = (more, t, i, subst (IsOutline p line) (sym e) is)
 
 -- a line goes on with any timed run of its session
 pub line_goes : (row : SessionRow) (p : Past) (line : Line) (q : Past) (printed : List Event) (steps : List Step) (t : Point)
-    → is_timely row p line ≡ true → LineStep row p line q printed → IsTimeline row p steps t → GoesOn row p line steps q
+    → is_timely row p line ≡ true → LineStep row p line q printed → IsTimeline row p steps t → RunGoesOn row p line steps q
 line_goes row p lines.Skip q printed steps t timely h i = absurd h
 line_goes row p (lines.Session other) q printed steps t timely h i = absurd h
+line_goes row p (lines.LowSession other next held) q printed steps t timely h i = absurd h
+line_goes row p (lines.Told session m w fault told a) q printed steps t timely h i = absurd h
+line_goes row p (lines.High session m) q printed steps t timely h i =
+    goes_by row p (lines.High session m) steps q (HighLook m ∷ []) refl
+    (high_look row p steps t m i (later session row.id p.moment m timely) None q printed h)
+line_goes row p (lines.Carry session back) q printed steps t timely h i =
+    goes_by row p (lines.Carry session back) steps q [] refl (carry row p steps t back q printed i h)
+line_goes row p (lines.Return session m back) q printed steps t timely h i =
+    let k = (and_parts (session == row.id) _ timely).1 in
+    let l = (and_parts (nat_le p.moment m) _ k).0 in
+    goes_by row p (lines.Return session m back) steps q (HighLook m ∷ []) refl
+    (return_look row p steps t m (place p.world.returned back) q printed i (grind (arith, nat_tests)) h)
 line_goes row p (lines.Look session m w a) q printed steps t timely (c, comes, (few, (f, look))) i =
     let le = later session row.id p.moment m timely in
     let k = arrives_came session p.reading a c comes in
@@ -148,35 +191,50 @@ line_goes row p (lines.Done session m time) q printed steps t timely (mid, first
 
 -- ---- a script ----
 
--- the session that runs has a timed run
-abbrev pub HasRun : Option Running → Type 0
+-- the whole session that runs has a timed run
+abbrev pub HasRun : Option Begun → Type 0
 HasRun None = Unit {0}
-HasRun (Some s) = (steps : List Step) × (t : Point) × IsTimeline s.row s.past steps t
+HasRun (Some (WholeSession s)) = (steps : List Step) × (t : Point) × IsTimeline s.row s.past steps t
+HasRun (Some (Alone s)) = Unit {0}
 
-goes_run : (s : Running) (line : Line) (after : Option Running) (printed : List Event) → Goes s line after printed → HasRun (Some s) → HasRun after
+goes_run : (s : Running) (line : Line) (after : Option Begun) (printed : List Event) → Goes s line after printed → HasRun (Some (WholeSession s)) → HasRun after
 goes_run s line after printed (timely, (q, step, e)) (steps, t, i) =
     let (more, u, k, out) = line_goes s.row s.past line q printed steps t timely step i in
     subst HasRun (sym e) (more ++ steps, u, k)
 
-leads_run : (running : Option Running) (line : Line) (after : Option Running) (printed : List Event) → Leads running line after printed → HasRun running → HasRun after
-leads_run None lines.Skip after printed h k = subst HasRun (sym h.0) k
-leads_run (Some s) lines.Skip after printed h k = subst HasRun (sym h.0) k
-leads_run None (lines.Session row) after printed h k = subst HasRun (sym h.0.1) ([], opens (worlds.empty row.capacity), fresh_timeline row h.0.0)
-leads_run None (lines.Look session m w a) after printed h k = absurd h
-leads_run None (lines.Gone session m) after printed h k = absurd h
-leads_run None (lines.Done session m t) after printed h k = absurd h
-leads_run (Some s) (lines.Session row) after printed h k = goes_run s (lines.Session row) after printed h k
-leads_run (Some s) (lines.Look session m w a) after printed h k = goes_run s (lines.Look session m w a) after printed h k
-leads_run (Some s) (lines.Gone session m) after printed h k = goes_run s (lines.Gone session m) after printed h k
-leads_run (Some s) (lines.Done session m t) after printed h k = goes_run s (lines.Done session m t) after printed h k
+goes_on_run : (s : Begun) (line : Line) (after : Option Begun) (printed : List Event) → GoesOnBegun s line after printed → HasRun (Some s) → HasRun after
+goes_on_run (WholeSession s) line after printed h k = goes_run s line after printed h k
+goes_on_run (Alone s) line after printed (timely, (q, step, e)) k = subst HasRun (sym e) tt
 
-pub script_runs : (running : Option Running) (script : List Line) (after : Option Running) (printed : List Event) → LeadTo running script after printed → HasRun running → HasRun after
+new_run : (s : Begun) → IsNew s → HasRun (Some s)
+new_run (WholeSession s) (lawful, e) =
+    let begun : (steps : List Step) × (t : Point) × IsTimeline s.row (fresh s.row) steps t = ([], opens (worlds.empty s.row.capacity), fresh_timeline s.row lawful) in
+    subst (λ (p : Past). (steps : List Step) × (t : Point) × IsTimeline s.row p steps t) (sym e) begun
+new_run (Alone s) new = tt
+
+leads_run : (running after : Option Begun) (line : Line) (printed : List Event) → Leads running line after printed → HasRun running → HasRun after
+leads_run running after line printed h k =
+    led running line after printed h
+    (λ skip same none. subst HasRun (sym same) k)
+    (λ s none new e printed_none. subst HasRun (sym e) (new_run s new))
+    (λ s e goes. goes_on_run s line after printed goes (subst HasRun e k))
+
+pub script_runs : (running : Option Begun) (script : List Line) (after : Option Begun) (printed : List Event) → LeadTo running script after printed → HasRun running → HasRun after
 script_runs running [] after printed (e, f) k = subst HasRun (sym e) k
-script_runs running (line ∷ script) after printed (mid, first, second, h, rest, e) k = script_runs mid script after second rest (leads_run running line mid first h k)
+script_runs running (line ∷ script) after printed (mid, first, second, h, rest, e) k = script_runs mid script after second rest (leads_run running mid line first h k)
+
+-- the session, or else this one
+abbrev session_in : Running → Option Begun → Running
+session_in other None = other
+session_in other (Some (WholeSession s)) = s
+session_in other (Some (Alone s)) = other
+
+same_session : (s u : Running) → Some (WholeSession s) ≡ Some (WholeSession u) → s ≡ u
+same_session s u e = ap (λ o. session_in s o) e
 
 -- the same of a line that leads from a session that runs
 pub line_is_steps : (s : Running) (line : Line) (q : Past) (printed : List Event) (steps : List Step) (t : Point)
-    → Goes s line (Some (record { row = s.row; past = q })) printed → IsTimeline s.row s.past steps t → GoesOn s.row s.past line steps q
+    → Goes s line (Some (WholeSession (record { row = s.row; past = q }))) printed → IsTimeline s.row s.past steps t → RunGoesOn s.row s.past line steps q
 line_is_steps s line q printed steps t (timely, (q', step, e)) i =
-    let same : record { row = s.row; past = q } ≡ record { row = s.row; past = q' } = same_Some _ _ e in
-    subst (λ (x : Past). GoesOn s.row s.past line steps x) (sym (ap (λ (r : Running). r.past) same)) (line_goes s.row s.past line q' printed steps t timely step i)
+    let same : record { row = s.row; past = q } ≡ record { row = s.row; past = q' } = same_session _ _ e in
+    subst (λ (x : Past). RunGoesOn s.row s.past line steps x) (sym (ap (λ (r : Running). r.past) same)) (line_goes s.row s.past line q' printed steps t timely step i)

@@ -13,7 +13,7 @@ use Rattle.script_reader.specs.declared.line.Line.TheVariants as lines
 use Rattle.script_reader.specs.declared.event.Event.{Event}
 use Rattle.script_reader.specs.Past.{Past, Sending, first_sending}
 use Rattle.script_reader.specs.Steps as script
-use Rattle.script_reader.specs.Scripts.{Running, Goes, LeadTo}
+use Rattle.script_reader.specs.Scripts.{Running, Whole as WholeSession, Goes, LeadTo}
 
 -- ---- what waits ----
 
@@ -82,23 +82,29 @@ outline (Publish ∷ past) = outline past
 outline (Occurs e ∷ past) = outline past
 
 -- a `look` line is what comes with it and one low look, a `gone` line one low look with the news that
--- the connection is lost, and a `done` line one high look, and one more where a message was carried
-abbrev pub IsOutline : SessionRow → Past → Line → List Step → Type 0
-IsOutline row p lines.Skip out = ⊥
-IsOutline row p (lines.Session other) out = ⊥
-IsOutline row p (lines.Look session m w a) out =
+-- the connection is lost; a `high` and a `return` line are one high look, a `carry` line none, and a
+-- `done` line one, and one more where that leaves a message in the hand
+abbrev pub IsOutline : Past → Line → List Step → Type 0
+IsOutline p lines.Skip out = ⊥
+IsOutline p (lines.Session other) out = ⊥
+IsOutline p (lines.LowSession other next held) out = ⊥
+IsOutline p (lines.Told session m w fault told a) out = ⊥
+IsOutline p (lines.Look session m w a) out =
     (c : script.Coming) × script.Arrives session p.reading a c × (came : List Coming)
     × (c.added ≡ map arrived came)
     × (out ≡ LowLook m w false false ∷ reverse (map (λ k. Arrives k) came))
-IsOutline row p (lines.Gone session m) out = out ≡ LowLook m 0 true false ∷ []
-IsOutline row p (lines.Done session m time) out =
+IsOutline p (lines.Gone session m) out = out ≡ LowLook m 0 true false ∷ []
+IsOutline p (lines.High session m) out = out ≡ HighLook m ∷ []
+IsOutline p (lines.Carry session back) out = out ≡ []
+IsOutline p (lines.Return session m back) out = out ≡ HighLook m ∷ []
+IsOutline p (lines.Done session m time) out =
     out ≡ (if script.goes_on p.world then HighLook (m + time) ∷ HighLook m ∷ [] else HighLook m ∷ [])
 
 -- the session of the past p, which has this timed run, came to the past q by this line: the run goes on
 -- by more steps, whose arrivals and looks are the line's
-abbrev pub GoesOn : SessionRow → Past → Line → List Step → Past → Type 0
-GoesOn row p line steps q =
-    (more : List Step) × (t : Point) × IsTimeline row q (more ++ steps) t × IsOutline row p line (outline more)
+abbrev pub RunGoesOn : SessionRow → Past → Line → List Step → Past → Type 0
+RunGoesOn row p line steps q =
+    (more : List Step) × (t : Point) × IsTimeline row q (more ++ steps) t × IsOutline p line (outline more)
 
 -- ---- the laws ----
 
@@ -106,11 +112,11 @@ GoesOn row p line steps q =
 abbrev pub LinesAreSteps : Type 0
 LinesAreSteps = (s : Running) (line : Line) (q : Past) (printed : List Event) (steps : List Step)
     (t : Point)
-    → Goes s line (Some (record { row = s.row; past = q })) printed
-    → IsTimeline s.row s.past steps t → GoesOn s.row s.past line steps q
+    → Goes s line (Some (WholeSession (record { row = s.row; past = q }))) printed
+    → IsTimeline s.row s.past steps t → RunGoesOn s.row s.past line steps q
 
 -- what a script's session has been through is a timed run
 abbrev pub ScriptsAreTimedRuns : Type 0
 ScriptsAreTimedRuns = (script : List Line) (s : Running) (printed : List Event)
-    → LeadTo None script (Some s) printed
+    → LeadTo None script (Some (WholeSession s)) printed
     → (steps : List Step) × (t : Point) × IsTimeline s.row s.past steps t

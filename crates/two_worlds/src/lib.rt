@@ -1,5 +1,15 @@
 //! The whole relay on one thread, and the laws over all that may happen in it.
 #![tactic(auto)]
 
+mod applied;
 mod connection;
 pub mod laws;
+mod low_pump;
+mod not_open;
+mod printing;
+mod pump;
+
+pub use applied::{Applied, Stop};
+pub use low_pump::LowPump;
+pub use not_open::NotOpen;
+pub use pump::Pump;

@@ -1,0 +1,159 @@
+-- New parts stand for a session before its first line.
+use Rattle.std.proofs.Common.{◌≡◌, inl, ℕ, ◌≤◌, false, [], length, None, refl, sym, ap, ◌∙◌, subst, arith}
+use Rattle.std.proofs.lemmas.List.Elements.{All-nil}
+use Rattle.circular_buffer.specs.Buffer.{Buffer, buffer}
+use Rattle.disk_model.specs.Disk.{Meaning}
+use Rattle.disk_model.proofs.Run.{each_settled}
+use Rattle.pump_frame.specs.Rows.{IsLawfulRow}
+use Rattle.pump_frame.specs.declared.payload.Payload.{Payload}
+use Rattle.pump_frame.specs.declared.frame.Item.{Item}
+use Rattle.stable_buffer.specs.Low.{IsLowReady, low_disk, low_count, low_row}
+use Rattle.stable_buffer.specs.High.{IsHighReady, high_disk, high_count}
+use Rattle.stable_buffer.specs.Stands.{LowStands, HighStands}
+use Rattle.stable_buffer.specs.Log.{RecvStands}
+use Rattle.high_receiver.specs.Receiving.{IsRecvReady, recv_disk, recv_count, recv_end, recv_row, recv_size}
+use Rattle.pump_core.specs.History.{first_life}
+use Rattle.pump_core.specs.Passage.{new_low, new_high, shape_of_row}
+use Rattle.pump_core.specs.World as worlds
+use Rattle.pump_core.specs.World.{World}
+use Rattle.passage.specs.Plain.{shape_of, StandsFor as EndsStand}
+use Rattle.low_process.specs.Looks as low
+use Rattle.high_process.specs.States as high
+use Rattle.high_process.specs.Past as high_past
+use Rattle.high_process.specs.Looks.{Stands as HighStandsFor}
+use Rattle.script_reader.specs.Past.{fresh}
+use Rattle.script_reader.specs.Highs.{receiver_size}
+use Rattle.two_worlds.specs.declared.pump.parts.Parts.{Parts}
+use Rattle.two_worlds.specs.Connections.{Connected, unused, waits_of, is_broken_of, reading_of}
+use Rattle.two_worlds.specs.Disks.{LowFits, HighFits, RecvFits}
+use Rattle.two_worlds.specs.Standing.{Stands, HoldsWorld, Kept, kept_of}
+use Rattle.script_reader.proofs.Fresh.{fresh_lawful}
+
+-- the parts have just been made
+pub record IsNew {D : Type 0} (m : Meaning D) (c : Parts D) : Type 0 where
+  pub row : IsLawfulRow c.row
+  pub connection : c.connection ≡ unused
+  -- the processes have just been opened
+  pub history : low.StandsFor c.low (first_life (record { count = 0; is_held = false }))
+  pub low_between : low.IsBetweenLooks c.low
+  pub low_row_is : low.row_of c.low ≡ c.row
+  pub next : low.next_of c.low ≡ 0
+  pub low_last : low.last_of c.low ≡ 0
+  pub low_hand : low.hand_of c.low ≡ None
+  pub low_up : low.is_down c.low ≡ false
+  pub past : HighStandsFor c.high (high_past.fresh 0 None)
+  pub high_between : high.IsBetweenLooks c.high
+  pub high_row : high.row_of c.high ≡ c.row
+  pub removed : high.removed_of c.high ≡ 0
+  pub high_hand : high.hand_of c.high ≡ None
+  pub published : high.published_of c.high ≡ 0
+  pub high_last : high.last_of c.high ≡ 0
+  pub high_up : high.is_down c.high ≡ false
+  -- the stores and the receiver are over new disks
+  pub low_ready : IsLowReady m c.low_store
+  pub low_count_is : low_count c.low_store ≡ 0
+  pub store_row : low_row c.low_store ≡ c.row
+  pub low_is : LowStands c.row 0 0 [] (m.reading (low_disk c.low_store))
+  pub high_ready : IsHighReady m c.high_store
+  pub high_count_is : high_count c.high_store ≡ 0
+  pub high_is : HighStands c.row 0 (m.reading (high_disk c.high_store))
+  pub recv_ready : IsRecvReady m c.receiver
+  pub recv_count_is : recv_count c.receiver ≡ 0
+  pub recv_end_is : recv_end c.receiver ≡ 80
+  pub recv_row_is : recv_row c.receiver ≡ c.row
+  pub recv_size_is : recv_size c.receiver ≡ receiver_size
+  pub recv_is : RecvStands c.row [] (m.reading (recv_disk c.receiver))
+  -- nothing went through the passage
+  pub ends : EndsStand c.ends new_low new_high
+  pub shape : shape_of c.ends ≡ shape_of_row c.row
+  pub sent : c.sent ≡ buffer [] 64
+  pub returned : c.returned ≡ buffer [] 64
+  pub moment : c.moment ≡ 0
+
+module _ {D : Type 0} (m : Meaning D) (c : Parts D) (n : IsNew m c) where
+  abbrev empty : World
+  empty = worlds.empty c.row.capacity
+
+  -- this is kept of an empty world
+  abbrev nothing : Kept
+  nothing = record { capacity = c.row.capacity; low_hand = None; held = []; high_hand = None; removed = 0; accepted = 0; received = 0; end = 80; sent = []; returned = [] }
+
+  keeps_nothing : kept_of c ≡ nothing
+  keeps_nothing i = record {
+    capacity = c.row.capacity;
+    low_hand = n.low_hand i;
+    held = sym n.ends.between i;
+    high_hand = n.high_hand i;
+    removed = n.removed i;
+    accepted = n.next i;
+    received = n.recv_count_is i;
+    end = n.recv_end_is i;
+    sent = (n.sent i).items;
+    returned = (n.returned i).items;
+  }
+
+  holds : HoldsWorld (kept_of c) empty
+  holds = subst (λ (k : Kept). HoldsWorld k empty) (sym keeps_nothing) (record {
+    capacity = refl;
+    low_hand = refl;
+    low_payload = tt;
+    held = refl;
+    held_payloads = tt;
+    high_hand = refl;
+    high_payload = tt;
+    removed = refl;
+    accepted = refl;
+    received = refl;
+    end = refl;
+    sent = refl;
+    returned = refl;
+  })
+
+  pub starts : Stands m c (fresh c.row)
+  starts = record {
+    row = n.row;
+    history = n.history;
+    waits = ap (λ (t : Connected). waits_of t) n.connection;
+    broken = ap (λ (t : Connected). is_broken_of t) n.connection;
+    reading = ap (λ (t : Connected). reading_of t) n.connection;
+    few = omega arith;
+    world = holds;
+    rest = record { storing = refl; due = refl; removing = refl; packet = refl; taking = refl };
+    lawful = fresh_lawful c.row n.row;
+    fits = All-nil (λ (x : Payload). length x ≤ c.row.message);
+    sends = omega arith;
+    moment = n.moment;
+    low_ready = record {
+      store = record { ready = n.low_ready; count = n.low_count_is ∙ sym n.next; row = n.store_row ∙ sym n.low_row_is };
+      up = n.low_up;
+      between = n.low_between;
+      row = n.low_row_is;
+      last = omega (arith, n.low_last);
+    };
+    high_ready = record {
+      past = subst (λ (t : high_past.Past). HighStandsFor c.high t)
+          (λ i. record { removed = sym n.removed i; hand = sym n.high_hand i; sends = []; times = []; moment = sym n.high_last i }) n.past;
+      store = n.high_ready;
+      count = n.high_count_is ∙ sym n.removed;
+      up = n.high_up;
+      between = n.high_between;
+      row = n.high_row;
+      last = omega (arith, n.high_last);
+    };
+    recv_ready = record { ready = n.recv_ready; row = n.recv_row_is; size = n.recv_size_is };
+    ends = record {
+      low = new_low;
+      high = new_high;
+      stand = n.ends;
+      shape = n.shape;
+      times = refl;
+      low_fits = λ up. tt;
+      high_fits = record { count = sym n.published; floor = omega arith };
+    };
+    packets = record { sent = ap (λ (b : Buffer Item). b.capacity) n.sent; returned = ap (λ (b : Buffer ℕ). b.capacity) n.returned };
+    disks = record {
+      low_disk = each_settled m (LowFits c.row empty) (low_disk c.low_store) n.low_ready.settled (λ told. inl n.low_is);
+      high_disk = each_settled m (HighFits c.row empty) (high_disk c.high_store) n.high_ready.settled (λ told. inl n.high_is);
+      recv_disk = each_settled m (RecvFits c.row empty) (recv_disk c.receiver) n.recv_ready.settled (λ told. inl n.recv_is);
+    };
+  }

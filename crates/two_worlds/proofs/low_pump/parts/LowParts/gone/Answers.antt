@@ -1,0 +1,10 @@
+use Rattle.two_worlds.proofs.ToldLines.{gone_stands, gone_ends}
+use Rattle.two_worlds.proofs.low_pump.parts.LowParts.gone.Goals as goal
+
+pub look_gone-requires-clause-stands : goal.look_gone-requires-clause-stands
+look_gone-requires-clause-stands c = gone_stands c.args.self.now c.lose.new.self c.lose.ensures c.requires.stands
+
+pub returns-clause-ends : goal.returns-clause-ends
+returns-clause-ends c =
+    gone_ends c.args.self.now c.lose.new.self c.lose.ensures
+    c.look_gone.new.self c.args.moment c.look_gone.result.events.items c.look_gone.result.stop c.look_gone.ensures.ends

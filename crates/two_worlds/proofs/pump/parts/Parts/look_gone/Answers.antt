@@ -1,0 +1,57 @@
+use Rattle.std.proofs.Common.{refl}
+use Rattle.pump_core.specs.History.{Gone}
+use Rattle.two_worlds.specs.declared.pump.parts.Parts.{Parts}
+use Rattle.two_worlds.proofs.PartsReady.{low_has_store}
+use Rattle.two_worlds.proofs.PartsEnds.{low_between, low_order, low_seen, high_seen, ends_seen, low_fits_seen}
+use Rattle.two_worlds.proofs.LowLooked.{Looked, looked_as, stops_as, row_as, no_waits, no_bad}
+use Rattle.two_worlds.proofs.LowServes.{low_serves}
+use Rattle.two_worlds.proofs.LowDoes.{gone_does}
+use Rattle.two_worlds.proofs.pump.parts.Parts.look_gone.Goals as goal
+
+pub look-look-requires-clause-between : goal.look-look-requires-clause-between
+look-look-requires-clause-between g c = low_between g.D.Disk.told c.args.self.now c.requires.stands
+
+pub look-look-requires-clause-order : goal.look-look-requires-clause-order
+look-look-requires-clause-order g c = low_order g.D.Disk.told c.args.self.now c.requires.stands c.args.moment c.requires.order
+
+pub look-look-requires-clause-store : goal.look-look-requires-clause-store
+look-look-requires-clause-store g c = λ up. low_has_store g.D.Disk.told c.args.self.now c.requires.stands
+
+pub look-look-requires-clause-ends : goal.look-look-requires-clause-ends
+look-look-requires-clause-ends g c =
+    let m = g.D.Disk.told in
+    let s = c.args.self.now in
+    let some = c.requires.stands in
+    (low_seen m s some, high_seen m s some, (ends_seen m s some, low_fits_seen m s some))
+
+pub returns : goal.returns
+returns g c =
+    let m = g.D.Disk.told in
+    let s = c.args.self.now in
+    let n = c.look-look.new in
+    let l = c.look-look.result in
+    let e = c.look-look.ensures in
+    let end = c.end_look.ensures.ends in
+    let now = c.end_look.new in
+    let d : Parts _ = record s { low = n.self; low_store = n.store; ends = n.ends; moment = c.args.moment } in
+    let did : Looked m s d c.args.moment 0 Gone e.looks.0 l = record {
+      step = e.looks.1;
+      store = e.store;
+      hand = e.hand;
+      row = e.row;
+      last = e.last;
+      shape = e.shape;
+      ends = e.ends;
+      waits = no_waits l.taken s.connection c.requires.unused;
+      broken = no_bad l.taken s.connection;
+      reading = refl;
+      rest = refl;
+    } in
+    let so = looked_as m s d now.self c.args.moment 0 Gone e.looks.0 l end.rest did in
+    let stop = stops_as m d now.self c.end_look.result end.rest end.stop in
+    record {
+      does = λ p stands. gone_does m s now.self c.args.moment 0 Gone l c.requires.order c.args.out.now.items now.out.items end.prints p stands e.looks.0 c.end_look.result
+          refl so stop;
+      serve = low_serves m s now.self c.args.moment 0 Gone e.looks.0 l so c.requires.stands c.end_look.result stop;
+      row = row_as s d now.self end.rest refl;
+    }

@@ -1,0 +1,65 @@
+-- What the three disks of a session stand for, by its world.
+use Rattle.std.specs.Prelude.{◌≡◌, ◌⊎◌, ℕ, ◌+◌, ◌≤◌, true, List, [], ◌∷◌, ◌++◌, length, drop, Some}
+use Rattle.disk_model.specs.Disk.{Meaning, Each, Leaves}
+use Rattle.pump_frame.specs.declared.payload.Payload.{Payload}
+use Rattle.pump_frame.specs.declared.row.SessionRow.{SessionRow}
+use Rattle.stable_buffer.specs.Register.{value_of}
+use Rattle.stable_buffer.specs.Stands.{LowStands, HighStands}
+use Rattle.stable_buffer.specs.Log.{RecvStands}
+use Rattle.pump_core.specs.World.{World}
+use Rattle.pump_core.specs.Lawful.{IsLawful}
+
+-- the accepted messages that are not removed
+abbrev pub live_messages : World → List Payload
+live_messages w = drop w.removed w.accepted
+
+-- a low disk stands for the live messages, or where a store is unfinished for that one too
+abbrev pub LowFits : SessionRow → World → List ℕ → Type 0
+LowFits row w disk =
+    LowStands row (length w.accepted) w.removed (live_messages w) disk
+    ⊎ ((p : Payload) × (w.storing ≡ Some p)
+    × LowStands row (length w.accepted + 1) w.removed (live_messages w ++ p ∷ []) disk)
+
+-- a high disk stands for the number removed, or where a removal is unfinished for one more
+abbrev pub HighFits : SessionRow → World → List ℕ → Type 0
+HighFits row w disk =
+    HighStands row w.removed disk ⊎ ((w.removing ≡ true) × HighStands row (w.removed + 1) disk)
+
+-- a receiver's disk stands for its list, or where a taking is unfinished for that message too
+abbrev pub RecvFits : SessionRow → World → List ℕ → Type 0
+RecvFits row w disk =
+    RecvStands row w.received disk
+    ⊎ ((p : Payload) × (w.packet ≡ Some p) × (w.taking ≡ true)
+    × RecvStands row (w.received ++ p ∷ []) disk)
+
+-- what is read of each disk, and what a crash may leave of it, stand for what the world has: a call
+-- that is unfinished was kept or not
+pub record DisksFit {D : Type 0} (m : Meaning D) (row : SessionRow) (low high recv : D) (w : World) : Type 0 where
+  pub low_disk : Each m (LowFits row w) low
+  pub high_disk : Each m (HighFits row w) high
+  pub recv_disk : Each m (RecvFits row w) recv
+
+-- the disks hold some lawful world, in which a call may be unfinished
+pub record Hold {D : Type 0} (m : Meaning D) (row : SessionRow) (low high recv : D) : Type 0 where
+  pub world : World
+  pub lawful : IsLawful world
+  pub disks : DisksFit m row low high recv world
+
+-- three readings that stand for one lawful world in which nothing is unfinished: no message that was
+-- accepted is lost, and the receiver has a front of them
+pub record Opens (row : SessionRow) (low high recv : List ℕ) : Type 0 where
+  pub world : World
+  pub lawful : IsLawful world
+  pub low_is : LowStands row (length world.accepted) world.removed (live_messages world) low
+  pub high_is : HighStands row world.removed high
+  pub recv_is : RecvStands row world.received recv
+
+-- whatever crashes leave of the three disks opens
+abbrev pub CrashesOpen : {D : Type 0} → Meaning D → SessionRow → D → D → D → Type 0
+CrashesOpen m row low high recv = m.tells_images → (a b c : List ℕ)
+    → m.images low a → m.images high b → m.images recv c → Opens row a b c
+
+-- no crash since the high disk was `old` leaves more removed than any crash leaves taken
+abbrev pub RemovesBehind : {D : Type 0} → Meaning D → D → D → D → Type 0
+RemovesBehind m old new recv = Leaves m old new (λ b. (c : List ℕ) → m.images recv c
+    → (value_of b).0 ≤ (value_of c).0)

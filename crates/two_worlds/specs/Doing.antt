@@ -1,0 +1,82 @@
+-- What a part of a line does to the parts of a pump, by what it answers.
+use Rattle.std.specs.Prelude.{◌≡◌, ◌⊎◌, ℕ, ◌≤◌, Bool, true, false, List, ◌++◌, Result, Ok, Err}
+use Rattle.disk_model.specs.Disk.{Meaning, Answers}
+use Rattle.disk_model.specs.declared.name.Role.{Role}
+use Rattle.disk_model.specs.declared.name.Role.TheVariants as roles
+use Rattle.stable_buffer.specs.Stands.{low_size}
+use Rattle.low_process.specs.Storing.{outcome}
+use Rattle.pump_core.specs.Lawful.{IsLawful}
+use Rattle.script_reader.specs.declared.event.Event.{Event}
+use Rattle.script_reader.specs.Past.{Past}
+use Rattle.script_reader.specs.Highs.{receiver_size}
+use Rattle.two_worlds.specs.declared.applied.Stop.{Stop}
+use Rattle.two_worlds.specs.declared.applied.Stop.TheVariants.{Line, Device, Full}
+use Rattle.two_worlds.specs.declared.pump.parts.Parts.{Parts}
+use Rattle.two_worlds.specs.Disks.{DisksFit, RemovesBehind}
+use Rattle.two_worlds.specs.Standing.{Stands, is_down, disk_at}
+
+-- the disk of this role failed: the parts are down, and the disks fit the world, in which the call is
+-- unfinished
+pub record Fails {D : Type 0} (m : Meaning D) (d : Parts D) (q : Past) (role : Role) (faults : ℕ) : Type 0 where
+  pub down : is_down d ≡ true
+  pub counted : faults ≡ m.count (disk_at role d)
+  pub lawful : IsLawful q.world
+  pub disks : DisksFit m d.row (disk_at roles.Low d) (disk_at roles.High d) (disk_at roles.Recv d) q.world
+
+-- Whatever it stood for before, after an Ok it stands for what `Leads` leads to; where a disk failed, for
+-- what `Breaks` breaks off at; where a message did not fit, for what `Overfills` leads to. What each
+-- prints was added to what was printed.
+module _ (Leads : Past → Past → List Event → Type 0) (Breaks : Role → Past → Past → List Event → Type 0)
+    (Overfills : Past → Past → List Event → ℕ → ℕ → ℕ → Type 0) where
+  abbrev pub DoesFrom : {D : Type 0} → Meaning D → Parts D → List Event → List Event → Past → Result (Unit {0}) Stop → Type 0
+  DoesFrom m d out now p (Ok done) =
+      (q : Past) × (printed : List Event) × Leads p q printed × (now ≡ out ++ printed) × Stands m d q
+  DoesFrom m d out now p (Err Line) = ⊥
+  DoesFrom m d out now p (Err (Device role faults)) =
+      (q : Past) × (printed : List Event) × Breaks role p q printed × (now ≡ out ++ printed) × Fails m d q role faults
+  DoesFrom m d out now p (Err (Full end size_of_message size)) =
+      (q : Past) × (printed : List Event) × Overfills p q printed end size_of_message size × (now ≡ out ++ printed) × Stands m d q
+
+  abbrev pub Does : {D : Type 0} → Meaning D → Parts D → Parts D → List Event → List Event → Result (Unit {0}) Stop → Type 0
+  Does m c d out now result = (p : Past) → Stands m c p → DoesFrom m d out now p result
+
+-- no disk fails in it, and each message fits
+abbrev pub NeverBreaks : Role → Past → Past → List Event → Type 0
+NeverBreaks role p q printed = ⊥
+
+abbrev pub NeverOverfills : Past → Past → List Event → ℕ → ℕ → ℕ → Type 0
+NeverOverfills p q printed end size_of_message size = ⊥
+
+-- ---- the disks' calls ----
+
+abbrev pub is_role : Role → Role → Bool
+is_role roles.Low roles.Low = true
+is_role roles.High roles.High = true
+is_role roles.Recv roles.Recv = true
+is_role _ _ = false
+
+-- the disk of this role failed
+abbrev pub fails_at : Role → Result (Unit {0}) Stop → Bool
+fails_at role (Ok done) = false
+fails_at role (Err (Device other faults)) = is_role role other
+fails_at role (Err Line) = false
+fails_at role (Err (Full end size_of_message size)) = false
+
+-- no call of the disk was made; or calls were made of which one failed or none, and they fit where its
+-- room is not smaller than this
+abbrev pub Serves : {D : Type 0} → Meaning D → ℕ → D → D → Bool → Type 0
+Serves m least old new is_fault =
+    ((new ≡ old) × (is_fault ≡ false)) ⊎ Answers m (least ≤ m.room old) old new (outcome is_fault)
+
+-- so each of the three disks, with room for all that its format needs; and no crash leaves more removed
+-- than taken
+pub record DisksServe {D : Type 0} (m : Meaning D) (c d : Parts D) (result : Result (Unit {0}) Stop) : Type 0 where
+  pub low : Serves m (low_size c.row) (disk_at roles.Low c) (disk_at roles.Low d) (fails_at roles.Low result)
+  pub high : Serves m 80 (disk_at roles.High c) (disk_at roles.High d) (fails_at roles.High result)
+  pub recv : Serves m receiver_size (disk_at roles.Recv c) (disk_at roles.Recv d) (fails_at roles.Recv result)
+  pub behind : RemovesBehind m (disk_at roles.High c) (disk_at roles.High d) (disk_at roles.Recv d)
+
+-- the high disk is as it was. With this from each part of a line before its last one, `DisksServe` holds
+-- of the parts together
+abbrev pub LeavesHigh : {D : Type 0} → Parts D → Parts D → Type 0
+LeavesHigh c d = disk_at roles.High d ≡ disk_at roles.High c

@@ -1,0 +1,61 @@
+-- A high look of a pump, with the TAKEN that comes back or without one.
+use Rattle.std.specs.Prelude.{◌≡◌, ℕ, List, [], ◌∷◌, ◌++◌, slice_get, Option, Some, None}
+use Rattle.circular_buffer.specs.Buffer.{Buffer, buffer, keep_last}
+use Rattle.disk_model.specs.declared.name.Role.{Role}
+use Rattle.disk_model.specs.declared.name.Role.TheVariants as roles
+use Rattle.pump_frame.specs.declared.frame.Frame.{Frame}
+use Rattle.pump_frame.specs.declared.frame.Item.{Item}
+use Rattle.pump_frame.specs.declared.frame.Kind.TheVariants.{Taken}
+use Rattle.pump_frame.specs.declared.row.SessionRow.{SessionRow}
+use Rattle.pump_core.specs.World.{World}
+use Rattle.high_process.specs.declared.values.HighLook.{HighLook}
+use Rattle.script_reader.specs.declared.event.Event.{Event}
+use Rattle.script_reader.specs.declared.event.Event.TheVariants.{Removed, Sent}
+use Rattle.script_reader.specs.Past.{Past}
+use Rattle.script_reader.specs.Highs.{IsHighLook, IsReturn}
+use Rattle.script_reader.specs.Breaks.{IsUnremoved}
+
+-- the frame is the session's TAKEN at this place of those ever sent, or there is none
+abbrev pub ComesBack : ℕ → World → Option Frame → Option ℕ → Type 0
+ComesBack session w None None = Unit {0}
+ComesBack session w (Some f) (Some k) =
+    (f.kind ≡ Taken) × (f.session ≡ session) × (slice_get w.returned k ≡ Some f.number)
+ComesBack session w None (Some k) = ⊥
+ComesBack session w (Some f) None = ⊥
+
+-- a high look at m leads from p to q, or the TAKEN is refused
+abbrev pub LeadsWith : SessionRow → ℕ → Option ℕ → Past → Past → List Event → Type 0
+LeadsWith row m None p q printed = IsHighLook row p m None q printed
+LeadsWith row m (Some k) p q printed = IsReturn row p m k q printed
+
+-- the high disk fails in the removal that a TAKEN brings
+abbrev pub BreaksWith : ℕ → Option ℕ → Role → Past → Past → List Event → Type 0
+BreaksWith m None role p q printed = ⊥
+BreaksWith m (Some k) role p q printed =
+    (role ≡ roles.High) × IsUnremoved p m (Some k) q × (printed ≡ [])
+
+-- ---- the steps of the code ----
+
+-- so many lines are printed at most
+abbrev pub most_lines : Option Frame → ℕ
+most_lines None = 1
+most_lines (Some f) = 2
+
+-- the line of a removal, and the line of a sending
+abbrev pub removed_line : ℕ → ℕ → Option ℕ → Option ℕ → List Event
+removed_line session m None time = []
+removed_line session m (Some n) time = Removed session m n time ∷ []
+
+abbrev pub sent_line : ℕ → ℕ → Option ℕ → List Event
+sent_line session m None = []
+sent_line session m (Some n) = Sent session m n ∷ []
+
+abbrev pub printed_look : ℕ → ℕ → HighLook → List Event
+printed_look session m look = removed_line session m look.removed look.published ++ sent_line session m look.sent
+
+-- the packets after a look that sent this number, with this in the hand
+abbrev pub packets_after : Option ℕ → Option Item → Buffer Item → Buffer Item
+packets_after None hand packets = packets
+packets_after (Some n) None packets = packets
+packets_after (Some n) (Some item) packets =
+    buffer (keep_last packets.capacity (packets.items ++ item ∷ [])) packets.capacity

@@ -1,0 +1,15 @@
+-- What a pump always keeps.
+use Rattle.std.specs.Prelude.{◌≡◌, false}
+use Rattle.disk_model.specs.Disk.{Meaning}
+use Rattle.disk_model.specs.declared.name.Role.TheVariants as roles
+use Rattle.pump_frame.specs.Rows.{IsLawfulRow}
+use Rattle.two_worlds.specs.declared.pump.parts.Parts.{Parts}
+use Rattle.two_worlds.specs.Disks.{Hold}
+use Rattle.two_worlds.specs.Standing.{StandsForSome, is_down, disk_at}
+
+-- the row is lawful, the disks hold a lawful world, and until one has failed the parts stand for what a
+-- session has been through
+pub record Keeps {D : Type 0} (m : Meaning D) (c : Parts D) : Type 0 where
+  pub row : IsLawfulRow c.row
+  pub hold : Hold m c.row (disk_at roles.Low c) (disk_at roles.High c) (disk_at roles.Recv c)
+  pub stands : is_down c ≡ false → StandsForSome m c

@@ -1,0 +1,52 @@
+-- A low side alone on a disk in memory: the words of its contracts.
+use Rattle.std.specs.Prelude.{◌≡◌, ℕ, Bool, true, false, List, [], Option, Some, None}
+use Rattle.disk_model.specs.declared.name.Role.TheVariants as roles
+use Rattle.pump_frame.specs.declared.row.SessionRow.{SessionRow}
+use Rattle.low_process.specs.Looks.{is_down}
+use Rattle.script_reader.specs.declared.event.Event.{Event}
+use Rattle.script_reader.specs.declared.line.Line.{Line}
+use Rattle.script_reader.specs.Tolds.{LowPast, is_timely_low, StepLow, IsBarredLow}
+use Rattle.two_worlds.specs.LowParts.{PartsStand, disk_of}
+use Rattle.two_worlds.specs.declared.applied.Stop.{Stop}
+use Rattle.two_worlds.specs.declared.applied.Stop.TheVariants as stops
+use Rattle.two_worlds.specs.declared.low_pump.LowPump.{LowPump}
+
+-- the row that the pump was made for
+abbrev pub low_row_of : LowPump → SessionRow
+low_row_of pump = pump.parts.row
+
+-- the pump stands for this past
+abbrev pub LowStandsFor : LowPump → LowPast → Type 0
+LowStandsFor pump p = PartsStand pump.parts p
+
+-- a call of the pump's disk failed
+abbrev pub low_is_down : LowPump → Bool
+low_is_down pump = is_down pump.parts.process
+
+-- how often a call of the pump's disk failed
+abbrev pub low_faults_of : LowPump → ℕ
+low_faults_of pump = (disk_of pump.parts).faults
+
+-- A line was given to `old`, which stood for p, and left it as `new`: the line can be applied, and leads
+-- to what `new` stands for and prints this; or it can't be, and nothing is printed or changed; or it can
+-- be, and the disk failed in it.
+abbrev pub AppliesLow : LowPump → LowPump → Line → LowPast → List Event → Option Stop → Type 0
+AppliesLow old new line p printed None =
+    (is_timely_low (low_row_of old) p line ≡ true)
+    × ((q : LowPast) × StepLow (low_row_of old) p line false q printed × LowStandsFor new q)
+AppliesLow old new line p printed (Some stops.Line) =
+    IsBarredLow (low_row_of old) p line × (printed ≡ []) × (new ≡ old)
+AppliesLow old new line p printed (Some (stops.Device roles.Low faults)) =
+    (is_timely_low (low_row_of old) p line ≡ true)
+    × ((q : LowPast) × StepLow (low_row_of old) p line true q printed)
+    × (low_is_down new ≡ true) × (faults ≡ low_faults_of new)
+AppliesLow old new line p printed (Some (stops.Device roles.High faults)) = ⊥
+AppliesLow old new line p printed (Some (stops.Device roles.Recv faults)) = ⊥
+AppliesLow old new line p printed (Some (stops.Full end size_of_message size)) = ⊥
+
+-- a device stopped the line
+abbrev pub is_device : Option Stop → Bool
+is_device (Some (stops.Device role faults)) = true
+is_device (Some stops.Line) = false
+is_device (Some (stops.Full end size_of_message size)) = false
+is_device None = false

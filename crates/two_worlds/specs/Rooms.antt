@@ -1,0 +1,38 @@
+-- When the disks of a pump fail, by what they tell of their plan.
+use Rattle.std.specs.Prelude.{◌≡◌, ◌≤◌, ℕ, Bool, false, Option, None, Some}
+use Rattle.disk_model.specs.Disk.{Meaning}
+use Rattle.disk_model.specs.declared.name.Role.{Role}
+use Rattle.disk_model.specs.declared.name.Role.TheVariants as roles
+use Rattle.pump_frame.specs.declared.row.SessionRow.{SessionRow}
+use Rattle.stable_buffer.specs.Stands.{low_size}
+use Rattle.script_reader.specs.Highs.{receiver_size}
+use Rattle.two_worlds.specs.declared.applied.Stop.{Stop}
+use Rattle.two_worlds.specs.declared.applied.Stop.TheVariants.{Line, Device, Full}
+use Rattle.two_worlds.specs.Disks.{RemovesBehind}
+use Rattle.two_worlds.specs.Doing.{Serves, is_role}
+
+-- the disk is not armed, and may grow to this size
+pub record IsFree {D : Type 0} (m : Meaning D) (size : ℕ) (disk : D) : Type 0 where
+  pub unarmed : m.armed disk ≡ false
+  pub room : size ≤ m.room disk
+
+-- each disk has room for all that its format needs, and is not armed
+pub record HasRoom {D : Type 0} (m : Meaning D) (row : SessionRow) (low high recv : D) : Type 0 where
+  pub low_free : IsFree m (low_size row) low
+  pub high_free : IsFree m 80 high
+  pub recv_free : IsFree m receiver_size recv
+
+-- the disk of this role failed
+abbrev pub stops_at : Role → Option Stop → Bool
+stops_at role None = false
+stops_at role (Some Line) = false
+stops_at role (Some (Device other faults)) = is_role role other
+stops_at role (Some (Full end length size)) = false
+
+-- of each disk no call was made, or calls of which one failed or none, and they fit where it has room
+-- for all that its format needs; and no crash leaves more removed than taken
+pub record DisksGo {D : Type 0} (m : Meaning D) (row : SessionRow) (low high recv low' high' recv' : D) (stop : Option Stop) : Type 0 where
+  pub low_goes : Serves m (low_size row) low low' (stops_at roles.Low stop)
+  pub high_goes : Serves m 80 high high' (stops_at roles.High stop)
+  pub recv_goes : Serves m receiver_size recv recv' (stops_at roles.Recv stop)
+  pub behind : RemovesBehind m high high' recv'

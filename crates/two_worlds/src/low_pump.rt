@@ -1,0 +1,75 @@
+//! The low side of a session alone: a script tells what the passage answers.
+
+ghost use Rattle.two_worlds.specs.LowParts.{StandsForSome};
+ghost use Rattle.std.specs.Prelude.{◌≡◌, false};
+ghost use Rattle.low_process.specs.Looks.{is_down};
+
+use crate::applied::Applied;
+use pump_frame::{OutOfMemory, SessionRow};
+use script_reader::Line;
+use std::alloc::Global;
+
+mod parts;
+#[cfg(test)]
+mod tests;
+
+use parts::LowParts;
+
+/// The low process of a session with its connection and its store, which lies on a disk in memory.
+/// All its room was taken when it was made.
+#[derive(Drop)]
+pub struct LowPump {
+    parts: LowParts,
+    ghost stands: { is_down parts.process ≡ false → ∥ StandsForSome parts ∥₁ },
+}
+
+impl LowPump {
+    ghost use Rattle.std.specs.Prelude.{◌≤◌, ◌^◌, true, None, IfOk};
+    ghost use Rattle.pump_frame.specs.Rows.{IsLawfulRow};
+    ghost use Rattle.script_reader.specs.declared.event.Event.TheVariants.{End};
+    ghost use Rattle.script_reader.specs.Lawful.{IsLawfulLine};
+    ghost use Rattle.script_reader.specs.Scripts.{IsLowEnd};
+    ghost use Rattle.script_reader.specs.Tolds.{LowPast, fresh_low};
+    ghost use Rattle.two_worlds.specs.LowPumps.{low_row_of, low_is_down, is_device, LowStandsFor, AppliesLow};
+
+    /// The low side of a lawful row before its first line, with `next` messages stored, at most 2^48.
+    /// Where it is held, the last one, without bytes, is in the low hand; then `next` is at least 1.
+    pub fn open(
+        alloc: Global,
+        row: &SessionRow,
+        next: u64,
+        held: bool,
+    ) -> Result<LowPump, OutOfMemory>
+        requires lawful { IsLawfulRow row.now }
+        requires next { next ≤ 2 ^ 48 }
+        requires held { held ≡ true → 1 ≤ next }
+        ensures fresh { IfOk result (λ pump. LowStandsFor pump (fresh_low next held)) }
+        ensures row { IfOk result (λ pump. low_row_of pump ≡ row.now) }
+        ensures up { IfOk result (λ pump. low_is_down pump ≡ false) }
+    {
+        let parts = LowParts::open(alloc, row, next, held)?;
+        Ok(LowPump { parts })
+    }
+
+    /// A line of the script, which must not come after a device fault: what it prints. It stops with
+    /// `Line` exactly where the line can't be applied, and then nothing is printed or changed; with
+    /// `Device` exactly where the disk fails in a store, and then the store's refusal was printed.
+    pub fn apply(&mut self, line: &Line) -> Applied
+        requires lawful { IsLawfulLine line.now }
+        requires up { low_is_down self.old ≡ false }
+        ensures applies { (p : LowPast) → LowStandsFor self.old p
+            → AppliesLow self.old self.new line.now p result.events.items result.stop }
+        ensures down { low_is_down self.new ≡ is_device result.stop }
+        ensures row { low_row_of self.new ≡ low_row_of self.old }
+    {
+        self.parts.apply(line)
+    }
+
+    /// How many messages are stored.
+    pub fn next(&self) -> u64
+        ensures { (p : LowPast) → LowStandsFor self.now p
+            → IsLowEnd (low_row_of self.now) p (End (low_row_of self.now).id result None) }
+    {
+        self.parts.next()
+    }
+}

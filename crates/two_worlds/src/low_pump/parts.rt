@@ -1,0 +1,327 @@
+//! What a low pump is made of, and what a line does to it.
+
+ghost use Rattle.std.specs.Prelude.{◌≡◌, ◌^◌, ◌≤◌, true, false, ◌&&◌, ◌==◌, nat_le, [], IfOk, None, Some, is_some};
+ghost use Rattle.two_worlds.specs.Connections.{unused};
+ghost use Rattle.disk_model.specs.Plain.{plain_meaning};
+ghost use Rattle.stable_buffer.specs.Stands.{low_size};
+ghost use Rattle.stable_buffer.specs.Low.{IsLowReady, low_disk, low_count, low_row};
+ghost use Rattle.pump_frame.specs.Rows.{IsLawfulRow};
+ghost use Rattle.low_process.specs.Looks.{IsHand};
+ghost use Rattle.script_reader.specs.Tolds.{told_of_read};
+ghost use Rattle.two_worlds.specs.LowParts.{armed_if, answer_of};
+
+use crate::applied::{Applied, Stop};
+use crate::connection::Connection;
+use crate::printing::print_look;
+use arrayvec::ArrayVec;
+use disk_model::{PlainDisk, Role};
+use low_process::{Answer, Arrival, Ask, LowLook, LowProcess};
+use pump_core::Seen;
+use pump_frame::{Item, OutOfMemory, Payload, SessionRow};
+use script_reader::{Arriving, Line, ToldFeedback};
+use stable_buffer::{LowStore, Register, format};
+use std::alloc::Global;
+
+/// The low process of a session with its connection and its store.
+#[derive(Drop)]
+pub struct LowParts {
+    pub row: SessionRow,
+    pub connection: Connection,
+    pub process: LowProcess,
+    pub store: LowStore<PlainDisk>,
+    /// The moment of the last line that had one.
+    pub moment: u64,
+}
+
+/// How many bytes the low disk of a row has.
+fn disk_size(row: &SessionRow) -> u64
+    requires { IsLawfulRow row.now }
+    ensures { result ≡ low_size row.now }
+{
+    80 + u64::from(row.capacity) * (2 + u64::from(row.message))
+}
+
+/// A store with this count on an empty disk.
+fn new_store(mut disk: PlainDisk, row: &SessionRow, count: u64) -> LowStore<PlainDisk>
+    requires lawful { IsLawfulRow row.now }
+    requires count { count ≤ 2 ^ 48 }
+    requires empty { disk.bytes ≡ [] }
+    requires room { disk.room ≡ low_size row.now }
+    requires calm { disk.armed ≡ false }
+    ensures ready { IsLowReady plain_meaning result }
+    ensures count { low_count result ≡ count }
+    ensures row { low_row result ≡ row.now }
+    ensures room { (low_disk result).room ≡ low_size row.now }
+    ensures calm { (low_disk result).armed ≡ false }
+{
+    // A disk in memory fails only where it is armed or has no room.
+    if format(&mut disk, row, Role::Low, count).is_err() {
+        unreachable!();
+    }
+    match Register::open(disk) {
+        Ok(register) => LowStore::over(register, row),
+        Err(_) => unreachable!(),
+    }
+}
+
+/// The message in the hand of an opening: the last one stored, without bytes.
+fn hand_of(next: u64, held: bool) -> Option<Item>
+    requires { held ≡ true → 1 ≤ next }
+    ensures hand { IsHand next result }
+    ensures held { is_some result ≡ held }
+{
+    if !held {
+        return None;
+    }
+    Some(Item {
+        number: next - 1,
+        payload: Payload::default(),
+    })
+}
+
+/// With a fault, the next call of the store's disk fails.
+fn arm(store: &mut LowStore<PlainDisk>, fault: bool)
+    ensures { store.new ≡ armed_if fault store.old }
+{
+    if fault {
+        store.disk().fail_next();
+    }
+}
+
+/// Nothing was done: the line can't be applied.
+fn barred() -> Applied
+    ensures events { result.events.items ≡ [] }
+    ensures stop { result.stop ≡ Some Stop.Line }
+{
+    Applied {
+        events: ArrayVec::new(),
+        stop: Some(Stop::Line),
+    }
+}
+
+/// What an offer is answered.
+fn answer_to_offer(told: ToldFeedback) -> Answer
+    ensures { result ≡ answer_of told }
+{
+    match told {
+        ToldFeedback::Quiet | ToldFeedback::Full => Answer::Full,
+        ToldFeedback::Pair { count, average } => Answer::Passed(Seen { count, average }),
+    }
+}
+
+/// What a read of High's times gives.
+fn times_read(row: &SessionRow, told: ToldFeedback) -> Seen
+    ensures { result ≡ told_of_read row.now told }
+{
+    match told {
+        ToldFeedback::Quiet | ToldFeedback::Full => Seen {
+            count: 0,
+            average: row.start,
+        },
+        ToldFeedback::Pair { count, average } => Seen { count, average },
+    }
+}
+
+impl LowParts {
+    ghost use Rattle.pump_core.specs.History.{Gone};
+    ghost use Rattle.script_reader.specs.declared.event.Event.TheVariants.{End};
+    ghost use Rattle.script_reader.specs.declared.line.ToldFeedback.TheVariants.{Quiet};
+    ghost use Rattle.script_reader.specs.Lawful.{IsLawfulArriving, IsLawfulFeedback, IsLawfulLine};
+    ghost use Rattle.script_reader.specs.Lows.{first_of};
+    ghost use Rattle.script_reader.specs.Scripts.{IsLowEnd};
+    ghost use Rattle.script_reader.specs.Tolds.{LowPast, fresh_low, lost_low, is_timely_low, IsBarredLow, StepLow, IsToldAt};
+    ghost use Rattle.two_worlds.specs.LowParts.{PartsStand, StandsForSome, HasAsked, AnsweredBy, Ends, NeverBars, Crowds, IsJoinedTold, stop_of};
+    ghost use Rattle.two_worlds.specs.Printing.{look_prints};
+
+    /// The parts before the first line, with `next` messages stored, of which the last is held or not.
+    pub fn open(
+        alloc: Global,
+        row: &SessionRow,
+        next: u64,
+        held: bool,
+    ) -> Result<LowParts, OutOfMemory>
+        requires lawful { IsLawfulRow row.now }
+        requires next { next ≤ 2 ^ 48 }
+        requires held { held ≡ true → 1 ≤ next }
+        ensures stands { IfOk result (λ c. PartsStand c (fresh_low next held)) }
+        ensures row { IfOk result (λ c. c.row ≡ row.now) }
+    {
+        let disk = PlainDisk::new(alloc, disk_size(row))?;
+        let store = new_store(disk, row, next);
+        let hand = hand_of(next, held);
+        Ok(LowParts {
+            row: *row,
+            connection: Connection::new(),
+            process: LowProcess::open(row, next, hand),
+            store,
+            moment: 0,
+        })
+    }
+
+    /// How many messages are stored.
+    pub fn next(&self) -> u64
+        ensures { (p : LowPast) → PartsStand self.now p
+            → IsLowEnd self.now.row p (End self.now.row.id result None) }
+    {
+        self.process.next()
+    }
+
+    /// The line names this session, and no moment falls.
+    fn is_timely(&self, session: u32, moment: u64) -> bool
+        ensures { result ≡ (session == self.now.row.id && nat_le self.now.moment moment) }
+    {
+        session == self.row.id && self.moment <= moment
+    }
+
+    /// Where the process is down, the fault of its disk.
+    fn stop(&self) -> Option<Stop>
+        ensures { result ≡ stop_of self.now }
+    {
+        if !self.process.is_down() {
+            return None;
+        }
+        Some(Stop::Device {
+            role: Role::Low,
+            faults: self.store.faults(),
+        })
+    }
+
+    /// The end of a look: what it prints, and whether the disk failed in it.
+    fn end_look(&mut self, moment: u64, look: &LowLook) -> Applied
+        ensures rest { self.new ≡ record self.old { moment = moment } }
+        ensures events { result.events.items ≡ look_prints self.old.row.id moment look.now }
+        ensures stop { result.stop ≡ stop_of self.new }
+    {
+        self.moment = moment;
+        let mut events = ArrayVec::new();
+        print_look(self.row.id, moment, look, &mut events);
+        Applied {
+            events,
+            stop: self.stop(),
+        }
+    }
+
+    /// The rest of a look, which is answered by what was told.
+    fn answer(&mut self, ask: Ask, told: ToldFeedback) -> LowLook
+        requires asked { HasAsked self.old.process ask }
+        requires told { IsLawfulFeedback told }
+        requires row { IsLawfulRow self.old.row }
+        ensures answered { AnsweredBy self.old.row told self.old.process self.new.process ask result }
+        ensures rest { self.new ≡ record self.old { process = self.new.process } }
+    {
+        match ask {
+            Ask::Done(look) => look,
+            Ask::Forward(_) => self.process.finish(answer_to_offer(told)),
+            Ask::Average => {
+                let seen = times_read(&self.row, told);
+                self.process.finish(Answer::Average(seen))
+            }
+        }
+    }
+
+    /// A look with what waits first.
+    fn look_first(&mut self, moment: u64, word: u32, told: ToldFeedback) -> Applied
+        requires stands { ∥ StandsForSome self.old ∥₁ }
+        requires order { self.old.moment ≤ moment }
+        requires moment { moment ≤ 2 ^ 62 }
+        requires told { IsLawfulFeedback told }
+        ensures ends { Ends self.old self.new NeverBars (λ p is_fault q printed. IsToldAt self.old.row p
+            moment word told (first_of p.is_broken p.waits) is_fault q printed) result }
+        ensures row { self.new.row ≡ self.old.row }
+    {
+        let arrival = self.connection.first();
+        let ask = self.process.begin(moment, word, arrival, &mut self.store);
+        let look = self.answer(ask, told);
+        self.connection.settle(look.taken);
+        self.end_look(moment, &look)
+    }
+
+    /// The look of a connection that is lost: nothing waits on the new one.
+    fn look_gone(&mut self, moment: u64) -> Applied
+        requires stands { ∥ StandsForSome self.old ∥₁ }
+        requires order { self.old.moment ≤ moment }
+        requires moment { moment ≤ 2 ^ 62 }
+        requires unused { self.old.connection ≡ unused }
+        ensures ends { Ends self.old self.new NeverBars (λ p is_fault q printed. IsToldAt self.old.row p
+            moment 0 Quiet Gone is_fault q printed) result }
+        ensures row { self.new.row ≡ self.old.row }
+    {
+        let ask = self
+            .process
+            .begin(moment, 0, Arrival::Gone, &mut self.store);
+        let look = self.answer(ask, ToldFeedback::Quiet);
+        self.end_look(moment, &look)
+    }
+
+    /// A `told` line: what comes joins what waits, a fault that is told arms the disk, and a look is
+    /// made.
+    fn told(
+        &mut self,
+        moment: u64,
+        word: u32,
+        fault: bool,
+        told: ToldFeedback,
+        arriving: &Arriving,
+    ) -> Applied
+        requires stands { ∥ StandsForSome self.old ∥₁ }
+        requires order { self.old.moment ≤ moment }
+        requires moment { moment ≤ 2 ^ 62 }
+        requires told { IsLawfulFeedback told }
+        requires arriving { IsLawfulArriving arriving.now }
+        ensures ends { Ends self.old self.new (Crowds self.old.row fault arriving.now)
+            (IsJoinedTold self.old.row moment word fault told arriving.now) result }
+        ensures row { self.new.row ≡ self.old.row }
+    {
+        if !self.connection.join(self.row.id, arriving) {
+            return barred();
+        }
+        arm(&mut self.store, fault);
+        self.look_first(moment, word, told)
+    }
+
+    /// A `gone` line.
+    fn gone(&mut self, moment: u64) -> Applied
+        requires stands { ∥ StandsForSome self.old ∥₁ }
+        requires order { self.old.moment ≤ moment }
+        requires moment { moment ≤ 2 ^ 62 }
+        ensures ends { Ends self.old self.new NeverBars (λ p is_fault q printed. IsToldAt self.old.row
+            (lost_low p) moment 0 Quiet Gone is_fault q printed) result }
+        ensures row { self.new.row ≡ self.old.row }
+    {
+        self.connection.lose();
+        self.look_gone(moment)
+    }
+
+    /// A line of the script.
+    pub fn apply(&mut self, line: &Line) -> Applied
+        requires lawful { IsLawfulLine line.now }
+        requires stands { ∥ StandsForSome self.old ∥₁ }
+        ensures ends { Ends self.old self.new (λ p. IsBarredLow self.old.row p line.now)
+            (λ p is_fault q printed. (is_timely_low self.old.row p line.now ≡ true)
+            × StepLow self.old.row p line.now is_fault q printed) result }
+        ensures row { self.new.row ≡ self.old.row }
+    {
+        match line {
+            Line::Told {
+                session,
+                moment,
+                word,
+                fault,
+                feedback,
+                arrival,
+            } => {
+                if !self.is_timely(*session, *moment) {
+                    return barred();
+                }
+                self.told(*moment, *word, *fault, *feedback, arrival)
+            }
+            Line::Gone { session, moment } => {
+                if !self.is_timely(*session, *moment) {
+                    return barred();
+                }
+                self.gone(*moment)
+            }
+            _ => barred(),
+        }
+    }
+}

@@ -1,0 +1,107 @@
+//! The whole pump of a session over three disks, on one thread.
+
+mod carry;
+mod close;
+mod formatted;
+mod high_look;
+mod lines;
+mod low_look;
+mod open;
+mod parts;
+#[cfg(test)]
+mod tests;
+
+use crate::applied::Applied;
+use crate::not_open::NotOpen;
+use disk_model::Disk;
+use parts::Parts;
+use pump_frame::SessionRow;
+use script_reader::Line;
+use std::alloc::Global;
+
+/// A whole session: its processes, its passage, its receiver, over three disks.
+#[derive(Drop)]
+pub struct Pump<D: Disk> {
+    parts: Parts<D>,
+    // What is read of the disks, and what a crash leaves of them, is a lawful world's, and until a
+    // call of a disk fails the parts stand for it.
+    ghost keeps: { ∥ Keeps D.told parts ∥₁ },
+}
+
+ghost use Rattle.two_worlds.specs.Keeping.{Keeps};
+
+impl<D: Disk> Pump<D> {
+    ghost use Rattle.std.specs.Prelude.{◌≡◌, false, [], length, None, IfOk, IfErr};
+    ghost use Rattle.disk_model.specs.declared.name.Role.TheVariants as roles;
+    ghost use Rattle.pump_frame.specs.Rows.{IsLawfulRow};
+    ghost use Rattle.two_worlds.specs.Openings.{ComeBack};
+    ghost use Rattle.script_reader.specs.Lawful.{IsLawfulLine};
+    ghost use Rattle.script_reader.specs.Past.{Past, fresh};
+    ghost use Rattle.two_worlds.specs.Disks.{Opens, CrashesOpen};
+    ghost use Rattle.two_worlds.specs.LowPumps.{is_device};
+    ghost use Rattle.two_worlds.specs.Pumps.{row_of, StandsFor, is_down, disk_at, Applies, GoesOnTimed};
+    ghost use Rattle.two_worlds.specs.Rooms.{HasRoom, DisksGo};
+
+    /// The pump of a lawful row over three disks of size 0, which tell what they hold.
+    pub fn open(
+        alloc: Global,
+        row: &SessionRow,
+        low: D,
+        high: D,
+        recv: D,
+    ) -> Result<Pump<D>, NotOpen<D>>
+        requires lawful { IsLawfulRow row.now }
+        requires tells { D.told.tells }
+        requires low { D.told.reading low ≡ [] }
+        requires high { D.told.reading high ≡ [] }
+        requires recv { D.told.reading recv ≡ [] }
+        ensures fresh { IfOk result (λ pump. StandsFor D.told pump (fresh row.now)) }
+        ensures row { IfOk result (λ pump. row_of pump ≡ row.now) }
+        ensures up { IfOk result (λ pump. is_down pump ≡ false) }
+        ensures room { D.told.tells_plan → HasRoom D.told row.now low high recv
+            → IfOk result (λ pump. HasRoom D.told row.now (disk_at roles.Low pump) (disk_at roles.High pump) (disk_at roles.Recv pump)) }
+        ensures back { IfErr result (λ e. ComeBack D.told row.now low high recv e) }
+        ensures never { D.told.tells_plan → HasRoom D.told row.now low high recv → IfErr result (λ e. e.why ≡ None) }
+    {
+        let parts = Parts::fresh(alloc, row, low, high, recv)?;
+        Ok(Pump { parts })
+    }
+
+    /// A line of the script: what it prints, and whether it stops the session. Until a call of a disk
+    /// has failed.
+    pub fn apply(&mut self, line: &Line) -> Applied
+        requires lawful { IsLawfulLine line.now }
+        requires up { is_down self.old ≡ false }
+        ensures applies { (p : Past) → StandsFor D.told self.old p
+            → Applies D.told self.old self.new line.now p result.events.items result.stop }
+        ensures timed { result.stop ≡ None → GoesOnTimed D.told self.old self.new line.now }
+        ensures serve { DisksGo D.told (row_of self.old) (disk_at roles.Low self.old) (disk_at roles.High self.old) (disk_at roles.Recv self.old)
+            (disk_at roles.Low self.new) (disk_at roles.High self.new) (disk_at roles.Recv self.new) result.stop }
+        ensures down { is_down self.new ≡ is_device result.stop }
+        ensures row { row_of self.new ≡ row_of self.old }
+    {
+        self.parts.apply(line)
+    }
+
+    /// How many messages were accepted, removed, and taken by the receiver.
+    pub fn counts(&self) -> (u64, u64, u64)
+        ensures { (p : Past) → StandsFor D.told self.now p
+            → result ≡ (length p.world.accepted, p.world.removed, length p.world.received) }
+    {
+        (
+            self.parts.low.next(),
+            self.parts.high.removed(),
+            self.parts.receiver.count(),
+        )
+    }
+
+    /// The low, the high and the receiver's disk, with no further call. What is read of them opens
+    /// again, and so does what a crash leaves, also where a call of one of them failed.
+    pub fn close(self) -> (D, D, D)
+        ensures disks { result ≡ (disk_at roles.Low self, disk_at roles.High self, disk_at roles.Recv self) }
+        ensures open { CrashesOpen D.told (row_of self) result.0 result.1 result.2 }
+        ensures read { D.told.tells → Opens (row_of self) (D.told.reading result.0) (D.told.reading result.1) (D.told.reading result.2) }
+    {
+        self.parts.close()
+    }
+}

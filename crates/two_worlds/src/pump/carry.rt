@@ -1,0 +1,66 @@
+//! A packet of a pump that comes to its receiver.
+
+ghost use Rattle.std.specs.Prelude.{◌≡◌, ℕ, ◌+◌, ◌<◌, ◌≤◌, [], length, OnOk};
+ghost use Rattle.disk_model.specs.declared.name.Role.TheVariants as roles;
+ghost use Rattle.script_reader.specs.Highs.{IsCarried, IsOverfull};
+ghost use Rattle.script_reader.specs.Breaks.{IsUntaken};
+ghost use Rattle.two_worlds.specs.Carrying.{printed_taken};
+ghost use Rattle.two_worlds.specs.Standing.{StandsForSome};
+ghost use Rattle.two_worlds.specs.Doing.{Does, DisksServe, LeavesHigh};
+
+use crate::applied::Stop;
+use crate::pump::parts::Parts;
+use arrayvec::ArrayVec;
+use disk_model::{Disk, Role};
+use high_receiver::{TakeFault, Taken};
+use script_reader::Event;
+
+impl<D: Disk> Parts<D> {
+    /// The DATA that was sent so many packets before the last one comes to the receiver. What the
+    /// receiver has taken, then or before, is returned. A message that does not fit on the receiver's
+    /// disk is `Stop::Full`, and then nothing was done; `Stop::Device` leaves the receiver closed.
+    pub fn carry(&mut self, back: u64, out: &mut ArrayVec<Event, 4>) -> Result<(), Stop>
+        requires stands { ∥ StandsForSome D.told self.old ∥₁ }
+        requires back { back < length self.old.sent.items }
+        requires out { length out.old.items ≤ 3 }
+        ensures does { Does (λ p q printed. IsCarried self.old.row p back q printed)
+            (λ role p q printed. (role ≡ roles.Recv) × IsUntaken p back q × (printed ≡ []))
+            (λ p q printed end size_of_message size. (q ≡ p) × IsOverfull p.world back end size_of_message size × (printed ≡ []))
+            D.told self.old self.new out.old.items out.new.items result }
+        ensures serve { DisksServe D.told self.old self.new result }
+        ensures high { LeavesHigh self.old self.new }
+        ensures out { length out.new.items ≤ length out.old.items + 1 }
+        ensures returned { OnOk result (0 < length self.new.returned.items) }
+        ensures moment { self.new.moment ≡ self.old.moment }
+        ensures row { self.new.row ≡ self.old.row }
+    {
+        let Some(item) = self.sent.nth_back(back as usize) else {
+            unreachable!()
+        };
+        let number = item.number;
+        match self.receiver.take(number, &item.payload) {
+            Ok(taken) => {
+                self.returned.push_back(number);
+                out.push(event_of(self.row.id, number, taken));
+                Ok(())
+            }
+            Err(TakeFault::Device { faults }) => Err(Stop::Device {
+                role: Role::Recv,
+                faults,
+            }),
+            Err(TakeFault::LogFull { end, length, size }) => Err(Stop::Full { end, length, size }),
+            // No DATA is sent before the receiver has all the messages before it.
+            Err(TakeFault::Ahead { .. }) => unreachable!(),
+        }
+    }
+}
+
+// What is printed where a receiver has a message.
+fn event_of(session: u32, number: u64, taken: Taken) -> Event
+    ensures { result ≡ printed_taken session number taken }
+{
+    match taken {
+        Taken::Took => Event::Took { session, number },
+        Taken::Repeat => Event::Again { session, number },
+    }
+}

@@ -1,0 +1,150 @@
+//! A high look of a pump.
+
+ghost use Rattle.std.specs.Prelude.{◌≡◌, ℕ, ◌+◌, ◌^◌, ◌<◌, ◌≤◌, ◌++◌, [], Option, None, Some, length, slice_get};
+ghost use Rattle.disk_model.specs.declared.name.Role.TheVariants as roles;
+ghost use Rattle.high_process.specs.States as high;
+ghost use Rattle.high_process.specs.Tasks.{frame_of};
+ghost use Rattle.script_reader.specs.Past.{Past};
+ghost use Rattle.script_reader.specs.Highs.{IsHighLook, IsReturn, place};
+ghost use Rattle.script_reader.specs.Breaks.{IsUnremoved};
+ghost use Rattle.two_worlds.specs.Standing.{Stands, StandsForSome};
+ghost use Rattle.two_worlds.specs.Doing.{Does, DoesFrom, NeverBreaks, NeverOverfills, DisksServe, LeavesHigh};
+ghost use Rattle.two_worlds.specs.HighLooks.{ComesBack, LeadsWith, BreaksWith, most_lines, printed_look, packets_after};
+
+use crate::applied::Stop;
+use crate::pump::parts::Parts;
+use arrayvec::ArrayVec;
+use disk_model::{Disk, Role};
+use high_process::{HighFault, HighLook};
+use pump_frame::{Frame, Kind, Payload};
+use script_reader::Event;
+
+impl<D: Disk> Parts<D> {
+    /// The removal and the sending of a look are printed, and the message that was sent joins the
+    /// packets.
+    fn tell_high(&mut self, moment: u64, look: &HighLook, out: &mut ArrayVec<Event, 4>)
+        requires out { length out.old.items + length (printed_look self.old.row.id moment look.now) ≤ 4 }
+        ensures out { out.new.items ≡ out.old.items ++ printed_look self.old.row.id moment look.now }
+        ensures rest { self.new ≡ record self.old {
+          sent = packets_after look.now.sent (high.hand_of self.old.high) self.old.sent;
+        } }
+    {
+        if let Some(number) = look.removed {
+            out.push(Event::Removed {
+                session: self.row.id,
+                moment,
+                number,
+                time: look.published,
+            });
+        }
+        if let Some(number) = look.sent {
+            if let Some(item) = self.high.hand() {
+                self.sent.push_back(*item);
+            }
+            out.push(Event::Sent {
+                session: self.row.id,
+                moment,
+                number,
+            });
+        }
+    }
+
+    /// A high look at this moment, with the session's TAKEN that comes back or without one.
+    fn look_with(
+        &mut self,
+        moment: u64,
+        frame: Option<&Frame>,
+        out: &mut ArrayVec<Event, 4>,
+    ) -> Result<(), Stop>
+        requires stands { ∥ StandsForSome D.told self.old ∥₁ }
+        requires order { self.old.moment ≤ moment }
+        requires moment { moment ≤ 2 ^ 62 }
+        requires back { (p : Past) → Stands D.told self.old p
+            → (back : Option ℕ) × ComesBack self.old.row.id p.world (frame_of frame) back }
+        requires out { length out.old.items + most_lines (frame_of frame) ≤ 4 }
+        ensures does { (p : Past) → Stands D.told self.old p
+            → (back : Option ℕ) → ComesBack self.old.row.id p.world (frame_of frame.entry) back
+            → DoesFrom (LeadsWith self.old.row moment back) (BreaksWith moment back) NeverOverfills
+            D.told self.new out.old.items out.new.items p result }
+        ensures serve { DisksServe D.told self.old self.new result }
+        ensures high { frame_of frame.entry ≡ None → LeavesHigh self.old self.new }
+        ensures out { length out.new.items ≤ length out.old.items + most_lines (frame_of frame.entry) }
+        ensures row { self.new.row ≡ self.old.row }
+        ensures moment { self.new.moment ≡ moment }
+    {
+        self.moment = moment;
+        match self
+            .high
+            .look(moment, frame, &mut self.high_store, &mut self.ends)
+        {
+            Ok(look) => {
+                self.tell_high(moment, &look, out);
+                Ok(())
+            }
+            Err(HighFault::Device { faults }) => Err(Stop::Device {
+                role: Role::High,
+                faults,
+            }),
+            // A TAKEN of a message that was not sent is refused.
+            Err(HighFault::Ahead { .. }) => Ok(()),
+            // Only a receiver that attaches can be behind.
+            Err(HighFault::Behind { .. }) => unreachable!(),
+        }
+    }
+
+    /// A high look to which nothing comes back, at this moment in microseconds, which is not below the
+    /// last one and at most 2^62. No disk is called.
+    pub fn look_high(&mut self, moment: u64, out: &mut ArrayVec<Event, 4>) -> Result<(), Stop>
+        requires stands { ∥ StandsForSome D.told self.old ∥₁ }
+        requires order { self.old.moment ≤ moment }
+        requires moment { moment ≤ 2 ^ 62 }
+        requires out { length out.old.items ≤ 3 }
+        ensures does { Does (λ p q printed. IsHighLook self.old.row p moment None q printed)
+            NeverBreaks NeverOverfills D.told self.old self.new out.old.items out.new.items result }
+        ensures serve { DisksServe D.told self.old self.new result }
+        ensures high { LeavesHigh self.old self.new }
+        ensures out { length out.new.items ≤ length out.old.items + 1 }
+        ensures row { self.new.row ≡ self.old.row }
+        ensures moment { self.new.moment ≡ moment }
+    {
+        self.look_with(moment, None, out)
+    }
+
+    /// The number of the TAKEN that was sent so many packets before the last one.
+    fn number_back(&self, back: u64) -> u64
+        requires { back < length self.now.returned.items }
+        ensures { slice_get self.now.returned.items (place self.now.returned.items back) ≡ Some result }
+    {
+        *self.returned.nth_back(back as usize).unwrap()
+    }
+
+    /// A high look at this moment, to which the TAKEN comes back that was sent so many packets before
+    /// the last one. Where its message was not sent it is refused, and the look does nothing.
+    /// `Stop::Device` says that the high disk failed in the removal; the high process is then down.
+    pub fn take_back(
+        &mut self,
+        moment: u64,
+        back: u64,
+        out: &mut ArrayVec<Event, 4>,
+    ) -> Result<(), Stop>
+        requires stands { ∥ StandsForSome D.told self.old ∥₁ }
+        requires order { self.old.moment ≤ moment }
+        requires moment { moment ≤ 2 ^ 62 }
+        requires back { back < length self.old.returned.items }
+        requires out { length out.old.items ≤ 2 }
+        ensures does { Does (λ p q printed. IsReturn self.old.row p moment (place p.world.returned back) q printed)
+            (λ role p q printed. (role ≡ roles.High)
+            × IsUnremoved p moment (Some (place p.world.returned back)) q × (printed ≡ []))
+            NeverOverfills D.told self.old self.new out.old.items out.new.items result }
+        ensures serve { DisksServe D.told self.old self.new result }
+        ensures row { self.new.row ≡ self.old.row }
+    {
+        let frame = Frame {
+            kind: Kind::Taken,
+            session: self.row.id,
+            number: self.number_back(back),
+            payload: Payload::default(),
+        };
+        self.look_with(moment, Some(&frame), out)
+    }
+}

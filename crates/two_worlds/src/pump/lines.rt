@@ -1,0 +1,209 @@
+//! The lines of a script.
+
+ghost use Rattle.std.specs.Prelude.{◌≡◌, ℕ, ◌+◌, ◌^◌, ◌<◌, ◌≤◌, Bool, true, [], length};
+ghost use Rattle.script_reader.specs.Lawful.{IsLawfulLine, IsLawfulArriving};
+ghost use Rattle.script_reader.specs.declared.line.Line.TheVariants as lines;
+ghost use Rattle.script_reader.specs.Past.{Past};
+ghost use Rattle.script_reader.specs.Breaks.{BreaksOff};
+ghost use Rattle.two_worlds.specs.Standing.{Stands, StandsForSome};
+ghost use Rattle.two_worlds.specs.Doing.{Does, DisksServe};
+ghost use Rattle.two_worlds.specs.LineSteps.{goes_on_by, is_timely_by, CarriesBack, IsOverfullSent, Runs, Attempts, answer_of};
+
+use crate::applied::{Applied, Stop};
+use crate::pump::parts::Parts;
+use arrayvec::ArrayVec;
+use disk_model::Disk;
+use script_reader::{Arriving, Event, Line};
+
+/// The last moment of a script, 2^62.
+const LAST_MOMENT: u64 = 4_611_686_018_427_387_904;
+
+impl<D: Disk> Parts<D> {
+    /// Whether a high look to which nothing comes back leaves a message in the high hand.
+    fn goes_on(&self) -> bool
+        requires stands { ∥ StandsForSome D.told self.now ∥₁ }
+        ensures { result ≡ goes_on_by self.now }
+    {
+        self.high.hand().is_some() || self.ends.held() > 0
+    }
+
+    /// Whether the line can be applied, where there is room for what comes with it.
+    fn is_timely(&self, line: &Line) -> bool
+        requires stands { ∥ StandsForSome D.told self.now ∥₁ }
+        requires lawful { IsLawfulLine line.now }
+        ensures { result ≡ is_timely_by self.now line.now }
+    {
+        match line {
+            Line::Skip | Line::Session(_) | Line::LowSession { .. } | Line::Told { .. } => false,
+            Line::Look {
+                session,
+                moment,
+                ..
+            }
+            | Line::Gone { session, moment }
+            | Line::High { session, moment } => {
+                *session == self.row.id && self.moment <= *moment
+            }
+            Line::Carry { session, back } => {
+                *session == self.row.id && *back < self.sent.len() as u64
+            }
+            Line::Return {
+                session,
+                moment,
+                back,
+            } => {
+                *session == self.row.id
+                    && self.moment <= *moment
+                    && *back < self.returned.len() as u64
+            }
+            Line::Done {
+                session,
+                moment,
+                time,
+            } => {
+                *session == self.row.id
+                    && self.moment <= *moment
+                    && (!self.goes_on() || *moment + *time as u64 <= LAST_MOMENT)
+            }
+        }
+    }
+
+    /// A `look` line: what comes joins what waits, and the low process looks. `Stop::Line` where
+    /// more than 64 arrivals would wait.
+    fn look_line(
+        &mut self,
+        moment: u64,
+        word: u32,
+        arriving: &Arriving,
+        out: &mut ArrayVec<Event, 4>,
+    ) -> Result<(), Stop>
+        requires stands { ∥ StandsForSome D.told self.old ∥₁ }
+        requires lawful { IsLawfulArriving arriving.now }
+        requires order { self.old.moment ≤ moment }
+        requires moment { moment ≤ 2 ^ 62 }
+        requires out { length out.old.items ≤ 0 }
+        ensures runs { Runs D.told self.old self.new (lines.Look self.old.row.id moment word arriving.now)
+            out.old.items out.new.items result }
+        ensures serve { DisksServe D.told self.old self.new result }
+        ensures row { self.new.row ≡ self.old.row }
+    {
+        if !self.connection.join(self.row.id, arriving) {
+            return Err(Stop::Line);
+        }
+        self.look_first(moment, word, out)
+    }
+
+    /// A `gone` line: the connection is lost, and the low process looks.
+    fn gone_line(&mut self, moment: u64, out: &mut ArrayVec<Event, 4>) -> Result<(), Stop>
+        requires stands { ∥ StandsForSome D.told self.old ∥₁ }
+        requires order { self.old.moment ≤ moment }
+        requires moment { moment ≤ 2 ^ 62 }
+        requires out { length out.old.items ≤ 0 }
+        ensures runs { Runs D.told self.old self.new (lines.Gone self.old.row.id moment)
+            out.old.items out.new.items result }
+        ensures serve { DisksServe D.told self.old self.new result }
+        ensures row { self.new.row ≡ self.old.row }
+    {
+        self.connection.lose();
+        self.look_gone(moment, out)
+    }
+
+    /// The message in the high hand, which was sent last, comes to the receiver, and its TAKEN comes
+    /// back.
+    fn carry_back(&mut self, moment: u64, out: &mut ArrayVec<Event, 4>) -> Result<(), Stop>
+        requires stands { ∥ StandsForSome D.told self.old ∥₁ }
+        requires order { self.old.moment ≤ moment }
+        requires moment { moment ≤ 2 ^ 62 }
+        requires sent { 0 < length self.old.sent.items }
+        requires out { length out.old.items ≤ 1 }
+        ensures does { Does (λ p q printed. CarriesBack self.old.row p moment q printed)
+            (λ role p q printed. BreaksOff self.old.row p moment role q printed)
+            IsOverfullSent D.told self.old self.new out.old.items out.new.items result }
+        ensures serve { DisksServe D.told self.old self.new result }
+        ensures row { self.new.row ≡ self.old.row }
+    {
+        self.carry(0, out)?;
+        self.take_back(moment, 0, out)
+    }
+
+    /// A `done` line: a high look, and where the hand is full then, its message to the receiver and
+    /// the TAKEN back.
+    fn done_line(
+        &mut self,
+        moment: u64,
+        time: u32,
+        out: &mut ArrayVec<Event, 4>,
+    ) -> Result<(), Stop>
+        requires stands { ∥ StandsForSome D.told self.old ∥₁ }
+        requires order { self.old.moment ≤ moment }
+        requires moment { moment ≤ 2 ^ 62 }
+        requires back { goes_on_by self.old ≡ true → moment + time ≤ 2 ^ 62 }
+        requires out { length out.old.items ≤ 0 }
+        ensures runs { Runs D.told self.old self.new (lines.Done self.old.row.id moment time)
+            out.old.items out.new.items result }
+        ensures serve { DisksServe D.told self.old self.new result }
+        ensures row { self.new.row ≡ self.old.row }
+    {
+        self.look_high(moment, out)?;
+        if self.high.hand().is_none() {
+            return Ok(());
+        }
+        self.carry_back(moment + time as u64, out)
+    }
+
+    /// A line that can be applied where there is room for what comes with it.
+    fn run(&mut self, line: &Line, out: &mut ArrayVec<Event, 4>) -> Result<(), Stop>
+        requires stands { ∥ StandsForSome D.told self.old ∥₁ }
+        requires lawful { IsLawfulLine line.now }
+        requires timely { is_timely_by self.old line.now ≡ true }
+        requires out { length out.old.items ≤ 0 }
+        ensures runs { Runs D.told self.old self.new line.now out.old.items out.new.items result }
+        ensures serve { DisksServe D.told self.old self.new result }
+        ensures row { self.new.row ≡ self.old.row }
+    {
+        match line {
+            Line::Skip | Line::Session(_) | Line::LowSession { .. } | Line::Told { .. } => {
+                Err(Stop::Line)
+            }
+            Line::Look {
+                moment,
+                word,
+                arrival,
+                ..
+            } => self.look_line(*moment, *word, arrival, out),
+            Line::Gone { moment, .. } => self.gone_line(*moment, out),
+            Line::High { moment, .. } => self.look_high(*moment, out),
+            Line::Carry { back, .. } => self.carry(*back, out),
+            Line::Return { moment, back, .. } => self.take_back(*moment, *back, out),
+            Line::Done { moment, time, .. } => self.done_line(*moment, *time, out),
+        }
+    }
+
+    /// A line, if it can be applied; `Stop::Line` where it can't, and then nothing was done.
+    pub fn attempt(&mut self, line: &Line, out: &mut ArrayVec<Event, 4>) -> Result<(), Stop>
+        requires stands { ∥ StandsForSome D.told self.old ∥₁ }
+        requires lawful { IsLawfulLine line.now }
+        requires out { length out.old.items ≤ 0 }
+        ensures attempts { Attempts D.told self.old self.new line.now out.old.items out.new.items result }
+        ensures serve { DisksServe D.told self.old self.new result }
+        ensures row { self.new.row ≡ self.old.row }
+    {
+        if !self.is_timely(line) {
+            return Err(Stop::Line);
+        }
+        self.run(line, out)
+    }
+
+    /// A line of the script: what it prints, and whether it stops the session.
+    pub fn apply(&mut self, line: &Line) -> Applied
+        requires stands { ∥ StandsForSome D.told self.old ∥₁ }
+        requires lawful { IsLawfulLine line.now }
+        ensures attempts { Attempts D.told self.old self.new line.now [] result.events.items (answer_of result.stop) }
+        ensures serve { DisksServe D.told self.old self.new (answer_of result.stop) }
+        ensures row { self.new.row ≡ self.old.row }
+    {
+        let mut events = ArrayVec::new();
+        let stop = self.attempt(line, &mut events).err();
+        Applied { events, stop }
+    }
+}

@@ -1,0 +1,90 @@
+//! A low look of a pump.
+
+ghost use Rattle.std.specs.Prelude.{◌≡◌, ◌^◌, ◌≤◌, length};
+ghost use Rattle.disk_model.specs.declared.name.Role.TheVariants as roles;
+ghost use Rattle.pump_core.specs.History.{Gone};
+ghost use Rattle.script_reader.specs.Steps.{IsOfferedLook, IsLowLook};
+ghost use Rattle.script_reader.specs.Breaks.{IsLost};
+ghost use Rattle.two_worlds.specs.Connections.{unused};
+ghost use Rattle.two_worlds.specs.Standing.{StandsForSome};
+ghost use Rattle.two_worlds.specs.Doing.{Does, NeverBreaks, NeverOverfills, DisksServe};
+ghost use Rattle.two_worlds.specs.LowLooks.{EndsLook};
+
+use crate::applied::Stop;
+use crate::printing::print_look;
+use crate::pump::parts::Parts;
+use arrayvec::ArrayVec;
+use disk_model::{Disk, Role};
+use low_process::{Arrival, LowLook};
+use script_reader::Event;
+
+impl<D: Disk> Parts<D> {
+    /// The end of a low look: its lines are printed, and where the store failed the line stops.
+    fn end_look(
+        &mut self,
+        moment: u64,
+        look: &LowLook,
+        out: &mut ArrayVec<Event, 4>,
+    ) -> Result<(), Stop>
+        requires out { length out.old.items ≤ 1 }
+        ensures ends { EndsLook D.told self.old self.new moment look.now out.old.items out.new.items result }
+    {
+        self.moment = moment;
+        print_look(self.row.id, moment, look, out);
+        if self.low.is_down() {
+            return Err(Stop::Device {
+                role: Role::Low,
+                faults: self.low_store.faults(),
+            });
+        }
+        Ok(())
+    }
+
+    /// A low look with what waits first. `Stop::Device` comes where the low disk failed in the store
+    /// of its message: the refusal is printed, and the low process is down.
+    pub fn look_first(
+        &mut self,
+        moment: u64,
+        word: u32,
+        out: &mut ArrayVec<Event, 4>,
+    ) -> Result<(), Stop>
+        requires stands { ∥ StandsForSome D.told self.old ∥₁ }
+        requires order { self.old.moment ≤ moment }
+        requires moment { moment ≤ 2 ^ 62 }
+        requires out { length out.old.items ≤ 1 }
+        ensures does { Does (λ p q printed. IsOfferedLook self.old.row p moment word q printed)
+            (λ role p q printed. (role ≡ roles.Low) × IsLost self.old.row p moment word q printed)
+            NeverOverfills D.told self.old self.new out.old.items out.new.items result }
+        ensures serve { DisksServe D.told self.old self.new result }
+        ensures row { self.new.row ≡ self.old.row }
+    {
+        let arrival = self.connection.first();
+        let look = self
+            .low
+            .look(moment, word, arrival, &mut self.low_store, &mut self.ends);
+        self.connection.settle(look.taken);
+        self.end_look(moment, &look, out)
+    }
+
+    /// The low look of a connection that is lost: nothing waits on the new one.
+    pub fn look_gone(&mut self, moment: u64, out: &mut ArrayVec<Event, 4>) -> Result<(), Stop>
+        requires stands { ∥ StandsForSome D.told self.old ∥₁ }
+        requires unused { self.old.connection ≡ unused }
+        requires order { self.old.moment ≤ moment }
+        requires moment { moment ≤ 2 ^ 62 }
+        requires out { length out.old.items ≤ 1 }
+        ensures does { Does (λ p q printed. IsLowLook self.old.row p moment 0 Gone q printed)
+            NeverBreaks NeverOverfills D.told self.old self.new out.old.items out.new.items result }
+        ensures serve { DisksServe D.told self.old self.new result }
+        ensures row { self.new.row ≡ self.old.row }
+    {
+        let look = self.low.look(
+            moment,
+            0,
+            Arrival::Gone,
+            &mut self.low_store,
+            &mut self.ends,
+        );
+        self.end_look(moment, &look, out)
+    }
+}

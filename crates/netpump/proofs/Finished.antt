@@ -1,27 +1,33 @@
 -- The end of a session is printed last.
-use Rattle.std.proofs.Common.{◌≡◌, ℕ, List, ◌++◌, Option, None, Some, Result, OnErr, sym, ap, ◌∙◌, subst}
+use Rattle.std.proofs.Common.{◌≡◌, ℕ, List, [], ◌∷◌, ◌++◌, option_to_list, Option, None, Some, Result, OnErr, refl, sym, ap, ◌∙◌, subst}
 use Rattle.pump_link.specs.Causes.{AppendsFront}
 use Rattle.script_reader.specs.declared.event.Event.{Event}
-use Rattle.script_reader.specs.Past.{Past}
-use Rattle.script_reader.specs.Scripts.{Running, end_of, ends}
+use Rattle.script_reader.specs.declared.event.Event.TheVariants.{End}
+use Rattle.script_reader.specs.Tolds.{LowPast}
+use Rattle.script_reader.specs.Scripts.{Begun, Whole, Alone, Ends, IsLowEnd}
 use Rattle.script_reader.specs.Transcript.{event_line, text}
+use Rattle.two_worlds.specs.LowPumps as low_pump
+use Rattle.two_worlds.specs.declared.low_pump.LowPump.{LowPump}
 use Rattle.netpump.specs.declared.session.Session.{Session}
-use Rattle.netpump.specs.Sessions.{StandsFor, row_of}
+use Rattle.netpump.specs.declared.session.Session.TheVariants as sessions
+use Rattle.netpump.specs.Sessions.{StandsFor}
 use Rattle.netpump.specs.Outputs.{Gathers}
-use Rattle.netpump.specs.Runners.{StandsForRunning}
 use Rattle.netpump.proofs.Gathered.{text-one, held_front}
 
-pub end_line : (session : Option Session) (s : Session) (running : Option Running) (event : Event) → session ≡ Some s → StandsForRunning session running
-    → ((p : Past) → StandsFor s p → event ≡ end_of (row_of s) p) → event_line event ≡ text (ends running)
-end_line None s running event e h is = cc
-end_line (Some t) s None event e h is = absurd h
-end_line (Some t) s (Some r) event e h is =
-    let same : t ≡ s = cc in
-    let stands : StandsFor s r.past = subst (λ x. StandsFor x r.past) same h.1 in
-    let row : row_of s ≡ r.row = ap row_of (sym same) ∙ h.0 in
-    ap event_line (is r.past stands ∙ ap (λ x. end_of x r.past) row) ∙ sym (text-one (end_of r.row r.past))
+pub alone_ends : (before : Session) (id : ℕ) (p : LowPump) (next : ℕ) → before ≡ sessions.Alone id p
+    → ((q : LowPast) → low_pump.LowStandsFor p q → IsLowEnd (low_pump.low_row_of p) q (End (low_pump.low_row_of p).id next None))
+    → (running : Begun) → StandsFor before running → Ends (Some running) (End id next None ∷ [])
+alone_ends before id p next is ends running h = at running (subst (λ (s : Session). StandsFor s running) is h)
+  where
+    at : (running : Begun) → StandsFor (sessions.Alone id p) running → Ends (Some running) (End id next None ∷ [])
+    at (Whole s) h = absurd h.is_of
+    at (Alone s) h =
+        let low = ends s.past h.is_of.2 in
+        let same : End (low_pump.low_row_of p).id next None ≡ End id next None = ap (λ (i : ℕ). End i next None) (ap (λ r. r.id) h.is_of.1 ∙ sym h.is_of.0) in
+        (End id next None, subst (λ (e : Event). IsLowEnd s.row s.past e) same (subst (λ r. IsLowEnd r s.past (End (low_pump.low_row_of p).id next None)) h.is_of.1 low), refl)
 
-pub end_front : {T E : Type 0} (session : Option Session) (s : Session) (running : Option Running) (event : Event) (r : Result T E) (first second : List ℕ) (a b c : Option (List ℕ))
-    → session ≡ Some s → StandsForRunning session running → ((p : Past) → StandsFor s p → event ≡ end_of (row_of s) p)
-    → Gathers first second a b (event_line event) → OnErr r (AppendsFront b c second) → OnErr r (AppendsFront a c (first ++ text (ends running)))
-end_front session s running event r first second a b c e h is p q = held_front r first second a b c _ _ (end_line session s running event e h is) p q
+-- it was written after what was held, or a front of both was
+pub end_front : {T E : Type 0} (last : Option Event) (event : Event) (r : Result T E) (first second : List ℕ) (a b c : Option (List ℕ)) → last ≡ Some event
+    → Gathers first second a b (event_line event) → OnErr r (AppendsFront b c second) → OnErr r (AppendsFront a c (first ++ text (option_to_list last)))
+end_front last event r first second a b c is p q =
+    held_front r first second a b c _ _ (sym (text-one event) ∙ sym (ap (λ (o : Option Event). text (option_to_list o)) is)) p q

@@ -1,68 +1,133 @@
 -- What becomes of a line of a session that has begun.
-use Rattle.std.proofs.Common.{◌≡◌, ◌≢◌, Bool, true, false, List, [], Option, None, Some, is_some, refl, sym, ap, ◌∙◌, subst}
+use Rattle.std.proofs.Common.{◌≡◌, ◌≢◌, ℕ, true, false, List, Option, None, Some, refl, sym, ap, ◌∙◌, subst}
+use Rattle.disk_model.specs.Plain.{plain_meaning}
+use Rattle.disk_model.specs.declared.name.Role.{Role}
+use Rattle.disk_model.specs.declared.name.Role.TheVariants as roles
 use Rattle.pump_frame.specs.declared.row.SessionRow.{SessionRow}
 use Rattle.script_reader.specs.declared.event.Event.{Event}
+use Rattle.script_reader.specs.declared.fault.Fault.TheVariants as faults
 use Rattle.script_reader.specs.declared.line.Line.{Line}
 use Rattle.script_reader.specs.declared.line.Line.TheVariants as lines
-use Rattle.pump_frame.specs.declared.row.RowKey.{RowKey}
-use Rattle.pump_frame.specs.Rows.{first_bad}
-use Rattle.script_reader.specs.Past.{fresh}
-use Rattle.script_reader.specs.Steps.{is_timely, IsBarred, Step}
-use Rattle.script_reader.specs.Scripts.{Running, Goes, Leads, IsRefused}
+use Rattle.script_reader.specs.Steps.{is_timely, IsBarred, Step, Overfills}
+use Rattle.script_reader.specs.Past.{Past}
+use Rattle.script_reader.specs.Tolds.{LowPast, is_timely_low, IsBarredLow, StepLow}
+use Rattle.script_reader.specs.Scripts.{Running, LowRunning, Begun, Whole, Alone, GoesOn, Leads, IsRefused}
+use Rattle.two_worlds.specs.declared.applied.Stop.{Stop}
+use Rattle.two_worlds.specs.declared.applied.Stop.TheVariants as stops
+use Rattle.two_worlds.specs.Pumps as pump
+use Rattle.two_worlds.specs.LowPumps as low_pump
+use Rattle.two_worlds.specs.Rooms.{HasRoom, DisksGo}
+use Rattle.two_worlds.specs.declared.low_pump.LowPump.{LowPump}
 use Rattle.netpump.specs.declared.session.Session.{Session}
-use Rattle.netpump.specs.declared.session.Stop.{Stop}
-use Rattle.netpump.specs.declared.session.Stop.TheVariants as stops
-use Rattle.netpump.specs.declared.replay.Outcome.{Outcome}
-use Rattle.netpump.specs.Sessions.{StandsFor, Applies, row_of}
-use Rattle.netpump.specs.Runners.{StandsForRunning, Does}
+use Rattle.netpump.specs.declared.session.Session.TheVariants as sessions
+use Rattle.netpump.specs.Sessions.{IsRoomy, StandsFor, Applies}
+use Rattle.netpump.proofs.Rooms.{room_stays, no_device}
 
-leads_from : (running : Running) (line : Line) (after : Option Running) (printed : List Event) → Goes running line after printed → Leads (Some running) line after printed
-leads_from running lines.Skip after printed h = cc h.0
-leads_from running (lines.Session row) after printed h = h
-leads_from running (lines.Look session moment word arrival) after printed h = h
-leads_from running (lines.Gone session moment) after printed h = h
-leads_from running (lines.Done session moment time) after printed h = h
+pub leads_from : (running : Begun) (line : Line) (after : Option Begun) (printed : List Event) → line ≢ lines.Skip → GoesOn running line after printed → Leads (Some running) line after printed
+leads_from running lines.Skip after printed some h = absurd (some refl)
+leads_from running (lines.Session row) after printed some h = h
+leads_from running (lines.LowSession row next held) after printed some h = h
+leads_from running (lines.Look session moment word arrival) after printed some h = h
+leads_from running (lines.Told session moment word fault feedback arrival) after printed some h = h
+leads_from running (lines.Gone session moment) after printed some h = h
+leads_from running (lines.High session moment) after printed some h = h
+leads_from running (lines.Carry session back) after printed some h = h
+leads_from running (lines.Return session moment back) after printed some h = h
+leads_from running (lines.Done session moment time) after printed some h = h
 
-refused_from : (running : Running) (line : Line) → line ≢ lines.Skip → IsBarred running.row running.past line → IsRefused (Some running) line
-refused_from running lines.Skip some h = absurd (some refl)
-refused_from running (lines.Session row) some h = h
-refused_from running (lines.Look session moment word arrival) some h = h
-refused_from running (lines.Gone session moment) some h = h
-refused_from running (lines.Done session moment time) some h = h
+refused_whole : (s : Running) (line : Line) → line ≢ lines.Skip → IsBarred s.row s.past line → IsRefused (Some (Whole s)) line
+refused_whole s lines.Skip some h = absurd (some refl)
+refused_whole s (lines.Session row) some h = h
+refused_whole s (lines.LowSession row next held) some h = h
+refused_whole s (lines.Look session moment word arrival) some h = h
+refused_whole s (lines.Told session moment word fault feedback arrival) some h = h
+refused_whole s (lines.Gone session moment) some h = h
+refused_whole s (lines.High session moment) some h = h
+refused_whole s (lines.Carry session back) some h = h
+refused_whole s (lines.Return session moment back) some h = h
+refused_whole s (lines.Done session moment time) some h = h
 
-pub goes : (s t : Session) (running : Running) (line : Line) (printed : List Event) (stop : Option Stop) → stop ≡ None → row_of s ≡ running.row → row_of t ≡ row_of s
-    → Applies s t line running.past printed stop → (after : Option Running) × Leads (Some running) line after printed × StandsForRunning (Some t) after
-goes s t running line printed (Some x) none row same h = cc
-goes s t running line printed None none row same h =
-    let q = h.1.0 in
-    let timely : is_timely running.row running.past line ≡ true = rw row at h.0 in
-    let step : Step running.row running.past line q printed = subst (λ r. Step r running.past line q printed) row h.1.1 in
-    let after : Running = record { row = running.row; past = q } in
-    (Some after, leads_from running line (Some after) printed (timely, (q, step, refl)), (same ∙ row, h.1.2))
+refused_alone : (s : LowRunning) (line : Line) → line ≢ lines.Skip → IsBarredLow s.row s.past line → IsRefused (Some (Alone s)) line
+refused_alone s lines.Skip some h = absurd (some refl)
+refused_alone s (lines.Session row) some h = h
+refused_alone s (lines.LowSession row next held) some h = h
+refused_alone s (lines.Look session moment word arrival) some h = h
+refused_alone s (lines.Told session moment word fault feedback arrival) some h = h
+refused_alone s (lines.Gone session moment) some h = h
+refused_alone s (lines.High session moment) some h = h
+refused_alone s (lines.Carry session back) some h = h
+refused_alone s (lines.Return session moment back) some h = h
+refused_alone s (lines.Done session moment time) some h = h
 
-pub stays : (s t : Session) (running : Running) (line : Line) (printed : List Event) (stop : Option Stop) (x : Stop) → stop ≡ Some x → row_of s ≡ running.row → line ≢ lines.Skip
-    → Applies s t line running.past printed stop → IsRefused (Some running) line
-stays s t running line printed None x e row some h = cc
-stays s t running line printed (Some stops.Line) x e row some h = refused_from running line some (subst (λ r. IsBarred r running.past line) row h.0)
+-- ---- a whole session ----
 
-pub begun_does : (session : Option Session) (s t : Session) (running : Option Running) (line : Line) (outcome : Outcome) → session ≡ Some s
-    → ((r : Running) → row_of s ≡ r.row → StandsFor s r.past → Does (Some r) line (Some t) outcome)
-    → StandsForRunning session running → Does running line (Some t) outcome
-begun_does None s t running line outcome e does h = cc
-begun_does (Some x) s t None line outcome e does h = absurd h
-begun_does (Some x) s t (Some r) line outcome e does h =
-    let same : x ≡ s = cc in
-    does r (ap row_of (sym same) ∙ h.0) (subst (λ y. StandsFor y r.past) same h.1)
+module _ (id : ℕ) (p t : _) (line : Line) (some : line ≢ lines.Skip) (printed : List Event) (s : Running) (id_is : id ≡ s.row.id) (row : pump.row_of p ≡ s.row) (same : pump.row_of t ≡ pump.row_of p)
+    (room : IsRoomy (sessions.Whole id t)) where
+  whole_does : (stop : Option Stop) → pump.is_down t ≡ low_pump.is_device stop → ((role : Role) (count : ℕ) → stop ≡ Some (stops.Device role count) → ⊥) → pump.Applies plain_meaning p t line s.past printed stop
+      → Applies (Whole s) line (sessions.Whole id t) printed stop
+  whole_does None down fine h =
+      let timely : is_timely s.row s.past line ≡ true = subst (λ (r : SessionRow). is_timely r s.past line ≡ true) row h.0 in
+      let step : Step s.row s.past line h.1.0 printed = subst (λ (r : SessionRow). Step r s.past line h.1.0 printed) row h.1.1 in
+      let after : Option Begun = Some (Whole (record { row = s.row; past = h.1.0 })) in (
+        after,
+        leads_from (Whole s) line after printed some (timely, (h.1.0, step, refl)),
+        record { up = down; room = room; is_of = (id_is, same ∙ row, h.1.2) },
+      )
+  whole_does (Some stops.Line) down fine h =
+      (refused_whole s line some (subst (λ (r : SessionRow). IsBarred r s.past line) row h.0), h.1)
+  whole_does (Some (stops.Device role count)) down fine h = absurd (fine role count refl)
+  whole_does (Some (stops.Full end length size)) down fine h = (
+    subst (λ (r : SessionRow). is_timely r s.past line ≡ true) row h.0,
+    (end, length, size, subst (λ (r : SessionRow). Overfills r s.past line printed end length size) row h.1, ap (λ (i : ℕ). faults.Full i end length size) id_is),
+  )
 
-none_from : {A : Type 0} (o : Option A) (b : Bool) → b ≡ is_some o → b ≡ false → o ≡ None
-none_from None b e f = refl
-none_from (Some x) b e f = cc
+-- a line was given to the pump of a whole session
+pub whole_applies : (before : Session) (id : ℕ) (p t : _) (line : Line) (printed : List Event) (stop : Option Stop) → before ≡ sessions.Whole id p → line ≢ lines.Skip
+    → ((q : Past) → pump.StandsFor plain_meaning p q → pump.Applies plain_meaning p t line q printed stop)
+    → DisksGo plain_meaning (pump.row_of p) (pump.disk_at roles.Low p) (pump.disk_at roles.High p) (pump.disk_at roles.Recv p) (pump.disk_at roles.Low t) (pump.disk_at roles.High t) (pump.disk_at roles.Recv t) stop
+    → pump.is_down t ≡ low_pump.is_device stop → pump.row_of t ≡ pump.row_of p → (running : Begun) → StandsFor before running → Applies running line (sessions.Whole id t) printed stop
+whole_applies before id p t line printed stop is some applies goes down same running h = whole_runs running (subst (λ (s : Session). StandsFor s running) is h)
+  where
+    roomy : IsRoomy (sessions.Whole id p) → IsRoomy (sessions.Whole id t)
+    roomy room = subst (λ (r : SessionRow). HasRoom plain_meaning r (pump.disk_at roles.Low t) (pump.disk_at roles.High t) (pump.disk_at roles.Recv t)) (sym same)
+        (room_stays plain_meaning (pump.row_of p) _ _ _ _ _ _ stop tt room goes)
 
--- a session begins
-pub begins : (line : Line) (row : SessionRow) (begun : Session) (printed : List Event) (bad : Option RowKey) (is_bad : Bool) → line ≡ lines.Session row
-    → bad ≡ first_bad row → is_bad ≡ is_some bad → is_bad ≡ false → StandsFor begun (fresh row) → row_of begun ≡ row → printed ≡ []
-    → (after : Option Running) × Leads None line after printed × StandsForRunning (Some begun) after
-begins line row begun printed bad is_bad e is some none stands same silent =
-    let after : Running = record { row = row; past = fresh row } in
-    let lawful : first_bad row ≡ None = sym is ∙ none_from bad is_bad some none in
-    (Some after, subst (λ l. Leads None l (Some after) printed) (sym e) ((lawful, refl), silent), (same, stands))
+    whole_runs : (running : Begun) → StandsFor (sessions.Whole id p) running → Applies running line (sessions.Whole id t) printed stop
+    whole_runs (Whole s) h =
+        whole_does id p t line some printed s h.is_of.0 h.is_of.1 same (roomy h.room) stop down (no_device plain_meaning (pump.row_of p) _ _ _ _ _ _ stop tt h.room goes) (applies s.past h.is_of.2)
+    whole_runs (Alone s) h = absurd h.is_of
+
+-- ---- a low side alone ----
+
+module _ (id : ℕ) (p t : LowPump) (line : Line) (some : line ≢ lines.Skip) (printed : List Event) (s : LowRunning) (id_is : id ≡ s.row.id) (row : low_pump.low_row_of p ≡ s.row)
+    (same : low_pump.low_row_of t ≡ low_pump.low_row_of p) where
+  alone_does : (stop : Option Stop) → low_pump.low_is_down t ≡ low_pump.is_device stop → low_pump.AppliesLow p t line s.past printed stop
+      → Applies (Alone s) line (sessions.Alone id t) printed stop
+  alone_does None down h =
+      let timely : is_timely_low s.row s.past line ≡ true = subst (λ (r : SessionRow). is_timely_low r s.past line ≡ true) row h.0 in
+      let step : StepLow s.row s.past line false h.1.0 printed = subst (λ (r : SessionRow). StepLow r s.past line false h.1.0 printed) row h.1.1 in
+      let after : Option Begun = Some (Alone (record { row = s.row; past = h.1.0 })) in (
+        after,
+        leads_from (Alone s) line after printed some (timely, (h.1.0, step, refl)),
+        record { up = down; room = tt; is_of = (id_is, same ∙ row, h.1.2) },
+      )
+  alone_does (Some stops.Line) down h =
+      (refused_alone s line some (subst (λ (r : SessionRow). IsBarredLow r s.past line) row h.0), h.1)
+  alone_does (Some (stops.Device roles.Low count)) down h = (
+    subst (λ (r : SessionRow). is_timely_low r s.past line ≡ true) row h.0,
+    (h.1.0, subst (λ (r : SessionRow). StepLow r s.past line true h.1.0 printed) row h.1.1, ap (λ (i : ℕ). faults.Device i roles.Low) id_is),
+  )
+  alone_does (Some (stops.Device roles.High count)) down h = absurd h
+  alone_does (Some (stops.Device roles.Recv count)) down h = absurd h
+  alone_does (Some (stops.Full end length size)) down h = absurd h
+
+-- a line was given to the pump of a low side alone
+pub alone_applies : (before : Session) (id : ℕ) (p t : LowPump) (line : Line) (printed : List Event) (stop : Option Stop) → before ≡ sessions.Alone id p → line ≢ lines.Skip
+    → ((q : LowPast) → low_pump.LowStandsFor p q → low_pump.AppliesLow p t line q printed stop)
+    → low_pump.low_is_down t ≡ low_pump.is_device stop → low_pump.low_row_of t ≡ low_pump.low_row_of p
+    → (running : Begun) → StandsFor before running → Applies running line (sessions.Alone id t) printed stop
+alone_applies before id p t line printed stop is some applies down same running h = alone_runs running (subst (λ (s : Session). StandsFor s running) is h)
+  where
+    alone_runs : (running : Begun) → StandsFor (sessions.Alone id p) running → Applies running line (sessions.Alone id t) printed stop
+    alone_runs (Whole s) h = absurd h.is_of
+    alone_runs (Alone s) h = alone_does id p t line some printed s h.is_of.0 h.is_of.1 same stop down (applies s.past h.is_of.2)

@@ -1,10 +1,5 @@
-pub mod LowHands
-pub mod LowLooks
-pub mod LowSteps
 pub mod Outputs
-pub mod PlainApplies
-pub mod PlainSteps
 pub mod Replays
 pub mod Runners
 pub mod Sessions
-pub mod Standing
+pub mod Statuses

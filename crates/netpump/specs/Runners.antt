@@ -1,29 +1,57 @@
--- What the running session of a replay stands for. It serves the private functions and the proofs.
-use Rattle.std.specs.Prelude.{◌≡◌, ◌⊎◌, ℕ, List, [], Option, Some, None}
+-- What becomes of a line that a replay has read, and how a replay ends. It serves the private functions and the proofs.
+use Rattle.std.specs.Prelude.{◌≡◌, ◌⊎◌, ℕ, List, [], ◌++◌, Option, Some, None}
 use Rattle.std.specs.Io.KnownBytes.{Appends}
 use Rattle.pump_link.specs.Causes.{AppendsFront, Rose}
+use Rattle.script_reader.specs.declared.event.Event.{Event}
+use Rattle.script_reader.specs.declared.fault.Fault.TheVariants as faults
 use Rattle.script_reader.specs.declared.line.Line.{Line}
-use Rattle.script_reader.specs.Scripts.{Running, Leads, IsRefused}
-use Rattle.netpump.specs.Sessions.{StandsFor, row_of}
-use Rattle.netpump.specs.Replays.{IsDone, IsUnread, IsStopped, IsCutOff}
+use Rattle.script_reader.specs.Scripts.{Begun, Leads, IsRefused, Halts}
+use Rattle.script_reader.specs.Transcript.{text}
+use Rattle.two_worlds.specs.declared.applied.Stop.{Stop}
+use Rattle.two_worlds.specs.declared.applied.Stop.TheVariants as stops
+use Rattle.netpump.specs.Sessions.{IsUp, StandsForRunning}
+use Rattle.netpump.specs.Outputs.{Gathers}
+use Rattle.netpump.specs.Replays.{IsDone, IsUnread, IsStopped, IsFailed, IsOverfilled, IsCutOff}
 use Rattle.netpump.specs.declared.session.Session.{Session}
 use Rattle.netpump.specs.declared.replay.Outcome.{Outcome}
-use Rattle.netpump.specs.declared.replay.Outcome.TheVariants as outcome
+use Rattle.netpump.specs.declared.replay.Outcome.TheVariants as outcomes
 use Rattle.netpump.specs.declared.replay.Ended.{Ended}
 use Rattle.netpump.specs.declared.replay.Ended.TheVariants as ended
 
--- no session where none has begun, else one of the row that stands for the past
-abbrev pub StandsForRunning : Option Session → Option Running → Type 0
-StandsForRunning None None = Unit {0}
-StandsForRunning (Some session) (Some running) = (row_of session ≡ running.row) × StandsFor session running.past
-StandsForRunning None (Some running) = ⊥
-StandsForRunning (Some session) None = ⊥
+-- no disk of a session that has begun has failed
+abbrev pub AreUp : Option Session → Type 0
+AreUp None = Unit {0}
+AreUp (Some session) = IsUp session
 
--- what became of a line: it leads on and printed this, it can't be applied, or a session could not begin for want of memory
-abbrev pub Does : Option Running → Line → Option Session → Outcome → Type 0
-Does running line session (outcome.Printed events) = (after : Option Running) × Leads running line after events.items × StandsForRunning session after
-Does running line session outcome.Refused = IsRefused running line
-Does running line session outcome.Memory = running ≡ None
+-- what becomes of a line by why it stops the session of this number, if it does
+abbrev pub outcome_of : ℕ → Option Stop → Outcome
+outcome_of id None = outcomes.Applied
+outcome_of id (Some stops.Line) = outcomes.Refused
+outcome_of id (Some (stops.Device role count)) = outcomes.Halted (faults.Device id role)
+outcome_of id (Some (stops.Full end length size)) = outcomes.Halted (faults.Full id end length size)
+
+-- a line that prints this leads on, can't be applied, stops the script, or a session could not begin for want of memory
+abbrev pub Goes : Option Begun → Line → Option Session → List Event → Outcome → Type 0
+Goes running line session printed outcomes.Applied =
+    (after : Option Begun) × Leads running line after printed × StandsForRunning session after
+Goes running line session printed outcomes.Refused = IsRefused running line × (printed ≡ [])
+Goes running line session printed (outcomes.Halted fault) = Halts running line printed fault
+Goes running line session printed outcomes.Memory = (running ≡ None) × (printed ≡ [])
+Goes running line session printed outcomes.Unwritten = ⊥
+
+-- it goes so, and what it prints was added to what was held
+abbrev pub Adds : Option Begun → Line → Option Session → List ℕ → List ℕ → Option (List ℕ) → Option (List ℕ) → Outcome → Type 0
+Adds running line session held later old new outcome =
+    (printed : List Event) × Goes running line session printed outcome × Gathers held later old new (text printed)
+
+-- so, or what was held and what it prints could not be written
+abbrev pub Does : Option Begun → Line → Option Session → List ℕ → List ℕ → Option (List ℕ) → Option (List ℕ) → Outcome → Type 0
+Does running line session held later old new outcomes.Unwritten =
+    (printed : List Event) × (outcome : Outcome) × Goes running line session printed outcome × AppendsFront old new (held ++ text printed)
+Does running line session held later old new outcomes.Applied = Adds running line session held later old new outcomes.Applied
+Does running line session held later old new outcomes.Refused = Adds running line session held later old new outcomes.Refused
+Does running line session held later old new outcomes.Memory = Adds running line session held later old new outcomes.Memory
+Does running line session held later old new (outcomes.Halted fault) = Adds running line session held later old new (outcomes.Halted fault)
 
 -- these last bytes were written and the end is this one, or a front of them was and the sink's count rose
 abbrev pub Closes : Option (List ℕ) → Option (List ℕ) → ℕ → ℕ → List ℕ → Ended → Ended → Type 0
@@ -31,9 +59,12 @@ Closes old new before now bytes end result =
     ((result ≡ end) × Appends old new bytes) ⊎ ((result ≡ ended.Write) × AppendsFront old new bytes × Rose before now)
 
 -- how a replay ends
-abbrev pub Ends : Option (List ℕ) → Option (List ℕ) → Option (List ℕ) → Option (List ℕ) → ℕ → ℕ → Ended → Type 0
-Ends all left old new before now ended.Done = IsDone all old new
-Ends all left old new before now ended.Memory = Appends old new []
-Ends all left old new before now ended.Read = IsUnread all left old new before now
-Ends all left old new before now ended.Write = IsCutOff all left old new before now
-Ends all left old new before now ended.Script = IsStopped all left old new
+abbrev pub EndsAs : Option (List ℕ) → Option (List ℕ) → Option (List ℕ) → Option (List ℕ) → ℕ → ℕ → Ended → Type 0
+EndsAs all left old new before now ended.Done = IsDone all old new
+EndsAs all left old new before now ended.Memory = Appends old new []
+EndsAs all left old new before now ended.Write = IsCutOff all left old new before now
+EndsAs all left old new before now (ended.Stopped faults.Words) = ⊥
+EndsAs all left old new before now (ended.Stopped faults.Read) = IsUnread all left old new before now
+EndsAs all left old new before now (ended.Stopped (faults.Script number)) = IsStopped all left old new
+EndsAs all left old new before now (ended.Stopped (faults.Device session role)) = IsFailed all left old new
+EndsAs all left old new before now (ended.Stopped (faults.Full session end size_of_message size)) = IsOverfilled all left old new

@@ -1,25 +1,67 @@
 -- What a session of the code stands for, and what a line of a script does to it.
-use Rattle.std.specs.Prelude.{◌≡◌, true, List, [], Option, Some, None}
-use Rattle.pump_frame.specs.declared.row.SessionRow.{SessionRow}
+use Rattle.std.specs.Prelude.{◌≡◌, ℕ, Bool, false, List, [], Option, Some, None}
+use Rattle.disk_model.specs.Plain.{plain_meaning}
+use Rattle.disk_model.specs.declared.name.Role.TheVariants as roles
 use Rattle.script_reader.specs.declared.event.Event.{Event}
+use Rattle.script_reader.specs.declared.fault.Fault.TheVariants as faults
 use Rattle.script_reader.specs.declared.line.Line.{Line}
-use Rattle.script_reader.specs.Past.{Past}
-use Rattle.script_reader.specs.Steps.{is_timely, Step, IsBarred}
-use Rattle.netpump.specs.Standing as plain
+use Rattle.script_reader.specs.Scripts.{Begun, Whole, Alone, Leads, IsRefused, Halts}
+use Rattle.two_worlds.specs.declared.applied.Stop.{Stop}
+use Rattle.two_worlds.specs.declared.applied.Stop.TheVariants as stops
+use Rattle.two_worlds.specs.Pumps as pump
+use Rattle.two_worlds.specs.LowPumps as low_pump
+use Rattle.two_worlds.specs.Rooms.{HasRoom}
 use Rattle.netpump.specs.declared.session.Session.{Session}
-use Rattle.netpump.specs.declared.session.Stop.{Stop}
-use Rattle.netpump.specs.declared.session.Stop.TheVariants as stops
+use Rattle.netpump.specs.declared.session.Session.TheVariants as sessions
 
--- the row that the session was made for
-abbrev pub row_of : Session → SessionRow
-row_of s = s.plain.row
+-- its number
+abbrev pub id_of : Session → ℕ
+id_of (sessions.Whole id p) = id
+id_of (sessions.Alone id p) = id
 
--- the session stands for this past
-abbrev pub StandsFor : Session → Past → Type 0
-StandsFor s p = plain.StandsFor s.plain p
+-- a call of one of its disks failed
+abbrev pub is_down : Session → Bool
+is_down (sessions.Whole id p) = pump.is_down p
+is_down (sessions.Alone id p) = low_pump.low_is_down p
 
--- a line was given to s, which stood for p, and left it as t: the line can be applied, and leads to
--- what t stands for and prints this; or it can't be, and nothing is printed or changed
-abbrev pub Applies : Session → Session → Line → Past → List Event → Option Stop → Type 0
-Applies s t line p printed None = (is_timely (row_of s) p line ≡ true) × ((q : Past) × Step (row_of s) p line q printed × StandsFor t q)
-Applies s t line p printed (Some stops.Line) = IsBarred (row_of s) p line × (printed ≡ []) × (t ≡ s)
+abbrev pub IsUp : Session → Type 0
+IsUp s = is_down s ≡ false
+
+-- no disk of a whole session fails: none is armed, and each has room for all that its format needs
+abbrev pub IsRoomy : Session → Type 0
+IsRoomy (sessions.Whole id p) = HasRoom plain_meaning (pump.row_of p)
+    (pump.disk_at roles.Low p) (pump.disk_at roles.High p) (pump.disk_at roles.Recv p)
+IsRoomy (sessions.Alone id p) = Unit {0}
+
+-- it was opened for the row, and stands for what the session has been through
+abbrev pub IsOf : Session → Begun → Type 0
+IsOf (sessions.Whole id p) (Whole s) =
+    (id ≡ s.row.id) × (pump.row_of p ≡ s.row) × pump.StandsFor plain_meaning p s.past
+IsOf (sessions.Alone id p) (Alone s) =
+    (id ≡ s.row.id) × (low_pump.low_row_of p ≡ s.row) × low_pump.LowStandsFor p s.past
+IsOf (sessions.Whole id p) (Alone s) = ⊥
+IsOf (sessions.Alone id p) (Whole s) = ⊥
+
+-- no disk has failed, and the session is this one
+pub record StandsFor (s : Session) (running : Begun) : Type 0 where
+  pub up : IsUp s
+  pub room : IsRoomy s
+  pub is_of : IsOf s running
+
+-- so, or no session has begun
+abbrev pub StandsForRunning : Option Session → Option Begun → Type 0
+StandsForRunning None None = Unit {0}
+StandsForRunning (Some session) (Some running) = StandsFor session running
+StandsForRunning None (Some running) = ⊥
+StandsForRunning (Some session) None = ⊥
+
+-- a line was given to the running session and left it as t: it can be applied, and leads to what t stands
+-- for and prints this; or it can't be, and prints nothing; or it stops the script after it printed this
+abbrev pub Applies : Begun → Line → Session → List Event → Option Stop → Type 0
+Applies running line t printed None =
+    (after : Option Begun) × Leads (Some running) line after printed × StandsForRunning (Some t) after
+Applies running line t printed (Some stops.Line) = IsRefused (Some running) line × (printed ≡ [])
+Applies running line t printed (Some (stops.Device role count)) =
+    Halts (Some running) line printed (faults.Device (id_of t) role)
+Applies running line t printed (Some (stops.Full end length size)) =
+    Halts (Some running) line printed (faults.Full (id_of t) end length size)

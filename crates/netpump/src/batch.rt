@@ -1,11 +1,13 @@
-ghost use Rattle.std.specs.Prelude.{◌≡◌, ◌≤◌, ◌↔◌, ◌⊎◌, [], map, string_bytes, IsTrue};
+ghost use Rattle.std.specs.Prelude.{◌≡◌, ℕ, ◌≤◌, ◌↔◌, ◌⊎◌, List, [], Option, Some, map, string_bytes, IsTrue};
 ghost use Rattle.std.specs.Io.KnownBytes.{Appends};
 ghost use Rattle.pump_link.specs.Causes.{Rose};
 ghost use Rattle.script_reader.specs.Transcript.{fault_line};
-ghost use Rattle.netpump.specs.Replays.{IsReplay, IsDone, IsUnread, IsStopped, IsCutOff};
+ghost use Rattle.script_reader.specs.declared.fault.Fault.{Fault as Cause};
+ghost use Rattle.netpump.specs.Statuses.{EndsWith, status_of};
+ghost use Rattle.netpump.specs.Replays.{IsReplay, IsDone, IsUnread, IsStopped, IsFailed, IsOverfilled, IsCutOff};
 
 use crate::output::Output;
-use crate::replay::{Ended, replay};
+use crate::replay::{Ended, replay, stop};
 use pump_link::{Sink, Source};
 use script_reader::Fault;
 use std::alloc::Global;
@@ -29,8 +31,13 @@ fn is_replay(words: &Vec<String>) -> bool
 /// - 4: the output could not be written; a front of what is to be written was.
 /// - 5: a line is outside the grammar or can't be applied; the transcript of the lines before was
 ///   written.
+/// - 7: a line told that the device of a low side alone fails, in a store; the transcript of the
+///   lines before was written, and what this line printed.
+/// - 10: a line's message does not fit on the receiver's disk; the same was written.
 ///
-/// `docs/formats.md` has the script, the transcript and the last line at the statuses 2, 3 and 5.
+/// Of 0, 5, 7 and 10 it is the one whose cause is the first in the script, where it is none of the
+/// others. `docs/formats.md` has the script, the transcript and the last line at the statuses 2, 3,
+/// 5, 7 and 10.
 pub fn batch<I: Source, O: Sink>(
     alloc: Global,
     words: &Vec<String>,
@@ -44,22 +51,30 @@ pub fn batch<I: Source, O: Sink>(
     ensures unwritten { result ≡ 4 → Rose (O.faults out.old) (O.faults out.new) }
     ensures cut_off { result ≡ 4 → IsReplay (map string_bytes words.now.items) → IsCutOff (I.left script.old) (I.left script.new) (O.written out.old) (O.written out.new) (I.faults script.old) (I.faults script.new) }
     ensures stopped { result ≡ 5 → IsStopped (I.left script.old) (I.left script.new) (O.written out.old) (O.written out.new) }
+    ensures device { result ≡ 7 → IsFailed (I.left script.old) (I.left script.new) (O.written out.old) (O.written out.new) }
+    ensures full { result ≡ 10 → IsOverfilled (I.left script.old) (I.left script.new) (O.written out.old) (O.written out.new) }
     // Status 2 comes exactly where the words are not the one word "replay", where it can be written.
     ensures replay { IsReplay (map string_bytes words.now.items) → (result ≡ 2 → ⊥) }
     ensures no_replay { (IsReplay (map string_bytes words.now.items) → ⊥) → (result ≡ 2) ⊎ (result ≡ 4) }
-    ensures status { result ≤ 5 }
+    // A script that tells its bytes has the status of its end, unless memory, a read or a write failed.
+    ensures only { IsReplay (map string_bytes words.now.items) → (bytes : List ℕ) (end : Option Cause) → I.left script.old ≡ Some bytes → EndsWith bytes end
+        → (result ≡ status_of end) ⊎ ((result ≡ 1) ⊎ ((result ≡ 3) ⊎ (result ≡ 4))) }
+    ensures status { (result ≤ 5) ⊎ ((result ≡ 7) ⊎ (result ≡ 10)) }
 {
     if !is_replay(words) {
-        return match Output::new().stop(&Fault::Words, out) {
-            Ok(()) => 2,
-            Err(_) => 4,
+        return match stop(Fault::Words, &mut Output::new(), out) {
+            Ended::Write => 4,
+            _ => 2,
         };
     }
     match replay(alloc, script, out) {
         Ended::Done => 0,
         Ended::Memory => 1,
-        Ended::Read => 3,
+        Ended::Stopped(Fault::Words) => 2,
+        Ended::Stopped(Fault::Read) => 3,
         Ended::Write => 4,
-        Ended::Script => 5,
+        Ended::Stopped(Fault::Script { .. }) => 5,
+        Ended::Stopped(Fault::Device { .. }) => 7,
+        Ended::Stopped(Fault::Full { .. }) => 10,
     }
 }

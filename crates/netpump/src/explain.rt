@@ -33,6 +33,12 @@ pub fn explain(rt: &HostRuntime, status: u8, last: &[u8]) -> io::Result<()> {
         4 => eprintln!(rt;
             "netpump: standard output could not be written; see that its reader is there, or that its disk has room"
         ),
+        7 => eprintln!(rt;
+            "netpump: the device of the low disk fails in a store, as a line of the script tells; what was said until then is answered above (docs/formats.md, \"Scripts\", tells what a line with the word fault does)"
+        ),
+        10 => eprintln!(rt;
+            "netpump: a message does not fit on the receiver's disk; the last line of the output has the session, where its records end, the length of the message and the size of the disk"
+        ),
         _ => explain_script(rt, last),
     }
 }

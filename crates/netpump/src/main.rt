@@ -3,7 +3,6 @@
 
 mod batch;
 mod explain;
-mod low;
 mod output;
 mod replay;
 mod session;

@@ -1,84 +1,133 @@
-ghost use Rattle.std.specs.Prelude.{◌≡◌, ◌≢◌, [], ◌++◌, Option, None, Some, OnOk, OnErr};
+ghost use Rattle.std.specs.Prelude.{◌≡◌, ◌≢◌, ◌≤◌, [], ◌++◌, List, option_to_list, Option, None, Some, OnOk, OnErr, MatchResult};
 ghost use Rattle.std.specs.Io.KnownBytes.{Appends};
 ghost use Rattle.pump_link.specs.Causes.{HasCause, AppendsFront, Rose};
 ghost use Rattle.script_reader.specs.Lawful.{IsLawfulLine};
 ghost use Rattle.script_reader.specs.Lines.{IsReady};
-ghost use Rattle.script_reader.specs.Scripts.{Running, ends};
+ghost use Rattle.script_reader.specs.Scripts.{Begun, Ends};
+ghost use Rattle.script_reader.specs.declared.event.Event.{Event as Printed};
 ghost use Rattle.script_reader.specs.Transcript.{text, fault_line};
-ghost use Rattle.netpump.specs.Sessions.{StandsFor, row_of};
+ghost use Rattle.netpump.specs.Sessions.{IsUp, StandsFor, StandsForRunning};
 ghost use Rattle.netpump.specs.Outputs.{held_of, Gathers};
-ghost use Rattle.netpump.specs.Runners.{StandsForRunning, Does, Closes, Ends};
+ghost use Rattle.netpump.specs.Runners.{AreUp, outcome_of, Goes, Does, Closes, EndsAs};
 
 use crate::output::Output;
 use crate::session::Session;
-use arrayvec::ArrayVec;
-use pump_frame::SessionRow;
+use pump_frame::OutOfMemory;
 use pump_link::{Sink, Source, WriteFault};
 use script_reader::{Event, Fault, Line, Lined, Lines};
 use std::alloc::Global;
+use two_worlds::Stop;
 
 /// How a replay ends.
 #[derive(Clone, Copy)]
 pub enum Ended {
+    /// The script was read to its end.
     Done,
     Memory,
-    Read,
     Write,
-    Script,
+    /// With this fault, which is the last line of the output.
+    Stopped(Fault),
 }
 
-/// What became of a line.
-#[derive(Drop)]
+/// What became of a line. What it prints is with the output.
+#[derive(Clone, Copy)]
 pub enum Outcome {
-    Printed(ArrayVec<Event, 4>),
+    Applied,
     Refused,
+    /// It stops the script with this fault.
+    Halted(Fault),
     Memory,
+    Unwritten,
+}
+
+/// Keeps the session that was opened.
+fn keep(opened: Result<Session, OutOfMemory>, session: &mut Option<Session>) -> Outcome
+    ensures { MatchResult opened (λ begun. (session.new ≡ Some begun) × (result ≡ Outcome.Applied)) (λ e. result ≡ Outcome.Memory) }
+{
+    match opened {
+        Ok(begun) => {
+            *session = Some(begun);
+            Outcome::Applied
+        }
+        Err(_) => Outcome::Memory,
+    }
 }
 
 /// The line that is to begin the session.
 fn begin(alloc: Global, session: &mut Option<Session>, line: &Line) -> Outcome
-    requires { session.old ≡ None }
-    ensures { Does None line.now session.new result }
+    requires lawful { IsLawfulLine line.now }
+    requires some { line.now ≢ Line.Skip }
+    ensures { Goes None line.now session.new [] result }
 {
     match line {
-        Line::Skip => Outcome::Printed(ArrayVec::new()),
-        Line::Session(row) => {
-            if row.first_bad().is_some() {
-                return Outcome::Refused;
-            }
-            match Session::new(alloc, row) {
-                Ok(begun) => {
-                    *session = Some(begun);
-                    Outcome::Printed(ArrayVec::new())
-                }
-                Err(_) => Outcome::Memory,
-            }
-        }
+        Line::Session(row) => match row.first_bad() {
+            None => keep(Session::whole(alloc, row), session),
+            Some(_) => Outcome::Refused,
+        },
+        Line::LowSession { row, next, held } => match row.first_bad() {
+            None => keep(Session::alone(alloc, row, *next, *held), session),
+            Some(_) => Outcome::Refused,
+        },
         _ => Outcome::Refused,
     }
 }
 
-/// A line of the session that has begun.
-fn go_on(session: &mut Session, line: &Line) -> Outcome
-    requires lawful { IsLawfulLine line.now }
-    requires some { line.now ≢ Line.Skip }
-    ensures { (running : Running) → row_of session.old ≡ running.row → StandsFor session.old running.past → Does (Some running) line.now (Some session.new) result }
+/// What becomes of a line, by why it stops the session with this number, if it does.
+fn outcome_of(id: u32, stop: &Option<Stop>) -> Outcome
+    ensures { result ≡ outcome_of id stop.now }
 {
-    let applied = session.apply(line);
-    match applied.stop {
-        None => Outcome::Printed(applied.events),
-        Some(_) => Outcome::Refused,
+    match stop {
+        None => Outcome::Applied,
+        Some(Stop::Line) => Outcome::Refused,
+        Some(Stop::Device { role, .. }) => Outcome::Halted(Fault::Device {
+            session: id,
+            role: *role,
+        }),
+        Some(Stop::Full { end, length, size }) => Outcome::Halted(Fault::Full {
+            session: id,
+            end: *end,
+            length: *length,
+            size: *size,
+        }),
     }
 }
 
-fn apply(alloc: Global, session: &mut Option<Session>, line: &Line) -> Outcome
-    requires { IsLawfulLine line.now }
-    ensures { (running : Option Running) → StandsForRunning session.old running → Does running line.now session.new result }
+/// A line of the session that has begun.
+fn go_on<O: Sink>(session: &mut Session, line: &Line, output: &mut Output, out: &mut O) -> Outcome
+    requires lawful { IsLawfulLine line.now }
+    requires some { line.now ≢ Line.Skip }
+    requires up { IsUp session.old }
+    ensures does { (running : Begun) → StandsFor session.old running
+        → Does (Some running) line.now (Some session.new) (held_of output.old) (held_of output.new) (O.written out.old) (O.written out.new) result }
+    ensures later { O.faults out.old ≤ O.faults out.new }
+    ensures cause { result ≡ Outcome.Unwritten → Rose (O.faults out.old) (O.faults out.new) }
+{
+    let applied = session.apply(line);
+    match output.print_all(applied.events.as_slice(), out) {
+        Ok(()) => outcome_of(session.id(), &applied.stop),
+        Err(_) => Outcome::Unwritten,
+    }
+}
+
+/// A line of the script.
+fn turn<O: Sink>(
+    alloc: Global,
+    session: &mut Option<Session>,
+    line: &Line,
+    output: &mut Output,
+    out: &mut O,
+) -> Outcome
+    requires lawful { IsLawfulLine line.now }
+    requires up { AreUp session.old }
+    ensures does { (running : Option Begun) → StandsForRunning session.old running
+        → Does running line.now session.new (held_of output.old) (held_of output.new) (O.written out.old) (O.written out.new) result }
+    ensures later { O.faults out.old ≤ O.faults out.new }
+    ensures cause { result ≡ Outcome.Unwritten → Rose (O.faults out.old) (O.faults out.new) }
 {
     match line {
-        Line::Skip => Outcome::Printed(ArrayVec::new()),
+        Line::Skip => Outcome::Applied,
         _ => match session.as_mut() {
-            Some(begun) => go_on(begun, line),
+            Some(begun) => go_on(begun, line, output, out),
             None => begin(alloc, session, line),
         },
     }
@@ -97,20 +146,30 @@ fn show<O: Sink>(lines: &Lines, output: &mut Output, out: &mut O) -> Result<(), 
     output.flush(out)
 }
 
-/// Hands on what is held, and the end of the session after it.
-fn write_end<O: Sink>(
-    session: &Option<Session>,
+/// What the end of the script prints.
+fn last_of(session: &Option<Session>) -> Option<Event>
+    ensures { (running : Option Begun) → StandsForRunning session.now running → Ends running (option_to_list result) }
+{
+    match session {
+        None => None,
+        Some(session) => Some(session.end()),
+    }
+}
+
+/// Hands on what is held, and what is printed last.
+fn write_last<O: Sink>(
+    last: &Option<Event>,
     output: &mut Output,
     out: &mut O,
 ) -> Result<(), WriteFault>
-    ensures ok { (running : Option Running) → StandsForRunning session.now running → OnOk result (Appends (O.written out.old) (O.written out.new) (held_of output.old ++ text (ends running))) }
-    ensures err { (running : Option Running) → StandsForRunning session.now running → OnErr result (AppendsFront (O.written out.old) (O.written out.new) (held_of output.old ++ text (ends running))) }
+    ensures ok { OnOk result (Appends (O.written out.old) (O.written out.new) (held_of output.old ++ text (option_to_list last.now))) }
+    ensures err { OnErr result (AppendsFront (O.written out.old) (O.written out.new) (held_of output.old ++ text (option_to_list last.now))) }
     ensures cause { HasCause (O.faults out.old) (O.faults out.new) result }
 {
-    match session {
+    match last {
         None => output.flush(out),
-        Some(session) => {
-            output.print(&session.end(), out)?;
+        Some(event) => {
+            output.print(event, out)?;
             output.flush(out)
         }
     }
@@ -118,35 +177,35 @@ fn write_end<O: Sink>(
 
 /// The script is at its end.
 fn finish<O: Sink>(session: &Option<Session>, output: &mut Output, out: &mut O) -> Ended
-    ensures { (running : Option Running) → StandsForRunning session.now running →
-        Closes (O.written out.old) (O.written out.new) (O.faults out.old) (O.faults out.new) (held_of output.old ++ text (ends running)) Ended.Done result }
+    ensures { (running : Option Begun) → StandsForRunning session.now running → (last : List Printed) × Ends running last
+        × Closes (O.written out.old) (O.written out.new) (O.faults out.old) (O.faults out.new) (held_of output.old ++ text last) Ended.Done result }
 {
-    match write_end(session, output, out) {
+    match write_last(&last_of(session), output, out) {
         Ok(()) => Ended::Done,
         Err(_) => Ended::Write,
     }
 }
 
 /// The script is not read further, because of this fault.
-fn stop<O: Sink>(fault: &Fault, ended: Ended, output: &mut Output, out: &mut O) -> Ended
-    ensures { Closes (O.written out.old) (O.written out.new) (O.faults out.old) (O.faults out.new) (held_of output.old ++ fault_line fault.now) ended result }
+pub fn stop<O: Sink>(fault: Fault, output: &mut Output, out: &mut O) -> Ended
+    ensures { Closes (O.written out.old) (O.written out.new) (O.faults out.old) (O.faults out.new) (held_of output.old ++ fault_line fault) (Ended.Stopped fault) result }
 {
-    match output.stop(fault, out) {
-        Ok(()) => ended,
+    match output.stop(&fault, out) {
+        Ok(()) => Ended::Stopped(fault),
         Err(_) => Ended::Write,
     }
 }
 
 /// The line with this number is faulty.
 fn refuse<O: Sink>(number: u32, output: &mut Output, out: &mut O) -> Ended
-    ensures { Closes (O.written out.old) (O.written out.new) (O.faults out.old) (O.faults out.new) (held_of output.old ++ fault_line (Fault.Script number)) Ended.Script result }
+    ensures { Closes (O.written out.old) (O.written out.new) (O.faults out.old) (O.faults out.new) (held_of output.old ++ fault_line (Fault.Script number)) (Ended.Stopped (Fault.Script number)) result }
 {
-    stop(&Fault::Script { line: number }, Ended::Script, output, out)
+    stop(Fault::Script { line: number }, output, out)
 }
 
 /// Applies the lines of the script, and writes what they print.
 pub fn replay<I: Source, O: Sink>(alloc: Global, script: &mut I, out: &mut O) -> Ended
-    ensures ends { Ends (I.left script.old) (I.left script.new) (O.written out.old) (O.written out.new) (I.faults script.old) (I.faults script.new) result }
+    ensures ends { EndsAs (I.left script.old) (I.left script.new) (O.written out.old) (O.written out.new) (I.faults script.old) (I.faults script.new) result }
     ensures write { result ≡ Ended.Write → Rose (O.faults out.old) (O.faults out.new) }
 {
     let mut lines = Lines::new();
@@ -158,16 +217,15 @@ pub fn replay<I: Source, O: Sink>(alloc: Global, script: &mut I, out: &mut O) ->
             Err(_) => return Ended::Write,
         }
         match lines.next(script) {
-            Lined::Line(line) => match apply(alloc, &mut session, &line) {
-                Outcome::Printed(events) => match output.print_all(events.as_slice(), out) {
-                    Ok(()) => {}
-                    Err(_) => return Ended::Write,
-                },
+            Lined::Line(line) => match turn(alloc, &mut session, &line, &mut output, out) {
+                Outcome::Applied => {}
                 Outcome::Refused => return refuse(lines.number(), &mut output, out),
+                Outcome::Halted(fault) => return stop(fault, &mut output, out),
                 Outcome::Memory => return Ended::Memory,
+                Outcome::Unwritten => return Ended::Write,
             },
             Lined::Bad => return refuse(lines.number(), &mut output, out),
-            Lined::Failed => return stop(&Fault::Read, Ended::Read, &mut output, out),
+            Lined::Failed => return stop(Fault::Read, &mut output, out),
             Lined::End => return finish(&session, &mut output, out),
         }
     }

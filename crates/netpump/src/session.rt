@@ -1,75 +1,117 @@
-//! One session on plain lists: its two processes, the passage between them and the receiver, and
-//! what a line of a script does to them.
+//! The session that a script has begun: a whole one over three disks in memory, or a low side alone.
 
-use arrayvec::ArrayVec;
+ghost use Rattle.std.specs.Prelude.{◌≡◌, ◌≢◌, [], ◌∷◌, Some, IfOk};
+ghost use Rattle.pump_frame.specs.Rows.{IsLawfulRow};
+ghost use Rattle.stable_buffer.specs.Stands.{low_size};
+ghost use Rattle.script_reader.specs.Lawful.{IsLawfulLine};
+ghost use Rattle.script_reader.specs.Grammar.{IsCount};
+ghost use Rattle.script_reader.specs.Past.{fresh};
+ghost use Rattle.script_reader.specs.Tolds.{fresh_low};
+ghost use Rattle.script_reader.specs.Scripts.{Begun, Running, LowRunning, Whole, Alone, Ends};
+ghost use Rattle.netpump.specs.Sessions.{id_of, IsUp, StandsFor, Applies};
+
+use disk_model::PlainDisk;
 use pump_frame::{OutOfMemory, SessionRow};
 use script_reader::{Event, Line};
 use std::alloc::Global;
+use two_worlds::{Applied, LowPump, Pump};
 
-mod arrivals;
-mod carry;
-mod high_look;
-mod lines;
-mod low_look;
-mod plain;
+/// The bytes of a high disk.
+const HIGH_SIZE: u64 = 80;
 
-ghost use Rattle.netpump.specs.Standing.{Stands};
+/// The bytes of a receiver's disk.
+const RECEIVER_SIZE: u64 = 16_777_216;
 
-use plain::Plain;
-
-/// Why a line did nothing.
-#[derive(Clone, Copy)]
-pub enum Stop {
-    /// The line can't be applied.
-    Line,
+/// The bytes of the low disk of a lawful row.
+fn low_disk_size(row: &SessionRow) -> u64
+    requires lawful { IsLawfulRow row.now }
+    ensures { result ≡ low_size row.now }
+{
+    80 + u64::from(row.capacity) * (2 + u64::from(row.message))
 }
 
-/// What a line printed, and whether it was applied.
+/// A session with its number. All its room was taken when it was opened.
 #[derive(Drop)]
-pub struct Applied {
-    pub events: ArrayVec<Event, 4>,
-    pub stop: Option<Stop>,
-}
-
-/// A whole session. All its room was taken when it was made.
-#[derive(Drop)]
-pub struct Session {
-    plain: Plain,
-    ghost stands: { ∥ Stands plain ∥₁ },
+pub enum Session {
+    Whole { id: u32, pump: Pump<PlainDisk> },
+    Alone { id: u32, pump: LowPump },
 }
 
 impl Session {
-    ghost use Rattle.std.specs.Prelude.{◌≡◌, Bool, true, IfOk};
-    ghost use Rattle.pump_frame.specs.Rows.{IsLawfulRow};
-    ghost use Rattle.script_reader.specs.Lawful.{IsLawfulLine};
-    ghost use Rattle.script_reader.specs.Past.{Past, fresh};
-    ghost use Rattle.script_reader.specs.Scripts.{end_of};
-    ghost use Rattle.netpump.specs.Sessions.{StandsFor, Applies, row_of};
-
-    /// The session of a lawful row, before its first line.
-    pub fn new(alloc: Global, row: &SessionRow) -> Result<Session, OutOfMemory>
+    /// A whole session over three disks in memory with room for all that their formats need.
+    pub fn whole(alloc: Global, row: &SessionRow) -> Result<Session, OutOfMemory>
         requires lawful { IsLawfulRow row.now }
-        ensures fresh { IfOk result (λ session. StandsFor session (fresh row.now)) }
-        ensures row { IfOk result (λ session. row_of session ≡ row.now) }
+        ensures { IfOk result (λ session. StandsFor session (Whole (record { row = row.now; past = fresh row.now }))) }
     {
-        let plain = Plain::new(alloc, row)?;
-        Ok(Session { plain })
+        let low = PlainDisk::new(alloc, low_disk_size(row))?;
+        let high = PlainDisk::new(alloc, HIGH_SIZE)?;
+        let recv = PlainDisk::new(alloc, RECEIVER_SIZE)?;
+        match Pump::open(alloc, row, low, high, recv) {
+            Ok(pump) => Ok(Session::Whole { id: row.id, pump }),
+            Err(failed) => {
+                let is_for_memory = failed.why.is_none();
+                prove!(is_for_memory);
+                Err(OutOfMemory)
+            }
+        }
     }
 
-    /// A line of the script: what it prints. It stops exactly where the line can't be applied, and
-    /// then nothing is printed or changed.
+    /// A low side alone that has stored `next` messages; the last one is in the low hand where `held`.
+    pub fn alone(
+        alloc: Global,
+        row: &SessionRow,
+        next: u64,
+        held: bool,
+    ) -> Result<Session, OutOfMemory>
+        requires lawful { IsLawfulRow row.now }
+        requires count { IsCount next held }
+        ensures { IfOk result (λ session. StandsFor session (Alone (record { row = row.now; past = fresh_low next held }))) }
+    {
+        let pump = LowPump::open(alloc, row, next, held)?;
+        Ok(Session::Alone { id: row.id, pump })
+    }
+
+    pub fn id(&self) -> u32
+        ensures { result ≡ id_of self.now }
+    {
+        match self {
+            Session::Whole { id, .. } => *id,
+            Session::Alone { id, .. } => *id,
+        }
+    }
+
+    /// A line of the script: what it prints, and whether it stops the session. Until a disk has failed.
     pub fn apply(&mut self, line: &Line) -> Applied
         requires lawful { IsLawfulLine line.now }
-        ensures applies { (p : Past) → StandsFor self.old p → Applies self.old self.new line.now p result.events.items result.stop }
-        ensures row { row_of self.new ≡ row_of self.old }
+        requires some { line.now ≢ Line.Skip }
+        requires up { IsUp self.old }
+        ensures applies { (running : Begun) → StandsFor self.old running → Applies running line.now self.new result.events.items result.stop }
+        ensures id { id_of self.new ≡ id_of self.old }
     {
-        self.plain.apply(line)
+        match self {
+            Session::Whole { pump, .. } => pump.apply(line),
+            Session::Alone { pump, .. } => pump.apply(line),
+        }
     }
 
     /// What the end of the script prints.
     pub fn end(&self) -> Event
-        ensures end { (p : Past) → StandsFor self.now p → result ≡ end_of (row_of self.now) p }
+        ensures { (running : Begun) → StandsFor self.now running → Ends (Some running) (result ∷ []) }
     {
-        self.plain.end()
+        match self {
+            Session::Whole { id, pump } => {
+                let (accepted, removed, received) = pump.counts();
+                Event::End {
+                    session: *id,
+                    accepted,
+                    high: Some((removed, received)),
+                }
+            }
+            Session::Alone { id, pump } => Event::End {
+                session: *id,
+                accepted: pump.next(),
+                high: None,
+            },
+        }
     }
 }

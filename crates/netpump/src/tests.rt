@@ -121,6 +121,12 @@ fn replays_repeats(rt: HostRuntime) -> Result<(), Fail> {
             ],
         )?
     );
+    Ok(())
+}
+
+#[test]
+fn replays_refused_frames(rt: HostRuntime) -> Result<(), Fail> {
+    let alloc = rt.alloc();
     assert!(rt;
         replays(
             alloc,
@@ -183,6 +189,204 @@ fn replays_refusals(rt: HostRuntime) -> Result<(), Fail> {
     );
     assert!(rt; replays(alloc, &[H], 5, &["fault script 1\n"])?);
     assert!(rt; replays(alloc, &[P, "gone 2 5\n"], 5, &["fault script 2\n"])?);
+    // A whole session is told nothing, and a low side alone has no other looks.
+    assert!(rt; replays(alloc, &[P, L, "0 0\n"], 5, &["fault script 2\n"])?);
+    assert!(rt; replays(alloc, &[L, "0 0\n", P], 5, &["fault script 2\n"])?);
+    assert!(rt;
+        replays(
+            alloc,
+            &[P, "told 1 10 00000000 fine -\n"],
+            5,
+            &["fault script 2\n"]
+        )?
+    );
+    assert!(rt; replays(alloc, &[L, "0 0\n", H], 5, &["fault script 2\n"])?);
+    assert!(rt; replays(alloc, &[L, "0 0\nhigh 1 10\n"], 5, &["fault script 2\n"])?);
+    Ok(())
+}
+
+/// Message 1 comes while message 0 fills the passage.
+const FULL: &str = "look 1 200 00000000 data 1 62\nlook 1 210 00000000\n";
+
+const LATER: &str = "look 1 298 00000000\nlook 1 318 00000000\n";
+
+#[test]
+fn replays_a_full_passage(rt: HostRuntime) -> Result<(), Fail> {
+    let alloc = rt.alloc();
+    assert!(rt;
+        replays(
+            alloc,
+            &[
+                P,
+                H,
+                STORE,
+                ACK,
+                FULL,
+                "look 1 220 00000000\nhigh 1 230\nlook 1 240 00000000\n",
+                LATER,
+            ],
+            0,
+            &[
+                WELCOME,
+                STORED,
+                ACKED,
+                "stored 1 200 1\nfull 1 210\nfull 1 220\nsent 1 230 0\n",
+                "passed 1 240 0 20000\nlow 1 318 ack 1\nend 1 2 0 0\n",
+            ],
+        )?
+    );
+    Ok(())
+}
+
+#[test]
+fn replays_one_full_look_fewer(rt: HostRuntime) -> Result<(), Fail> {
+    let alloc = rt.alloc();
+    assert!(rt;
+        replays(
+            alloc,
+            &[
+                P,
+                H,
+                STORE,
+                ACK,
+                FULL,
+                "high 1 215\nlook 1 220 00000000\nlook 1 240 00000000\n",
+                LATER,
+            ],
+            0,
+            &[
+                WELCOME,
+                STORED,
+                ACKED,
+                "stored 1 200 1\nfull 1 210\nsent 1 215 0\n",
+                "passed 1 220 0 20000\nlow 1 298 ack 1\nend 1 2 0 0\n",
+            ],
+        )?
+    );
+    Ok(())
+}
+
+/// A message is sent, and the receiver is given it twice.
+const CARRIED: &str = "high 1 110\ncarry 1 0\ncarry 1 0\n";
+
+const TAKEN: &str = "sent 1 110 0\ntook 1 0\nagain 1 0\n";
+
+#[test]
+fn replays_packets(rt: HostRuntime) -> Result<(), Fail> {
+    let alloc = rt.alloc();
+    assert!(rt;
+        replays(
+            alloc,
+            &[
+                P,
+                H,
+                STORE,
+                CARRIED,
+                "return 1 160 1\nreturn 1 170 0\nlook 1 178 00000000\n",
+            ],
+            0,
+            &[
+                WELCOME,
+                STORED,
+                TAKEN,
+                "removed 1 160 0 50\nlow 1 178 ack 0\nend 1 1 1 1\n",
+            ],
+        )?
+    );
+    // One DATA and two TAKEN were sent, so these are one too far back.
+    assert!(rt;
+        replays(
+            alloc,
+            &[P, H, STORE, CARRIED, "return 1 160 2\n"],
+            5,
+            &[WELCOME, STORED, TAKEN, "fault script 8\n"],
+        )?
+    );
+    assert!(rt;
+        replays(
+            alloc,
+            &[P, H, STORE, CARRIED, "carry 1 1\n"],
+            5,
+            &[WELCOME, STORED, TAKEN, "fault script 8\n"],
+        )?
+    );
+    Ok(())
+}
+
+/// A low side alone, but for how much it has stored.
+const L: &str = "low-session 1 3 8 2 20000 100000 500000 weather watch ";
+
+#[test]
+fn replays_a_low_side_alone(rt: HostRuntime) -> Result<(), Fail> {
+    let alloc = rt.alloc();
+    assert!(rt;
+        replays(
+            alloc,
+            &[
+                L,
+                "281474976710656 0\ntold 1 10 00000000 fine - hello weather watch\n",
+                "told 1 20 00000000 fine 0/20000 data 281474976710655 61\n",
+                "told 1 98 00000000 fine -\n",
+            ],
+            0,
+            &[
+                "low 1 10 welcome 281474976710656\nrepeat 1 20 0 20000\n",
+                "low 1 98 ack 281474976710655\nend 1 281474976710656 - -\n",
+            ],
+        )?
+    );
+    assert!(rt;
+        replays(
+            alloc,
+            &[
+                L,
+                "1 1\ntold 1 10 00000000 fine full\ntold 1 20 00000000 fine 0/20000\n"
+            ],
+            0,
+            &["full 1 10\nreleased 1 20\nend 1 1 - -\n"],
+        )?
+    );
+    assert!(rt; replays(alloc, &[L, "0 1\n"], 5, &["fault script 1\n"])?);
+    Ok(())
+}
+
+#[test]
+fn stops_where_the_device_fails(rt: HostRuntime) -> Result<(), Fail> {
+    let alloc = rt.alloc();
+    let stopped = ["low 1 10 welcome 0\nlow 1 20 refuse 5 0\nfault device 1 low\n"];
+    assert!(rt;
+        replays(
+            alloc,
+            &[
+                L,
+                "0 0\ntold 1 10 00000000 fine - hello weather watch\n",
+                "told 1 20 00000000 fault - data 0 61\ntold 1 30 00000000 fine -\n",
+            ],
+            7,
+            &stopped,
+        )?
+    );
+    // The fault stays until a look stores.
+    assert!(rt;
+        replays(
+            alloc,
+            &[
+                L,
+                "0 0\ntold 1 10 00000000 fault - hello weather watch\n",
+                "told 1 20 00000000 fine - data 0 61\n",
+            ],
+            7,
+            &stopped,
+        )?
+    );
+    assert!(rt;
+        replays(
+            alloc,
+            &[L, "0 0\ntold 1 10 00000000 fault - hello weather watch\n"],
+            0,
+            &["low 1 10 welcome 0\nend 1 0 - -\n"],
+        )?
+    );
     Ok(())
 }
 
@@ -284,6 +488,36 @@ fn replays_raw_bytes(rt: HostRuntime) -> Result<(), Fail> {
             5,
             &["low 1 10 refuse 2 0\nlow 1 20 refuse 2 0\nfault script 4\n"],
         )?
+    );
+    Ok(())
+}
+
+/// Sixty-four bytes.
+const BYTES: &str =
+    "00112233445566778899aabbccddeeff00112233445566778899aabbccddeeff00112233445566778899aabbccddeeff00112233445566778899aabbccddeeff";
+
+fn longest_message(alloc: Global) -> Result<Vec<u8>, AllocError> {
+    let parts = [
+        "session 1 3 1024 2 20000 100000 500000 weather watch\n",
+        H,
+        "look 1 20 00000000 raw 4e5001030000000100000000000000000400",
+    ];
+    let mut script = joined(alloc, &parts)?;
+    for _ in 0..16 {
+        script.extend_from_slice(BYTES.as_bytes())?;
+    }
+    script.extend_from_slice(b"\n")?;
+    Ok(script)
+}
+
+#[test]
+fn stores_the_longest_message(rt: HostRuntime) -> Result<(), Fail> {
+    let alloc = rt.alloc();
+    let (status, written) = run(alloc, "replay", longest_message(alloc)?, 64, &[], &[])?;
+    assert_eq!(rt; status, 0);
+    assert_eq!(rt;
+        written.as_slice(),
+        b"low 1 10 welcome 0\nstored 1 20 0\nend 1 1 0 0\n".as_slice()
     );
     Ok(())
 }

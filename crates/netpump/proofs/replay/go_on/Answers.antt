@@ -1,10 +1,12 @@
-use Rattle.netpump.proofs.Going.{goes, stays}
+use Rattle.netpump.proofs.Turns.{gone_on, not_written}
 use Rattle.netpump.proofs.replay.go_on.Goals as goal
 
-pub returns-in-None : goal.returns-in-None
-returns-in-None c = λ running row stands.
-    goes c.args.session.now c.apply-applied.new.self running c.args.line.now _ c.apply-applied.result.stop c.in-None.is row c.apply-applied.ensures.row (c.apply-applied.ensures.applies running.past stands)
+pub returns-in-Ok-clause-does : goal.returns-in-Ok-clause-does
+returns-in-Ok-clause-does g c = λ running h.
+    gone_on c.apply-applied.new.self running c.args.line.now c.apply-applied.result.events.items c.apply-applied.result.stop _ _ _ _ c.outcome_of.result c.id.result
+    (c.apply-applied.ensures.applies running h) (rw c.as_slice.ensures.value at c.in-Ok.ensures.ok) c.id.ensures c.outcome_of.ensures
 
-pub returns-in-Some : goal.returns-in-Some
-returns-in-Some c = λ running row stands.
-    stays c.args.session.now c.apply-applied.new.self running c.args.line.now _ c.apply-applied.result.stop c.in-Some.field-0 c.in-Some.is row c.requires.some (c.apply-applied.ensures.applies running.past stands)
+pub returns-in-Err-clause-does : goal.returns-in-Err-clause-does
+returns-in-Err-clause-does g c = λ running h.
+    not_written c.apply-applied.new.self running c.args.line.now c.apply-applied.result.events.items c.apply-applied.result.stop _ _ _
+    (c.apply-applied.ensures.applies running h) (rw c.as_slice.ensures.value at c.in-Err.ensures.err)

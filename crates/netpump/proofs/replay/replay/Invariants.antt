@@ -2,15 +2,15 @@ use Rattle.std.proofs.Common.{◌≡◌, ◌^◌, ◌-◌, ◌≤◌, List, [], 
 use Rattle.script_reader.specs.declared.line.Line.{Line}
 use Rattle.script_reader.specs.declared.event.Event.{Event}
 use Rattle.script_reader.specs.Lines.{to_come}
-use Rattle.script_reader.specs.Scripts.{Running}
+use Rattle.script_reader.specs.Scripts.{Begun}
 use Rattle.script_reader.specs.Transcript.{text}
 use Rattle.netpump.specs.Outputs.{held_of, Gathers}
 use Rattle.netpump.specs.Replays.{IsSoFar}
-use Rattle.netpump.specs.Runners.{StandsForRunning}
+use Rattle.netpump.specs.Sessions.{StandsForRunning}
 use Rattle.netpump.proofs.replay.replay.Given as goal
 
 abbrev pub invariant-turns : goal.invariant-turns
-invariant-turns g l = (lines : List Line) × (events : List Event) × (running : Option Running)
+invariant-turns g l = (lines : List Line) × (events : List Event) × (running : Option Begun)
     × IsSoFar (g.I.Source.left l.fn.script) (to_come l.lines (g.I.Source.left l.script)) lines events running
     × Gathers [] (held_of l.output) (g.O.Sink.written l.fn.out) (g.O.Sink.written l.out) (text events)
     × StandsForRunning l.session running

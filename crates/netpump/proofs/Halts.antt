@@ -1,0 +1,89 @@
+-- A line that stops a script, and one that could not be written.
+use Rattle.std.proofs.Common.{◌≡◌, ℕ, List, [], ◌++◌, Option, None, Some, inl, inr, ap, ◌∙◌, subst, append-nil, append_assoc}
+use Rattle.pump_link.specs.Causes.{AppendsFront}
+use Rattle.disk_model.specs.declared.name.Role.{Role}
+use Rattle.disk_model.specs.declared.name.Role.TheVariants as roles
+use Rattle.script_reader.specs.declared.line.Line.{Line}
+use Rattle.script_reader.specs.declared.event.Event.{Event}
+use Rattle.script_reader.specs.declared.fault.Fault.{Fault}
+use Rattle.script_reader.specs.declared.fault.Fault.TheVariants.{Words, Read, Script, Device, Full}
+use Rattle.script_reader.specs.declared.lines.Lined.TheVariants as lined
+use Rattle.script_reader.specs.Lines.{Reading, to_come, IsNext}
+use Rattle.script_reader.specs.Scripts.{Begun, Whole, Alone, Halts}
+use Rattle.script_reader.specs.Transcript.{text, fault_line}
+use Rattle.netpump.specs.Outputs.{Gathers}
+use Rattle.netpump.specs.Runners.{Goes, Closes, EndsAs}
+use Rattle.netpump.specs.declared.session.Session.{Session}
+use Rattle.netpump.specs.declared.replay.Outcome.{Outcome}
+use Rattle.netpump.specs.declared.replay.Outcome.TheVariants as outcomes
+use Rattle.netpump.specs.declared.replay.Ended.{Ended}
+use Rattle.netpump.specs.declared.replay.Ended.TheVariants as ended
+use Rattle.netpump.proofs.Gathered.{appends_then, front_then, front_more}
+use Rattle.netpump.proofs.SoFar.{Keeps-same, near_next, shown, halted, halted_front, unshown, unprinted}
+use Rattle.netpump.specs.Replays.{IsSoFar, IsHalting, IsNear, IsHalted, IsCutOff}
+
+-- only these two faults stop a script at a line that can be applied
+stop_of : (all left old new : Option (List ℕ)) (before after : ℕ) (running : Option Begun) (line : Line) (printed : List Event) (fault : Fault)
+    → Halts running line printed fault → IsHalted all left old new fault → EndsAs all left old new before after (ended.Stopped fault)
+stop_of all left old new before after None line printed fault h k = absurd h
+stop_of all left old new before after (Some (Whole s)) line printed (Full session end n size) h k = (session, end, n, size, k)
+stop_of all left old new before after (Some (Whole s)) line printed (Device session role) (timely, (end, n, size, over, e)) k = cc
+stop_of all left old new before after (Some (Whole s)) line printed Words (timely, (end, n, size, over, e)) k = cc
+stop_of all left old new before after (Some (Whole s)) line printed Read (timely, (end, n, size, over, e)) k = cc
+stop_of all left old new before after (Some (Whole s)) line printed (Script number) (timely, (end, n, size, over, e)) k = cc
+stop_of all left old new before after (Some (Alone s)) line printed (Device session role) (timely, (q, step, e)) k =
+    let is_low : role ≡ roles.Low = cc in
+    (session, subst (λ (r : Role). IsHalted all left old new (Device session r)) is_low k)
+stop_of all left old new before after (Some (Alone s)) line printed (Full session end n size) (timely, (q, step, e)) k = cc
+stop_of all left old new before after (Some (Alone s)) line printed Words (timely, (q, step, e)) k = cc
+stop_of all left old new before after (Some (Alone s)) line printed Read (timely, (q, step, e)) k = cc
+stop_of all left old new before after (Some (Alone s)) line printed (Script number) (timely, (q, step, e)) k = cc
+
+-- nothing is printed
+silent_gathers : (held later : List ℕ) (a b : Option (List ℕ)) (printed : List Event) → printed ≡ [] → Gathers held later a b (text printed) → Gathers held later a b []
+silent_gathers held later a b printed e g = subst (λ (x : List Event). Gathers held later a b (text x)) e g
+
+-- .. which is added to what was printed
+pub barred : (old now mid : Option (List ℕ)) (held later : List ℕ) (events printed : List Event) → Gathers [] held old now (text events) → printed ≡ [] → Gathers held later now mid (text printed)
+    → Gathers [] later old mid (text events)
+barred old now mid held later events printed w e g = shown held later old now mid (text events) w (silent_gathers held later now mid printed e g)
+
+silent_front : (held : List ℕ) (a b : Option (List ℕ)) (printed : List Event) → printed ≡ [] → AppendsFront a b (held ++ text printed) → AppendsFront a b held
+silent_front held a b printed e p =
+    let is : held ++ text printed ≡ held = ap (λ (x : List Event). held ++ text x) e ∙ append-nil held in
+    subst (λ (x : List ℕ). AppendsFront a b x) is p
+
+-- after these lines this one was read
+module _ (all left rest old now : Option (List ℕ)) (before after : ℕ) (from to : Reading) (line : Line) (n : IsNext from to left rest (lined.Line line))
+    (lines : List Line) (events : List Event) (running : Option Begun) (s : IsSoFar all (to_come from left) lines events running) (held : List ℕ) (w : Gathers [] held old now (text events)) where
+  near : IsNear (to_come from left) rest
+  near = near_next from to left rest line n
+
+  halting : (printed : List Event) (fault : Fault) → Halts running line printed fault → IsHalting (to_come from left) running printed fault
+  halting printed fault h = (line, to_come to rest, (n.0, to_come to rest, n.1, n.2, n.3, Keeps-same (to_come to rest)), h)
+
+  -- it stops the script
+  pub stopped : (later : List ℕ) (mid new : Option (List ℕ)) (rose risen : ℕ) (printed : List Event) (fault : Fault) (result : Ended) → Halts running line printed fault
+      → Gathers held later now mid (text printed) → Closes mid new rose risen (later ++ fault_line fault) (ended.Stopped fault) result → EndsAs all rest old new before after result
+  stopped later mid new rose risen printed fault result h g c =
+      elim c [
+        | inl is ↦ rw is.0 (stop_of all rest old new before after running line printed fault h
+            (halted all (to_come from left) rest old now new before after lines events running s held w printed fault near (halting printed fault h)
+            (appends_then held later now mid new (text printed) (fault_line fault) g is.1)))
+        | inr is ↦ rw is.0 (halted_front all (to_come from left) rest old now new before after lines events running s held w printed fault near (halting printed fault h)
+            (front_then held later now mid new (text printed) (fault_line fault) g is.1))
+      ]
+
+  -- what it prints could not be written
+  pub cut_off : (new : Option (List ℕ)) (session : Option Session) (printed : List Event) (outcome : Outcome) → Goes running line session printed outcome
+      → AppendsFront now new (held ++ text printed) → IsCutOff all rest old new before after
+  cut_off new session printed outcomes.Applied h p =
+      unprinted all (to_come from left) (to_come to rest) rest old now new before after lines events printed running h.0 line n.0 held s n.1 n.2 n.3 h.1 near w p
+  cut_off new session printed outcomes.Refused h p =
+      unshown all (to_come from left) rest old now new before after lines events running s held w near (silent_front held now new printed h.1 p)
+  cut_off new session printed outcomes.Memory h p =
+      unshown all (to_come from left) rest old now new before after lines events running s held w near (silent_front held now new printed h.1 p)
+  cut_off new session printed outcomes.Unwritten h p = absurd h
+  cut_off new session printed (outcomes.Halted fault) h p =
+      halted_front all (to_come from left) rest old now new before after lines events running s held w printed fault near (halting printed fault h)
+      (rw (← append_assoc held (text printed) (fault_line fault)) (front_more now new (held ++ text printed) (fault_line fault) p))

@@ -1,7 +1,0 @@
-use Rattle.netpump.proofs.LowLooking.{finished}
-use Rattle.netpump.proofs.low.LowProcess.finish.Goals as goal
-
-pub returns-clause-looks : goal.returns-clause-looks
-returns-clause-looks c =
-    let e = c.step_on.ensures in
-    finished c.args.self.now c.step_on.new.self c.step_on.result e.asking e.step e.row e.last

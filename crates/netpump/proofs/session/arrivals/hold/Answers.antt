@@ -1,9 +1,0 @@
-use Rattle.std.proofs.Common.{sym, ◌∙◌}
-use Rattle.netpump.proofs.RawBytes.{push_fits, push_full}
-use Rattle.netpump.proofs.session.arrivals.hold.Goals as goal
-
-pub returns-then-len-lt64 : goal.returns-then-len-lt64
-returns-then-len-lt64 c = c.push.ensures.items ∙ sym (push_fits c.args.held.now.items c.args.next c.len.result c.len.ensures.value c.if-len-lt64.true)
-
-pub returns-else-len-lt64 : goal.returns-else-len-lt64
-returns-else-len-lt64 c = sym (push_full c.args.held.now.items c.args.next c.len.result c.len.ensures.value c.if-len-lt64.false c.len.ensures.fits)

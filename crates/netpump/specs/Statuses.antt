@@ -1,0 +1,35 @@
+-- The status of a script by its bytes alone, where it can be read and answered and memory is not wanting.
+use Rattle.std.specs.Prelude.{◌≡◌, ◌⊎◌, ℕ, ◌+◌, ◌-◌, ◌^◌, ◌<◌, List, [], length, Option, None, Some}
+use Rattle.script_reader.specs.declared.line.Line.{Line}
+use Rattle.script_reader.specs.declared.event.Event.{Event}
+use Rattle.script_reader.specs.declared.fault.Fault.{Fault}
+use Rattle.script_reader.specs.declared.fault.Fault.TheVariants.{Words, Read, Script, Device, Full}
+use Rattle.script_reader.specs.Faults.{IsFaultyNext}
+use Rattle.script_reader.specs.Scripts.{Begun}
+use Rattle.netpump.specs.Replays.{IsSoFar, IsHalting}
+
+-- after so many lines, with no fault nothing is left; with one the next line is outside the grammar or can't be
+-- applied, or it stops the script
+abbrev pub IsEnd : List ℕ → ℕ → Option Begun → Option Fault → Type 0
+IsEnd rest number running None = rest ≡ []
+IsEnd rest number running (Some fault) = (IsFaultyNext rest running × (fault ≡ Script (number + 1)))
+    ⊎ ((printed : List Event) × IsHalting (Some rest) running printed fault)
+
+-- the bytes begin with lines that can all be applied, and end so after them; the lines are fewer than 2^32 - 1
+pub record EndsWith (bytes : List ℕ) (end : Option Fault) : Type 0 where
+  pub lines : List Line
+  pub events : List Event
+  pub running : Option Begun
+  pub rest : List ℕ
+  pub so_far : IsSoFar (Some bytes) (Some rest) lines events running
+  pub few : length lines < 2 ^ 32 - 1
+  pub is_end : IsEnd rest (length lines) running end
+
+-- the status of a script that ends so
+abbrev pub status_of : Option Fault → ℕ
+status_of None = 0
+status_of (Some Words) = 2
+status_of (Some Read) = 3
+status_of (Some (Script number)) = 5
+status_of (Some (Device session role)) = 7
+status_of (Some (Full session end size_of_message size)) = 10

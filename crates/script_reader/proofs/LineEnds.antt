@@ -2,7 +2,7 @@
 use Rattle.std.proofs.Common.{inl, inr, is_some, IsTrue, ◌≡◌, ℕ, ◌+◌, ◌-◌, ◌<◌, ◌≤◌, ◌≢◌, Bool, true, false, cond, ltb, List, [], ◌∷◌, ◌++◌, Option, None, Some, IfSome, length, get_or, take, drop, refl, sym, ap, ◌∙◌, append_assoc, append-nil, arith, length-append, length-drop, length-take}
 use Rattle.std.proofs.lemmas.Bool.{ltb-false, ltb-true, lt-ltb, eqb-true, both_ways, eq-eqb}
 use Rattle.std.proofs.lemmas.Option.{cond_some}
-use Rattle.std.proofs.lemmas.List.{get_or_append_left, get_or_at, get_or-take, take-append-le, drop_at, drop-take, drop-drop, length-take-le}
+use Rattle.std.proofs.lemmas.List.{get_or_append_left, get_or_at, get_or-take, take-append-le, drop-take, drop-drop, length-take-le}
 use borrow.Rule.Slice.PartMut.{put_mid}
 use Rattle.std.proofs.Math.Seq.{take-append-add}
 use Rattle.std.proofs.lemmas.List.Sums.{split_at_first, fails_before_first, passes_at_first}
@@ -150,16 +150,11 @@ line_come (Some xs) None held bytes rest k e = absurd k
 line_come (Some xs) (Some ys) held bytes rest k e =
     sym k ∙ ap (λ z. z ++ ys) e ∙ append_assoc bytes (10 ∷ rest) ys ∙ sym (append_assoc bytes (10 ∷ []) (rest ++ ys))
 
-pub rest_is : (held bytes rest : List ℕ) (len : ℕ) → held ≡ bytes ++ 10 ∷ rest → length bytes ≡ len → drop (len + 1) held ≡ rest
-rest_is held bytes rest len e long =
-    let whole : held ≡ (bytes ++ 10 ∷ []) ++ rest = e ∙ sym (append_assoc bytes (10 ∷ []) rest) in
-    rw whole (drop_at (bytes ++ 10 ∷ []) rest (len + 1) (omega (arith, length-append bytes (10 ∷ []), long)))
-
--- bytes whose front is short are not ready
-pub unready : (held : List ℕ) → IsUnended held → length held ≤ 2400 → IsReady held → ⊥
-unready held unended short ready =
+-- bytes without a line end that may begin a line are not ready
+pub unready : (held : List ℕ) → position is_end held ≡ None → length held ≤ 2400 → IsReady held → ⊥
+unready held none short ready =
     elim ready [
-      | inl ends ↦ ends unended
+      | inl ends ↦ ends (not_ended held none)
       | inr long ↦ absurd (omega arith)
     ]
 

@@ -1,29 +1,53 @@
 -- What one call of the reader of lines answers.
-use Rattle.std.proofs.Common.{◌≡◌, ℕ, ◌+◌, ◌-◌, ◌^◌, ◌≤◌, ◌≢◌, ◌⊎◌, inl, inr, min, List, [], ◌∷◌, ◌++◌, Option, length, drop, refl, sym, ap, ◌∙◌, arith, length-append}
+use Rattle.std.proofs.Common.{◌≡◌, ℕ, ◌+◌, ◌-◌, ◌^◌, ◌≤◌, ◌≢◌, ◌⊎◌, inl, inr, min, List, [], ◌∷◌, Option, Some, length, take, drop, refl, sym, ap, ◌∙◌, arith, length-append}
+use Rattle.std.specs.List.{position}
 use Rattle.std.specs.Io.KnownBytes.{Keeps, IsAtEnd}
 use Rattle.script_reader.specs.declared.line.Line.{Line}
 use Rattle.script_reader.specs.declared.lines.Lined.{Lined}
 use Rattle.script_reader.specs.declared.lines.Lined.TheVariants as lined
-use Rattle.script_reader.specs.declared.lines.Front.TheVariants as front
-use Rattle.script_reader.specs.Lines.{Reading, to_come, IsUnended, IsNext}
-use Rattle.script_reader.specs.Fronts.{IsFront}
-use Rattle.script_reader.proofs.LineEnds.{line_come, bad_last, end_come, rest_is}
+use Rattle.script_reader.specs.Lines.{Reading, to_come, is_end, IsUnended, IsNext}
+use Rattle.script_reader.specs.Fronts.{IsFirst}
+use Rattle.script_reader.proofs.LineEnds.{ended, bad_line, line_come, bad_come, bad_last, end_come}
 
-pub whole_next : (old now new : Reading) (left rest : Option (List ℕ)) (held : List ℕ) (line : Line) (len : ℕ)
-    → Keeps (to_come old left) (to_come now rest) → now.number ≡ old.number → held ≡ now.held → length held ≤ 4096 → IsFront held (front.Whole line len)
-    → new ≡ record { held = drop (len + 1) now.held; number = now.number + 1 } → IsNext old new left rest (lined.Line line)
-whole_next old now new left rest held line len keeps same is short f e =
-    let begins = f.2 in
-    let whole : now.held ≡ f.0 ++ 10 ∷ f.1 = sym is ∙ begins.whole in
-    let after : drop (len + 1) now.held ≡ f.1 = rest_is now.held f.0 f.1 len whole f.3 in
-    rw (e, after) (
+line_next : (old now new : Reading) (left rest : Option (List ℕ)) (line : Line) (len : ℕ)
+    → Keeps (to_come old left) (to_come now rest) → now.number ≡ old.number → length now.held ≤ 4096 → position is_end now.held ≡ Some len
+    → IsFirst now new len (lined.Line line) → IsNext old new left rest (lined.Line line)
+line_next old now new left rest line len keeps same short at f =
+    let p = ended now.held len at in
+    let bytes = take len now.held in
+    let behind = drop (len + 1) now.held in
+    rw (f.1) (
+      bytes,
+      p.0,
       f.0,
-      begins.unended,
-      begins.spelled,
-      line_come (to_come old left) rest now.held f.0 f.1 keeps whole,
+      line_come (to_come old left) rest now.held bytes behind keeps p.1,
       ap (λ n. n + 1) same,
-      omega (arith, short, ap length begins.whole, length-append f.0 (10 ∷ f.1)),
+      omega (arith, short, ap length p.1, length-append bytes (10 ∷ behind)),
     )
+
+bad_next : (old now new : Reading) (left rest : Option (List ℕ)) (len : ℕ)
+    → Keeps (to_come old left) (to_come now rest) → now.number ≡ old.number → length now.held ≤ 4096 → position is_end now.held ≡ Some len
+    → IsFirst now new len lined.Bad → IsNext old new left rest lined.Bad
+bad_next old now new left rest len keeps same short at f =
+    let p = ended now.held len at in
+    rw (f.1) (
+      keeps,
+      elim f.0 [
+        | inl bad ↦ inl (bad_come (to_come old left) rest now.held keeps (λ more. bad_line now.held (take len now.held) (drop (len + 1) now.held) more p.1 p.0 bad))
+        | inr e ↦ inr (sym same ∙ e)
+      ],
+      rw same refl,
+      short,
+    )
+
+-- the first line of what is held is the next
+pub first_next : (old now new : Reading) (left rest : Option (List ℕ)) (len : ℕ) (result : Lined)
+    → Keeps (to_come old left) (to_come now rest) → now.number ≡ old.number → length now.held ≤ 4096 → position is_end now.held ≡ Some len
+    → IsFirst now new len result → IsNext old new left rest result
+first_next old now new left rest len (lined.Line line) keeps same short at f = line_next old now new left rest line len keeps same short at f
+first_next old now new left rest len lined.Bad keeps same short at f = bad_next old now new left rest len keeps same short at f
+first_next old now new left rest len lined.End keeps same short at f = absurd f
+first_next old now new left rest len lined.Failed keeps same short at f = absurd f
 
 is_empty : (xs : List ℕ) → (xs ≡ []) ⊎ (xs ≢ [])
 is_empty [] = inl refl

@@ -1,11 +1,16 @@
--- What stands at the front of the bytes that a reader of lines holds. It serves proofs alone: no public clause names it.
-use Rattle.std.specs.Prelude.{◌≡◌, ℕ, ◌≤◌, ◌++◌, List, length}
-use Rattle.script_reader.specs.declared.lines.Front.{Front}
-use Rattle.script_reader.specs.declared.lines.Front.TheVariants as front
-use Rattle.script_reader.specs.Lines.{IsUnended, BeginsWith, IsBad}
+-- What the first line of the bytes that a reader of lines holds is. It serves proofs alone: no public clause names it.
+use Rattle.std.specs.Prelude.{◌≡◌, ℕ, ◌+◌, ◌-◌, ◌^◌, ◌⊎◌, min, take, drop}
+use Rattle.script_reader.specs.Grammar.{IsLine}
+use Rattle.script_reader.specs.declared.line.Line.{Line}
+use Rattle.script_reader.specs.declared.lines.Lined.{Lined}
+use Rattle.script_reader.specs.declared.lines.Lined.TheVariants as lined
+use Rattle.script_reader.specs.Lines.{Reading}
 
--- what the front of the bytes held is, whatever comes after them
-abbrev pub IsFront : List ℕ → Front → Type 0
-IsFront held (front.Whole line len) = (bytes rest : List ℕ) × BeginsWith held bytes rest line × (length bytes ≡ len)
-IsFront held front.Bad = (more : List ℕ) → IsBad (held ++ more)
-IsFront held front.Short = IsUnended held × (length held ≤ 2400)
+-- what is answered where `len` bytes stand before the first line end: the line that they are, unless its
+-- number would be 2^32
+abbrev pub IsFirst : Reading → Reading → ℕ → Lined → Type 0
+IsFirst old new len (lined.Line line) = IsLine line (take len old.held) × (new ≡ record { held = drop (len + 1) old.held; number = old.number + 1 })
+IsFirst old new len lined.Bad = (((line : Line) → IsLine line (take len old.held) → ⊥) ⊎ (old.number ≡ 2 ^ 32 - 1))
+    × (new ≡ record { held = old.held; number = min (old.number + 1) (2 ^ 32 - 1) })
+IsFirst old new len lined.End = ⊥
+IsFirst old new len lined.Failed = ⊥

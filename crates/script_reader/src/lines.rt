@@ -1,8 +1,8 @@
-ghost use Rattle.std.specs.Prelude.{◌≡◌, ◌≢◌, ℕ, ◌+◌, ◌-◌, ◌^◌, ◌<◌, ◌≤◌, min, List, [], ◌++◌, length, take, drop, position, IsTrue, ◌↔◌, IfOk, OnErr, OnOk};
+ghost use Rattle.std.specs.Prelude.{◌≡◌, ◌≢◌, ℕ, ◌+◌, ◌-◌, ◌^◌, ◌<◌, ◌≤◌, min, List, [], ◌++◌, length, take, drop, position, Some, IsTrue, ◌↔◌, IfOk, OnErr, OnOk};
 ghost use Rattle.std.specs.Io.KnownBytes.{Keeps, IsAtEnd};
 ghost use Rattle.pump_link.specs.Causes.{HasCause, Rose};
 ghost use Rattle.script_reader.specs.Lines.{Reading, to_come, is_end, IsNext, IsReady};
-ghost use Rattle.script_reader.specs.Fronts.{IsFront};
+ghost use Rattle.script_reader.specs.Fronts.{IsFirst};
 
 use crate::line::Line;
 use crate::reading::read_line;
@@ -21,14 +21,6 @@ pub enum Lined {
     End,
     /// The source could not be read.
     Failed,
-}
-
-/// What stands at the front of the bytes held.
-#[derive(Drop)]
-enum Front {
-    Whole(Line, usize),
-    Bad,
-    Short,
 }
 
 /// A reader of the lines of a script. It takes no memory: its room of 4,096 bytes is in the value.
@@ -56,24 +48,6 @@ fn line_end(bytes: &[u8]) -> Option<usize>
     ensures { result ≡ position is_end bytes.now }
 {
     bytes.iter().position(|b| *b == b'\n')
-}
-
-fn front_of(held: &[u8]) -> Front
-    ensures { IsFront held.now result }
-{
-    match line_end(held) {
-        Some(at) => match read_line(&held[..at]) {
-            Some(line) => Front::Whole(line, at),
-            None => Front::Bad,
-        },
-        None => {
-            if held.len() > 2400 {
-                Front::Bad
-            } else {
-                Front::Short
-            }
-        }
-    }
 }
 
 impl Lines {
@@ -157,16 +131,12 @@ impl Lines {
         ensures unasked { IsReady self.old.held → script.new ≡ script.old }
     {
         'turns: loop {
-            match front_of(self.held()) {
-                Front::Whole(line, len) if self.number() < u32::MAX => {
-                    self.advance(len + 1);
-                    return Lined::Line(line);
-                }
-                Front::Short => {}
-                _ => {
-                    self.refuse();
-                    return Lined::Bad;
-                }
+            if let Some(len) = line_end(self.held()) {
+                return self.first(len);
+            }
+            if self.held().len() > 2400 {
+                self.refuse();
+                return Lined::Bad;
             }
             match self.fill(script) {
                 Ok(0) => return self.last(),
@@ -174,6 +144,23 @@ impl Lines {
                 Err(_) => return Lined::Failed,
             }
         }
+    }
+
+    /// The first line of what is held: its `len` bytes stand before the first line end. It is read
+    /// where it is answered, so that the line, of more than 1 KB, is moved little.
+    fn first(&mut self, len: usize) -> Lined
+        requires { position is_end self.old.held ≡ Some len }
+        ensures first { IsFirst self.old self.new len result }
+        ensures few { self.new.number < 2 ^ 32 }
+    {
+        if self.number() < u32::MAX {
+            if let Some(line) = read_line(&self.held()[..len]) {
+                self.advance(len + 1);
+                return Lined::Line(line);
+            }
+        }
+        self.refuse();
+        Lined::Bad
     }
 
     /// What is held at the end of the script, where no line end stands in it.

@@ -27,9 +27,10 @@ fn read(bytes: &[u8]) -> Option<Line>
         return None;
     }
     match bytes {
-        [] | [b'#', ..] => Some(Line::Skip),
-        _ => read_fields(&mut Fields::new(bytes)),
+        [] | [b'#', ..] => return Some(Line::Skip),
+        _ => {}
     }
+    read_fields(&mut Fields::new(bytes))
 }
 
 #[tactic(auto, unfolding(crate::specs::Parsing::line_of))]
@@ -37,27 +38,36 @@ fn read_fields(fields: &mut Fields) -> Option<Line>
     ensures { result ≡ line_of fields.old }
 {
     let word = fields.next()?;
+    // A line has more than 1 KB. Each is returned at once, as a value of nested branches would be
+    // moved out of each of them.
     if word == b"session".as_slice() {
-        read_session(fields)
-    } else if word == b"low-session".as_slice() {
-        read_low_session(fields)
-    } else if word == b"look".as_slice() {
-        read_look(fields)
-    } else if word == b"told".as_slice() {
-        read_told(fields)
-    } else if word == b"gone".as_slice() {
-        read_gone(fields)
-    } else if word == b"high".as_slice() {
-        read_high(fields)
-    } else if word == b"carry".as_slice() {
-        read_carry(fields)
-    } else if word == b"return".as_slice() {
-        read_return(fields)
-    } else if word == b"done".as_slice() {
-        read_done(fields)
-    } else {
-        None
+        return read_session(fields);
     }
+    if word == b"low-session".as_slice() {
+        return read_low_session(fields);
+    }
+    if word == b"look".as_slice() {
+        return read_look(fields);
+    }
+    if word == b"told".as_slice() {
+        return read_told(fields);
+    }
+    if word == b"gone".as_slice() {
+        return read_gone(fields);
+    }
+    if word == b"high".as_slice() {
+        return read_high(fields);
+    }
+    if word == b"carry".as_slice() {
+        return read_carry(fields);
+    }
+    if word == b"return".as_slice() {
+        return read_return(fields);
+    }
+    if word == b"done".as_slice() {
+        return read_done(fields);
+    }
+    None
 }
 
 /// The nine fields of a row, whose ports are then 0.
@@ -159,24 +169,36 @@ fn read_arriving(fields: &mut Fields) -> Option<Arriving>
         return Some(Arriving::Nothing);
     };
     if word == b"hello".as_slice() {
-        read_hello(fields)
-    } else if word == b"data".as_slice() {
-        read_data(fields)
-    } else if word == b"raw".as_slice() {
-        read_raw(fields)
-    } else {
-        None
+        return read_hello(fields);
     }
+    if word == b"data".as_slice() {
+        return read_data(fields);
+    }
+    if word == b"raw".as_slice() {
+        return read_raw(fields);
+    }
+    None
 }
 
-#[tactic(auto, unfolding(crate::specs::Parsing::look_of))]
+#[tactic(auto, unfolding(crate::specs::Parsing::look_of, crate::specs::Parsing::arriving_of))]
 fn read_look(fields: &mut Fields) -> Option<Line>
     ensures { result ≡ look_of fields.old }
 {
     let session = fields.small()?;
     let moment = read_moment(fields)?;
     let word = fields.word()?;
-    let arrival = read_arriving(fields)?;
+    if fields.is_done() {
+        return Some(Line::Look {
+            session,
+            moment,
+            word,
+            arrival: Arriving::Nothing,
+        });
+    }
+    // Here `?` would move what comes once more.
+    let Some(arrival) = read_arriving(fields) else {
+        return None;
+    };
     Some(Line::Look {
         session,
         moment,

@@ -12,6 +12,7 @@ ghost use Rattle.netpump.specs.Runners.{AreUp, outcome_of, Goes, Does, Closes, E
 
 use crate::output::Output;
 use crate::session::Session;
+use arrayvec::ArrayVec;
 use pump_frame::OutOfMemory;
 use pump_link::{Sink, Source, WriteFault};
 use script_reader::{Event, Fault, Line, Lined, Lines};
@@ -92,8 +93,14 @@ fn outcome_of(id: u32, stop: &Option<Stop>) -> Outcome
     }
 }
 
-/// A line of the session that has begun.
-fn go_on<O: Sink>(session: &mut Session, line: &Line, output: &mut Output, out: &mut O) -> Outcome
+/// A line of the session that has begun. The list is for what it prints.
+fn go_on<O: Sink>(
+    session: &mut Session,
+    line: &Line,
+    events: &mut ArrayVec<Event, 4>,
+    output: &mut Output,
+    out: &mut O,
+) -> Outcome
     requires lawful { IsLawfulLine line.now }
     requires some { line.now ≢ Line.Skip }
     requires up { IsUp session.old }
@@ -102,18 +109,19 @@ fn go_on<O: Sink>(session: &mut Session, line: &Line, output: &mut Output, out: 
     ensures later { O.faults out.old ≤ O.faults out.new }
     ensures cause { result ≡ Outcome.Unwritten → Rose (O.faults out.old) (O.faults out.new) }
 {
-    let applied = session.apply(line);
-    match output.print_all(applied.events.as_slice(), out) {
-        Ok(()) => outcome_of(session.id(), &applied.stop),
+    let stop = session.apply(line, events);
+    match output.print_all(events.as_slice(), out) {
+        Ok(()) => outcome_of(session.id(), &stop),
         Err(_) => Outcome::Unwritten,
     }
 }
 
-/// A line of the script.
+/// A line of the script. The list is for what it prints.
 fn turn<O: Sink>(
     alloc: Global,
     session: &mut Option<Session>,
     line: &Line,
+    events: &mut ArrayVec<Event, 4>,
     output: &mut Output,
     out: &mut O,
 ) -> Outcome
@@ -127,7 +135,7 @@ fn turn<O: Sink>(
     match line {
         Line::Skip => Outcome::Applied,
         _ => match session.as_mut() {
-            Some(begun) => go_on(begun, line, output, out),
+            Some(begun) => go_on(begun, line, events, output, out),
             None => begin(alloc, session, line),
         },
     }
@@ -209,6 +217,7 @@ pub fn replay<I: Source, O: Sink>(alloc: Global, script: &mut I, out: &mut O) ->
     ensures write { result ≡ Ended.Write → Rose (O.faults out.old) (O.faults out.new) }
 {
     let mut lines = Lines::new();
+    let mut events = ArrayVec::new();
     let mut output = Output::new();
     let mut session = None;
     'turns: loop {
@@ -217,7 +226,14 @@ pub fn replay<I: Source, O: Sink>(alloc: Global, script: &mut I, out: &mut O) ->
             Err(_) => return Ended::Write,
         }
         match lines.next(script) {
-            Lined::Line(line) => match turn(alloc, &mut session, &line, &mut output, out) {
+            Lined::Line(line) => match turn(
+                alloc,
+                &mut session,
+                &line,
+                &mut events,
+                &mut output,
+                out,
+            ) {
                 Outcome::Applied => {}
                 Outcome::Refused => return refuse(lines.number(), &mut output, out),
                 Outcome::Halted(fault) => return stop(fault, &mut output, out),

@@ -10,11 +10,12 @@ ghost use Rattle.script_reader.specs.Tolds.{fresh_low};
 ghost use Rattle.script_reader.specs.Scripts.{Begun, Running, LowRunning, Whole, Alone, Ends};
 ghost use Rattle.netpump.specs.Sessions.{id_of, IsUp, StandsFor, Applies};
 
+use arrayvec::ArrayVec;
 use disk_model::PlainDisk;
 use pump_frame::{OutOfMemory, SessionRow};
 use script_reader::{Event, Line};
 use std::alloc::Global;
-use two_worlds::{Applied, LowPump, Pump};
+use two_worlds::{LowPump, Pump, Stop};
 
 /// The bytes of a high disk.
 const HIGH_SIZE: u64 = 80;
@@ -80,17 +81,18 @@ impl Session {
         }
     }
 
-    /// A line of the script: what it prints, and whether it stops the session. Until a disk has failed.
-    pub fn apply(&mut self, line: &Line) -> Applied
+    /// A line of the script: what it prints, in the place of what the list held, and whether it stops
+    /// the session. Until a disk has failed.
+    pub fn apply(&mut self, line: &Line, events: &mut ArrayVec<Event, 4>) -> Option<Stop>
         requires lawful { IsLawfulLine line.now }
         requires some { line.now ≢ Line.Skip }
         requires up { IsUp self.old }
-        ensures applies { (running : Begun) → StandsFor self.old running → Applies running line.now self.new result.events.items result.stop }
+        ensures applies { (running : Begun) → StandsFor self.old running → Applies running line.now self.new events.new.items result }
         ensures id { id_of self.new ≡ id_of self.old }
     {
         match self {
-            Session::Whole { pump, .. } => pump.apply(line),
-            Session::Alone { pump, .. } => pump.apply(line),
+            Session::Whole { pump, .. } => pump.apply_into(line, events),
+            Session::Alone { pump, .. } => pump.apply_into(line, events),
         }
     }
 

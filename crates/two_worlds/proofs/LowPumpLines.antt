@@ -10,7 +10,6 @@ use Rattle.script_reader.specs.declared.line.Line.{Line}
 use Rattle.script_reader.specs.Tolds.{LowPast, is_timely_low, IsBarredLow, StepLow}
 use Rattle.two_worlds.specs.LowParts.{PartsStand, StandsForSome, EndsBy, Ends}
 use Rattle.two_worlds.specs.LowPumps.{low_row_of, AppliesLow, is_device}
-use Rattle.two_worlds.specs.declared.applied.Applied.{Applied}
 use Rattle.two_worlds.specs.declared.applied.Stop.{Stop}
 use Rattle.two_worlds.specs.declared.applied.Stop.TheVariants as stops
 use Rattle.two_worlds.specs.declared.low_pump.parts.LowParts.{LowParts}
@@ -49,8 +48,8 @@ module _ (c d : LowParts) (Bars : LowPast → Type 0) (Does : LowPast → Bool �
   down_by p printed (Some (stops.Full end size_of_message size)) was h = absurd h
 
   -- the process is down exactly where a device stopped the line
-  pub down_after : (applied : Applied) → ∥ StandsForSome c ∥₁ → Ends c d Bars Does applied → is_down d.process ≡ is_device applied.stop
-  down_after applied some ends = ∥∥₁_elim some (hlevel props) (λ s. down_by s.0 applied.events.items applied.stop s.1 (ends s.0 s.1))
+  pub down_after : (printed : List Event) (stop : Option Stop) → ∥ StandsForSome c ∥₁ → Ends c d Bars Does printed stop → is_down d.process ≡ is_device stop
+  down_after printed stop some ends = ∥∥₁_elim some (hlevel props) (λ s. down_by s.0 printed stop s.1 (ends s.0 s.1))
 
   stands_by : (p : LowPast) (printed : List Event) (stop : Option Stop) → PartsStand c p → EndsBy (Bars p) (Does p) c d printed stop → Holds d
   stands_by p printed None was h up = ∣ (h.0, h.2) ∣₁
@@ -60,5 +59,5 @@ module _ (c d : LowParts) (Bars : LowPast → Type 0) (Does : LowPast → Bool �
   stands_by p printed (Some (stops.Device roles.Recv faults)) was h up = absurd h
   stands_by p printed (Some (stops.Full end size_of_message size)) was h up = absurd h
 
-  pub still_holds : (applied : Applied) → ∥ StandsForSome c ∥₁ → Ends c d Bars Does applied → Holds d
-  still_holds applied some ends up = ∥∥₁_elim some (hlevel props) (λ s. stands_by s.0 applied.events.items applied.stop s.1 (ends s.0 s.1) up)
+  pub still_holds : (printed : List Event) (stop : Option Stop) → ∥ StandsForSome c ∥₁ → Ends c d Bars Does printed stop → Holds d
+  still_holds printed stop some ends up = ∥∥₁_elim some (hlevel props) (λ s. stands_by s.0 printed stop s.1 (ends s.0 s.1) up)

@@ -24,7 +24,6 @@ use Rattle.script_reader.specs.declared.line.Arriving.{Arriving}
 use Rattle.script_reader.specs.Steps.{Coming, Arrives}
 use Rattle.script_reader.specs.Tolds.{LowPast, told_of_read, joined_low, IsOfferedTold}
 use Rattle.two_worlds.specs.Connections.{waits_of, is_broken_of, reading_of}
-use Rattle.two_worlds.specs.declared.applied.Applied.{Applied}
 use Rattle.two_worlds.specs.declared.applied.Stop.{Stop}
 use Rattle.two_worlds.specs.declared.applied.Stop.TheVariants as stops
 use Rattle.two_worlds.specs.declared.low_pump.parts.LowParts.{LowParts}
@@ -108,9 +107,9 @@ module _ (Bars : Type 0) (Does : Bool → LowPast → List Event → Type 0) whe
   EndsBy c d printed (Some (stops.Full end size_of_message size)) = ⊥
 
 -- so for every past that the parts stood for
-abbrev pub Ends : LowParts → LowParts → (LowPast → Type 0) → (LowPast → Bool → LowPast → List Event → Type 0) → Applied → Type 0
-Ends c d Bars Does applied =
-    (p : LowPast) → PartsStand c p → EndsBy (Bars p) (Does p) c d applied.events.items applied.stop
+abbrev pub Ends : LowParts → LowParts → (LowPast → Type 0) → (LowPast → Bool → LowPast → List Event → Type 0) → List Event → Option Stop → Type 0
+Ends c d Bars Does printed stop =
+    (p : LowPast) → PartsStand c p → EndsBy (Bars p) (Does p) c d printed stop
 
 -- it is always done
 abbrev pub NeverBars : LowPast → Type 0

@@ -4,9 +4,10 @@ ghost use Rattle.two_worlds.specs.LowParts.{StandsForSome};
 ghost use Rattle.std.specs.Prelude.{◌≡◌, false};
 ghost use Rattle.low_process.specs.Looks.{is_down};
 
-use crate::applied::Applied;
+use crate::applied::{Applied, Stop};
+use arrayvec::ArrayVec;
 use pump_frame::{OutOfMemory, SessionRow};
-use script_reader::Line;
+use script_reader::{Event, Line};
 use std::alloc::Global;
 
 mod parts;
@@ -62,7 +63,22 @@ impl LowPump {
         ensures down { low_is_down self.new ≡ is_device result.stop }
         ensures row { low_row_of self.new ≡ low_row_of self.old }
     {
-        self.parts.apply(line)
+        let mut events = ArrayVec::new();
+        let stop = self.apply_into(line, &mut events);
+        Applied { events, stop }
+    }
+
+    /// As `apply`, with what is printed in the caller's list, in the place of what that held: one list
+    /// serves a whole script.
+    pub fn apply_into(&mut self, line: &Line, events: &mut ArrayVec<Event, 4>) -> Option<Stop>
+        requires lawful { IsLawfulLine line.now }
+        requires up { low_is_down self.old ≡ false }
+        ensures applies { (p : LowPast) → LowStandsFor self.old p
+            → AppliesLow self.old self.new line.now p events.new.items result }
+        ensures down { low_is_down self.new ≡ is_device result }
+        ensures row { low_row_of self.new ≡ low_row_of self.old }
+    {
+        self.parts.apply(line, events)
     }
 
     /// How many messages are stored.

@@ -11,12 +11,13 @@ mod parts;
 #[cfg(test)]
 mod tests;
 
-use crate::applied::Applied;
+use crate::applied::{Applied, Stop};
 use crate::not_open::NotOpen;
+use arrayvec::ArrayVec;
 use disk_model::Disk;
 use parts::Parts;
 use pump_frame::SessionRow;
-use script_reader::Line;
+use script_reader::{Event, Line};
 use std::alloc::Global;
 
 /// A whole session: its processes, its passage, its receiver, over three disks.
@@ -80,7 +81,25 @@ impl<D: Disk> Pump<D> {
         ensures down { is_down self.new ≡ is_device result.stop }
         ensures row { row_of self.new ≡ row_of self.old }
     {
-        self.parts.apply(line)
+        let mut events = ArrayVec::new();
+        let stop = self.apply_into(line, &mut events);
+        Applied { events, stop }
+    }
+
+    /// As `apply`, with what is printed in the caller's list, in the place of what that held: one list
+    /// serves a whole script.
+    pub fn apply_into(&mut self, line: &Line, events: &mut ArrayVec<Event, 4>) -> Option<Stop>
+        requires lawful { IsLawfulLine line.now }
+        requires up { is_down self.old ≡ false }
+        ensures applies { (p : Past) → StandsFor D.told self.old p
+            → Applies D.told self.old self.new line.now p events.new.items result }
+        ensures timed { result ≡ None → GoesOnTimed D.told self.old self.new line.now }
+        ensures serve { DisksGo D.told (row_of self.old) (disk_at roles.Low self.old) (disk_at roles.High self.old) (disk_at roles.Recv self.old)
+            (disk_at roles.Low self.new) (disk_at roles.High self.new) (disk_at roles.Recv self.new) result }
+        ensures down { is_down self.new ≡ is_device result }
+        ensures row { row_of self.new ≡ row_of self.old }
+    {
+        self.parts.apply(line, events)
     }
 
     /// How many messages were accepted, removed, and taken by the receiver.

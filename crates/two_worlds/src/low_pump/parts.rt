@@ -10,7 +10,7 @@ ghost use Rattle.low_process.specs.Looks.{IsHand};
 ghost use Rattle.script_reader.specs.Tolds.{told_of_read};
 ghost use Rattle.two_worlds.specs.LowParts.{armed_if, answer_of};
 
-use crate::applied::{Applied, Stop};
+use crate::applied::Stop;
 use crate::connection::Connection;
 use crate::printing::print_look;
 use arrayvec::ArrayVec;
@@ -18,7 +18,7 @@ use disk_model::{PlainDisk, Role};
 use low_process::{Answer, Arrival, Ask, LowLook, LowProcess};
 use pump_core::Seen;
 use pump_frame::{Item, OutOfMemory, Payload, SessionRow};
-use script_reader::{Arriving, Line, ToldFeedback};
+use script_reader::{Arriving, Event, Line, ToldFeedback};
 use stable_buffer::{LowStore, Register, format};
 use std::alloc::Global;
 
@@ -85,17 +85,6 @@ fn arm(store: &mut LowStore<PlainDisk>, fault: bool)
 {
     if fault {
         store.disk().fail_next();
-    }
-}
-
-/// Nothing was done: the line can't be applied.
-fn barred() -> Applied
-    ensures events { result.events.items ≡ [] }
-    ensures stop { result.stop ≡ Some Stop.Line }
-{
-    Applied {
-        events: ArrayVec::new(),
-        stop: Some(Stop::Line),
     }
 }
 
@@ -187,18 +176,20 @@ impl LowParts {
     }
 
     /// The end of a look: what it prints, and whether the disk failed in it.
-    fn end_look(&mut self, moment: u64, look: &LowLook) -> Applied
+    fn end_look(
+        &mut self,
+        moment: u64,
+        look: &LowLook,
+        out: &mut ArrayVec<Event, 4>,
+    ) -> Option<Stop>
+        requires out { out.old.items ≡ [] }
         ensures rest { self.new ≡ record self.old { moment = moment } }
-        ensures events { result.events.items ≡ look_prints self.old.row.id moment look.now }
-        ensures stop { result.stop ≡ stop_of self.new }
+        ensures events { out.new.items ≡ look_prints self.old.row.id moment look.now }
+        ensures stop { result ≡ stop_of self.new }
     {
         self.moment = moment;
-        let mut events = ArrayVec::new();
-        print_look(self.row.id, moment, look, &mut events);
-        Applied {
-            events,
-            stop: self.stop(),
-        }
+        print_look(self.row.id, moment, look, out);
+        self.stop()
     }
 
     /// The rest of a look, which is answered by what was told.
@@ -220,37 +211,45 @@ impl LowParts {
     }
 
     /// A look with what waits first.
-    fn look_first(&mut self, moment: u64, word: u32, told: ToldFeedback) -> Applied
+    fn look_first(
+        &mut self,
+        moment: u64,
+        word: u32,
+        told: ToldFeedback,
+        out: &mut ArrayVec<Event, 4>,
+    ) -> Option<Stop>
         requires stands { ∥ StandsForSome self.old ∥₁ }
         requires order { self.old.moment ≤ moment }
         requires moment { moment ≤ 2 ^ 62 }
         requires told { IsLawfulFeedback told }
+        requires out { out.old.items ≡ [] }
         ensures ends { Ends self.old self.new NeverBars (λ p is_fault q printed. IsToldAt self.old.row p
-            moment word told (first_of p.is_broken p.waits) is_fault q printed) result }
+            moment word told (first_of p.is_broken p.waits) is_fault q printed) out.new.items result }
         ensures row { self.new.row ≡ self.old.row }
     {
         let arrival = self.connection.first();
         let ask = self.process.begin(moment, word, arrival, &mut self.store);
         let look = self.answer(ask, told);
         self.connection.settle(look.taken);
-        self.end_look(moment, &look)
+        self.end_look(moment, &look, out)
     }
 
     /// The look of a connection that is lost: nothing waits on the new one.
-    fn look_gone(&mut self, moment: u64) -> Applied
+    fn look_gone(&mut self, moment: u64, out: &mut ArrayVec<Event, 4>) -> Option<Stop>
         requires stands { ∥ StandsForSome self.old ∥₁ }
         requires order { self.old.moment ≤ moment }
         requires moment { moment ≤ 2 ^ 62 }
         requires unused { self.old.connection ≡ unused }
+        requires out { out.old.items ≡ [] }
         ensures ends { Ends self.old self.new NeverBars (λ p is_fault q printed. IsToldAt self.old.row p
-            moment 0 Quiet Gone is_fault q printed) result }
+            moment 0 Quiet Gone is_fault q printed) out.new.items result }
         ensures row { self.new.row ≡ self.old.row }
     {
         let ask = self
             .process
             .begin(moment, 0, Arrival::Gone, &mut self.store);
         let look = self.answer(ask, ToldFeedback::Quiet);
-        self.end_look(moment, &look)
+        self.end_look(moment, &look, out)
     }
 
     /// A `told` line: what comes joins what waits, a fault that is told arms the disk, and a look is
@@ -262,45 +261,49 @@ impl LowParts {
         fault: bool,
         told: ToldFeedback,
         arriving: &Arriving,
-    ) -> Applied
+        out: &mut ArrayVec<Event, 4>,
+    ) -> Option<Stop>
         requires stands { ∥ StandsForSome self.old ∥₁ }
         requires order { self.old.moment ≤ moment }
         requires moment { moment ≤ 2 ^ 62 }
         requires told { IsLawfulFeedback told }
         requires arriving { IsLawfulArriving arriving.now }
+        requires out { out.old.items ≡ [] }
         ensures ends { Ends self.old self.new (Crowds self.old.row fault arriving.now)
-            (IsJoinedTold self.old.row moment word fault told arriving.now) result }
+            (IsJoinedTold self.old.row moment word fault told arriving.now) out.new.items result }
         ensures row { self.new.row ≡ self.old.row }
     {
         if !self.connection.join(self.row.id, arriving) {
-            return barred();
+            return Some(Stop::Line);
         }
         arm(&mut self.store, fault);
-        self.look_first(moment, word, told)
+        self.look_first(moment, word, told, out)
     }
 
     /// A `gone` line.
-    fn gone(&mut self, moment: u64) -> Applied
+    fn gone(&mut self, moment: u64, out: &mut ArrayVec<Event, 4>) -> Option<Stop>
         requires stands { ∥ StandsForSome self.old ∥₁ }
         requires order { self.old.moment ≤ moment }
         requires moment { moment ≤ 2 ^ 62 }
+        requires out { out.old.items ≡ [] }
         ensures ends { Ends self.old self.new NeverBars (λ p is_fault q printed. IsToldAt self.old.row
-            (lost_low p) moment 0 Quiet Gone is_fault q printed) result }
+            (lost_low p) moment 0 Quiet Gone is_fault q printed) out.new.items result }
         ensures row { self.new.row ≡ self.old.row }
     {
         self.connection.lose();
-        self.look_gone(moment)
+        self.look_gone(moment, out)
     }
 
-    /// A line of the script.
-    pub fn apply(&mut self, line: &Line) -> Applied
+    /// A line of the script. What it prints is all that is in the list after it.
+    pub fn apply(&mut self, line: &Line, out: &mut ArrayVec<Event, 4>) -> Option<Stop>
         requires lawful { IsLawfulLine line.now }
         requires stands { ∥ StandsForSome self.old ∥₁ }
         ensures ends { Ends self.old self.new (λ p. IsBarredLow self.old.row p line.now)
             (λ p is_fault q printed. (is_timely_low self.old.row p line.now ≡ true)
-            × StepLow self.old.row p line.now is_fault q printed) result }
+            × StepLow self.old.row p line.now is_fault q printed) out.new.items result }
         ensures row { self.new.row ≡ self.old.row }
     {
+        out.clear();
         match line {
             Line::Told {
                 session,
@@ -311,17 +314,17 @@ impl LowParts {
                 arrival,
             } => {
                 if !self.is_timely(*session, *moment) {
-                    return barred();
+                    return Some(Stop::Line);
                 }
-                self.told(*moment, *word, *fault, *feedback, arrival)
+                self.told(*moment, *word, *fault, *feedback, arrival, out)
             }
             Line::Gone { session, moment } => {
                 if !self.is_timely(*session, *moment) {
-                    return barred();
+                    return Some(Stop::Line);
                 }
-                self.gone(*moment)
+                self.gone(*moment, out)
             }
-            _ => barred(),
+            _ => Some(Stop::Line),
         }
     }
 }

@@ -9,7 +9,7 @@ ghost use Rattle.two_worlds.specs.Standing.{Stands, StandsForSome};
 ghost use Rattle.two_worlds.specs.Doing.{Does, DisksServe};
 ghost use Rattle.two_worlds.specs.LineSteps.{goes_on_by, is_timely_by, CarriesBack, IsOverfullSent, Runs, Attempts, answer_of};
 
-use crate::applied::{Applied, Stop};
+use crate::applied::Stop;
 use crate::pump::parts::Parts;
 use arrayvec::ArrayVec;
 use disk_model::Disk;
@@ -194,16 +194,16 @@ impl<D: Disk> Parts<D> {
         self.run(line, out)
     }
 
-    /// A line of the script: what it prints, and whether it stops the session.
-    pub fn apply(&mut self, line: &Line) -> Applied
+    /// A line of the script: what it prints is all that is in the list after it, and whether it stops
+    /// the session.
+    pub fn apply(&mut self, line: &Line, out: &mut ArrayVec<Event, 4>) -> Option<Stop>
         requires stands { ∥ StandsForSome D.told self.old ∥₁ }
         requires lawful { IsLawfulLine line.now }
-        ensures attempts { Attempts D.told self.old self.new line.now [] result.events.items (answer_of result.stop) }
-        ensures serve { DisksServe D.told self.old self.new (answer_of result.stop) }
+        ensures attempts { Attempts D.told self.old self.new line.now [] out.new.items (answer_of result) }
+        ensures serve { DisksServe D.told self.old self.new (answer_of result) }
         ensures row { self.new.row ≡ self.old.row }
     {
-        let mut events = ArrayVec::new();
-        let stop = self.attempt(line, &mut events).err();
-        Applied { events, stop }
+        out.clear();
+        self.attempt(line, out).err()
     }
 }

@@ -9,16 +9,14 @@ pub returns-else-not-is_timely-clause-ends : goal.returns-else-not-is_timely-cla
 returns-else-not-is_timely-clause-ends c = λ p was.
     let s = c.args.self.now in
     let i = c.in-Told in
-    let r = c.told.result in
-    subst (λ (line : Line). EndsBy (IsBarredLow s.row p line) (λ is_fault q printed. (is_timely_low s.row p line ≡ true) × StepLow s.row p line is_fault q printed) s c.told.new.self r.events.items r.stop)
+    subst (λ (line : Line). EndsBy (IsBarredLow s.row p line) (λ is_fault q printed. (is_timely_low s.row p line ≡ true) × StepLow s.row p line is_fault q printed) s c.told.new.self c.told.new.out.items c.told.result)
     (sym i.is)
-    (applies_told s p was i.session i.moment i.word i.fault i.feedback i.arrival c.told.new.self r.events.items r.stop (sym c.is_timely.ensures ∙ c.if-not-is_timely.false) (c.told.ensures.ends p was))
+    (applies_told s p was i.session i.moment i.word i.fault i.feedback i.arrival c.told.new.self c.told.new.out.items c.told.result (sym c.is_timely.ensures ∙ c.if-not-is_timely.false) (c.told.ensures.ends p was))
 
 pub returns-else-not-is_timely-2-clause-ends : goal.returns-else-not-is_timely-2-clause-ends
 returns-else-not-is_timely-2-clause-ends c = λ p was.
     let s = c.args.self.now in
     let i = c.in-Gone in
-    let r = c.gone.result in
-    subst (λ (line : Line). EndsBy (IsBarredLow s.row p line) (λ is_fault q printed. (is_timely_low s.row p line ≡ true) × StepLow s.row p line is_fault q printed) s c.gone.new.self r.events.items r.stop)
+    subst (λ (line : Line). EndsBy (IsBarredLow s.row p line) (λ is_fault q printed. (is_timely_low s.row p line ≡ true) × StepLow s.row p line is_fault q printed) s c.gone.new.self c.gone.new.out.items c.gone.result)
     (sym i.is)
-    (applies_gone s p was i.session i.moment c.gone.new.self r.events.items r.stop (sym c.is_timely-in-Gone.ensures ∙ c.if-not-is_timely-2.false) (c.gone.ensures.ends p was))
+    (applies_gone s p was i.session i.moment c.gone.new.self c.gone.new.out.items c.gone.result (sym c.is_timely-in-Gone.ensures ∙ c.if-not-is_timely-2.false) (c.gone.ensures.ends p was))

@@ -7,4 +7,4 @@ look_gone-requires-clause-stands c = gone_stands c.args.self.now c.lose.new.self
 pub returns-clause-ends : goal.returns-clause-ends
 returns-clause-ends c =
     gone_ends c.args.self.now c.lose.new.self c.lose.ensures
-    c.look_gone.new.self c.args.moment c.look_gone.result.events.items c.look_gone.result.stop c.look_gone.ensures.ends
+    c.look_gone.new.self c.args.moment c.look_gone.new.out.items c.look_gone.result c.look_gone.ensures.ends

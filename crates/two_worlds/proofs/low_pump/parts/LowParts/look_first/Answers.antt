@@ -21,4 +21,4 @@ returns-clause-ends c =
     let g = c.end_look.ensures in
     first_ends c.args.self.now c.answer-look.new.self c.end_look.new.self c.begin-ask.new.self c.begin-ask.new.store c.args.moment c.args.word c.args.told
     (arrival_of c.first-arrival.result) c.begin-ask.result c.answer-look.result b.begins b.hand b.store b.row b.last c.answer-look.ensures.answered c.answer-look.ensures.rest
-    c.settle.new.self g.rest c.end_look.result.events.items c.end_look.result.stop g.events g.stop c.first-arrival.ensures.offered c.settle.ensures
+    c.settle.new.self g.rest c.end_look.new.out.items c.end_look.result g.events g.stop c.first-arrival.ensures.offered c.settle.ensures

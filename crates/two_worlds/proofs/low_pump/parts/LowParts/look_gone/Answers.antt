@@ -24,4 +24,4 @@ returns-clause-ends c =
     let g = c.end_look.ensures in
     gone_ends c.args.self.now e c.end_look.new.self c.begin-ask.new.self c.begin-ask.new.store c.args.moment 0 Quiet
     Gone c.begin-ask.result c.answer-look.result b.begins b.hand b.store b.row b.last c.answer-look.ensures.answered c.answer-look.ensures.rest
-    e.connection g.rest c.end_look.result.events.items c.end_look.result.stop g.events g.stop refl c.requires.unused refl
+    e.connection g.rest c.end_look.new.out.items c.end_look.result g.events g.stop refl c.requires.unused refl

@@ -8,4 +8,4 @@ look_first-requires-clause-stands c =
 pub returns-clause-ends : goal.returns-clause-ends
 returns-clause-ends c =
     told_ends c.args.self.now c.join.new.self c.arm.new.store c.args.fault c.args.arriving.now c.if-not-join.ensures c.arm.ensures
-    c.look_first.new.self c.args.moment c.args.word c.args.told c.look_first.result.events.items c.look_first.result.stop c.look_first.ensures.ends
+    c.look_first.new.self c.args.moment c.args.word c.args.told c.look_first.new.out.items c.look_first.result c.look_first.ensures.ends

@@ -8,4 +8,4 @@ use Rattle.two_worlds.proofs.pump.parts.Parts.apply.Goals as goal
 pub returns-clause-attempts : goal.returns-clause-attempts
 returns-clause-attempts g c =
     subst (λ (t : List Event × Result (Unit {0}) Stop). Attempts g.D.Disk.told c.args.self.now c.attempt.new.self c.args.line.now t.0 c.attempt.new.out.items t.1)
-    (λ i. (c.new-events.ensures i, answer_is c.attempt.result c.err-stop.result c.err-stop.ensures.value i)) c.attempt.ensures.attempts
+    (λ i. (c.clear.ensures i, answer_is c.attempt.result c.err.result c.err.ensures.value i)) c.attempt.ensures.attempts

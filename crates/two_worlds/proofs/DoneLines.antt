@@ -65,7 +65,7 @@ module _ {D : Type 0} (m : Meaning D) (c d : Parts D) (moment : ℕ) (out now : 
   carry_ends (Device role faults) carry p s =
       let a = carry p s in
       (a.0, a.1, subst (λ (r : Role). BreaksOff c.row p moment r a.0 a.1) (sym a.2.0) (a.2.1, a.2.2), a.3, a.4)
-  carry_ends (Full end k size) carry p s = (let a = carry p s in (a.0, a.1, (a.2.1, a.2.2), a.3, a.4))
+  carry_ends (Full end k size) carry p s = carry p s
 
   -- the TAKEN comes back
   pub carry_back : (e : Parts D) (mid : List Event) (result : Result (Unit {0}) Stop) → CarryDoes e mid (Ok tt) → BackDoes c.row e mid result → CarryBackDoes result
@@ -126,8 +126,9 @@ module _ {D : Type 0} (m : Meaning D) (c d : Parts D) (moment time : ℕ) (out n
       let a = looks p s in
       let n = hand_is m e a.0 a.4 some in
       let b = does a.0 a.4 in
-      let nothing : now ≡ mid = b.3 ∙ ap (λ l. mid ++ l) b.2.1 ∙ append-nil mid in
-      (b.0, a.1, (a.0, n.0, a.2, n.1, b.2.0), nothing ∙ a.3, b.4)
+      let nothing : now ≡ mid = b.3 ∙ ap (λ l. mid ++ l) b.2.2 ∙ append-nil mid in
+      let look = subst (λ (x : Past). IsHighLook c.row p moment None x a.1) (sym b.2.0) a.2 in
+      (b.0, a.1, (look, (a.0, n.0, a.2, n.1, b.2.1)), nothing ∙ a.3, b.4)
 
   -- the message was sent before it is carried, and the line had time for it
   module _ (e : Parts D) (mid : List Event) (looks : HighDoes e mid) (some : is_some (high.hand_of e.high) ≡ true) (p : Past) (s : Stands m c p) where

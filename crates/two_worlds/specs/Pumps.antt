@@ -13,6 +13,7 @@ use Rattle.two_worlds.specs.declared.applied.Stop.TheVariants.{Line, Device, Ful
 use Rattle.two_worlds.specs.declared.pump.Pump.{Pump}
 use Rattle.two_worlds.specs.Standing as parts
 use Rattle.two_worlds.specs.Doing.{Fails}
+use Rattle.two_worlds.specs.LineSteps.{LeavesOff}
 use Rattle.two_worlds.specs.Timelines.{IsTimeline, RunGoesOn}
 use Rattle.pump_core.specs.Timed.{Step as TimedStep, Point}
 
@@ -48,7 +49,7 @@ Applies m s t line p printed (Some (Device role faults)) =
     (is_timely (row_of s) p line ≡ true) × ((q : Past) × Breaks (row_of s) p line role q printed × FailsAt m t q role faults)
 Applies m s t line p printed (Some (Full end length size)) =
     (is_timely (row_of s) p line ≡ true) × Overfills (row_of s) p line printed end length size
-    × ((q : Past) × StandsFor m t q)
+    × ((q : Past) × LeavesOff (row_of s) p line q printed × StandsFor m t q)
 
 -- whatever timed run came to what s stood for, t stands for what the run comes to by the arrivals, looks
 -- and events of the line

@@ -1,5 +1,5 @@
 // The bytes of a disk in memory, which may reach up to a room.
-ghost use Rattle.std.specs.Prelude.{◌≡◌, ℕ, ◌+◌, ◌≤◌, ◌++◌, [], length, take, drop, replicate, IfOk, vec_len, List};
+ghost use Rattle.std.specs.Prelude.{◌≡◌, ℕ, ◌+◌, ◌≤◌, ◌++◌, [], length, take, drop, replicate, IfOk, vec_len, vec_capacity, List};
 ghost use Rattle.disk_model.specs.Contents.{Held, put_at};
 ghost use Rattle.disk_model.specs.Written.{written};
 
@@ -115,6 +115,7 @@ pub fn write_over(bytes: &mut Vec<u8>, at: usize, new: &[u8])
     ensures written { bytes.new.items
         ≡ take at bytes.old.items ++ new.now ++ drop (at + length new.now) bytes.old.items }
     ensures length { vec_len bytes.new ≡ vec_len bytes.old }
+    ensures capacity { vec_capacity bytes.new ≡ vec_capacity bytes.old }
 {
     bytes[at..at + new.len()].copy_from_slice(new);
 }

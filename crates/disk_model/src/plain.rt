@@ -1,4 +1,4 @@
-ghost use Rattle.std.specs.Prelude.{◌≡◌, ◌+◌, ◌≤◌, true, false, [], length, IfOk, IsErr, IsTrue, OnOk, OnErr};
+ghost use Rattle.std.specs.Prelude.{◌≡◌, ◌+◌, ◌≤◌, true, false, [], length, max, vec_len, vec_capacity, IfOk, IsErr, IsTrue, OnOk, OnErr};
 ghost use Rattle.disk_model.specs.Disk.{Moves, Torn, Holds, Answers, FailsPast};
 ghost use Rattle.disk_model.specs.Plain.{Plain, plain_meaning};
 
@@ -14,26 +14,43 @@ use std::marker::Model;
 #[derive(Drop)]
 pub struct PlainDisk {
     room: u64,
-    size: u64,
     bytes: Vec<u8>,
     armed: bool,
     faults: u64,
 }
 
 impl Model for PlainDisk {
-    ghost use Rattle.std.specs.Prelude.{◌≡◌, ◌≤◌, take, vec_len};
+    ghost use Rattle.std.specs.Prelude.{◌≡◌, ◌≤◌, vec_len, vec_capacity};
     ghost use Rattle.disk_model.specs.Plain.{Plain};
 
     ghost Value = { Plain };
 
     ghost view = { λ d. record {
-      bytes = take d.size d.bytes.items;
+      bytes = d.bytes.items;
       room = d.room;
       armed = d.armed;
       faults = d.faults;
     } };
 
-    ghost invariant = { λ d. (d.size ≤ vec_len d.bytes) × (vec_len d.bytes ≡ d.room) };
+    ghost invariant = { λ d. (vec_len d.bytes ≤ d.room) × (d.room ≤ vec_capacity d.bytes) };
+}
+
+// Writes over what is there, and on past the end, within the capacity.
+fn put(bytes: &mut Vec<u8>, at: usize, new: &[u8])
+    requires starts { at ≤ vec_len bytes.old }
+    requires ends { at + length new.now ≤ vec_capacity bytes.old }
+    ensures holds { Holds bytes.old.items at new.now bytes.new.items }
+    ensures length { vec_len bytes.new ≤ max (vec_len bytes.old) (at + length new.now) }
+    ensures capacity { vec_capacity bytes.old ≤ vec_capacity bytes.new }
+{
+    if new.len() <= bytes.len() - at {
+        write_over(bytes, at, new);
+        return;
+    }
+    bytes.truncate(at);
+    if bytes.extend_from_slice(new).is_err() {
+        unreachable!();
+    }
 }
 
 impl PlainDisk {
@@ -44,8 +61,7 @@ impl PlainDisk {
     {
         Ok(PlainDisk {
             room,
-            size: 0,
-            bytes: vec![in alloc; 0u8; room as usize]?,
+            bytes: Vec::with_capacity(alloc, room as usize)?,
             armed: false,
             faults: 0,
         })
@@ -81,11 +97,11 @@ impl Disk for PlainDisk {
 
     fn size(&mut self) -> Result<u64, DiskFault> {
         self.answer(true)?;
-        Ok(self.size)
+        Ok(self.bytes.len() as u64)
     }
 
     fn read(&mut self, at: u64, into: &mut [u8]) -> Result<(), DiskFault> {
-        let size = self.size;
+        let size = self.bytes.len() as u64;
         self.answer(ends_within(at, into.len() as u64, size))?;
         let from = at as usize;
         into.copy_from_slice(&self.bytes[from..from + into.len()]);
@@ -104,8 +120,7 @@ impl Disk for PlainDisk {
         let count = bytes.len() as u64;
         let room = self.room;
         self.answer(ends_within(at, count, room))?;
-        write_over(&mut self.bytes, at as usize, bytes);
-        self.size = self.size.max(at + count);
+        put(&mut self.bytes, at as usize, bytes);
         Ok(())
     }
 

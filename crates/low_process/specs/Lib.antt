@@ -1,5 +1,6 @@
 pub mod Ends
 pub mod Hands
+pub mod Heads
 pub mod Looks
 pub mod Ready
 pub mod Steps

@@ -9,8 +9,8 @@ mod process;
 mod store;
 mod values;
 
-pub use process::LowProcess;
-pub use values::{Answer, Arrival, Ask, LowLook};
+pub use process::{LowProcess, NOTHING};
+pub use values::{Answer, Arrival, Ask, AskHead, LookHead, LowLook, Reply};
 
 #[cfg(test)]
 mod tests;

@@ -4,12 +4,14 @@ ghost use Rattle.pump_core.specs.History.{Arrival as Offered};
 ghost use Rattle.pump_core.specs.Passage.{Low, High, ComesNext};
 ghost use Rattle.low_process.specs.declared.values.Asking.TheVariants.{Forward as AsksForward};
 ghost use Rattle.low_process.specs.Looks.{Answers, IsBetweenLooks, AsksToForward, AsksFor, IsLawful, Looks, HandBegins, arrival_of, look_of, row_of, next_of, last_of, is_down, owes, hand_of, hand_after, hand_passed};
+ghost use Rattle.low_process.specs.Heads.{look_with, ask_with};
 ghost use Rattle.low_process.specs.Ends.{OfferStep, EndStep, FitsEnd, StandsFitting};
 ghost use Rattle.low_process.specs.Whole.{HasStore, BeginStep, LookStep, KeepsAcknowledged, LeavesStored, reply_in};
 
 use crate::LowProcess;
+use crate::process::NOTHING;
 use crate::store::store_message;
-use crate::values::{Answer, Arrival, Ask, LowLook};
+use crate::values::{Answer, Arrival, Ask, AskHead, LookHead, LowLook};
 use disk_model::Disk;
 use passage::{Forwarded, LowEnd};
 use pump_core::Seen;
@@ -46,6 +48,41 @@ fn offer<L: LowEnd>(item: Item, is_owed: bool, ends: &mut L) -> Answer
 }
 
 impl LowProcess {
+    /// As `begin`, into the look's head. The message that is offered is in the hand.
+    pub fn begin_into<D: Disk>(
+        &mut self,
+        moment: u64,
+        word: u32,
+        arrival: Arrival,
+        store: &mut LowStore<D>,
+        head: &mut LookHead,
+    ) -> AskHead
+        requires between { IsBetweenLooks self.old }
+        requires order { last_of self.old ≤ moment }
+        requires moment { moment ≤ 2 ^ 62 }
+        requires lawful { IsLawful (arrival_of arrival) }
+        requires store { HasStore D.told self.old store.old }
+
+        ensures begins { (is_fault : Bool) × BeginStep D.told self.old self.new store.old store.new
+            moment word (arrival_of arrival.entry) is_fault (ask_with (row_of self.old) self.new.phase head.new result) }
+        ensures store { HasStore D.told self.new store.new }
+        ensures images { LeavesStored D.told self.old store.old store.new
+            (arrival_of arrival.entry) }
+        ensures still { is_down self.old ≡ true → store.new ≡ store.old }
+        ensures silent { is_down self.old ≡ true → reply_in (ask_with (row_of self.old) self.new.phase head.new result) ≡ None }
+        ensures acknowledged { KeepsAcknowledged D.told (row_of self.old) (reply_in (ask_with (row_of self.old) self.new.phase head.new result))
+            (low_disk store.new) }
+
+        ensures hand { HandBegins self.old self.new (arrival_of arrival.entry) (ask_with (row_of self.old) self.new.phase head.new result) }
+        ensures fits { (l : Low) → FitsEnd self.old l → FitsEnd self.new l }
+        ensures row { row_of self.new ≡ row_of self.old }
+        ensures last { last_of self.new ≡ moment }
+    {
+        let message = self.wanted(&arrival);
+        let is_fault = store_message(message, store);
+        self.step(moment, word, arrival, is_fault, head)
+    }
+
     /// The first half of a look: of this moment in microseconds, which is not below the last one
     /// and at most 2^62, with this random word and this arrival. It stores what the arrival asks to
     /// store. A crash at any moment leaves what was stored before it, or this message too; after a
@@ -78,13 +115,13 @@ impl LowProcess {
         ensures row { row_of self.new ≡ row_of self.old }
         ensures last { last_of self.new ≡ moment }
     {
-        let message = self.wanted(&arrival);
-        let is_fault = store_message(message, store);
-        self.step(moment, word, arrival, is_fault)
+        let mut head = NOTHING;
+        let asked = self.begin_into(moment, word, arrival, store, &mut head);
+        self.ask(asked, &head)
     }
 
     // Offers the message in the hand, and ends the look.
-    fn offer_hand<L: LowEnd>(&mut self, item: Item, ends: &mut L) -> LowLook
+    fn offer_hand<L: LowEnd>(&mut self, item: Item, ends: &mut L, head: &mut LookHead)
         requires asking { AsksToForward self.old }
         requires hand { hand_of self.old ≡ Some item }
         requires number { item.number + 1 ≡ next_of self.old }
@@ -93,10 +130,10 @@ impl LowProcess {
 
         ensures looks { (moment word : ℕ) (arrival : Offered) (is_fault : Bool) →
             Looks (λ h. AsksFor self.old h moment word arrival is_fault) self.new (row_of self.old)
-            (look_of moment word arrival is_fault result.feedback) result }
-        ensures reply { result.reply ≡ None }
-        ensures stored { result.stored ≡ None }
-        ensures hand { hand_of self.new ≡ hand_passed (hand_of self.old) result.feedback }
+            (look_of moment word arrival is_fault head.new.feedback) (look_with (row_of self.old) head.new) }
+        ensures reply { head.new.reply ≡ None }
+        ensures stored { head.new.stored ≡ None }
+        ensures hand { hand_of self.new ≡ hand_passed (hand_of self.old) head.new.feedback }
         ensures row { row_of self.new ≡ row_of self.old }
         ensures next { next_of self.new ≡ next_of self.old }
         ensures last { last_of self.new ≡ last_of self.old }
@@ -106,11 +143,58 @@ impl LowProcess {
         ensures ends { (l : Low) (h : High)
             → L.stands ends.old l h → ComesNext l.forwarded item.number
             → EndStep (L.shape ends.old) L.exact (StandsFitting (L.stands ends.new) self.new) l h
-            (Some item) result.feedback }
+            (Some item) head.new.feedback }
     {
         let is_owed = self.owes();
         let answer = offer(item, is_owed, ends);
-        self.finish(answer)
+        self.finish_into(answer, head)
+    }
+
+    /// As `look`, into the look's head.
+    pub fn look_into<D: Disk, L: LowEnd>(
+        &mut self,
+        moment: u64,
+        word: u32,
+        arrival: Arrival,
+        store: &mut LowStore<D>,
+        ends: &mut L,
+        head: &mut LookHead,
+    )
+        requires between { IsBetweenLooks self.old }
+        requires order { last_of self.old ≤ moment }
+        requires moment { moment ≤ 2 ^ 62 }
+        requires lawful { IsLawful (arrival_of arrival) }
+        requires store { HasStore D.told self.old store.old }
+        requires ends { (l : Low) × (h : High) × StandsFitting (L.stands ends.old) self.old l h }
+
+        ensures looks { (is_fault : Bool) × LookStep D.told self.old self.new store.old store.new
+            moment word (arrival_of arrival.entry) is_fault (look_with (row_of self.old) head.new) }
+        ensures store { HasStore D.told self.new store.new }
+        ensures images { LeavesStored D.told self.old store.old store.new
+            (arrival_of arrival.entry) }
+        ensures still { is_down self.old ≡ true → store.new ≡ store.old }
+        ensures silent { is_down self.old ≡ true → (look_with (row_of self.old) head.new).reply ≡ None }
+        ensures acknowledged { KeepsAcknowledged D.told (row_of self.old) (look_with (row_of self.old) head.new).reply
+            (low_disk store.new) }
+
+        ensures hand { hand_of self.new
+            ≡ hand_after (hand_of self.old) (arrival_of arrival.entry) (look_with (row_of self.old) head.new) }
+        ensures row { row_of self.new ≡ row_of self.old }
+        ensures last { last_of self.new ≡ moment }
+        ensures shape { L.shape ends.new ≡ L.shape ends.old }
+        ensures place { L.place ends.new ≡ L.place ends.old }
+        ensures ends { (l : Low) (h : High) → StandsFitting (L.stands ends.old) self.old l h
+            → EndStep (L.shape ends.old) L.exact (StandsFitting (L.stands ends.new) self.new) l h
+            (hand_of self.old) head.new.feedback }
+    {
+        match self.begin_into(moment, word, arrival, store, head) {
+            AskHead::Done => {}
+            AskHead::Forward => {
+                let item = self.item();
+                self.offer_hand(item, ends, head)
+            }
+            AskHead::Average => self.finish_into(Answer::Average(ends.average()), head),
+        }
     }
 
     /// A whole look over the store and the low end of the passage: `begin`, what it asks of the
@@ -152,10 +236,8 @@ impl LowProcess {
             → EndStep (L.shape ends.old) L.exact (StandsFitting (L.stands ends.new) self.new) l h
             (hand_of self.old) result.feedback }
     {
-        match self.begin(moment, word, arrival, store) {
-            Ask::Done(look) => look,
-            Ask::Forward(item) => self.offer_hand(item, ends),
-            Ask::Average => self.finish(Answer::Average(ends.average())),
-        }
+        let mut head = NOTHING;
+        self.look_into(moment, word, arrival, store, ends, &mut head);
+        self.whole(&head)
     }
 }

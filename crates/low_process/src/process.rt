@@ -1,9 +1,11 @@
-ghost use Rattle.std.specs.Prelude.{◌≡◌, ℕ, ◌+◌, ◌^◌, ◌≤◌, ◌<◌, Option, Bool, true, false, List, IsTrue};
+ghost use Rattle.std.specs.Prelude.{◌≡◌, ℕ, ◌+◌, ◌^◌, ◌≤◌, ◌<◌, Option, Some, None, Bool, true, false, List, [], IsTrue, option_map};
+ghost use Rattle.low_process.specs.Heads.{nothing_done};
+ghost use Rattle.std.specs.Option.{option_copied};
 ghost use Rattle.pump_core.specs.Exchanges.{is_fit, is_gone as gone};
 ghost use Rattle.low_process.specs.Hands.{HasNumber, is_hand_of, is_asked_of};
 
 use crate::frames::{is_permitted, is_storable, plain_reply, refuse};
-use crate::values::{Answer, Arrival, Ask, Asking, LowLook, Phase};
+use crate::values::{Answer, Arrival, Ask, AskHead, Asking, LookHead, LowLook, Phase, Reply};
 use delay_table::delay;
 use pump_core::{Feedback, Seen};
 use pump_frame::{Frame, Item, Kind, Payload, SessionRow};
@@ -28,35 +30,46 @@ pub struct LowProcess {
     ghost in_question: { IsTrue (is_asked_of next phase asking) },
 }
 
-const QUIET: LowLook = LowLook {
+/// A look that did nothing yet.
+pub const NOTHING: LookHead = LookHead {
     taken: false,
     stored: None,
     reply: None,
     feedback: Feedback::Quiet,
 };
 
-/// A look that takes its arrival, with a reply or without one.
-fn taking(reply: Option<Frame>) -> LowLook
-    ensures { result ≡ record
-        { taken = true; stored = None; reply = reply; feedback = Feedback.Quiet } }
+/// Forgets the look's head.
+fn clear(head: &mut LookHead)
+    ensures { head.new ≡ nothing_done }
 {
-    LowLook {
-        taken: true,
-        stored: None,
-        reply,
-        feedback: Feedback::Quiet,
-    }
+    head.taken = false;
+    head.stored = None;
+    head.reply = None;
+    head.feedback = Feedback::Quiet;
 }
 
-/// A look that takes nothing and has this feedback.
-fn hearing(feedback: Feedback) -> LowLook
-    ensures { result ≡ record { taken = false; stored = None; reply = None; feedback = feedback } }
+/// The arrival is taken, with this reply.
+fn reply(head: &mut LookHead, reply: Reply)
+    ensures { head.new ≡ record head.old { taken = true; reply = Some reply } }
 {
-    LowLook {
-        taken: false,
-        stored: None,
-        reply: None,
-        feedback,
+    head.taken = true;
+    head.reply = Some(reply);
+}
+
+/// The arrival is taken, and refused.
+fn refused(head: &mut LookHead, code: u8, number: u64)
+    ensures { head.new ≡ record head.old { taken = true; reply = Some (Reply.Refuse code number) } }
+{
+    reply(head, Reply::Refuse { code, number });
+}
+
+/// A message without bytes.
+fn no_item() -> Item
+    ensures { result ≡ record { number = 0; payload = [] } }
+{
+    Item {
+        number: 0,
+        payload: Payload::from_slice(&[]).unwrap(),
     }
 }
 
@@ -71,7 +84,7 @@ impl Arrival<'_> {
 }
 
 impl LowProcess {
-    ghost use Rattle.std.specs.Prelude.{None};
+    ghost use Rattle.low_process.specs.Heads.{frame_of, look_with, item_in, ask_with};
     ghost use Rattle.pump_frame.specs.Delays.{delay_of};
     ghost use Rattle.pump_frame.specs.Rows.{IsLawfulRow};
     ghost use Rattle.pump_core.specs.History.{Arrival as Offered, Came, History, first_life, reopened, looked};
@@ -177,14 +190,14 @@ impl LowProcess {
     }
 
     // The message that a look with this arrival stores.
-    pub(crate) fn wanted(&self, arrival: &Arrival) -> Option<Payload>
+    pub(crate) fn wanted<'a>(&self, arrival: &Arrival<'a>) -> Option<&'a Payload>
         requires { IsLawful (arrival_of arrival.now) }
-        ensures { result ≡ message_in self.now (arrival_of arrival.now) }
+        ensures { option_copied result ≡ message_in self.now (arrival_of arrival.now) }
     {
         match arrival {
             Arrival::Frame(frame) => {
                 if self.will_store(arrival) {
-                    Some(frame.payload)
+                    Some(&frame.payload)
                 } else {
                     None
                 }
@@ -194,14 +207,15 @@ impl LowProcess {
     }
 
     // A look in Idle that takes a DATA frame which may be stored or repeated.
-    fn take_message(&mut self, frame: &Frame, is_fault: bool) -> Ask
+    fn take_message(&mut self, frame: &Frame, is_fault: bool, head: &mut LookHead) -> AskHead
         requires idle { self.old.phase ≡ Phase.Idle }
         requires asking { self.old.asking ≡ Asking.Nothing }
+        requires nothing { head.old ≡ nothing_done }
         requires fit { is_fit self.old.row self.old.greeted frame.now ≡ true }
         requires number { frame.now.number < 2 ^ 48 }
         ensures step { StepBegins self.old self.new self.old.last self.old.word
-            (Came frame.now) is_fault result }
-        ensures hand { HandBegins self.old self.new (Came frame.now) result }
+            (Came frame.now) is_fault (ask_with self.old.row self.new.phase head.new result) }
+        ensures hand { HandBegins self.old self.new (Came frame.now) (ask_with self.old.row self.new.phase head.new result) }
         ensures offers { is_down self.new ≡ false → number_offered self.new.next (hand_of self.new)
             ≡ number_offered self.old.next (hand_of self.old) }
         ensures row { self.new.row ≡ self.old.row }
@@ -210,15 +224,17 @@ impl LowProcess {
     {
         let number = frame.number;
         if number > self.next {
-            return Ask::Done(taking(Some(refuse(&self.row, 4, self.next))));
+            refused(head, 4, self.next);
+            return AskHead::Done;
         }
         if number < self.next {
             self.asking = Asking::Average(number);
-            return Ask::Average;
+            return AskHead::Average;
         }
         if is_fault {
             self.phase = Phase::Down;
-            return Ask::Done(taking(Some(refuse(&self.row, 5, 0))));
+            refused(head, 5, 0);
+            return AskHead::Done;
         }
         self.next += 1;
         self.phase = Phase::Passing {
@@ -228,22 +244,20 @@ impl LowProcess {
             },
             is_owed: true,
         };
-        Ask::Done(LowLook {
-            taken: true,
-            stored: Some(number),
-            reply: None,
-            feedback: Feedback::Quiet,
-        })
+        head.taken = true;
+        head.stored = Some(number);
+        AskHead::Done
     }
 
     // A look in Idle that takes a frame.
-    fn take(&mut self, frame: &Frame, is_fault: bool) -> Ask
+    fn take(&mut self, frame: &Frame, is_fault: bool, head: &mut LookHead) -> AskHead
         requires idle { self.old.phase ≡ Phase.Idle }
         requires asking { self.old.asking ≡ Asking.Nothing }
+        requires nothing { head.old ≡ nothing_done }
         requires lawful { HasNumber frame.now }
         ensures step { StepBegins self.old self.new self.old.last self.old.word
-            (Came frame.now) is_fault result }
-        ensures hand { HandBegins self.old self.new (Came frame.now) result }
+            (Came frame.now) is_fault (ask_with self.old.row self.new.phase head.new result) }
+        ensures hand { HandBegins self.old self.new (Came frame.now) (ask_with self.old.row self.new.phase head.new result) }
         ensures offers { is_down self.new ≡ false → number_offered self.new.next (hand_of self.new)
             ≡ number_offered self.old.next (hand_of self.old) }
         ensures row { self.new.row ≡ self.old.row }
@@ -251,41 +265,42 @@ impl LowProcess {
         ensures word { self.new.word ≡ self.old.word }
     {
         if is_storable(&self.row, self.greeted, frame) {
-            return self.take_message(frame, is_fault);
+            return self.take_message(frame, is_fault, head);
         }
-        let reply = match frame.kind {
+        match frame.kind {
             Kind::Hello => {
                 if is_permitted(&self.row, frame) {
                     self.greeted = true;
-                    plain_reply(&self.row, Kind::Welcome, self.next)
+                    reply(head, Reply::Welcome { number: self.next });
                 } else {
                     self.greeted = false;
-                    refuse(&self.row, 1, 0)
+                    refused(head, 1, 0);
                 }
             }
             Kind::Data => {
                 if !self.greeted || frame.session != self.row.id {
-                    refuse(&self.row, 2, 0)
+                    refused(head, 2, 0);
                 } else {
-                    refuse(&self.row, 3, 0)
+                    refused(head, 3, 0);
                 }
             }
-            _ => refuse(&self.row, 2, 0),
-        };
-        Ask::Done(taking(Some(reply)))
+            _ => refused(head, 2, 0),
+        }
+        AskHead::Done
     }
 
     // A look while a number waits to be acknowledged.
-    fn wait(&mut self, number: u64, due: u64, is_gone: bool) -> LowLook
+    fn wait(&mut self, number: u64, due: u64, is_gone: bool, head: &mut LookHead)
         requires waiting { self.old.phase ≡ Phase.Waiting number due }
         requires asking { self.old.asking ≡ Asking.Nothing }
+        requires nothing { head.old ≡ nothing_done }
         ensures step { (arrival : Offered) (is_fault : Bool) → is_gone ≡ (gone arrival) →
             Stepped self.old.row (state_of self.old) self.new
-            (look_of self.old.last self.old.word arrival is_fault result.feedback) result }
-        ensures quiet { result.feedback ≡ Feedback.Quiet }
+            (look_of self.old.last self.old.word arrival is_fault head.new.feedback) (look_with self.old.row head.new) }
+        ensures quiet { head.new.feedback ≡ Feedback.Quiet }
         ensures hand { hand_of self.new ≡ None }
         ensures next { self.new.next ≡ self.old.next }
-        ensures stored { result.stored ≡ None }
+        ensures stored { head.new.stored ≡ None }
         ensures row { self.new.row ≡ self.old.row }
         ensures last { self.new.last ≡ self.old.last }
         ensures word { self.new.word ≡ self.old.word }
@@ -293,41 +308,46 @@ impl LowProcess {
         if is_gone {
             self.greeted = false;
             self.phase = Phase::Idle;
-            return taking(None);
+            head.taken = true;
+            return;
         }
         if self.last < due {
-            return QUIET;
+            return;
         }
         self.phase = Phase::Idle;
-        LowLook {
-            taken: false,
-            stored: None,
-            reply: Some(plain_reply(&self.row, Kind::Ack, number)),
-            feedback: Feedback::Quiet,
-        }
+        head.reply = Some(Reply::Ack { number });
     }
 
     // The part of a look before the passage is asked.
-    pub(crate) fn step(&mut self, moment: u64, word: u32, arrival: Arrival, is_fault: bool) -> Ask
+    pub(crate) fn step(
+        &mut self,
+        moment: u64,
+        word: u32,
+        arrival: Arrival,
+        is_fault: bool,
+        head: &mut LookHead,
+    ) -> AskHead
         requires asking { self.old.asking ≡ Asking.Nothing }
         requires moment { moment ≤ 2 ^ 62 }
         requires lawful { IsLawful (arrival_of arrival) }
         ensures step { StepBegins self.old self.new moment word
-            (arrival_of arrival.entry) is_fault result }
-        ensures hand { HandBegins self.old self.new (arrival_of arrival.entry) result }
+            (arrival_of arrival.entry) is_fault (ask_with self.old.row self.new.phase head.new result) }
+        ensures hand { HandBegins self.old self.new (arrival_of arrival.entry) (ask_with self.old.row self.new.phase head.new result) }
         ensures offers { is_down self.new ≡ false → number_offered self.new.next (hand_of self.new)
             ≡ number_offered self.old.next (hand_of self.old) }
         ensures row { self.new.row ≡ self.old.row }
         ensures last { self.new.last ≡ moment }
         ensures word { self.new.word ≡ word }
     {
+        clear(head);
         self.last = moment;
         self.word = word;
         match &self.phase {
-            Phase::Down => Ask::Done(QUIET),
+            Phase::Down => AskHead::Done,
             Phase::Waiting { number, due } => {
                 let (number, due) = (*number, *due);
-                Ask::Done(self.wait(number, due, arrival.is_gone()))
+                self.wait(number, due, arrival.is_gone(), head);
+                AskHead::Done
             }
             Phase::Passing { item, .. } => {
                 let item = *item;
@@ -337,22 +357,25 @@ impl LowProcess {
                         item,
                         is_owed: false,
                     };
-                    return Ask::Done(taking(None));
+                    head.taken = true;
+                    return AskHead::Done;
                 }
                 self.asking = Asking::Forward;
-                Ask::Forward(item)
+                AskHead::Forward
             }
             Phase::Idle => match arrival {
-                Arrival::Nothing => Ask::Done(QUIET),
+                Arrival::Nothing => AskHead::Done,
                 Arrival::Bad => {
                     self.greeted = false;
-                    Ask::Done(taking(Some(refuse(&self.row, 2, 0))))
+                    refused(head, 2, 0);
+                    AskHead::Done
                 }
                 Arrival::Gone => {
                     self.greeted = false;
-                    Ask::Done(taking(None))
+                    head.taken = true;
+                    AskHead::Done
                 }
-                Arrival::Frame(frame) => self.take(frame, is_fault),
+                Arrival::Frame(frame) => self.take(frame, is_fault, head),
             },
         }
     }
@@ -367,22 +390,23 @@ impl LowProcess {
     }
 
     /// The rest of a look whose message the passage took.
-    fn pass(&mut self, seen: Seen) -> LowLook
+    fn pass(&mut self, seen: Seen, head: &mut LookHead)
         requires asking { self.old.asking ≡ Asking.Nothing }
+        requires nothing { head.old ≡ nothing_done }
         requires average { seen.average ≤ 10 ^ 9 }
         ensures step { (arrival : Offered) (is_fault : Bool) →
             Asks self.old.row (state_of self.old) arrival AsksForward →
             Stepped self.old.row (state_of self.old) self.new
-            (look_of self.old.last self.old.word arrival is_fault result.feedback) result }
-        ensures hand { hand_of self.new ≡ hand_passed (hand_of self.old) result.feedback }
-        ensures stored { result.stored ≡ None }
-        ensures reply { result.reply ≡ None }
+            (look_of self.old.last self.old.word arrival is_fault head.new.feedback) (look_with self.old.row head.new) }
+        ensures hand { hand_of self.new ≡ hand_passed (hand_of self.old) head.new.feedback }
+        ensures stored { head.new.stored ≡ None }
+        ensures reply { head.new.reply ≡ None }
         ensures row { self.new.row ≡ self.old.row }
         ensures next { self.new.next ≡ self.old.next }
         ensures up { is_down self.new ≡ false }
         ensures asking { self.new.asking ≡ Asking.Nothing }
         ensures last { self.new.last ≡ self.old.last }
-        ensures tells { Tells (owes self.old) (Answer.Passed seen) result.feedback }
+        ensures tells { Tells (owes self.old) (Answer.Passed seen) head.new.feedback }
     {
         if let Phase::Passing {
             item,
@@ -392,50 +416,123 @@ impl LowProcess {
             let number = item.number;
             let due = self.due(seen);
             self.phase = Phase::Waiting { number, due };
-            return hearing(Feedback::Passed(seen));
+            head.feedback = Feedback::Passed(seen);
+            return;
         }
         self.phase = Phase::Idle;
-        hearing(Feedback::Released)
+        head.feedback = Feedback::Released;
     }
 
     // The part of a look after the passage has answered.
-    fn step_on(&mut self, answer: Answer) -> LowLook
+    fn step_on(&mut self, answer: Answer, head: &mut LookHead)
         requires { Answers self.old.asking answer }
         ensures step { (arrival : Offered) (is_fault : Bool) →
             Asks self.old.row (state_of self.old) arrival self.old.asking →
             Stepped self.old.row (state_of self.old) self.new
-            (look_of self.old.last self.old.word arrival is_fault result.feedback) result }
-        ensures hand { hand_of self.new ≡ hand_passed (hand_of self.old) result.feedback }
-        ensures stored { result.stored ≡ None }
-        ensures reply { result.reply ≡ None }
+            (look_of self.old.last self.old.word arrival is_fault head.new.feedback) (look_with self.old.row head.new) }
+        ensures hand { hand_of self.new ≡ hand_passed (hand_of self.old) head.new.feedback }
+        ensures stored { head.new.stored ≡ None }
+        ensures reply { head.new.reply ≡ None }
         ensures row { self.new.row ≡ self.old.row }
         ensures next { self.new.next ≡ self.old.next }
         ensures up { is_down self.new ≡ false }
         ensures asking { self.new.asking ≡ Asking.Nothing }
         ensures last { self.new.last ≡ self.old.last }
-        ensures tells { Tells (owes self.old) answer result.feedback }
+        ensures tells { Tells (owes self.old) answer head.new.feedback }
     {
+        clear(head);
         let asking = self.asking;
         self.asking = Asking::Nothing;
         match asking {
-            Asking::Nothing => QUIET,
+            Asking::Nothing => {}
             Asking::Average(number) => match answer {
                 Answer::Average(seen) => {
                     let due = self.due(seen);
                     self.phase = Phase::Waiting { number, due };
-                    LowLook {
-                        taken: true,
-                        stored: None,
-                        reply: None,
-                        feedback: Feedback::Repeat(seen),
-                    }
+                    head.taken = true;
+                    head.feedback = Feedback::Repeat(seen);
                 }
-                _ => QUIET,
+                _ => {}
             },
             Asking::Forward => match answer {
-                Answer::Passed(seen) => self.pass(seen),
-                _ => hearing(Feedback::Full),
+                Answer::Passed(seen) => self.pass(seen, head),
+                _ => head.feedback = Feedback::Full,
             },
+        }
+    }
+
+    /// As `finish`, into the look's head.
+    pub fn finish_into(&mut self, answer: Answer, head: &mut LookHead)
+        requires { AnswersTo self.old answer }
+        ensures looks { (moment word : ℕ) (arrival : Offered) (is_fault : Bool) →
+            Looks (λ h. AsksFor self.old h moment word arrival is_fault) self.new (row_of self.old)
+            (look_of moment word arrival is_fault head.new.feedback) (look_with (row_of self.old) head.new) }
+        ensures tells { Tells (owes self.old) answer head.new.feedback }
+        ensures reply { head.new.reply ≡ None }
+        ensures stored { head.new.stored ≡ None }
+        ensures hand { hand_of self.new ≡ hand_passed (hand_of self.old) head.new.feedback }
+        ensures between { IsBetweenLooks self.new }
+        ensures row { row_of self.new ≡ row_of self.old }
+        ensures next { next_of self.new ≡ next_of self.old }
+        ensures last { last_of self.new ≡ last_of self.old }
+        ensures up { is_down self.new ≡ false }
+    {
+        self.step_on(answer, head)
+    }
+
+    /// The frame of a reply.
+    pub fn frame(&self, reply: &Reply) -> Frame
+        ensures { result ≡ frame_of (row_of self.now) reply.now }
+    {
+        match reply {
+            Reply::Welcome { number } => plain_reply(&self.row, Kind::Welcome, *number),
+            Reply::Ack { number } => plain_reply(&self.row, Kind::Ack, *number),
+            Reply::Refuse { code, number } => refuse(&self.row, *code, *number),
+        }
+    }
+
+    // The frame of a reply, if there is one.
+    fn reply(&self, reply: &Option<Reply>) -> Option<Frame>
+        ensures { result ≡ option_map (frame_of self.now.row) reply.now }
+    {
+        match reply {
+            Some(reply) => Some(self.frame(reply)),
+            None => None,
+        }
+    }
+
+    // The whole of the look's head.
+    pub(crate) fn whole(&self, head: &LookHead) -> LowLook
+        ensures { result ≡ look_with self.now.row head.now }
+    {
+        LowLook {
+            taken: head.taken,
+            stored: head.stored,
+            reply: self.reply(&head.reply),
+            feedback: head.feedback,
+        }
+    }
+
+    // The message in the hand, or one without bytes.
+    pub(crate) fn item(&self) -> Item
+        ensures { result ≡ item_in self.now.phase }
+    {
+        match &self.phase {
+            Phase::Passing { item, .. } => *item,
+            Phase::Idle => no_item(),
+            Phase::Waiting { .. } => no_item(),
+            Phase::Down => no_item(),
+        }
+    }
+
+    // The whole of what is asked.
+    pub(crate) fn ask(&self, asked: AskHead, head: &LookHead) -> Ask
+        ensures { result ≡ ask_with self.now.row self.now.phase head.now asked }
+    {
+        match asked {
+            AskHead::Done => Ask::Done(self.whole(head)),
+            AskHead::Forward => Ask::Forward(self.item()),
+            AskHead::Average => Ask::Average,
         }
     }
 
@@ -455,6 +552,8 @@ impl LowProcess {
         ensures last { last_of self.new ≡ last_of self.old }
         ensures up { is_down self.new ≡ false }
     {
-        self.step_on(answer)
+        let mut head = NOTHING;
+        self.finish_into(answer, &mut head);
+        self.whole(&head)
     }
 }

@@ -62,3 +62,30 @@ pub enum Asking {
     /// The number of the message that came once more.
     Average(u64),
 }
+
+/// A reply, whose frame has the session of the row.
+#[derive(Clone, Copy)]
+pub enum Reply {
+    Welcome { number: u64 },
+    Ack { number: u64 },
+    Refuse { code: u8, number: u64 },
+}
+
+/// What a look did, as `LowLook`, without the frame of its reply: a frame has more than 1 KB, and
+/// moving it costs more than most looks.
+#[derive(Clone, Copy)]
+pub struct LookHead {
+    pub taken: bool,
+    pub stored: Option<u64>,
+    pub reply: Option<Reply>,
+    pub feedback: Feedback,
+}
+
+/// The first half of a look, as `Ask`, without what was done and without the message, which is in
+/// the hand.
+#[derive(Clone, Copy)]
+pub enum AskHead {
+    Done,
+    Forward,
+    Average,
+}

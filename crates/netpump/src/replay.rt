@@ -2,6 +2,7 @@ ghost use Rattle.std.specs.Prelude.{◌≡◌, ◌≢◌, ◌≤◌, [], ◌++�
 ghost use Rattle.std.specs.Io.KnownBytes.{Appends};
 ghost use Rattle.pump_link.specs.Causes.{HasCause, AppendsFront, Rose};
 ghost use Rattle.script_reader.specs.Lawful.{IsLawfulLine};
+ghost use Rattle.script_reader.specs.Heads.{line_with, CanHoldLine};
 ghost use Rattle.script_reader.specs.Lines.{IsReady};
 ghost use Rattle.script_reader.specs.Scripts.{Begun, Ends};
 ghost use Rattle.script_reader.specs.declared.event.Event.{Event as Printed};
@@ -15,7 +16,7 @@ use crate::session::Session;
 use arrayvec::ArrayVec;
 use pump_frame::OutOfMemory;
 use pump_link::{Sink, Source, WriteFault};
-use script_reader::{Event, Fault, Line, Lined, Lines};
+use script_reader::{LineHead, LinedHead, Body, Event, Fault, Line, Lines};
 use std::alloc::Global;
 use two_worlds::Stop;
 
@@ -55,17 +56,19 @@ fn keep(opened: Result<Session, OutOfMemory>, session: &mut Option<Session>) -> 
 }
 
 /// The line that is to begin the session.
-fn begin(alloc: Global, session: &mut Option<Session>, line: &Line) -> Outcome
-    requires lawful { IsLawfulLine line.now }
-    requires some { line.now ≢ Line.Skip }
-    ensures { Goes None line.now session.new [] result }
+fn begin(alloc: Global, session: &mut Option<Session>, line: &LineHead, body: &Body) -> Outcome
+    requires lawful { IsLawfulLine (line_with body.now line.now) }
+    requires some { line_with body.now line.now ≢ Line.Skip }
+    ensures { Goes None (line_with body.now line.now) session.new [] result }
 {
+    // What begins a session has no body.
+    let _bytes = body;
     match line {
-        Line::Session(row) => match row.first_bad() {
+        LineHead::Session(row) => match row.first_bad() {
             None => keep(Session::whole(alloc, row), session),
             Some(_) => Outcome::Refused,
         },
-        Line::LowSession { row, next, held } => match row.first_bad() {
+        LineHead::LowSession { row, next, held } => match row.first_bad() {
             None => keep(Session::alone(alloc, row, *next, *held), session),
             Some(_) => Outcome::Refused,
         },
@@ -96,20 +99,22 @@ fn outcome_of(id: u32, stop: &Option<Stop>) -> Outcome
 /// A line of the session that has begun. The list is for what it prints.
 fn go_on<O: Sink>(
     session: &mut Session,
-    line: &Line,
+    line: &LineHead,
+    body: &Body,
     events: &mut ArrayVec<Event, 4>,
     output: &mut Output,
     out: &mut O,
 ) -> Outcome
-    requires lawful { IsLawfulLine line.now }
-    requires some { line.now ≢ Line.Skip }
+    requires lawful { IsLawfulLine (line_with body.now line.now) }
+    requires room { CanHoldLine line.now body.now }
+    requires some { line_with body.now line.now ≢ Line.Skip }
     requires up { IsUp session.old }
     ensures does { (running : Begun) → StandsFor session.old running
-        → Does (Some running) line.now (Some session.new) (held_of output.old) (held_of output.new) (O.written out.old) (O.written out.new) result }
+        → Does (Some running) (line_with body.now line.now) (Some session.new) (held_of output.old) (held_of output.new) (O.written out.old) (O.written out.new) result }
     ensures later { O.faults out.old ≤ O.faults out.new }
     ensures cause { result ≡ Outcome.Unwritten → Rose (O.faults out.old) (O.faults out.new) }
 {
-    let stop = session.apply(line, events);
+    let stop = session.apply(line, body, events);
     match output.print_all(events.as_slice(), out) {
         Ok(()) => outcome_of(session.id(), &stop),
         Err(_) => Outcome::Unwritten,
@@ -120,23 +125,25 @@ fn go_on<O: Sink>(
 fn turn<O: Sink>(
     alloc: Global,
     session: &mut Option<Session>,
-    line: &Line,
+    line: &LineHead,
+    body: &Body,
     events: &mut ArrayVec<Event, 4>,
     output: &mut Output,
     out: &mut O,
 ) -> Outcome
-    requires lawful { IsLawfulLine line.now }
+    requires lawful { IsLawfulLine (line_with body.now line.now) }
+    requires room { CanHoldLine line.now body.now }
     requires up { AreUp session.old }
     ensures does { (running : Option Begun) → StandsForRunning session.old running
-        → Does running line.now session.new (held_of output.old) (held_of output.new) (O.written out.old) (O.written out.new) result }
+        → Does running (line_with body.now line.now) session.new (held_of output.old) (held_of output.new) (O.written out.old) (O.written out.new) result }
     ensures later { O.faults out.old ≤ O.faults out.new }
     ensures cause { result ≡ Outcome.Unwritten → Rose (O.faults out.old) (O.faults out.new) }
 {
     match line {
-        Line::Skip => Outcome::Applied,
+        LineHead::Skip => Outcome::Applied,
         _ => match session.as_mut() {
-            Some(begun) => go_on(begun, line, events, output, out),
-            None => begin(alloc, session, line),
+            Some(begun) => go_on(begun, line, body, events, output, out),
+            None => begin(alloc, session, line, body),
         },
     }
 }
@@ -217,6 +224,7 @@ pub fn replay<I: Source, O: Sink>(alloc: Global, script: &mut I, out: &mut O) ->
     ensures write { result ≡ Ended.Write → Rose (O.faults out.old) (O.faults out.new) }
 {
     let mut lines = Lines::new();
+    let mut body = Body::new();
     let mut events = ArrayVec::new();
     let mut output = Output::new();
     let mut session = None;
@@ -225,11 +233,12 @@ pub fn replay<I: Source, O: Sink>(alloc: Global, script: &mut I, out: &mut O) ->
             Ok(()) => {}
             Err(_) => return Ended::Write,
         }
-        match lines.next(script) {
-            Lined::Line(line) => match turn(
+        match lines.next_head(script, &mut body) {
+            LinedHead::Line(line) => match turn(
                 alloc,
                 &mut session,
                 &line,
+                &body,
                 &mut events,
                 &mut output,
                 out,
@@ -240,9 +249,9 @@ pub fn replay<I: Source, O: Sink>(alloc: Global, script: &mut I, out: &mut O) ->
                 Outcome::Memory => return Ended::Memory,
                 Outcome::Unwritten => return Ended::Write,
             },
-            Lined::Bad => return refuse(lines.number(), &mut output, out),
-            Lined::Failed => return stop(Fault::Read, &mut output, out),
-            Lined::End => return finish(&session, &mut output, out),
+            LinedHead::Bad => return refuse(lines.number(), &mut output, out),
+            LinedHead::Failed => return stop(Fault::Read, &mut output, out),
+            LinedHead::End => return finish(&session, &mut output, out),
         }
     }
 }

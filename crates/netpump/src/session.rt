@@ -4,6 +4,7 @@ ghost use Rattle.std.specs.Prelude.{◌≡◌, ◌≢◌, [], ◌∷◌, Some, I
 ghost use Rattle.pump_frame.specs.Rows.{IsLawfulRow};
 ghost use Rattle.stable_buffer.specs.Stands.{low_size};
 ghost use Rattle.script_reader.specs.Lawful.{IsLawfulLine};
+ghost use Rattle.script_reader.specs.Heads.{line_with, CanHoldLine};
 ghost use Rattle.script_reader.specs.Grammar.{IsCount};
 ghost use Rattle.script_reader.specs.Past.{fresh};
 ghost use Rattle.script_reader.specs.Tolds.{fresh_low};
@@ -13,7 +14,7 @@ ghost use Rattle.netpump.specs.Sessions.{id_of, IsUp, StandsFor, Applies};
 use arrayvec::ArrayVec;
 use disk_model::PlainDisk;
 use pump_frame::{OutOfMemory, SessionRow};
-use script_reader::{Event, Line};
+use script_reader::{LineHead, Body, Event, Line};
 use std::alloc::Global;
 use two_worlds::{LowPump, Pump, Stop};
 
@@ -83,16 +84,22 @@ impl Session {
 
     /// A line of the script: what it prints, in the place of what the list held, and whether it stops
     /// the session. Until a disk has failed.
-    pub fn apply(&mut self, line: &Line, events: &mut ArrayVec<Event, 4>) -> Option<Stop>
-        requires lawful { IsLawfulLine line.now }
-        requires some { line.now ≢ Line.Skip }
+    pub fn apply(
+        &mut self,
+        line: &LineHead,
+        body: &Body,
+        events: &mut ArrayVec<Event, 4>,
+    ) -> Option<Stop>
+        requires lawful { IsLawfulLine (line_with body.now line.now) }
+        requires room { CanHoldLine line.now body.now }
+        requires some { line_with body.now line.now ≢ Line.Skip }
         requires up { IsUp self.old }
-        ensures applies { (running : Begun) → StandsFor self.old running → Applies running line.now self.new events.new.items result }
+        ensures applies { (running : Begun) → StandsFor self.old running → Applies running (line_with body.now line.now) self.new events.new.items result }
         ensures id { id_of self.new ≡ id_of self.old }
     {
         match self {
-            Session::Whole { pump, .. } => pump.apply_into(line, events),
-            Session::Alone { pump, .. } => pump.apply_into(line, events),
+            Session::Whole { pump, .. } => pump.apply_head(line, body.as_slice(), events),
+            Session::Alone { pump, .. } => pump.apply_head(line, body.as_slice(), events),
         }
     }
 

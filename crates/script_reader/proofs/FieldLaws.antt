@@ -1,16 +1,16 @@
 -- What a reader of one field gives.
-use Rattle.std.proofs.Common.{◌≡◌, ℕ, ◌*◌, ◌/◌, ◌^◌, ◌<◌, ◌≤◌, ◌⊎◌, ◌&&◌, Bool, true, false, cond, ltb, leb, List, [], ◌∷◌, Option, None, Some, Result, Ok, Err, IsSome, IfSome, ◌↔◌, MatchResult, length, get_or, codes, decimal, refl, sym, ap, ◌∙◌, subst, arith, inl, inr}
+use Rattle.std.proofs.Common.{◌≡◌, ℕ, ◌*◌, ◌/◌, ◌^◌, ◌<◌, ◌≤◌, ◌⊎◌, ◌&&◌, Bool, true, false, cond, ltb, leb, List, [], ◌∷◌, Option, None, Some, Result, Ok, Err, IsSome, IfSome, ◌↔◌, MatchResult, length, get_or, take, codes, decimal, refl, sym, ap, ◌∙◌, subst, arith, inl, inr}
 use Rattle.std.proofs.lemmas.Bool.{cases_eq, false_from_ne_true, ltb-true, lt-ltb, leb-true, le-leb, and_parts}
 use Rattle.std.proofs.lemmas.Option.{cond_some, same_Some, some_pair_parts}
 use Rattle.std.proofs.lemmas.Result.{OkIff-at_ok}
 use Rattle.std.proofs.lemmas.Slice.Eq.{bytes_eq-Decides}
 use Rattle.std.proofs.lemmas.Str.{IsUtf8-from_ascii}
-use Rattle.std.proofs.lemmas.Str.Parse.{IsNumeralModel, numerals_by_value, tells_digits, parse_plain, digit_at}
+use Rattle.std.proofs.lemmas.Str.Parse.{IsNumeralModel, numerals_by_value, tells_digits, parse_plain, digit_at, digits_value-take-le}
 use Rattle.std.proofs.lemmas.Fmt.{parse-decimal, digits_decimal, digits_value-decimal, decimal-digits_value, IsAscii-decimal, decimal_nonempty, decimal_injective, first_decimal, decimal_digit}
 use Rattle.std.proofs.lemmas.Nat.{be_bytes_4, from_be_bytes-to_be_bytes_4}
 use Rattle.std.specs.Str.{bytes_eq, IsUtf8}
 use Rattle.std.specs.Str.Parse.{AllDigits, digits_value, ParsesUnsigned}
-use Rattle.std.specs.Int.{from_be_bytes, to_be_bytes, w32}
+use Rattle.std.specs.Int.{from_be_bytes, to_be_bytes, w32, IsInRange}
 use Rattle.arrayvec.specs.ArrayVec.{ArrayVec}
 use Rattle.hex.specs.Hex.{decode_sized, decode_of}
 use Rattle.hex.specs.declared.FromHexError.{FromHexError}
@@ -80,6 +80,27 @@ parsed_is field r n parses ok plain =
     let p = OkIff-at_ok r _ (digits_value 10 field) n (parse_plain own 64 field r parses no_plus) ok in
     let text = decimal-digits_value own field p.0.0 p.0.1 plain.alone p.0.2 in
     (sym text ∙ ap (λ m. decimal m) (sym p.1), rw p.1 p.0.2)
+
+-- a byte that is no digit
+pub number_undigit : (field : List ℕ) (i : ℕ) → i < length field → (IsInRange 48 57 (get_or field i 0) → ⊥) → None ≡ number (2 ^ 64) field
+number_undigit field i below no_digit = number_not (2 ^ 64) field (omega arith) (λ n low e.
+    no_digit (digit_at field i (subst (λ (f : List ℕ). AllDigits 10 f) (sym e) (digits_decimal own n low)) below))
+
+-- digits of too great a number
+pub number_large : (field : List ℕ) (i : ℕ) → 2 ^ 64 ≤ digits_value 10 (take i field) → None ≡ number (2 ^ 64) field
+number_large field i large = number_not (2 ^ 64) field (omega arith) (λ n low e.
+    let value : digits_value 10 field ≡ n = ap (digits_value 10) e ∙ digits_value-decimal own n low in
+    absurd (omega (arith, large, low, value, digits_value-take-le 10 field i (omega arith))))
+
+some_byte : (field : List ℕ) → IsPlain field → 0 < length field
+some_byte [] plain = absurd (omega (arith, plain.low))
+some_byte (b ∷ field) plain = omega arith
+
+-- digits that write a number
+pub number_written : (field : List ℕ) → IsPlain field → AllDigits 10 field → digits_value 10 field < 2 ^ 64 → Some (digits_value 10 field) ≡ number (2 ^ 64) field
+number_written field plain all fits =
+    let text : decimal (digits_value 10 field) ≡ field = decimal-digits_value own field all (some_byte field plain) plain.alone fits in
+    sym (subst (λ (f : List ℕ). number (2 ^ 64) f ≡ Some (digits_value 10 field)) text (number_again (2 ^ 64) (digits_value 10 field) fits (omega arith)))
 
 pub number_over : (bound : ℕ) (field : List ℕ) (n : ℕ) → bound ≤ 2 ^ 64 → field ≡ decimal n → n < 2 ^ 64 → bound ≤ n → None ≡ number bound field
 number_over bound field n fits e low over =

@@ -1,4 +1,6 @@
 pub mod Bounds
+pub mod Heads
+pub mod DigitLaws
 pub mod FieldChains
 pub mod FieldLaws
 pub mod FreeFields

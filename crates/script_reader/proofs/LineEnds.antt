@@ -1,14 +1,15 @@
 -- Where lines end, and what a reader of lines holds.
 use Rattle.std.proofs.Common.{inl, inr, is_some, IsTrue, ◌≡◌, ℕ, ◌+◌, ◌-◌, ◌<◌, ◌≤◌, ◌≢◌, Bool, true, false, cond, ltb, List, [], ◌∷◌, ◌++◌, Option, None, Some, IfSome, length, get_or, take, drop, refl, sym, ap, ◌∙◌, append_assoc, append-nil, arith, length-append, length-drop, length-take}
-use Rattle.std.proofs.lemmas.Bool.{ltb-false, ltb-true, lt-ltb, eqb-true, both_ways, eq-eqb}
+use Rattle.std.proofs.lemmas.Bool.{ltb-false, ltb-true, lt-ltb, le-ltb, eqb-true, both_ways, eq-eqb}
 use Rattle.std.proofs.lemmas.Option.{cond_some}
 use Rattle.std.proofs.lemmas.List.{get_or_append_left, get_or_at, get_or-take, take-append-le, drop-take, drop-drop, length-take-le}
 use borrow.Rule.Slice.PartMut.{put_mid}
 use Rattle.std.proofs.Math.Seq.{take-append-add}
-use Rattle.std.proofs.lemmas.List.Sums.{split_at_first, fails_before_first, passes_at_first}
+use Rattle.std.proofs.lemmas.List.Sums.{split_at_first, fails_before_first, passes_at_first, position_or_len_is}
 use Rattle.std.proofs.lemmas.List.Elements.{All-from_get_or, All-head, All-tail, All-get_or}
 use Rattle.std.specs.List.{position, position_or_len}
 use Rattle.std.specs.Io.KnownBytes.{prepend_known, Consumes, Keeps, IsAtEnd}
+use Rattle.memchr.specs.Find.{IsFirstByte, is_byte}
 use Rattle.script_reader.specs.declared.line.Line.{Line}
 use Rattle.script_reader.specs.Grammar.{IsLine}
 use Rattle.script_reader.specs.Lines.{is_end, IsUnended, IsBad, IsReady}
@@ -19,6 +20,21 @@ none_test false x e = refl
 
 get_or-take-lt : (xs : List ℕ) (i k : ℕ) → k < i → get_or (take i xs) k 0 ≡ get_or xs k 0
 get_or-take-lt xs i k h = rw get_or-take refl
+
+not_passing : (b : Bool) → (b ≡ true → ⊥) → b ≡ false
+not_passing true h = absurd (h refl)
+not_passing false h = refl
+
+-- where a search finds a line end
+pub first_end : (xs : List ℕ) (r : Option ℕ) → IsFirstByte (is_byte 10) xs r → r ≡ position is_end xs
+first_end xs None none =
+    let all : position_or_len is_end xs ≡ length xs = position_or_len_is is_end xs (length xs) 0 (omega arith) (λ k low. not_passing (is_end (get_or xs k 0)) (none k (omega arith) low)) (λ low. absurd (omega (arith, low))) in
+    let test : ltb (position_or_len is_end xs) (length xs) ≡ false = le-ltb _ _ (omega (arith, all)) in
+    rw test refl
+first_end xs (Some k) found =
+    let at : position_or_len is_end xs ≡ k = position_or_len_is is_end xs k 0 (omega (arith, found.0.high)) (λ j low. not_passing (is_end (get_or xs j 0)) (found.0.before j (omega arith) low)) (λ low. found.1) in
+    let test : ltb (position_or_len is_end xs) (length xs) ≡ true = lt-ltb _ _ (omega (arith, at, found.0.high)) in
+    rw (test, at) refl
 
 pub ended : (xs : List ℕ) (i : ℕ) → position is_end xs ≡ Some i → IsUnended (take i xs) × (xs ≡ take i xs ++ 10 ∷ drop (i + 1) xs) × (i < length xs)
 ended xs i e =

@@ -1,4 +1,6 @@
 pub mod Breaks
+pub mod Heads
+pub mod DigitValues
 pub mod Faults
 pub mod Fields
 pub mod Fronts

@@ -1,15 +1,14 @@
-ghost use Rattle.std.specs.Prelude.{◌≡◌, ℕ, ◌+◌, ◌^◌, ◌<◌, ◌≤◌, List, [], ◌∷◌, length, decimal, IfSome, IfNone, MatchOption, IsTrue, ◌↔◌};
+ghost use Rattle.std.specs.Prelude.{◌≡◌, ℕ, ◌+◌, ◌^◌, ◌<◌, ◌≤◌, List, [], ◌∷◌, length, decimal, IsSome, IfSome, IfNone, MatchOption, IsTrue, ◌↔◌, option_map};
 ghost use Rattle.std.specs.Prelude.{position};
 ghost use Rattle.std.specs.Option.{option_copied};
 ghost use Rattle.script_reader.specs.Fields.{is_space};
-ghost use Rattle.script_reader.specs.Parsing.{Reads, field_at, IsPlain, number, word, name, choice, is_slash, pair, feedback, hex, raw, held_from, bytes_from};
-ghost use Rattle.hex.specs.Hex.{decode_sized};
+ghost use Rattle.script_reader.specs.Parsing.{Reads, field_at, IsPlain, number, word, name, choice, is_slash, pair, feedback, hex, raw, held_from};
 
+use crate::body::Body;
+use crate::digits::decode;
 use crate::line::ToldFeedback;
-use arrayvec::ArrayVec;
-use pump_frame::{Name, Payload};
+use pump_frame::Name;
 use std::marker::Model;
-use std::str;
 
 /// The fields of a line that are left, with one space between.
 #[derive(Drop)]
@@ -115,72 +114,55 @@ impl<'a> Fields<'a> {
         feedback_of(self.next()?)
     }
 
-    /// Bytes for a reader of frames.
-    pub fn raw(&mut self) -> Option<ArrayVec<u8, 1042>>
-        ensures { Reads result self.new (field_at raw self.old) }
+    /// Bytes for a reader of frames, into a room.
+    pub fn raw(&mut self, body: &mut Body) -> Option<()>
+        ensures reads { Reads (held_from (option_map (λ none. body.new) result)) self.new (field_at raw self.old) }
+        ensures few { IsSome result → length body.new ≤ 1042 }
     {
-        raw_of(self.next()?)
+        raw_of(self.next()?, body)
     }
 
-    /// Bytes in hexadecimal digits.
-    pub fn hex(&mut self) -> Option<Payload>
-        ensures { Reads result self.new (field_at hex self.old) }
+    /// Bytes in hexadecimal digits, into a room.
+    pub fn hex(&mut self, body: &mut Body) -> Option<()>
+        ensures reads { Reads (option_map (λ none. body.new) result) self.new (field_at hex self.old) }
+        ensures few { IsSome result → length body.new ≤ 1024 }
     {
-        hex_of(self.next()?)
+        hex_of(self.next()?, body)
     }
 }
 
 #[tactic(auto, unfolding(crate::specs::Parsing::raw))]
-fn raw_of(field: &[u8]) -> Option<ArrayVec<u8, 1042>>
-    ensures { result ≡ raw field.now }
+fn raw_of(field: &[u8], body: &mut Body) -> Option<()>
+    ensures value { held_from (option_map (λ none. body.new) result) ≡ raw field.now }
+    ensures few { IsSome result → length body.new ≤ 1042 }
 {
     let half = field.len() / 2;
     if half == 0 || half > 1042 {
         return None;
     }
-    held(field, half)
-}
-
-fn held(field: &[u8], half: usize) -> Option<ArrayVec<u8, 1042>>
-    requires { half ≤ 1042 }
-    ensures { result ≡ held_from (bytes_from (decode_sized field.now half)) }
-{
-    let mut bytes = [0; 1042];
-    let room = &mut bytes[..half];
-    match hex::decode_to_slice(field, room) {
-        Ok(()) => {
-            let mut raw = ArrayVec::new();
-            raw.try_extend_from_slice(room).unwrap();
-            Some(raw)
-        }
-        Err(_) => None,
+    if !body.decode(field, half) {
+        return None;
     }
+    Some(())
 }
 
 #[tactic(auto, unfolding(crate::specs::Parsing::hex))]
-fn hex_of(field: &[u8]) -> Option<Payload>
-    ensures { result ≡ hex field.now }
+fn hex_of(field: &[u8], body: &mut Body) -> Option<()>
+    ensures value { option_map (λ none. body.new) result ≡ hex field.now }
+    ensures few { IsSome result → length body.new ≤ 1024 }
 {
     if field == b"-".as_slice() {
-        return Payload::from_slice(&[]);
+        body.clear();
+        return Some(());
     }
     let half = field.len() / 2;
     if half == 0 || half > 1024 {
         return None;
     }
-    decoded(field, half)
-}
-
-fn decoded(field: &[u8], half: usize) -> Option<Payload>
-    requires { half ≤ 1024 }
-    ensures { result ≡ bytes_from (decode_sized field.now half) }
-{
-    let mut bytes = [0; 1024];
-    let room = &mut bytes[..half];
-    match hex::decode_to_slice(field, room) {
-        Ok(()) => Payload::from_slice(room),
-        Err(_) => None,
+    if !body.decode(field, half) {
+        return None;
     }
+    Some(())
 }
 
 /// Whether the field begins with a digit, and has no leading zero.
@@ -201,12 +183,20 @@ fn any_number_of(field: &[u8]) -> Option<u64>
     if !is_plain(field) {
         return None;
     }
-    let Ok(text) = str::from_utf8(field) else {
-        return None;
-    };
-    let Ok(n) = text.parse::<u64>() else {
-        return None;
-    };
+    let mut n: u64 = 0;
+    'digits: for i in 0..field.len() {
+        let byte = field[i];
+        if !byte.is_ascii_digit() {
+            return None;
+        }
+        let Some(tens) = n.checked_mul(10) else {
+            return None;
+        };
+        let Some(sum) = tens.checked_add(u64::from(byte - b'0')) else {
+            return None;
+        };
+        n = sum;
+    }
     Some(n)
 }
 
@@ -268,10 +258,10 @@ fn word_of(field: &[u8]) -> Option<u32>
     ensures { result ≡ word field.now }
 {
     let mut bytes = [0; 4];
-    match hex::decode_to_slice(field, &mut bytes) {
-        Ok(()) => Some(u32::from_be_bytes(bytes)),
-        Err(_) => None,
+    if !decode(field, &mut bytes) {
+        return None;
     }
+    Some(u32::from_be_bytes(bytes))
 }
 
 fn name_of(field: &[u8]) -> Option<Name>

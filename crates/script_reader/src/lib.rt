@@ -2,6 +2,9 @@
 //! stream.
 #![tactic(auto)]
 
+mod head;
+mod body;
+mod digits;
 mod event;
 mod fault;
 mod fields;
@@ -11,6 +14,8 @@ mod lines;
 mod printing;
 mod reading;
 
+pub use head::{ArrivingHead, LineHead, LinedHead};
+pub use body::Body;
 pub use event::Event;
 pub use fault::Fault;
 pub use laws::{
@@ -20,7 +25,7 @@ pub use laws::{
 pub use line::{Arriving, Line, ToldFeedback};
 pub use lines::{Lined, Lines};
 pub use printing::{print_event, print_fault};
-pub use reading::read_line;
+pub use reading::{read_head, read_line};
 
 #[cfg(test)]
 mod tests;

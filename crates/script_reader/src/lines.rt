@@ -3,9 +3,13 @@ ghost use Rattle.std.specs.Io.KnownBytes.{Keeps, IsAtEnd};
 ghost use Rattle.pump_link.specs.Causes.{HasCause, Rose};
 ghost use Rattle.script_reader.specs.Lines.{Reading, to_come, is_end, IsNext, IsReady};
 ghost use Rattle.script_reader.specs.Fronts.{IsFirst};
+ghost use Rattle.script_reader.specs.Heads.{lined_with, CanHoldNext};
 
+use crate::head::LinedHead;
+use crate::body::Body;
 use crate::line::Line;
-use crate::reading::read_line;
+use crate::reading::read_head;
+use memchr::memchr;
 use pump_link::{ReadFault, Source};
 use std::marker::Model;
 
@@ -47,7 +51,7 @@ impl Model for Lines {
 fn line_end(bytes: &[u8]) -> Option<usize>
     ensures { result ≡ position is_end bytes.now }
 {
-    bytes.iter().position(|b| *b == b'\n')
+    memchr(b'\n', bytes)
 }
 
 impl Lines {
@@ -130,48 +134,67 @@ impl Lines {
         ensures few { result ≢ Lined.Failed → result ≢ Lined.End → self.new.number < 2 ^ 32 }
         ensures unasked { IsReady self.old.held → script.new ≡ script.old }
     {
+        let mut body = Body::new();
+        match self.next_head(script, &mut body) {
+            LinedHead::Line(line) => Lined::Line(line.with(body.as_slice())),
+            LinedHead::Bad => Lined::Bad,
+            LinedHead::End => Lined::End,
+            LinedHead::Failed => Lined::Failed,
+        }
+    }
+
+    /// As `next`, with the bytes that come with the line in the room. It moves little, where a line
+    /// with its bytes has more than 1 KB.
+    pub fn next_head<I: Source>(&mut self, script: &mut I, body: &mut Body) -> LinedHead
+        ensures next { IsNext self.old self.new (I.left script.old) (I.left script.new) (lined_with body.new result) }
+        ensures room { CanHoldNext result body.new }
+        ensures failed { result ≡ LinedHead.Failed → Rose (I.faults script.old) (I.faults script.new) }
+        ensures later { I.faults script.old ≤ I.faults script.new }
+        ensures few { result ≢ LinedHead.Failed → result ≢ LinedHead.End → self.new.number < 2 ^ 32 }
+        ensures unasked { IsReady self.old.held → script.new ≡ script.old }
+    {
         'turns: loop {
             if let Some(len) = line_end(self.held()) {
-                return self.first(len);
+                return self.first(len, body);
             }
             if self.held().len() > 2400 {
                 self.refuse();
-                return Lined::Bad;
+                return LinedHead::Bad;
             }
             match self.fill(script) {
                 Ok(0) => return self.last(),
                 Ok(_) => {}
-                Err(_) => return Lined::Failed,
+                Err(_) => return LinedHead::Failed,
             }
         }
     }
 
-    /// The first line of what is held: its `len` bytes stand before the first line end. It is read
-    /// where it is answered, so that the line, of more than 1 KB, is moved little.
-    fn first(&mut self, len: usize) -> Lined
+    /// The first line of what is held: its `len` bytes stand before the first line end.
+    fn first(&mut self, len: usize, body: &mut Body) -> LinedHead
         requires { position is_end self.old.held ≡ Some len }
-        ensures first { IsFirst self.old self.new len result }
+        ensures first { IsFirst self.old self.new len (lined_with body.new result) }
+        ensures room { CanHoldNext result body.new }
         ensures few { self.new.number < 2 ^ 32 }
     {
         if self.number() < u32::MAX {
-            if let Some(line) = read_line(&self.held()[..len]) {
+            if let Some(line) = read_head(&self.held()[..len], body) {
                 self.advance(len + 1);
-                return Lined::Line(line);
+                return LinedHead::Line(line);
             }
         }
         self.refuse();
-        Lined::Bad
+        LinedHead::Bad
     }
 
     /// What is held at the end of the script, where no line end stands in it.
-    fn last(&mut self) -> Lined
-        ensures end { self.old.held ≡ [] → (result ≡ Lined.End) × (self.new ≡ self.old) }
-        ensures bad { self.old.held ≢ [] → (result ≡ Lined.Bad) × (self.new ≡ record { held = self.old.held; number = min (self.old.number + 1) (2 ^ 32 - 1) }) }
+    fn last(&mut self) -> LinedHead
+        ensures end { self.old.held ≡ [] → (result ≡ LinedHead.End) × (self.new ≡ self.old) }
+        ensures bad { self.old.held ≢ [] → (result ≡ LinedHead.Bad) × (self.new ≡ record { held = self.old.held; number = min (self.old.number + 1) (2 ^ 32 - 1) }) }
     {
         if self.held().is_empty() {
-            return Lined::End;
+            return LinedHead::End;
         }
         self.refuse();
-        Lined::Bad
+        LinedHead::Bad
     }
 }

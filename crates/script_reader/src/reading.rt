@@ -1,10 +1,13 @@
-ghost use Rattle.std.specs.Prelude.{◌≡◌, ◌+◌, ◌^◌, IfSome, Some};
+ghost use Rattle.std.specs.Prelude.{◌≡◌, ℕ, ◌+◌, ◌^◌, List, IfSome, Some, option_map};
+ghost use Rattle.script_reader.specs.Heads.{arriving_with, line_with, CanHold, CanHoldLine};
 ghost use Rattle.script_reader.specs.Grammar.{IsLine};
 ghost use Rattle.script_reader.specs.Lawful.{IsLawfulLine};
 ghost use Rattle.script_reader.specs.Parsing.{Reads, field_at, number, row_at, session_of, low_session_of, hello_of, data_of, raw_of, arriving_of, look_of, told_of, gone_of, high_of, carry_of, return_of, done_of, line_of, line_at};
 
+use crate::head::{ArrivingHead, LineHead};
+use crate::body::Body;
 use crate::fields::Fields;
-use crate::line::{Arriving, Line};
+use crate::line::Line;
 use pump_frame::SessionRow;
 
 /// The line that the bytes are, without a line end; `None` exactly where they are outside the
@@ -19,27 +22,47 @@ pub fn read_line(bytes: &[u8]) -> Option<Line>
     read(bytes)
 }
 
-#[tactic(auto, unfolding(crate::specs::Parsing::line_at))]
 fn read(bytes: &[u8]) -> Option<Line>
     ensures { result ≡ line_at bytes.now }
 {
-    if bytes.len() > 2400 {
+    let mut room = Body::new();
+    match read_text(bytes, &mut room) {
+        Some(line) => Some(line.with(room.as_slice())),
+        None => None,
+    }
+}
+
+/// As `read_line`, with the bytes that come with the line in the room.
+pub fn read_head(text: &[u8], body: &mut Body) -> Option<LineHead>
+    ensures found { IfSome (option_map (line_with body.new) result) (λ line. IsLine line text.now) }
+    ensures only { (line : Line) → IsLine line text.now → option_map (line_with body.new) result ≡ Some line }
+    ensures lawful { IfSome (option_map (line_with body.new) result) IsLawfulLine }
+    ensures room { IfSome result (λ line. CanHoldLine line body.new) }
+{
+    read_text(text, body)
+}
+
+#[tactic(auto, unfolding(crate::specs::Parsing::line_at))]
+fn read_text(text: &[u8], body: &mut Body) -> Option<LineHead>
+    ensures value { option_map (line_with body.new) result ≡ line_at text.now }
+    ensures room { IfSome result (λ line. CanHoldLine line body.new) }
+{
+    if text.len() > 2400 {
         return None;
     }
-    match bytes {
-        [] | [b'#', ..] => return Some(Line::Skip),
+    match text {
+        [] | [b'#', ..] => return Some(LineHead::Skip),
         _ => {}
     }
-    read_fields(&mut Fields::new(bytes))
+    read_fields(&mut Fields::new(text), body)
 }
 
 #[tactic(auto, unfolding(crate::specs::Parsing::line_of))]
-fn read_fields(fields: &mut Fields) -> Option<Line>
-    ensures { result ≡ line_of fields.old }
+fn read_fields(fields: &mut Fields, body: &mut Body) -> Option<LineHead>
+    ensures value { option_map (line_with body.new) result ≡ line_of fields.old }
+    ensures room { IfSome result (λ it. CanHoldLine it body.new) }
 {
     let word = fields.next()?;
-    // A line has more than 1 KB. Each is returned at once, as a value of nested branches would be
-    // moved out of each of them.
     if word == b"session".as_slice() {
         return read_session(fields);
     }
@@ -47,10 +70,10 @@ fn read_fields(fields: &mut Fields) -> Option<Line>
         return read_low_session(fields);
     }
     if word == b"look".as_slice() {
-        return read_look(fields);
+        return read_look(fields, body);
     }
     if word == b"told".as_slice() {
-        return read_told(fields);
+        return read_told(fields, body);
     }
     if word == b"gone".as_slice() {
         return read_gone(fields);
@@ -100,19 +123,21 @@ fn read_row(fields: &mut Fields) -> Option<SessionRow>
 }
 
 #[tactic(auto, unfolding(crate::specs::Parsing::session_of))]
-fn read_session(fields: &mut Fields) -> Option<Line>
-    ensures { result ≡ session_of fields.old }
+fn read_session(fields: &mut Fields) -> Option<LineHead>
+    ensures value { (bytes : List ℕ) → option_map (line_with bytes) result ≡ session_of fields.old }
+    ensures room { (bytes : List ℕ) → IfSome result (λ it. CanHoldLine it bytes) }
 {
     let row = read_row(fields)?;
     if !fields.is_done() {
         return None;
     }
-    Some(Line::Session(row))
+    Some(LineHead::Session(row))
 }
 
 #[tactic(auto, unfolding(crate::specs::Parsing::low_session_of))]
-fn read_low_session(fields: &mut Fields) -> Option<Line>
-    ensures { result ≡ low_session_of fields.old }
+fn read_low_session(fields: &mut Fields) -> Option<LineHead>
+    ensures value { (bytes : List ℕ) → option_map (line_with bytes) result ≡ low_session_of fields.old }
+    ensures room { (bytes : List ℕ) → IfSome result (λ it. CanHoldLine it bytes) }
 {
     let row = read_row(fields)?;
     let next = fields.number((1 << 48) + 1)?;
@@ -123,83 +148,77 @@ fn read_low_session(fields: &mut Fields) -> Option<Line>
     if !fields.is_done() {
         return None;
     }
-    Some(Line::LowSession { row, next, held })
+    Some(LineHead::LowSession { row, next, held })
 }
 
 #[tactic(auto, unfolding(crate::specs::Parsing::hello_of))]
-fn read_hello(fields: &mut Fields) -> Option<Arriving>
-    ensures { result ≡ hello_of fields.old }
+fn read_hello(fields: &mut Fields) -> Option<ArrivingHead>
+    ensures value { (bytes : List ℕ) → option_map (arriving_with bytes) result ≡ hello_of fields.old }
+    ensures room { (bytes : List ℕ) → IfSome result (λ it. CanHold it bytes) }
 {
     let low = fields.name()?;
     let high = fields.name()?;
     if !fields.is_done() {
         return None;
     }
-    Some(Arriving::Hello { low, high })
+    Some(ArrivingHead::Hello { low, high })
 }
 
 #[tactic(auto, unfolding(crate::specs::Parsing::data_of))]
-fn read_data(fields: &mut Fields) -> Option<Arriving>
-    ensures { result ≡ data_of fields.old }
+fn read_data(fields: &mut Fields, body: &mut Body) -> Option<ArrivingHead>
+    ensures value { option_map (arriving_with body.new) result ≡ data_of fields.old }
+    ensures room { IfSome result (λ it. CanHold it body.new) }
 {
     let number = fields.number(1 << 48)?;
-    let payload = fields.hex()?;
+    fields.hex(body)?;
     if !fields.is_done() {
         return None;
     }
-    Some(Arriving::Data { number, payload })
+    Some(ArrivingHead::Data { number })
 }
 
 #[tactic(auto, unfolding(crate::specs::Parsing::raw_of))]
-fn read_raw(fields: &mut Fields) -> Option<Arriving>
-    ensures { result ≡ raw_of fields.old }
+fn read_raw(fields: &mut Fields, body: &mut Body) -> Option<ArrivingHead>
+    ensures value { option_map (arriving_with body.new) result ≡ raw_of fields.old }
+    ensures room { IfSome result (λ it. CanHold it body.new) }
 {
-    let bytes = fields.raw()?;
+    fields.raw(body)?;
     if !fields.is_done() {
         return None;
     }
-    Some(Arriving::Raw(bytes))
+    Some(ArrivingHead::Raw)
 }
 
 #[tactic(auto, unfolding(crate::specs::Parsing::arriving_of))]
-fn read_arriving(fields: &mut Fields) -> Option<Arriving>
-    ensures { result ≡ arriving_of fields.old }
+fn read_arriving(fields: &mut Fields, body: &mut Body) -> Option<ArrivingHead>
+    ensures value { option_map (arriving_with body.new) result ≡ arriving_of fields.old }
+    ensures room { IfSome result (λ it. CanHold it body.new) }
 {
     let Some(word) = fields.next() else {
-        return Some(Arriving::Nothing);
+        return Some(ArrivingHead::Nothing);
     };
     if word == b"hello".as_slice() {
         return read_hello(fields);
     }
     if word == b"data".as_slice() {
-        return read_data(fields);
+        return read_data(fields, body);
     }
     if word == b"raw".as_slice() {
-        return read_raw(fields);
+        return read_raw(fields, body);
     }
     None
 }
 
 #[tactic(auto, unfolding(crate::specs::Parsing::look_of, crate::specs::Parsing::arriving_of))]
-fn read_look(fields: &mut Fields) -> Option<Line>
-    ensures { result ≡ look_of fields.old }
+fn read_look(fields: &mut Fields, body: &mut Body) -> Option<LineHead>
+    ensures value { option_map (line_with body.new) result ≡ look_of fields.old }
+    ensures room { IfSome result (λ it. CanHoldLine it body.new) }
 {
     let session = fields.small()?;
     let moment = read_moment(fields)?;
     let word = fields.word()?;
-    if fields.is_done() {
-        return Some(Line::Look {
-            session,
-            moment,
-            word,
-            arrival: Arriving::Nothing,
-        });
-    }
-    // Here `?` would move what comes once more.
-    let Some(arrival) = read_arriving(fields) else {
-        return None;
-    };
-    Some(Line::Look {
+    let arrival = read_arriving(fields, body)?;
+    Some(LineHead::Look {
         session,
         moment,
         word,
@@ -208,16 +227,17 @@ fn read_look(fields: &mut Fields) -> Option<Line>
 }
 
 #[tactic(auto, unfolding(crate::specs::Parsing::told_of))]
-fn read_told(fields: &mut Fields) -> Option<Line>
-    ensures { result ≡ told_of fields.old }
+fn read_told(fields: &mut Fields, body: &mut Body) -> Option<LineHead>
+    ensures value { option_map (line_with body.new) result ≡ told_of fields.old }
+    ensures room { IfSome result (λ it. CanHoldLine it body.new) }
 {
     let session = fields.small()?;
     let moment = read_moment(fields)?;
     let word = fields.word()?;
     let fault = fields.choice(b"fine", b"fault")?;
     let feedback = fields.feedback()?;
-    let arrival = read_arriving(fields)?;
-    Some(Line::Told {
+    let arrival = read_arriving(fields, body)?;
+    Some(LineHead::Told {
         session,
         moment,
         word,
@@ -235,44 +255,48 @@ fn read_moment(fields: &mut Fields) -> Option<u64>
 }
 
 #[tactic(auto, unfolding(crate::specs::Parsing::gone_of))]
-fn read_gone(fields: &mut Fields) -> Option<Line>
-    ensures { result ≡ gone_of fields.old }
+fn read_gone(fields: &mut Fields) -> Option<LineHead>
+    ensures value { (bytes : List ℕ) → option_map (line_with bytes) result ≡ gone_of fields.old }
+    ensures room { (bytes : List ℕ) → IfSome result (λ it. CanHoldLine it bytes) }
 {
     let session = fields.small()?;
     let moment = read_moment(fields)?;
     if !fields.is_done() {
         return None;
     }
-    Some(Line::Gone { session, moment })
+    Some(LineHead::Gone { session, moment })
 }
 
 #[tactic(auto, unfolding(crate::specs::Parsing::high_of))]
-fn read_high(fields: &mut Fields) -> Option<Line>
-    ensures { result ≡ high_of fields.old }
+fn read_high(fields: &mut Fields) -> Option<LineHead>
+    ensures value { (bytes : List ℕ) → option_map (line_with bytes) result ≡ high_of fields.old }
+    ensures room { (bytes : List ℕ) → IfSome result (λ it. CanHoldLine it bytes) }
 {
     let session = fields.small()?;
     let moment = read_moment(fields)?;
     if !fields.is_done() {
         return None;
     }
-    Some(Line::High { session, moment })
+    Some(LineHead::High { session, moment })
 }
 
 #[tactic(auto, unfolding(crate::specs::Parsing::carry_of))]
-fn read_carry(fields: &mut Fields) -> Option<Line>
-    ensures { result ≡ carry_of fields.old }
+fn read_carry(fields: &mut Fields) -> Option<LineHead>
+    ensures value { (bytes : List ℕ) → option_map (line_with bytes) result ≡ carry_of fields.old }
+    ensures room { (bytes : List ℕ) → IfSome result (λ it. CanHoldLine it bytes) }
 {
     let session = fields.small()?;
     let back = fields.count()?;
     if !fields.is_done() {
         return None;
     }
-    Some(Line::Carry { session, back })
+    Some(LineHead::Carry { session, back })
 }
 
 #[tactic(auto, unfolding(crate::specs::Parsing::return_of))]
-fn read_return(fields: &mut Fields) -> Option<Line>
-    ensures { result ≡ return_of fields.old }
+fn read_return(fields: &mut Fields) -> Option<LineHead>
+    ensures value { (bytes : List ℕ) → option_map (line_with bytes) result ≡ return_of fields.old }
+    ensures room { (bytes : List ℕ) → IfSome result (λ it. CanHoldLine it bytes) }
 {
     let session = fields.small()?;
     let moment = read_moment(fields)?;
@@ -280,7 +304,7 @@ fn read_return(fields: &mut Fields) -> Option<Line>
     if !fields.is_done() {
         return None;
     }
-    Some(Line::Return {
+    Some(LineHead::Return {
         session,
         moment,
         back,
@@ -288,8 +312,9 @@ fn read_return(fields: &mut Fields) -> Option<Line>
 }
 
 #[tactic(auto, unfolding(crate::specs::Parsing::done_of))]
-fn read_done(fields: &mut Fields) -> Option<Line>
-    ensures { result ≡ done_of fields.old }
+fn read_done(fields: &mut Fields) -> Option<LineHead>
+    ensures value { (bytes : List ℕ) → option_map (line_with bytes) result ≡ done_of fields.old }
+    ensures room { (bytes : List ℕ) → IfSome result (λ it. CanHoldLine it bytes) }
 {
     let session = fields.small()?;
     let moment = read_moment(fields)?;
@@ -297,7 +322,7 @@ fn read_done(fields: &mut Fields) -> Option<Line>
     if !fields.is_done() {
         return None;
     }
-    Some(Line::Done {
+    Some(LineHead::Done {
         session,
         moment,
         time: time as u32,

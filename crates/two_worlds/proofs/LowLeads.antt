@@ -42,7 +42,7 @@ use Rattle.two_worlds.proofs.LowLooked.{Looked}
 use Rattle.two_worlds.proofs.LowPasses.{Passes, passes, is_full, seen_of}
 use Rattle.two_worlds.proofs.LowSorts.{Sort, sort_of, repeats, waits_below}
 use Rattle.two_worlds.proofs.LowStepping.{Stepped, stepped, lives_reply}
-use Rattle.two_worlds.proofs.LowTold.{Heard, is_passing, moves, may_take_is, owed_is, told_by, told_in, passing_is, hears_room, feedback_is}
+use Rattle.two_worlds.proofs.LowTold.{LookHead, is_passing, moves, may_take_is, owed_is, told_by, told_in, passing_is, hears_room, feedback_is}
 use Rattle.two_worlds.proofs.LowWants.{taking, hand_is_empty, is_short, stored_is}
 use Rattle.two_worlds.proofs.LowWorlds.{Led, led_by, hand_by, held_by, passed_is, empty_hand, room_is, full_number}
 
@@ -118,8 +118,8 @@ module _ {D : Type 0} (m : Meaning D) (c d : Parts D) (p : Past) (moment word : 
     average = average_of ((stands.ends.shape i).window) ((stands.ends.shape i).start) (stands.ends.times i);
   }) ∙ ap (λ (r : SessionRow). pair r p) (sym row_is)
 
-  heard : Heard (length p.world.held == row.capacity - 2) (pair row p) l.feedback
-  heard = subst (λ (t : Bool × Seen). Heard t.0 t.1 l.feedback) (λ i. (full i, seen i)) passed.heard
+  head : LookHead (length p.world.held == row.capacity - 2) (pair row p) l.feedback
+  head = subst (λ (t : Bool × Seen). LookHead t.0 t.1 l.feedback) (λ i. (full i, seen i)) passed.head
 
   passing : is_passing s.phase ≡ is_some hand
   passing = passing_is c.low.phase
@@ -129,7 +129,7 @@ module _ {D : Type 0} (m : Meaning D) (c d : Parts D) (p : Past) (moment word : 
       let ph = phase_after row o at.parts in
       let passes : is_passing ph ≡ is_some p.world.low_hand =
       sym (ap (λ (t : State). is_passing t.phase) at.state) ∙ passing ∙ sym (full_number hand) ∙ ap is_some (sym stands.world.low_hand) in
-      let h = told_in row (end_of row o at.parts) ph p.world.low_hand moment word a false l.feedback (pair row p) (length p.world.held == row.capacity - 2) passes heard (subst (λ (t : State). Fits row t x) at.state step.fits) in
+      let h = told_in row (end_of row o at.parts) ph p.world.low_hand moment word a false l.feedback (pair row p) (length p.world.held == row.capacity - 2) passes head (subst (λ (t : State). Fits row t x) at.state step.fits) in
       let again = comes_again row (count_after o at.parts) (greeted_after row at.parts) a in
       h ∙ ap (λ (t : Bool × Bool). told_by (is_gone a) p.world.low_hand t.0 again (length p.world.held == row.capacity - 2) t.1 (pair row p)) (λ i. (sym (may_take_is row o at.parts) i, sym (owed_is row o at.parts) i))
       ∙ ap (λ f. if is_gone a then Quiet else f) (feedback_is row p at.parts a p.world.low_hand)
@@ -140,7 +140,7 @@ module _ {D : Type 0} (m : Meaning D) (c d : Parts D) (p : Past) (moment word : 
   room : moves l.feedback ≡ true → nat_lt (length (held_in c.ends)) (c.row.capacity - 2) ≡ true
   room e =
       let le : length p.world.held ≤ c.row.capacity - 2 = subst (λ (n : ℕ). length p.world.held ≤ n - 2) stands.world.capacity stands.lawful.bounded.order.room in
-      let some_room : (length p.world.held == c.row.capacity - 2) ≡ false = ap (λ n. length p.world.held == n - 2) (sym capacity_is) ∙ hears_room (length p.world.held == row.capacity - 2) (pair row p) l.feedback heard e in
+      let some_room : (length p.world.held == c.row.capacity - 2) ≡ false = ap (λ n. length p.world.held == n - 2) (sym capacity_is) ∙ hears_room (length p.world.held == row.capacity - 2) (pair row p) l.feedback head e in
       ap (λ n. nat_lt n (c.row.capacity - 2)) (sym held_length) ∙ room_is (length p.world.held) (c.row.capacity - 2) le some_room
 
   led : Led p.world (offers l.feedback ++ (stored_events (stores_at row s x) a ++ acks_of (sent x (reply_at row s x)))) (record (kept_of c) { low_hand = hand_by hand (moves l.feedback) (stores_at row s x) a; held = held_by hand (held_in c.ends) (moves l.feedback); accepted = (after row s x).next })

@@ -13,7 +13,7 @@ use Rattle.passage.specs.declared.plain.PlainEnds.{PlainEnds}
 use Rattle.passage.specs.Plain.{StandsFor, shape_of, held_in}
 use Rattle.low_process.specs.declared.process.LowProcess.{LowProcess}
 use Rattle.low_process.specs.Ends.{FitsEnd, StandsFitting, EndStep}
-use Rattle.two_worlds.proofs.LowTold.{Heard, moves}
+use Rattle.two_worlds.proofs.LowTold.{LookHead, moves}
 use Rattle.two_worlds.proofs.LowWorlds.{held_by}
 
 -- all places between the hands are taken
@@ -30,7 +30,7 @@ pub record Passes (e e' : PlainEnds) (q : LowProcess) (h : High) (hand : Option 
   pub stand : StandsFor e' low h
   pub fits : FitsEnd q low
   pub items : held_in e' ≡ held_by hand (held_in e) (moves f)
-  pub heard : Heard (is_full e) (seen_of e h) f
+  pub head : LookHead (is_full e) (seen_of e h) f
 
 same_items : (xs is bs cs : List Item) → xs ≡ cs ++ is → xs ≡ cs ++ bs → is ≡ bs
 same_items xs is bs cs one two = append_cancel_left cs is bs (sym one ∙ two)
@@ -52,14 +52,14 @@ passes e e' q l h hand Quiet s p = record {
   stand = p.0;
   fits = p.1;
   items = same_items l.forwarded (held_in e') (held_in e) h.taken p.0.between s.between;
-  heard = tt;
+  head = tt;
 }
 passes e e' q l h hand Full s p = record {
   low = tried l p.0;
   stand = p.3.0;
   fits = p.3.1;
   items = same_items l.forwarded (held_in e') (held_in e) h.taken p.3.0.between s.between;
-  heard = full e l h p.0 s p.1 (p.2 refl);
+  head = full e l h p.0 s p.1 (p.2 refl);
 }
 passes e e' q l h None (Passed seen) s p = absurd p
 passes e e' q l h (Some x) (Passed seen) s p =
@@ -69,7 +69,7 @@ passes e e' q l h (Some x) (Passed seen) s p =
       stand = p.1.2.0;
       fits = p.1.2.1;
       items = more_items l.forwarded (held_in e) (held_in e') h.taken x s.between p.1.2.0.between;
-      heard = (not_full e l h s (p.0 refl), λ i. record { count = pair.0 i; average = pair.1 i });
+      head = (not_full e l h s (p.0 refl), λ i. record { count = pair.0 i; average = pair.1 i });
     }
 passes e e' q l h None Released s p = absurd p
 passes e e' q l h (Some x) Released s p = record {
@@ -77,7 +77,7 @@ passes e e' q l h (Some x) Released s p = record {
   stand = p.1.0;
   fits = p.1.1;
   items = more_items l.forwarded (held_in e) (held_in e') h.taken x s.between p.1.0.between;
-  heard = not_full e l h s (p.0 refl);
+  head = not_full e l h s (p.0 refl);
 }
 passes e e' q l h hand (Repeat seen) s p =
     let pair = p.1 refl in
@@ -86,5 +86,5 @@ passes e e' q l h hand (Repeat seen) s p =
       stand = p.2.0;
       fits = p.2.1;
       items = same_items l.forwarded (held_in e') (held_in e) h.taken p.2.0.between s.between;
-      heard = λ i. record { count = pair.0 i; average = pair.1 i };
+      head = λ i. record { count = pair.0 i; average = pair.1 i };
     }

@@ -76,18 +76,18 @@ moves Released = true
 moves _ = false
 
 -- the feedback is what the passage told, if it was asked: it was full or not, and had this pair
-abbrev pub Heard : Bool → Seen → Feedback → Type 0
-Heard full seen Quiet = Unit {0}
-Heard full seen Full = full ≡ true
-Heard full seen (Passed s) = (full ≡ false) × (s ≡ seen)
-Heard full seen Released = full ≡ false
-Heard full seen (Repeat s) = s ≡ seen
+abbrev pub LookHead : Bool → Seen → Feedback → Type 0
+LookHead full seen Quiet = Unit {0}
+LookHead full seen Full = full ≡ true
+LookHead full seen (Passed s) = (full ≡ false) × (s ≡ seen)
+LookHead full seen Released = full ≡ false
+LookHead full seen (Repeat s) = s ≡ seen
 
 -- an offer is told so
 abbrev pub offer_told : Bool → Bool → Seen → Feedback
 offer_told full owed seen = if full then Full else if owed then Passed seen else Released
 
-passing_told : (owed : Option ℕ) (f : Feedback) (seen : Seen) (full : Bool) → fits_passing owed f ≡ true → Heard full seen f → f ≡ offer_told full (owes (Passing owed)) seen
+passing_told : (owed : Option ℕ) (f : Feedback) (seen : Seen) (full : Bool) → fits_passing owed f ≡ true → LookHead full seen f → f ≡ offer_told full (owes (Passing owed)) seen
 passing_told None Quiet seen full fit h = absurd (cc)
 passing_told (Some n) Quiet seen full fit h = absurd (cc)
 passing_told None (Repeat t) seen full fit h = absurd (cc)
@@ -107,7 +107,7 @@ passing_told None Released seen true fit h = absurd (cc)
 abbrev pub read_told : Bool → Bool → Seen → Feedback
 read_told may again seen = if may && again then Repeat seen else Quiet
 
-average_told : (f : Feedback) (seen : Seen) (full again : Bool) → (if again then has_average f else is_quiet f) ≡ true → Heard full seen f → f ≡ read_told true again seen
+average_told : (f : Feedback) (seen : Seen) (full again : Bool) → (if again then has_average f else is_quiet f) ≡ true → LookHead full seen f → f ≡ read_told true again seen
 average_told f seen full false fit h = quiet_is f fit
 average_told (Repeat t) seen full true fit h = ap (λ (u : Seen). Repeat u) h
 average_told Quiet seen full true fit h = absurd (cc)
@@ -122,14 +122,14 @@ told_at None may again full owed seen = read_told may again seen
 abbrev pub told_by : Bool → Option ℕ → Bool → Bool → Bool → Bool → Seen → Feedback
 told_by gone hand may again full owed seen = if gone then Quiet else told_at hand may again full owed seen
 
-idle_told : (row : SessionRow) (st : State) (a : Arrival) (f : Feedback) (seen : Seen) (full owed : Bool) → fits_idle row st a f ≡ true → Heard full seen f → f ≡ told_by (is_gone a) None true (comes_again row st.next st.greeted a) full owed seen
+idle_told : (row : SessionRow) (st : State) (a : Arrival) (f : Feedback) (seen : Seen) (full owed : Bool) → fits_idle row st a f ≡ true → LookHead full seen f → f ≡ told_by (is_gone a) None true (comes_again row st.next st.greeted a) full owed seen
 idle_told row st Nothing f seen full owed fit h = quiet_is f fit
 idle_told row st Bad f seen full owed fit h = quiet_is f fit
 idle_told row st Gone f seen full owed fit h = quiet_is f fit
 idle_told row st (Came g) f seen full owed fit h = average_told f seen full (is_repeat row st.next st.greeted g) fit h
 
 pub told_in : (row : SessionRow) (st : State) (ph : Phase) (hand : Option ℕ) (m w : ℕ) (a : Arrival) (d : Bool) (f : Feedback) (seen : Seen) (full : Bool)
-    → is_passing ph ≡ is_some hand → Heard full seen f → fits_in row st (look_of m w a d f) ph ≡ true
+    → is_passing ph ≡ is_some hand → LookHead full seen f → fits_in row st (look_of m w a d f) ph ≡ true
     → f ≡ told_by (is_gone a) hand (is_idle ph) (comes_again row st.next st.greeted a) full (owes ph) seen
 told_in row st Down (Some n) m w a d f seen full e h fit = absurd (cc)
 told_in row st (Waits k at) (Some n) m w a d f seen full e h fit = absurd (cc)
@@ -156,7 +156,7 @@ passing_is (low.Waiting n t) = refl
 passing_is low.Down = refl
 
 -- what was passed found room
-pub hears_room : (full : Bool) (seen : Seen) (f : Feedback) → Heard full seen f → moves f ≡ true → full ≡ false
+pub hears_room : (full : Bool) (seen : Seen) (f : Feedback) → LookHead full seen f → moves f ≡ true → full ≡ false
 hears_room full seen Quiet h e = absurd (cc)
 hears_room full seen Full h e = absurd (cc)
 hears_room full seen (Passed s) h e = h.0

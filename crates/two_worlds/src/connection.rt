@@ -1,14 +1,15 @@
 //! What waits on a session's low connection.
 
-ghost use Rattle.std.specs.Prelude.{◌≡◌, ◌+◌, ◌^◌, ◌<◌, ◌≤◌, ◌++◌, [], ◌∷◌, List, take, length};
+ghost use Rattle.std.specs.Prelude.{◌≡◌, ◌+◌, ◌^◌, ◌<◌, ◌≤◌, ◌++◌, [], ◌∷◌, List, take, length, vec_len, vec_capacity, IfOk};
 ghost use Rattle.pump_core.specs.History.{Arrival as Offered};
 ghost use Rattle.script_reader.specs.Steps.{coming};
 ghost use Rattle.two_worlds.specs.Arrivals.{added_of, IsFed, Gathers};
 
 use arrayvec::ArrayVec;
 use low_process::Arrival;
-use pump_frame::{Fed, Frame, Kind, Reader};
-use script_reader::Arriving;
+use pump_frame::{Fed, Frame, Kind, Name, OutOfMemory, Payload, Reader};
+use script_reader::ArrivingHead;
+use std::alloc::Global;
 use std::marker::Model;
 
 #[cfg(test)]
@@ -33,7 +34,7 @@ impl Default for Waiting {
 #[derive(Drop)]
 pub struct Connection {
     /// What was not taken, the oldest first.
-    waits: ArrayVec<Waiting, 64>,
+    waits: Vec<Waiting>,
     /// Bad bytes were taken; what waits behind them is never offered.
     is_broken: bool,
     reader: Reader,
@@ -52,7 +53,9 @@ impl Model for Connection {
       reading = c.reader;
     } };
 
-    ghost invariant = { λ c. AreLawful (arrivals_of c.waits.items) };
+    ghost use Rattle.std.specs.Prelude.{◌≤◌, vec_len, vec_capacity};
+
+    ghost invariant = { λ c. AreLawful (arrivals_of c.waits.items) × (vec_len c.waits ≤ 64) × (64 ≤ vec_capacity c.waits) };
 }
 
 /// What one more raw byte brings.
@@ -114,29 +117,45 @@ fn read_raw(reader: &mut Reader, bytes: &[u8], held: &mut ArrayVec<Waiting, 64>)
 }
 
 /// These join the list.
-fn append(list: &mut ArrayVec<Waiting, 64>, more: &ArrayVec<Waiting, 64>)
-    requires { length (list.old.items ++ more.now.items) ≤ 64 }
-    ensures { list.new.items ≡ list.old.items ++ more.now.items }
+fn append(list: &mut Vec<Waiting>, more: &ArrayVec<Waiting, 64>)
+    requires few { vec_len list.old + length more.now.items ≤ 64 }
+    requires room { 64 ≤ vec_capacity list.old }
+    ensures items { list.new.items ≡ list.old.items ++ more.now.items }
+    ensures few { vec_len list.new ≤ 64 }
+    ensures room { 64 ≤ vec_capacity list.new }
 {
-    list.try_extend_from_slice(more.as_slice()).unwrap();
+    if list.extend_from_slice(more.as_slice()).is_err() {
+        unreachable!();
+    }
+}
+
+/// How many wait.
+fn count_of(list: &Vec<Waiting>) -> usize
+    requires { vec_len list.now ≤ 64 }
+    ensures value { result ≡ length list.now.items }
+    ensures fits { result ≤ 64 }
+{
+    list.len()
 }
 
 impl Connection {
     ghost use Rattle.std.specs.Prelude.{Bool};
     ghost use Rattle.script_reader.specs.Lawful.{IsLawfulArriving};
+    ghost use Rattle.script_reader.specs.Heads.{arriving_with, CanHold};
+    ghost use Rattle.script_reader.specs.declared.line.Arriving.TheVariants as kinds;
     ghost use Rattle.low_process.specs.Hands.{HasNumber};
     ghost use Rattle.low_process.specs.Looks.{IsLawful, arrival_of};
     ghost use Rattle.two_worlds.specs.Connections.{unused, offered_by, settled, Joins, JoinsFrame, JoinsRaw};
 
     /// A connection before anything comes.
-    pub fn new() -> Connection
-        ensures { result ≡ unused }
+    pub fn new(alloc: Global) -> Result<Connection, OutOfMemory>
+        ensures { IfOk result (λ connection. connection ≡ unused) }
     {
-        Connection {
-            waits: ArrayVec::new(),
+        Ok(Connection {
+            waits: Vec::with_capacity(alloc, 64)?,
             is_broken: false,
             reader: Reader::new(),
-        }
+        })
     }
 
     /// A frame joins what waits, where there is room for it.
@@ -144,14 +163,15 @@ impl Connection {
         requires { HasNumber frame }
         ensures { JoinsFrame self.old self.new frame result }
     {
-        if self.waits.len() >= 64 {
+        if count_of(&self.waits) >= 64 {
             return false;
         }
-        self.waits.push(Waiting::Frame(frame));
+        self.waits.push_reserved(Waiting::Frame(frame));
         true
     }
 
     /// What raw bytes bring joins what waits, where there is room for it.
+    #[inline(never)]
     fn join_raw(&mut self, bytes: &[u8]) -> bool
         requires { length bytes.now ≤ 1042 }
         ensures { JoinsRaw self.old self.new bytes.now result }
@@ -161,7 +181,7 @@ impl Connection {
         let mut reader = self.reader.duplicate();
         let mut held = ArrayVec::new();
         let count = read_raw(&mut reader, bytes, &mut held);
-        if count > 64 - self.waits.len() {
+        if count > 64 - count_of(&self.waits) {
             return false;
         }
         append(&mut self.waits, &held);
@@ -169,24 +189,43 @@ impl Connection {
         true
     }
 
+    /// A HELLO joins what waits, where there is room for it. Apart, for the size of a frame.
+    #[inline(never)]
+    fn join_hello(&mut self, session: u32, low: &Name, high: &Name) -> bool
+        ensures { Joins self.old self.new session (kinds.Hello low.now high.now) result }
+    {
+        self.join_frame(Frame::hello(session, low, high))
+    }
+
+    /// A DATA joins what waits, where there is room for it. Apart, for the size of a frame.
+    #[inline(never)]
+    fn join_data(&mut self, session: u32, number: u64, bytes: &[u8]) -> bool
+        requires number { number < 2 ^ 48 }
+        requires few { length bytes.now ≤ 1024 }
+        ensures { Joins self.old self.new session (kinds.Data number bytes.now) result }
+    {
+        self.join_frame(Frame {
+            kind: Kind::Data,
+            session,
+            number,
+            payload: Payload::from_slice(bytes).unwrap(),
+        })
+    }
+
     /// What comes with a `look` line of the session joins what waits; false where more than 64
     /// would wait, and then nothing has changed.
-    pub fn join(&mut self, session: u32, arriving: &Arriving) -> bool
-        requires { IsLawfulArriving arriving.now }
-        ensures { Joins self.old self.new session arriving.now result }
+    pub fn join(&mut self, session: u32, arriving: &ArrivingHead, bytes: &[u8]) -> bool
+        requires lawful { IsLawfulArriving (arriving_with bytes.now arriving.now) }
+        requires room { CanHold arriving.now bytes.now }
+        ensures { Joins self.old self.new session (arriving_with bytes.now arriving.now) result }
     {
         // No more than 64 wait.
-        let _waiting = self.waits.len();
+        let _waiting = count_of(&self.waits);
         match arriving {
-            Arriving::Nothing => true,
-            Arriving::Hello { low, high } => self.join_frame(Frame::hello(session, low, high)),
-            Arriving::Data { number, payload } => self.join_frame(Frame {
-                kind: Kind::Data,
-                session,
-                number: *number,
-                payload: *payload,
-            }),
-            Arriving::Raw(bytes) => self.join_raw(bytes.as_slice()),
+            ArrivingHead::Nothing => true,
+            ArrivingHead::Hello { low, high } => self.join_hello(session, low, high),
+            ArrivingHead::Data { number } => self.join_data(session, *number, bytes),
+            ArrivingHead::Raw => self.join_raw(bytes),
         }
     }
 
@@ -226,6 +265,8 @@ impl Connection {
     pub fn lose(&mut self)
         ensures { self.new ≡ unused }
     {
-        *self = Connection::new();
+        self.waits.clear();
+        self.is_broken = false;
+        self.reader = Reader::new();
     }
 }

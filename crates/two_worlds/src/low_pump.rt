@@ -7,7 +7,7 @@ ghost use Rattle.low_process.specs.Looks.{is_down};
 use crate::applied::{Applied, Stop};
 use arrayvec::ArrayVec;
 use pump_frame::{OutOfMemory, SessionRow};
-use script_reader::{Event, Line};
+use script_reader::{LineHead, Event, Line};
 use std::alloc::Global;
 
 mod parts;
@@ -29,6 +29,7 @@ impl LowPump {
     ghost use Rattle.pump_frame.specs.Rows.{IsLawfulRow};
     ghost use Rattle.script_reader.specs.declared.event.Event.TheVariants.{End};
     ghost use Rattle.script_reader.specs.Lawful.{IsLawfulLine};
+    ghost use Rattle.script_reader.specs.Heads.{line_with, CanHoldLine};
     ghost use Rattle.script_reader.specs.Scripts.{IsLowEnd};
     ghost use Rattle.script_reader.specs.Tolds.{LowPast, fresh_low};
     ghost use Rattle.two_worlds.specs.LowPumps.{low_row_of, low_is_down, is_device, LowStandsFor, AppliesLow};
@@ -78,7 +79,25 @@ impl LowPump {
         ensures down { low_is_down self.new ≡ is_device result }
         ensures row { low_row_of self.new ≡ low_row_of self.old }
     {
-        self.parts.apply(line, events)
+        self.apply_head(&line.head(), line.bytes(), events)
+    }
+
+    /// As `apply_into`, for a line's head with the bytes that come with it.
+    pub fn apply_head(
+        &mut self,
+        line: &LineHead,
+        bytes: &[u8],
+        events: &mut ArrayVec<Event, 4>,
+    ) -> Option<Stop>
+        requires lawful { IsLawfulLine (line_with bytes.now line.now) }
+        requires room { CanHoldLine line.now bytes.now }
+        requires up { low_is_down self.old ≡ false }
+        ensures applies { (p : LowPast) → LowStandsFor self.old p
+            → AppliesLow self.old self.new (line_with bytes.now line.now) p events.new.items result }
+        ensures down { low_is_down self.new ≡ is_device result }
+        ensures row { low_row_of self.new ≡ low_row_of self.old }
+    {
+        self.parts.apply(line, bytes, events)
     }
 
     /// How many messages are stored.

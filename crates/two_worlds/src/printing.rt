@@ -1,12 +1,14 @@
 //! What a low look prints.
 
-ghost use Rattle.std.specs.Prelude.{◌≡◌, ◌≤◌, ◌++◌, length, option_to_list};
-ghost use Rattle.script_reader.specs.Lows.{printed_feedback};
+ghost use Rattle.std.specs.Prelude.{◌≡◌, ◌+◌, ◌≤◌, [], ◌∷◌, ◌++◌, length, option_to_list};
+ghost use Rattle.low_process.specs.Looks.{row_of};
+ghost use Rattle.low_process.specs.Heads.{frame_of, look_with};
+ghost use Rattle.script_reader.specs.Lows.{printed_store, printed_feedback};
 ghost use Rattle.two_worlds.specs.Printing.{look_prints};
 
 use arrayvec::ArrayVec;
-use low_process::LowLook;
-use pump_core::Feedback;
+use low_process::{LookHead, LowLook, LowProcess, Reply};
+use pump_core::{Feedback, Seen};
 use script_reader::Event;
 
 /// The line of a look's feedback, if it has one.
@@ -52,5 +54,108 @@ pub fn print_look(session: u32, moment: u64, look: &LowLook, out: &mut ArrayVec<
             moment,
             reply,
         });
+    }
+}
+
+// Each line is put into the list by a function of its own: a local of 1 KB is zeroed where its
+// function begins, whether it comes to be used or not.
+
+fn put_store(session: u32, moment: u64, stored: Option<u64>, out: &mut ArrayVec<Event, 4>)
+    requires { length out.old.items ≤ 3 }
+    ensures items { out.new.items ≡ out.old.items ++ printed_store session moment stored }
+    ensures few { length out.new.items ≤ length out.old.items + 1 }
+{
+    if let Some(number) = stored {
+        put_stored(session, moment, number, out);
+    }
+}
+
+fn put_stored(session: u32, moment: u64, number: u64, out: &mut ArrayVec<Event, 4>)
+    requires { length out.old.items ≤ 3 }
+    ensures { out.new.items ≡ out.old.items ++ Event.Stored session moment number ∷ [] }
+{
+    out.push(Event::Stored {
+        session,
+        moment,
+        number,
+    });
+}
+
+fn put_full(session: u32, moment: u64, out: &mut ArrayVec<Event, 4>)
+    requires { length out.old.items ≤ 3 }
+    ensures { out.new.items ≡ out.old.items ++ Event.Full session moment ∷ [] }
+{
+    out.push(Event::Full { session, moment });
+}
+
+fn put_passed(session: u32, moment: u64, seen: Seen, out: &mut ArrayVec<Event, 4>)
+    requires { length out.old.items ≤ 3 }
+    ensures { out.new.items ≡ out.old.items ++ Event.Passed session moment seen ∷ [] }
+{
+    out.push(Event::Passed {
+        session,
+        moment,
+        seen,
+    });
+}
+
+fn put_released(session: u32, moment: u64, out: &mut ArrayVec<Event, 4>)
+    requires { length out.old.items ≤ 3 }
+    ensures { out.new.items ≡ out.old.items ++ Event.Released session moment ∷ [] }
+{
+    out.push(Event::Released { session, moment });
+}
+
+fn put_repeat(session: u32, moment: u64, seen: Seen, out: &mut ArrayVec<Event, 4>)
+    requires { length out.old.items ≤ 3 }
+    ensures { out.new.items ≡ out.old.items ++ Event.Repeat session moment seen ∷ [] }
+{
+    out.push(Event::Repeat {
+        session,
+        moment,
+        seen,
+    });
+}
+
+fn put_feedback(session: u32, moment: u64, feedback: Feedback, out: &mut ArrayVec<Event, 4>)
+    requires { length out.old.items ≤ 3 }
+    ensures items { out.new.items ≡ out.old.items ++ printed_feedback session moment feedback }
+    ensures few { length out.new.items ≤ length out.old.items + 1 }
+{
+    match feedback {
+        Feedback::Quiet => {}
+        Feedback::Full => put_full(session, moment, out),
+        Feedback::Passed(seen) => put_passed(session, moment, seen, out),
+        Feedback::Released => put_released(session, moment, out),
+        Feedback::Repeat(seen) => put_repeat(session, moment, seen, out),
+    }
+}
+
+fn put_reply(session: u32, moment: u64, low: &LowProcess, reply: &Reply, out: &mut ArrayVec<Event, 4>)
+    requires { length out.old.items ≤ 3 }
+    ensures { out.new.items ≡ out.old.items ++ Event.Low session moment (frame_of (row_of low.now) reply.now) ∷ [] }
+{
+    out.push(Event::Low {
+        session,
+        moment,
+        reply: low.frame(reply),
+    });
+}
+
+/// What a low look prints of which was head.
+pub fn print_head(
+    session: u32,
+    moment: u64,
+    low: &LowProcess,
+    head: &LookHead,
+    out: &mut ArrayVec<Event, 4>,
+)
+    requires { length out.old.items ≤ 1 }
+    ensures { out.new.items ≡ out.old.items ++ look_prints session moment (look_with (row_of low.now) head.now) }
+{
+    put_store(session, moment, head.stored, out);
+    put_feedback(session, moment, head.feedback, out);
+    if let Some(reply) = &head.reply {
+        put_reply(session, moment, low, reply, out);
     }
 }

@@ -17,7 +17,7 @@ use arrayvec::ArrayVec;
 use disk_model::Disk;
 use parts::Parts;
 use pump_frame::SessionRow;
-use script_reader::{Event, Line};
+use script_reader::{LineHead, Event, Line};
 use std::alloc::Global;
 
 /// A whole session: its processes, its passage, its receiver, over three disks.
@@ -37,6 +37,7 @@ impl<D: Disk> Pump<D> {
     ghost use Rattle.pump_frame.specs.Rows.{IsLawfulRow};
     ghost use Rattle.two_worlds.specs.Openings.{ComeBack};
     ghost use Rattle.script_reader.specs.Lawful.{IsLawfulLine};
+    ghost use Rattle.script_reader.specs.Heads.{line_with, CanHoldLine};
     ghost use Rattle.script_reader.specs.Past.{Past, fresh};
     ghost use Rattle.two_worlds.specs.Disks.{Opens, CrashesOpen};
     ghost use Rattle.two_worlds.specs.LowPumps.{is_device};
@@ -99,7 +100,28 @@ impl<D: Disk> Pump<D> {
         ensures down { is_down self.new ≡ is_device result }
         ensures row { row_of self.new ≡ row_of self.old }
     {
-        self.parts.apply(line, events)
+        self.apply_head(&line.head(), line.bytes(), events)
+    }
+
+    /// As `apply_into`, for a line's head with the bytes that come with it.
+    pub fn apply_head(
+        &mut self,
+        line: &LineHead,
+        bytes: &[u8],
+        events: &mut ArrayVec<Event, 4>,
+    ) -> Option<Stop>
+        requires lawful { IsLawfulLine (line_with bytes.now line.now) }
+        requires room { CanHoldLine line.now bytes.now }
+        requires up { is_down self.old ≡ false }
+        ensures applies { (p : Past) → StandsFor D.told self.old p
+            → Applies D.told self.old self.new (line_with bytes.now line.now) p events.new.items result }
+        ensures timed { result ≡ None → GoesOnTimed D.told self.old self.new (line_with bytes.now line.now) }
+        ensures serve { DisksGo D.told (row_of self.old) (disk_at roles.Low self.old) (disk_at roles.High self.old) (disk_at roles.Recv self.old)
+            (disk_at roles.Low self.new) (disk_at roles.High self.new) (disk_at roles.Recv self.new) result }
+        ensures down { is_down self.new ≡ is_device result }
+        ensures row { row_of self.new ≡ row_of self.old }
+    {
+        self.parts.apply(line, bytes, events)
     }
 
     /// How many messages were accepted, removed, and taken by the receiver.

@@ -18,7 +18,7 @@ use disk_model::{PlainDisk, Role};
 use low_process::{Answer, Arrival, Ask, LowLook, LowProcess};
 use pump_core::Seen;
 use pump_frame::{Item, OutOfMemory, Payload, SessionRow};
-use script_reader::{Arriving, Event, Line, ToldFeedback};
+use script_reader::{ArrivingHead, LineHead, Event, ToldFeedback};
 use stable_buffer::{LowStore, Register, format};
 use std::alloc::Global;
 
@@ -116,6 +116,7 @@ impl LowParts {
     ghost use Rattle.script_reader.specs.declared.event.Event.TheVariants.{End};
     ghost use Rattle.script_reader.specs.declared.line.ToldFeedback.TheVariants.{Quiet};
     ghost use Rattle.script_reader.specs.Lawful.{IsLawfulArriving, IsLawfulFeedback, IsLawfulLine};
+    ghost use Rattle.script_reader.specs.Heads.{arriving_with, line_with, CanHold, CanHoldLine};
     ghost use Rattle.script_reader.specs.Lows.{first_of};
     ghost use Rattle.script_reader.specs.Scripts.{IsLowEnd};
     ghost use Rattle.script_reader.specs.Tolds.{LowPast, fresh_low, lost_low, is_timely_low, IsBarredLow, StepLow, IsToldAt};
@@ -138,9 +139,10 @@ impl LowParts {
         let disk = PlainDisk::new(alloc, disk_size(row))?;
         let store = new_store(disk, row, next);
         let hand = hand_of(next, held);
+        let connection = Connection::new(alloc)?;
         Ok(LowParts {
             row: *row,
-            connection: Connection::new(),
+            connection,
             process: LowProcess::open(row, next, hand),
             store,
             moment: 0,
@@ -260,20 +262,22 @@ impl LowParts {
         word: u32,
         fault: bool,
         told: ToldFeedback,
-        arriving: &Arriving,
+        arriving: &ArrivingHead,
+        bytes: &[u8],
         out: &mut ArrayVec<Event, 4>,
     ) -> Option<Stop>
         requires stands { ∥ StandsForSome self.old ∥₁ }
         requires order { self.old.moment ≤ moment }
         requires moment { moment ≤ 2 ^ 62 }
         requires told { IsLawfulFeedback told }
-        requires arriving { IsLawfulArriving arriving.now }
+        requires arriving { IsLawfulArriving (arriving_with bytes.now arriving.now) }
+        requires room { CanHold arriving.now bytes.now }
         requires out { out.old.items ≡ [] }
-        ensures ends { Ends self.old self.new (Crowds self.old.row fault arriving.now)
-            (IsJoinedTold self.old.row moment word fault told arriving.now) out.new.items result }
+        ensures ends { Ends self.old self.new (Crowds self.old.row fault (arriving_with bytes.now arriving.now))
+            (IsJoinedTold self.old.row moment word fault told (arriving_with bytes.now arriving.now)) out.new.items result }
         ensures row { self.new.row ≡ self.old.row }
     {
-        if !self.connection.join(self.row.id, arriving) {
+        if !self.connection.join(self.row.id, arriving, bytes) {
             return Some(Stop::Line);
         }
         arm(&mut self.store, fault);
@@ -295,17 +299,23 @@ impl LowParts {
     }
 
     /// A line of the script. What it prints is all that is in the list after it.
-    pub fn apply(&mut self, line: &Line, out: &mut ArrayVec<Event, 4>) -> Option<Stop>
-        requires lawful { IsLawfulLine line.now }
+    pub fn apply(
+        &mut self,
+        line: &LineHead,
+        bytes: &[u8],
+        out: &mut ArrayVec<Event, 4>,
+    ) -> Option<Stop>
+        requires lawful { IsLawfulLine (line_with bytes.now line.now) }
+        requires room { CanHoldLine line.now bytes.now }
         requires stands { ∥ StandsForSome self.old ∥₁ }
-        ensures ends { Ends self.old self.new (λ p. IsBarredLow self.old.row p line.now)
-            (λ p is_fault q printed. (is_timely_low self.old.row p line.now ≡ true)
-            × StepLow self.old.row p line.now is_fault q printed) out.new.items result }
+        ensures ends { Ends self.old self.new (λ p. IsBarredLow self.old.row p (line_with bytes.now line.now))
+            (λ p is_fault q printed. (is_timely_low self.old.row p (line_with bytes.now line.now) ≡ true)
+            × StepLow self.old.row p (line_with bytes.now line.now) is_fault q printed) out.new.items result }
         ensures row { self.new.row ≡ self.old.row }
     {
         out.clear();
         match line {
-            Line::Told {
+            LineHead::Told {
                 session,
                 moment,
                 word,
@@ -316,9 +326,9 @@ impl LowParts {
                 if !self.is_timely(*session, *moment) {
                     return Some(Stop::Line);
                 }
-                self.told(*moment, *word, *fault, *feedback, arrival, out)
+                self.told(*moment, *word, *fault, *feedback, arrival, bytes, out)
             }
-            Line::Gone { session, moment } => {
+            LineHead::Gone { session, moment } => {
                 if !self.is_timely(*session, *moment) {
                     return Some(Stop::Line);
                 }

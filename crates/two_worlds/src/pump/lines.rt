@@ -3,6 +3,7 @@
 ghost use Rattle.std.specs.Prelude.{◌≡◌, ℕ, ◌+◌, ◌^◌, ◌<◌, ◌≤◌, Bool, true, [], length};
 ghost use Rattle.script_reader.specs.Lawful.{IsLawfulLine, IsLawfulArriving};
 ghost use Rattle.script_reader.specs.declared.line.Line.TheVariants as lines;
+ghost use Rattle.script_reader.specs.Heads.{arriving_with, line_with, CanHold, CanHoldLine};
 ghost use Rattle.script_reader.specs.Past.{Past};
 ghost use Rattle.script_reader.specs.Breaks.{BreaksOff};
 ghost use Rattle.two_worlds.specs.Standing.{Stands, StandsForSome};
@@ -13,7 +14,7 @@ use crate::applied::Stop;
 use crate::pump::parts::Parts;
 use arrayvec::ArrayVec;
 use disk_model::Disk;
-use script_reader::{Arriving, Event, Line};
+use script_reader::{ArrivingHead, LineHead, Event};
 
 /// The last moment of a script, 2^62.
 const LAST_MOMENT: u64 = 4_611_686_018_427_387_904;
@@ -28,26 +29,26 @@ impl<D: Disk> Parts<D> {
     }
 
     /// Whether the line can be applied, where there is room for what comes with it.
-    fn is_timely(&self, line: &Line) -> bool
+    fn is_timely(&self, line: &LineHead, _bytes: &[u8]) -> bool
         requires stands { ∥ StandsForSome D.told self.now ∥₁ }
-        requires lawful { IsLawfulLine line.now }
-        ensures { result ≡ is_timely_by self.now line.now }
+        requires lawful { IsLawfulLine (line_with _bytes.now line.now) }
+        ensures { result ≡ is_timely_by self.now (line_with _bytes.now line.now) }
     {
         match line {
-            Line::Skip | Line::Session(_) | Line::LowSession { .. } | Line::Told { .. } => false,
-            Line::Look {
+            LineHead::Skip | LineHead::Session(_) | LineHead::LowSession { .. } | LineHead::Told { .. } => false,
+            LineHead::Look {
                 session,
                 moment,
                 ..
             }
-            | Line::Gone { session, moment }
-            | Line::High { session, moment } => {
+            | LineHead::Gone { session, moment }
+            | LineHead::High { session, moment } => {
                 *session == self.row.id && self.moment <= *moment
             }
-            Line::Carry { session, back } => {
+            LineHead::Carry { session, back } => {
                 *session == self.row.id && *back < self.sent.len() as u64
             }
-            Line::Return {
+            LineHead::Return {
                 session,
                 moment,
                 back,
@@ -56,7 +57,7 @@ impl<D: Disk> Parts<D> {
                     && self.moment <= *moment
                     && *back < self.returned.len() as u64
             }
-            Line::Done {
+            LineHead::Done {
                 session,
                 moment,
                 time,
@@ -74,20 +75,22 @@ impl<D: Disk> Parts<D> {
         &mut self,
         moment: u64,
         word: u32,
-        arriving: &Arriving,
+        arriving: &ArrivingHead,
+        bytes: &[u8],
         out: &mut ArrayVec<Event, 4>,
     ) -> Result<(), Stop>
         requires stands { ∥ StandsForSome D.told self.old ∥₁ }
-        requires lawful { IsLawfulArriving arriving.now }
+        requires lawful { IsLawfulArriving (arriving_with bytes.now arriving.now) }
+        requires room { CanHold arriving.now bytes.now }
         requires order { self.old.moment ≤ moment }
         requires moment { moment ≤ 2 ^ 62 }
         requires out { length out.old.items ≤ 0 }
-        ensures runs { Runs D.told self.old self.new (lines.Look self.old.row.id moment word arriving.now)
+        ensures runs { Runs D.told self.old self.new (lines.Look self.old.row.id moment word (arriving_with bytes.now arriving.now))
             out.old.items out.new.items result }
         ensures serve { DisksServe D.told self.old self.new result }
         ensures row { self.new.row ≡ self.old.row }
     {
-        if !self.connection.join(self.row.id, arriving) {
+        if !self.connection.join(self.row.id, arriving, bytes) {
             return Err(Stop::Line);
         }
         self.look_first(moment, word, out)
@@ -152,58 +155,76 @@ impl<D: Disk> Parts<D> {
     }
 
     /// A line that can be applied where there is room for what comes with it.
-    fn run(&mut self, line: &Line, out: &mut ArrayVec<Event, 4>) -> Result<(), Stop>
+    fn run(
+        &mut self,
+        line: &LineHead,
+        bytes: &[u8],
+        out: &mut ArrayVec<Event, 4>,
+    ) -> Result<(), Stop>
         requires stands { ∥ StandsForSome D.told self.old ∥₁ }
-        requires lawful { IsLawfulLine line.now }
-        requires timely { is_timely_by self.old line.now ≡ true }
+        requires lawful { IsLawfulLine (line_with bytes.now line.now) }
+        requires room { CanHoldLine line.now bytes.now }
+        requires timely { is_timely_by self.old (line_with bytes.now line.now) ≡ true }
         requires out { length out.old.items ≤ 0 }
-        ensures runs { Runs D.told self.old self.new line.now out.old.items out.new.items result }
+        ensures runs { Runs D.told self.old self.new (line_with bytes.now line.now) out.old.items out.new.items result }
         ensures serve { DisksServe D.told self.old self.new result }
         ensures row { self.new.row ≡ self.old.row }
     {
         match line {
-            Line::Skip | Line::Session(_) | Line::LowSession { .. } | Line::Told { .. } => {
+            LineHead::Skip | LineHead::Session(_) | LineHead::LowSession { .. } | LineHead::Told { .. } => {
                 Err(Stop::Line)
             }
-            Line::Look {
+            LineHead::Look {
                 moment,
                 word,
                 arrival,
                 ..
-            } => self.look_line(*moment, *word, arrival, out),
-            Line::Gone { moment, .. } => self.gone_line(*moment, out),
-            Line::High { moment, .. } => self.look_high(*moment, out),
-            Line::Carry { back, .. } => self.carry(*back, out),
-            Line::Return { moment, back, .. } => self.take_back(*moment, *back, out),
-            Line::Done { moment, time, .. } => self.done_line(*moment, *time, out),
+            } => self.look_line(*moment, *word, arrival, bytes, out),
+            LineHead::Gone { moment, .. } => self.gone_line(*moment, out),
+            LineHead::High { moment, .. } => self.look_high(*moment, out),
+            LineHead::Carry { back, .. } => self.carry(*back, out),
+            LineHead::Return { moment, back, .. } => self.take_back(*moment, *back, out),
+            LineHead::Done { moment, time, .. } => self.done_line(*moment, *time, out),
         }
     }
 
     /// A line, if it can be applied; `Stop::Line` where it can't, and then nothing was done.
-    pub fn attempt(&mut self, line: &Line, out: &mut ArrayVec<Event, 4>) -> Result<(), Stop>
+    pub fn attempt(
+        &mut self,
+        line: &LineHead,
+        bytes: &[u8],
+        out: &mut ArrayVec<Event, 4>,
+    ) -> Result<(), Stop>
         requires stands { ∥ StandsForSome D.told self.old ∥₁ }
-        requires lawful { IsLawfulLine line.now }
+        requires lawful { IsLawfulLine (line_with bytes.now line.now) }
+        requires room { CanHoldLine line.now bytes.now }
         requires out { length out.old.items ≤ 0 }
-        ensures attempts { Attempts D.told self.old self.new line.now out.old.items out.new.items result }
+        ensures attempts { Attempts D.told self.old self.new (line_with bytes.now line.now) out.old.items out.new.items result }
         ensures serve { DisksServe D.told self.old self.new result }
         ensures row { self.new.row ≡ self.old.row }
     {
-        if !self.is_timely(line) {
+        if !self.is_timely(line, bytes) {
             return Err(Stop::Line);
         }
-        self.run(line, out)
+        self.run(line, bytes, out)
     }
 
     /// A line of the script: what it prints is all that is in the list after it, and whether it stops
     /// the session.
-    pub fn apply(&mut self, line: &Line, out: &mut ArrayVec<Event, 4>) -> Option<Stop>
+    pub fn apply(
+        &mut self,
+        line: &LineHead,
+        bytes: &[u8],
+        out: &mut ArrayVec<Event, 4>,
+    ) -> Option<Stop>
         requires stands { ∥ StandsForSome D.told self.old ∥₁ }
-        requires lawful { IsLawfulLine line.now }
-        ensures attempts { Attempts D.told self.old self.new line.now [] out.new.items (answer_of result) }
+        requires lawful { IsLawfulLine (line_with bytes.now line.now) }
+        requires room { CanHoldLine line.now bytes.now }
+        ensures attempts { Attempts D.told self.old self.new (line_with bytes.now line.now) [] out.new.items (answer_of result) }
         ensures serve { DisksServe D.told self.old self.new (answer_of result) }
         ensures row { self.new.row ≡ self.old.row }
     {
         out.clear();
-        self.attempt(line, out).err()
+        self.attempt(line, bytes, out).err()
     }
 }

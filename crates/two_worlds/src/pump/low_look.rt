@@ -3,6 +3,8 @@
 ghost use Rattle.std.specs.Prelude.{◌≡◌, ◌^◌, ◌≤◌, length};
 ghost use Rattle.disk_model.specs.declared.name.Role.TheVariants as roles;
 ghost use Rattle.pump_core.specs.History.{Gone};
+ghost use Rattle.low_process.specs.Looks.{row_of};
+ghost use Rattle.low_process.specs.Heads.{look_with};
 ghost use Rattle.script_reader.specs.Steps.{IsOfferedLook, IsLowLook};
 ghost use Rattle.script_reader.specs.Breaks.{IsLost};
 ghost use Rattle.two_worlds.specs.Connections.{unused};
@@ -11,11 +13,11 @@ ghost use Rattle.two_worlds.specs.Doing.{Does, NeverBreaks, NeverOverfills, Disk
 ghost use Rattle.two_worlds.specs.LowLooks.{EndsLook};
 
 use crate::applied::Stop;
-use crate::printing::print_look;
+use crate::printing::print_head;
 use crate::pump::parts::Parts;
 use arrayvec::ArrayVec;
 use disk_model::{Disk, Role};
-use low_process::{Arrival, LowLook};
+use low_process::{Arrival, LookHead, NOTHING};
 use script_reader::Event;
 
 impl<D: Disk> Parts<D> {
@@ -23,14 +25,14 @@ impl<D: Disk> Parts<D> {
     fn end_look(
         &mut self,
         moment: u64,
-        look: &LowLook,
+        head: &LookHead,
         out: &mut ArrayVec<Event, 4>,
     ) -> Result<(), Stop>
         requires out { length out.old.items ≤ 1 }
-        ensures ends { EndsLook D.told self.old self.new moment look.now out.old.items out.new.items result }
+        ensures ends { EndsLook D.told self.old self.new moment (look_with (row_of self.old.low) head.now) out.old.items out.new.items result }
     {
         self.moment = moment;
-        print_look(self.row.id, moment, look, out);
+        print_head(self.row.id, moment, &self.low, head, out);
         if self.low.is_down() {
             return Err(Stop::Device {
                 role: Role::Low,
@@ -59,11 +61,17 @@ impl<D: Disk> Parts<D> {
         ensures row { self.new.row ≡ self.old.row }
     {
         let arrival = self.connection.first();
-        let look = self
-            .low
-            .look(moment, word, arrival, &mut self.low_store, &mut self.ends);
-        self.connection.settle(look.taken);
-        self.end_look(moment, &look, out)
+        let mut head = NOTHING;
+        self.low.look_into(
+            moment,
+            word,
+            arrival,
+            &mut self.low_store,
+            &mut self.ends,
+            &mut head,
+        );
+        self.connection.settle(head.taken);
+        self.end_look(moment, &head, out)
     }
 
     /// The low look of a connection that is lost: nothing waits on the new one.
@@ -78,13 +86,15 @@ impl<D: Disk> Parts<D> {
         ensures serve { DisksServe D.told self.old self.new result }
         ensures row { self.new.row ≡ self.old.row }
     {
-        let look = self.low.look(
+        let mut head = NOTHING;
+        self.low.look_into(
             moment,
             0,
             Arrival::Gone,
             &mut self.low_store,
             &mut self.ends,
+            &mut head,
         );
-        self.end_look(moment, &look, out)
+        self.end_look(moment, &head, out)
     }
 }

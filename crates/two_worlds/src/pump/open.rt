@@ -10,6 +10,7 @@ ghost use Rattle.stable_buffer.specs.Format.{size_of};
 ghost use Rattle.stable_buffer.specs.Register.{register_disk};
 ghost use Rattle.script_reader.specs.Past.{fresh};
 ghost use Rattle.two_worlds.specs.Openings.{IsCalled, IsFormatted, ComeBack};
+ghost use Rattle.two_worlds.specs.Connections.{unused};
 ghost use Rattle.two_worlds.specs.Rooms.{IsFree};
 ghost use Rattle.two_worlds.specs.Standing.{Stands, disk_at};
 
@@ -36,6 +37,7 @@ const RECEIVER_SIZE: u64 = 16_777_216;
 // All memory that a pump takes.
 #[derive(Drop)]
 struct Memory {
+    connection: Connection,
     ends: PlainEnds,
     sent: HeapCircularBuffer<Item>,
     returned: HeapCircularBuffer<u64>,
@@ -43,12 +45,14 @@ struct Memory {
 
 fn reserve(alloc: Global, row: &SessionRow) -> Result<Memory, OutOfMemory>
     requires lawful { IsLawfulRow row.now }
+    ensures connection { IfOk result (λ memory. memory.connection ≡ unused) }
     ensures ends { IfOk result (λ memory. EndsStand memory.ends new_low new_high) }
     ensures shape { IfOk result (λ memory. shape_of memory.ends ≡ shape_of_row row.now) }
     ensures sent { IfOk result (λ memory. memory.sent ≡ buffer [] 64) }
     ensures returned { IfOk result (λ memory. memory.returned ≡ buffer [] 64) }
 {
     Ok(Memory {
+        connection: Connection::new(alloc)?,
         ends: PlainEnds::new(alloc, row)?,
         sent: HeapCircularBuffer::with_capacity(alloc, PACKETS)?,
         returned: HeapCircularBuffer::with_capacity(alloc, PACKETS)?,
@@ -60,6 +64,7 @@ impl<D: Disk> Parts<D> {
     fn assemble(row: &SessionRow, memory: Memory, registers: Registers<D>) -> Parts<D>
         requires tells { D.told.tells }
         requires lawful { IsLawfulRow row.now }
+        requires connection { memory.connection ≡ unused }
         requires ends { EndsStand memory.ends new_low new_high }
         requires shape { shape_of memory.ends ≡ shape_of_row row.now }
         requires sent { memory.sent ≡ buffer [] 64 }
@@ -75,7 +80,7 @@ impl<D: Disk> Parts<D> {
     {
         Parts {
             row: *row,
-            connection: Connection::new(),
+            connection: memory.connection,
             low: LowProcess::open(row, 0, None),
             low_store: LowStore::over(registers.low, row),
             ends: memory.ends,

@@ -1,22 +1,46 @@
-use Rattle.std.proofs.Common.{◌^◌, sym, arith}
+use Rattle.std.proofs.Common.{◌≡◌, ◌^◌, ◌+◌, List, ℕ, Some, take, inl, inr, arith, ap, ◌∙◌, subst}
+use Rattle.std.specs.Str.Parse.{AllDigits, digits_value}
 use Rattle.std.proofs.lemmas.Bool.{iff_false}
-use Rattle.std.specs.Str.Parse.{ParsesUnsigned}
-use Rattle.script_reader.proofs.FieldLaws.{number_unplain, number_untext, number_unparsed, parsed_is, number_again}
+use Rattle.std.proofs.lemmas.List.{take_all}
+use Rattle.std.proofs.lemmas.Str.{digit_value_digit}
+use Rattle.std.proofs.lemmas.Int.Digits.{digits_more, digits_value_more}
+use Rattle.script_reader.proofs.FieldLaws.{number_unplain, number_undigit, number_large, number_written}
 use Rattle.script_reader.proofs.fields.any_number_of.Goals as goal
 
 pub returns-then-not-is_plain : goal.returns-then-not-is_plain
 returns-then-not-is_plain c = number_unplain (2 ^ 64) c.args.field.now (omega arith) (iff_false c.is_plain.ensures c.if-not-is_plain.true)
 
-pub returns-in_default : goal.returns-in_default
-returns-in_default c = number_untext (2 ^ 64) c.args.field.now (omega arith) c.in_default.ensures.cases.0
+pub returns-then-not-is_ascii_digit : goal.returns-then-not-is_ascii_digit
+returns-then-not-is_ascii_digit c = number_undigit c.args.field.now c.digits.i (omega arith) (λ r.
+    elim c.if-not-is_ascii_digit.ensures.cases [
+      | inl low ↦ absurd (omega (arith, r.0, low))
+      | inr high ↦ absurd (omega (arith, r.1, high))
+    ])
 
-pub returns-in_default-parse : goal.returns-in_default-parse
-returns-in_default-parse c =
-    let parses : ParsesUnsigned 64 10 c.args.field.now c.parse.result = rw c.in-Ok.ensures.cases.0 at c.parse.ensures.value.0 in
-    number_unparsed (2 ^ 64) c.args.field.now c.parse.result c.in_default-parse.field-0 (omega arith) parses c.in_default-parse.is
+pub returns-in_default : goal.returns-in_default
+returns-in_default c =
+    let more = digits_value_more 10 c.args.field.now c.digits.i (omega arith) in
+    number_large c.args.field.now (c.digits.i + 1) (omega (arith, more, c.digits.invariant.1, c.in_default.ensures))
+
+pub returns-in_default-checked_add : goal.returns-in_default-checked_add
+returns-in_default-checked_add c =
+    let more = digits_value_more 10 c.args.field.now c.digits.i (omega arith) in
+    let digit = digit_value_digit _ c.if-not-is_ascii_digit.ensures.cases in
+    number_large c.args.field.now (c.digits.i + 1) (omega (arith, more, digit, c.digits.invariant.1, c.in-Some.ensures, c.from.ensures, c.in_default-checked_add.ensures))
+
+pub digits-preserved : goal.digits-preserved
+digits-preserved c =
+    let more = digits_value_more 10 c.args.field.now c.digits.i (omega arith) in
+    let k = c.if-not-is_ascii_digit.ensures in
+    let digit = digit_value_digit _ k.cases in (
+      digits_more 10 c.args.field.now c.digits.i (omega arith) c.digits.invariant.0 k.bound,
+      omega (arith, more, digit, c.digits.invariant.1, c.in-Some.ensures, c.from.ensures, c.in-Some-checked_add.ensures),
+      omega (arith, c.in-Some-checked_add.ensures),
+    )
 
 pub returns : goal.returns
 returns c =
-    let parses : ParsesUnsigned 64 10 c.args.field.now c.parse.result = rw c.in-Ok.ensures.cases.0 at c.parse.ensures.value.0 in
-    let p = parsed_is c.args.field.now c.parse.result c.in-Ok-parse.n parses c.in-Ok-parse.is (c.is_plain.ensures.0 c.if-not-is_plain.false) in
-    rw p.0 (sym (number_again (2 ^ 64) c.in-Ok-parse.n p.1 (omega arith)))
+    let whole : take c.digits.i c.args.field.now ≡ c.args.field.now = take_all c.digits.i c.args.field.now (omega arith) in
+    let all = subst (λ (f : List ℕ). AllDigits 10 f) whole c.digits.invariant.0 in
+    let value : c.digits.n ≡ digits_value 10 c.args.field.now = c.digits.invariant.1 ∙ ap (digits_value 10) whole in
+    ap Some value ∙ number_written c.args.field.now (c.is_plain.ensures.0 c.if-not-is_plain.false) all (omega (arith, value, c.digits.invariant.2))

@@ -1,45 +1,4 @@
-use Rattle.std.proofs.Common.{◌≡◌, Bool, false, sym, ◌∙◌}
-use Rattle.low_process.specs.Looks.{arrival_of, is_down, StandsFor, AsksFor}
-use Rattle.low_process.proofs.Looking.{look_from}
 use Rattle.low_process.proofs.process.LowProcess.look.Goals as goal
 
-goes_on : (b c e : Bool) → b ≡ false → c ≡ false → b ≡ e → c ≡ e
-goes_on b c e is_up stays falls = stays ∙ sym is_up ∙ falls
-
-pub returns-in-Forward-clause-looks : goal.returns-in-Forward-clause-looks
-returns-in-Forward-clause-looks g c =
-    let a = arrival_of c.args.arrival in
-    let r = c.begin.new.self in
-    let begun = c.in-Forward.ensures.begins in
-    let d = begun.0 in
-    let step = begun.1 in
-    let up : is_down r ≡ false = c.in-Forward.ensures.hand.3 in (
-      d,
-      record {
-        looks = look_from (λ h. AsksFor r h c.args.moment c.args.word a d) (StandsFor c.args.self.now) _ _ _ _ _
-            c.begin.ensures.row step.begins.1 (c.offer_hand.ensures.looks c.args.moment c.args.word a d);
-        keeps = step.keeps;
-        count = c.offer_hand.ensures.next ∙ step.count;
-        falls = goes_on (is_down r) (is_down c.offer_hand.new.self) _ up c.offer_hand.ensures.up step.falls;
-        refuses = λ e. (let none = sym c.offer_hand.ensures.reply ∙ e in absurd (cc));
-      },
-    )
-
-pub returns-in-Average-clause-looks : goal.returns-in-Average-clause-looks
-returns-in-Average-clause-looks g c =
-    let a = arrival_of c.args.arrival in
-    let r = c.begin.new.self in
-    let begun = c.in-Average.ensures.begins in
-    let d = begun.0 in
-    let step = begun.1 in
-    let up : is_down r ≡ false = c.in-Average.ensures.hand.2 in (
-      d,
-      record {
-        looks = look_from (λ h. AsksFor r h c.args.moment c.args.word a d) (StandsFor c.args.self.now) _ _ _ _ _
-            c.begin.ensures.row step.begins.1 (c.finish.ensures.looks c.args.moment c.args.word a d);
-        keeps = step.keeps;
-        count = c.finish.ensures.next ∙ step.count;
-        falls = goes_on (is_down r) (is_down c.finish.new.self) _ up c.finish.ensures.up step.falls;
-        refuses = λ e. (let none = sym c.finish.ensures.reply ∙ e in absurd (cc));
-      },
-    )
+pub returns-clause-ends : goal.returns-clause-ends
+returns-clause-ends g c = rw c.whole.ensures c.look_into.ensures.ends

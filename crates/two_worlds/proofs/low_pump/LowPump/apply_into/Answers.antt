@@ -1,28 +1,12 @@
-use Rattle.std.proofs.Common.{◌≡◌, Bool, true, List}
-use Rattle.script_reader.specs.declared.event.Event.{Event}
-use Rattle.script_reader.specs.Tolds.{LowPast, is_timely_low, IsBarredLow, StepLow}
-use Rattle.two_worlds.specs.LowPumps.{low_row_of}
-use Rattle.two_worlds.proofs.LowPumpLines.{applies_low, down_after, still_holds}
+use Rattle.std.proofs.Common.{◌≡◌, subst}
+use Rattle.script_reader.specs.declared.line.Line.{Line}
+use Rattle.script_reader.specs.Tolds.{LowPast}
+use Rattle.script_reader.specs.Heads.{line_with}
+use Rattle.two_worlds.specs.LowPumps.{LowStandsFor, AppliesLow}
 use Rattle.two_worlds.proofs.low_pump.LowPump.apply_into.Goals as goal
 
-pub invariant_of-self : goal.invariant_of-self
-invariant_of-self c =
-    let s = c.args.self.now in
-    let line = c.args.line.now in
-    record {
-      stands = still_holds s.parts c.apply.new.self (λ p. IsBarredLow (low_row_of s) p line)
-          (λ (p : LowPast) (is_fault : Bool) (q : LowPast) (printed : List Event). (is_timely_low (low_row_of s) p line ≡ true) × StepLow (low_row_of s) p line is_fault q printed)
-          c.apply.new.out.items c.apply.result (s.stands c.requires.up) c.apply.ensures.ends;
-    }
-
 pub returns-clause-applies : goal.returns-clause-applies
-returns-clause-applies c = λ p was.
-    applies_low c.args.self.now _ c.args.line.now p c.apply.new.out.items c.apply.result (c.apply.ensures.ends p was)
-
-pub returns-clause-down : goal.returns-clause-down
-returns-clause-down c =
-    let s = c.args.self.now in
-    let line = c.args.line.now in
-    down_after s.parts c.apply.new.self (λ p. IsBarredLow (low_row_of s) p line)
-    (λ (p : LowPast) (is_fault : Bool) (q : LowPast) (printed : List Event). (is_timely_low (low_row_of s) p line ≡ true) × StepLow (low_row_of s) p line is_fault q printed)
-    c.apply.new.out.items c.apply.result (s.stands c.requires.up) c.apply.ensures.ends
+returns-clause-applies c =
+    let e : line_with c.bytes.result.now c.head.result ≡ c.args.line.now = rw c.bytes.ensures c.head.ensures.value in
+    subst (λ (line : Line). (p : LowPast) → LowStandsFor c.args.self.now p
+    → AppliesLow c.args.self.now c.apply_head.new.self line p c.apply_head.new.events.items c.apply_head.result) e c.apply_head.ensures.applies

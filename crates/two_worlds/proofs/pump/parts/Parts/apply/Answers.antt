@@ -1,3 +1,4 @@
+use Rattle.script_reader.specs.Heads.{line_with}
 use Rattle.std.proofs.Common.{subst, List, Result}
 use Rattle.script_reader.specs.declared.event.Event.{Event}
 use Rattle.two_worlds.specs.declared.applied.Stop.{Stop}
@@ -7,5 +8,5 @@ use Rattle.two_worlds.proofs.pump.parts.Parts.apply.Goals as goal
 
 pub returns-clause-attempts : goal.returns-clause-attempts
 returns-clause-attempts g c =
-    subst (λ (t : List Event × Result (Unit {0}) Stop). Attempts g.D.Disk.told c.args.self.now c.attempt.new.self c.args.line.now t.0 c.attempt.new.out.items t.1)
+    subst (λ (t : List Event × Result (Unit {0}) Stop). Attempts g.D.Disk.told c.args.self.now c.attempt.new.self (line_with c.args.bytes.now c.args.line.now) t.0 c.attempt.new.out.items t.1)
     (λ i. (c.clear.ensures i, answer_is c.attempt.result c.err.result c.err.ensures.value i)) c.attempt.ensures.attempts

@@ -13,7 +13,7 @@ returns-clause-stands g c =
     let recv = c.requires.recv.1 in
     starts m _ (record {
       row = c.requires.lawful;
-      connection = c.new.ensures;
+      connection = c.requires.connection;
       history = c.open.ensures.first;
       low_between = c.open.ensures.between;
       low_row_is = c.open.ensures.row;

@@ -1,9 +1,12 @@
-use Rattle.std.proofs.Common.{refl, sym, ap, ◌∙◌}
+use Rattle.std.proofs.Common.{◌≡◌, ◌++◌, subst, refl, sym, ap, ◌∙◌}
 use Rattle.std.specs.Prelude.{◌&&◌, ◌||◌}
 use Rattle.pump_core.specs.History.{Arrival}
 use Rattle.script_reader.specs.Lows.{is_bad, first_of}
 use Rattle.two_worlds.specs.Connections.{waits_of, is_broken_of, reading_of}
-use Rattle.low_process.specs.Looks.{arrival_of}
+use Rattle.low_process.specs.Looks.{arrival_of, row_of}
+use Rattle.pump_frame.specs.declared.row.SessionRow.{SessionRow}
+use Rattle.low_process.specs.Heads.{look_with}
+use Rattle.two_worlds.specs.Printing.{look_prints}
 use Rattle.two_worlds.specs.declared.pump.parts.Parts.{Parts}
 use Rattle.two_worlds.proofs.PartsReady.{low_has_store}
 use Rattle.two_worlds.proofs.PartsEnds.{low_between, low_order, low_seen, high_seen, ends_seen, low_fits_seen}
@@ -12,17 +15,17 @@ use Rattle.two_worlds.proofs.LowServes.{low_serves}
 use Rattle.two_worlds.proofs.LowDoes.{offered_does}
 use Rattle.two_worlds.proofs.pump.parts.Parts.look_first.Goals as goal
 
-pub look-look-requires-clause-between : goal.look-look-requires-clause-between
-look-look-requires-clause-between g c = low_between g.D.Disk.told c.args.self.now c.requires.stands
+pub look_into-requires-clause-between : goal.look_into-requires-clause-between
+look_into-requires-clause-between g c = low_between g.D.Disk.told c.args.self.now c.requires.stands
 
-pub look-look-requires-clause-order : goal.look-look-requires-clause-order
-look-look-requires-clause-order g c = low_order g.D.Disk.told c.args.self.now c.requires.stands c.args.moment c.requires.order
+pub look_into-requires-clause-order : goal.look_into-requires-clause-order
+look_into-requires-clause-order g c = low_order g.D.Disk.told c.args.self.now c.requires.stands c.args.moment c.requires.order
 
-pub look-look-requires-clause-store : goal.look-look-requires-clause-store
-look-look-requires-clause-store g c = λ up. low_has_store g.D.Disk.told c.args.self.now c.requires.stands
+pub look_into-requires-clause-store : goal.look_into-requires-clause-store
+look_into-requires-clause-store g c = λ up. low_has_store g.D.Disk.told c.args.self.now c.requires.stands
 
-pub look-look-requires-clause-ends : goal.look-look-requires-clause-ends
-look-look-requires-clause-ends g c =
+pub look_into-requires-clause-ends : goal.look_into-requires-clause-ends
+look_into-requires-clause-ends g c =
     let m = g.D.Disk.told in
     let s = c.args.self.now in
     let some = c.requires.stands in
@@ -32,9 +35,10 @@ pub returns : goal.returns
 returns g c =
     let m = g.D.Disk.told in
     let s = c.args.self.now in
-    let n = c.look-look.new in
-    let l = c.look-look.result in
-    let e = c.look-look.ensures in
+    let n = c.look_into.new in
+    let head = c.look_into.new.head in
+    let l = look_with (row_of s.low) head in
+    let e = c.look_into.ensures in
     let a = arrival_of c.first-arrival.result in
     let end = c.end_look.ensures.ends in
     let now = c.end_look.new in
@@ -55,7 +59,7 @@ returns g c =
     let so = looked_as m s d now.self c.args.moment c.args.word a e.looks.0 l end.rest did in
     let stop = stops_as m d now.self c.end_look.result end.rest end.stop in
     record {
-      does = λ p stands. offered_does m s now.self c.args.moment c.args.word a l c.requires.order c.args.out.now.items now.out.items end.prints p stands e.looks.0 c.end_look.result
+      does = λ p stands. offered_does m s now.self c.args.moment c.args.word a l c.requires.order c.args.out.now.items now.out.items (subst (λ (r : SessionRow). now.out.items ≡ c.args.out.now.items ++ look_prints s.row.id c.args.moment (look_with r head)) e.row end.prints) p stands e.looks.0 c.end_look.result
           (c.first-arrival.ensures.offered ∙ (λ i. first_of (stands.broken i) (stands.waits i))) so stop;
       serve = low_serves m s now.self c.args.moment c.args.word a e.looks.0 l so c.requires.stands c.end_look.result stop;
       row = row_as s d now.self end.rest refl;

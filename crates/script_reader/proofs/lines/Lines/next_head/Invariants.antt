@@ -1,7 +1,7 @@
 use Rattle.std.proofs.Common.{◌≡◌, ◌-◌, ◌≤◌, length}
 use Rattle.std.specs.Io.KnownBytes.{Keeps}
 use Rattle.script_reader.specs.Lines.{to_come, IsReady}
-use Rattle.script_reader.proofs.lines.Lines.next.Given as goal
+use Rattle.script_reader.proofs.lines.Lines.next_head.Given as goal
 
 abbrev pub invariant-turns : goal.invariant-turns
 invariant-turns g l = Keeps (to_come l.fn.self (g.I.Source.left l.fn.script)) (to_come l.self (g.I.Source.left l.script))

@@ -1,0 +1,47 @@
+use Rattle.std.proofs.Common.{◌≡◌, ap, inl, refl, ◌∙◌, sym, arith}
+use Rattle.script_reader.specs.Lines.{IsUnended}
+use Rattle.script_reader.specs.Heads.{lined_with}
+use Rattle.script_reader.proofs.LineEnds.{not_ended, too_long, bad_come, unready, Keeps-then}
+use Rattle.script_reader.proofs.NextLaws.{first_next, last_next}
+use Rattle.script_reader.proofs.lines.Lines.next_head.Goals as goal
+
+pub returns-in-Some-clause-next : goal.returns-in-Some-clause-next
+returns-in-Some-clause-next g c =
+    first_next c.args.self.now c.turns.self c.first.new.self _ _ c.in-Some.len (lined_with c.first.new.body c.first.result) c.turns.invariant.0 c.turns.invariant.1
+    (rw (← c.held.ensures.held) c.held.ensures.short) (rw (← c.held.ensures.held) (sym c.line_end.ensures ∙ c.in-Some.is)) c.first.ensures.first
+
+pub returns-then-held-gt2400-clause-next : goal.returns-then-held-gt2400-clause-next
+returns-then-held-gt2400-clause-next g c =
+    let unended : IsUnended c.turns.self.held = rw (← c.held.ensures.held) (not_ended c.held.result.now (sym c.line_end.ensures ∙ c.in_default.is)) in
+    rw c.refuse.ensures (
+      c.turns.invariant.0,
+      inl (bad_come _ _ c.turns.self.held c.turns.invariant.0 (λ more. too_long c.turns.self.held more unended (rw (← c.held-in-turns.ensures.held) c.if-held-gt2400.true))),
+      rw c.turns.invariant.1 refl,
+      rw (← c.held.ensures.held) c.held.ensures.short,
+    )
+
+pub returns-in-Ok-eq0-clause-next : goal.returns-in-Ok-eq0-clause-next
+returns-in-Ok-eq0-clause-next g c =
+    let fill = c.in-Ok-eq0.ensures in
+    let same : c.fill.new.self.held ≡ c.turns.self.held = fill.same c.in-Ok-eq0.field-0-test in
+    let unended : IsUnended c.fill.new.self.held = rw (same, ← c.held.ensures.held) (not_ended c.held.result.now (sym c.line_end.ensures ∙ c.in_default.is)) in
+    last_next c.args.self.now c.fill.new.self c.last.new.self _ _ (lined_with c.turns.body c.last.result) (Keeps-then _ _ _ c.turns.invariant.0 fill.kept) (fill.number ∙ c.turns.invariant.1) (fill.end c.in-Ok-eq0.field-0-test) unended fill.room
+    (λ none. (ap (lined_with c.turns.body) (c.last.ensures.end none).0, (c.last.ensures.end none).1))
+    (λ some. (ap (lined_with c.turns.body) (c.last.ensures.bad some).0, (c.last.ensures.bad some).1))
+
+pub returns-in-Ok-eq0-clause-unasked : goal.returns-in-Ok-eq0-clause-unasked
+returns-in-Ok-eq0-clause-unasked g c =
+    λ ready. absurd (unready c.turns.self.held (rw (← c.held.ensures.held) (sym c.line_end.ensures ∙ c.in_default.is)) (rw (← c.held-in-turns.ensures.held) c.if-held-gt2400.false) (rw ((c.turns.invariant.3 ready).0) ready))
+
+pub returns-in-Err-clause-unasked : goal.returns-in-Err-clause-unasked
+returns-in-Err-clause-unasked g c =
+    λ ready. absurd (unready c.turns.self.held (rw (← c.held.ensures.held) (sym c.line_end.ensures ∙ c.in_default.is)) (rw (← c.held-in-turns.ensures.held) c.if-held-gt2400.false) (rw ((c.turns.invariant.3 ready).0) ready))
+
+pub turns-preserved : goal.turns-preserved
+turns-preserved g c =
+    let fill = c.in-Ok.ensures in (
+      Keeps-then _ _ _ c.turns.invariant.0 fill.kept,
+      fill.number ∙ c.turns.invariant.1,
+      omega (arith, c.turns.invariant.2, fill.cause.later),
+      λ ready. absurd (unready c.turns.self.held (rw (← c.held.ensures.held) (sym c.line_end.ensures ∙ c.in_default.is)) (rw (← c.held-in-turns.ensures.held) c.if-held-gt2400.false) (rw ((c.turns.invariant.3 ready).0) ready)),
+    )

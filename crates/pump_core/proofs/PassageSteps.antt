@@ -53,11 +53,11 @@ never_fall_snoc (q ∷ qs) p h le = (all_snoc (λ r. q.0 ≤ r.0) qs p h.0 (all_
 
 -- a pair stays an average of a beginning where times are added
 pub average_stays : (s : Shape) (times : List ℕ) (t : ℕ) (p : ℕ × ℕ) → IsAverage s times p → IsAverage s (times ++ t ∷ []) p
-average_stays s times t p h = (le_trans h.0 (longer times t), h.1 ∙ ap (average_of s.window s.start) (sym (take-append-le p.0 times (t ∷ []) h.0)))
+average_stays s times t p h = (le_trans h.0 (longer times t), h.1 ∙ ap (average_of s.averaging) (sym (take-append-le p.0 times (t ∷ []) h.0)))
 
 -- what is published is the average of all times
-pub average_now : (s : Shape) (times : List ℕ) (k a : ℕ) → k ≡ length times → a ≡ average_of s.window s.start times → IsAverage s times (k, a)
-average_now s times k a e h = (omega (arith, e), h ∙ ap (average_of s.window s.start) (sym (take_all k times (omega (arith, e)))))
+pub average_now : (s : Shape) (times : List ℕ) (k a : ℕ) → k ≡ length times → a ≡ average_of s.averaging times → IsAverage s times (k, a)
+average_now s times k a e h = (omega (arith, e), h ∙ ap (average_of s.averaging) (sym (take_all k times (omega (arith, e)))))
 
 module _ (s : Shape) (l : Low) (h : High) (a : Agrees s l h) where
   pub forwards_agrees : (x : Item) → ComesNext l.forwarded x.number → Agrees s (forwards l x) h

@@ -2,19 +2,18 @@
 -- one call of an end leaves.
 use Rattle.std.specs.Prelude.{◌≡◌, ℕ, ◌+◌, ◌-◌, ◌<◌, ◌≤◌, Bool, true, List, [], ◌∷◌, ◌++◌, length, take}
 use Rattle.std.specs.List.{All}
-use Rattle.pump_frame.specs.Averages.{average_of}
+use Rattle.pump_frame.specs.Averages.{Averaging, averaging_of, average_of}
 use Rattle.pump_frame.specs.declared.frame.Item.{Item}
 use Rattle.pump_frame.specs.declared.row.SessionRow.{SessionRow}
 
--- how many items fit into it; how many times are averaged; the average before the first time
+-- how many items fit into it, and how times are averaged in it
 pub record Shape : Type 0 where
   pub places : ℕ
-  pub window : ℕ
-  pub start : ℕ
+  pub averaging : Averaging
 
 -- the passage of a session: two of its messages are in the hands of the processes
 abbrev pub shape_of_row : SessionRow → Shape
-shape_of_row row = record { places = row.capacity - 2; window = row.window; start = row.start }
+shape_of_row row = record { places = row.capacity - 2; averaging = averaging_of row }
 
 -- what a low end did: the items forwarded; its tries that found no room, each with the number
 -- forwarded and the number taken up; the pairs of count and average that it read
@@ -60,7 +59,7 @@ NeverFall (p ∷ ps) = All (λ q. p.0 ≤ q.0) ps × NeverFall ps
 
 -- the pair is a count of times, and the average of the first so many
 abbrev pub IsAverage : Shape → List ℕ → ℕ × ℕ → Type 0
-IsAverage s times p = (p.0 ≤ length times) × (p.1 ≡ average_of s.window s.start (take p.0 times))
+IsAverage s times p = (p.0 ≤ length times) × (p.1 ≡ average_of s.averaging (take p.0 times))
 
 -- the law of the two ends of one passage: what was taken up is the beginning of what was forwarded
 pub record Agrees (s : Shape) (l : Low) (h : High) : Type 0 where
@@ -116,7 +115,7 @@ module _ (s : Shape) (exact : Bool) (after : Low → High → Type 0) (l : Low) 
   abbrev pub Reads : ℕ → ℕ → Type 0
   Reads count average =
       All (λ p. p.0 ≤ count) l.pairs
-      × (exact ≡ true → (count ≡ length h.times) × (average ≡ average_of s.window s.start h.times))
+      × (exact ≡ true → (count ≡ length h.times) × (average ≡ average_of s.averaging h.times))
       × after (read_pair l count average) h
 
   -- the item was taken up

@@ -2,7 +2,7 @@
 -- them. Of the low side all lists have their newest entry first.
 use Rattle.std.specs.Prelude.{◌≡◌, ℕ, ◌-◌, ◌^◌, ◌≤◌, min, nat_lt, ◌==◌, if◌then◌else◌, Bool, true, false, List, [], ◌∷◌, ◌++◌, length, Option, Some, None}
 use Rattle.pump_frame.specs.declared.row.SessionRow.{SessionRow}
-use Rattle.pump_frame.specs.Averages.{average_of}
+use Rattle.pump_frame.specs.Averages.{averaging_of, average_of}
 use Rattle.pump_core.specs.declared.feedback.Seen.{Seen}
 use Rattle.pump_core.specs.declared.feedback.Feedback.{Feedback}
 use Rattle.pump_core.specs.declared.feedback.Feedback.TheVariants.{Quiet, Full, Passed, Released, Repeat}
@@ -94,7 +94,7 @@ offered w _ = if length w.held == w.capacity - 2 then Full else Released
 
 -- what a read gives: how many times were published, and their average
 abbrev pub seen : SessionRow → List ℕ → Seen
-seen row times = record { count = length times; average = average_of row.window row.start times }
+seen row times = record { count = length times; average = average_of (averaging_of row) times }
 
 -- a read after an offer makes the look Passed, and alone it makes it Repeat
 abbrev pub with_read : Seen → Feedback → Feedback

@@ -1,6 +1,6 @@
 -- What a session has been through, when a script has run so far.
 use Rattle.std.specs.Prelude.{ℕ, ◌==◌, Bool, false, if◌then◌else◌, List, [], ◌∷◌, length, Option, Some, None}
-use Rattle.pump_frame.specs.Averages.{average_of}
+use Rattle.pump_frame.specs.Averages.{averaging_of, average_of}
 use Rattle.pump_frame.specs.Readings.{Reading, Within}
 use Rattle.pump_frame.specs.declared.row.SessionRow.{SessionRow}
 use Rattle.pump_core.specs.declared.feedback.Seen.{Seen}
@@ -47,7 +47,7 @@ fresh row = record {
 
 -- what a read of High's times gives: how many were published, and their average
 abbrev pub pair : SessionRow → Past → Seen
-pair row p = record { count = length p.times; average = average_of row.window row.start p.times }
+pair row p = record { count = length p.times; average = average_of (averaging_of row) p.times }
 
 -- the moment of the last sending of message n
 abbrev pub last_sending : ℕ → List Sending → Option ℕ

@@ -115,7 +115,7 @@ module _ {D : Type 0} (m : Meaning D) (c d : Parts D) (p : Past) (moment word : 
   seen : seen_of c.ends stands.ends.high ≡ pair row p
   seen = (λ i. record {
     count = length (stands.ends.times i);
-    average = average_of ((stands.ends.shape i).window) ((stands.ends.shape i).start) (stands.ends.times i);
+    average = average_of ((stands.ends.shape i).averaging) (stands.ends.times i);
   }) ∙ ap (λ (r : SessionRow). pair r p) (sym row_is)
 
   head : LookHead (length p.world.held == row.capacity - 2) (pair row p) l.feedback

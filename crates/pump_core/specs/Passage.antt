@@ -23,11 +23,13 @@ pub record Low : Type 0 where
   pub pairs : List (ℕ × ℕ)
 
 -- what a high end did: the items taken up; one above the number removed at the last of them, or 0;
--- the times published; its tries that found nothing, each with the number forwarded and taken up
+-- the times published, and beside each the number taken up when it was published; its tries that found
+-- nothing, each with the number forwarded and taken up
 pub record High : Type 0 where
   pub taken : List Item
   pub floor : ℕ
   pub times : List ℕ
+  pub taken_before : List ℕ
   pub tries : List (ℕ × ℕ)
 
 -- an end that did nothing yet
@@ -35,7 +37,7 @@ abbrev pub new_low : Low
 new_low = record { forwarded = []; tries = []; pairs = [] }
 
 abbrev pub new_high : High
-new_high = record { taken = []; floor = 0; times = []; tries = [] }
+new_high = record { taken = []; floor = 0; times = []; taken_before = []; tries = [] }
 
 -- the items have the numbers from `first` on
 abbrev pub Numbered : ℕ → List Item → Type 0
@@ -69,6 +71,8 @@ pub record Agrees (s : Shape) (l : Low) (h : High) : Type 0 where
   pub never_fall : NeverFall l.pairs
   pub low_tries : All (λ t. t.1 ≤ length h.taken) l.tries
   pub high_tries : All (λ t. t.0 ≤ length l.forwarded) h.tries
+  pub each_time : length h.taken_before ≡ length h.times
+  pub before : All (λ n. n ≤ length h.taken) h.taken_before
 
 -- .. and no more is in between than has room
 pub record Fits (s : Shape) (l : Low) (h : High) : Type 0 where
@@ -93,7 +97,10 @@ abbrev pub sought : High → ℕ → High
 sought h forwarded = record h { tries = h.tries ++ (forwarded, length h.taken) ∷ [] }
 
 abbrev pub publishes : High → ℕ → High
-publishes h micros = record h { times = h.times ++ micros ∷ [] }
+publishes h micros = record h {
+  times = h.times ++ micros ∷ [];
+  taken_before = h.taken_before ++ length h.taken ∷ [];
+}
 
 -- What one call leaves. `after` is what the end stands for at the return, and `exact` says that
 -- both ends are on one thread, so that the call sees the other end as it is.

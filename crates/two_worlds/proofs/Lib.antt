@@ -5,7 +5,6 @@ pub mod Carries
 pub mod CarryServes
 pub mod Coming
 pub mod Crashes
-pub mod CutsFit
 pub mod DisksTogether
 pub mod DoesMore
 pub mod DoneLines

@@ -19,7 +19,6 @@ pub mod HighReturning
 pub mod HighSendings
 pub mod HighServes
 pub mod HighStanding
-pub mod HighTimes
 pub mod Joining
 pub mod LineRuns
 pub mod LinesApplied

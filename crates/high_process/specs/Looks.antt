@@ -8,8 +8,8 @@ use Rattle.high_process.specs.declared.values.Asking.{Asking}
 use Rattle.high_process.specs.declared.values.Sent.{Sent}
 use Rattle.high_process.specs.declared.values.Task.{Task}
 use Rattle.high_process.specs.declared.process.HighProcess.{HighProcess}
-use Rattle.high_process.specs.Tasks.{expected_of}
-use Rattle.high_process.specs.Past.{Past, Sending, last_sending, first_sending, begun, removed_in, published_in, wants, taken_up, finished, sent_in}
+use Rattle.pump_core.specs.Sendings.{Sending, last_sending, first_sending, expected}
+use Rattle.high_process.specs.Past.{Past, begun, removed_in, published_in, wants, taken_up, finished, sent_in}
 use Rattle.high_process.specs.States.{State, state_of, first_sent, last_sent}
 use Rattle.high_process.specs.Ends.{IsTime, told_time, Takes}
 
@@ -64,7 +64,7 @@ pub record Asked (p q : HighProcess) (ask : HighAsk) : Type 0 where
   pub asking : Asking
   pub asks : q.asking ≡ Some asking
   pub wants : asking.wants ≡ ask.wants
-  pub floor : ask.wants ≡ true → ask.removed ≡ expected_of p.removed p.hand
+  pub floor : ask.wants ≡ true → ask.removed ≡ expected p.removed p.hand
   pub publish : IfSome ask.publish (IsTime p.published)
 
 -- a look: what the process and its end stood for, they stand for after it with its steps. `after` is

@@ -6,7 +6,7 @@ use Rattle.std.proofs.lemmas.Option.{slice_get_within, get_or_from_slice_get}
 use Rattle.circular_buffer.specs.Buffer.{buffer}
 use Rattle.pump_frame.specs.Averages.{average_of}
 use Rattle.pump_frame.specs.declared.frame.Item.{Item}
-use Rattle.moving_avg.specs.Windows.{HoldsTimes, window_of, start_of}
+use Rattle.moving_avg.specs.Windows.{HoldsTimes, averaging_in}
 use Rattle.pump_core.specs.Passage.{Shape, Low, High, ComesNext, IsAverage, Agrees, Fits, forwards, tried, takes, sought, publishes, Passes, Refuses, Reads, Gives, GivesNone}
 use Rattle.pump_core.proofs.PassageSteps.{all_weaken, average_now, forwards_agrees, tried_agrees, reads_agrees, takes_agrees, sought_agrees, publishes_agrees}
 use Rattle.passage.specs.declared.plain.PlainEnds.{PlainEnds}
@@ -21,7 +21,7 @@ fits_in s l h held a is le = record { agrees = a; room = omega (arith, ap length
 
 module _ (e e' : PlainEnds) (l : Low) (h : High) (same : e'.window ≡ e.window) (s : StandsFor e l h) where
   same_shape : e'.items.capacity ≡ e.items.capacity → shape_of e' ≡ shape_of e
-  same_shape c = λ i. record { places = c i; window = window_of (same i); start = start_of (same i) }
+  same_shape c = λ i. record { places = c i; averaging = averaging_in (same i) }
 
   same_times : HoldsTimes e'.window h.times
   same_times = subst (λ w. HoldsTimes w h.times) (sym same) s.times
@@ -83,7 +83,7 @@ module _ (e e' : PlainEnds) (l : Low) (h : High) (same : e'.window ≡ e.window)
       )
 
 -- what is read is the average of all times, and no pair before had more of them
-pub reads : (e : PlainEnds) (l : Low) (h : High) (k v : ℕ) → StandsFor e l h → k ≡ length h.times → v ≡ average_of (window_of e.window) (start_of e.window) h.times → Reads (shape_of e) true (StandsFor e) l h k v
+pub reads : (e : PlainEnds) (l : Low) (h : High) (k v : ℕ) → StandsFor e l h → k ≡ length h.times → v ≡ average_of (averaging_in e.window) h.times → Reads (shape_of e) true (StandsFor e) l h k v
 reads e l h k v s all is =
     let up : All (λ p. p.0 ≤ k) l.pairs = all_weaken (IsAverage (shape_of e) h.times) (λ p. p.0 ≤ k) l.pairs (λ p a. omega (arith, a.0, all)) s.lawful.agrees.averages in (
       up,
@@ -96,9 +96,9 @@ reads e l h k v s all is =
     )
 
 -- a time is published
-pub published : (e e' : PlainEnds) (l : Low) (h : High) (micros : ℕ) → StandsFor e l h → e'.items ≡ e.items → window_of e'.window ≡ window_of e.window → start_of e'.window ≡ start_of e.window → HoldsTimes e'.window (h.times ++ micros ∷ []) → StandsFor e' l (publishes h micros)
-published e e' l h micros s is size start times =
-    let shape : shape_of e' ≡ shape_of e = λ i. record { places = (is i).capacity; window = size i; start = start i } in
+pub published : (e e' : PlainEnds) (l : Low) (h : High) (micros : ℕ) → StandsFor e l h → e'.items ≡ e.items → averaging_in e'.window ≡ averaging_in e.window → HoldsTimes e'.window (h.times ++ micros ∷ []) → StandsFor e' l (publishes h micros)
+published e e' l h micros s is same times =
+    let shape : shape_of e' ≡ shape_of e = λ i. record { places = (is i).capacity; averaging = same i } in
     record {
       lawful = subst (λ z. Fits z l (publishes h micros)) (sym shape) (record { agrees = publishes_agrees (shape_of e) l h s.lawful.agrees micros; room = s.lawful.room });
       between = s.between ∙ ap (λ b. h.taken ++ b.items) (sym is);

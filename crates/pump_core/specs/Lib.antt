@@ -1,6 +1,7 @@
 pub mod Comings
 pub mod Events
 pub mod Exchanges
+pub mod HighLooks
 pub mod History
 pub mod Lawful
 pub mod Pairs
@@ -8,6 +9,7 @@ pub mod Passage
 pub mod Phases
 pub mod Replies
 pub mod Runs
+pub mod Sendings
 pub mod Standing
 pub mod Step
 pub mod Thinned

@@ -20,7 +20,7 @@ pub use memory::OutOfMemory;
 pub use name::Name;
 pub use payload::Payload;
 pub use reader::{Fed, Reader};
-pub use row::{RowKey, SessionRow};
+pub use row::{GREATEST_CAPACITY, LEAST_CAPACITY, RowKey, SessionRow};
 pub use spelling::encode;
 
 #[cfg(test)]

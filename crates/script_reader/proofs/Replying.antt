@@ -13,9 +13,10 @@ use Rattle.script_reader.specs.declared.line.ToldFeedback.{ToldFeedback}
 use Rattle.script_reader.specs.declared.line.ToldFeedback.TheVariants.{Quiet as Silent}
 use Rattle.script_reader.specs.declared.event.Event.{Event}
 use Rattle.script_reader.specs.declared.event.Event.TheVariants as prints
+use Rattle.pump_core.specs.HighLooks.{has_removed}
 use Rattle.script_reader.specs.Past.{Past}
 use Rattle.script_reader.specs.Lows.{printed_store, printed_feedback, printed_replies, IsLook}
-use Rattle.script_reader.specs.Highs.{has_removed, printed_sending, IsRemoval, IsSending, IsHighLook, is_ahead, IsReturnBy, IsReturn, IsCarried, place}
+use Rattle.script_reader.specs.Highs.{printed_sending, IsRemoval, IsSending, IsHighLook, is_ahead, IsReturnBy, IsReturn, IsCarried, place}
 use Rattle.script_reader.specs.Steps.{joined, lost, GoesOn, IsDone, Step}
 use Rattle.script_reader.specs.Tolds.{LowPast, IsToldLook, joined_low, lost_low, StepLow}
 use Rattle.script_reader.specs.Scripts.{Begun, Whole, Alone, GoesOn as GoesOnBegun, Leads, LeadTo}
@@ -71,13 +72,13 @@ both p mid q first second printed a b e = record {
 removal_aside : (s : SessionRow) (p : Past) (m : ℕ) (back : Option ℕ) (q : Past) (printed : List Event) → IsRemoval s p m back q printed → Aside p q printed
 removal_aside s p m back q printed r = record {
   history = ap (λ (t : Past). t.history) r.rest;
-  low = ap low_lines r.printed_is ∙ of_removal s.id m r.answered.removed r.time (has_removed r.answered q.world);
+  low = ap low_lines r.printed_is ∙ of_removal s.id m r.look.answered.removed r.look.time (has_removed r.look.answered q.world);
 }
 
 sending_aside : (s : SessionRow) (p : Past) (m : ℕ) (q : Past) (printed : List Event) → IsSending s p m q printed → Aside p q printed
 sending_aside s p m q printed r = record {
   history = ap (λ (t : Past). t.history) r.rest;
-  low = ap low_lines r.printed_is ∙ of_sending s.id m r.taken.high_hand r.is_sent;
+  low = ap low_lines r.printed_is ∙ of_sending s.id m r.look.taken.high_hand r.look.is_sent;
 }
 
 high_aside : (s : SessionRow) (p : Past) (m : ℕ) (back : Option ℕ) (q : Past) (printed : List Event) → IsHighLook s p m back q printed → Aside p q printed

@@ -1,6 +1,6 @@
 -- A high look of a script goes on with a timed run of its session.
 use Rattle.std.proofs.Common.{◌≡◌, ⊎_elim, ℕ, ◌≤◌, Bool, true, false, List, [], ◌∷◌, ◌++◌, length, Option, Some, None, refl, sym, ap, ◌∙◌, subst, arith}
-use Rattle.std.specs.Prelude.{nat_lt, option_to_list}
+use Rattle.std.specs.Prelude.{nat_lt, is_some, option_to_list}
 use Rattle.std.proofs.lemmas.Bool.{lt-ltb}
 use Rattle.pump_frame.specs.declared.row.SessionRow.{SessionRow}
 use Rattle.pump_core.specs.declared.event.Event.TheVariants.{TakeUp, RemoveBegin, RemoveEnd}
@@ -8,11 +8,13 @@ use Rattle.pump_core.specs.World.{World}
 use Rattle.pump_core.specs.Events.{Happens, Run}
 use Rattle.pump_core.specs.History.{Arrival}
 use Rattle.pump_core.specs.Comings.{comings}
+use Rattle.pump_core.specs.HighLooks.{Perhaps, IsSent}
+use Rattle.pump_core.specs.Sendings.{Sending}
 use Rattle.pump_core.specs.Timed.{Step, HighLook, Point, high_looking, LeadsTo}
 use Rattle.script_reader.specs.declared.event.Event.{Event}
-use Rattle.script_reader.specs.Past.{Past, Sending}
+use Rattle.script_reader.specs.Past.{Past}
 use Rattle.script_reader.specs.Steps.{goes_on}
-use Rattle.script_reader.specs.Highs.{Perhaps, Sends, IsHighLook}
+use Rattle.script_reader.specs.Highs.{IsHighLook}
 use Rattle.two_worlds.specs.Timelines.{taken_in, AreLeft, IsAtRest, IsTimeline}
 use Rattle.two_worlds.proofs.TimelineLooks.{timeline, HasMore}
 use Rattle.two_worlds.proofs.TimelineStands.{at, Stands, Settled, returned}
@@ -32,7 +34,7 @@ module _ (row : SessionRow) (p : Past) (steps : List Step) (t : Point) (m : ℕ)
         leads = (at t p.world t.high, subst (λ (u : World). LeadsTo row steps (at t u t.high)) i.world i.run.leads, (omega (arith, was, late), i.high.nothing_left, refl));
         looking = refl;
         moment = refl;
-        sent = record { published = i.high.published; nothing_left = i.high.nothing_left; first = i.high.first; no_later = i.high.no_later };
+        sent = record { times = i.high.times; sends = i.high.sends; nothing_left = i.high.nothing_left };
       }
 
   ended : (q : Past) → q.history ≡ p.history → q.waits ≡ p.waits → q.is_broken ≡ p.is_broken → q.moment ≡ m
@@ -55,17 +57,15 @@ module _ (row : SessionRow) (p : Past) (steps : List Step) (t : Point) (m : ℕ)
 
   pub high_look : (back : Option ℕ) (q : Past) (printed : List Event) → IsHighLook row p m back q printed → HasMore row q steps (HighLook m ∷ [])
   high_look back q printed (mid, first, second, r, k, e) =
-      let a = returned row steps t m p.times p.sends p.world r.answered back began i.rest r.returns in
-      let b = removed row steps t m p.times p.sends r.answered mid.world a.stands a.rest r.time r.is_time r.removes in
-      let times : mid.times ≡ p.times ++ option_to_list r.time = ap (λ (x : Past). x.times) r.rest in
-      let sends : mid.sends ≡ p.sends = ap (λ (x : Past). x.sends) r.rest in
-      let times_back = sym times in
-      let sends_back = sym sends in
+      let a = returned row steps t m p.times p.sends p.world r.look.answered back began i.rest r.look.returns in
+      let b = removed row steps t m p.times p.sends r.look.answered mid.world a.stands a.rest r.look.time r.look.is_time r.look.removes in
+      let times_back = sym r.look.times in
+      let sends_back = sym r.look.sends in
       let mid_stands = subst (λ (l : List ℕ × List Sending). Stands row steps t m l.0 l.1 mid.world) (λ j. (times_back j, sends_back j)) b.stands in
-      let c = taken_up row steps t m mid.times mid.sends mid.world k.taken mid_stands b.rest k.takes_up in
-      let d = sent row steps t m mid.times mid.sends k.taken q.world k.is_sent c.stands c.rest k.sends in
-      let sends_after = sym (ap (λ (x : Past). x.sends) k.rest) in
-      let times_after = sym (ap (λ (x : Past). x.times) k.rest) in
+      let c = taken_up row steps t m mid.times mid.sends mid.world k.look.taken mid_stands b.rest k.look.takes_up in
+      let d = sent row steps t m mid.times mid.sends k.look.taken q.world k.look.is_sent c.stands c.rest k.look.sent in
+      let times_after = sym k.look.times in
+      let sends_after = sym k.look.sends in
       ended q (ap (λ (x : Past). x.history) k.rest ∙ ap (λ (x : Past). x.history) r.rest)
       (ap (λ (x : Past). x.waits) k.rest ∙ ap (λ (x : Past). x.waits) r.rest)
       (ap (λ (x : Past). x.is_broken) k.rest ∙ ap (λ (x : Past). x.is_broken) r.rest)
@@ -74,31 +74,27 @@ module _ (row : SessionRow) (p : Past) (steps : List Step) (t : Point) (m : ℕ)
 
 -- ---- whether a message is in the hand after it ----
 
-abbrev pub is_full : Option ℕ → Bool
-is_full None = false
-is_full (Some n) = true
-
 some_live : (n : ℕ) (held : List ℕ) → true ≡ nat_lt 0 (length (n ∷ held))
 some_live n held = sym (lt-ltb 0 (length (n ∷ held)) (omega arith))
 
 -- where nothing can be taken up
 nothing_waits : (w : World) (hand : Option ℕ) (held : List ℕ) → w.high_hand ≡ hand → w.held ≡ held → ((u : World) → Happens w TakeUp u → ⊥)
-    → is_full hand ≡ nat_lt 0 (length (option_to_list hand ++ held))
+    → is_some hand ≡ nat_lt 0 (length (option_to_list hand ++ held))
 nothing_waits w None [] e k never = refl
 nothing_waits w None (n ∷ rest) e k never = absurd (never (record w { held = rest; high_hand = Some n }) (n, rest, e, k, refl))
 nothing_waits w (Some n) held e k never = some_live n held
 
-taken_is : (w v : World) → Perhaps w TakeUp [] v → is_full v.high_hand ≡ goes_on w
+taken_is : (w v : World) → Perhaps w TakeUp [] v → is_some v.high_hand ≡ goes_on w
 taken_is w v h = ⊎_elim
     (λ (k : Run w (TakeUp ∷ []) v).
     let e : v ≡ k.0 = k.2 in
-    ap (λ (u : World). is_full u.high_hand) (e ∙ k.1.4) ∙ some_live k.1.0 k.1.1
+    ap (λ (u : World). is_some u.high_hand) (e ∙ k.1.4) ∙ some_live k.1.0 k.1.1
     ∙ sym (λ i. nat_lt 0 (length (option_to_list (k.1.2 i) ++ k.1.3 i))))
     (λ (k : ((u : World) → Happens w TakeUp u → ⊥) × (v ≡ w)).
-    ap (λ (u : World). is_full u.high_hand) k.1 ∙ nothing_waits w w.high_hand w.held refl refl k.0)
+    ap (λ (u : World). is_some u.high_hand) k.1 ∙ nothing_waits w w.high_hand w.held refl refl k.0)
     h
 
-sent_is : (w v : World) (is_sent : Bool) → Sends is_sent w v → v.high_hand ≡ w.high_hand
+sent_is : (w v : World) (is_sent : Bool) → IsSent is_sent w v → v.high_hand ≡ w.high_hand
 sent_is w v true h = ap (λ (u : World). u.high_hand) h.5
 sent_is w v false e = ap (λ (u : World). u.high_hand) e
 
@@ -111,8 +107,8 @@ kept w v rest h = ⊎_elim
 
 -- a high look without a TAKEN leaves a message in the hand exactly where one is in it or waits for it
 pub hand_after : (row : SessionRow) (p : Past) (m : ℕ) (q : Past) (printed : List Event) → IsAtRest p.world → IsHighLook row p m None q printed
-    → is_full q.world.high_hand ≡ goes_on p.world
+    → is_some q.world.high_hand ≡ goes_on p.world
 hand_after row p m q printed rest (mid, first, second, r, k, e) =
-    let due : r.answered.due ≡ false = ap (λ (u : World). u.due) r.returns ∙ rest.due in
-    let same : mid.world ≡ p.world = kept r.answered mid.world due r.removes ∙ r.returns in
-    ap is_full (sent_is k.taken q.world k.is_sent k.sends) ∙ taken_is mid.world k.taken k.takes_up ∙ ap goes_on same
+    let due : r.look.answered.due ≡ false = ap (λ (u : World). u.due) r.look.returns ∙ rest.due in
+    let same : mid.world ≡ p.world = kept r.look.answered mid.world due r.look.removes ∙ r.look.returns in
+    ap is_some (sent_is k.look.taken q.world k.look.is_sent k.look.sent) ∙ taken_is mid.world k.look.taken k.look.takes_up ∙ ap goes_on same

@@ -1,6 +1,6 @@
 -- What a script's session has been through is a timed run: line by line.
 use Rattle.std.proofs.Common.{◌≡◌, ℕ, ◌+◌, ◌≤◌, Bool, true, false, List, [], ◌∷◌, ◌++◌, map, Option, Some, None, refl, sym, ap, ◌∙◌, subst, arith}
-use Rattle.std.specs.Prelude.{◌==◌, ◌&&◌, ◌||◌, ◌^◌, nat_le, not, if◌then◌else◌, reverse}
+use Rattle.std.specs.Prelude.{◌==◌, ◌&&◌, ◌||◌, ◌^◌, nat_le, not, is_some, if◌then◌else◌, reverse}
 use Rattle.std.proofs.lemmas.Bool.{and_parts}
 use Rattle.std.proofs.lemmas.Bool.Decides.{nat_tests}
 use Rattle.pump_frame.specs.declared.frame.Frame.{Frame}
@@ -27,7 +27,7 @@ use Rattle.script_reader.proofs.Fresh.{row_capacity}
 use Rattle.script_reader.proofs.Leading.{IsNew, led}
 use Rattle.two_worlds.specs.Timelines.{arrived, IsTimeline, IsOutline, RunGoesOn}
 use Rattle.two_worlds.proofs.TimelineLooks.{timeline, HasMore, both, all_come, offered_look, lost_look}
-use Rattle.two_worlds.proofs.TimelineHighs.{is_full, high_look, hand_after}
+use Rattle.two_worlds.proofs.TimelineHighs.{high_look, hand_after}
 use Rattle.two_worlds.proofs.TimelineRemovals.{different}
 use Rattle.two_worlds.proofs.TimelineCarries.{carry}
 
@@ -52,7 +52,7 @@ fresh_timeline row lawful =
     })
     refl
     (record { storing = refl; due = refl; removing = refl; packet = refl; taking = refl })
-    (record { published = refl; nothing_left = refl; first = refl; no_later = tt })
+    (record { times = refl; sends = refl; nothing_left = refl })
     (record { came_before = omega arith; rest = refl; behind = refl })
     (omega arith) (omega arith)
 
@@ -108,7 +108,7 @@ refused_look row p steps t m i le =
         run = record { leads = (t, i.run.leads, (omega (arith, high, le), i.high.nothing_left, refl)); low = i.run.low; feedback = i.run.feedback; places = i.run.places };
         world = i.world;
         rest = i.rest;
-        high = record { published = i.high.published; nothing_left = i.high.nothing_left; first = i.high.first; no_later = i.high.no_later };
+        high = record { times = i.high.times; sends = i.high.sends; nothing_left = i.high.nothing_left };
         waits = i.waits;
         low_moment = omega (arith, low, le);
         high_moment = omega arith;
@@ -133,7 +133,7 @@ second_look full m = if full then HighLook m ∷ [] else []
 
 -- after the high look of `done`
 done_on : (row : SessionRow) (hand : Option ℕ) (p : Past) (steps : List Step) (t : Point) (m : ℕ) (q : Past) (printed : List Event)
-    → IsTimeline row p steps t → p.moment ≤ m → CarriesOn row hand p m q printed → HasMore row q steps (second_look (is_full hand) m)
+    → IsTimeline row p steps t → p.moment ≤ m → CarriesOn row hand p m q printed → HasMore row q steps (second_look (is_some hand) m)
 done_on row None p steps t m q printed i le (e, k) = ([], t, subst (λ (x : Past). IsTimeline row x steps t) (sym e) i, refl)
 done_on row (Some n) p steps t m q printed i le (mid, first, second, c, h, e) =
     both row mid q steps [] (HighLook m ∷ []) (carry row p steps t 0 mid first i c)
@@ -183,10 +183,10 @@ line_goes row p (lines.Done session m time) q printed steps t timely (mid, first
     let le : p.moment ≤ m = grind (arith, nat_tests) in
     let at = high_moment row p m None mid first h in
     let hand = hand_after row p m mid first i.rest h in
-    let out : second_look (is_full mid.world.high_hand) (m + time) ++ HighLook m ∷ [] ≡ (if goes_on p.world then HighLook (m + time) ∷ HighLook m ∷ [] else HighLook m ∷ []) =
+    let out : second_look (is_some mid.world.high_hand) (m + time) ++ HighLook m ∷ [] ≡ (if goes_on p.world then HighLook (m + time) ∷ HighLook m ∷ [] else HighLook m ∷ []) =
     ap (λ (b : Bool). second_look b (m + time) ++ HighLook m ∷ []) hand ∙ two_looks (goes_on p.world) m (m + time) in
-    goes_by row p (lines.Done session m time) steps q (second_look (is_full mid.world.high_hand) (m + time) ++ HighLook m ∷ []) out
-    (both row mid q steps (HighLook m ∷ []) (second_look (is_full mid.world.high_hand) (m + time)) (high_look row p steps t m i le None mid first h)
+    goes_by row p (lines.Done session m time) steps q (second_look (is_some mid.world.high_hand) (m + time) ++ HighLook m ∷ []) out
+    (both row mid q steps (HighLook m ∷ []) (second_look (is_some mid.world.high_hand) (m + time)) (high_look row p steps t m i le None mid first h)
     (λ past u j. done_on row mid.world.high_hand mid past u (m + time) q second j (omega (arith, at)) g))
 
 -- ---- a script ----

@@ -5,9 +5,9 @@ use Rattle.pump_frame.specs.declared.row.SessionRow.{SessionRow}
 use Rattle.pump_core.specs.declared.event.Event.TheVariants.{ReturnTaken}
 use Rattle.pump_core.specs.World.{World}
 use Rattle.pump_core.specs.Events.{holds}
+use Rattle.pump_core.specs.HighLooks.{Returns}
+use Rattle.pump_core.specs.Sendings.{Sending}
 use Rattle.pump_core.specs.Timed.{Step, HighLook, Occurs, HighSide, Point, LeadsTo}
-use Rattle.script_reader.specs.Past.{Sending}
-use Rattle.script_reader.specs.Highs.{Returns}
 use Rattle.two_worlds.specs.Timelines.{IsAtRest, HasSent, outline}
 
 -- ---- where a run stands within a high look ----
@@ -37,7 +37,7 @@ pub record Stands (row : SessionRow) (past : List Step) (t : Point) (m : ℕ) (t
   pub leads : LeadsTo row (more ++ past) (at t v high)
   pub looking : high.looking ≡ true
   pub moment : high.moment ≡ m
-  pub sent : HasSent v.removed times sends high
+  pub sent : HasSent times sends high
 
 -- .. and nothing is unfinished
 pub record Settled (row : SessionRow) (past : List Step) (t : Point) (m : ℕ) (times : List ℕ) (sends : List Sending) (v : World) : Type 0 where
@@ -46,24 +46,20 @@ pub record Settled (row : SessionRow) (past : List Step) (t : Point) (m : ℕ) (
 
 -- ---- one event within a look ----
 
--- one event that changes the world alone, and not how many are removed
+-- one event that changes the world alone
 pub aside : (row : SessionRow) (past : List Step) (t : Point) (m : ℕ) (times : List ℕ) (sends : List Sending) (w v : World)
     (s : Stands row past t m times sends w) (step : Step)
     → LeadsTo row ((step ∷ s.more) ++ past) (at t v s.high) → outline (step ∷ s.more) ≡ outline s.more
-    → v.removed ≡ w.removed → Stands row past t m times sends v
-aside row past t m times sends w v s step leads no_look e = record {
+    → Stands row past t m times sends v
+aside row past t m times sends w v s step leads no_look = record {
   more = step ∷ s.more;
   out = no_look ∙ s.out;
   high = s.high;
   leads = leads;
   looking = s.looking;
   moment = s.moment;
-  sent = subst (λ (n : ℕ). HasSent n times sends s.high) (sym e) s.sent;
+  sent = s.sent;
 }
-
-either : (b : Bool) (v u : World) (n : ℕ) → v.removed ≡ n → u.removed ≡ n → (cond b v u).removed ≡ n
-either true v u n h k = h
-either false v u n h k = k
 
 same_rest : (b : Bool) (v u : World) → IsReady v → IsReady u → IsReady (cond b v u)
 same_rest true v u h k = h
@@ -83,8 +79,7 @@ module _ (row : SessionRow) (past : List Step) (t : Point) (m : ℕ) where
     rest = subst IsReady (sym e) (ready w r);
   }
   returned times sends w v (Some k) s r h = record {
-    stands = aside row past t m times sends w v s (Occurs (ReturnTaken k)) (at t w s.high, s.leads, (v, h, s.looking, refl)) refl
-        (ap (λ (u : World). u.removed) h.3 ∙ either (h.0 == w.removed && holds w.high_hand h.0) _ _ w.removed refl refl);
+    stands = aside row past t m times sends w v s (Occurs (ReturnTaken k)) (at t w s.high, s.leads, (v, h, s.looking, refl)) refl;
     rest = subst IsReady (sym h.3) (same_rest (h.0 == w.removed && holds w.high_hand h.0) _ _
         (record { storing = r.storing; removing = r.removing; packet = r.packet; taking = r.taking }) (ready w r));
   }

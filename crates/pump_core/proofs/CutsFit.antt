@@ -15,46 +15,7 @@ use Rattle.pump_core.specs.Replies.{number_in}
 use Rattle.pump_core.specs.Step.{is_quiet, fits_passing, fits_idle, fits_in, Fits}
 use Rattle.pump_core.specs.Standing.{end_of}
 use Rattle.pump_core.proofs.Runs.{next_phase}
-use Rattle.pump_core.proofs.Cuts.{cut_of, is_the_cut}
-
--- ---- how a cut grows by a look, as the one cut does ----
-
-abbrev is_released : Feedback → Bool
-is_released Released = true
-is_released _ = false
-
-abbrev begun : SessionRow → ℕ → Bool → Look → Arrival → Part
-begun row n g x Nothing = Empty x
-begun row n g x Gone = Leaving x
-begun row n g x Bad = Answer x
-begun row n g x (Came f) =
-    if is_repeat row n g f then Repeated x (Waiting [])
-    else if is_next row n g f then (if x.is_fault then Loss x [] else Offering x [])
-    else Answer x
-
-abbrev begun_held : Look → Part
-begun_held x = if is_released x.feedback then Release [] x else Holding x []
-
-abbrev following : SessionRow → Opening → List Part → Look → List Part
-following row o parts x = (if is_left o parts then begun_held x else begun row (count_after o parts) (greeted_after row parts) x x.arrival) ∷ parts
-
-abbrev wait_with : ℕ → List Look → Look → Wait
-wait_with due quiet x = if ends due x then Over quiet x else Waiting (x ∷ quiet)
-
-abbrev grow : SessionRow → Opening → List Part → Look → List Part
-grow row o [] x = following row o [] x
-grow row o (Holding y ys ∷ before) x = (if is_released x.feedback then Release (y ∷ ys) x else Holding x (y ∷ ys)) ∷ before
-grow row o (Release ys last ∷ before) x = following row o (Release ys last ∷ before) x
-grow row o (Empty y ∷ before) x = following row o (Empty y ∷ before) x
-grow row o (Leaving y ∷ before) x = following row o (Leaving y ∷ before) x
-grow row o (Answer y ∷ before) x = following row o (Answer y ∷ before) x
-grow row o (Repeated first (Waiting quiet) ∷ before) x = Repeated first (wait_with (due row first) quiet x) ∷ before
-grow row o (Repeated first (Over quiet last) ∷ before) x = following row o (Repeated first (Over quiet last) ∷ before) x
-grow row o (Offering first full ∷ before) x = (if is_gone x.arrival then Dropped first full x else if is_passed x.feedback then Delivery first full x (Waiting []) else Offering first (x ∷ full)) ∷ before
-grow row o (Dropped first full gone ∷ before) x = following row o (Dropped first full gone ∷ before) x
-grow row o (Delivery first full y (Waiting quiet) ∷ before) x = Delivery first full y (wait_with (due row y) quiet x) ∷ before
-grow row o (Delivery first full y (Over quiet last) ∷ before) x = following row o (Delivery first full y (Over quiet last) ∷ before) x
-grow row o (Loss first rest ∷ before) x = Loss first (x ∷ rest) ∷ before
+use Rattle.pump_core.proofs.Cuts.{is_released, begun, begun_held, following, grow, cut_of, is_the_cut}
 
 -- ---- what the parts say of the feedback ----
 

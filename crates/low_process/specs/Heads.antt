@@ -1,5 +1,5 @@
 -- A look without frames: the whole look of its head.
-use Rattle.std.specs.Prelude.{false, Option, None, option_map}
+use Rattle.std.specs.Prelude.{false, None, option_map}
 use Rattle.pump_frame.specs.declared.row.SessionRow.{SessionRow}
 use Rattle.pump_core.specs.declared.feedback.Feedback.TheVariants.{Quiet}
 use Rattle.pump_core.specs.ReplyFrames.{frame_of}

@@ -212,7 +212,7 @@ impl LowProcess {
             return AskHead::Done;
         }
         self.hand.number = number;
-        self.hand.payload = frame.payload;
+        self.hand.payload.set(frame.payload.as_slice());
         self.next += 1;
         self.phase = Phase::Passing { is_owed: true };
         head.taken = true;

@@ -8,6 +8,7 @@ pub mod Pairs
 pub mod Passage
 pub mod Phases
 pub mod Replies
+pub mod ReplyFrames
 pub mod Runs
 pub mod Sendings
 pub mod Standing

@@ -1,15 +1,19 @@
 pub mod Bounds
-pub mod Heads
 pub mod DigitLaws
 pub mod FieldChains
 pub mod FieldLaws
 pub mod FreeFields
 pub mod Fresh
 pub mod Halting
+pub mod Heads
 pub mod Leading
 pub mod LineEnds
 pub mod LineLaws
 pub mod LookLaws
+pub mod LowAlike
+pub mod LowAlone
+pub mod LowAside
+pub mod LowFunction
 pub mod MomentLaws
 pub mod NextLaws
 pub mod One
@@ -20,5 +24,6 @@ pub mod OneScript
 pub mod Replying
 pub mod SessionLaws
 pub mod Splits
+pub mod Telling
 pub mod ToldLaws
 pub mod Waiting

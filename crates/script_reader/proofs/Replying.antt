@@ -23,7 +23,7 @@ use Rattle.script_reader.specs.Scripts.{Begun, Whole, Alone, GoesOn as GoesOnBeg
 use Rattle.script_reader.specs.Readouts.{low_line, low_lines, row_of, history_of}
 use Rattle.script_reader.proofs.Leading.{IsNew, led}
 
-low-append : (xs ys : List Event) → low_lines (xs ++ ys) ≡ low_lines xs ++ low_lines ys
+pub low-append : (xs ys : List Event) → low_lines (xs ++ ys) ≡ low_lines xs ++ low_lines ys
 low-append [] ys = refl
 low-append (x ∷ xs) ys = ap (λ l. low_line x ++ l) (low-append xs ys) ∙ sym (append_assoc (low_line x) (low_lines xs) (low_lines ys))
 

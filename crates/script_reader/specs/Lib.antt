@@ -13,6 +13,7 @@ pub mod Parsing
 pub mod Past
 pub mod Readouts
 pub mod Scripts
+pub mod Sides
 pub mod Steps
 pub mod Tolds
 pub mod Transcript

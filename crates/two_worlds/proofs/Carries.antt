@@ -33,6 +33,7 @@ use Rattle.two_worlds.specs.Disks.{DisksFit, RecvFits}
 use Rattle.two_worlds.specs.Doing.{Fails}
 use Rattle.two_worlds.specs.Standing.{kept_of, HoldsWorld, Stands, is_down}
 use Rattle.two_worlds.specs.Timelines.{IsAtRest}
+use Rattle.two_worlds.proofs.LeavesWorld.{fits_row}
 use Rattle.two_worlds.proofs.Answered.{AnsweredWith, in_store, full, took as took_by, repeated}
 use Rattle.two_worlds.proofs.Carried as led
 use Rattle.two_worlds.proofs.PartsReady.{recv_reading}
@@ -171,6 +172,11 @@ module _ {D : Type 0} (m : Meaning D) (c : Parts D) (p : Past) (back : ℕ) (pac
           down = fails_down s.closed;
           counted = cc;
           lawful = led.lawful_taking m c p back packet stands less at a.0;
+          fits = record {
+            capacity = stands.world.capacity;
+            count = (fits_row m c p stands).count;
+            end = omega (arith, fits, led.log_end_push p.world.received packet.payload, stands.world.end);
+          };
           disks = record {
             low_disk = stands.disks.low_disk;
             high_disk = stands.disks.high_disk;

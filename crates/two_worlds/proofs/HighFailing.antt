@@ -25,6 +25,7 @@ use Rattle.two_worlds.specs.Standing.{Stands}
 use Rattle.two_worlds.specs.Doing.{Fails}
 use Rattle.two_worlds.specs.HighLooks.{ComesBack, LeadsWith, BreaksWith}
 use Rattle.two_worlds.specs.declared.pump.parts.Parts.{Parts}
+use Rattle.two_worlds.proofs.LeavesWorld.{fits_row}
 use Rattle.two_worlds.proofs.HighRemovals.{Asks, TakesHand, with_due, with_begun, asks}
 use Rattle.two_worlds.proofs.HighDisks.{failed, broken_disks}
 
@@ -60,6 +61,7 @@ module _ {D : Type 0} (m : Meaning D) (c : Parts D) (p : Past) (stands : Stands 
       counted = same_count faults (m.count (high_disk store)) fares.0.fault;
       lawful = runs_lawfully p.world (ReturnTaken k ∷ RemoveBegin ∷ []) (with_begun p.world) stands.lawful
           (with_due p.world, takes.returns, (with_begun p.world, (refl, stands.rest.removing, refl), refl));
+      fits = (let f = fits_row m c p stands in record { capacity = f.capacity; count = f.count; end = f.end });
       disks = broken_disks m c p stands store (Device faults) fares.0;
     };
   }

@@ -22,6 +22,7 @@ pub mod HighServes
 pub mod HighStanding
 pub mod HighTimes
 pub mod Joining
+pub mod LeavesWorld
 pub mod LineRuns
 pub mod LinesApplied
 pub mod LowDisks
@@ -40,6 +41,7 @@ pub mod LowTold
 pub mod LowWants
 pub mod LowWorlds
 pub mod OpensSurely
+pub mod Outliving
 pub mod Packets
 pub mod Pairs
 pub mod PartsConnected

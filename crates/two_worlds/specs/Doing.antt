@@ -12,7 +12,7 @@ use Rattle.script_reader.specs.Highs.{receiver_size}
 use Rattle.two_worlds.specs.declared.applied.Stop.{Stop}
 use Rattle.two_worlds.specs.declared.applied.Stop.TheVariants.{Line, Device, Full}
 use Rattle.two_worlds.specs.declared.pump.parts.Parts.{Parts}
-use Rattle.two_worlds.specs.Disks.{DisksFit, RemovesBehind}
+use Rattle.two_worlds.specs.Disks.{DisksFit, FitsRow, RemovesBehind}
 use Rattle.two_worlds.specs.Standing.{Stands, is_down, disk_at}
 
 -- the disk of this role failed: the parts are down, and the disks fit the world, in which the call is
@@ -21,6 +21,7 @@ pub record Fails {D : Type 0} (m : Meaning D) (d : Parts D) (q : Past) (role : R
   pub down : is_down d ≡ true
   pub counted : faults ≡ m.count (disk_at role d)
   pub lawful : IsLawful q.world
+  pub fits : FitsRow d.row q.world
   pub disks : DisksFit m d.row (disk_at roles.Low d) (disk_at roles.High d) (disk_at roles.Recv d) q.world
 
 -- Whatever it stood for before, after an Ok it stands for what `Leads` leads to; where a disk failed, for

@@ -1,5 +1,5 @@
 -- What a pump stands for, and what a line of a script does to it.
-use Rattle.std.specs.Prelude.{◌≡◌, ℕ, Bool, true, List, [], Option, Some, None}
+use Rattle.std.specs.Prelude.{◌≡◌, ◌⊎◌, ℕ, Bool, true, List, [], Option, Some, None}
 use Rattle.disk_model.specs.Disk.{Meaning}
 use Rattle.disk_model.specs.declared.name.Role.{Role}
 use Rattle.pump_frame.specs.declared.row.SessionRow.{SessionRow}
@@ -37,6 +37,10 @@ disk_at role s = parts.disk_at role s.parts
 -- unfinished
 abbrev pub FailsAt : {D : Type 0} {g : _} → Meaning D → Pump D g → Past → Role → ℕ → Type 0
 FailsAt m t q role faults = Fails m t.parts q role faults
+
+-- the pump stands for this, or came to this when one of its disks failed
+abbrev pub StandsOrFails : {D : Type 0} {g : _} → Meaning D → Pump D g → Past → Type 0
+StandsOrFails m s p = StandsFor m s p ⊎ ((role : Role) × (faults : ℕ) × FailsAt m s p role faults)
 
 -- A line was given to s, which stood for p, and left it as t. It can be applied, and leads to what t
 -- stands for and prints this; or it can't be, and nothing is printed or changed; or it is cut short by the

@@ -1,7 +1,7 @@
 //! The laws over the world and over runs. Each is a function without parameters and without a result
 //! whose contract is the law; calling it does nothing.
 
-ghost use Rattle.two_worlds.specs.Laws.{EventsAreCertain, EveryWorldIsLawful, ForgedWorldsAreBounded, TimedWorldsAreLawful, RunsHaveReplies, PairsAgree, AcknowledgedIsAccepted, ThinnedHistoriesAgree};
+ghost use Rattle.two_worlds.specs.Laws.{EventsAreCertain, EveryWorldIsLawful, ForgedWorldsAreBounded, TimedWorldsAreLawful, RunsHaveReplies, PairsAgree, AcknowledgedIsAccepted, ThinnedHistoriesAgree, AcceptedOutlives, AcknowledgedOutlives};
 ghost use Rattle.two_worlds.specs.Timelines.{LinesAreSteps, ScriptsAreTimedRuns};
 
 /// An event leads to one world at most, so that what a step makes of a world is settled.
@@ -51,6 +51,19 @@ pub fn thinned_histories_agree()
 /// What a timed run acknowledged is among the accepted messages of its world, whatever crashed since.
 pub fn acknowledged_is_accepted()
     ensures { AcknowledgedIsAccepted }
+{}
+
+/// Of three disks that stand for what a crash leaves of a lawful world, as those do that a pump hands
+/// back: the receiver has a front of the accepted messages, and every accepted message that it has not
+/// is in the live slots of the low disk.
+pub fn accepted_outlives()
+    ensures { AcceptedOutlives }
+{}
+
+/// .. and so of the world of a timed run: every message that was acknowledged and that the receiver has
+/// not is in the live slots of the low disk.
+pub fn acknowledged_outlives()
+    ensures { AcknowledgedOutlives }
 {}
 
 /// A line of a script goes on with any timed run of its session, by the steps that stand for it.

@@ -21,6 +21,7 @@ pub mod HighSendings
 pub mod HighServes
 pub mod HighStanding
 pub mod HighTimes
+pub mod ImagesFit
 pub mod Joining
 pub mod LeavesWorld
 pub mod LineRuns
@@ -47,7 +48,6 @@ pub mod Pairs
 pub mod PartsConnected
 pub mod PartsEnds
 pub mod PartsReady
-pub mod PumpTimed
 pub mod RawBytes
 pub mod Replied
 pub mod RowRanges

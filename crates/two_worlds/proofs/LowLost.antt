@@ -30,9 +30,10 @@ use Rattle.script_reader.specs.Lows.{printed_store, printed_feedback}
 use Rattle.script_reader.specs.Breaks.{IsLostLook}
 use Rattle.two_worlds.specs.declared.pump.parts.Parts.{Parts}
 use Rattle.two_worlds.specs.Disks.{LowFits}
-use Rattle.two_worlds.specs.Doing.{Fails}
+use Rattle.two_worlds.specs.Doing.{Fails, LeavesFit}
 use Rattle.two_worlds.specs.Printing.{printed_reply, look_prints}
 use Rattle.two_worlds.specs.Standing.{number_of, Stands}
+use Rattle.two_worlds.proofs.ImagesFit.{lost_fits}
 use Rattle.two_worlds.proofs.LowDisks.{low_failed}
 use Rattle.two_worlds.proofs.LeavesWorld.{fits_row}
 use Rattle.two_worlds.proofs.LowLooked.{Looked}
@@ -184,5 +185,5 @@ module _ {D : Type 0} (m : Meaning D) (c d : Parts D) (p : Past) (moment word : 
     disks = record { low_disk = low_fits; high_disk = stands.disks.high_disk; recv_disk = stands.disks.recv_disk };
   }
 
-  pub look_loses : (q : Past) × IsLostLook c.row p (look_of moment word a true Quiet) q (look_prints c.row.id moment l) × Fails m d q roles.Low (m.count (low_disk d.low_store))
-  look_loses = (lost_past, is_lost, subst (λ (u : Parts D). Fails m u lost_past roles.Low (m.count (low_disk d.low_store))) (sym did.rest) fails_then)
+  pub look_loses : (q : Past) × IsLostLook c.row p (look_of moment word a true Quiet) q (look_prints c.row.id moment l) × Fails m d q roles.Low (m.count (low_disk d.low_store)) × LeavesFit m c d p q
+  look_loses = (lost_past, is_lost, subst (λ (u : Parts D). Fails m u lost_past roles.Low (m.count (low_disk d.low_store))) (sym did.rest) fails_then, lost_fits m c d p moment word a true l did stands lost_past message t.frame.payload is t.is_message refl)

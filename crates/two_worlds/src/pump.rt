@@ -41,7 +41,7 @@ impl<D: Disk> Pump<D> {
     ghost use Rattle.script_reader.specs.Past.{Past, fresh};
     ghost use Rattle.two_worlds.specs.Disks.{Opens, CrashesOpen, LeaveWorld};
     ghost use Rattle.two_worlds.specs.LowPumps.{is_device};
-    ghost use Rattle.two_worlds.specs.Pumps.{row_of, StandsFor, StandsOrFails, is_down, disk_at, Applies, GoesOnTimed};
+    ghost use Rattle.two_worlds.specs.Pumps.{row_of, StandsFor, StandsOrFails, is_down, disk_at, Applies};
     ghost use Rattle.two_worlds.specs.Rooms.{HasRoom, DisksGo};
 
     /// The pump of a lawful row over three disks of size 0, which tell what they hold.
@@ -76,7 +76,6 @@ impl<D: Disk> Pump<D> {
         requires up { is_down self.old ≡ false }
         ensures applies { (p : Past) → StandsFor D.told self.old p
             → Applies D.told self.old self.new line.now p result.events.items result.stop }
-        ensures timed { result.stop ≡ None → GoesOnTimed D.told self.old self.new line.now }
         ensures serve { DisksGo D.told (row_of self.old) (disk_at roles.Low self.old) (disk_at roles.High self.old) (disk_at roles.Recv self.old)
             (disk_at roles.Low self.new) (disk_at roles.High self.new) (disk_at roles.Recv self.new) result.stop }
         ensures down { is_down self.new ≡ is_device result.stop }
@@ -94,7 +93,6 @@ impl<D: Disk> Pump<D> {
         requires up { is_down self.old ≡ false }
         ensures applies { (p : Past) → StandsFor D.told self.old p
             → Applies D.told self.old self.new line.now p events.new.items result }
-        ensures timed { result ≡ None → GoesOnTimed D.told self.old self.new line.now }
         ensures serve { DisksGo D.told (row_of self.old) (disk_at roles.Low self.old) (disk_at roles.High self.old) (disk_at roles.Recv self.old)
             (disk_at roles.Low self.new) (disk_at roles.High self.new) (disk_at roles.Recv self.new) result }
         ensures down { is_down self.new ≡ is_device result }
@@ -115,7 +113,6 @@ impl<D: Disk> Pump<D> {
         requires up { is_down self.old ≡ false }
         ensures applies { (p : Past) → StandsFor D.told self.old p
             → Applies D.told self.old self.new (line_with bytes.now line.now) p events.new.items result }
-        ensures timed { result ≡ None → GoesOnTimed D.told self.old self.new (line_with bytes.now line.now) }
         ensures serve { DisksGo D.told (row_of self.old) (disk_at roles.Low self.old) (disk_at roles.High self.old) (disk_at roles.Recv self.old)
             (disk_at roles.Low self.new) (disk_at roles.High self.new) (disk_at roles.Recv self.new) result }
         ensures down { is_down self.new ≡ is_device result }

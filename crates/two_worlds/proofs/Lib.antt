@@ -38,6 +38,7 @@ pub mod LowPumpLines
 pub mod LowServes
 pub mod LowSorts
 pub mod LowStepping
+pub mod LowTimelines
 pub mod LowTold
 pub mod LowWants
 pub mod LowWorlds

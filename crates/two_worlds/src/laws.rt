@@ -3,6 +3,7 @@
 
 ghost use Rattle.two_worlds.specs.Laws.{EventsAreCertain, EveryWorldIsLawful, ForgedWorldsAreBounded, TimedWorldsAreLawful, RunsHaveReplies, PairsAgree, AcknowledgedIsAccepted, ThinnedHistoriesAgree, AcceptedOutlives, AcknowledgedOutlives};
 ghost use Rattle.two_worlds.specs.Timelines.{LinesAreSteps, ScriptsAreTimedRuns};
+ghost use Rattle.two_worlds.specs.LowTimelines.{LowLinesAreEvents, LowScriptsAreTimed};
 
 /// An event leads to one world at most, so that what a step makes of a world is settled.
 pub fn events_are_certain()
@@ -76,4 +77,16 @@ pub fn lines_are_steps()
 /// connections, and its world is the one to which the run came.
 pub fn scripts_are_timed_runs()
     ensures { ScriptsAreTimedRuns }
+{}
+
+/// A line of a low side alone goes on with whatever came to that side and the looks that it made, by
+/// what comes with the line and its look.
+pub fn low_lines_are_events()
+    ensures { LowLinesAreEvents }
+{}
+
+/// To the low side alone of a script its arrivals come as they come on a connection: each look that may
+/// take something was offered what came first and was not taken.
+pub fn low_scripts_are_timed()
+    ensures { LowScriptsAreTimed }
 {}

@@ -24,7 +24,7 @@ use Rattle.two_worlds.specs.Timelines.{IsAtRest}
 use Rattle.two_worlds.proofs.Packets.{at_back, in_whole, keep_last_push}
 
 -- where the records end after one more message
-log_end_push : (messages : List Payload) (p : Payload) → log_end (messages ++ p ∷ []) ≡ log_end messages + 2 + length p
+pub log_end_push : (messages : List Payload) (p : Payload) → log_end (messages ++ p ∷ []) ≡ log_end messages + 2 + length p
 log_end_push [] p = omega arith
 log_end_push (x ∷ messages) p = let e = log_end_push messages p in omega (arith, e)
 

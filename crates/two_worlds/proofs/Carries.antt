@@ -1,5 +1,5 @@
 -- What a DATA that comes to the receiver leads to, by what the receiver answered.
-use Rattle.std.proofs.Common.{◌≡◌, inl, inr, ⊎_elim, ℕ, ◌+◌, ◌-◌, ◌≤◌, ◌<◌, Bool, true, false, not, ◌||◌, cond, List, [], ◌∷◌, ◌++◌, length, None, Some, Ok, Err, refl, sym, ap, ◌∙◌, subst, arith, nat_lt}
+use Rattle.std.proofs.Common.{◌≡◌, inl, inr, ⊎_elim, ℕ, ◌+◌, ◌-◌, ◌≤◌, ◌<◌, Bool, true, false, not, ◌||◌, cond, List, [], ◌∷◌, ◌++◌, length, None, Some, Result, Ok, Err, refl, sym, ap, ◌∙◌, subst, arith, nat_lt}
 use Rattle.std.specs.Prelude.{slice_get, All}
 use Rattle.std.proofs.lemmas.Bool.Decides.{nat_tests}
 use Rattle.circular_buffer.specs.Buffer.{Buffer, buffer, keep_last}
@@ -17,10 +17,11 @@ use Rattle.stable_buffer.specs.Log.{RecvStands}
 use Rattle.stable_buffer.specs.Low.{low_disk}
 use Rattle.stable_buffer.specs.High.{high_disk}
 use Rattle.high_receiver.specs.Steps.{MayTake}
-use Rattle.high_receiver.specs.Receiving.{IsRecvReady, recv_count, recv_end, recv_row, recv_size, recv_disk, recv_is_open}
+use Rattle.high_receiver.specs.Receiving.{IsRecvReady, Stores, recv_count, recv_end, recv_row, recv_size, recv_disk, recv_is_open}
 use Rattle.high_receiver.specs.declared.receiver.Receiver.{Receiver}
 use Rattle.high_receiver.specs.declared.values.Taken.{Taken}
 use Rattle.high_receiver.specs.declared.values.Taken.TheVariants as answers
+use Rattle.high_receiver.specs.declared.values.TakeFault.{TakeFault}
 use Rattle.high_receiver.specs.declared.values.TakeFault.TheVariants as faults
 use Rattle.script_reader.specs.declared.event.Event.{Event}
 use Rattle.script_reader.specs.declared.event.Event.TheVariants.{Took, Again}
@@ -30,10 +31,12 @@ use Rattle.script_reader.specs.Highs.{place, overfills, receiver_size, printed_c
 use Rattle.script_reader.specs.Breaks.{IsUntaken}
 use Rattle.two_worlds.specs.declared.pump.parts.Parts.{Parts}
 use Rattle.two_worlds.specs.Carrying.{printed_taken}
-use Rattle.two_worlds.specs.Disks.{DisksFit, RecvFits}
-use Rattle.two_worlds.specs.Doing.{Fails}
-use Rattle.two_worlds.specs.Standing.{kept_of, HoldsWorld, Stands, is_down}
+use Rattle.two_worlds.specs.Disks.{DisksFit, LowFits, HighFits, RecvFits}
+use Rattle.two_worlds.specs.Doing.{Fails, LeavesFit}
+use Rattle.two_worlds.specs.Standing.{kept_of, HoldsWorld, Stands, is_down, disk_at}
 use Rattle.two_worlds.specs.Timelines.{IsAtRest}
+use Rattle.two_worlds.proofs.ImagesFit.{low_alone, high_alone, all_alone}
+use Rattle.two_worlds.proofs.LeavesWorld.{fits_row}
 use Rattle.two_worlds.proofs.Answered.{AnsweredWith, in_store, full, took as took_by, repeated}
 use Rattle.two_worlds.proofs.Carried as led
 use Rattle.two_worlds.proofs.PartsReady.{recv_reading}
@@ -48,7 +51,7 @@ returned old new n capacity is =
 
 -- the carry led to this
 abbrev pub Leads : {D : Type 0} → Meaning D → Parts D → Past → ℕ → List Event → List Event → Parts D → Type 0
-Leads m c p back out now d = (q : Past) × (printed : List Event) × IsCarried c.row p back q printed × (now ≡ out ++ printed) × Stands m d q
+Leads m c p back out now d = (q : Past) × (printed : List Event) × IsCarried c.row p back q printed × (now ≡ out ++ printed) × Stands m d q × LeavesFit m c d p q
 
 module _ {D : Type 0} (m : Meaning D) (c : Parts D) (p : Past) (back : ℕ) (packet : Item) (stands : Stands m c p) (less : back < length c.sent.items)
     (at : cond (nat_lt back (length c.sent.items)) (slice_get c.sent.items (length c.sent.items - back - 1)) None ≡ Some packet) (new : Receiver D) where
@@ -87,13 +90,15 @@ module _ {D : Type 0} (m : Meaning D) (c : Parts D) (p : Past) (back : ℕ) (pac
       → overfills p.world packet ≡ false → Happens p.world (CarryData (place p.world.sent back)) v → Perhaps v TakeBegin (TakeEnd ∷ []) u
       → printed_taken c.row.id packet.number taken ≡ printed_carry c.row.id p.world packet
       → Stands m (record c { receiver = new; returned = returned }) (record p { world = u })
+      → LeavesFit m c (record c { receiver = new; returned = returned }) p (record p { world = u })
       → Leads m c p back out (out ++ printed_taken c.row.id packet.number taken ∷ []) (record c { receiver = new; returned = returned })
-  leads returned v u taken out fits carries takes prints standing = (
+  leads returned v u taken out fits carries takes prints standing leave = (
     record p { world = u },
     printed_carry c.row.id p.world packet ∷ [],
     record { packet = packet; at = led.at_world m c p back packet stands less at; fits = fits; carried = v; carries = carries; takes = takes; rest = refl; printed_is = refl },
     ap (λ (e : Event). out ++ e ∷ []) prints,
     standing,
+    leave,
   )
 
   prints_by : (b : Bool) (taken : Taken) → nat_lt packet.number (length p.world.received) ≡ b
@@ -117,12 +122,28 @@ module _ {D : Type 0} (m : Meaning D) (c : Parts D) (p : Past) (back : ℕ) (pac
       (led.rest_again m c p back packet stands less at) (led.lawful_again m c p back packet stands less at a.0) refl refl
       (subst (λ (r : Receiver D). IsRecvReady m r) (sym a.1) stands.recv_ready.ready) (ap (λ (r : Receiver D). recv_row r) a.1 ∙ stands.recv_ready.row) (ap (λ (r : Receiver D). recv_size r) a.1 ∙ stands.recv_ready.size)
       (subst (λ (r : Receiver D). DisksFit m c.row (low_disk c.low_store) (high_disk c.high_store) (recv_disk r) u) (sym a.1) disks))
+      (all_alone m c p stands (record c { receiver = new; returned = returned }) (record p { world = u }) refl refl (ap (λ (r : Receiver D). recv_disk r) a.1))
 
   abbrev row_is : recv_row c.receiver ≡ c.row
   row_is = stands.recv_ready.row
 
   was : (disk : List ℕ) → RecvFits c.row p.world disk → RecvStands (recv_row c.receiver) p.world.received disk
   was disk fit = subst (λ (r : SessionRow). RecvStands r p.world.received disk) (sym row_is) (recv_reading c.row p.world disk stands.rest.packet fit)
+
+  -- a crash at any moment of a taking leaves the messages from before, or this one too
+  taking_fits : (d : Parts D) (q : Past) (result : Result Taken TakeFault) → Stores m packet.payload c.receiver new result
+      → disk_at roles.Low d ≡ disk_at roles.Low c → disk_at roles.High d ≡ disk_at roles.High c → disk_at roles.Recv d ≡ recv_disk new
+      → ((x : List ℕ) → RecvStands c.row (p.world.received ++ packet.payload ∷ []) x → RecvFits c.row q.world x) → LeavesFit m c d p q
+  taking_fits d q result s low high recv more = record {
+    low = low_alone m c p stands (LowFits c.row q.world) (disk_at roles.Low d) low;
+    high = high_alone m c p stands (HighFits c.row q.world) (disk_at roles.High d) high;
+    recv = λ told x since.
+        let reads = was (m.reading (recv_disk c.receiver)) (stands.disks.recv_disk.reading (m.images_tell told)) in
+        ⊎_elim
+        (λ stays. inl (inl (subst (λ (r : SessionRow). RecvStands r p.world.received x) row_is stays)))
+        (λ one. inr (more x (subst (λ (r : SessionRow). RecvStands r (p.world.received ++ packet.payload ∷ []) x) row_is one)))
+        (s.during p.world.received reads told x (subst (λ (e : D). m.since e (m.moment (recv_disk c.receiver)) x) recv since));
+  }
 
   -- the receiver's next message
   leads_taken : (returned : Buffer ℕ) (out : List Event) → Returns c.returned packet.number returned → recv_row new ≡ recv_row c.receiver → recv_size new ≡ recv_size c.receiver
@@ -146,6 +167,7 @@ module _ {D : Type 0} (m : Meaning D) (c : Parts D) (p : Past) (back : ℕ) (pac
       (led.takes_next m c p back packet stands less at) (prints_by false answers.Took test refl)
       (stands_on returned u is.1 (led.holds_taken m c p back packet stands less at returned.items (recv_count new) (recv_end new) a.0 is.0 s.count s.end)
       (led.rest_taken m c p back packet stands less at) (led.lawful_taken m c p back packet stands less at a.0) refl refl s.ready (same_row ∙ row_is) (same_size ∙ stands.recv_ready.size) disks)
+      (taking_fits (record c { receiver = new; returned = returned }) (record p { world = u }) (Ok answers.Took) s refl refl refl (λ x is. inl is))
 
   pub leads_by : (taken : Taken) (returned : Buffer ℕ) (out : List Event) → Returns c.returned packet.number returned → recv_row new ≡ recv_row c.receiver → recv_size new ≡ recv_size c.receiver
       → AnsweredWith m packet.payload packet.number (recv_count c.receiver) E (recv_size c.receiver) c.receiver new (Ok taken)
@@ -159,7 +181,7 @@ module _ {D : Type 0} (m : Meaning D) (c : Parts D) (p : Past) (back : ℕ) (pac
       (λ i. stands.low_ready.up i || stands.high_ready.up i || not (closed i))
 
   pub breaks : (count : ℕ) → AnsweredWith m packet.payload packet.number (recv_count c.receiver) E (recv_size c.receiver) c.receiver new (Err (faults.Device count))
-      → (q : Past) × IsUntaken p back q × Fails m (record c { receiver = new }) q roles.Recv count
+      → (q : Past) × IsUntaken p back q × Fails m (record c { receiver = new }) q roles.Recv count × LeavesFit m c (record c { receiver = new }) p q
   breaks count answered =
       let a = in_store m packet.payload packet.number (recv_count c.receiver) E (recv_size c.receiver) c.receiver new count answered in
       let s = a.2 in
@@ -172,6 +194,11 @@ module _ {D : Type 0} (m : Meaning D) (c : Parts D) (p : Past) (back : ℕ) (pac
           down = fails_down s.closed;
           counted = cc;
           lawful = led.lawful_taking m c p back packet stands less at a.0;
+          fits = record {
+            capacity = stands.world.capacity;
+            count = (fits_row m c p stands).count;
+            end = omega (arith, fits, led.log_end_push p.world.received packet.payload, stands.world.end);
+          };
           disks = record {
             low_disk = stands.disks.low_disk;
             high_disk = stands.disks.high_disk;
@@ -183,11 +210,12 @@ module _ {D : Type 0} (m : Meaning D) (c : Parts D) (p : Past) (back : ℕ) (pac
                 s.moves;
           };
         },
+        taking_fits (record c { receiver = new }) (record p { world = u }) (Err (faults.Device count)) s refl refl refl (λ x is. inr (packet.payload, refl, refl, is)),
       )
 
   -- the message does not fit
   pub overfull : (end size_of_message size : ℕ) → AnsweredWith m packet.payload packet.number (recv_count c.receiver) E (recv_size c.receiver) c.receiver new (Err (faults.LogFull end size_of_message size))
-      → IsOverfull p.world back end size_of_message size × Stands m (record c { receiver = new }) p
+      → IsOverfull p.world back end size_of_message size × Stands m (record c { receiver = new }) p × LeavesFit m c (record c { receiver = new }) p p
   overfull end k size answered =
       let a = full m packet.payload packet.number (recv_count c.receiver) E (recv_size c.receiver) c.receiver new end k size answered in
       let over : receiver_size < E + 2 + length packet.payload = subst (λ (n : ℕ). n < E + 2 + length packet.payload) stands.recv_ready.size a.over in (
@@ -200,4 +228,5 @@ module _ {D : Type 0} (m : Meaning D) (c : Parts D) (p : Past) (back : ℕ) (pac
           size_is = a.size_is ∙ stands.recv_ready.size;
         },
         subst (λ (r : Receiver D). Stands m (record c { receiver = r }) p) (sym a.same) stands,
+        all_alone m c p stands (record c { receiver = new }) p refl refl (ap (λ (r : Receiver D). recv_disk r) a.same),
       )

@@ -26,39 +26,39 @@ without_oldest row E b (m ∷ messages) disk some stands = record {
   slots = λ i lt. let e : b + suc i ≡ b + 1 + i = omega arith in subst (λ n. InSlot row n (slice_index_or messages i []) disk) e (stands.slots (suc i) (omega arith));
 }
 
-abbrev LowAt : SessionRow → ℕ → List Payload → List ℕ → Type 0
+abbrev pub LowAt : SessionRow → ℕ → List Payload → List ℕ → Type 0
 LowAt row removed accepted disk = LowStands row (length accepted) removed (drop removed accepted) disk
 
-low_from : (row : SessionRow) (gone : Bool) (removed : ℕ) (accepted : List Payload) (disk : List ℕ) → (gone ≡ true → removed < length accepted) → LowAt row removed accepted disk → LowAt row (if gone then removed + 1 else removed) accepted disk
+pub low_from : (row : SessionRow) (gone : Bool) (removed : ℕ) (accepted : List Payload) (disk : List ℕ) → (gone ≡ true → removed < length accepted) → LowAt row removed accepted disk → LowAt row (if gone then removed + 1 else removed) accepted disk
 low_from row false removed accepted disk some is = is
 low_from row true removed accepted disk some is =
     subst (λ l. LowStands row (length accepted) (removed + 1) l disk) (drop-drop 1 removed accepted)
     (without_oldest row (length accepted) removed (drop removed accepted) disk (omega (arith, some refl, length-drop removed accepted)) is)
 
-low_case : (row : SessionRow) (w : World) (disk : List ℕ) → w.removed ≤ length w.accepted → LowFits row w disk → (kept : Bool) × LowAt row w.removed (with_kept kept w.storing w.accepted) disk
+pub low_case : (row : SessionRow) (w : World) (disk : List ℕ) → w.removed ≤ length w.accepted → LowFits row w disk → (kept : Bool) × LowAt row w.removed (with_kept kept w.storing w.accepted) disk
 low_case row w disk le (inl is) = (false, is)
 low_case row w disk le (inr (p, e, is)) =
     let count : length w.accepted + 1 ≡ length (w.accepted ++ p ∷ []) = omega (arith, length-append w.accepted (p ∷ [])) in
     (true, rw e (subst (λ (t : ℕ × List (List ℕ)). LowStands row t.0 w.removed t.1 disk) (λ i. (count i, sym (drop-append-le w.removed w.accepted (p ∷ []) le) i)) is))
 
-high_case : (row : SessionRow) (w : World) (disk : List ℕ) → HighFits row w disk → (kept : Bool) × HighStands row (if kept && w.removing then w.removed + 1 else w.removed) disk
+pub high_case : (row : SessionRow) (w : World) (disk : List ℕ) → HighFits row w disk → (kept : Bool) × HighStands row (if kept && w.removing then w.removed + 1 else w.removed) disk
 high_case row w disk (inl is) = (false, is)
 high_case row w disk (inr (e, is)) = (true, rw e is)
 
-recv_case : (row : SessionRow) (w : World) (disk : List ℕ) → RecvFits row w disk → (kept : Bool) × RecvStands row (with_kept (kept && w.taking) w.packet w.received) disk
+pub recv_case : (row : SessionRow) (w : World) (disk : List ℕ) → RecvFits row w disk → (kept : Bool) × RecvStands row (with_kept (kept && w.taking) w.packet w.received) disk
 recv_case row w disk (inl is) = (false, is)
 recv_case row w disk (inr (p, e, t, is)) = (true, rw (t, e) is)
 
-and_right : (b c : Bool) → (b && c) ≡ true → c ≡ true
+pub and_right : (b c : Bool) → (b && c) ≡ true → c ≡ true
 and_right true c e = e
 and_right false c e = absurd (cc)
 
-kept_longer : (kept : Bool) (o : Option Payload) (ps : List Payload) → length ps ≤ length (with_kept kept o ps)
+pub kept_longer : (kept : Bool) (o : Option Payload) (ps : List Payload) → length ps ≤ length (with_kept kept o ps)
 kept_longer true (Some p) ps = omega (arith, length-append ps (p ∷ []))
 kept_longer true None ps = omega arith
 kept_longer false o ps = omega arith
 
-prefix_length : (xs rest ys : List Payload) → xs ++ rest ≡ ys → length xs ≤ length ys
+pub prefix_length : (xs rest ys : List Payload) → xs ++ rest ≡ ys → length xs ≤ length ys
 prefix_length xs rest ys e = omega (arith, ap length e, length-append xs rest)
 
 pub opens : (row : SessionRow) (w : World) (a b c : List ℕ) → IsLawful w → LowFits row w a → HighFits row w b → RecvFits row w c → Opens row a b c

@@ -15,7 +15,7 @@ use Rattle.two_worlds.specs.declared.applied.Stop.TheVariants.{Line}
 use Rattle.two_worlds.specs.declared.pump.parts.Parts.{Parts}
 use Rattle.two_worlds.specs.Connections.{Connected}
 use Rattle.two_worlds.specs.Disks.{HighFits, RecvFits, RemovesBehind}
-use Rattle.two_worlds.specs.Doing.{Serves, DisksServe, LeavesHigh, fails_at}
+use Rattle.two_worlds.specs.Doing.{Serves, DisksServe, LeavesAlone, fails_at}
 use Rattle.two_worlds.specs.Standing.{StandsForSome, disk_at}
 use Rattle.two_worlds.proofs.PartsReady.{high_reading, recv_reading}
 
@@ -43,7 +43,7 @@ module _ {D : Type 0} (m : Meaning D) (least : ℕ) (old mid new : D) (is_fault 
   serves_then (inr a) (inr b) = inr (answers_then a b)
 
 -- the first part left the high disk alone
-pub serve_then : {D : Type 0} (m : Meaning D) (c e d : Parts D) (result : Result (Unit {0}) Stop) → DisksServe m c e (Ok tt) → LeavesHigh c e → e.row ≡ c.row → DisksServe m e d result → DisksServe m c d result
+pub serve_then : {D : Type 0} (m : Meaning D) (c e d : Parts D) (result : Result (Unit {0}) Stop) → DisksServe m c e (Ok tt) → LeavesAlone roles.High c e → e.row ≡ c.row → DisksServe m e d result → DisksServe m c d result
 serve_then {D} m c e d result first same row second = record {
   low = serves_then m (low_size c.row) (disk_at roles.Low c) (disk_at roles.Low e) (disk_at roles.Low d) (fails_at roles.Low result) first.low
       (subst (λ (r : SessionRow). Serves m (low_size r) (disk_at roles.Low e) (disk_at roles.Low d) (fails_at roles.Low result)) row second.low);

@@ -10,13 +10,13 @@ use Rattle.two_worlds.specs.declared.applied.Stop.TheVariants.{Line, Device, Ful
 use Rattle.two_worlds.specs.declared.pump.parts.Parts.{Parts}
 
 -- what leads and breaks off from p also does so by the other words
-pub does_more : {D : Type 0} (m : Meaning D) (d : Parts D) (out now : List Event) (p : Past)
+pub does_more : {D : Type 0} (m : Meaning D) (c d : Parts D) (out now : List Event) (p : Past)
     (leads leads_by : Past → Past → List Event → Type 0) (breaks breaks_by : Role → Past → Past → List Event → Type 0)
     (overfills : Past → Past → List Event → ℕ → ℕ → ℕ → Type 0) (result : Result (Unit {0}) Stop)
     → ((q : Past) (printed : List Event) → leads p q printed → leads_by p q printed)
     → ((role : Role) (q : Past) (printed : List Event) → breaks role p q printed → breaks_by role p q printed)
-    → DoesFrom leads breaks overfills m d out now p result → DoesFrom leads_by breaks_by overfills m d out now p result
-does_more m d out now p leads leads_by breaks breaks_by overfills (Ok done) f g (q, printed, h, told, stand) = (q, printed, f q printed h, told, stand)
-does_more m d out now p leads leads_by breaks breaks_by overfills (Err Line) f g h = h
-does_more m d out now p leads leads_by breaks breaks_by overfills (Err (Device role faults)) f g (q, printed, h, told, fails) = (q, printed, g role q printed h, told, fails)
-does_more m d out now p leads leads_by breaks breaks_by overfills (Err (Full end length size)) f g h = h
+    → DoesFrom leads breaks overfills m c d out now p result → DoesFrom leads_by breaks_by overfills m c d out now p result
+does_more m c d out now p leads leads_by breaks breaks_by overfills (Ok done) f g (q, printed, h, told, stand, fit) = (q, printed, f q printed h, told, stand, fit)
+does_more m c d out now p leads leads_by breaks breaks_by overfills (Err Line) f g h = h
+does_more m c d out now p leads leads_by breaks breaks_by overfills (Err (Device role faults)) f g (q, printed, h, told, fails, fit) = (q, printed, g role q printed h, told, fails, fit)
+does_more m c d out now p leads leads_by breaks breaks_by overfills (Err (Full end length size)) f g h = h

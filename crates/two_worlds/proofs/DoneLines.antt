@@ -17,9 +17,10 @@ use Rattle.script_reader.specs.Breaks.{IsUntaken, IsUnremoved, BreaksOff}
 use Rattle.two_worlds.specs.declared.applied.Stop.{Stop}
 use Rattle.two_worlds.specs.declared.applied.Stop.TheVariants.{Line, Device, Full}
 use Rattle.two_worlds.specs.declared.pump.parts.Parts.{Parts}
-use Rattle.two_worlds.specs.Doing.{Does, NeverBreaks, NeverOverfills}
+use Rattle.two_worlds.specs.Doing.{Does, LeavesFit, LeavesAlone, NeverBreaks, NeverOverfills}
 use Rattle.two_worlds.specs.Standing.{Stands, number_of}
 use Rattle.two_worlds.specs.LineSteps.{goes_on_by, CarriesBack, IsOverfullSent, Runs}
+use Rattle.two_worlds.proofs.ImagesFit.{Reads, stands_reads, fails_reads, both_fit, later_fits}
 use Rattle.two_worlds.proofs.HandFull.{goes_before, sent_after}
 use Rattle.two_worlds.proofs.TimelyLines.{goes_is}
 
@@ -64,22 +65,34 @@ module _ {D : Type 0} (m : Meaning D) (c d : Parts D) (moment : ℕ) (out now : 
   carry_ends Line carry p s = carry p s
   carry_ends (Device role faults) carry p s =
       let a = carry p s in
-      (a.0, a.1, subst (λ (r : Role). BreaksOff c.row p moment r a.0 a.1) (sym a.2.0) (a.2.1, a.2.2), a.3, a.4)
+      (a.0, a.1, subst (λ (r : Role). BreaksOff c.row p moment r a.0 a.1) (sym a.2.0) (a.2.1, a.2.2), a.3, a.4, a.5)
   carry_ends (Full end k size) carry p s = carry p s
 
+  -- the receiver's disk alone is called until e, and the high one alone from there on
+  pub record Between (e : Parts D) : Type 0 where
+    pub low : LeavesAlone roles.Low c e
+    pub high : LeavesAlone roles.High c e
+    pub row : e.row ≡ c.row
+    pub low_after : LeavesAlone roles.Low e d
+    pub recv_after : LeavesAlone roles.Recv e d
+    pub row_after : d.row ≡ e.row
+
+  both : (e : Parts D) (p mid q : Past) → Between e → Stands m c p → Stands m e mid → Reads m d q → LeavesFit m c e p mid → LeavesFit m e d mid q → LeavesFit m c d p q
+  both e p mid q b s s' reads first second = both_fit m c e d p mid q s s' b.row (b.low_after ∙ b.low) b.high b.recv_after b.row_after reads first second
+
   -- the TAKEN comes back
-  pub carry_back : (e : Parts D) (mid : List Event) (result : Result (Unit {0}) Stop) → CarryDoes e mid (Ok tt) → BackDoes c.row e mid result → CarryBackDoes result
-  carry_back e mid (Ok done) carry back p s =
+  pub carry_back : (e : Parts D) (mid : List Event) (result : Result (Unit {0}) Stop) → Between e → CarryDoes e mid (Ok tt) → BackDoes c.row e mid result → CarryBackDoes result
+  carry_back e mid (Ok done) between carry back p s =
       let a = carry p s in
       let b = back a.0 a.4 in
-      (b.0, a.1 ++ b.1, (a.0, a.1, b.1, a.2, b.2, refl), b.3 ∙ ap (λ l. l ++ b.1) a.3 ∙ append_assoc out a.1 b.1, b.4)
-  carry_back e mid (Err Line) carry back p s = (let a = carry p s in back a.0 a.4)
-  carry_back e mid (Err (Device role faults)) carry back p s =
+      (b.0, a.1 ++ b.1, (a.0, a.1, b.1, a.2, b.2, refl), b.3 ∙ ap (λ l. l ++ b.1) a.3 ∙ append_assoc out a.1 b.1, b.4, both e p a.0 b.0 between s a.4 (stands_reads m d b.0 b.4) a.5 b.5)
+  carry_back e mid (Err Line) between carry back p s = (let a = carry p s in back a.0 a.4)
+  carry_back e mid (Err (Device role faults)) between carry back p s =
       let a = carry p s in
       let b = back a.0 a.4 in
       let nothing : now ≡ mid = b.3 ∙ ap (λ l. mid ++ l) b.2.2 ∙ append-nil mid in
-      (b.0, a.1, subst (λ (r : Role). BreaksOff c.row p moment r b.0 a.1) (sym b.2.0) (a.0, a.2, b.2.1), nothing ∙ a.3, b.4)
-  carry_back e mid (Err (Full end k size)) carry back p s = (let a = carry p s in absurd (back a.0 a.4).2)
+      (b.0, a.1, subst (λ (r : Role). BreaksOff c.row p moment r b.0 a.1) (sym b.2.0) (a.0, a.2, b.2.1), nothing ∙ a.3, b.4, both e p a.0 b.0 between s a.4 (fails_reads m d b.0 role faults b.4) a.5 b.5)
+  carry_back e mid (Err (Full end k size)) between carry back p s = (let a = carry p s in absurd (back a.0 a.4).2)
 
 -- ---- the whole line ----
 
@@ -105,30 +118,41 @@ module _ {D : Type 0} (m : Meaning D) (c d : Parts D) (moment time : ℕ) (out n
   done_here looks none p s =
       let a = looks p s in
       let rest = stops a.0.world.high_hand a.0 (hand_empty m d a.0 a.4 none) in
-      (a.0, a.1, (a.0, a.1, [], a.2, rest, sym (append-nil a.1)), a.3, a.4)
+      (a.0, a.1, (a.0, a.1, [], a.2, rest, sym (append-nil a.1)), a.3, a.4, a.5)
+
+  -- no disk is called until e, and not the low one from there on
+  pub record Before (e : Parts D) : Type 0 where
+    pub low : LeavesAlone roles.Low c e
+    pub high : LeavesAlone roles.High c e
+    pub recv : LeavesAlone roles.Recv c e
+    pub row : e.row ≡ c.row
+    pub low_after : LeavesAlone roles.Low e d
+
+  later : (e : Parts D) (p mid q : Past) → Before e → Stands m c p → Stands m e mid → LeavesFit m e d mid q → LeavesFit m c d p q
+  later e p mid q b s s' fits = later_fits m c e d p mid q s s' b.row (b.low_after ∙ b.low) b.high b.recv fits
 
   -- its message goes on
-  pub done_on : (e : Parts D) (mid : List Event) (result : Result (Unit {0}) Stop) → HighDoes e mid → is_some (high.hand_of e.high) ≡ true
+  pub done_on : (e : Parts D) (mid : List Event) (result : Result (Unit {0}) Stop) → Before e → HighDoes e mid → is_some (high.hand_of e.high) ≡ true
       → BackFrom m d moment time now c.row e mid result
       → Runs m c d (lines.Done c.row.id moment time) out now result
-  done_on e mid (Ok done) looks some does p s =
+  done_on e mid (Ok done) before looks some does p s =
       let a = looks p s in
       let n = hand_is m e a.0 a.4 some in
       let b = does a.0 a.4 in
-      (b.0, a.1 ++ b.1, (a.0, a.1, b.1, a.2, goes a.0.world.high_hand n.0 a.0 b.0 b.1 n.1 b.2, refl), b.3 ∙ ap (λ l. l ++ b.1) a.3 ∙ append_assoc out a.1 b.1, b.4)
-  done_on e mid (Err Line) looks some does p s = (let a = looks p s in absurd (does a.0 a.4))
-  done_on e mid (Err (Device role faults)) looks some does p s =
+      (b.0, a.1 ++ b.1, (a.0, a.1, b.1, a.2, goes a.0.world.high_hand n.0 a.0 b.0 b.1 n.1 b.2, refl), b.3 ∙ ap (λ l. l ++ b.1) a.3 ∙ append_assoc out a.1 b.1, b.4, later e p a.0 b.0 before s a.4 b.5)
+  done_on e mid (Err Line) before looks some does p s = (let a = looks p s in absurd (does a.0 a.4))
+  done_on e mid (Err (Device role faults)) before looks some does p s =
       let a = looks p s in
       let n = hand_is m e a.0 a.4 some in
       let b = does a.0 a.4 in
-      (b.0, a.1 ++ b.1, (a.0, n.0, a.1, b.1, a.2, n.1, b.2, refl), b.3 ∙ ap (λ l. l ++ b.1) a.3 ∙ append_assoc out a.1 b.1, b.4)
-  done_on e mid (Err (Full end k size)) looks some does p s =
+      (b.0, a.1 ++ b.1, (a.0, n.0, a.1, b.1, a.2, n.1, b.2, refl), b.3 ∙ ap (λ l. l ++ b.1) a.3 ∙ append_assoc out a.1 b.1, b.4, later e p a.0 b.0 before s a.4 b.5)
+  done_on e mid (Err (Full end k size)) before looks some does p s =
       let a = looks p s in
       let n = hand_is m e a.0 a.4 some in
       let b = does a.0 a.4 in
       let nothing : now ≡ mid = b.3 ∙ ap (λ l. mid ++ l) b.2.2 ∙ append-nil mid in
       let look = subst (λ (x : Past). IsHighLook c.row p moment None x a.1) (sym b.2.0) a.2 in
-      (b.0, a.1, (look, (a.0, n.0, a.2, n.1, b.2.1)), nothing ∙ a.3, b.4)
+      (b.0, a.1, (look, (a.0, n.0, a.2, n.1, b.2.1)), nothing ∙ a.3, b.4, later e p a.0 b.0 before s a.4 b.5)
 
   -- the message was sent before it is carried, and the line had time for it
   module _ (e : Parts D) (mid : List Event) (looks : HighDoes e mid) (some : is_some (high.hand_of e.high) ≡ true) (p : Past) (s : Stands m c p) where

@@ -1,18 +1,19 @@
 -- A high look in which the high disk fails, or a TAKEN is refused.
-use Rattle.std.proofs.Common.{◌≡◌, ℕ, ◌≤◌, Bool, true, false, [], ◌∷◌, Option, Some, None, Result, Err, refl, sym, ap, ◌∙◌, subst, arith}
+use Rattle.std.proofs.Common.{◌≡◌, inr, ℕ, ◌≤◌, Bool, true, false, [], ◌∷◌, Option, Some, None, Result, Err, refl, sym, ap, ◌∙◌, subst, arith}
 use Rattle.std.specs.Prelude.{◌||◌, not}
 use Rattle.disk_model.specs.Disk.{Meaning}
 use Rattle.disk_model.specs.declared.name.Role.TheVariants as roles
 use Rattle.pump_frame.specs.declared.frame.Frame.{Frame}
+use Rattle.stable_buffer.specs.Low.{low_disk}
 use Rattle.stable_buffer.specs.High.{high_disk}
 use Rattle.stable_buffer.specs.declared.high.HighStore.{HighStore}
-use Rattle.high_receiver.specs.Receiving.{recv_is_open}
+use Rattle.high_receiver.specs.Receiving.{recv_disk, recv_is_open}
 use Rattle.pump_core.specs.declared.event.Event.TheVariants.{ReturnTaken, RemoveBegin}
 use Rattle.pump_core.proofs.Laws.{runs_lawfully}
 use Rattle.passage.specs.declared.plain.PlainEnds.{PlainEnds}
 use Rattle.low_process.specs.Looks as low
 use Rattle.high_process.specs.States as high
-use Rattle.high_process.specs.Storing.{Fares}
+use Rattle.high_process.specs.Storing.{Fares, LeavesCounted}
 use Rattle.high_process.specs.declared.process.HighProcess.{HighProcess}
 use Rattle.high_process.specs.declared.values.HighFault.{HighFault}
 use Rattle.high_process.specs.declared.values.HighFault.TheVariants.{Ahead, Behind, Device}
@@ -22,9 +23,12 @@ use Rattle.high_process.specs.declared.values.Task.TheVariants.{Refuse, Remove, 
 use Rattle.script_reader.specs.Past.{Past}
 use Rattle.script_reader.specs.Highs.{IsReturnBy}
 use Rattle.two_worlds.specs.Standing.{Stands}
-use Rattle.two_worlds.specs.Doing.{Fails}
+use Rattle.two_worlds.specs.Disks.{LowFits, HighFits, RecvFits}
+use Rattle.two_worlds.specs.Doing.{Fails, LeavesFit}
 use Rattle.two_worlds.specs.HighLooks.{ComesBack, LeadsWith, BreaksWith}
 use Rattle.two_worlds.specs.declared.pump.parts.Parts.{Parts}
+use Rattle.two_worlds.proofs.ImagesFit.{low_alone, recv_alone, all_alone, high_leaves}
+use Rattle.two_worlds.proofs.LeavesWorld.{fits_row}
 use Rattle.two_worlds.proofs.HighRemovals.{Asks, TakesHand, with_due, with_begun, asks}
 use Rattle.two_worlds.proofs.HighDisks.{failed, broken_disks}
 
@@ -46,9 +50,10 @@ module _ {D : Type 0} (m : Meaning D) (c : Parts D) (p : Past) (stands : Stands 
     pub end : Past
     pub breaks : BreaksWith moment back roles.High p end []
     pub fails : Fails m (broken_parts c moment q store ends) end roles.High faults
+    pub fits : LeavesFit m c (broken_parts c moment q store ends) p end
 
-  breaks_removing : (k faults : ℕ) → TakesHand c p k → Fares m Remove c.high q c.high_store store (failed (Device faults)) → Broken (Some k) faults
-  breaks_removing k faults takes fares = record {
+  breaks_removing : (frame : Option Frame) → LeavesCounted m c.high c.high_store store frame → (k faults : ℕ) → TakesHand c p k → Fares m Remove c.high q c.high_store store (failed (Device faults)) → Broken (Some k) faults
+  breaks_removing frame leaves k faults takes fares = record {
     end = record p { world = with_begun p.world; moment = moment };
     breaks = (
       refl,
@@ -60,22 +65,28 @@ module _ {D : Type 0} (m : Meaning D) (c : Parts D) (p : Past) (stands : Stands 
       counted = same_count faults (m.count (high_disk store)) fares.0.fault;
       lawful = runs_lawfully p.world (ReturnTaken k ∷ RemoveBegin ∷ []) (with_begun p.world) stands.lawful
           (with_due p.world, takes.returns, (with_begun p.world, (refl, stands.rest.removing, refl), refl));
+      fits = (let f = fits_row m c p stands in record { capacity = f.capacity; count = f.count; end = f.end });
       disks = broken_disks m c p stands store (Device faults) fares.0;
+    };
+    fits = record {
+      low = low_alone m c p stands (LowFits c.row (with_begun p.world)) (low_disk c.low_store) refl;
+      high = high_leaves m c p stands (HighFits c.row (with_begun p.world)) store frame leaves (λ x is. inr (refl, is));
+      recv = recv_alone m c p stands (RecvFits c.row (with_begun p.world)) (recv_disk c.receiver) refl;
     };
   }
 
-  breaks_by : (task : Task) (back : Option ℕ) (faults : ℕ) → Asks c p back task → Fares m task c.high q c.high_store store (failed (Device faults)) → Broken back faults
-  breaks_by Keep back faults asked fares = absurd fares.0
-  breaks_by Remove None faults asked fares = absurd asked
-  breaks_by Remove (Some k) faults asked fares = breaks_removing k faults asked.0 fares
-  breaks_by (Refuse e) None faults asked fares = absurd asked
-  breaks_by (Refuse (Ahead n next)) (Some k) faults asked fares = let no = fares.0 in absurd (cc)
-  breaks_by (Refuse (Behind n next)) (Some k) faults asked fares = absurd asked
-  breaks_by (Refuse (Device n)) (Some k) faults asked fares = absurd asked
+  breaks_by : (frame : Option Frame) → LeavesCounted m c.high c.high_store store frame → (task : Task) (back : Option ℕ) (faults : ℕ) → Asks c p back task → Fares m task c.high q c.high_store store (failed (Device faults)) → Broken back faults
+  breaks_by frame leaves Keep back faults asked fares = absurd fares.0
+  breaks_by frame leaves Remove None faults asked fares = absurd asked
+  breaks_by frame leaves Remove (Some k) faults asked fares = breaks_removing frame leaves k faults asked.0 fares
+  breaks_by frame leaves (Refuse e) None faults asked fares = absurd asked
+  breaks_by frame leaves (Refuse (Ahead n next)) (Some k) faults asked fares = let no = fares.0 in absurd (cc)
+  breaks_by frame leaves (Refuse (Behind n next)) (Some k) faults asked fares = absurd asked
+  breaks_by frame leaves (Refuse (Device n)) (Some k) faults asked fares = absurd asked
 
   pub breaks : (frame : Option Frame) (back : Option ℕ) (faults : ℕ) → ComesBack c.row.id p.world frame back
-      → Fares m (high.task_at c.high frame) c.high q c.high_store store (failed (Device faults)) → Broken back faults
-  breaks frame back faults comes fares = breaks_by (high.task_at c.high frame) back faults (asks m c p stands frame back comes) fares
+      → Fares m (high.task_at c.high frame) c.high q c.high_store store (failed (Device faults)) → LeavesCounted m c.high c.high_store store frame → Broken back faults
+  breaks frame back faults comes fares leaves = breaks_by frame leaves (high.task_at c.high frame) back faults (asks m c p stands frame back comes) fares
 
   -- ---- a TAKEN that is refused ----
 
@@ -84,6 +95,7 @@ module _ {D : Type 0} (m : Meaning D) (c : Parts D) (p : Past) (stands : Stands 
     pub end : Past
     pub leads : LeadsWith c.row moment back p end []
     pub stand : Stands m (broken_parts c moment q store ends) end
+    pub fits : LeavesFit m c (broken_parts c moment q store ends) p end
 
   waits : Stands m (record c { moment = moment }) (record p { moment = moment })
   waits = record {
@@ -137,6 +149,7 @@ module _ {D : Type 0} (m : Meaning D) (c : Parts D) (p : Past) (stands : Stands 
     end = record p { moment = moment };
     leads = subst (λ (b : Bool). IsReturnBy b c.row p moment back (record p { moment = moment }) []) (sym asked) (refl, refl);
     stand = subst (λ (d : Parts D). Stands m d (record p { moment = moment })) (λ i. record c { high = sym fares.1 i; high_store = sym fares.2 i; ends = sym same i; moment = moment }) waits;
+    fits = all_alone m c p stands (broken_parts c moment q store ends) (record p { moment = moment }) refl (ap high_disk fares.2) refl;
   }
   refused_by (Refuse (Behind k e)) (Some back) n next asked fares same = absurd asked
   refused_by (Refuse (Device k)) (Some back) n next asked fares same = absurd asked

@@ -1,5 +1,5 @@
 -- A whole high look, by what comes back.
-use Rattle.std.proofs.Common.{◌≡◌, ℕ, ◌+◌, ◌≤◌, Bool, true, false, List, [], ◌∷◌, ◌++◌, length, Option, Some, None, refl, sym, ap, ◌∙◌, subst, arith, append-nil, length-append}
+use Rattle.std.proofs.Common.{◌≡◌, inl, ℕ, ◌+◌, ◌≤◌, Bool, true, false, List, [], ◌∷◌, ◌++◌, length, Option, Some, None, refl, sym, ap, ◌∙◌, subst, arith, append-nil, length-append}
 use Rattle.std.specs.Prelude.{option_to_list}
 use Rattle.disk_model.specs.Disk.{Meaning}
 use Rattle.pump_frame.specs.declared.frame.Frame.{Frame}
@@ -18,7 +18,7 @@ use Rattle.high_process.specs.States as high
 use Rattle.high_process.specs.Past as high_past
 use Rattle.high_process.specs.Ends.{Takes, told_time, StandsFitting}
 use Rattle.high_process.specs.Looks.{Stands as HighStandsFor, Looked}
-use Rattle.high_process.specs.Storing.{Removing, Fares}
+use Rattle.high_process.specs.Storing.{Removing, Fares, LeavesCounted}
 use Rattle.high_process.specs.declared.process.HighProcess.{HighProcess}
 use Rattle.high_process.specs.declared.values.HighLook.{HighLook}
 use Rattle.high_process.specs.declared.values.Task.{Task}
@@ -29,9 +29,12 @@ use Rattle.script_reader.specs.Past.{Past}
 use Rattle.script_reader.specs.Highs.{IsHighLook, IsReturnBy, is_ahead}
 use Rattle.two_worlds.specs.Standing.{HoldsWorld, Stands, kept_of, high_past_of}
 use Rattle.two_worlds.specs.Timelines.{IsAtRest}
-use Rattle.two_worlds.specs.Disks.{DisksFit}
+use Rattle.stable_buffer.specs.Stands.{HighStands}
+use Rattle.two_worlds.specs.Disks.{LowFits, HighFits, RecvFits, DisksFit}
+use Rattle.two_worlds.specs.Doing.{LeavesFit}
 use Rattle.two_worlds.specs.HighLooks.{ComesBack, LeadsWith, most_lines, removed_line, sent_line, printed_look}
 use Rattle.two_worlds.specs.declared.pump.parts.Parts.{Parts}
+use Rattle.two_worlds.proofs.ImagesFit.{low_alone, recv_alone, all_alone, high_leaves}
 use Rattle.two_worlds.proofs.HighRemovals.{Asks, TakesHand, without_first, with_due, asks, attaches_not, keeps, removes, removal, time_in}
 use Rattle.two_worlds.proofs.HighFetching.{FetchedBy, fetched_by}
 use Rattle.two_worlds.proofs.HighDisks.{went, removed_disks}
@@ -90,13 +93,14 @@ module _ {D : Type 0} (m : Meaning D) (c : Parts D) (p : Past) (stands : Stands 
     pub leads : LeadsWith c.row moment back p end printed
     pub printed_is : printed ≡ printed_look c.row.id moment look
     pub stand : Stands m (looked_parts m c moment q store ends look.sent) end
+    pub fits : LeavesFit m c (looked_parts m c moment q store ends look.sent) p end
 
   -- .. in the words of a part of a line
   pub led : (back : Option ℕ) (look : HighLook) → Leads back look → (out now : List Event) → now ≡ out ++ printed_look c.row.id moment look
       → (d : Parts D) → d ≡ looked_parts m c moment q store ends look.sent
-      → (end : Past) × (printed : List Event) × LeadsWith c.row moment back p end printed × (now ≡ out ++ printed) × Stands m d end
+      → (end : Past) × (printed : List Event) × LeadsWith c.row moment back p end printed × (now ≡ out ++ printed) × Stands m d end × LeavesFit m c d p end
   led back look l out now told d is =
-      (l.end, l.printed, l.leads, told ∙ ap (λ (more : List Event). out ++ more) (sym l.printed_is), subst (λ (e : Parts D). Stands m e l.end) (sym is) l.stand)
+      (l.end, l.printed, l.leads, told ∙ ap (λ (more : List Event). out ++ more) (sym l.printed_is), subst (λ (e : Parts D). Stands m e l.end) (sym is) l.stand, subst (λ (e : Parts D). LeavesFit m c e p l.end) (sym is) l.fits)
 
   abbrev past : high_past.Past
   past = high_past_of c p
@@ -126,6 +130,7 @@ module _ {D : Type 0} (m : Meaning D) (c : Parts D) (p : Past) (stands : Stands 
           leads = leads_fine c.row p moment back e.end e.printed fine (p, [], e.printed, keeps m c p stands moment back returns, e.is_sending, refl);
           printed_is = e.printed_is ∙ sym (ap (λ (t : Option ℕ × Option ℕ). removed_line c.row.id moment t.0 t.1 ++ sent_line c.row.id moment look.sent) (λ i. (removed i, published i)));
           stand = e.stand;
+          fits = all_alone m c p stands (looked_parts m c moment q store ends look.sent) e.end refl (ap high_disk same) refl;
         }
 
     -- the message in the hand is removed
@@ -162,9 +167,9 @@ module _ {D : Type 0} (m : Meaning D) (c : Parts D) (p : Past) (stands : Stands 
       next_is : high_past.begun Remove past moment ≡ next
       next_is = refl
 
-      looks_removing : is_ahead p.world k ≡ false → Removing m c.high_store store (went look) → look.removed ≡ Some past.removed → look.published ≡ time
+      looks_removing : (frame : Option Frame) → LeavesCounted m c.high c.high_store store frame → is_ahead p.world k ≡ false → Removing m c.high_store store (went look) → look.removed ≡ Some past.removed → look.published ≡ time
           → Seen c.row.resend false time look.sent (high_past.begun Remove past moment) → Leads (Some k) look
-      looks_removing fine removing removed published seen =
+      looks_removing frame leaves fine removing removed published seen =
           let (got, takes, stood, sent) = subst (Seen c.row.resend false time look.sent) next_is seen in
           let fetched = fetched_by (shape_of c.ends) c.ends ends q stands.ends.low stands.ends.high time (high_past.wants next) next.removed got stands.ends.stand takes in
           let times : stands.ends.high.times ++ option_to_list time ≡ p.times ++ option_to_list time = ap (λ (l : List ℕ). l ++ option_to_list time) stands.ends.times in
@@ -180,6 +185,11 @@ module _ {D : Type 0} (m : Meaning D) (c : Parts D) (p : Past) (stands : Stands 
                 (record p { world = u; times = next.times }, first, e.printed, removes m c p stands moment k takes_hand, e.is_sending, refl);
             printed_is = ap (λ (l : List Event). first ++ l) e.printed_is ∙ sym (ap (λ (t : Option ℕ × Option ℕ). removed_line c.row.id moment t.0 t.1 ++ sent_line c.row.id moment look.sent) (λ i. (removed i, published i)));
             stand = e.stand;
+            fits = record {
+              low = low_alone m c p stands (LowFits c.row e.end.world) (low_disk c.low_store) refl;
+              high = high_leaves m c p stands (HighFits c.row e.end.world) store frame leaves (λ x is. inl (subst (λ n. HighStands c.row n x) (sym e.removed_is) is));
+              recv = recv_alone m c p stands (RecvFits c.row e.end.world) (recv_disk c.receiver) refl;
+            };
           }
 
     abbrev LookedBy : Task → Bool → ℕ → Type 0
@@ -187,21 +197,21 @@ module _ {D : Type 0} (m : Meaning D) (c : Parts D) (p : Past) (stands : Stands 
         (look.removed ≡ high_past.removed_in task past) × (look.published ≡ high_past.published_in task past moment)
         × Seen resend attaches (high_past.published_in task past moment) look.sent (high_past.begun task past moment)
 
-    by_task : (task : Task) (back : Option ℕ) → Asks c p back task → Fares m task c.high q c.high_store store (went look) → LookedBy task false c.row.resend → Leads back look
-    by_task Keep None asked fares (a, b, seen) = looks_keeping None refl tt fares.1 a b seen
-    by_task Keep (Some k) asked fares (a, b, seen) = looks_keeping (Some k) asked.0 asked.1 fares.1 a b seen
-    by_task Remove None asked fares seen = absurd asked
-    by_task Remove (Some k) asked fares (a, b, seen) = looks_removing k asked.0 asked.1 fares.0 a b seen
-    by_task (Refuse e) back asked fares seen = let no = fares.0 in absurd (cc)
+    by_task : (frame : Option Frame) → LeavesCounted m c.high c.high_store store frame → (task : Task) (back : Option ℕ) → Asks c p back task → Fares m task c.high q c.high_store store (went look) → LookedBy task false c.row.resend → Leads back look
+    by_task frame leaves Keep None asked fares (a, b, seen) = looks_keeping None refl tt fares.1 a b seen
+    by_task frame leaves Keep (Some k) asked fares (a, b, seen) = looks_keeping (Some k) asked.0 asked.1 fares.1 a b seen
+    by_task frame leaves Remove None asked fares seen = absurd asked
+    by_task frame leaves Remove (Some k) asked fares (a, b, seen) = looks_removing k asked.0 frame leaves asked.1 fares.0 a b seen
+    by_task frame leaves (Refuse e) back asked fares seen = let no = fares.0 in absurd (cc)
 
     pub looks : (frame : Option Frame) (back : Option ℕ) → ComesBack c.row.id p.world frame back
         → Fares m (high.task_at c.high frame) c.high q c.high_store store (went look)
         → Looked (shape_of c.ends) true (StandsFitting (EndsStand ends) q) stands.ends.low stands.ends.high c.high q past moment (high.task_at c.high frame) (high.attaches_at c.high frame) look
-        → Leads back look
-    looks frame back comes fares looked =
+        → LeavesCounted m c.high c.high_store store frame → Leads back look
+    looks frame back comes fares looked leaves =
         let attaches : high.attaches_at c.high frame ≡ false = attaches_not (high.row_of c.high).id c.row.id p.world frame back comes in
         let resend : (high.row_of c.high).resend ≡ c.row.resend = ap (λ (r : SessionRow). r.resend) stands.high_ready.row in
         let task = high.task_at c.high frame in
         let seen : LookedBy task (high.attaches_at c.high frame) (high.row_of c.high).resend =
         (ap (λ (l : HighLook). l.removed) looked.is, ap (λ (l : HighLook). l.published) looked.is, (looked.got, looked.ends, looked.stands, ap (λ (l : HighLook). l.sent) looked.is)) in
-        by_task task back (asks m c p stands frame back comes) fares (subst (λ (t : Bool × ℕ). LookedBy task t.0 t.1) (λ i. (attaches i, resend i)) seen)
+        by_task frame leaves task back (asks m c p stands frame back comes) fares (subst (λ (t : Bool × ℕ). LookedBy task t.0 t.1) (λ i. (attaches i, resend i)) seen)

@@ -66,6 +66,7 @@ module _ {D : Type 0} (m : Meaning D) (c : Parts D) (p : Past) (stands : Stands 
     pub printed : List Event
     pub is_sending : IsSending c.row mid moment end printed
     pub printed_is : printed ≡ sent_line c.row.id moment sent
+    pub removed_is : end.world.removed ≡ w.removed
     pub stand : Stands m parts end
 
   module _ (got : Option Item) (b : Bool) (b_is : b ≡ high_past.is_sent c.row.resend false (high_past.taken_up past got) moment)
@@ -91,6 +92,7 @@ module _ {D : Type 0} (m : Meaning D) (c : Parts D) (p : Past) (stands : Stands 
       printed = s.printed;
       is_sending = s.is_sending;
       printed_is = s.printed_is ∙ ap (sent_line c.row.id moment) (sym sent_is);
+      removed_is = ap (λ (e : Past). e.world.removed) same;
       stand = subst (λ (e : Past). Stands m parts e) (sym same) (record {
         row = stands.row;
         history = stands.history;

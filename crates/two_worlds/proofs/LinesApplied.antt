@@ -23,6 +23,7 @@ use Rattle.two_worlds.specs.LineSteps.{LeavesOff, Attempts, AttemptsFrom, answer
 use Rattle.two_worlds.specs.Standing.{Stands, is_down}
 use Rattle.two_worlds.specs.LowPumps.{is_device}
 use Rattle.two_worlds.specs.Pumps.{Applies, row_of}
+use Rattle.two_worlds.proofs.TimelineScripts.{line_goes}
 
 -- the answer is the one of its reason to stop
 pub answer_is : (answer : Result (Unit {0}) Stop) (stop : Option Stop) → stop ≡ result_err answer → answer ≡ answer_of stop
@@ -83,13 +84,19 @@ pump_is : {D : Type 0} {g : _} (s t : Pump D g) → t.parts ≡ s.parts → t �
 pump_is s t e = kept_is s t.parts (sym e) t.keeps
 
 pub applied : {D : Type 0} {g : _} (m : Meaning D) (s t : Pump D g) (line : ScriptLine) (p : Past) (printed : List Event) (stop : Option Stop) → AttemptsFrom m s.parts t.parts line [] printed p (answer_of stop) → Applies m s t line p printed stop
-applied m s t line p printed None a = (a.0, (a.1.0, subst (λ (l : List Event). Step (row_of s) p line a.1.0 l) (sym a.1.3) a.1.2, a.1.4))
+applied m s t line p printed None a = (a.0, (
+  a.1.0,
+  subst (λ (l : List Event). Step (row_of s) p line a.1.0 l) (sym a.1.3) a.1.2,
+  a.1.4,
+  a.1.5,
+  λ steps point timeline. line_goes (row_of s) p line a.1.0 a.1.1 steps point a.0 a.1.2 timeline,
+))
 applied m s t line p printed (Some Line) a = (a.2, a.1, pump_is s t a.0)
-applied m s t line p printed (Some (Device role faults)) a = (a.0, (a.1.0, subst (λ (l : List Event). Breaks (row_of s) p line role a.1.0 l) (sym a.1.3) a.1.2, a.1.4))
+applied m s t line p printed (Some (Device role faults)) a = (a.0, (a.1.0, subst (λ (l : List Event). Breaks (row_of s) p line role a.1.0 l) (sym a.1.3) a.1.2, a.1.4, a.1.5))
 applied m s t line p printed (Some (Full end k size)) a = (
   a.0,
   subst (λ (l : List Event). Overfills (row_of s) p line l end k size) (sym a.1.3) a.1.2.1,
-  (a.1.0, subst (λ (l : List Event). LeavesOff (row_of s) p line a.1.0 l) (sym a.1.3) a.1.2.0, a.1.4),
+  (a.1.0, subst (λ (l : List Event). LeavesOff (row_of s) p line a.1.0 l) (sym a.1.3) a.1.2.0, a.1.4, a.1.5),
 )
 
 -- ---- the row ----

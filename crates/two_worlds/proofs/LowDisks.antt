@@ -16,7 +16,7 @@ use Rattle.two_worlds.specs.Disks.{live_messages, LowFits, HighFits, RecvFits}
 use Rattle.two_worlds.proofs.PartsReady.{low_reading}
 use Rattle.two_worlds.proofs.LowGrows.{Grows}
 
-live_push : (w : World) (p : Payload) → w.removed ≤ length w.accepted → drop w.removed (w.accepted ++ p ∷ []) ≡ live_messages w ++ p ∷ []
+pub live_push : (w : World) (p : Payload) → w.removed ≤ length w.accepted → drop w.removed (w.accepted ++ p ∷ []) ≡ live_messages w ++ p ∷ []
 live_push w p le = drop-append-le w.removed w.accepted (p ∷ []) le
 
 low_same : (row : SessionRow) (w v : World) (disk : List ℕ) → v.accepted ≡ w.accepted → v.removed ≡ w.removed → LowStands row (length w.accepted) w.removed (live_messages w) disk → LowFits row v disk

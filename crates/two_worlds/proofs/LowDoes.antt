@@ -18,7 +18,7 @@ use Rattle.script_reader.specs.Steps.{IsLowLook, IsOfferedLook}
 use Rattle.script_reader.specs.Breaks.{IsLost, IsLostLook}
 use Rattle.two_worlds.specs.declared.applied.Stop.{Stop}
 use Rattle.two_worlds.specs.declared.pump.parts.Parts.{Parts}
-use Rattle.two_worlds.specs.Doing.{DoesFrom, Fails, NeverBreaks, NeverOverfills}
+use Rattle.two_worlds.specs.Doing.{DoesFrom, Fails, LeavesFit, NeverBreaks, NeverOverfills}
 use Rattle.two_worlds.specs.LowLooks.{stop_of}
 use Rattle.two_worlds.specs.Printing.{look_prints}
 use Rattle.two_worlds.specs.Standing.{Stands}
@@ -44,13 +44,13 @@ module _ {D : Type 0} (m : Meaning D) (c d : Parts D) (moment word : ℕ) (a : A
   in_store (Some t) e s = (t, e)
 
   offered_fine : a ≡ first_of p.is_broken p.waits → Looked m c d moment word a false l
-      → (q : Past) × (printed : List Event) × IsOfferedLook c.row p moment word q printed × (now ≡ out ++ printed) × Stands m d q
+      → (q : Past) × (printed : List Event) × IsOfferedLook c.row p moment word q printed × (now ≡ out ++ printed) × Stands m d q × LeavesFit m c d p q
   offered_fine first did =
       let r = look_leads m c d p moment word a l did stands order in
-      (r.0, look_prints c.row.id moment l, subst (λ (t : Arrival). IsLowLook c.row p moment word t r.0 (look_prints c.row.id moment l)) first (l.feedback, r.1), prints, r.2)
+      (r.0, look_prints c.row.id moment l, subst (λ (t : Arrival). IsLowLook c.row p moment word t r.0 (look_prints c.row.id moment l)) first (l.feedback, r.1), prints, r.2, r.3)
 
   offered_lost : a ≡ first_of p.is_broken p.waits → Looked m c d moment word a true l
-      → (q : Past) × (printed : List Event) × ((roles.Low ≡ roles.Low) × IsLost c.row p moment word q printed) × (now ≡ out ++ printed) × Fails m d q roles.Low (m.count (low_disk d.low_store))
+      → (q : Past) × (printed : List Event) × ((roles.Low ≡ roles.Low) × IsLost c.row p moment word q printed) × (now ≡ out ++ printed) × Fails m d q roles.Low (m.count (low_disk d.low_store)) × LeavesFit m c d p q
   offered_lost first did =
       let t = in_store (message_in c.low a) refl did.step.keeps in
       let r = look_loses m c d p moment word a l did stands order t.0 t.1 in (
@@ -59,28 +59,29 @@ module _ {D : Type 0} (m : Meaning D) (c d : Parts D) (moment word : ℕ) (a : A
         (refl, subst (λ (u : Arrival). IsLostLook c.row p (look_of moment word u true Quiet) r.0 (look_prints c.row.id moment l)) first r.1),
         prints,
         r.2,
+        r.3,
       )
 
   pub offered_does : (is_fault : Bool) (result : Result (Unit {0}) Stop) → a ≡ first_of p.is_broken p.waits → Looked m c d moment word a is_fault l → result ≡ stop_of m d
-      → DoesFrom (λ p q printed. IsOfferedLook c.row p moment word q printed) (λ role p q printed. (role ≡ roles.Low) × IsLost c.row p moment word q printed) NeverOverfills m d out now p result
+      → DoesFrom (λ p q printed. IsOfferedLook c.row p moment word q printed) (λ role p q printed. (role ≡ roles.Low) × IsLost c.row p moment word q printed) NeverOverfills m c d out now p result
   offered_does true result first did stop =
-      subst (DoesFrom (λ p q printed. IsOfferedLook c.row p moment word q printed) (λ role p q printed. (role ≡ roles.Low) × IsLost c.row p moment word q printed) NeverOverfills m d out now p)
+      subst (DoesFrom (λ p q printed. IsOfferedLook c.row p moment word q printed) (λ role p q printed. (role ≡ roles.Low) × IsLost c.row p moment word q printed) NeverOverfills m c d out now p)
       (sym (stops true result did stop)) (offered_lost first did)
   offered_does false result first did stop =
-      subst (DoesFrom (λ p q printed. IsOfferedLook c.row p moment word q printed) (λ role p q printed. (role ≡ roles.Low) × IsLost c.row p moment word q printed) NeverOverfills m d out now p)
+      subst (DoesFrom (λ p q printed. IsOfferedLook c.row p moment word q printed) (λ role p q printed. (role ≡ roles.Low) × IsLost c.row p moment word q printed) NeverOverfills m c d out now p)
       (sym (stops false result did stop)) (offered_fine first did)
 
   gone_fine : a ≡ Gone → Looked m c d moment word a false l
-      → (q : Past) × (printed : List Event) × IsLowLook c.row p moment word Gone q printed × (now ≡ out ++ printed) × Stands m d q
+      → (q : Past) × (printed : List Event) × IsLowLook c.row p moment word Gone q printed × (now ≡ out ++ printed) × Stands m d q × LeavesFit m c d p q
   gone_fine gone did =
       let r = look_leads m c d p moment word a l did stands order in
-      (r.0, look_prints c.row.id moment l, subst (λ (t : Arrival). IsLowLook c.row p moment word t r.0 (look_prints c.row.id moment l)) gone (l.feedback, r.1), prints, r.2)
+      (r.0, look_prints c.row.id moment l, subst (λ (t : Arrival). IsLowLook c.row p moment word t r.0 (look_prints c.row.id moment l)) gone (l.feedback, r.1), prints, r.2, r.3)
 
   pub gone_does : (is_fault : Bool) (result : Result (Unit {0}) Stop) → a ≡ Gone → Looked m c d moment word a is_fault l → result ≡ stop_of m d
-      → DoesFrom (λ p q printed. IsLowLook c.row p moment word Gone q printed) NeverBreaks NeverOverfills m d out now p result
+      → DoesFrom (λ p q printed. IsLowLook c.row p moment word Gone q printed) NeverBreaks NeverOverfills m c d out now p result
   gone_does true result gone did stop =
       let t = in_store (message_in c.low a) refl did.step.keeps in
       let none : message_in c.low a ≡ None = ap (message_in c.low) gone ∙ none_gone (wants c.low Gone) in
       absurd (let no : None ≡ Some t.0 = sym none ∙ t.1 in cc)
   gone_does false result gone did stop =
-      subst (DoesFrom (λ p q printed. IsLowLook c.row p moment word Gone q printed) NeverBreaks NeverOverfills m d out now p) (sym (stops false result did stop)) (gone_fine gone did)
+      subst (DoesFrom (λ p q printed. IsLowLook c.row p moment word Gone q printed) NeverBreaks NeverOverfills m c d out now p) (sym (stops false result did stop)) (gone_fine gone did)

@@ -34,8 +34,10 @@ use Rattle.script_reader.specs.Lows.{is_bad, comes_again, feedback, offers, stor
 use Rattle.two_worlds.specs.Connections.{waits_of, is_broken_of}
 use Rattle.two_worlds.specs.declared.pump.parts.Parts.{Parts}
 use Rattle.two_worlds.specs.Disks.{LowFits, DisksFit}
+use Rattle.two_worlds.specs.Doing.{LeavesFit}
 use Rattle.two_worlds.specs.Printing.{printed_reply, look_prints}
 use Rattle.two_worlds.specs.Standing.{kept_of, HoldsWorld, number_of, Stands}
+use Rattle.two_worlds.proofs.ImagesFit.{grown_fits}
 use Rattle.two_worlds.proofs.LowDisks.{low_after, high_same, recv_same}
 use Rattle.two_worlds.proofs.LowGrows.{Grows, look_grows}
 use Rattle.two_worlds.proofs.LowLooked.{Looked}
@@ -287,5 +289,5 @@ module _ {D : Type 0} (m : Meaning D) (c d : Parts D) (p : Past) (moment word : 
     disks = disks;
   }
 
-  pub look_leads : (q : Past) × IsLook c.row p (look_of moment word a false l.feedback) q (look_prints c.row.id moment l) × Stands m d q
-  look_leads = (q, is_look_of_row, subst (λ (t : Parts D). Stands m t q) (sym did.rest) stands_then)
+  pub look_leads : (q : Past) × IsLook c.row p (look_of moment word a false l.feedback) q (look_prints c.row.id moment l) × Stands m d q × LeavesFit m c d p q
+  look_leads = (q, is_look_of_row, subst (λ (t : Parts D). Stands m t q) (sym did.rest) stands_then, grown_fits m c d p moment word a false l did stands q grows)

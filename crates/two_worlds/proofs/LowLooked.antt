@@ -7,7 +7,7 @@ use Rattle.passage.specs.Plain.{shape_of, StandsFor}
 use Rattle.low_process.specs.declared.values.LowLook.{LowLook}
 use Rattle.low_process.specs.Looks.{row_of, last_of, hand_of, hand_after}
 use Rattle.low_process.specs.Ends.{StandsFitting, EndStep}
-use Rattle.low_process.specs.Whole.{HasStore, LookStep}
+use Rattle.low_process.specs.Whole.{HasStore, LookStep, LeavesStored}
 use Rattle.script_reader.specs.Lows.{is_bad}
 use Rattle.two_worlds.specs.declared.applied.Stop.{Stop}
 use Rattle.two_worlds.specs.declared.pump.parts.Parts.{Parts}
@@ -18,6 +18,7 @@ use Rattle.two_worlds.specs.LowLooks.{stop_of}
 pub record Looked {D : Type 0} (m : Meaning D) (c d : Parts D) (moment word : ℕ) (a : Arrival) (is_fault : Bool) (l : LowLook) : Type 0 where
   pub step : LookStep m c.low d.low c.low_store d.low_store moment word a is_fault l
   pub store : HasStore m d.low d.low_store
+  pub images : LeavesStored m c.low c.low_store d.low_store a
   pub hand : hand_of d.low ≡ hand_after (hand_of c.low) a l
   pub row : row_of d.low ≡ row_of c.low
   pub last : last_of d.low ≡ moment

@@ -1,6 +1,8 @@
 -- A low look whose device failed.
-use Rattle.std.proofs.Common.{◌≡◌, ℕ, ◌+◌, ◌≤◌, Bool, true, false, List, [], ◌∷◌, ◌++◌, length, drop, Some, None, refl, sym, ap, ◌∙◌, subst, arith}
-use Rattle.std.specs.Prelude.{if◌then◌else◌, ◌||◌}
+use Rattle.std.proofs.Common.{◌≡◌, ℕ, ◌+◌, ◌≤◌, Bool, true, false, List, [], ◌∷◌, ◌++◌, length, drop, Some, None, refl, sym, ap, ◌∙◌, subst, arith, ◌<◌, ◌^◌, nat_lt, length-append}
+use Rattle.std.specs.Prelude.{if◌then◌else◌, ◌||◌, ◌&&◌, ◌==◌}
+use Rattle.std.proofs.lemmas.Bool.{and_parts, ltb-true}
+use Rattle.pump_frame.specs.declared.frame.Frame.{Frame}
 use Rattle.std.specs.List.{AllByRecursion}
 use Rattle.disk_model.specs.Disk.{Meaning, Each}
 use Rattle.disk_model.specs.declared.name.Role.TheVariants as roles
@@ -12,7 +14,7 @@ use Rattle.pump_core.specs.declared.event.Event.TheVariants.{StoreBegin}
 use Rattle.pump_core.specs.Phases.{Idle, Passing}
 use Rattle.pump_core.specs.History.{Arrival, Look, Opening, looked}
 use Rattle.pump_core.specs.History.{Came}
-use Rattle.pump_core.specs.Exchanges.{Waiting, Over, Part, Holding, Release, Empty, Leaving, Answer, Repeated, Offering, Dropped, Delivery, Loss, is_finished, is_left, is_next, IsFrame, AreParts, count_after, greeted_after, IsCut}
+use Rattle.pump_core.specs.Exchanges.{Waiting, Over, Part, Holding, Release, Empty, Leaving, Answer, Repeated, Offering, Dropped, Delivery, Loss, is_finished, is_left, is_fit, is_next, IsFrame, AreParts, count_after, greeted_after, IsCut}
 use Rattle.pump_core.specs.Replies.{refusal}
 use Rattle.pump_core.specs.Standing.{State, phase_after, StandsAt}
 use Rattle.pump_core.specs.World.{World}
@@ -28,10 +30,12 @@ use Rattle.script_reader.specs.Lows.{printed_store, printed_feedback}
 use Rattle.script_reader.specs.Breaks.{IsLostLook}
 use Rattle.two_worlds.specs.declared.pump.parts.Parts.{Parts}
 use Rattle.two_worlds.specs.Disks.{LowFits}
-use Rattle.two_worlds.specs.Doing.{Fails}
+use Rattle.two_worlds.specs.Doing.{Fails, LeavesFit}
 use Rattle.two_worlds.specs.Printing.{printed_reply, look_prints}
 use Rattle.two_worlds.specs.Standing.{number_of, Stands}
+use Rattle.two_worlds.proofs.ImagesFit.{lost_fits}
 use Rattle.two_worlds.proofs.LowDisks.{low_failed}
+use Rattle.two_worlds.proofs.LeavesWorld.{fits_row}
 use Rattle.two_worlds.proofs.LowLooked.{Looked}
 use Rattle.two_worlds.proofs.LowStepping.{Stepped, stepped}
 use Rattle.two_worlds.proofs.LowTold.{quiet_is}
@@ -59,6 +63,10 @@ idle_parts row o (Dropped first full gone ∷ before) h e = absurd (cc)
 idle_parts row o (Delivery first full passing (Waiting quiet) ∷ before) h e = absurd (cc)
 idle_parts row o (Delivery first full passing (Over quiet last) ∷ before) h e = ((refl, h.2), refl)
 idle_parts row o (Loss first rest ∷ before) h e = absurd (cc)
+
+-- the next message has a number below 2^48
+small_next : (row : SessionRow) (n : ℕ) (greeted : Bool) (f : Frame) → is_next row n greeted f ≡ true → n < 2 ^ 48
+small_next row n greeted f e = ltb-true n (2 ^ 48) (and_parts (is_fit row greeted f && f.number == n) (nat_lt n (2 ^ 48)) e).1
 
 module _ {D : Type 0} (m : Meaning D) (c d : Parts D) (p : Past) (moment word : ℕ) (a : Arrival) (l : LowLook) (did : Looked m c d moment word a true l) (stands : Stands m c p) (order : c.moment ≤ moment)
     (message : Payload) (is : message_in c.low a ≡ Some message) where
@@ -167,8 +175,15 @@ module _ {D : Type 0} (m : Meaning D) (c d : Parts D) (p : Past) (moment word : 
     down = rw down refl;
     counted = refl;
     lawful = stays_lawful p.world (StoreBegin t.frame.payload) world_then stands.lawful begins;
+    fits = record {
+      capacity = stands.world.capacity;
+      count =
+          let few = small_next row s.next s.greeted t.frame (comes_next c.low a message t) in
+          omega (arith, few, stands.world.accepted, length-append p.world.accepted (t.frame.payload ∷ []));
+      end = (fits_row m c p stands).end;
+    };
     disks = record { low_disk = low_fits; high_disk = stands.disks.high_disk; recv_disk = stands.disks.recv_disk };
   }
 
-  pub look_loses : (q : Past) × IsLostLook c.row p (look_of moment word a true Quiet) q (look_prints c.row.id moment l) × Fails m d q roles.Low (m.count (low_disk d.low_store))
-  look_loses = (lost_past, is_lost, subst (λ (u : Parts D). Fails m u lost_past roles.Low (m.count (low_disk d.low_store))) (sym did.rest) fails_then)
+  pub look_loses : (q : Past) × IsLostLook c.row p (look_of moment word a true Quiet) q (look_prints c.row.id moment l) × Fails m d q roles.Low (m.count (low_disk d.low_store)) × LeavesFit m c d p q
+  look_loses = (lost_past, is_lost, subst (λ (u : Parts D). Fails m u lost_past roles.Low (m.count (low_disk d.low_store))) (sym did.rest) fails_then, lost_fits m c d p moment word a true l did stands lost_past message t.frame.payload is t.is_message refl)

@@ -33,7 +33,7 @@ one_log most (x ∷ xs) (y ∷ ys) bytes same (_, ex, _, tx, rx) (_, ey, _, ty, 
     (λ i. first i ∷ later i)
 
 -- a receiver's disk stands for one list
-one_received : (row : SessionRow) (xs ys : List (List ℕ)) (disk : List ℕ) → RecvStands row xs disk → RecvStands row ys disk → xs ≡ ys
+pub one_received : (row : SessionRow) (xs ys : List (List ℕ)) (disk : List ℕ) → RecvStands row xs disk → RecvStands row ys disk → xs ≡ ys
 one_received row xs ys disk r s =
     let value : (length xs, r.end) ≡ (length ys, s.end) = sym r.value ∙ s.value in
     one_log row.message xs ys (log_of r.end disk) (ap (λ (v : ℕ × ℕ). v.0) value) r.records

@@ -13,7 +13,7 @@ few_or_many n = elim (nat_le n 64) as (λ b. nat_le n 64 ≡ b → (n ≤ 64) �
 ] refl
 
 module _ {X : Type 0} where
-  get_drop : (a : ℕ) (xs : List X) (i : ℕ) → slice_get (drop a xs) i ≡ slice_get xs (a + i)
+  pub get_drop : (a : ℕ) (xs : List X) (i : ℕ) → slice_get (drop a xs) i ≡ slice_get xs (a + i)
   get_drop zero xs i = (let e : 0 + i ≡ i = omega arith in rw e refl)
   get_drop (suc a) [] i = refl
   get_drop (suc a) (x ∷ xs) i = (let e : suc a + i ≡ suc (a + i) = omega arith in rw e (get_drop a xs i))

@@ -114,7 +114,7 @@ module _ (row : SessionRow) (p : Past) (steps : List Step) (t : Point) (m w : �
       )
 
 -- what waits after a look that may take the first of it
-left_after : (came : List Coming) (taken : ℕ) (waits : List Arrival) (behind takes : Bool) → AreLeft came taken waits behind
+pub left_after : (came : List Coming) (taken : ℕ) (waits : List Arrival) (behind takes : Bool) → AreLeft came taken waits behind
     → (takes ≡ true → is_nothing (first_of behind waits) ≡ false)
     → AreLeft came (if takes then taken + 1 else taken) (if takes then drop 1 waits else waits) (behind || (takes && is_bad (first_of behind waits)))
 left_after came taken waits behind true left some = takes_first came taken waits behind left (some refl)
@@ -146,7 +146,7 @@ offered_look row p steps t m w f q printed k late i =
     (after_look row p steps t m w a f q printed k.run k.world i l k.rest k.high (omega (arith, high_moment, late))
     (subst (λ (u : List Coming × ℕ × List Arrival × Bool). AreLeft u.0 u.1 u.2 u.3) (λ j. (events_back j, count_back j, waits_back j, broken_back j)) left))
 
-none_left : (takes : Bool) (waits : List Arrival) (behind : Bool) → waits ≡ (if takes then [] else []) → behind ≡ (takes && false)
+pub none_left : (takes : Bool) (waits : List Arrival) (behind : Bool) → waits ≡ (if takes then [] else []) → behind ≡ (takes && false)
     → AreLeft [] 0 waits behind
 none_left true waits behind e k = record { came_before = omega arith; rest = e; behind = k }
 none_left false waits behind e k = record { came_before = omega arith; rest = e; behind = k }

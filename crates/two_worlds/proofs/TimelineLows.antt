@@ -161,11 +161,11 @@ comings_with g (Looks m w gone d f ∷ past) = ap (λ l. if gone then [] else l)
 abbrev pub taken_after : Bool → Bool → ℕ → ℕ
 taken_after gone takes taken = if gone then 0 else if takes then taken + 1 else taken
 
-counts : (gone takes t : Bool) (taken : ℕ) → (gone ≡ false → takes ≡ t) → taken_after gone takes taken ≡ taken_after gone t taken
+pub counts : (gone takes t : Bool) (taken : ℕ) → (gone ≡ false → takes ≡ t) → taken_after gone takes taken ≡ taken_after gone t taken
 counts true takes t taken e = refl
 counts false takes t taken e = ap (λ b. taken_after false b taken) (e refl)
 
-second : (b c : Bool) → (b && not c) ≡ true → c ≡ false
+pub second : (b c : Bool) → (b && not c) ≡ true → c ≡ false
 second true false e = refl
 second true true e = absurd (cc)
 second false c e = absurd (cc)

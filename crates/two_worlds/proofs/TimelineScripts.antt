@@ -70,7 +70,7 @@ read_came : (r : Reading) (bytes : List ℕ) (c : coming.Coming) → IsRead r by
 read_came (Within held) bytes c (frames, stream, e) = subst Came (sym e) (frames_came frames c.reading)
 read_came (Stopped at) bytes c e = ([], ap (λ (d : coming.Coming). d.added) e)
 
-arrives_came : (session : ℕ) (r : Reading) (a : Arriving) (c : coming.Coming) → ArrivesWith session r a c → Came c.added
+pub arrives_came : (session : ℕ) (r : Reading) (a : Arriving) (c : coming.Coming) → ArrivesWith session r a c → Came c.added
 arrives_came session r arriving.Nothing c e = ([], ap (λ (d : coming.Coming). d.added) e)
 arrives_came session r (arriving.Hello l n) c e = (Whole _ ∷ [], ap (λ (d : coming.Coming). d.added) e)
 arrives_came session r (arriving.Data n b) c e = (Whole _ ∷ [], ap (λ (d : coming.Coming). d.added) e)

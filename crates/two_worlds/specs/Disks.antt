@@ -1,5 +1,5 @@
 -- What the three disks of a session stand for, by its world.
-use Rattle.std.specs.Prelude.{◌≡◌, ◌⊎◌, ℕ, ◌+◌, ◌≤◌, true, List, [], ◌∷◌, ◌++◌, length, drop, Some}
+use Rattle.std.specs.Prelude.{◌≡◌, ◌⊎◌, ℕ, ◌+◌, ◌^◌, ◌≤◌, Bool, true, List, [], ◌∷◌, ◌++◌, length, drop, Some}
 use Rattle.disk_model.specs.Disk.{Meaning, Each, Leaves}
 use Rattle.pump_frame.specs.declared.payload.Payload.{Payload}
 use Rattle.pump_frame.specs.declared.row.SessionRow.{SessionRow}
@@ -7,7 +7,9 @@ use Rattle.stable_buffer.specs.Register.{value_of}
 use Rattle.stable_buffer.specs.Stands.{LowStands, HighStands}
 use Rattle.stable_buffer.specs.Log.{RecvStands}
 use Rattle.pump_core.specs.World.{World}
+use Rattle.pump_core.specs.Events.{with_kept, pump_crashed, receiver_crashed}
 use Rattle.pump_core.specs.Lawful.{IsLawful}
+use Rattle.script_reader.specs.Highs.{log_end, receiver_size}
 
 -- the accepted messages that are not removed
 abbrev pub live_messages : World → List Payload
@@ -58,6 +60,43 @@ pub record Opens (row : SessionRow) (low high recv : List ℕ) : Type 0 where
 abbrev pub CrashesOpen : {D : Type 0} → Meaning D → SessionRow → D → D → D → Type 0
 CrashesOpen m row low high recv = m.tells_images → (a b c : List ℕ)
     → m.images low a → m.images high b → m.images recv c → Opens row a b c
+
+-- ---- the disks that are handed back ----
+
+-- the world is one of the row, and its counts and its records fit the disks, also where a crash keeps
+-- each unfinished message
+pub record FitsRow (row : SessionRow) (w : World) : Type 0 where
+  pub capacity : w.capacity ≡ row.capacity
+  pub count : length (with_kept true w.storing w.accepted) ≤ 2 ^ 48
+  pub end : log_end (with_kept w.taking w.packet w.received) ≤ receiver_size
+
+-- the world after a crash of the pump and of the receiver, which kept or lost an unfinished store, an
+-- unfinished removal and an unfinished taking
+abbrev pub crashed : World → Bool → Bool → Bool → World
+crashed w stored removed taken = receiver_crashed (pump_crashed w (Some (stored, removed))) (Some taken)
+
+-- three readings stand for a lawful world of the row, and its counts and its records fit the disks
+pub record StandFor (row : SessionRow) (w : World) (low high recv : List ℕ) : Type 0 where
+  pub lawful : IsLawful w
+  pub capacity : w.capacity ≡ row.capacity
+  pub count : length w.accepted ≤ 2 ^ 48
+  pub end : log_end w.received ≤ receiver_size
+  pub low_is : LowStands row (length w.accepted) w.removed (live_messages w) low
+  pub high_is : HighStands row w.removed high
+  pub recv_is : RecvStands row w.received recv
+
+-- .. for this world after a crash: each call that is unfinished was kept or lost, whatever became of the
+-- calls of the other disks
+abbrev pub StandForLeft : SessionRow → World → List ℕ → List ℕ → List ℕ → Type 0
+StandForLeft row w low high recv =
+    (stored : Bool) × (removed : Bool) × (taken : Bool) × StandFor row (crashed w stored removed taken) low high recv
+
+-- what is read of three disks, and whatever crashes leave of each of them, stands for what a crash leaves
+-- of this world
+pub record LeaveWorld {D : Type 0} (m : Meaning D) (row : SessionRow) (w : World) (low high recv : D) : Type 0 where
+  pub readings : m.tells → StandForLeft row w (m.reading low) (m.reading high) (m.reading recv)
+  pub crashes : m.tells_images → (a b c : List ℕ)
+      → m.images low a → m.images high b → m.images recv c → StandForLeft row w a b c
 
 -- no crash since the high disk was `old` leaves more removed than any crash leaves taken
 abbrev pub RemovesBehind : {D : Type 0} → Meaning D → D → D → D → Type 0

@@ -1,6 +1,6 @@
 -- What a part of a line does to the parts of a pump, by what it answers.
 use Rattle.std.specs.Prelude.{◌≡◌, ◌⊎◌, ℕ, ◌≤◌, Bool, true, false, List, ◌++◌, Result, Ok, Err}
-use Rattle.disk_model.specs.Disk.{Meaning, Answers}
+use Rattle.disk_model.specs.Disk.{Meaning, Answers, Leaves}
 use Rattle.disk_model.specs.declared.name.Role.{Role}
 use Rattle.disk_model.specs.declared.name.Role.TheVariants as roles
 use Rattle.stable_buffer.specs.Stands.{low_size}
@@ -12,7 +12,7 @@ use Rattle.script_reader.specs.Highs.{receiver_size}
 use Rattle.two_worlds.specs.declared.applied.Stop.{Stop}
 use Rattle.two_worlds.specs.declared.applied.Stop.TheVariants.{Line, Device, Full}
 use Rattle.two_worlds.specs.declared.pump.parts.Parts.{Parts}
-use Rattle.two_worlds.specs.Disks.{DisksFit, RemovesBehind}
+use Rattle.two_worlds.specs.Disks.{LowFits, HighFits, RecvFits, DisksFit, FitsRow, RemovesBehind}
 use Rattle.two_worlds.specs.Standing.{Stands, is_down, disk_at}
 
 -- the disk of this role failed: the parts are down, and the disks fit the world, in which the call is
@@ -21,24 +21,31 @@ pub record Fails {D : Type 0} (m : Meaning D) (d : Parts D) (q : Past) (role : R
   pub down : is_down d ≡ true
   pub counted : faults ≡ m.count (disk_at role d)
   pub lawful : IsLawful q.world
+  pub fits : FitsRow d.row q.world
   pub disks : DisksFit m d.row (disk_at roles.Low d) (disk_at roles.High d) (disk_at roles.Recv d) q.world
+
+-- a crash at any moment from c to d leaves of each disk what fits the world before or the one after
+pub record LeavesFit {D : Type 0} (m : Meaning D) (c d : Parts D) (p q : Past) : Type 0 where
+  pub low : Leaves m (disk_at roles.Low c) (disk_at roles.Low d) (λ disk. LowFits c.row p.world disk ⊎ LowFits c.row q.world disk)
+  pub high : Leaves m (disk_at roles.High c) (disk_at roles.High d) (λ disk. HighFits c.row p.world disk ⊎ HighFits c.row q.world disk)
+  pub recv : Leaves m (disk_at roles.Recv c) (disk_at roles.Recv d) (λ disk. RecvFits c.row p.world disk ⊎ RecvFits c.row q.world disk)
 
 -- Whatever it stood for before, after an Ok it stands for what `Leads` leads to; where a disk failed, for
 -- what `Breaks` breaks off at; where a message did not fit, for what `Overfills` leads to. What each
--- prints was added to what was printed.
+-- prints was added to what was printed, and every image on the way fits.
 module _ (Leads : Past → Past → List Event → Type 0) (Breaks : Role → Past → Past → List Event → Type 0)
     (Overfills : Past → Past → List Event → ℕ → ℕ → ℕ → Type 0) where
-  abbrev pub DoesFrom : {D : Type 0} → Meaning D → Parts D → List Event → List Event → Past → Result (Unit {0}) Stop → Type 0
-  DoesFrom m d out now p (Ok done) =
-      (q : Past) × (printed : List Event) × Leads p q printed × (now ≡ out ++ printed) × Stands m d q
-  DoesFrom m d out now p (Err Line) = ⊥
-  DoesFrom m d out now p (Err (Device role faults)) =
-      (q : Past) × (printed : List Event) × Breaks role p q printed × (now ≡ out ++ printed) × Fails m d q role faults
-  DoesFrom m d out now p (Err (Full end size_of_message size)) =
-      (q : Past) × (printed : List Event) × Overfills p q printed end size_of_message size × (now ≡ out ++ printed) × Stands m d q
+  abbrev pub DoesFrom : {D : Type 0} → Meaning D → Parts D → Parts D → List Event → List Event → Past → Result (Unit {0}) Stop → Type 0
+  DoesFrom m c d out now p (Ok done) =
+      (q : Past) × (printed : List Event) × Leads p q printed × (now ≡ out ++ printed) × Stands m d q × LeavesFit m c d p q
+  DoesFrom m c d out now p (Err Line) = ⊥
+  DoesFrom m c d out now p (Err (Device role faults)) =
+      (q : Past) × (printed : List Event) × Breaks role p q printed × (now ≡ out ++ printed) × Fails m d q role faults × LeavesFit m c d p q
+  DoesFrom m c d out now p (Err (Full end size_of_message size)) =
+      (q : Past) × (printed : List Event) × Overfills p q printed end size_of_message size × (now ≡ out ++ printed) × Stands m d q × LeavesFit m c d p q
 
   abbrev pub Does : {D : Type 0} → Meaning D → Parts D → Parts D → List Event → List Event → Result (Unit {0}) Stop → Type 0
-  Does m c d out now result = (p : Past) → Stands m c p → DoesFrom m d out now p result
+  Does m c d out now result = (p : Past) → Stands m c p → DoesFrom m c d out now p result
 
 -- no disk fails in it, and each message fits
 abbrev pub NeverBreaks : Role → Past → Past → List Event → Type 0
@@ -76,7 +83,7 @@ pub record DisksServe {D : Type 0} (m : Meaning D) (c d : Parts D) (result : Res
   pub recv : Serves m receiver_size (disk_at roles.Recv c) (disk_at roles.Recv d) (fails_at roles.Recv result)
   pub behind : RemovesBehind m (disk_at roles.High c) (disk_at roles.High d) (disk_at roles.Recv d)
 
--- the high disk is as it was. With this from each part of a line before its last one, `DisksServe` holds
--- of the parts together
-abbrev pub LeavesHigh : {D : Type 0} → Parts D → Parts D → Type 0
-LeavesHigh c d = disk_at roles.High d ≡ disk_at roles.High c
+-- the disk of this role is as it was. With this from each part of a line before its last one, what is
+-- said of the disks holds of the parts together
+abbrev pub LeavesAlone : {D : Type 0} → Role → Parts D → Parts D → Type 0
+LeavesAlone role c d = disk_at role d ≡ disk_at role c

@@ -1,9 +1,13 @@
 -- The laws over the world of the relay and over its timed runs.
-use Rattle.std.specs.Prelude.{◌≡◌, ℕ, ◌<◌, List, length}
+use Rattle.std.specs.Prelude.{◌≡◌, ◌⊎◌, ℕ, ◌<◌, ◌≤◌, List, length, slice_get, All, Some}
 use Rattle.std.specs.List.{AllByRecursion}
 use Rattle.pump_frame.specs.declared.frame.Frame.{Frame}
 use Rattle.pump_frame.specs.declared.frame.Kind.TheVariants.{Ack}
+use Rattle.pump_frame.specs.declared.payload.Payload.{Payload}
 use Rattle.pump_frame.specs.declared.row.SessionRow.{SessionRow}
+use Rattle.stable_buffer.specs.Register.{value_of}
+use Rattle.stable_buffer.specs.Stands.{InSlot}
+use Rattle.stable_buffer.specs.Log.{RecvStands}
 use Rattle.pump_core.specs.declared.event.Event.{Event}
 use Rattle.pump_core.specs.declared.event.Hostile.{Hostile}
 use Rattle.pump_core.specs.History.{History}
@@ -11,10 +15,11 @@ use Rattle.pump_core.specs.Replies.{Sent, LowReplies}
 use Rattle.pump_core.specs.Thinned.{IsThinned}
 use Rattle.pump_core.specs.World.{World}
 use Rattle.pump_core.specs.Events.{Begins, Happens, Run, RunForged}
-use Rattle.pump_core.specs.Lawful.{IsBounded, IsLawful}
+use Rattle.pump_core.specs.Lawful.{IsBounded, IsLawful, IsPrefixOf}
 use Rattle.pump_core.specs.Timed.{Step, Point}
 use Rattle.pump_core.specs.Runs.{IsRun}
 use Rattle.two_worlds.specs.Agreement.{AgreeForLow}
+use Rattle.two_worlds.specs.Disks.{StandForLeft}
 
 -- ---- worlds ----
 
@@ -67,3 +72,41 @@ AcksBelow count replies = AllByRecursion (λ (s : Sent). IsAckBelow count s.repl
 abbrev pub AcknowledgedIsAccepted : Type 0
 AcknowledgedIsAccepted = (row : SessionRow) (steps : List Step) (t : Point) (h : History)
     (replies : List Sent) → IsRun row steps t h → LowReplies row h replies → AcksBelow (length t.world.accepted) replies
+
+-- ---- what outlives a crash ----
+
+-- the receiver has message n; or it stands in its slot of the low disk and is live there: the high disk
+-- counts no more than n as removed, and the low disk counts it
+abbrev pub Outlives : SessionRow → List Payload → List ℕ → List ℕ → ℕ → Payload → Type 0
+Outlives row received low high n message =
+    (slice_get received n ≡ Some message)
+    ⊎ (((value_of high).0 ≤ n) × (n < (value_of low).0) × InSlot row n message low)
+
+-- of three disks: the receiver has a front of the messages that the world accepted, every one of these
+-- outlives, and what was acknowledged is among them
+pub record KeepMessages (row : SessionRow) (w : World) (low high recv : List ℕ) : Type 0 where
+  pub received : List Payload
+  pub recv_is : RecvStands row received recv
+  pub front : IsPrefixOf received w.accepted
+  pub accepted : (n : ℕ) (message : Payload) → slice_get w.accepted n ≡ Some message → Outlives row received low high n message
+  pub acknowledged : All (λ n. n < length w.accepted) w.acknowledged
+
+-- disks that stand for what a crash leaves of a lawful world keep its messages
+abbrev pub AcceptedOutlives : Type 0
+AcceptedOutlives = (row : SessionRow) (w : World) (low high recv : List ℕ)
+    → IsLawful w → StandForLeft row w low high recv → KeepMessages row w low high recv
+
+-- an acknowledgement is of an accepted message, and that outlives
+abbrev pub AckOutlives : SessionRow → List Payload → List Payload → List ℕ → List ℕ → Frame → Type 0
+AckOutlives row accepted received low high reply = reply.kind ≡ Ack
+    → (message : Payload) × (slice_get accepted reply.number ≡ Some message) × Outlives row received low high reply.number message
+
+-- of disks that stand for what a crash leaves of the world of a timed run: the receiver has a front of
+-- what was accepted, and every message that was acknowledged and that the receiver has not is in the
+-- live slots of the low disk
+abbrev pub AcknowledgedOutlives : Type 0
+AcknowledgedOutlives = (row : SessionRow) (steps : List Step) (t : Point) (h : History)
+    (replies : List Sent) (low high recv : List ℕ)
+    → IsRun row steps t h → LowReplies row h replies → StandForLeft row t.world low high recv
+    → (kept : KeepMessages row t.world low high recv)
+    × AllByRecursion (λ (s : Sent). AckOutlives row t.world.accepted kept.received low high s.reply) replies

@@ -12,6 +12,7 @@ pub mod LineSteps
 pub mod LowLooks
 pub mod LowParts
 pub mod LowPumps
+pub mod LowTimelines
 pub mod Openings
 pub mod Printing
 pub mod Pumps

@@ -67,7 +67,7 @@ LineDoes m c d line out now p result =
     (λ role p q printed. Breaks c.row p line role q printed)
     (λ p q printed end size_of_message size. LeavesOff c.row p line q printed
     × Overfills c.row p line printed end size_of_message size)
-    m d out now p result
+    m c d out now p result
 
 -- a line for which the test holds: so it did, or more than 64 arrivals would wait and nothing has changed
 abbrev pub RunsFrom : {D : Type 0} → Meaning D → Parts D → Parts D → ScriptLine → List Event → List Event → Past → Result (Unit {0}) Stop → Type 0

@@ -1,5 +1,5 @@
 -- What a pump stands for, and what a line of a script does to it.
-use Rattle.std.specs.Prelude.{◌≡◌, ℕ, Bool, true, List, [], Option, Some, None}
+use Rattle.std.specs.Prelude.{◌≡◌, ◌⊎◌, ℕ, Bool, true, List, [], Option, Some, None}
 use Rattle.disk_model.specs.Disk.{Meaning}
 use Rattle.disk_model.specs.declared.name.Role.{Role}
 use Rattle.pump_frame.specs.declared.row.SessionRow.{SessionRow}
@@ -12,7 +12,7 @@ use Rattle.two_worlds.specs.declared.applied.Stop.{Stop}
 use Rattle.two_worlds.specs.declared.applied.Stop.TheVariants.{Line, Device, Full}
 use Rattle.two_worlds.specs.declared.pump.Pump.{Pump}
 use Rattle.two_worlds.specs.Standing as parts
-use Rattle.two_worlds.specs.Doing.{Fails}
+use Rattle.two_worlds.specs.Doing.{Fails, LeavesFit}
 use Rattle.two_worlds.specs.LineSteps.{LeavesOff}
 use Rattle.two_worlds.specs.Timelines.{IsTimeline, RunGoesOn}
 use Rattle.pump_core.specs.Timed.{Step as TimedStep, Point}
@@ -38,22 +38,28 @@ disk_at role s = parts.disk_at role s.parts
 abbrev pub FailsAt : {D : Type 0} {g : _} → Meaning D → Pump D g → Past → Role → ℕ → Type 0
 FailsAt m t q role faults = Fails m t.parts q role faults
 
+-- the pump stands for this, or came to this when one of its disks failed
+abbrev pub StandsOrFails : {D : Type 0} {g : _} → Meaning D → Pump D g → Past → Type 0
+StandsOrFails m s p = StandsFor m s p ⊎ ((role : Role) × (faults : ℕ) × FailsAt m s p role faults)
+
+-- whatever timed run came to the past p goes on to q by the line
+abbrev pub GoesOnTimed : SessionRow → Past → ScriptLine → Past → Type 0
+GoesOnTimed row p line q = (steps : List TimedStep) (point : Point) → IsTimeline row p steps point → RunGoesOn row p line steps q
+
 -- A line was given to s, which stood for p, and left it as t. It can be applied, and leads to what t
--- stands for and prints this; or it can't be, and nothing is printed or changed; or it is cut short by the
--- device of a disk; or its message does not fit at the receiver, and t stands for what it led to before.
+-- stands for and prints this, and any timed run of the session goes on to the same; or it can't be, and
+-- nothing is printed or changed; or it is cut short by the device of a disk; or its message does not fit at
+-- the receiver, and t stands for what it led to before. A crash at any moment of the line leaves of each
+-- disk what fits the world before it or the one that it led to.
 abbrev pub Applies : {D : Type 0} {g : _} → Meaning D → Pump D g → Pump D g → ScriptLine → Past → List Event → Option Stop → Type 0
 Applies m s t line p printed None =
-    (is_timely (row_of s) p line ≡ true) × ((q : Past) × Step (row_of s) p line q printed × StandsFor m t q)
+    (is_timely (row_of s) p line ≡ true)
+    × ((q : Past) × Step (row_of s) p line q printed × StandsFor m t q
+    × LeavesFit m s.parts t.parts p q × GoesOnTimed (row_of s) p line q)
 Applies m s t line p printed (Some Line) = IsBarred (row_of s) p line × (printed ≡ []) × (t ≡ s)
 Applies m s t line p printed (Some (Device role faults)) =
-    (is_timely (row_of s) p line ≡ true) × ((q : Past) × Breaks (row_of s) p line role q printed × FailsAt m t q role faults)
+    (is_timely (row_of s) p line ≡ true)
+    × ((q : Past) × Breaks (row_of s) p line role q printed × FailsAt m t q role faults × LeavesFit m s.parts t.parts p q)
 Applies m s t line p printed (Some (Full end length size)) =
     (is_timely (row_of s) p line ≡ true) × Overfills (row_of s) p line printed end length size
-    × ((q : Past) × LeavesOff (row_of s) p line q printed × StandsFor m t q)
-
--- whatever timed run came to what s stood for, t stands for what the run comes to by the arrivals, looks
--- and events of the line
-abbrev pub GoesOnTimed : {D : Type 0} {g : _} → Meaning D → Pump D g → Pump D g → ScriptLine → Type 0
-GoesOnTimed m s t line = (p : Past) (steps : List TimedStep) (point : Point)
-    → StandsFor m s p → IsTimeline (row_of s) p steps point
-    → (q : Past) × StandsFor m t q × RunGoesOn (row_of s) p line steps q
+    × ((q : Past) × LeavesOff (row_of s) p line q printed × StandsFor m t q × LeavesFit m s.parts t.parts p q)

@@ -1,8 +1,9 @@
 //! The laws over the world and over runs. Each is a function without parameters and without a result
 //! whose contract is the law; calling it does nothing.
 
-ghost use Rattle.two_worlds.specs.Laws.{EventsAreCertain, EveryWorldIsLawful, ForgedWorldsAreBounded, TimedWorldsAreLawful, RunsHaveReplies, PairsAgree, AcknowledgedIsAccepted, ThinnedHistoriesAgree};
+ghost use Rattle.two_worlds.specs.Laws.{EventsAreCertain, EveryWorldIsLawful, ForgedWorldsAreBounded, TimedWorldsAreLawful, RunsHaveReplies, PairsAgree, AcknowledgedIsAccepted, ThinnedHistoriesAgree, AcceptedOutlives, AcknowledgedOutlives};
 ghost use Rattle.two_worlds.specs.Timelines.{LinesAreSteps, ScriptsAreTimedRuns};
+ghost use Rattle.two_worlds.specs.LowTimelines.{LowLinesAreEvents, LowScriptsAreTimed};
 
 /// An event leads to one world at most, so that what a step makes of a world is settled.
 pub fn events_are_certain()
@@ -53,6 +54,19 @@ pub fn acknowledged_is_accepted()
     ensures { AcknowledgedIsAccepted }
 {}
 
+/// Of three disks that stand for what a crash leaves of a lawful world, as those do that a pump hands
+/// back: the receiver has a front of the accepted messages, and every accepted message that it has not
+/// is in the live slots of the low disk.
+pub fn accepted_outlives()
+    ensures { AcceptedOutlives }
+{}
+
+/// .. and so of the world of a timed run: every message that was acknowledged and that the receiver has
+/// not is in the live slots of the low disk.
+pub fn acknowledged_outlives()
+    ensures { AcknowledgedOutlives }
+{}
+
 /// A line of a script goes on with any timed run of its session, by the steps that stand for it.
 pub fn lines_are_steps()
     ensures { LinesAreSteps }
@@ -63,4 +77,16 @@ pub fn lines_are_steps()
 /// connections, and its world is the one to which the run came.
 pub fn scripts_are_timed_runs()
     ensures { ScriptsAreTimedRuns }
+{}
+
+/// A line of a low side alone goes on with whatever came to that side and the looks that it made, by
+/// what comes with the line and its look.
+pub fn low_lines_are_events()
+    ensures { LowLinesAreEvents }
+{}
+
+/// To the low side alone of a script its arrivals come as they come on a connection: each look that may
+/// take something was offered what came first and was not taken.
+pub fn low_scripts_are_timed()
+    ensures { LowScriptsAreTimed }
 {}

@@ -39,9 +39,9 @@ impl<D: Disk> Pump<D> {
     ghost use Rattle.script_reader.specs.Lawful.{IsLawfulLine};
     ghost use Rattle.script_reader.specs.Heads.{line_with, CanHoldLine};
     ghost use Rattle.script_reader.specs.Past.{Past, fresh};
-    ghost use Rattle.two_worlds.specs.Disks.{Opens, CrashesOpen};
+    ghost use Rattle.two_worlds.specs.Disks.{Opens, CrashesOpen, LeaveWorld};
     ghost use Rattle.two_worlds.specs.LowPumps.{is_device};
-    ghost use Rattle.two_worlds.specs.Pumps.{row_of, StandsFor, is_down, disk_at, Applies, GoesOnTimed};
+    ghost use Rattle.two_worlds.specs.Pumps.{row_of, StandsFor, StandsOrFails, is_down, disk_at, Applies};
     ghost use Rattle.two_worlds.specs.Rooms.{HasRoom, DisksGo};
 
     /// The pump of a lawful row over three disks of size 0, which tell what they hold.
@@ -76,7 +76,6 @@ impl<D: Disk> Pump<D> {
         requires up { is_down self.old ≡ false }
         ensures applies { (p : Past) → StandsFor D.told self.old p
             → Applies D.told self.old self.new line.now p result.events.items result.stop }
-        ensures timed { result.stop ≡ None → GoesOnTimed D.told self.old self.new line.now }
         ensures serve { DisksGo D.told (row_of self.old) (disk_at roles.Low self.old) (disk_at roles.High self.old) (disk_at roles.Recv self.old)
             (disk_at roles.Low self.new) (disk_at roles.High self.new) (disk_at roles.Recv self.new) result.stop }
         ensures down { is_down self.new ≡ is_device result.stop }
@@ -94,7 +93,6 @@ impl<D: Disk> Pump<D> {
         requires up { is_down self.old ≡ false }
         ensures applies { (p : Past) → StandsFor D.told self.old p
             → Applies D.told self.old self.new line.now p events.new.items result }
-        ensures timed { result ≡ None → GoesOnTimed D.told self.old self.new line.now }
         ensures serve { DisksGo D.told (row_of self.old) (disk_at roles.Low self.old) (disk_at roles.High self.old) (disk_at roles.Recv self.old)
             (disk_at roles.Low self.new) (disk_at roles.High self.new) (disk_at roles.Recv self.new) result }
         ensures down { is_down self.new ≡ is_device result }
@@ -115,7 +113,6 @@ impl<D: Disk> Pump<D> {
         requires up { is_down self.old ≡ false }
         ensures applies { (p : Past) → StandsFor D.told self.old p
             → Applies D.told self.old self.new (line_with bytes.now line.now) p events.new.items result }
-        ensures timed { result ≡ None → GoesOnTimed D.told self.old self.new (line_with bytes.now line.now) }
         ensures serve { DisksGo D.told (row_of self.old) (disk_at roles.Low self.old) (disk_at roles.High self.old) (disk_at roles.Recv self.old)
             (disk_at roles.Low self.new) (disk_at roles.High self.new) (disk_at roles.Recv self.new) result }
         ensures down { is_down self.new ≡ is_device result }
@@ -136,10 +133,14 @@ impl<D: Disk> Pump<D> {
         )
     }
 
-    /// The low, the high and the receiver's disk, with no further call. What is read of them opens
-    /// again, and so does what a crash leaves, also where a call of one of them failed.
+    /// The low, the high and the receiver's disk, with no further call. What is read of them stands for
+    /// the world to which the session came, also where a call of one of them failed, and so does whatever
+    /// crashes leave of them, with each call that is unfinished kept or lost. The law
+    /// `acknowledged_outlives` says what that means for the messages.
     pub fn close(self) -> (D, D, D)
         ensures disks { result ≡ (disk_at roles.Low self, disk_at roles.High self, disk_at roles.Recv self) }
+        ensures left { (p : Past) → StandsOrFails D.told self p
+            → LeaveWorld D.told (row_of self) p.world result.0 result.1 result.2 }
         ensures open { CrashesOpen D.told (row_of self) result.0 result.1 result.2 }
         ensures read { D.told.tells → Opens (row_of self) (D.told.reading result.0) (D.told.reading result.1) (D.told.reading result.2) }
     {

@@ -1,11 +1,8 @@
-ghost use Rattle.std.specs.Prelude.{IfSome};
-ghost use Rattle.script_reader.specs.Lawful.{IsLawfulArriving};
-
 use crate::connection::Connection;
 use arrayvec::ArrayVec;
 use low_process::Arrival;
 use pump_frame::Name;
-use script_reader::Arriving;
+use script_reader::ArrivingHead;
 use std::test::Fail;
 
 // A DATA of session 1 with number 0 and no payload, and its two halves.
@@ -15,11 +12,9 @@ const FRONT: &[u8] = b"NP\x01\x03\x00\x00\x00\x01\x00";
 
 const REST: &[u8] = b"\x00\x00\x00\x00\x00\x00\x00\x00\x00";
 
-// These bytes, so many times.
-fn raw(bytes: &[u8], times: u32) -> Option<Arriving>
-    ensures { IfSome result (λ a. IsLawfulArriving a) }
-{
-    let mut all = ArrayVec::new();
+// These bytes come, so many times.
+fn join_raw(connection: &mut Connection, bytes: &[u8], times: u32) -> Option<bool> {
+    let mut all: ArrayVec<u8, 1042> = ArrayVec::new();
     for _ in 0..times {
         if all.try_extend_from_slice(bytes).is_err() {
             return None;
@@ -28,12 +23,7 @@ fn raw(bytes: &[u8], times: u32) -> Option<Arriving>
     if all.is_empty() {
         return None;
     }
-    Some(Arriving::Raw(all))
-}
-
-fn join_raw(connection: &mut Connection, bytes: &[u8], times: u32) -> Option<bool> {
-    let arriving = raw(bytes, times)?;
-    Some(connection.join(1, &arriving))
+    Some(connection.join(1, &ArrivingHead::Raw, all.as_slice()))
 }
 
 fn offered(connection: &Connection) -> &'static str {
@@ -46,8 +36,8 @@ fn offered(connection: &Connection) -> &'static str {
 }
 
 #[test]
-fn at_most_64_arrivals_wait(rt: HostRuntime) {
-    let mut connection = Connection::new();
+fn at_most_64_arrivals_wait(rt: HostRuntime) -> Result<(), Fail> {
+    let mut connection = Connection::new(rt.alloc())?;
     for (frames, fits, taken) in [
         (57, true, true),
         (8, true, false),
@@ -69,11 +59,12 @@ fn at_most_64_arrivals_wait(rt: HostRuntime) {
         connection.settle(true);
     }
     assert_eq!(rt; offered(&connection), "nothing");
+    Ok(())
 }
 
 #[test]
 fn nothing_is_offered_behind_bad_bytes(rt: HostRuntime) -> Result<(), Fail> {
-    let mut connection = Connection::new();
+    let mut connection = Connection::new(rt.alloc())?;
     for (bytes, before, taken, after) in [
         (FRAME, "frame", false, "frame"),
         (b"NQ".as_slice(), "frame", true, "bad"),
@@ -89,9 +80,9 @@ fn nothing_is_offered_behind_bad_bytes(rt: HostRuntime) -> Result<(), Fail> {
     let (Some(low), Some(high)) = (Name::from_slice(b"weather"), Name::from_slice(b"watch")) else {
         return Err(Fail::new("no name"));
     };
-    let hello = Arriving::Hello { low, high };
+    let hello = ArrivingHead::Hello { low, high };
     assert_eq!(rt;
-        (connection.join(1, &hello), offered(&connection)),
+        (connection.join(1, &hello, &[]), offered(&connection)),
         (true, "nothing")
     );
     connection.lose();
@@ -104,7 +95,7 @@ fn nothing_is_offered_behind_bad_bytes(rt: HostRuntime) -> Result<(), Fail> {
     assert_eq!(rt; offered(&connection), "frame");
     connection.settle(true);
     assert_eq!(rt;
-        (connection.join(1, &hello), offered(&connection)),
+        (connection.join(1, &hello, &[]), offered(&connection)),
         (true, "frame")
     );
     Ok(())

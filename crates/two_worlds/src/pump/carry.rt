@@ -6,7 +6,7 @@ ghost use Rattle.script_reader.specs.Highs.{IsCarried, IsOverfull};
 ghost use Rattle.script_reader.specs.Breaks.{IsUntaken};
 ghost use Rattle.two_worlds.specs.Carrying.{printed_taken};
 ghost use Rattle.two_worlds.specs.Standing.{StandsForSome};
-ghost use Rattle.two_worlds.specs.Doing.{Does, DisksServe, LeavesHigh};
+ghost use Rattle.two_worlds.specs.Doing.{Does, DisksServe, LeavesAlone};
 
 use crate::applied::Stop;
 use crate::pump::parts::Parts;
@@ -28,7 +28,8 @@ impl<D: Disk> Parts<D> {
             (λ p q printed end size_of_message size. (q ≡ p) × IsOverfull p.world back end size_of_message size × (printed ≡ []))
             D.told self.old self.new out.old.items out.new.items result }
         ensures serve { DisksServe D.told self.old self.new result }
-        ensures high { LeavesHigh self.old self.new }
+        ensures low { LeavesAlone roles.Low self.old self.new }
+        ensures high { LeavesAlone roles.High self.old self.new }
         ensures out { length out.new.items ≤ length out.old.items + 1 }
         ensures returned { OnOk result (0 < length self.new.returned.items) }
         ensures moment { self.new.moment ≡ self.old.moment }

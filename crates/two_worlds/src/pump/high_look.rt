@@ -8,7 +8,7 @@ ghost use Rattle.script_reader.specs.Past.{Past};
 ghost use Rattle.script_reader.specs.Highs.{IsHighLook, IsReturn, place};
 ghost use Rattle.script_reader.specs.Breaks.{IsUnremoved};
 ghost use Rattle.two_worlds.specs.Standing.{Stands, StandsForSome};
-ghost use Rattle.two_worlds.specs.Doing.{Does, DoesFrom, NeverBreaks, NeverOverfills, DisksServe, LeavesHigh};
+ghost use Rattle.two_worlds.specs.Doing.{Does, DoesFrom, NeverBreaks, NeverOverfills, DisksServe, LeavesAlone};
 ghost use Rattle.two_worlds.specs.HighLooks.{ComesBack, LeadsWith, BreaksWith, most_lines, printed_look, packets_after};
 
 use crate::applied::Stop;
@@ -65,9 +65,11 @@ impl<D: Disk> Parts<D> {
         ensures does { (p : Past) → Stands D.told self.old p
             → (back : Option ℕ) → ComesBack self.old.row.id p.world (frame_of frame.entry) back
             → DoesFrom (LeadsWith self.old.row moment back) (BreaksWith moment back) NeverOverfills
-            D.told self.new out.old.items out.new.items p result }
+            D.told self.old self.new out.old.items out.new.items p result }
         ensures serve { DisksServe D.told self.old self.new result }
-        ensures high { frame_of frame.entry ≡ None → LeavesHigh self.old self.new }
+        ensures low { LeavesAlone roles.Low self.old self.new }
+        ensures high { frame_of frame.entry ≡ None → LeavesAlone roles.High self.old self.new }
+        ensures recv { LeavesAlone roles.Recv self.old self.new }
         ensures out { length out.new.items ≤ length out.old.items + most_lines (frame_of frame.entry) }
         ensures row { self.new.row ≡ self.old.row }
         ensures moment { self.new.moment ≡ moment }
@@ -102,7 +104,9 @@ impl<D: Disk> Parts<D> {
         ensures does { Does (λ p q printed. IsHighLook self.old.row p moment None q printed)
             NeverBreaks NeverOverfills D.told self.old self.new out.old.items out.new.items result }
         ensures serve { DisksServe D.told self.old self.new result }
-        ensures high { LeavesHigh self.old self.new }
+        ensures low { LeavesAlone roles.Low self.old self.new }
+        ensures high { LeavesAlone roles.High self.old self.new }
+        ensures recv { LeavesAlone roles.Recv self.old self.new }
         ensures out { length out.new.items ≤ length out.old.items + 1 }
         ensures row { self.new.row ≡ self.old.row }
         ensures moment { self.new.moment ≡ moment }
@@ -137,6 +141,8 @@ impl<D: Disk> Parts<D> {
             × IsUnremoved p moment (Some (place p.world.returned back)) q × (printed ≡ []))
             NeverOverfills D.told self.old self.new out.old.items out.new.items result }
         ensures serve { DisksServe D.told self.old self.new result }
+        ensures low { LeavesAlone roles.Low self.old self.new }
+        ensures recv { LeavesAlone roles.Recv self.old self.new }
         ensures row { self.new.row ≡ self.old.row }
     {
         let frame = Frame {

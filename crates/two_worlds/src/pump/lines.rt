@@ -1,13 +1,14 @@
 //! The lines of a script.
 
 ghost use Rattle.std.specs.Prelude.{◌≡◌, ℕ, ◌+◌, ◌^◌, ◌<◌, ◌≤◌, Bool, true, [], length};
+ghost use Rattle.disk_model.specs.declared.name.Role.TheVariants as roles;
 ghost use Rattle.script_reader.specs.Lawful.{IsLawfulLine, IsLawfulArriving};
 ghost use Rattle.script_reader.specs.declared.line.Line.TheVariants as lines;
 ghost use Rattle.script_reader.specs.Heads.{arriving_with, line_with, CanHold, CanHoldLine};
 ghost use Rattle.script_reader.specs.Past.{Past};
 ghost use Rattle.script_reader.specs.Breaks.{BreaksOff};
 ghost use Rattle.two_worlds.specs.Standing.{Stands, StandsForSome};
-ghost use Rattle.two_worlds.specs.Doing.{Does, DisksServe};
+ghost use Rattle.two_worlds.specs.Doing.{Does, DisksServe, LeavesAlone};
 ghost use Rattle.two_worlds.specs.LineSteps.{goes_on_by, is_timely_by, CarriesBack, IsOverfullSent, Runs, Attempts, answer_of};
 
 use crate::applied::Stop;
@@ -123,6 +124,7 @@ impl<D: Disk> Parts<D> {
             (λ role p q printed. BreaksOff self.old.row p moment role q printed)
             IsOverfullSent D.told self.old self.new out.old.items out.new.items result }
         ensures serve { DisksServe D.told self.old self.new result }
+        ensures low { LeavesAlone roles.Low self.old self.new }
         ensures row { self.new.row ≡ self.old.row }
     {
         self.carry(0, out)?;

@@ -3,7 +3,6 @@ use Rattle.std.proofs.Math.Logic.{∥∥₁_map, ∥∥₁_elim}
 use Rattle.std.proofs.Props.{props}
 use Rattle.script_reader.specs.Heads.{line_with}
 use Rattle.two_worlds.proofs.LinesApplied.{still_keeps, down_after, applied}
-use Rattle.two_worlds.proofs.PumpTimed.{goes_on_timed}
 use Rattle.two_worlds.proofs.pump.Pump.apply_head.Goals as goal
 
 pub apply-requires-clause-stands : goal.apply-requires-clause-stands
@@ -18,10 +17,6 @@ invariant_of-self g c = record {
 pub returns-clause-applies : goal.returns-clause-applies
 returns-clause-applies g c = λ p s.
     applied g.D.Disk.told c.args.self.now _ (line_with c.args.bytes.now c.args.line.now) p c.apply.new.out.items c.apply.result (c.apply.ensures.attempts p s)
-
-pub returns-clause-timed : goal.returns-clause-timed
-returns-clause-timed g c =
-    goes_on_timed g.D.Disk.told c.args.self.now.parts c.apply.new.self (line_with c.args.bytes.now c.args.line.now) c.apply.new.out.items c.apply.result c.apply.ensures.attempts
 
 pub returns-clause-down : goal.returns-clause-down
 returns-clause-down g c =

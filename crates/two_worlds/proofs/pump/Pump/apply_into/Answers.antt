@@ -1,8 +1,8 @@
-use Rattle.std.proofs.Common.{◌≡◌, None, subst}
+use Rattle.std.proofs.Common.{◌≡◌, subst}
 use Rattle.script_reader.specs.declared.line.Line.{Line}
 use Rattle.script_reader.specs.Past.{Past}
 use Rattle.script_reader.specs.Heads.{line_with}
-use Rattle.two_worlds.specs.Pumps.{StandsFor, Applies, GoesOnTimed}
+use Rattle.two_worlds.specs.Pumps.{StandsFor, Applies}
 use Rattle.two_worlds.proofs.pump.Pump.apply_into.Goals as goal
 
 pub returns-clause-applies : goal.returns-clause-applies
@@ -10,8 +10,3 @@ returns-clause-applies g c =
     let e : line_with c.bytes.result.now c.head.result ≡ c.args.line.now = rw c.bytes.ensures c.head.ensures.value in
     subst (λ (line : Line). (p : Past) → StandsFor g.D.Disk.told c.args.self.now p
     → Applies g.D.Disk.told c.args.self.now c.apply_head.new.self line p c.apply_head.new.events.items c.apply_head.result) e c.apply_head.ensures.applies
-
-pub returns-clause-timed : goal.returns-clause-timed
-returns-clause-timed g c =
-    let e : line_with c.bytes.result.now c.head.result ≡ c.args.line.now = rw c.bytes.ensures c.head.ensures.value in
-    subst (λ (line : Line). c.apply_head.result ≡ None → GoesOnTimed g.D.Disk.told c.args.self.now c.apply_head.new.self line) e c.apply_head.ensures.timed

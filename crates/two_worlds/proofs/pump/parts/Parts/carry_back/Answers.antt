@@ -22,6 +22,7 @@ returns-in_err-carry-clause-serve g c =
 pub returns-clause-does : goal.returns-clause-does
 returns-clause-does g c =
     done.carry_back g.D.Disk.told c.args.self.now c.take_back.new.self c.args.moment c.args.out.now.items c.take_back.new.out.items c.carry.new.self c.carry.new.out.items c.take_back.result
+    (record { low = c.in_ok-carry.ensures.low; high = c.in_ok-carry.ensures.high; row = c.in_ok-carry.ensures.row; low_after = c.take_back.ensures.low; recv_after = c.take_back.ensures.recv; row_after = c.take_back.ensures.row })
     c.in_ok-carry.ensures.does
     (subst (λ (r : SessionRow). done.BackDoes g.D.Disk.told c.args.self.now c.take_back.new.self c.args.moment c.args.out.now.items c.take_back.new.out.items r c.carry.new.self c.carry.new.out.items c.take_back.result) c.carry.ensures.row c.take_back.ensures.does)
 

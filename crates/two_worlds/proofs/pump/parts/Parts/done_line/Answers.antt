@@ -27,7 +27,9 @@ carry_back-requires-clause-moment g c =
 
 pub returns-clause-runs : goal.returns-clause-runs
 returns-clause-runs g c =
-    done.done_on g.D.Disk.told c.args.self.now c.carry_back.new.self c.args.moment c.args.time c.args.out.now.items c.carry_back.new.out.items c.look_high.new.self c.look_high.new.out.items c.carry_back.result c.in_ok-look_high.ensures.does
+    done.done_on g.D.Disk.told c.args.self.now c.carry_back.new.self c.args.moment c.args.time c.args.out.now.items c.carry_back.new.out.items c.look_high.new.self c.look_high.new.out.items c.carry_back.result
+    (record { low = c.in_ok-look_high.ensures.low; high = c.in_ok-look_high.ensures.high; recv = c.in_ok-look_high.ensures.recv; row = c.in_ok-look_high.ensures.row; low_after = c.carry_back.ensures.low })
+    c.in_ok-look_high.ensures.does
     (hand_lent c.hand.result _ c.hand.ensures ∙ c.if-is_none.ensures)
     (subst (λ (r : SessionRow). done.BackFrom g.D.Disk.told c.carry_back.new.self c.args.moment c.args.time c.carry_back.new.out.items r c.look_high.new.self c.look_high.new.out.items c.carry_back.result) c.look_high.ensures.row c.carry_back.ensures.does)
 

@@ -46,6 +46,7 @@ returns g c =
     let did : Looked m s d c.args.moment c.args.word a e.looks.0 l = record {
       step = e.looks.1;
       store = e.store;
+      images = e.images;
       hand = e.hand;
       row = e.row;
       last = e.last;

@@ -48,7 +48,7 @@ returns-in-Ok-clause-does g c = λ p s back comes.
     let d = c.args.self.now in
     let looked = c.in-Ok.ensures.looks s.ends.low s.ends.high (high_past_of d p) (s.ends.stand, s.ends.high_fits) s.high_ready.past in
     led m d p s c.args.moment c.requires.order c.look.new.self c.look.new.store c.look.new.ends back c.in-Ok.look
-    (looks m d p s c.args.moment c.requires.order c.look.new.self c.look.new.store c.look.new.ends c.in-Ok.look c.in-Ok.ensures.store c.in-Ok.ensures.count c.in-Ok.ensures.up c.look.ensures.between c.look.ensures.row c.look.ensures.shape (frame_of c.args.frame) back comes c.in-Ok.ensures.fares looked)
+    (looks m d p s c.args.moment c.requires.order c.look.new.self c.look.new.store c.look.new.ends c.in-Ok.look c.in-Ok.ensures.store c.in-Ok.ensures.count c.in-Ok.ensures.up c.look.ensures.between c.look.ensures.row c.look.ensures.shape (frame_of c.args.frame) back comes c.in-Ok.ensures.fares looked c.look.ensures.images)
     c.args.out.now.items c.tell_high.new.out.items c.tell_high.ensures.out c.tell_high.new.self c.tell_high.ensures.rest
 
 pub returns-in-Ok-clause-serve : goal.returns-in-Ok-clause-serve
@@ -71,8 +71,8 @@ returns-in-Err-Device-clause-does g c = λ p s back comes.
     let d = c.args.self.now in
     let task = task_at d.high (frame_of c.args.frame) in
     let fares = fared m task d.high c.look.new.self d.high_store c.look.new.store c.look.result (Device c.in-Err-Device.faults) (c.in-Err-Device.is ∙ ap (λ f. Err f) c.in-Err-Device.field-0-is) c.look.ensures.fares in
-    let b = breaks m d p s c.args.moment c.requires.order c.look.new.self c.look.new.store c.look.new.ends (frame_of c.args.frame) back c.in-Err-Device.faults comes fares in
-    (b.end, [], b.breaks, sym (append-nil c.args.out.now.items), b.fails)
+    let b = breaks m d p s c.args.moment c.requires.order c.look.new.self c.look.new.store c.look.new.ends (frame_of c.args.frame) back c.in-Err-Device.faults comes fares c.look.ensures.images in
+    (b.end, [], b.breaks, sym (append-nil c.args.out.now.items), b.fails, b.fits)
 
 pub returns-in-Err-Device-clause-serve : goal.returns-in-Err-Device-clause-serve
 returns-in-Err-Device-clause-serve g c =
@@ -96,7 +96,7 @@ returns-in-Err-Ahead-clause-does g c = λ p s back comes.
     let fares = fared m task d.high c.look.new.self d.high_store c.look.new.store c.look.result (Ahead c.in-Err-Ahead.field-0-0 c.in-Err-Ahead.field-0-1) (c.in-Err-Ahead.is ∙ ap (λ f. Err f) c.in-Err-Ahead.field-0-is) c.look.ensures.fares in
     let same = subst (λ r. OnErr r (c.look.new.ends ≡ d.ends)) c.in-Err-Ahead.is c.look.ensures.refused in
     let b = refused m d p s c.args.moment c.requires.order c.look.new.self c.look.new.store c.look.new.ends (frame_of c.args.frame) back c.in-Err-Ahead.field-0-0 c.in-Err-Ahead.field-0-1 comes fares same in
-    (b.end, [], b.leads, sym (append-nil c.args.out.now.items), b.stand)
+    (b.end, [], b.leads, sym (append-nil c.args.out.now.items), b.stand, b.fits)
 
 pub returns-in-Err-Ahead-clause-serve : goal.returns-in-Err-Ahead-clause-serve
 returns-in-Err-Ahead-clause-serve g c =

@@ -17,7 +17,7 @@ returns-clause-does g c = λ p s.
     let m = g.D.Disk.told in
     let row = c.args.self.now.row in
     let k = place p.world.returned c.args.back in
-    does_more m c.look_with.new.self c.args.out.now.items c.look_with.new.out.items p
+    does_more m c.args.self.now c.look_with.new.self c.args.out.now.items c.look_with.new.out.items p
     (LeadsWith row c.args.moment (Some k)) (λ p q printed. IsReturn row p c.args.moment (place p.world.returned c.args.back) q printed)
     (BreaksWith c.args.moment (Some k)) (λ role p q printed. (role ≡ roles.High) × IsUnremoved p c.args.moment (Some (place p.world.returned c.args.back)) q × (printed ≡ []))
     NeverOverfills c.look_with.result (λ q printed h. h) (λ role q printed h. h)

@@ -1,0 +1,5 @@
+use Rattle.two_worlds.proofs.Outliving.{keeps_messages}
+use Rattle.two_worlds.proofs.laws.accepted_outlives.Goals as goal
+
+pub returns : goal.returns
+returns c = λ row w low high recv lawful left. keeps_messages row w low high recv lawful left

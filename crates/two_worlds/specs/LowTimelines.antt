@@ -1,0 +1,48 @@
+-- What a script's low side alone has been through, as what came to it and the looks that it made.
+use Rattle.std.specs.Prelude.{◌≡◌, Bool, true, false, List, [], ◌∷◌, ◌++◌, map, reverse, Some, None}
+use Rattle.pump_frame.specs.declared.row.SessionRow.{SessionRow}
+use Rattle.pump_core.specs.declared.feedback.Feedback.{Feedback}
+use Rattle.pump_core.specs.Comings.{Coming, Timed, Comes, Looks, Side, HasSides, comings}
+use Rattle.script_reader.specs.declared.line.Line.{Line}
+use Rattle.script_reader.specs.declared.line.Line.TheVariants as lines
+use Rattle.script_reader.specs.declared.event.Event.{Event}
+use Rattle.script_reader.specs.Steps as script
+use Rattle.script_reader.specs.Tolds.{LowPast}
+use Rattle.script_reader.specs.Scripts.{LowRunning, Alone, GoesLow, LeadTo}
+use Rattle.two_worlds.specs.Timelines.{arrived, AreLeft}
+
+-- the opening of the low side's one life, and what happened since, the newest first
+abbrev pub side_of : LowPast → List Timed → Side
+side_of p events = record { opening = p.history.life.opening; events = events }
+
+-- this came to the low side, and these looks it made: each look that may take something was offered what
+-- came first and was not taken, and what waits came on the connection that stands and was not taken
+pub record IsLowTimeline (row : SessionRow) (p : LowPast) (events : List Timed) : Type 0 where
+  pub sides : HasSides row (side_of p events ∷ []) p.history
+  pub waits : AreLeft (comings events) sides.1.0 p.waits p.is_broken
+
+-- a `told` line is what comes with it and one look, a `gone` line one look with the news that the
+-- connection is lost, each with some feedback
+abbrev pub AreEvents : LowPast → Line → List Timed → Type 0
+AreEvents p (lines.Told session m w fault told a) events =
+    (c : script.Coming) × script.Arrives session p.reading a c × (came : List Coming)
+    × (c.added ≡ map arrived came)
+    × ((f : Feedback) × (events ≡ Looks m w false false f ∷ reverse (map (λ k. Comes k) came)))
+AreEvents p (lines.Gone session m) events = (f : Feedback) × (events ≡ Looks m 0 true false f ∷ [])
+AreEvents p _ events = ⊥
+
+-- the low side of the past p, to which this happened, came to the past q by this line: the line's events
+-- happened next
+abbrev pub LowGoesOn : SessionRow → LowPast → Line → List Timed → LowPast → Type 0
+LowGoesOn row p line events q = (more : List Timed) × IsLowTimeline row q (more ++ events) × AreEvents p line more
+
+-- a line goes on with whatever happened to its low side
+abbrev pub LowLinesAreEvents : Type 0
+LowLinesAreEvents = (s : LowRunning) (line : Line) (q : LowPast) (printed : List Event) (events : List Timed)
+    → GoesLow s line (Some (Alone (record { row = s.row; past = q }))) printed
+    → IsLowTimeline s.row s.past events → LowGoesOn s.row s.past line events q
+
+-- what came to a script's low side alone, and the looks that it made
+abbrev pub LowScriptsAreTimed : Type 0
+LowScriptsAreTimed = (script : List Line) (s : LowRunning) (printed : List Event)
+    → LeadTo None script (Some (Alone s)) printed → (events : List Timed) × IsLowTimeline s.row s.past events

@@ -1,0 +1,6 @@
+pub mod Answers
+pub mod Documents
+pub mod Faults
+pub mod Keys
+pub mod Rows
+pub mod Values

@@ -1,10 +1,7 @@
 ghost use Rattle.std.specs.Prelude.{◌≡◌};
-ghost use Rattle.session_table.specs.Faults.{fault_number, fault_row, range_of};
+ghost use Rattle.session_table.specs.Faults.{fault_number, fault_row};
 
-use crate::key::key_name;
 use pump_frame::RowKey;
-use std::error::Error;
-use std::fmt;
 
 /// Why a document is no table of sessions: the first thing that is wrong with it. Rows are counted
 /// from 1, and row 0 is the top level. `Display` says in a sentence what to mend.
@@ -51,25 +48,6 @@ pub enum TableFault {
     Memory,
 }
 
-// The least and the greatest number at a key, for the sentence that refuses another. What is refused
-// is decided by a row's own ranges; `proofs/Ranges.antt` shows that these are the same.
-fn range(key: RowKey) -> Option<(u32, u32)>
-    ensures { result ≡ range_of key }
-{
-    match key {
-        RowKey::Id => Some((0, u32::MAX)),
-        RowKey::Capacity => Some((3, 64)),
-        RowKey::Message => Some((1, 1024)),
-        RowKey::Window => Some((1, 256)),
-        RowKey::Start => Some((0, 1_000_000_000)),
-        RowKey::Longest => Some((0, 1_000_000_000)),
-        RowKey::Resend => Some((1, 1_000_000_000)),
-        RowKey::LowPort => Some((1, 65535)),
-        RowKey::HighPort => Some((1, 65535)),
-        RowKey::Session | RowKey::Low | RowKey::High => None,
-    }
-}
-
 impl TableFault {
     /// Its number in a fault line.
     pub fn number(&self) -> u32
@@ -103,11 +81,3 @@ impl TableFault {
         }
     }
 }
-
-impl fmt::Display for TableFault {
-    fn fmt<W: fmt::Write>(&self, f: &mut fmt::Formatter<W>) -> fmt::Result {
-        write!(f, "out of memory")
-    }
-}
-
-impl Error for TableFault {}

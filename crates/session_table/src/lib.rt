@@ -6,6 +6,7 @@ mod document;
 mod fault;
 mod key;
 mod row;
+mod sentence;
 mod table;
 mod value;
 

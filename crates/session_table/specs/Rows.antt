@@ -48,13 +48,13 @@ numbered place members row =
 unfoldable pub row_of : ℕ → Members → Result SessionRow TableFault
 row_of place members =
     if has_other row_keys members then Err (UnknownKey place) else (do
-    id ← whole_at place Id 0 4294967295 members
-    low ← name_at place Low members
-    high ← name_at place High members
-    row ← numbered place members (begun id low high)
-    low_port ← whole_at place LowPort 1 65535 members
-    high_port ← whole_at place HighPort 1 65535 members
-    Ok (record row { low_port = low_port; high_port = high_port }))
+      id ← whole_at place Id 0 4294967295 members
+      low ← name_at place Low members
+      high ← name_at place High members
+      row ← numbered place members (begun id low high)
+      low_port ← whole_at place LowPort 1 65535 members
+      high_port ← whole_at place HighPort 1 65535 members
+      Ok (record row { low_port = low_port; high_port = high_port }))
 
 -- an earlier row has this id, or this port
 abbrev pub has_id : List SessionRow → ℕ → Bool

@@ -5,6 +5,7 @@ ghost use Rattle.toml.specs.Data.{as_array, as_table};
 ghost use Rattle.toml.specs.View.{view, table_view, items_view};
 ghost use Rattle.session_table.specs.Answers.{AnswersBy};
 ghost use Rattle.session_table.specs.Documents.{row_in, rows_from, are_tables, rows_in, rows_at, rows_of, document};
+ghost use Rattle.session_table.specs.Tables.{HasPorts, AreApart, IsTable};
 
 use crate::TableFault;
 use crate::key::has_other;
@@ -24,6 +25,8 @@ fn row_in(earlier: &[SessionRow], value: &Value) -> Result<SessionRow, TableFaul
     requires { length earlier.now < 16 }
     ensures value { result ≡ row_in earlier.now (as_table (view value.now)) }
     ensures lawful { IfOk result IsLawfulRow }
+    ensures ports { IfOk result HasPorts }
+    ensures apart { IfOk result (λ row. All (λ a. AreApart a row) earlier.now) }
 {
     let Some(members) = value.as_table() else {
         return Err(NO_TABLES);
@@ -36,7 +39,7 @@ fn row_in(earlier: &[SessionRow], value: &Value) -> Result<SessionRow, TableFaul
 fn rows_from(alloc: Global, entries: &[Value]) -> Result<Vec<SessionRow>, TableFault>
     requires { length entries.now ≤ 16 }
     ensures value { AnswersBy (λ rows. rows.items) result (rows_from [] (items_view entries.now)) }
-    ensures lawful { IfOk result (λ rows. All IsLawfulRow rows.items) }
+    ensures table { IfOk result (λ rows. IsTable rows.items) }
 {
     let mut rows = Vec::new(alloc);
     for value in entries {
@@ -66,20 +69,22 @@ fn are_tables(entries: &[Value]) -> bool
 #[tactic(auto, using(crate::proofs::Entries::entry_count_view))]
 fn rows_in(alloc: Global, entries: &[Value]) -> Result<Vec<SessionRow>, TableFault>
     ensures value { AnswersBy (λ rows. rows.items) result (rows_in (items_view entries.now)) }
-    ensures lawful { IfOk result (λ rows. All IsLawfulRow rows.items) }
+    ensures table { IfOk result (λ rows. IsTable rows.items) }
 {
     if !are_tables(entries) {
         return Err(NO_TABLES);
     }
     if entries.len() > 16 {
-        return Err(TableFault::TooMany { rows: entries.len().min(u32::MAX as usize) as u32 });
+        return Err(TableFault::TooMany {
+            rows: entries.len().min(u32::MAX as usize) as u32,
+        });
     }
     rows_from(alloc, entries)
 }
 
 fn rows_at(alloc: Global, value: &Value) -> Result<Vec<SessionRow>, TableFault>
     ensures value { AnswersBy (λ rows. rows.items) result (rows_at (as_array (view value.now))) }
-    ensures lawful { IfOk result (λ rows. All IsLawfulRow rows.items) }
+    ensures table { IfOk result (λ rows. IsTable rows.items) }
 {
     match value.as_array() {
         Some(entries) => rows_in(alloc, entries.as_slice()),
@@ -87,11 +92,11 @@ fn rows_at(alloc: Global, value: &Value) -> Result<Vec<SessionRow>, TableFault>
     }
 }
 
-/// The rows of a document, each lawful.
+/// The rows of a document.
 #[tactic(auto, unfolding(crate::specs::Documents::rows_of))]
 pub(crate) fn rows_of(alloc: Global, document: &Document) -> Result<Vec<SessionRow>, TableFault>
     ensures value { AnswersBy (λ rows. rows.items) result (rows_of (table_view document.now)) }
-    ensures lawful { IfOk result (λ rows. All IsLawfulRow rows.items) }
+    ensures table { IfOk result (λ rows. IsTable rows.items) }
 {
     if has_other(&[RowKey::Session], document) {
         return Err(TableFault::UnknownKey { row: 0 });

@@ -1,7 +1,9 @@
-ghost use Rattle.std.specs.Prelude.{◌≡◌, IfOk};
+ghost use Rattle.std.specs.Prelude.{◌≡◌, ◌≢◌, ◌<◌, IfOk};
+ghost use Rattle.std.specs.List.{All};
 ghost use Rattle.pump_frame.specs.Rows.{IsLawfulRow};
 ghost use Rattle.toml.specs.View.{table_view};
 ghost use Rattle.session_table.specs.Rows.{begun, with_number, filled, numbered, row_of, has_id, has_port, placed};
+ghost use Rattle.session_table.specs.Tables.{AreApart};
 
 use crate::TableFault;
 use crate::key::{ROW_KEYS, has_other};
@@ -34,12 +36,30 @@ fn with_number(row: SessionRow, key: RowKey, number: u32) -> SessionRow
     ensures { result ≡ with_number row key number }
 {
     match key {
-        RowKey::Capacity => SessionRow { capacity: number, ..row },
-        RowKey::Message => SessionRow { message: number, ..row },
-        RowKey::Window => SessionRow { window: number, ..row },
-        RowKey::Start => SessionRow { start: number, ..row },
-        RowKey::Longest => SessionRow { longest: number, ..row },
-        RowKey::Resend => SessionRow { resend: number, ..row },
+        RowKey::Capacity => SessionRow {
+            capacity: number,
+            ..row
+        },
+        RowKey::Message => SessionRow {
+            message: number,
+            ..row
+        },
+        RowKey::Window => SessionRow {
+            window: number,
+            ..row
+        },
+        RowKey::Start => SessionRow {
+            start: number,
+            ..row
+        },
+        RowKey::Longest => SessionRow {
+            longest: number,
+            ..row
+        },
+        RowKey::Resend => SessionRow {
+            resend: number,
+            ..row
+        },
         _ => row,
     }
 }
@@ -57,7 +77,11 @@ fn filled(
     let number = whole_at(place, key, 0, u32::MAX, document)?;
     let next = with_number(row, key, number);
     if next.first_bad().is_some() {
-        return Err(TableFault::OutOfRange { row: place, key, value: Some(i64::from(number)) });
+        return Err(TableFault::OutOfRange {
+            row: place,
+            key,
+            value: Some(i64::from(number)),
+        });
     }
     Ok(next)
 }
@@ -80,6 +104,7 @@ fn numbered(place: u32, document: &Document, row: SessionRow) -> Result<SessionR
 pub(crate) fn row_of(place: u32, document: &Document) -> Result<SessionRow, TableFault>
     ensures value { result ≡ row_of place (table_view document.now) }
     ensures lawful { IfOk result IsLawfulRow }
+    ensures ports { IfOk result (λ row. (0 < row.low_port) × (0 < row.high_port)) }
 {
     if has_other(&ROW_KEYS, document) {
         return Err(TableFault::UnknownKey { row: place });
@@ -90,7 +115,11 @@ pub(crate) fn row_of(place: u32, document: &Document) -> Result<SessionRow, Tabl
     let row = numbered(place, document, begun(id, low, high))?;
     let low_port = port_at(place, RowKey::LowPort, document)?;
     let high_port = port_at(place, RowKey::HighPort, document)?;
-    Ok(SessionRow { low_port, high_port, ..row })
+    Ok(SessionRow {
+        low_port,
+        high_port,
+        ..row
+    })
 }
 
 fn has_id(earlier: &[SessionRow], id: u32) -> bool
@@ -102,7 +131,9 @@ fn has_id(earlier: &[SessionRow], id: u32) -> bool
 fn has_port(earlier: &[SessionRow], port: u16) -> bool
     ensures { result ≡ has_port earlier.now port }
 {
-    earlier.iter().any(|row| row.low_port == port || row.high_port == port)
+    earlier
+        .iter()
+        .any(|row| row.low_port == port || row.high_port == port)
 }
 
 /// A row at this place, if its id and its two ports are its own.
@@ -114,15 +145,26 @@ pub(crate) fn placed(
 ) -> Result<SessionRow, TableFault>
     ensures value { result ≡ placed place earlier.now row }
     ensures same { IfOk result (λ next. next ≡ row) }
+    ensures two_ports { IfOk result (λ next. next.low_port ≢ next.high_port) }
+    ensures apart { IfOk result (λ next. All (λ a. AreApart a next) earlier.now) }
 {
     if has_id(earlier, row.id) {
-        return Err(TableFault::TwiceId { row: place, id: row.id });
+        return Err(TableFault::TwiceId {
+            row: place,
+            id: row.id,
+        });
     }
     if has_port(earlier, row.low_port) {
-        return Err(TableFault::TwicePort { row: place, port: row.low_port });
+        return Err(TableFault::TwicePort {
+            row: place,
+            port: row.low_port,
+        });
     }
     if has_port(earlier, row.high_port) || row.high_port == row.low_port {
-        return Err(TableFault::TwicePort { row: place, port: row.high_port });
+        return Err(TableFault::TwicePort {
+            row: place,
+            port: row.high_port,
+        });
     }
     Ok(row)
 }

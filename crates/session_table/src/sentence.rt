@@ -42,50 +42,66 @@ impl fmt::Display for Wanted {
 impl fmt::Display for TableFault {
     fn fmt<W: fmt::Write>(&self, f: &mut fmt::Formatter<W>) -> fmt::Result {
         match self {
-            TableFault::NotToml => {
-                write!(f, "the table is no TOML document; mend how it is written, and give no key twice")
-            }
-            TableFault::MissingKey { row: 0, .. } => {
-                write!(f, "the table has no session; begin each with a line [[session]]")
-            }
+            TableFault::NotToml => write!(
+                f,
+                "the table is no TOML document; mend how it is written, and give no key twice"
+            ),
+            TableFault::MissingKey { row: 0, .. } => write!(
+                f,
+                "the table has no session; begin each with a line [[session]]"
+            ),
             TableFault::MissingKey { row, key } => {
                 let (name, wanted) = (key_name(*key), Wanted(*key));
                 write!(f, "row {row} of the table has no {name}; give it {wanted}")
             }
-            TableFault::UnknownKey { row: 0 } => {
-                write!(f, "the table has a key before its first line [[session]]; take it out")
-            }
+            TableFault::UnknownKey { row: 0 } => write!(
+                f,
+                "the table has a key at its top level that is not session; take it out or mend its name"
+            ),
             TableFault::UnknownKey { row } => write!(
                 f,
-                "row {row} of the table has a key that no row has; the keys are id, low, high, capacity, message, window, start, longest, resend, low_port and high_port"
+                "row {row} of the table has a key that is none of id, low, high, capacity, message, window, start, longest, resend, low_port and high_port; take it out or mend its name"
             ),
-            TableFault::OutOfRange { row: 0, .. } => {
-                write!(f, "session is no array of tables; begin each session with a line [[session]]")
-            }
+            TableFault::OutOfRange { row: 0, .. } => write!(
+                f,
+                "session is no array of tables; begin each session of the table with a line [[session]]"
+            ),
             TableFault::OutOfRange { row, key, value } => {
                 let (name, wanted) = (key_name(*key), Wanted(*key));
                 match value {
-                    Some(value) => write!(f, "row {row} of the table has {name} = {value}; give it {wanted}"),
-                    None => write!(f, "row {row} of the table has a {name} that is no whole number; give it {wanted}"),
+                    Some(value) => write!(
+                        f,
+                        "row {row} of the table has {name} = {value}; give it {wanted}"
+                    ),
+                    None => write!(
+                        f,
+                        "row {row} of the table has no whole number as its {name}; give it {wanted}"
+                    ),
                 }
             }
             TableFault::Name { row, key } => {
                 let (name, wanted) = (key_name(*key), Wanted(*key));
-                write!(f, "row {row} of the table has a {name} that is no name; give it {wanted}")
+                write!(
+                    f,
+                    "row {row} of the table has no name as its {name}; give it {wanted}"
+                )
             }
-            TableFault::TwiceId { row, id } => {
-                write!(f, "row {row} of the table has the id {id} of an earlier row; give it its own")
-            }
+            TableFault::TwiceId { row, id } => write!(
+                f,
+                "row {row} of the table has id = {id}, as an earlier row has; give it an id of its own"
+            ),
             TableFault::TwicePort { row, port } => write!(
                 f,
-                "row {row} of the table has the port {port} a second time; give each low_port and high_port its own"
+                "row {row} of the table has the port {port}, which it or an earlier row has already; give it ports of its own"
             ),
-            TableFault::TooMany { rows } => {
-                write!(f, "the table has {rows} rows; take out all but 16")
-            }
-            TableFault::Memory => {
-                write!(f, "there is not enough memory for the table; end other programs and try again")
-            }
+            TableFault::TooMany { rows } => write!(
+                f,
+                "the table has {rows} rows, and 16 are the most; take the others out"
+            ),
+            TableFault::Memory => write!(
+                f,
+                "there is not enough memory for the table; end other programs and try again"
+            ),
         }
     }
 }

@@ -3,6 +3,7 @@ ghost use Rattle.std.specs.List.{All, list_any};
 ghost use Rattle.pump_frame.specs.Rows.{IsLawfulRow, permits};
 ghost use Rattle.session_table.specs.Answers.{Answers};
 ghost use Rattle.session_table.specs.Documents.{table_of};
+ghost use Rattle.session_table.specs.Tables.{IsTable};
 
 use crate::TableFault;
 use crate::document::{document, rows_of};
@@ -19,15 +20,14 @@ pub struct Table {
 
 impl Model for Table {
     ghost use Rattle.std.specs.Prelude.{List};
-    ghost use Rattle.std.specs.List.{All};
-    ghost use Rattle.pump_frame.specs.Rows.{IsLawfulRow};
     ghost use Rattle.pump_frame.specs.declared.row.SessionRow.{SessionRow};
+    ghost use Rattle.session_table.specs.Tables.{IsTable};
 
     ghost Value = { List SessionRow };
 
     ghost view = { λ s. s.rows.items };
 
-    ghost invariant = { λ s. All IsLawfulRow s.rows.items };
+    ghost invariant = { λ s. IsTable s.rows.items };
 }
 
 fn with_id(rows: &[SessionRow], id: u32) -> Option<&SessionRow>
@@ -56,6 +56,7 @@ impl Table {
     pub fn rows(&self) -> &[SessionRow]
         ensures value { result.now ≡ self.now }
         ensures lawful { All IsLawfulRow result.now }
+        ensures table { IsTable result.now }
     {
         self.rows.as_slice()
     }

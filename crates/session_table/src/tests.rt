@@ -52,7 +52,9 @@ fn is_second(row: &SessionRow) -> bool {
 #[test]
 fn a_table_has_the_rows_of_its_document(rt: HostRuntime) -> Result<(), Fail> {
     let text = format!(in rt.alloc(); "{FIRST}{SECOND}")?;
-    let table = Table::read(rt.alloc(), text.as_bytes()).ok().ok_or("it is refused")?;
+    let table = Table::read(rt.alloc(), text.as_bytes())
+        .ok()
+        .ok_or("it is refused")?;
     let [first, second] = table.rows() else {
         return Err("it has not two rows".into());
     };
@@ -64,7 +66,9 @@ fn a_table_has_the_rows_of_its_document(rt: HostRuntime) -> Result<(), Fail> {
     let high = Name::from_slice(b"watch").ok_or("high")?;
     assert!(rt; table.permits(1, &low, &high));
     assert!(rt; !table.permits(1, &high, &low) && !table.permits(2, &low, &high));
-    let empty = Table::read(rt.alloc(), b"session = []").ok().ok_or("it has no sessions")?;
+    let empty = Table::read(rt.alloc(), b"session = []")
+        .ok()
+        .ok_or("it has no sessions")?;
     assert!(rt; empty.rows().is_empty());
     Ok(())
 }
@@ -81,11 +85,19 @@ fn missing(row: u32, key: RowKey) -> TableFault {
 }
 
 fn outside(row: u32, key: RowKey, value: i64) -> TableFault {
-    TableFault::OutOfRange { row, key, value: Some(value) }
+    TableFault::OutOfRange {
+        row,
+        key,
+        value: Some(value),
+    }
 }
 
 fn no_number(row: u32, key: RowKey) -> TableFault {
-    TableFault::OutOfRange { row, key, value: None }
+    TableFault::OutOfRange {
+        row,
+        key,
+        value: None,
+    }
 }
 
 fn no_name(row: u32, key: RowKey) -> TableFault {
@@ -97,36 +109,124 @@ fn a_row_is_refused_for_the_first_thing_that_is_wrong(rt: HostRuntime) -> Result
     let twice_id = TableFault::TwiceId { row: 2, id: 1 };
     for (from, to, fault) in [
         ("id = 1", "id = 1.0", no_number(1, RowKey::Id)),
-        ("4294967295", "4294967296", outside(2, RowKey::Id, 4294967296)),
+        (
+            "4294967295",
+            "4294967296",
+            outside(2, RowKey::Id, 4294967296),
+        ),
         ("id = 4294967295", "id = 1", twice_id),
         ("low = \"weather\"\n", "", missing(1, RowKey::Low)),
         ("\"weather\"", "\"Weather\"", no_name(1, RowKey::Low)),
         ("\"weather\"", "\"\"", no_name(1, RowKey::Low)),
         ("00009\"", "000009\"", no_name(2, RowKey::Low)),
         ("\"watch\"", "7", no_name(1, RowKey::High)),
-        ("capacity = 3\nmessage = 8", "message = 0", missing(1, RowKey::Capacity)),
-        ("capacity = 3", "capacity = 2", outside(1, RowKey::Capacity, 2)),
-        ("capacity = 64", "capacity = 65", outside(2, RowKey::Capacity, 65)),
-        ("capacity = 3", "capacity = -1", outside(1, RowKey::Capacity, -1)),
-        ("capacity = 3", "capacity = 3.0", no_number(1, RowKey::Capacity)),
-        ("capacity = 3", "capacity = \"3\"", no_number(1, RowKey::Capacity)),
+        (
+            "capacity = 3\nmessage = 8",
+            "message = 0",
+            missing(1, RowKey::Capacity),
+        ),
+        (
+            "capacity = 3",
+            "capacity = 2",
+            outside(1, RowKey::Capacity, 2),
+        ),
+        (
+            "capacity = 64",
+            "capacity = 65",
+            outside(2, RowKey::Capacity, 65),
+        ),
+        (
+            "capacity = 3",
+            "capacity = -1",
+            outside(1, RowKey::Capacity, -1),
+        ),
+        (
+            "capacity = 3",
+            "capacity = 3.0",
+            no_number(1, RowKey::Capacity),
+        ),
+        (
+            "capacity = 3",
+            "capacity = \"3\"",
+            no_number(1, RowKey::Capacity),
+        ),
         ("message = 8", "message = 0", outside(1, RowKey::Message, 0)),
-        ("message = 1024", "message = 1025", outside(2, RowKey::Message, 1025)),
-        ("window = 2\n", "window = 0\n", outside(1, RowKey::Window, 0)),
-        ("window = 256", "window = 257", outside(2, RowKey::Window, 257)),
-        ("start = 20000", "start = 1000000001", outside(1, RowKey::Start, 1000000001)),
-        ("longest = 100000", "longest = 1000000001", outside(1, RowKey::Longest, 1000000001)),
-        ("resend = 500000", "resend = 0", outside(1, RowKey::Resend, 0)),
-        ("low_port = 7001", "low_port = 0", outside(1, RowKey::LowPort, 0)),
-        ("low_port = 7001", "low_port = 65536", outside(1, RowKey::LowPort, 65536)),
+        (
+            "message = 1024",
+            "message = 1025",
+            outside(2, RowKey::Message, 1025),
+        ),
+        (
+            "window = 2\n",
+            "window = 0\n",
+            outside(1, RowKey::Window, 0),
+        ),
+        (
+            "window = 256",
+            "window = 257",
+            outside(2, RowKey::Window, 257),
+        ),
+        (
+            "start = 20000",
+            "start = 1000000001",
+            outside(1, RowKey::Start, 1000000001),
+        ),
+        (
+            "longest = 100000",
+            "longest = 1000000001",
+            outside(1, RowKey::Longest, 1000000001),
+        ),
+        (
+            "resend = 500000",
+            "resend = 0",
+            outside(1, RowKey::Resend, 0),
+        ),
+        (
+            "low_port = 7001",
+            "low_port = 0",
+            outside(1, RowKey::LowPort, 0),
+        ),
+        (
+            "low_port = 7001",
+            "low_port = 65536",
+            outside(1, RowKey::LowPort, 65536),
+        ),
         ("high_port = 7002\n", "", missing(1, RowKey::HighPort)),
-        ("high_port = 7002", "high_port = 7001", TableFault::TwicePort { row: 1, port: 7001 }),
-        ("low_port = 65_535", "low_port = 7002", TableFault::TwicePort { row: 2, port: 7002 }),
-        ("high_port = 0x1b5c", "high_port = 7001", TableFault::TwicePort { row: 2, port: 7001 }),
-        ("id = 1\n", "identity = 1\n", TableFault::UnknownKey { row: 1 }),
-        ("resend = 1\n", "coarse = true\n", TableFault::UnknownKey { row: 2 }),
-        ("capacity = 3", "capacity = 3\ncapacity = 3", TableFault::NotToml),
-        ("capacity = 3", "capacity = 9223372036854775808", TableFault::NotToml),
+        (
+            "high_port = 7002",
+            "high_port = 7001",
+            TableFault::TwicePort { row: 1, port: 7001 },
+        ),
+        (
+            "low_port = 65_535",
+            "low_port = 7002",
+            TableFault::TwicePort { row: 2, port: 7002 },
+        ),
+        (
+            "high_port = 0x1b5c",
+            "high_port = 7001",
+            TableFault::TwicePort { row: 2, port: 7001 },
+        ),
+        (
+            "id = 1\n",
+            "identity = 1\n",
+            TableFault::UnknownKey { row: 1 },
+        ),
+        (
+            "resend = 1\n",
+            "coarse = true\n",
+            TableFault::UnknownKey { row: 2 },
+        ),
+        (
+            "capacity = 3",
+            "capacity = 3\ncapacity = 3",
+            TableFault::NotToml,
+        ),
+        (
+            "capacity = 3",
+            "capacity = 9223372036854775808",
+            TableFault::NotToml,
+        ),
     ] {
         assert_eq!(rt; refusal(rt.alloc(), from, to)?, Some(fault), "{to}");
     }
@@ -154,16 +254,105 @@ fn a_document_is_refused_for_its_top_level_first(rt: HostRuntime) {
         let refused = Table::read(rt.alloc(), document.as_bytes()).err();
         assert_eq!(rt; refused, Some(fault), "{document}");
     }
-    assert_eq!(rt; Table::read(rt.alloc(), b"\xff").err(), Some(TableFault::NotToml));
+    assert_eq!(rt;
+        Table::read(rt.alloc(), b"\xff").err(),
+        Some(TableFault::NotToml)
+    );
 }
 
 #[test]
 fn a_refusal_says_what_to_mend(rt: HostRuntime) -> Result<(), Fail> {
+    let keys =
+        "id, low, high, capacity, message, window, start, longest, resend, low_port and high_port";
+    let unknown = format!(in rt.alloc();
+        "row 3 of the table has a key that is none of {keys}; take it out or mend its name"
+    )?;
     for (fault, number, row, sentence) in [
-        (outside(1, RowKey::Capacity, 2), 4, 1, "row 1 of the table has capacity = 2; give it a whole number from 3 to 64"),
+        (
+            TableFault::NotToml,
+            1,
+            0,
+            "the table is no TOML document; mend how it is written, and give no key twice",
+        ),
+        (
+            missing(0, RowKey::Session),
+            2,
+            0,
+            "the table has no session; begin each with a line [[session]]",
+        ),
+        (
+            missing(2, RowKey::Id),
+            2,
+            2,
+            "row 2 of the table has no id; give it a whole number from 0 to 4294967295",
+        ),
+        (
+            missing(1, RowKey::High),
+            2,
+            1,
+            "row 1 of the table has no high; give it a name in quotes, 1 to 32 of a to z, 0 to 9 and -",
+        ),
+        (
+            TableFault::UnknownKey { row: 0 },
+            3,
+            0,
+            "the table has a key at its top level that is not session; take it out or mend its name",
+        ),
+        (TableFault::UnknownKey { row: 3 }, 3, 3, unknown.as_str()),
+        (
+            no_number(0, RowKey::Session),
+            4,
+            0,
+            "session is no array of tables; begin each session of the table with a line [[session]]",
+        ),
+        (
+            outside(1, RowKey::Capacity, 2),
+            4,
+            1,
+            "row 1 of the table has capacity = 2; give it a whole number from 3 to 64",
+        ),
+        (
+            no_number(1, RowKey::LowPort),
+            4,
+            1,
+            "row 1 of the table has no whole number as its low_port; give it a whole number from 1 to 65535",
+        ),
+        (
+            no_name(1, RowKey::Low),
+            5,
+            1,
+            "row 1 of the table has no name as its low; give it a name in quotes, 1 to 32 of a to z, 0 to 9 and -",
+        ),
+        (
+            TableFault::TwiceId { row: 2, id: 7 },
+            6,
+            2,
+            "row 2 of the table has id = 7, as an earlier row has; give it an id of its own",
+        ),
+        (
+            TableFault::TwicePort { row: 2, port: 7001 },
+            7,
+            2,
+            "row 2 of the table has the port 7001, which it or an earlier row has already; give it ports of its own",
+        ),
+        (
+            TableFault::TooMany { rows: 17 },
+            8,
+            0,
+            "the table has 17 rows, and 16 are the most; take the others out",
+        ),
+        (
+            TableFault::Memory,
+            9,
+            0,
+            "there is not enough memory for the table; end other programs and try again",
+        ),
     ] {
         assert_eq!(rt; (fault.number(), fault.row()), (number, row), "{sentence}");
-        assert!(rt; fault.to_string(rt.alloc())?.as_str() == sentence, "{fault}");
+        assert!(rt;
+            fault.to_string(rt.alloc())?.as_str() == sentence,
+            "{fault}"
+        );
     }
     Ok(())
 }

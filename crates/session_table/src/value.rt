@@ -1,4 +1,4 @@
-ghost use Rattle.std.specs.Prelude.{◌≡◌, ◌≤◌, IfOk, option_map};
+ghost use Rattle.std.specs.Prelude.{◌≡◌, ◌<◌, ◌≤◌, IfOk, option_map};
 ghost use Rattle.toml.specs.Data.{get_member, as_integer, as_str};
 ghost use Rattle.toml.specs.View.{view, table_view};
 ghost use Rattle.session_table.specs.Answers.{LendsBy};
@@ -41,12 +41,20 @@ fn whole_of(
     ensures within { IfOk result (λ number. (least ≤ number) × (number ≤ greatest)) }
 {
     let Some(number) = value.as_integer() else {
-        return Err(TableFault::OutOfRange { row, key, value: None });
+        return Err(TableFault::OutOfRange {
+            row,
+            key,
+            value: None,
+        });
     };
     if i64::from(least) <= number && number <= i64::from(greatest) {
         Ok(number as u32)
     } else {
-        Err(TableFault::OutOfRange { row, key, value: Some(number) })
+        Err(TableFault::OutOfRange {
+            row,
+            key,
+            value: Some(number),
+        })
     }
 }
 
@@ -78,7 +86,8 @@ pub(crate) fn whole_at(
 
 /// The port at a key.
 pub(crate) fn port_at(row: u32, key: RowKey, document: &Document) -> Result<u16, TableFault>
-    ensures { result ≡ whole_at row key 1 65535 (table_view document.now) }
+    ensures value { result ≡ whole_at row key 1 65535 (table_view document.now) }
+    ensures some { IfOk result (λ port. 0 < port) }
 {
     let port = whole_at(row, key, 1, 65535, document)?;
     Ok(port as u16)

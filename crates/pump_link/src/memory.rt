@@ -2,6 +2,8 @@ ghost use Rattle.std.specs.Prelude.{◌≡◌, ℕ, ◌+◌, ◌-◌, ◌^◌, �
 ghost use Rattle.std.specs.Io.{ReadsAtMost};
 ghost use Rattle.std.specs.Io.KnownBytes.{ReadConsumes, WriteAppends};
 ghost use Rattle.pump_link.specs.Causes.{HasCause, raised};
+ghost use Rattle.pump_link.specs.Tells.{Draws};
+ghost use Rattle.pump_link.specs.Pieces.{piece_in, PiecesFrom};
 ghost use Rattle.pump_link.specs.Memory.{MemorySource, MemorySink};
 
 use crate::stream::{ReadFault, Sink, Source, WriteFault};
@@ -46,12 +48,15 @@ impl MemSource {
 impl Source for MemSource {
     ghost left = { λ s. Some s.left };
 
+    ghost gives = { λ s. PiecesFrom s.left };
+
     ghost faults = { λ s. s.faults };
 
     fn read(&mut self, into: &mut [u8]) -> Result<usize, ReadFault>
         requires { 0 < length into.old }
         ensures bound { ReadsAtMost result into.new }
         ensures bytes { ReadConsumes (Some self.old.left) (Some self.new.left) result into.new }
+        ensures gives { Draws (PiecesFrom self.old.left) (PiecesFrom self.new.left) (piece_in result into.new) }
         ensures cause { HasCause self.old.faults self.new.faults result }
         ensures fails { IsErr result ↔ Contains self.old.fails self.old.calls }
         ensures pieces { IfOk result (λ n. n ≡ min self.old.piece (min (length into.old) (length self.old.left))) }

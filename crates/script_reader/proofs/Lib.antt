@@ -21,6 +21,7 @@ pub mod OneEnd
 pub mod OneLow
 pub mod OneReading
 pub mod OneScript
+pub mod ReadLaws
 pub mod Replying
 pub mod SessionLaws
 pub mod Splits

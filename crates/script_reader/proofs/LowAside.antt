@@ -2,12 +2,13 @@
 use Rattle.std.proofs.Common.{◌≡◌, ℕ, ◌+◌, Bool, true, false, nat_lt, List, [], ◌∷◌, ◌++◌, length, Option, Some, None, refl, sym, ap, ◌∙◌}
 use Rattle.std.specs.Prelude.{if◌then◌else◌}
 use Rattle.pump_frame.specs.declared.row.SessionRow.{SessionRow}
+use Rattle.pump_core.specs.HighLooks.{has_removed}
 use Rattle.script_reader.specs.declared.line.Line.{Line}
 use Rattle.script_reader.specs.declared.line.Line.TheVariants as lines
 use Rattle.script_reader.specs.declared.event.Event.{Event}
 use Rattle.script_reader.specs.declared.event.Event.TheVariants as prints
 use Rattle.script_reader.specs.Past.{Past}
-use Rattle.script_reader.specs.Highs.{has_removed, printed_sending, IsRemoval, IsSending, IsHighLook, is_ahead, IsReturnBy, IsReturn, IsCarried, place}
+use Rattle.script_reader.specs.Highs.{printed_sending, IsRemoval, IsSending, IsHighLook, is_ahead, IsReturnBy, IsReturn, IsCarried, place}
 use Rattle.script_reader.specs.Steps.{GoesOn, IsDone, Step}
 use Rattle.script_reader.specs.Sides.{is_lows}
 use Rattle.script_reader.proofs.Telling.{said_to_low, said-append}
@@ -39,13 +40,13 @@ both p mid q first second printed a b e = record {
 removal_aside : (s : SessionRow) (p : Past) (m : ℕ) (back : Option ℕ) (q : Past) (printed : List Event) → IsRemoval s p m back q printed → Aside p q printed
 removal_aside s p m back q printed r = record {
   half = sym (ap half r.rest);
-  said = ap said_to_low r.printed_is ∙ of_removal s.id m r.answered.removed r.time (has_removed r.answered q.world);
+  said = ap said_to_low r.printed_is ∙ of_removal s.id m r.look.answered.removed r.look.time (has_removed r.look.answered q.world);
 }
 
 sending_aside : (s : SessionRow) (p : Past) (m : ℕ) (q : Past) (printed : List Event) → IsSending s p m q printed → Aside p q printed
 sending_aside s p m q printed r = record {
   half = sym (ap half r.rest);
-  said = ap said_to_low r.printed_is ∙ of_sending s.id m r.taken.high_hand r.is_sent;
+  said = ap said_to_low r.printed_is ∙ of_sending s.id m r.look.taken.high_hand r.look.is_sent;
 }
 
 high_aside : (s : SessionRow) (p : Past) (m : ℕ) (back : Option ℕ) (q : Past) (printed : List Event) → IsHighLook s p m back q printed → Aside p q printed

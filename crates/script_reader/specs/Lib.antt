@@ -1,10 +1,11 @@
 pub mod Breaks
-pub mod Heads
 pub mod DigitValues
+pub mod EventHeads
 pub mod Faults
 pub mod Fields
 pub mod Fronts
 pub mod Grammar
+pub mod Heads
 pub mod Highs
 pub mod Lawful
 pub mod Lines

@@ -2,22 +2,22 @@
 //! stream.
 #![tactic(auto)]
 
-mod head;
 mod body;
 mod digits;
 mod event;
 mod fault;
 mod fields;
+mod head;
 mod laws;
 mod line;
 mod lines;
 mod printing;
 mod reading;
 
-pub use head::{ArrivingHead, LineHead, LinedHead};
 pub use body::Body;
-pub use event::Event;
+pub use event::{Event, EventHead};
 pub use fault::Fault;
+pub use head::{ArrivingHead, LineHead, LinedHead};
 pub use laws::{
     faulty_scripts_have_no_transcript, full_moments_and_averages_decide, low_lines_are_a_function,
     low_lines_are_replies, low_sides_have_one_transcript, one_reading, stopping_lines_are_one,
@@ -25,7 +25,7 @@ pub use laws::{
 };
 pub use line::{Arriving, Line, ToldFeedback};
 pub use lines::{Lined, Lines};
-pub use printing::{print_event, print_fault};
+pub use printing::{append_fault, append_head, print_event, print_fault, print_head};
 pub use reading::{read_head, read_line};
 
 #[cfg(test)]

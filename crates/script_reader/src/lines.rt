@@ -1,6 +1,7 @@
 ghost use Rattle.std.specs.Prelude.{◌≡◌, ◌≢◌, ℕ, ◌+◌, ◌-◌, ◌^◌, ◌<◌, ◌≤◌, min, List, [], ◌++◌, length, take, drop, position, Some, IsTrue, ◌↔◌, IfOk, OnErr, OnOk};
 ghost use Rattle.std.specs.Io.KnownBytes.{Keeps, IsAtEnd};
-ghost use Rattle.pump_link.specs.Causes.{HasCause, Rose};
+ghost use Rattle.pump_frame.specs.Counts.{Rose};
+ghost use Rattle.pump_link.specs.Causes.{HasCause};
 ghost use Rattle.script_reader.specs.Lines.{Reading, to_come, is_end, IsNext, IsReady, ReadsOn};
 ghost use Rattle.script_reader.specs.Fronts.{IsFirst, Fills};
 ghost use Rattle.script_reader.specs.Heads.{lined_with, CanHoldNext};

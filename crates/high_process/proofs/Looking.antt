@@ -1,13 +1,13 @@
 -- A look moves what a high process stands for.
 use Rattle.std.proofs.Common.{◌≡◌, ◌≢◌, ◌⊎◌, inl, inr, ℕ, ◌+◌, ◌-◌, ◌^◌, ◌<◌, ◌≤◌, Bool, true, false, cond, List, [], ◌∷◌, ◌++◌, length, Option, Some, None, refl, sym, ap, ◌∙◌, subst, ⊎_elim, arith, append-nil, length-append, eq-eqb, ne_eqb}
-use Rattle.std.specs.Prelude.{◌&&◌, ◌||◌, ◌==◌, not, nat_lt, nat_le, if◌then◌else◌, IfSome, is_some, option_to_list, Result, Ok, Err, IfOk}
+use Rattle.std.specs.Prelude.{◌&&◌, ◌||◌, ◌==◌, not, nat_lt, nat_le, if◌then◌else◌, IfSome, is_some, unwrap_or, option_to_list, Result, Ok, Err, IfOk}
 use Rattle.std.proofs.lemmas.Bool.{ltb-true, ltb-false, leb-false, eqb-true, eqb-false}
 use Rattle.pump_frame.specs.declared.frame.Item.{Item}
 use Rattle.pump_frame.specs.declared.frame.Frame.{Frame}
 use Rattle.pump_frame.specs.declared.frame.Kind.{Kind}
 use Rattle.pump_frame.specs.declared.frame.Kind.TheVariants.{Hello, Welcome, Data, Ack, Refuse as Refused, Taken, Attach}
 use Rattle.high_process.specs.declared.values.HighFault.{HighFault}
-use Rattle.high_process.specs.declared.values.HighFault.TheVariants.{Ahead, Behind}
+use Rattle.high_process.specs.declared.values.HighFault.TheVariants.{Ahead, Behind, Device}
 use Rattle.high_process.specs.declared.values.HighAsk.{HighAsk}
 use Rattle.high_process.specs.declared.values.HighLook.{HighLook}
 use Rattle.high_process.specs.declared.values.Asking.{Asking}
@@ -25,9 +25,9 @@ use Rattle.pump_frame.specs.declared.row.SessionRow.{SessionRow as Row}
 use Rattle.pump_core.specs.Sendings.{Sending, last_sending, first_sending, or_else, time_since, is_due, expected}
 use Rattle.high_process.specs.Tasks.{task_taken, task_in, task_of}
 use Rattle.high_process.specs.Past.{Past, next_time, begun, removed_in, published_in, wants, taken_up, is_sent, finished, sent_in}
-use Rattle.high_process.specs.States.{State, state_of, first_sent, last_sent}
+use Rattle.high_process.specs.States.{State, state_of, hand_in, hand_of, first_sent, last_sent}
 use Rattle.high_process.specs.Steps.{time_of, counted, wants_of, sends_of, before, with_item, sent_at, after, StepBegins, StepFinishes}
-use Rattle.high_process.specs.Storing.{GivenBack, Removing, Fares, StandsOrRemoved}
+use Rattle.high_process.specs.Storing.{GivenBack, Removing, Fares, IsAfter, StandsOrRemoved}
 use Rattle.high_process.specs.Ends.{IsTime, Takes, told_time}
 use Rattle.high_process.specs.Looks.{HoldsSends, Holds, Stands, Begins, Finishes, Asked, Looked}
 
@@ -177,6 +177,56 @@ finishes_from p q item look step = λ t m removed time a asks.
       d.1 ∙ (λ i. record { removed = removed; published = time; sent = if sends i then Some (number i) else None }),
     )
 
+-- .. after the message that came is in the hand
+pub step_after : (resend resend' : ℕ) (s r q : State) (item : Option Item) (look : HighLook) → resend' ≡ resend → r ≡ with_item s item → StepFinishes resend' r q None look → StepFinishes resend s q item look
+step_after resend resend' s r q None look same e step = subst (λ (z : ℕ × State). StepFinishes z.0 z.1 q None look) (λ i. (same i, e i)) step
+step_after resend resend' s r q (Some x) look same e step = subst (λ (z : ℕ × State). StepFinishes z.0 z.1 q None look) (λ i. (same i, e i)) step
+
+-- the hand of an opening
+pub opened_hand : (hand : Option Item) (other : Item) (full : Bool) (x : Item) → full ≡ is_some hand → x ≡ unwrap_or hand other → hand_in full x ≡ hand
+opened_hand None other full x e is = ap (λ (b : Bool). hand_in b x) e
+opened_hand (Some y) other full x e is = (λ i. hand_in (e i) (is i))
+
+-- ---- what a refusal says ----
+
+chosen_device : (b c : Bool) (n expected faults : ℕ) → cond b Keep (cond c (Refuse (Ahead n expected)) Remove) ≡ Refuse (Device faults) → ⊥
+chosen_device true c n expected faults e = absurd (cc)
+chosen_device false true n expected faults e = absurd (cc)
+chosen_device false false n expected faults e = absurd (cc)
+
+attach_device : (b z : Bool) (c removed faults : ℕ) (t : Task) → (t ≡ Refuse (Device faults) → ⊥) → cond b (Refuse (Behind c removed)) (cond z Keep t) ≡ Refuse (Device faults) → ⊥
+attach_device true z c removed faults t never e = absurd (cc)
+attach_device false true c removed faults t never e = absurd (cc)
+attach_device false false c removed faults t never e = never e
+
+in_device : (k : Kind) (n removed expected faults : ℕ) → task_in k n removed expected ≡ Refuse (Device faults) → ⊥
+in_device Taken n removed expected faults e = chosen_device (nat_lt n removed) (nat_le expected n) n expected faults e
+in_device Attach n removed expected faults e =
+    attach_device (nat_lt n removed) (n == 0) n removed faults (task_taken (n - 1) removed expected)
+    (chosen_device (nat_lt (n - 1) removed) (nat_le expected (n - 1)) (n - 1) expected faults) e
+in_device Hello n removed expected faults e = absurd (cc)
+in_device Welcome n removed expected faults e = absurd (cc)
+in_device Data n removed expected faults e = absurd (cc)
+in_device Ack n removed expected faults e = absurd (cc)
+in_device Refused n removed expected faults e = absurd (cc)
+
+of_session : (b : Bool) (t : Task) (faults : ℕ) → (t ≡ Refuse (Device faults) → ⊥) → cond b t Keep ≡ Refuse (Device faults) → ⊥
+of_session true t faults never e = never e
+of_session false t faults never e = absurd (cc)
+
+-- no frame is refused with a device fault
+pub never_device : (session removed : ℕ) (hand : Option Item) (frame : Option Frame) (task : Task) → task ≡ task_of session removed hand frame → (faults : ℕ) → task ≡ Refuse (Device faults) → ⊥
+never_device session removed hand None task is faults e = let no = sym is ∙ e in absurd (cc)
+never_device session removed hand (Some f) task is faults e =
+    of_session (f.session == session) (task_in f.kind f.number removed (expected removed hand)) faults
+    (in_device f.kind f.number removed (expected removed hand) faults) (sym is ∙ e)
+
+-- so a refusal changes nothing
+pub refused : (task : Task) (fault : HighFault) (p : HighProcess) (m : ℕ) → task ≡ Refuse fault → ((faults : ℕ) → task ≡ Refuse (Device faults) → ⊥) → IsAfter fault p p m
+refused task (Device faults) p m e never = absurd (never faults e)
+refused task (Ahead n next) p m e never = refl
+refused task (Behind c removed) p m e never = refl
+
 -- ---- what a removal wants ----
 
 record Back (n removed expected : ℕ) : Type 0 where
@@ -245,8 +295,12 @@ below_in : (removed : ℕ) (hand : Option Item) → IfSome hand (λ x. (x.number
 below_in removed None h e = absurd (cc)
 below_in removed (Some x) h e = h.1
 
-pub below : (p : HighProcess) (frame : Option Frame) (task : Task) → task ≡ task_of p.row.id p.removed p.hand frame → task ≡ Remove → p.removed < 2 ^ 48
-below p frame task is e = let r = removal p.row.id p.removed p.hand frame (sym is ∙ e) in below_in p.removed p.hand p.in_hand r.full
+pub hand_holds : (removed : ℕ) (full : Bool) (x : Item) → (full ≡ true → (x.number ≡ removed) × (removed < 2 ^ 48)) → IfSome (hand_in full x) (λ y. (y.number ≡ removed) × (removed < 2 ^ 48))
+hand_holds removed true x h = h refl
+hand_holds removed false x h = tt
+
+pub below : (p : HighProcess) (frame : Option Frame) (task : Task) → task ≡ task_of p.row.id p.removed (hand_of p) frame → task ≡ Remove → p.removed < 2 ^ 48
+below p frame task is e = let r = removal p.row.id p.removed (hand_of p) frame (sym is ∙ e) in below_in p.removed (hand_of p) (hand_holds p.removed p.is_full p.hand p.in_hand) r.full
 
 -- ---- what is published ----
 
@@ -281,26 +335,26 @@ wanted_remove : (removed : ℕ) (hand : Option Item) → is_some hand ≡ true �
 wanted_remove removed None e = absurd (cc)
 wanted_remove removed (Some x) e = refl
 
-asked : (p q : HighProcess) (frame : Option Frame) (m : ℕ) (task : Task) (a : Bool) (ask : HighAsk) → task ≡ task_of p.row.id p.removed p.hand frame → StepBegins (state_of p) (state_of q) m task a ask → Asked p q ask
+asked : (p q : HighProcess) (frame : Option Frame) (m : ℕ) (task : Task) (a : Bool) (ask : HighAsk) → task ≡ task_of p.row.id p.removed (hand_of p) frame → StepBegins (state_of p) (state_of q) m task a ask → Asked p q ask
 asked p q frame m (Refuse e) a ask is step = absurd step
 asked p q frame m Keep a ask is (now, asks') = record {
-  asking = record { removed = None; published = None; attaches = a; wants = wants_of p.removed p.hand };
+  asking = record { removed = None; published = None; attaches = a; wants = wants_of p.removed (hand_of p) };
   asks = ap (λ (r : State). r.asking) now;
   wants = sym (ap (λ (r : HighAsk). r.wants) asks');
-  floor = λ e. ap (λ (r : HighAsk). r.removed) asks' ∙ wanted_keep p.removed p.hand (sym (ap (λ (r : HighAsk). r.wants) asks') ∙ e);
+  floor = λ e. ap (λ (r : HighAsk). r.removed) asks' ∙ wanted_keep p.removed (hand_of p) (sym (ap (λ (r : HighAsk). r.wants) asks') ∙ e);
   publish = small_publish p q m Keep a ask (now, asks');
 }
 asked p q frame m Remove a ask is (now, asks') =
-    let r = removal p.row.id p.removed p.hand frame (sym is) in
+    let r = removal p.row.id p.removed (hand_of p) frame (sym is) in
     record {
       asking = record { removed = Some p.removed; published = time_of p.published p.sent m; attaches = a; wants = wants_of (p.removed + 1) None };
       asks = ap (λ (r : State). r.asking) now;
       wants = sym (ap (λ (r : HighAsk). r.wants) asks');
-      floor = λ e. ap (λ (r : HighAsk). r.removed) asks' ∙ wanted_remove p.removed p.hand r.full;
+      floor = λ e. ap (λ (r : HighAsk). r.removed) asks' ∙ wanted_remove p.removed (hand_of p) r.full;
       publish = small_publish p q m Remove a ask (now, asks');
     }
 
-pub asked_all : (p q : HighProcess) (frame : Option Frame) (m : ℕ) (task : Task) (a : Bool) (r : Result HighAsk HighFault) → task ≡ task_of p.row.id p.removed p.hand frame → IfOk r (λ ask. StepBegins (state_of p) (state_of q) m task a ask) → IfOk r (Asked p q)
+pub asked_all : (p q : HighProcess) (frame : Option Frame) (m : ℕ) (task : Task) (a : Bool) (r : Result HighAsk HighFault) → task ≡ task_of p.row.id p.removed (hand_of p) frame → IfOk r (λ ask. StepBegins (state_of p) (state_of q) m task a ask) → IfOk r (Asked p q)
 asked_all p q frame m task a (Err e) is h = tt
 asked_all p q frame m task a (Ok ask) is h = asked p q frame m task a ask is h
 

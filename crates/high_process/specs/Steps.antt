@@ -8,7 +8,9 @@ use Rattle.high_process.specs.declared.values.Task.TheVariants.{Refuse, Remove, 
 use Rattle.high_process.specs.declared.values.HighAsk.{HighAsk}
 use Rattle.high_process.specs.declared.values.HighLook.{HighLook}
 use Rattle.pump_core.specs.Sendings.{time_since, is_due}
+use Rattle.pump_core.specs.Passage.{Shape, Low, High}
 use Rattle.high_process.specs.States.{State, first_sent, last_sent}
+use Rattle.high_process.specs.Ends.{told_time, Takes}
 
 -- the time that a removal publishes
 abbrev pub time_of : ℕ → Option Sent → ℕ → Option ℕ
@@ -76,3 +78,9 @@ abbrev pub StepFinishes : ℕ → State → State → Option Item → HighLook �
 StepFinishes resend s q item look = (a : Asking) → s.asking ≡ Some a →
     (q ≡ after resend a.attaches (with_item s item))
     × (look ≡ record { removed = a.removed; published = a.published; sent = if sends_of resend (with_item s item) a.attaches s.last then Some s.removed else None })
+
+-- the process takes up what the end gives, if it wants a message. `after` is what the end stands for then
+pub record Fills (s : Shape) (exact : Bool) (stands after : Low → High → Type 0) (p q : State) (ask : HighAsk) : Type 0 where
+  pub got : Option Item
+  pub filled : q ≡ with_item p got
+  pub takes : (l : Low) (h : High) → stands l h → Takes s exact after l (told_time ask.publish h) ask.wants ask.removed got

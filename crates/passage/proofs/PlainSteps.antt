@@ -1,9 +1,9 @@
 -- Each call on one thread keeps what the ends stand for.
-use Rattle.std.proofs.Common.{◌≡◌, ℕ, ◌≤◌, ◌<◌, true, List, [], ◌∷◌, ◌++◌, length, drop, slice_get, Some, None, sym, refl, ap, ◌∙◌, subst, append_assoc, le_refl, arith}
+use Rattle.std.proofs.Common.{◌≡◌, ℕ, ◌-◌, ◌≤◌, ◌<◌, true, List, [], ◌∷◌, ◌++◌, length, drop, slice_get, Some, None, sym, refl, ap, ◌∙◌, subst, append_assoc, le_refl, arith}
 use Rattle.std.specs.List.{All}
 use Rattle.std.proofs.lemmas.List.{length-append}
 use Rattle.std.proofs.lemmas.Option.{slice_get_within, get_or_from_slice_get}
-use Rattle.circular_buffer.specs.Buffer.{buffer}
+use Rattle.circular_buffer.specs.Buffer.{buffer, keep_last}
 use Rattle.pump_frame.specs.Averages.{average_of}
 use Rattle.pump_frame.specs.declared.frame.Item.{Item}
 use Rattle.moving_avg.specs.Windows.{HoldsTimes, averaging_in}
@@ -14,6 +14,13 @@ use Rattle.passage.specs.Plain.{StandsFor, shape_of}
 
 the_first : (x y : Item) (ys : List Item) → slice_get (y ∷ ys) 0 ≡ Some x → y ≡ x
 the_first x y ys at = get_or_from_slice_get (y ∷ ys) 0 x x at
+
+-- all but the first item are kept
+pub all_but_first : (xs : List Item) (x : Item) (n : ℕ) → slice_get xs 0 ≡ Some x → n ≡ length xs → keep_last (n - 1) xs ≡ drop 1 xs
+all_but_first xs x n at is = 
+    let some = slice_get_within xs 0 x at in
+    let one : length xs - (n - 1) ≡ 1 = omega (arith, is, some) in
+    ap (λ (k : ℕ). drop k xs) one
 
 -- what fits between the ends, of a list that is in between
 fits_in : (s : Shape) (l : Low) (h : High) (held : List Item) → Agrees s l h → l.forwarded ≡ h.taken ++ held → length held ≤ s.places → Fits s l h
@@ -68,6 +75,12 @@ module _ (e e' : PlainEnds) (l : Low) (h : High) (same : e'.window ≡ e.window)
           times = same_times;
         },
       )
+
+  -- a copy of the first item is given
+  pub gives_copy : (x y : Item) (removed n : ℕ) → x ≡ y → slice_get e.items.items 0 ≡ Some x → n ≡ length e.items.items → e'.items ≡ buffer (keep_last (n - 1) e.items.items) e.items.capacity → Gives (shape_of e) true (StandsFor e') l h y removed
+  gives_copy x y removed n same_item at is left =
+      subst (λ (z : Item). Gives (shape_of e) true (StandsFor e') l h z removed) same_item
+      (gives_from e.items.items refl x removed at (left ∙ ap (λ (xs : List Item). buffer xs e.items.capacity) (all_but_first e.items.items x n at is)))
 
   pub none_from : (xs : List Item) → e.items.items ≡ xs → slice_get xs 0 ≡ None → e'.items ≡ buffer (drop 1 xs) e.items.capacity → GivesNone (shape_of e) true (StandsFor e') l h
   none_from (y ∷ ys) was at is = absurd (grind (arith, at))

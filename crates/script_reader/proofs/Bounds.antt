@@ -83,7 +83,7 @@ sends_lawful : (n : ℕ) (b : Bool) (w v : World) → (Stays n) w → IsSent b w
 sends_lawful n true w v l h = stays_one n w Send v l h
 sends_lawful n false w v l e = subst (Stays n) (sym e) l
 
-high_lawful : (n : ℕ) (s : SessionRow) (p : Past) (m : ℕ) (back : Option ℕ) (q : Past) (printed : List Event) → (Stays n) p.world → IsHighLook s p m back q printed → (Stays n) q.world
+pub high_lawful : (n : ℕ) (s : SessionRow) (p : Past) (m : ℕ) (back : Option ℕ) (q : Past) (printed : List Event) → (Stays n) p.world → IsHighLook s p m back q printed → (Stays n) q.world
 high_lawful n s p m back q printed l (mid, first, second, r, t, e) =
     let a = returns_lawful n p.world back r.look.answered l r.look.returns in
     let b = perhaps_lawful n r.look.answered RemoveBegin (RemoveEnd ∷ []) mid.world a r.look.removes in
@@ -130,7 +130,7 @@ begins_so (Alone s) new = subst (λ (p : LowPast). length p.waits ≤ 64) (sym n
 goes_so : (s : Begun) (line : Line) (after : Option Begun) (printed : List Event) → GoesOnBegun s line after printed → Holds (Some s) → Holds after
 goes_so (Whole s) line after printed (timely, (q, step, e)) (l, few) =
     subst Holds (sym e) (step_lawful s.row.capacity s.row s.past line q printed l step, step_waits s.row s.past line q printed few step)
-goes_so (Alone s) line after printed (timely, (q, step, e)) few = subst Holds (sym e) (step_low_waits s.row s.past line q printed step)
+goes_so (Alone s) line after printed (timely, (q, step, e)) few = subst Holds (sym e) (step_low_waits s.row s.past line false q printed step)
 
 leads_so : (running : Option Begun) (line : Line) (after : Option Begun) (printed : List Event) → Leads running line after printed → Holds running → Holds after
 leads_so running line after printed h k =

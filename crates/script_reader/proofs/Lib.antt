@@ -4,7 +4,6 @@ pub mod FieldChains
 pub mod FieldLaws
 pub mod FreeFields
 pub mod Fresh
-pub mod Halting
 pub mod Heads
 pub mod Leading
 pub mod LineEnds
@@ -24,7 +23,9 @@ pub mod OneScript
 pub mod ReadLaws
 pub mod Replying
 pub mod SessionLaws
+pub mod Soundness
 pub mod Splits
+pub mod Stopping
 pub mod Telling
 pub mod ToldLaws
 pub mod Waiting

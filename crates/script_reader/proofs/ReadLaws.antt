@@ -17,10 +17,6 @@ pieces_more : (held : List ℕ) (pieces : List (List ℕ)) (piece : List ℕ) �
 pieces_more held [] piece = refl
 pieces_more held (p ∷ pieces) piece = pieces_more (held ++ p) pieces piece
 
--- nothing was read yet
-pub reads_none : (held : List ℕ) (p : List (List ℕ) → Type 0) → ReadsTo held p p held
-reads_none held p = record { pieces = []; gave = record { told = λ rest t. t }; needed = tt; all_is = refl }
-
 -- a piece more was needed
 pub reads_more : (held all more piece : List ℕ) (p q r : List (List ℕ) → Type 0) → ReadsTo held p q all → (IsReady all → ⊥) → Draws q r (piece ∷ []) → more ≡ all ++ piece → ReadsTo held p r more
 reads_more held all more piece p q r e not_ready d is = record {

@@ -59,7 +59,7 @@ of_carry session n true = refl
 of_carry session n false = refl
 
 -- the history stays, and nothing of it is printed
-record Aside (p q : Past) (printed : List Event) : Type 0 where
+pub record Aside (p q : Past) (printed : List Event) : Type 0 where
   history : q.history ≡ p.history
   low : low_lines printed ≡ []
 
@@ -81,7 +81,7 @@ sending_aside s p m q printed r = record {
   low = ap low_lines r.printed_is ∙ of_sending s.id m r.look.taken.high_hand r.look.is_sent;
 }
 
-high_aside : (s : SessionRow) (p : Past) (m : ℕ) (back : Option ℕ) (q : Past) (printed : List Event) → IsHighLook s p m back q printed → Aside p q printed
+pub high_aside : (s : SessionRow) (p : Past) (m : ℕ) (back : Option ℕ) (q : Past) (printed : List Event) → IsHighLook s p m back q printed → Aside p q printed
 high_aside s p m back q printed (mid, first, second, r, t, e) = both p mid q first second printed (removal_aside s p m back mid first r) (sending_aside s mid m q second t) e
 
 return_by_aside : (b : Bool) (s : SessionRow) (p : Past) (m n : ℕ) (q : Past) (printed : List Event) → IsReturnBy b s p m n q printed → Aside p q printed
@@ -107,10 +107,10 @@ done_aside s p m t q printed (mid, first, second, h, g, e) =
     both p mid q first second printed (high_aside s p m None mid first h) (goes_aside s mid.world.high_hand mid (m + t) q second g) e
 
 -- what is kept by a line: the replies of the history
-abbrev Grows : SessionRow → History → History → List Event → Type 0
+abbrev pub Grows : SessionRow → History → History → List Event → Type 0
 Grows s h g printed = (rs : List Sent) → LowReplies s h rs → LowReplies s g (rs ++ low_lines printed)
 
-aside_grows : (s : SessionRow) (p q : Past) (printed : List Event) → Aside p q printed → Grows s p.history q.history printed
+pub aside_grows : (s : SessionRow) (p q : Past) (printed : List Event) → Aside p q printed → Grows s p.history q.history printed
 aside_grows s p q printed a rs h =
     subst (λ (t : History × List Sent). LowReplies s t.0 (rs ++ t.1)) (λ i. (sym a.history i, sym a.low i)) (subst (LowReplies s p.history) (sym (append-nil rs)) h)
 
@@ -141,17 +141,17 @@ told_grows : (s : SessionRow) (p : LowPast) (told : ToldFeedback) (x : Look) (q 
 told_grows s p told x q printed i =
     new_grows s p.history x q.history i.replies i.new printed i.are_replies i.are_replies_with i.history (ap low_lines i.printed_is ∙ of_look s.id x.moment _ x.feedback i.new)
 
-step_low_grows : (s : SessionRow) (p : LowPast) (line : Line) (q : LowPast) (printed : List Event) → StepLow s p line false q printed → Grows s p.history q.history printed
-step_low_grows s p (lines.Told session m w fault told z) q printed (c, comes, (few, (f, i))) = told_grows s (joined_low p fault c) told _ q printed i
-step_low_grows s p (lines.Gone session m) q printed (f, i) = told_grows s (lost_low p) Silent _ q printed i
-step_low_grows s p lines.Skip q printed h = absurd h
-step_low_grows s p (lines.Session row) q printed h = absurd h
-step_low_grows s p (lines.LowSession row next held) q printed h = absurd h
-step_low_grows s p (lines.Look session m w z) q printed h = absurd h
-step_low_grows s p (lines.High session m) q printed h = absurd h
-step_low_grows s p (lines.Carry session back) q printed h = absurd h
-step_low_grows s p (lines.Return session m back) q printed h = absurd h
-step_low_grows s p (lines.Done session m t) q printed h = absurd h
+pub step_low_grows : (s : SessionRow) (p : LowPast) (line : Line) (is_fault : Bool) (q : LowPast) (printed : List Event) → StepLow s p line is_fault q printed → Grows s p.history q.history printed
+step_low_grows s p (lines.Told session m w fault told z) is_fault q printed (c, comes, (few, (f, i))) = told_grows s (joined_low p fault c) told _ q printed i
+step_low_grows s p (lines.Gone session m) is_fault q printed (f, i) = told_grows s (lost_low p) Silent _ q printed i
+step_low_grows s p lines.Skip is_fault q printed h = absurd h
+step_low_grows s p (lines.Session row) is_fault q printed h = absurd h
+step_low_grows s p (lines.LowSession row next held) is_fault q printed h = absurd h
+step_low_grows s p (lines.Look session m w z) is_fault q printed h = absurd h
+step_low_grows s p (lines.High session m) is_fault q printed h = absurd h
+step_low_grows s p (lines.Carry session back) is_fault q printed h = absurd h
+step_low_grows s p (lines.Return session m back) is_fault q printed h = absurd h
+step_low_grows s p (lines.Done session m t) is_fault q printed h = absurd h
 
 -- the replies of the session that runs
 abbrev pub Replies : Option Begun → List Sent → Type 0
@@ -178,7 +178,7 @@ goes_so : (s : Begun) (line : Line) (after : Option Begun) (printed : List Event
 goes_so (Whole s) line after printed rs (timely, (q, step, e)) k =
     subst (λ (t : Option Begun). Replies t (rs ++ low_lines printed)) (sym e) (step_grows s.row s.past line q printed step rs k)
 goes_so (Alone s) line after printed rs (timely, (q, step, e)) k =
-    subst (λ (t : Option Begun). Replies t (rs ++ low_lines printed)) (sym e) (step_low_grows s.row s.past line q printed step rs k)
+    subst (λ (t : Option Begun). Replies t (rs ++ low_lines printed)) (sym e) (step_low_grows s.row s.past line false q printed step rs k)
 
 leads_so : (running : Option Begun) (line : Line) (after : Option Begun) (printed : List Event) (rs : List Sent) → Leads running line after printed → Replies running rs → Replies after (rs ++ low_lines printed)
 leads_so running line after printed rs h k =

@@ -163,8 +163,8 @@ IsCrowdedLow p (lines.Told session m w fault told a) =
 IsCrowdedLow p line = ⊥
 
 -- the line can't be applied
-abbrev pub IsBarredLow : SessionRow → LowPast → Line → Type 0
-IsBarredLow row p line = (is_timely_low row p line ≡ false) ⊎ IsCrowdedLow p line
+abbrev pub IsRefusedAlone : SessionRow → LowPast → Line → Type 0
+IsRefusedAlone row p line = (is_timely_low row p line ≡ false) ⊎ IsCrowdedLow p line
 
 -- the line leads from p to q and prints this, and the disk fails in it or not
 abbrev pub StepLow : SessionRow → LowPast → Line → Bool → LowPast → List Event → Type 0

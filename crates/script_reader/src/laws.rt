@@ -3,9 +3,9 @@ ghost use Rattle.script_reader.specs.declared.line.Line.{Line};
 ghost use Rattle.script_reader.specs.Lines.{AreLines};
 ghost use Rattle.pump_core.specs.Replies.{LowReplies};
 ghost use Rattle.script_reader.specs.declared.event.Event.{Event as Printed};
-ghost use Rattle.script_reader.specs.Scripts.{Begun, LeadTo, Halts, IsTranscript};
+ghost use Rattle.script_reader.specs.Scripts.{Begun, LeadTo, Stops, ComesTo, IsTranscript};
 ghost use Rattle.script_reader.specs.Faults.{IsFaultyNext};
-ghost use Rattle.script_reader.specs.Readouts.{row_of, history_of, low_lines, KeepsBounds};
+ghost use Rattle.script_reader.specs.Readouts.{row_of, history_of, low_lines, KeepsBounds, Sound};
 ghost use Rattle.script_reader.specs.declared.fault.Fault.{Fault};
 ghost use Rattle.script_reader.specs.Sides.{low_side_of, told_to_low, full_moments, averages, HaveOwnMoments};
 ghost use Rattle.script_reader.specs.declared.line.Line.TheVariants.{LowSession};
@@ -44,15 +44,25 @@ pub fn faulty_scripts_have_no_transcript()
         AreLines (Some all) script (Some []) → IsTranscript script printed → ⊥ }
 {}
 
+/// What a script has printed is sound at each of its lines, also where the last one stops it: the `low`
+/// lines are the replies of the low history, and the session keeps its bounds.
+pub fn transcripts_are_sound()
+    ensures end { (script : List Line) (after : Option Begun) (printed : List Printed) → ComesTo script after printed → Sound after printed }
+    ensures each { (before : List Line) (line : Line) (later : List Line) (after : Option Begun) (printed : List Printed) →
+        ComesTo (before ++ line ∷ later) after printed →
+        (mid : Option Begun) × (first : List Printed) × (rest : List Printed) ×
+        LeadTo None before mid first × (printed ≡ first ++ rest) × Sound mid first }
+{}
+
 /// A script with a line that stops it, after lines that can all be applied, has no transcript, and
-/// what the line prints and its fault are settled.
+/// what the line leads to, what it prints and its fault are settled.
 pub fn stopping_lines_are_one()
-    ensures apart { (lines : List Line) (line : Line) (later : List Line) (running : Option Begun) (events first printed : List Printed) (fault : Fault) →
-        LeadTo None lines running events → Halts running line first fault → IsTranscript (lines ++ line ∷ later) printed → ⊥ }
-    ensures one { (lines : List Line) (line : Line) (running other : Option Begun) (events more first second : List Printed) (fault stop : Fault) →
-        LeadTo None lines running events → Halts running line first fault →
-        LeadTo None lines other more → Halts other line second stop →
-        (events ++ first ≡ more ++ second) × (fault ≡ stop) }
+    ensures apart { (lines : List Line) (line : Line) (later : List Line) (running after : Option Begun) (events first printed : List Printed) (fault : Fault) →
+        LeadTo None lines running events → Stops running line after first fault → IsTranscript (lines ++ line ∷ later) printed → ⊥ }
+    ensures one { (lines : List Line) (line : Line) (running other after end : Option Begun) (events more first second : List Printed) (fault stop : Fault) →
+        LeadTo None lines running events → Stops running line after first fault →
+        LeadTo None lines other more → Stops other line end second stop →
+        (after ≡ end) × (events ++ first ≡ more ++ second) × (fault ≡ stop) }
 {}
 
 /// Low's replies are a function of low's own lines, of where the buffer was full, and of the averages:

@@ -66,10 +66,13 @@ fn a_table_has_the_rows_of_its_document(rt: HostRuntime) -> Result<(), Fail> {
     let high = Name::from_slice(b"watch").ok_or("high")?;
     assert!(rt; table.permits(1, &low, &high));
     assert!(rt; !table.permits(1, &high, &low) && !table.permits(2, &low, &high));
-    let empty = Table::read(rt.alloc(), b"session = []")
-        .ok()
-        .ok_or("it has no sessions")?;
-    assert!(rt; empty.rows().is_empty());
+    for (document, rows) in [(FIRST, 1), (SECOND, 1), ("session = []", 0)] {
+        let table = Table::read(rt.alloc(), document.as_bytes());
+        assert!(rt;
+            table.is_ok_and(|table| table.rows().len() == rows),
+            "{document}"
+        );
+    }
     Ok(())
 }
 
@@ -230,6 +233,9 @@ fn a_row_is_refused_for_the_first_thing_that_is_wrong(rt: HostRuntime) -> Result
     ] {
         assert_eq!(rt; refusal(rt.alloc(), from, to)?, Some(fault), "{to}");
     }
+    let small = FIRST.replace(rt.alloc(), "capacity = 3", "capacity = 2")?;
+    let refused = Table::read(rt.alloc(), small.as_bytes()).err();
+    assert_eq!(rt; refused, Some(outside(1, RowKey::Capacity, 2)));
     Ok(())
 }
 

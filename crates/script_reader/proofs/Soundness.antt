@@ -1,7 +1,6 @@
 -- What is printed is sound at each line of a script, and where a line stops it.
-use Rattle.std.proofs.Common.{◌≡◌, ◌⊎◌, inl, inr, ⊎_elim, ℕ, ◌≤◌, Bool, true, List, [], ◌∷◌, ◌++◌, length, Option, Some, None, refl, sym, ap, ◌∙◌, subst, append_assoc, append-nil}
+use Rattle.std.proofs.Common.{◌≡◌, inl, inr, ⊎_elim, ℕ, ◌≤◌, true, List, [], ◌∷◌, ◌++◌, length, Option, Some, None, refl, sym, ap, ◌∙◌, subst, append_assoc, append-nil}
 use Rattle.pump_frame.specs.declared.row.SessionRow.{SessionRow}
-use Rattle.pump_core.specs.History.{History}
 use Rattle.pump_core.specs.Replies.{Sent, LowReplies}
 use Rattle.script_reader.specs.declared.line.Line.{Line}
 use Rattle.script_reader.specs.declared.line.Line.TheVariants as lines
@@ -11,7 +10,7 @@ use Rattle.script_reader.specs.Past.{Past}
 use Rattle.script_reader.specs.Steps.{Overfills}
 use Rattle.script_reader.specs.Scripts.{Begun, Whole, Alone, GoesOn, Leads, LeadTo, Stops, StopsAfter, ComesTo}
 use Rattle.script_reader.specs.Readouts.{low_lines, Sound}
-use Rattle.script_reader.proofs.Leading.{IsNew, led}
+use Rattle.script_reader.proofs.Leading.{led}
 use Rattle.script_reader.proofs.Waiting.{high_waits, step_low_waits}
 use Rattle.script_reader.proofs.Replying as replying
 use Rattle.script_reader.proofs.Replying.{Replies, Grows, aside_grows, high_aside, step_low_grows, low-append}
@@ -103,8 +102,8 @@ sound_stop script after printed s =
     let replies = stops_grows s.running s.line after s.last s.fault (low_lines s.first) s.stops (replying.lead_so None s.before s.running s.first [] s.leads refl) in
     subst (Sound after) (sym s.printed_is)
     (sound_of after (s.first ++ s.last) (subst (Replies after) (sym (low-append s.first s.last)) replies)
-        (stops_holds s.running s.line after s.last s.fault s.stops (bounding.lead_so None s.before s.running s.first s.leads tt))
-        (stops_begins s.running s.line after s.last s.fault (s.first ++ s.last) s.stops))
+    (stops_holds s.running s.line after s.last s.fault s.stops (bounding.lead_so None s.before s.running s.first s.leads tt))
+    (stops_begins s.running s.line after s.last s.fault (s.first ++ s.last) s.stops))
 
 pub sound_so : (script : List Line) (after : Option Begun) (printed : List Event) → ComesTo script after printed → Sound after printed
 sound_so script after printed h = ⊎_elim (λ (l : LeadTo None script after printed). sound_lead script after printed l) (λ (s : StopsAfter script after printed). sound_stop script after printed s) h

@@ -7,10 +7,10 @@ use Rattle.pump_frame.specs.declared.row.SessionRow.{SessionRow}
 use Rattle.pump_core.specs.declared.event.Event.TheVariants.{RemoveBegin, RemoveEnd}
 use Rattle.pump_core.specs.World.{World}
 use Rattle.pump_core.specs.Events.{Happens, Run}
-use Rattle.pump_core.specs.Timed.{Step, HighLook, Publish, Occurs, HighSide, Point, time_of, high_removed, high_published, LeadsTo}
+use Rattle.pump_core.specs.Timed.{Step, Publish, Occurs, HighSide, Point, time_of, high_removed, high_published, LeadsTo}
 use Rattle.script_reader.specs.Past.{Sending, or_else, first_sending}
 use Rattle.script_reader.specs.Highs.{Perhaps, has_removed, time_since, published}
-use Rattle.two_worlds.specs.Timelines.{IsAtRest, outline}
+use Rattle.two_worlds.specs.Timelines.{IsAtRest, only_if}
 use Rattle.two_worlds.proofs.TimelineStands.{at, IsReady, rests, Stands, Settled}
 
 -- ---- a removal ----
@@ -53,23 +53,24 @@ not_less : (a b : ℕ) → b ≡ a → nat_lt a b ≡ false
 not_less a b e = le-ltb a b (omega (arith, e))
 
 module _ (row : SessionRow) (past : List Step) (t : Point) (m : ℕ) where
+  -- a time is published, or none is
+  abbrev pub publish_steps : Option ℕ → List Step
+  publish_steps None = []
+  publish_steps (Some τ) = Publish ∷ []
+
   -- what is to be published is published
   publishes : (times : List ℕ) (sends : List Sending) (v : World) (steps : List Step) (h : HighSide) (time : Option ℕ)
-      → outline steps ≡ HighLook m ∷ [] → LeadsTo row (steps ++ past) (at t v h) → h.looking ≡ true → h.moment ≡ m → h.published ≡ times → h.unpublished ≡ time
+      → LeadsTo row (steps ++ past) (at t v h) → h.looking ≡ true → h.moment ≡ m → h.published ≡ times → h.unpublished ≡ time
       → h.first_sent ≡ first_sending v.removed sends → NoLater v.removed sends
-      → Stands row past t m (times ++ option_to_list time) sends v
-  publishes times sends v steps h None out leads looking moment published left first none = record {
-    more = steps;
-    out = out;
+      → Stands row past t m (times ++ option_to_list time) sends (publish_steps time ++ steps) v
+  publishes times sends v steps h None leads looking moment published left first none = record {
     high = h;
     leads = leads;
     looking = looking;
     moment = moment;
     sent = record { published = published ∙ sym (append-nil times); nothing_left = left; first = first; no_later = none };
   }
-  publishes times sends v steps h (Some τ) out leads looking moment published left first none = record {
-    more = Publish ∷ steps;
-    out = out;
+  publishes times sends v steps h (Some τ) leads looking moment published left first none = record {
     high = high_published h τ;
     leads = (at t v h, leads, (τ, left, refl));
     looking = looking;
@@ -77,9 +78,13 @@ module _ (row : SessionRow) (past : List Step) (t : Point) (m : ℕ) where
     sent = record { published = ap (λ l. l ++ τ ∷ []) published; nothing_left = refl; first = first; no_later = none };
   }
 
-  module _ (times : List ℕ) (sends : List Sending) (w v : World) (s : Stands row past t m times sends w) (r : IsReady w)
+  module _ (times : List ℕ) (sends : List Sending) (steps : List Step) (w v : World) (s : Stands row past t m times sends steps w) (r : IsReady w)
       (time : Option ℕ) (is_time : time ≡ (if has_removed w v then published times (time_since (first_sending w.removed sends) m) else None)) where
-    happened : Run w (RemoveBegin ∷ RemoveEnd ∷ []) v → Settled row past t m (times ++ option_to_list time) sends v
+    -- the steps of a removal, or none
+    abbrev pub removal_steps : List Step
+    removal_steps = publish_steps time ++ (only_if (has_removed w v) (Occurs RemoveEnd ∷ Occurs RemoveBegin ∷ []) ++ steps)
+
+    happened : Run w (RemoveBegin ∷ RemoveEnd ∷ []) v → Settled row past t m (times ++ option_to_list time) sends removal_steps v
     happened (w₁, h₁, (w₂, h₂, e)) =
         let more : v.removed ≡ w.removed + 1 = ap (λ (u : World). u.removed) (e ∙ h₂.1) ∙ ap (λ (u : World). u.removed + 1) h₁.2 in
         let yes : has_removed w v ≡ true = less_by_one w.removed v.removed more in
@@ -88,11 +93,12 @@ module _ (row : SessionRow) (past : List Step) (t : Point) (m : ℕ) where
         let same : time_of s.high.first_sent s.high.moment s.high.published ≡ time =
         run_time ∙ sym (is_time ∙ ap (λ (b : Bool). if b then published times (time_since (first_sending w.removed sends) m) else None) yes) in
         record {
-          stands = publishes times sends v (Occurs RemoveEnd ∷ Occurs RemoveBegin ∷ s.more) (high_removed s.high) time s.out
+          stands = subst (λ (b : Bool). Stands row past t m (times ++ option_to_list time) sends (publish_steps time ++ (only_if b (Occurs RemoveEnd ∷ Occurs RemoveBegin ∷ []) ++ steps)) v) (sym yes)
+              (publishes times sends v (Occurs RemoveEnd ∷ Occurs RemoveBegin ∷ steps) (high_removed s.high) time
               (at t w₁ s.high, (at t w s.high, s.leads, (w₁, h₁, s.looking, refl)), (w₂, h₂, s.looking, ap (λ (u : World). at t u (high_removed s.high)) e))
               s.looking s.moment s.sent.published same
               (sym (no_first w.removed v.removed sends s.sent.no_later (omega (arith, more))))
-              (later_still w.removed v.removed sends (omega (arith, more)) s.sent.no_later);
+              (later_still w.removed v.removed sends (omega (arith, more)) s.sent.no_later));
           rest = subst IsAtRest (sym (e ∙ h₂.1)) (record {
             storing = ap (λ (u : World). u.storing) h₁.2 ∙ r.storing;
             due = refl;
@@ -108,15 +114,24 @@ module _ (row : SessionRow) (past : List Step) (t : Point) (m : ℕ) where
       | false ↦ λ e. e
     ] refl
 
-    nothing : ((u : World) → Happens w RemoveBegin u → ⊥) × (v ≡ w) → Settled row past t m (times ++ option_to_list time) sends v
+    nothing : ((u : World) → Happens w RemoveBegin u → ⊥) × (v ≡ w) → Settled row past t m (times ++ option_to_list time) sends removal_steps v
     nothing (never, e) =
-        let none : time ≡ None = is_time ∙ ap (λ (b : Bool). if b then published times (time_since (first_sending w.removed sends) m) else None) (not_less w.removed v.removed (ap (λ (u : World). u.removed) e)) in
+        let no : has_removed w v ≡ false = not_less w.removed v.removed (ap (λ (u : World). u.removed) e) in
+        let none : time ≡ None = is_time ∙ ap (λ (b : Bool). if b then published times (time_since (first_sending w.removed sends) m) else None) no in
+        let steps_same : steps ≡ removal_steps = λ i. publish_steps (sym none i) ++ (only_if (sym no i) (Occurs RemoveEnd ∷ Occurs RemoveBegin ∷ []) ++ steps) in
         let times_same : times ≡ times ++ option_to_list time = sym (ap (λ (o : Option ℕ). times ++ option_to_list o) none ∙ append-nil times) in
         let back = sym e in
         record {
-          stands = subst (λ (k : List ℕ × World). Stands row past t m k.0 sends k.1) (λ i. (times_same i, back i)) s;
+          stands = subst (λ (k : List ℕ × List Step × World). Stands row past t m k.0 sends k.1 k.2) (λ i. (times_same i, steps_same i, back i)) s;
           rest = subst IsAtRest back (rests w r (not_due never));
         }
 
-    pub removed : Perhaps w RemoveBegin (RemoveEnd ∷ []) v → Settled row past t m (times ++ option_to_list time) sends v
+    pub removed : Perhaps w RemoveBegin (RemoveEnd ∷ []) v → Settled row past t m (times ++ option_to_list time) sends removal_steps v
     removed h = ⊎_elim happened nothing h
+
+-- what is held stays so
+pub removal_holds : (w v : World) → Perhaps w RemoveBegin (RemoveEnd ∷ []) v → v.held ≡ w.held
+removal_holds w v h = ⊎_elim
+    (λ (k : Run w (RemoveBegin ∷ RemoveEnd ∷ []) v). ap (λ (u : World). u.held) (k.2.2 ∙ k.2.1.1) ∙ ap (λ (u : World). u.held) k.1.2)
+    (λ (k : ((u : World) → Happens w RemoveBegin u → ⊥) × (v ≡ w)). ap (λ (u : World). u.held) k.1)
+    h

@@ -1,64 +1,18 @@
 //! What a low look prints.
 
-ghost use Rattle.std.specs.Prelude.{◌≡◌, ◌+◌, ◌≤◌, [], ◌∷◌, ◌++◌, length, option_to_list};
+ghost use Rattle.std.specs.Prelude.{◌≡◌, ◌+◌, ◌≤◌, [], ◌∷◌, ◌++◌, length};
 ghost use Rattle.low_process.specs.Looks.{row_of};
 ghost use Rattle.low_process.specs.Heads.{frame_of, look_with};
 ghost use Rattle.script_reader.specs.Lows.{printed_store, printed_feedback};
 ghost use Rattle.two_worlds.specs.Printing.{look_prints};
 
 use arrayvec::ArrayVec;
-use low_process::{LookHead, LowLook, LowProcess, Reply};
+use low_process::{LookHead, LowProcess, Reply};
 use pump_core::{Feedback, Seen};
 use script_reader::Event;
 
-/// The line of a look's feedback, if it has one.
-fn feedback_line(session: u32, moment: u64, feedback: Feedback) -> Option<Event>
-    ensures { option_to_list result ≡ printed_feedback session moment feedback }
-{
-    match feedback {
-        Feedback::Quiet => None,
-        Feedback::Full => Some(Event::Full { session, moment }),
-        Feedback::Passed(seen) => Some(Event::Passed {
-            session,
-            moment,
-            seen,
-        }),
-        Feedback::Released => Some(Event::Released { session, moment }),
-        Feedback::Repeat(seen) => Some(Event::Repeat {
-            session,
-            moment,
-            seen,
-        }),
-    }
-}
-
-/// What a low look prints, at most three lines: the message that was stored, the feedback, and the
-/// reply.
-pub fn print_look(session: u32, moment: u64, look: &LowLook, out: &mut ArrayVec<Event, 4>)
-    requires { length out.old.items ≤ 1 }
-    ensures { out.new.items ≡ out.old.items ++ look_prints session moment look.now }
-{
-    if let Some(number) = look.stored {
-        out.push(Event::Stored {
-            session,
-            moment,
-            number,
-        });
-    }
-    if let Some(line) = feedback_line(session, moment, look.feedback) {
-        out.push(line);
-    }
-    if let Some(reply) = look.reply {
-        out.push(Event::Low {
-            session,
-            moment,
-            reply,
-        });
-    }
-}
-
-// Each line is put into the list by a function of its own: a local of 1 KB is zeroed where its
-// function begins, whether it comes to be used or not.
+// Each line is put into the list by a function of its own: an event has more than 1 KB, and a local of
+// that size is zeroed where its function begins, whether it comes to be used or not.
 
 fn put_store(session: u32, moment: u64, stored: Option<u64>, out: &mut ArrayVec<Event, 4>)
     requires { length out.old.items ≤ 3 }
@@ -142,7 +96,8 @@ fn put_reply(session: u32, moment: u64, low: &LowProcess, reply: &Reply, out: &m
     });
 }
 
-/// What a low look prints of which was head.
+/// What a low look prints, at most three lines: the message that was stored, the feedback, and the
+/// reply.
 pub fn print_head(
     session: u32,
     moment: u64,

@@ -12,10 +12,10 @@ ghost use Rattle.two_worlds.specs.LowParts.{armed_if, answer_of};
 
 use crate::applied::Stop;
 use crate::connection::Connection;
-use crate::printing::print_look;
+use crate::printing::print_head;
 use arrayvec::ArrayVec;
 use disk_model::{PlainDisk, Role};
-use low_process::{Answer, Arrival, Ask, LowLook, LowProcess};
+use low_process::{Answer, Arrival, AskHead, LookHead, LowProcess, NOTHING};
 use pump_core::Seen;
 use pump_frame::{Item, OutOfMemory, Payload, SessionRow};
 use script_reader::{ArrivingHead, LineHead, Event, ToldFeedback};
@@ -113,6 +113,8 @@ fn times_read(row: &SessionRow, told: ToldFeedback) -> Seen
 
 impl LowParts {
     ghost use Rattle.pump_core.specs.History.{Gone};
+    ghost use Rattle.low_process.specs.Looks.{row_of};
+    ghost use Rattle.low_process.specs.Heads.{ask_with, look_with};
     ghost use Rattle.script_reader.specs.declared.event.Event.TheVariants.{End};
     ghost use Rattle.script_reader.specs.declared.line.ToldFeedback.TheVariants.{Quiet};
     ghost use Rattle.script_reader.specs.Lawful.{IsLawfulArriving, IsLawfulFeedback, IsLawfulLine};
@@ -181,33 +183,35 @@ impl LowParts {
     fn end_look(
         &mut self,
         moment: u64,
-        look: &LowLook,
+        head: &LookHead,
         out: &mut ArrayVec<Event, 4>,
     ) -> Option<Stop>
         requires out { out.old.items ≡ [] }
         ensures rest { self.new ≡ record self.old { moment = moment } }
-        ensures events { out.new.items ≡ look_prints self.old.row.id moment look.now }
+        ensures events { out.new.items ≡ look_prints self.old.row.id moment (look_with (row_of self.old.process) head.now) }
         ensures stop { result ≡ stop_of self.new }
     {
         self.moment = moment;
-        print_look(self.row.id, moment, look, out);
+        print_head(self.row.id, moment, &self.process, head, out);
         self.stop()
     }
 
     /// The rest of a look, which is answered by what was told.
-    fn answer(&mut self, ask: Ask, told: ToldFeedback) -> LowLook
-        requires asked { HasAsked self.old.process ask }
+    fn answer(&mut self, ask: AskHead, told: ToldFeedback, head: &mut LookHead)
+        requires asked { HasAsked self.old.process (ask_with (row_of self.old.process) self.old.process.phase head.old ask) }
         requires told { IsLawfulFeedback told }
         requires row { IsLawfulRow self.old.row }
-        ensures answered { AnsweredBy self.old.row told self.old.process self.new.process ask result }
+        ensures answered { AnsweredBy self.old.row told self.old.process self.new.process
+            (ask_with (row_of self.old.process) self.old.process.phase head.old ask) (look_with (row_of self.old.process) head.new) }
         ensures rest { self.new ≡ record self.old { process = self.new.process } }
+        ensures of_row { row_of self.new.process ≡ row_of self.old.process }
     {
         match ask {
-            Ask::Done(look) => look,
-            Ask::Forward(_) => self.process.finish(answer_to_offer(told)),
-            Ask::Average => {
+            AskHead::Done => {}
+            AskHead::Forward => self.process.finish_into(answer_to_offer(told), head),
+            AskHead::Average => {
                 let seen = times_read(&self.row, told);
-                self.process.finish(Answer::Average(seen))
+                self.process.finish_into(Answer::Average(seen), head);
             }
         }
     }
@@ -230,10 +234,13 @@ impl LowParts {
         ensures row { self.new.row ≡ self.old.row }
     {
         let arrival = self.connection.first();
-        let ask = self.process.begin(moment, word, arrival, &mut self.store);
-        let look = self.answer(ask, told);
-        self.connection.settle(look.taken);
-        self.end_look(moment, &look, out)
+        let mut head = NOTHING;
+        let ask = self
+            .process
+            .begin_into(moment, word, arrival, &mut self.store, &mut head);
+        self.answer(ask, told, &mut head);
+        self.connection.settle(head.taken);
+        self.end_look(moment, &head, out)
     }
 
     /// The look of a connection that is lost: nothing waits on the new one.
@@ -247,11 +254,12 @@ impl LowParts {
             moment 0 Quiet Gone is_fault q printed) out.new.items result }
         ensures row { self.new.row ≡ self.old.row }
     {
+        let mut head = NOTHING;
         let ask = self
             .process
-            .begin(moment, 0, Arrival::Gone, &mut self.store);
-        let look = self.answer(ask, ToldFeedback::Quiet);
-        self.end_look(moment, &look, out)
+            .begin_into(moment, 0, Arrival::Gone, &mut self.store, &mut head);
+        self.answer(ask, ToldFeedback::Quiet, &mut head);
+        self.end_look(moment, &head, out)
     }
 
     /// A `told` line: what comes joins what waits, a fault that is told arms the disk, and a look is

@@ -1,12 +1,14 @@
-//! What a low look prints.
+//! The lines of output.
 
 ghost use Rattle.std.specs.Prelude.{◌≡◌, ◌+◌, ◌≤◌, [], ◌∷◌, ◌++◌, length};
 ghost use Rattle.low_process.specs.Looks.{row_of};
 ghost use Rattle.low_process.specs.Heads.{frame_of, look_with};
 ghost use Rattle.script_reader.specs.Lows.{printed_store, printed_feedback};
+ghost use Rattle.two_worlds.specs.Carrying.{printed_taken};
 ghost use Rattle.two_worlds.specs.Printing.{look_prints};
 
 use arrayvec::ArrayVec;
+use high_receiver::Taken;
 use low_process::{LookHead, LowProcess, Reply};
 use pump_core::{Feedback, Seen};
 use script_reader::Event;
@@ -112,5 +114,61 @@ pub fn print_head(
     put_feedback(session, moment, head.feedback, out);
     if let Some(reply) = &head.reply {
         put_reply(session, moment, low, reply, out);
+    }
+}
+
+/// The line of a removal.
+pub fn put_removed(
+    session: u32,
+    moment: u64,
+    number: u64,
+    time: Option<u32>,
+    out: &mut ArrayVec<Event, 4>,
+)
+    requires { length out.old.items ≤ 3 }
+    ensures { out.new.items ≡ out.old.items ++ Event.Removed session moment number time ∷ [] }
+{
+    out.push(Event::Removed {
+        session,
+        moment,
+        number,
+        time,
+    });
+}
+
+/// The line of a sending.
+pub fn put_sent(session: u32, moment: u64, number: u64, out: &mut ArrayVec<Event, 4>)
+    requires { length out.old.items ≤ 3 }
+    ensures { out.new.items ≡ out.old.items ++ Event.Sent session moment number ∷ [] }
+{
+    out.push(Event::Sent {
+        session,
+        moment,
+        number,
+    });
+}
+
+fn put_took(session: u32, number: u64, out: &mut ArrayVec<Event, 4>)
+    requires { length out.old.items ≤ 3 }
+    ensures { out.new.items ≡ out.old.items ++ Event.Took session number ∷ [] }
+{
+    out.push(Event::Took { session, number });
+}
+
+fn put_again(session: u32, number: u64, out: &mut ArrayVec<Event, 4>)
+    requires { length out.old.items ≤ 3 }
+    ensures { out.new.items ≡ out.old.items ++ Event.Again session number ∷ [] }
+{
+    out.push(Event::Again { session, number });
+}
+
+/// The line of a message that the receiver has, now or from before.
+pub fn put_taken(session: u32, number: u64, taken: Taken, out: &mut ArrayVec<Event, 4>)
+    requires { length out.old.items ≤ 3 }
+    ensures { out.new.items ≡ out.old.items ++ printed_taken session number taken ∷ [] }
+{
+    match taken {
+        Taken::Took => put_took(session, number, out),
+        Taken::Repeat => put_again(session, number, out),
     }
 }

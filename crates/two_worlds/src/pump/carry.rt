@@ -4,15 +4,15 @@ ghost use Rattle.std.specs.Prelude.{◌≡◌, ℕ, ◌+◌, ◌<◌, ◌≤◌,
 ghost use Rattle.disk_model.specs.declared.name.Role.TheVariants as roles;
 ghost use Rattle.script_reader.specs.Highs.{IsCarried, IsOverfull};
 ghost use Rattle.script_reader.specs.Breaks.{IsUntaken};
-ghost use Rattle.two_worlds.specs.Carrying.{printed_taken};
 ghost use Rattle.two_worlds.specs.Standing.{StandsForSome};
 ghost use Rattle.two_worlds.specs.Doing.{Does, DisksServe, LeavesAlone};
 
 use crate::applied::Stop;
+use crate::printing::put_taken;
 use crate::pump::parts::Parts;
 use arrayvec::ArrayVec;
 use disk_model::{Disk, Role};
-use high_receiver::{TakeFault, Taken};
+use high_receiver::TakeFault;
 use script_reader::Event;
 
 impl<D: Disk> Parts<D> {
@@ -42,7 +42,7 @@ impl<D: Disk> Parts<D> {
         match self.receiver.take(number, &item.payload) {
             Ok(taken) => {
                 self.returned.push_back(number);
-                out.push(event_of(self.row.id, number, taken));
+                put_taken(self.row.id, number, taken, out);
                 Ok(())
             }
             Err(TakeFault::Device { faults }) => Err(Stop::Device {
@@ -53,15 +53,5 @@ impl<D: Disk> Parts<D> {
             // No DATA is sent before the receiver has all the messages before it.
             Err(TakeFault::Ahead { .. }) => unreachable!(),
         }
-    }
-}
-
-// What is printed where a receiver has a message.
-fn event_of(session: u32, number: u64, taken: Taken) -> Event
-    ensures { result ≡ printed_taken session number taken }
-{
-    match taken {
-        Taken::Took => Event::Took { session, number },
-        Taken::Repeat => Event::Again { session, number },
     }
 }

@@ -12,6 +12,7 @@ ghost use Rattle.two_worlds.specs.Doing.{Does, DoesFrom, NeverBreaks, NeverOverf
 ghost use Rattle.two_worlds.specs.HighLooks.{ComesBack, LeadsWith, BreaksWith, most_lines, printed_look, packets_after};
 
 use crate::applied::Stop;
+use crate::printing::{put_removed, put_sent};
 use crate::pump::parts::Parts;
 use arrayvec::ArrayVec;
 use disk_model::{Disk, Role};
@@ -30,22 +31,13 @@ impl<D: Disk> Parts<D> {
         } }
     {
         if let Some(number) = look.removed {
-            out.push(Event::Removed {
-                session: self.row.id,
-                moment,
-                number,
-                time: look.published,
-            });
+            put_removed(self.row.id, moment, number, look.published, out);
         }
         if let Some(number) = look.sent {
             if let Some(item) = self.high.hand() {
                 self.sent.push_back(*item);
             }
-            out.push(Event::Sent {
-                session: self.row.id,
-                moment,
-                number,
-            });
+            put_sent(self.row.id, moment, number, out);
         }
     }
 

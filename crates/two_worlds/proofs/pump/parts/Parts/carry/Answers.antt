@@ -45,8 +45,7 @@ returns-in-Ok-clause-does g c =
     let w = answered_with m s c.requires.stands c.args.back item c.requires.back at c.take.new.self c.take.result (Ok c.in-Ok.taken) (c.in-Ok.is) c.take.ensures.at_once c.take.ensures.unchanged c.take.ensures.stores in
     let r = leads_by m s p c.args.back item stands c.requires.back at c.take.new.self c.in-Ok.taken c.push_back.new.self c.args.out.now.items
     (returned s.returned c.push_back.new.self item.number stands.packets.returned c.push_back.ensures.items) c.take.ensures.row c.take.ensures.size w in
-    let printed = c.push.ensures.items ∙ ap (λ e. c.args.out.now.items ++ e ∷ []) c.event_of.ensures in
-    (r.0, r.1, r.2, printed ∙ r.3, r.4, r.5)
+    (r.0, r.1, r.2, c.put_taken.ensures ∙ r.3, r.4, r.5)
 
 pub returns-in-Ok-clause-serve : goal.returns-in-Ok-clause-serve
 returns-in-Ok-clause-serve g c =

@@ -284,7 +284,7 @@ module _ {D : Type 0} (m : Meaning D) (c d : Parts D) (p : Past) (moment word : 
       low_fits = passed.fits;
       high_fits = stands.ends.high_fits;
     };
-    packets = record { sent = stands.packets.sent; returned = stands.packets.returned };
+    packets = record { sent = stands.packets.sent; returned = stands.packets.returned; taken = stands.packets.taken };
     disks = disks;
   }
 

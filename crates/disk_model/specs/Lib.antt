@@ -1,5 +1,4 @@
 pub mod Contents
-pub mod Counts
 pub mod Disk
 pub mod Mem
 pub mod Plain

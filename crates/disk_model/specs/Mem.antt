@@ -1,7 +1,7 @@
 -- What a MemDisk tells: its readings and its images.
-use Rattle.std.specs.Prelude.{◌≡◌, ℕ, ◌-◌, false, Bool, ◌&&◌, nat_lt, nat_le, if◌then◌else◌, List, ◌∷◌, length, Result, is_ok}
+use Rattle.std.specs.Prelude.{◌≡◌, ℕ, ◌-◌, false, Bool, ◌&&◌, nat_lt, nat_le, if◌then◌else◌, List, ◌∷◌, length, Result}
+use Rattle.pump_frame.specs.Counts.{raised, CountsFailure}
 use Rattle.disk_model.specs.Contents.{Held}
-use Rattle.disk_model.specs.Counts.{one_more}
 use Rattle.disk_model.specs.Disk.{Meaning}
 use Rattle.disk_model.specs.Record.{replay, IsImage, WasImage}
 use Rattle.disk_model.specs.RecordLaws.{replay_image, counts_now, only_now}
@@ -50,8 +50,8 @@ takes d end = nat_lt 0 d.left && nat_le end d.start.room
 pub record Called {T E : Type 0} (old new : Memory) (result : Result T E) : Type 0 where
   pub start : new.start ≡ old.start
   pub fails : new.fails ≡ old.fails
-  pub number : new.number ≡ one_more old.number
-  pub faults : new.faults ≡ (if is_ok result then old.faults else one_more old.faults)
+  pub number : new.number ≡ raised old.number
+  pub faults : CountsFailure old.faults new.faults result
 
 -- the record has this entry more where it took one, and else is as it was
 pub record Logs (took : Bool) (entry : Entry) (old new : Memory) : Type 0 where

@@ -3,7 +3,7 @@ ghost use Rattle.std.specs.Prelude.{◌≡◌, ℕ, ◌+◌, ◌≤◌, ◌++◌
 ghost use Rattle.disk_model.specs.Contents.{Held, put_at};
 ghost use Rattle.disk_model.specs.Written.{written};
 
-use crate::count::ends_within;
+use crate::range::ends_within;
 use std::alloc::{AllocError, Global};
 use std::marker::Model;
 

@@ -3,12 +3,12 @@
 #![tactic(auto)]
 
 mod contents;
-mod count;
 mod crash;
 mod disk;
 mod mem;
 mod name;
 mod plain;
+mod range;
 mod record;
 mod spare;
 

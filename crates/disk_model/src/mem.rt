@@ -1,17 +1,17 @@
 ghost use Rattle.std.specs.Prelude.{◌≡◌, ◌+◌, ◌-◌, ◌<◌, ◌≤◌, ◌↔◌, true, false, [], ◌∷◌, length, ⊤, take, drop, Contains, IsTrue, IfOk, IsOk, IsErr, OnOk, OnErr, is_ok, if◌then◌else◌};
-ghost use Rattle.disk_model.specs.Counts.{one_more};
+ghost use Rattle.pump_frame.specs.Counts.{raised};
 ghost use Rattle.disk_model.specs.Disk.{Moves, Same, Torn, Holds, Settled, KeepsImages, Answers, FailsPast};
 ghost use Rattle.disk_model.specs.Mem.{Memory, mem_meaning, mem_reading, takes, Called, Logs, LogsNothing};
 ghost use Rattle.disk_model.specs.Record.{crashed};
 ghost use Rattle.disk_model.specs.declared.record.Entry.TheVariants.{Write, Missed, Sync};
 
 use crate::contents::Contents;
-use crate::count::{ends_within, raised};
 use crate::crash::crash_into;
+use crate::range::ends_within;
 use crate::record::{Entry, Outcome};
 use crate::spare::{next_piece, put_first, spare_buffers};
 use crate::{Disk, DiskFault};
-use pump_frame::OutOfMemory;
+use pump_frame::{OutOfMemory, raised};
 use std::alloc::Global;
 use std::collections::VecDeque;
 use std::marker::Model;
@@ -105,7 +105,7 @@ impl MemDisk {
 
     // Counts the call, and says whether it is one of those that fail.
     fn is_next_failing(&mut self) -> bool
-        ensures value { self.new ≡ record self.old { number = one_more self.old.number } }
+        ensures value { self.new ≡ record self.old { number = raised self.old.number } }
         ensures fails { IsTrue result ↔ Contains self.old.fails self.old.number }
     {
         let number = self.number;
@@ -154,7 +154,7 @@ impl MemDisk {
     }
 
     fn fault(&mut self) -> DiskFault
-        ensures value { self.new ≡ record self.old { faults = one_more self.old.faults } }
+        ensures value { self.new ≡ record self.old { faults = raised self.old.faults } }
         ensures later { self.old.faults ≤ self.new.faults }
     {
         self.faults = raised(self.faults);

@@ -1,16 +1,18 @@
-ghost use Rattle.std.specs.Prelude.{◌≡◌, ◌+◌, ◌≤◌, true, false, [], length, max, vec_len, vec_capacity, IfOk, IsErr, IsTrue, OnOk, OnErr};
-ghost use Rattle.disk_model.specs.Disk.{Moves, Torn, Holds, Answers, FailsPast};
+ghost use Rattle.std.specs.Prelude.{◌≡◌, ◌+◌, ◌≤◌, true, false, [], length, max, take, drop, vec_len, vec_capacity, IfOk, IsErr, IsTrue, OnOk, OnErr, ⊤};
+ghost use Rattle.pump_frame.specs.Counts.{CountsFailure};
+ghost use Rattle.disk_model.specs.Disk.{Moves, Same, Torn, Holds, Settled, KeepsImages, Answers, FailsPast};
 ghost use Rattle.disk_model.specs.Plain.{Plain, plain_meaning};
 
 use crate::contents::write_over;
-use crate::count::{ends_within, raised};
+use crate::range::ends_within;
 use crate::{Disk, DiskFault};
-use pump_frame::OutOfMemory;
+use pump_frame::{OutOfMemory, raised};
 use std::alloc::Global;
 use std::marker::Model;
 
-/// A disk in memory that tells its readings and its plan, and no images. Contracts see it as its
-/// bytes, its room, whether the next call fails, and the count of the failed calls.
+/// A disk in memory that tells its readings and its plan, and no images. Its count of failed calls
+/// goes up by one exactly where a call fails. Contracts see it as its bytes, its room, whether the
+/// next call fails, and that count.
 #[derive(Drop)]
 pub struct PlainDisk {
     room: u64,
@@ -54,7 +56,8 @@ fn put(bytes: &mut Vec<u8>, at: usize, new: &[u8])
 }
 
 impl PlainDisk {
-    /// An empty disk that may grow to `room` bytes.
+    /// An empty disk that may grow to `room` bytes. The room is reserved now, and touched only where
+    /// it is written.
     pub fn new(alloc: Global, room: u64) -> Result<PlainDisk, OutOfMemory>
         ensures { IfOk result (λ d. d ≡ record
             { bytes = []; room = room; armed = false; faults = 0 }) }
@@ -81,6 +84,7 @@ impl PlainDisk {
         ensures misfit { fits ≡ false → IsErr result }
         ensures bytes { self.new.bytes ≡ self.old.bytes }
         ensures room { self.new.room ≡ self.old.room }
+        ensures counted { CountsFailure self.old.faults self.new.faults result }
     {
         let armed = self.armed;
         self.armed = false;
@@ -95,12 +99,27 @@ impl PlainDisk {
 impl Disk for PlainDisk {
     ghost told = { plain_meaning };
 
-    fn size(&mut self) -> Result<u64, DiskFault> {
+    fn size(&mut self) -> Result<u64, DiskFault>
+        ensures size { IfOk result (λ n. n ≡ length self.new.bytes) }
+        ensures moves { Moves plain_meaning Same self.old self.new }
+        ensures images { KeepsImages plain_meaning self.old self.new }
+        ensures answers { Answers plain_meaning ⊤ self.old self.new result }
+        ensures counted { CountsFailure self.old.faults self.new.faults result }
+    {
         self.answer(true)?;
         Ok(self.bytes.len() as u64)
     }
 
-    fn read(&mut self, at: u64, into: &mut [u8]) -> Result<(), DiskFault> {
+    fn read(&mut self, at: u64, into: &mut [u8]) -> Result<(), DiskFault>
+        ensures within { OnOk result (at + length into.old ≤ length self.old.bytes) }
+        ensures bytes { OnOk result (into.new ≡ take (length into.old) (drop at self.old.bytes)) }
+        ensures moves { Moves plain_meaning Same self.old self.new }
+        ensures images { KeepsImages plain_meaning self.old self.new }
+        ensures answers { Answers plain_meaning (at + length into.old ≤ length self.old.bytes)
+            self.old self.new result }
+        ensures past { FailsPast plain_meaning (length self.old.bytes) (at + length into.old) result }
+        ensures counted { CountsFailure self.old.faults self.new.faults result }
+    {
         let size = self.bytes.len() as u64;
         self.answer(ends_within(at, into.len() as u64, size))?;
         let from = at as usize;
@@ -116,6 +135,7 @@ impl Disk for PlainDisk {
             self.old self.new result }
         ensures past { FailsPast plain_meaning self.old.room (at + length bytes.now) result }
         ensures kept { OnErr result (self.new.bytes ≡ self.old.bytes) }
+        ensures counted { CountsFailure self.old.faults self.new.faults result }
     {
         let count = bytes.len() as u64;
         let room = self.room;
@@ -124,7 +144,13 @@ impl Disk for PlainDisk {
         Ok(())
     }
 
-    fn sync(&mut self) -> Result<(), DiskFault> {
+    fn sync(&mut self) -> Result<(), DiskFault>
+        ensures durable { OnOk result (Settled plain_meaning self.new) }
+        ensures moves { Moves plain_meaning Same self.old self.new }
+        ensures images_err { OnErr result (KeepsImages plain_meaning self.old self.new) }
+        ensures answers { Answers plain_meaning ⊤ self.old self.new result }
+        ensures counted { CountsFailure self.old.faults self.new.faults result }
+    {
         self.answer(true)
     }
 

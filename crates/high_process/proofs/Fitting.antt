@@ -1,18 +1,19 @@
 -- After a look the high end of the passage fits the process again.
 use Rattle.std.proofs.Common.{◌≡◌, ℕ, ◌≤◌, Bool, true, false, List, [], ◌∷◌, ◌++◌, length, Option, Some, None, refl, sym, ap, ◌∙◌, subst, arith, append-nil, length-append}
+use Rattle.std.specs.Prelude.{option_to_list}
 use Rattle.pump_frame.specs.declared.frame.Item.{Item}
 use Rattle.pump_core.specs.Passage.{Shape, Low, High, takes, sought}
 use Rattle.high_process.specs.declared.values.HighLook.{HighLook}
 use Rattle.high_process.specs.declared.values.Task.{Task}
 use Rattle.high_process.specs.declared.values.Task.TheVariants.{Refuse, Remove, Keep}
 use Rattle.high_process.specs.declared.process.HighProcess.{HighProcess}
-use Rattle.high_process.specs.Tasks.{expected_of}
-use Rattle.high_process.specs.Past.{Past, begun, listed, published, published_in, taken_up, finished, wants}
+use Rattle.pump_core.specs.Sendings.{expected}
+use Rattle.high_process.specs.Past.{Past, begun, next_time, published_in, taken_up, finished, wants}
 use Rattle.high_process.specs.Ends.{Takes, told_time, FitsEnd, StandsFitting}
 use Rattle.high_process.specs.Looks.{Stands, Looked}
 use Rattle.high_process.proofs.Looking.{expected_near}
 
-told_count : (o : Option ℕ) (h : High) (times : List ℕ) → length h.times ≡ length times → length (told_time o h).times ≡ length (times ++ listed o)
+told_count : (o : Option ℕ) (h : High) (times : List ℕ) → length h.times ≡ length times → length (told_time o h).times ≡ length (times ++ option_to_list o)
 told_count None h times e = e ∙ ap length (sym (append-nil times))
 told_count (Some x) h times e = omega (arith, e, length-append h.times (x ∷ []), length-append times (x ∷ []))
 
@@ -23,24 +24,24 @@ told_floor (Some x) h = refl
 -- the end fits the past
 record Fit (h : High) (t : Past) : Type 0 where
   pub count : length h.times ≡ length t.times
-  pub floor : h.floor ≤ expected_of t.removed t.hand
+  pub floor : h.floor ≤ expected t.removed t.hand
 
 fit_from : (p : HighProcess) (t : Past) (h : High) → Stands p t → FitsEnd p h → Fit h t
 fit_from p t h stands fits = record {
   count = fits.count ∙ stands.holds.count;
-  floor = subst (λ (c : ℕ × Option Item). h.floor ≤ expected_of c.0 c.1) (λ i. (stands.holds.removed i, stands.holds.hand i)) fits.floor;
+  floor = subst (λ (c : ℕ × Option Item). h.floor ≤ expected c.0 c.1) (λ i. (stands.holds.removed i, stands.holds.hand i)) fits.floor;
 }
 
 fits_from : (q : HighProcess) (t : Past) (h : High) → Stands q t → Fit h t → FitsEnd q h
 fits_from q t h stands fit = record {
   count = fit.count ∙ sym stands.holds.count;
-  floor = subst (λ (c : ℕ × Option Item). h.floor ≤ expected_of c.0 c.1) (λ i. (sym stands.holds.removed i, sym stands.holds.hand i)) fit.floor;
+  floor = subst (λ (c : ℕ × Option Item). h.floor ≤ expected c.0 c.1) (λ i. (sym stands.holds.removed i, sym stands.holds.hand i)) fit.floor;
 }
 
 fit_begun : (task : Task) (t : Past) (m : ℕ) (h : High) → Fit h t → Fit (told_time (published_in task t m) h) (begun task t m)
 fit_begun Remove t m h fit = record {
-  count = told_count (published t m) h t.times fit.count;
-  floor = omega (arith, fit.floor, told_floor (published t m) h, expected_near t.removed t.hand);
+  count = told_count (next_time t m) h t.times fit.count;
+  floor = omega (arith, fit.floor, told_floor (next_time t m) h, expected_near t.removed t.hand);
 }
 fit_begun Keep t m h fit = fit
 fit_begun (Refuse e) t m h fit = fit

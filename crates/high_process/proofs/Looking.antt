@@ -1,13 +1,13 @@
 -- A look moves what a high process stands for.
 use Rattle.std.proofs.Common.{◌≡◌, ◌≢◌, ◌⊎◌, inl, inr, ℕ, ◌+◌, ◌-◌, ◌^◌, ◌<◌, ◌≤◌, Bool, true, false, cond, List, [], ◌∷◌, ◌++◌, length, Option, Some, None, refl, sym, ap, ◌∙◌, subst, ⊎_elim, arith, append-nil, length-append, eq-eqb, ne_eqb}
-use Rattle.std.specs.Prelude.{◌&&◌, ◌||◌, ◌==◌, not, nat_lt, nat_le, if◌then◌else◌, IfSome, Result, Ok, Err, IfOk}
+use Rattle.std.specs.Prelude.{◌&&◌, ◌||◌, ◌==◌, not, nat_lt, nat_le, if◌then◌else◌, IfSome, is_some, unwrap_or, option_to_list, Result, Ok, Err, IfOk}
 use Rattle.std.proofs.lemmas.Bool.{ltb-true, ltb-false, leb-false, eqb-true, eqb-false}
 use Rattle.pump_frame.specs.declared.frame.Item.{Item}
 use Rattle.pump_frame.specs.declared.frame.Frame.{Frame}
 use Rattle.pump_frame.specs.declared.frame.Kind.{Kind}
 use Rattle.pump_frame.specs.declared.frame.Kind.TheVariants.{Hello, Welcome, Data, Ack, Refuse as Refused, Taken, Attach}
 use Rattle.high_process.specs.declared.values.HighFault.{HighFault}
-use Rattle.high_process.specs.declared.values.HighFault.TheVariants.{Ahead, Behind}
+use Rattle.high_process.specs.declared.values.HighFault.TheVariants.{Ahead, Behind, Device}
 use Rattle.high_process.specs.declared.values.HighAsk.{HighAsk}
 use Rattle.high_process.specs.declared.values.HighLook.{HighLook}
 use Rattle.high_process.specs.declared.values.Asking.{Asking}
@@ -22,11 +22,12 @@ use Rattle.stable_buffer.specs.Stands.{HighStands, MayRemove}
 use Rattle.stable_buffer.specs.declared.high.HighStore.{HighStore}
 use Rattle.stable_buffer.specs.High.{high_disk}
 use Rattle.pump_frame.specs.declared.row.SessionRow.{SessionRow as Row}
-use Rattle.high_process.specs.Tasks.{is_full, task_taken, task_in, task_of, expected_of}
-use Rattle.high_process.specs.Past.{Past, Sending, last_sending, first_sending, or_else, published, listed, time_since, is_due, begun, removed_in, published_in, wants, taken_up, is_sent, finished, sent_in}
-use Rattle.high_process.specs.States.{State, state_of, first_sent, last_sent}
+use Rattle.pump_core.specs.Sendings.{Sending, last_sending, first_sending, or_else, time_since, is_due, expected}
+use Rattle.high_process.specs.Tasks.{task_taken, task_in, task_of}
+use Rattle.high_process.specs.Past.{Past, next_time, begun, removed_in, published_in, wants, taken_up, is_sent, finished, sent_in}
+use Rattle.high_process.specs.States.{State, state_of, hand_in, hand_of, first_sent, last_sent}
 use Rattle.high_process.specs.Steps.{time_of, counted, wants_of, sends_of, before, with_item, sent_at, after, StepBegins, StepFinishes}
-use Rattle.high_process.specs.Storing.{GivenBack, Removing, Fares, StandsOrRemoved}
+use Rattle.high_process.specs.Storing.{GivenBack, Removing, Fares, IsAfter, StandsOrRemoved}
 use Rattle.high_process.specs.Ends.{IsTime, Takes, told_time}
 use Rattle.high_process.specs.Looks.{HoldsSends, Holds, Stands, Begins, Finishes, Asked, Looked}
 
@@ -66,23 +67,23 @@ sent_now removed m sent sends h =
 
 -- ---- the first half ----
 
-time_is : (s : State) (t : Past) (m : ℕ) → Holds s t → time_of s.published s.sent m ≡ published t m
+time_is : (s : State) (t : Past) (m : ℕ) → Holds s t → time_of s.published s.sent m ≡ next_time t m
 time_is s t m h =
     let first : first_sent s.sent ≡ first_sending t.removed t.sends = sym h.sends.first ∙ ap (λ n. first_sending n t.sends) h.removed in
     ap (λ (c : ℕ × Option ℕ). if nat_lt c.0 (2 ^ 32 - 1) then time_since c.1 m else None) (λ i. (h.count i, first i))
 
-counted_is : (o : Option ℕ) (times : List ℕ) (n : ℕ) → n ≡ length times → counted o n ≡ length (times ++ listed o)
+counted_is : (o : Option ℕ) (times : List ℕ) (n : ℕ) → n ≡ length times → counted o n ≡ length (times ++ option_to_list o)
 counted_is None times n e = e ∙ ap length (sym (append-nil times))
 counted_is (Some x) times n e = omega (arith, e, length-append times (x ∷ []))
 
 wants_is : (s : State) (t : Past) → Holds s t → wants_of s.removed s.hand ≡ wants t
-wants_is s t h = ap (λ (c : ℕ × Option Item). not (is_full c.1) && nat_lt c.0 (2 ^ 48)) (λ i. (h.removed i, h.hand i))
+wants_is s t h = ap (λ (c : ℕ × Option Item). not (is_some c.1) && nat_lt c.0 (2 ^ 48)) (λ i. (h.removed i, h.hand i))
 
 removed_holds : (s : State) (t : Past) (m : ℕ) (a : Bool) → Holds s t → Holds (before Remove s m a) (begun Remove t m)
 removed_holds s t m a h = record {
   removed = ap (λ n. n + 1) h.removed;
   hand = refl;
-  count = counted_is (time_of s.published s.sent m) t.times s.published h.count ∙ ap (λ o. length (t.times ++ listed o)) (time_is s t m h);
+  count = counted_is (time_of s.published s.sent m) t.times s.published h.count ∙ ap (λ o. length (t.times ++ option_to_list o)) (time_is s t m h);
   sends = next_unsent s.removed s.sent t.sends h.sends;
 }
 
@@ -138,7 +139,7 @@ item_last s (Some x) = refl
 sends_is : (resend : ℕ) (s : State) (t : Past) (a : Bool) (n m : ℕ) → n ≡ m → Holds s t → sends_of resend s a n ≡ is_sent resend a t m
 sends_is resend s t a n m last h =
     let late : last_sent s.sent ≡ last_sending t.removed t.sends = sym h.sends.last ∙ ap (λ n. last_sending n t.sends) h.removed in
-    ap (λ (c : Option Item × (Option ℕ × ℕ)). is_full c.0 && (a || is_due resend c.1.0 c.1.1)) (λ i. (h.hand i, (late i, last i)))
+    ap (λ (c : Option Item × (Option ℕ × ℕ)). is_some c.0 && (a || is_due resend c.1.0 c.1.1)) (λ i. (h.hand i, (late i, last i)))
 
 sends_after : (b : Bool) (s : State) (t : Past) (m : ℕ) → s.last ≡ m → Holds s t
     → HoldsSends s.removed (if b then sent_at s.sent s.last else s.sent) (if b then record { number = t.removed; moment = m } ∷ t.sends else t.sends)
@@ -175,6 +176,56 @@ finishes_from p q item look step = λ t m removed time a asks.
       },
       d.1 ∙ (λ i. record { removed = removed; published = time; sent = if sends i then Some (number i) else None }),
     )
+
+-- .. after the message that came is in the hand
+pub step_after : (resend resend' : ℕ) (s r q : State) (item : Option Item) (look : HighLook) → resend' ≡ resend → r ≡ with_item s item → StepFinishes resend' r q None look → StepFinishes resend s q item look
+step_after resend resend' s r q None look same e step = subst (λ (z : ℕ × State). StepFinishes z.0 z.1 q None look) (λ i. (same i, e i)) step
+step_after resend resend' s r q (Some x) look same e step = subst (λ (z : ℕ × State). StepFinishes z.0 z.1 q None look) (λ i. (same i, e i)) step
+
+-- the hand of an opening
+pub opened_hand : (hand : Option Item) (other : Item) (full : Bool) (x : Item) → full ≡ is_some hand → x ≡ unwrap_or hand other → hand_in full x ≡ hand
+opened_hand None other full x e is = ap (λ (b : Bool). hand_in b x) e
+opened_hand (Some y) other full x e is = (λ i. hand_in (e i) (is i))
+
+-- ---- what a refusal says ----
+
+chosen_device : (b c : Bool) (n expected faults : ℕ) → cond b Keep (cond c (Refuse (Ahead n expected)) Remove) ≡ Refuse (Device faults) → ⊥
+chosen_device true c n expected faults e = absurd (cc)
+chosen_device false true n expected faults e = absurd (cc)
+chosen_device false false n expected faults e = absurd (cc)
+
+attach_device : (b z : Bool) (c removed faults : ℕ) (t : Task) → (t ≡ Refuse (Device faults) → ⊥) → cond b (Refuse (Behind c removed)) (cond z Keep t) ≡ Refuse (Device faults) → ⊥
+attach_device true z c removed faults t never e = absurd (cc)
+attach_device false true c removed faults t never e = absurd (cc)
+attach_device false false c removed faults t never e = never e
+
+in_device : (k : Kind) (n removed expected faults : ℕ) → task_in k n removed expected ≡ Refuse (Device faults) → ⊥
+in_device Taken n removed expected faults e = chosen_device (nat_lt n removed) (nat_le expected n) n expected faults e
+in_device Attach n removed expected faults e =
+    attach_device (nat_lt n removed) (n == 0) n removed faults (task_taken (n - 1) removed expected)
+    (chosen_device (nat_lt (n - 1) removed) (nat_le expected (n - 1)) (n - 1) expected faults) e
+in_device Hello n removed expected faults e = absurd (cc)
+in_device Welcome n removed expected faults e = absurd (cc)
+in_device Data n removed expected faults e = absurd (cc)
+in_device Ack n removed expected faults e = absurd (cc)
+in_device Refused n removed expected faults e = absurd (cc)
+
+of_session : (b : Bool) (t : Task) (faults : ℕ) → (t ≡ Refuse (Device faults) → ⊥) → cond b t Keep ≡ Refuse (Device faults) → ⊥
+of_session true t faults never e = never e
+of_session false t faults never e = absurd (cc)
+
+-- no frame is refused with a device fault
+pub never_device : (session removed : ℕ) (hand : Option Item) (frame : Option Frame) (task : Task) → task ≡ task_of session removed hand frame → (faults : ℕ) → task ≡ Refuse (Device faults) → ⊥
+never_device session removed hand None task is faults e = let no = sym is ∙ e in absurd (cc)
+never_device session removed hand (Some f) task is faults e =
+    of_session (f.session == session) (task_in f.kind f.number removed (expected removed hand)) faults
+    (in_device f.kind f.number removed (expected removed hand) faults) (sym is ∙ e)
+
+-- so a refusal changes nothing
+pub refused : (task : Task) (fault : HighFault) (p : HighProcess) (m : ℕ) → task ≡ Refuse fault → ((faults : ℕ) → task ≡ Refuse (Device faults) → ⊥) → IsAfter fault p p m
+refused task (Device faults) p m e never = absurd (never faults e)
+refused task (Ahead n next) p m e never = refl
+refused task (Behind c removed) p m e never = refl
 
 -- ---- what a removal wants ----
 
@@ -220,32 +271,36 @@ back_in Data n removed expected le e = absurd (cc)
 back_in Ack n removed expected le e = absurd (cc)
 back_in Refused n removed expected le e = absurd (cc)
 
-pub expected_near : (removed : ℕ) (hand : Option Item) → expected_of removed hand ≤ removed + 1
+pub expected_near : (removed : ℕ) (hand : Option Item) → expected removed hand ≤ removed + 1
 expected_near removed None = omega arith
 expected_near removed (Some x) = omega arith
 
-full_hand : (removed : ℕ) (hand : Option Item) → removed < expected_of removed hand → is_full hand ≡ true
+full_hand : (removed : ℕ) (hand : Option Item) → removed < expected removed hand → is_some hand ≡ true
 full_hand removed None lt = absurd (omega (arith, lt))
 full_hand removed (Some x) lt = refl
 
 pub record Removal (session removed : ℕ) (hand : Option Item) (frame : Option Frame) : Type 0 where
-  pub full : is_full hand ≡ true
+  pub full : is_some hand ≡ true
   pub given : GivenBack session removed frame
 
 -- a removal is that of the message in the hand, which was given back
 pub removal : (session removed : ℕ) (hand : Option Item) (frame : Option Frame) → task_of session removed hand frame ≡ Remove → Removal session removed hand frame
 removal session removed hand None e = absurd (cc)
 removal session removed hand (Some f) e =
-    let m = mine (f.session == session) (task_in f.kind f.number removed (expected_of removed hand)) e in
-    let b = back_in f.kind f.number removed (expected_of removed hand) (expected_near removed hand) m.1 in
+    let m = mine (f.session == session) (task_in f.kind f.number removed (expected removed hand)) e in
+    let b = back_in f.kind f.number removed (expected removed hand) (expected_near removed hand) m.1 in
     record { full = full_hand removed hand b.more; given = (eqb-true f.session session m.0, b.given) }
 
-below_in : (removed : ℕ) (hand : Option Item) → IfSome hand (λ x. (x.number ≡ removed) × (removed < 2 ^ 48)) → is_full hand ≡ true → removed < 2 ^ 48
+below_in : (removed : ℕ) (hand : Option Item) → IfSome hand (λ x. (x.number ≡ removed) × (removed < 2 ^ 48)) → is_some hand ≡ true → removed < 2 ^ 48
 below_in removed None h e = absurd (cc)
 below_in removed (Some x) h e = h.1
 
-pub below : (p : HighProcess) (frame : Option Frame) (task : Task) → task ≡ task_of p.row.id p.removed p.hand frame → task ≡ Remove → p.removed < 2 ^ 48
-below p frame task is e = let r = removal p.row.id p.removed p.hand frame (sym is ∙ e) in below_in p.removed p.hand p.in_hand r.full
+pub hand_holds : (removed : ℕ) (full : Bool) (x : Item) → (full ≡ true → (x.number ≡ removed) × (removed < 2 ^ 48)) → IfSome (hand_in full x) (λ y. (y.number ≡ removed) × (removed < 2 ^ 48))
+hand_holds removed true x h = h refl
+hand_holds removed false x h = tt
+
+pub below : (p : HighProcess) (frame : Option Frame) (task : Task) → task ≡ task_of p.row.id p.removed (hand_of p) frame → task ≡ Remove → p.removed < 2 ^ 48
+below p frame task is e = let r = removal p.row.id p.removed (hand_of p) frame (sym is ∙ e) in below_in p.removed (hand_of p) (hand_holds p.removed p.is_full p.hand p.in_hand) r.full
 
 -- ---- what is published ----
 
@@ -272,34 +327,34 @@ pub begins_all : (p q : HighProcess) (m : ℕ) (task task' : Task) (a a' : Bool)
 begins_all p q m task task' a a' (Err e) same same' h = tt
 begins_all p q m task task' a a' (Ok ask) same same' h = subst (λ (t : Task × Bool). Begins p q m t.0 t.1 ask) (λ i. (same i, same' i)) (begins_from p q m task a ask h)
 
-wanted_keep : (removed : ℕ) (hand : Option Item) → wants_of removed hand ≡ true → removed ≡ expected_of removed hand
+wanted_keep : (removed : ℕ) (hand : Option Item) → wants_of removed hand ≡ true → removed ≡ expected removed hand
 wanted_keep removed None e = refl
 wanted_keep removed (Some x) e = absurd (cc)
 
-wanted_remove : (removed : ℕ) (hand : Option Item) → is_full hand ≡ true → removed + 1 ≡ expected_of removed hand
+wanted_remove : (removed : ℕ) (hand : Option Item) → is_some hand ≡ true → removed + 1 ≡ expected removed hand
 wanted_remove removed None e = absurd (cc)
 wanted_remove removed (Some x) e = refl
 
-asked : (p q : HighProcess) (frame : Option Frame) (m : ℕ) (task : Task) (a : Bool) (ask : HighAsk) → task ≡ task_of p.row.id p.removed p.hand frame → StepBegins (state_of p) (state_of q) m task a ask → Asked p q ask
+asked : (p q : HighProcess) (frame : Option Frame) (m : ℕ) (task : Task) (a : Bool) (ask : HighAsk) → task ≡ task_of p.row.id p.removed (hand_of p) frame → StepBegins (state_of p) (state_of q) m task a ask → Asked p q ask
 asked p q frame m (Refuse e) a ask is step = absurd step
 asked p q frame m Keep a ask is (now, asks') = record {
-  asking = record { removed = None; published = None; attaches = a; wants = wants_of p.removed p.hand };
+  asking = record { removed = None; published = None; attaches = a; wants = wants_of p.removed (hand_of p) };
   asks = ap (λ (r : State). r.asking) now;
   wants = sym (ap (λ (r : HighAsk). r.wants) asks');
-  floor = λ e. ap (λ (r : HighAsk). r.removed) asks' ∙ wanted_keep p.removed p.hand (sym (ap (λ (r : HighAsk). r.wants) asks') ∙ e);
+  floor = λ e. ap (λ (r : HighAsk). r.removed) asks' ∙ wanted_keep p.removed (hand_of p) (sym (ap (λ (r : HighAsk). r.wants) asks') ∙ e);
   publish = small_publish p q m Keep a ask (now, asks');
 }
 asked p q frame m Remove a ask is (now, asks') =
-    let r = removal p.row.id p.removed p.hand frame (sym is) in
+    let r = removal p.row.id p.removed (hand_of p) frame (sym is) in
     record {
       asking = record { removed = Some p.removed; published = time_of p.published p.sent m; attaches = a; wants = wants_of (p.removed + 1) None };
       asks = ap (λ (r : State). r.asking) now;
       wants = sym (ap (λ (r : HighAsk). r.wants) asks');
-      floor = λ e. ap (λ (r : HighAsk). r.removed) asks' ∙ wanted_remove p.removed p.hand r.full;
+      floor = λ e. ap (λ (r : HighAsk). r.removed) asks' ∙ wanted_remove p.removed (hand_of p) r.full;
       publish = small_publish p q m Remove a ask (now, asks');
     }
 
-pub asked_all : (p q : HighProcess) (frame : Option Frame) (m : ℕ) (task : Task) (a : Bool) (r : Result HighAsk HighFault) → task ≡ task_of p.row.id p.removed p.hand frame → IfOk r (λ ask. StepBegins (state_of p) (state_of q) m task a ask) → IfOk r (Asked p q)
+pub asked_all : (p q : HighProcess) (frame : Option Frame) (m : ℕ) (task : Task) (a : Bool) (r : Result HighAsk HighFault) → task ≡ task_of p.row.id p.removed (hand_of p) frame → IfOk r (λ ask. StepBegins (state_of p) (state_of q) m task a ask) → IfOk r (Asked p q)
 asked_all p q frame m task a (Err e) is h = tt
 asked_all p q frame m task a (Ok ask) is h = asked p q frame m task a ask is h
 

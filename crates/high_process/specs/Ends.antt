@@ -3,7 +3,7 @@ use Rattle.std.specs.Prelude.{◌≡◌, ℕ, ◌-◌, ◌^◌, ◌<◌, ◌≤�
 use Rattle.pump_frame.specs.declared.frame.Item.{Item}
 use Rattle.pump_core.specs.Passage.{Shape, Low, High, publishes, Gives, GivesNone}
 use Rattle.high_process.specs.declared.process.HighProcess.{HighProcess}
-use Rattle.high_process.specs.Tasks.{expected_of}
+use Rattle.pump_core.specs.Sendings.{expected}
 use Rattle.high_process.specs.States.{removed_of, hand_of, published_of}
 
 -- a time that may be published, where so many were
@@ -25,7 +25,7 @@ Takes s exact after l h false removed got = (got ≡ None) × after l h
 -- the one in the hand
 pub record FitsEnd (p : HighProcess) (h : High) : Type 0 where
   pub count : length h.times ≡ published_of p
-  pub floor : h.floor ≤ expected_of (removed_of p) (hand_of p)
+  pub floor : h.floor ≤ expected (removed_of p) (hand_of p)
 
 -- the end stands for this, and fits the process
 abbrev pub StandsFitting : (Low → High → Type 0) → HighProcess → Low → High → Type 0

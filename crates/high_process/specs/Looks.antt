@@ -8,9 +8,9 @@ use Rattle.high_process.specs.declared.values.Asking.{Asking}
 use Rattle.high_process.specs.declared.values.Sent.{Sent}
 use Rattle.high_process.specs.declared.values.Task.{Task}
 use Rattle.high_process.specs.declared.process.HighProcess.{HighProcess}
-use Rattle.high_process.specs.Tasks.{expected_of}
-use Rattle.high_process.specs.Past.{Past, Sending, last_sending, first_sending, begun, removed_in, published_in, wants, taken_up, finished, sent_in}
-use Rattle.high_process.specs.States.{State, state_of, first_sent, last_sent}
+use Rattle.pump_core.specs.Sendings.{Sending, last_sending, first_sending, expected}
+use Rattle.high_process.specs.Past.{Past, begun, removed_in, published_in, wants, taken_up, finished, sent_in}
+use Rattle.high_process.specs.States.{State, state_of, removed_of, hand_of, first_sent, last_sent}
 use Rattle.high_process.specs.Ends.{IsTime, told_time, Takes}
 
 -- the message in the hand of an opening is the next one
@@ -54,6 +54,10 @@ Finishes p q item look = (t : Past) (m : ℕ) (removed published : Option ℕ) (
     Stands q (finished p.row.resend attaches (taken_up t item) m)
     × (look ≡ record { removed = removed; published = published; sent = sent_in p.row.resend attaches (taken_up t item) m })
 
+-- the process asks for just what `ask` wants
+abbrev pub AsksJust : HighProcess → HighAsk → Type 0
+AsksJust p ask = (a : Asking) × (p.asking ≡ Some a) × (a.wants ≡ ask.wants)
+
 -- the process asks, and a message that comes is wanted
 abbrev pub TakesItem : HighProcess → Option Item → Type 0
 TakesItem p item = (a : Asking) × (p.asking ≡ Some a) × (IsSome item → a.wants ≡ true)
@@ -64,7 +68,7 @@ pub record Asked (p q : HighProcess) (ask : HighAsk) : Type 0 where
   pub asking : Asking
   pub asks : q.asking ≡ Some asking
   pub wants : asking.wants ≡ ask.wants
-  pub floor : ask.wants ≡ true → ask.removed ≡ expected_of p.removed p.hand
+  pub floor : ask.wants ≡ true → ask.removed ≡ expected (removed_of p) (hand_of p)
   pub publish : IfSome ask.publish (IsTime p.published)
 
 -- a look: what the process and its end stood for, they stand for after it with its steps. `after` is

@@ -1,5 +1,5 @@
 -- What a high process holds.
-use Rattle.std.specs.Prelude.{◌≡◌, ℕ, Bool, Option, Some, None}
+use Rattle.std.specs.Prelude.{◌≡◌, ℕ, Bool, true, false, Option, Some, None}
 use Rattle.pump_frame.specs.declared.frame.Frame.{Frame}
 use Rattle.pump_frame.specs.declared.frame.Item.{Item}
 use Rattle.pump_frame.specs.declared.row.SessionRow.{SessionRow}
@@ -17,9 +17,14 @@ row_of p = p.row
 abbrev pub removed_of : HighProcess → ℕ
 removed_of p = p.removed
 
+-- a message, if it is in the hand
+abbrev pub hand_in : Bool → Item → Option Item
+hand_in true item = Some item
+hand_in false item = None
+
 -- the next message, if it was taken up
 abbrev pub hand_of : HighProcess → Option Item
-hand_of p = p.hand
+hand_of p = hand_in p.is_full p.hand
 
 -- how many times were published since the opening
 abbrev pub published_of : HighProcess → ℕ
@@ -39,7 +44,7 @@ IsBetweenLooks p = p.asking ≡ None
 
 -- what this frame, or none, asks of the process
 abbrev pub task_at : HighProcess → Option Frame → Task
-task_at p frame = task_of p.row.id p.removed p.hand frame
+task_at p frame = task_of p.row.id p.removed (hand_of p) frame
 
 -- a receiver of its session attaches
 abbrev pub attaches_at : HighProcess → Option Frame → Bool
@@ -67,7 +72,7 @@ pub record State : Type 0 where
 abbrev pub state_of : HighProcess → State
 state_of p = record {
   removed = p.removed;
-  hand = p.hand;
+  hand = hand_of p;
   sent = p.sent;
   published = p.published;
   last = p.last;

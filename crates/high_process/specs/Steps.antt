@@ -1,5 +1,5 @@
 -- The steps of a high process's code. Private clauses and proofs alone cite this.
-use Rattle.std.specs.Prelude.{◌≡◌, ℕ, ◌+◌, ◌-◌, ◌^◌, Bool, ◌&&◌, ◌||◌, not, nat_lt, if◌then◌else◌, Option, Some, None}
+use Rattle.std.specs.Prelude.{◌≡◌, ℕ, ◌+◌, ◌-◌, ◌^◌, Bool, ◌&&◌, ◌||◌, not, nat_lt, if◌then◌else◌, Option, Some, None, is_some}
 use Rattle.pump_frame.specs.declared.frame.Item.{Item}
 use Rattle.high_process.specs.declared.values.Sent.{Sent}
 use Rattle.high_process.specs.declared.values.Asking.{Asking}
@@ -7,9 +7,10 @@ use Rattle.high_process.specs.declared.values.Task.{Task}
 use Rattle.high_process.specs.declared.values.Task.TheVariants.{Refuse, Remove, Keep}
 use Rattle.high_process.specs.declared.values.HighAsk.{HighAsk}
 use Rattle.high_process.specs.declared.values.HighLook.{HighLook}
-use Rattle.high_process.specs.Tasks.{is_full}
-use Rattle.high_process.specs.Past.{time_since, is_due}
+use Rattle.pump_core.specs.Sendings.{time_since, is_due}
+use Rattle.pump_core.specs.Passage.{Shape, Low, High}
 use Rattle.high_process.specs.States.{State, first_sent, last_sent}
+use Rattle.high_process.specs.Ends.{told_time, Takes}
 
 -- the time that a removal publishes
 abbrev pub time_of : ℕ → Option Sent → ℕ → Option ℕ
@@ -26,7 +27,7 @@ without_hand s time = record s { removed = s.removed + 1; hand = None; sent = No
 
 -- the next message is wanted
 abbrev pub wants_of : ℕ → Option Item → Bool
-wants_of removed hand = not (is_full hand) && nat_lt removed (2 ^ 48)
+wants_of removed hand = not (is_some hand) && nat_lt removed (2 ^ 48)
 
 -- the message in the hand is due again
 abbrev pub is_late : ℕ → Option Sent → ℕ → Bool
@@ -34,7 +35,7 @@ is_late resend sent m = is_due resend (last_sent sent) m
 
 -- the message in the hand is sent
 abbrev pub sends_of : ℕ → State → Bool → ℕ → Bool
-sends_of resend s attaches m = is_full s.hand && (attaches || is_late resend s.sent m)
+sends_of resend s attaches m = is_some s.hand && (attaches || is_late resend s.sent m)
 
 -- the look is begun
 abbrev pub asks : State → ℕ → Option ℕ → Option ℕ → Bool → State
@@ -77,3 +78,9 @@ abbrev pub StepFinishes : ℕ → State → State → Option Item → HighLook �
 StepFinishes resend s q item look = (a : Asking) → s.asking ≡ Some a →
     (q ≡ after resend a.attaches (with_item s item))
     × (look ≡ record { removed = a.removed; published = a.published; sent = if sends_of resend (with_item s item) a.attaches s.last then Some s.removed else None })
+
+-- the process takes up what the end gives, if it wants a message. `after` is what the end stands for then
+pub record Fills (s : Shape) (exact : Bool) (stands after : Low → High → Type 0) (p q : State) (ask : HighAsk) : Type 0 where
+  pub got : Option Item
+  pub filled : q ≡ with_item p got
+  pub takes : (l : Low) (h : High) → stands l h → Takes s exact after l (told_time ask.publish h) ask.wants ask.removed got

@@ -8,11 +8,11 @@ use Rattle.pump_frame.specs.declared.frame.Frame.{Frame}
 use Rattle.pump_frame.specs.declared.frame.Kind.TheVariants.{Taken, Attach}
 use Rattle.pump_frame.specs.declared.row.SessionRow.{SessionRow}
 use Rattle.high_process.specs.declared.values.HighFault.{HighFault}
-use Rattle.high_process.specs.declared.values.HighFault.TheVariants.{Device}
+use Rattle.high_process.specs.declared.values.HighFault.TheVariants.{Device, Ahead, Behind}
 use Rattle.high_process.specs.declared.values.Task.{Task}
 use Rattle.high_process.specs.declared.values.Task.TheVariants.{Refuse, Remove, Keep}
 use Rattle.high_process.specs.declared.process.HighProcess.{HighProcess}
-use Rattle.high_process.specs.States.{row_of, removed_of, is_down}
+use Rattle.high_process.specs.States.{row_of, removed_of, hand_of, published_of, last_of, is_down}
 
 -- one message more is removed, or the device failed: a crash at any moment leaves the count from
 -- before, or one more; a store that failed is no longer open
@@ -47,3 +47,17 @@ abbrev pub LeavesCounted : {D : Type 0} → Meaning D → HighProcess → HighSt
 LeavesCounted m p old new frame =
     (row : SessionRow) → (m.tells → HighStands row (removed_of p) (m.reading (high_disk old)))
     → Leaves m (high_disk old) (high_disk new) (StandsOrRemoved row (row_of p).id (removed_of p) frame)
+
+-- what a fault leaves of the process: a refused frame changes nothing; after a device fault in a removal
+-- it is down, its count, its hand and the times published are as before, and the look was made
+pub record IsBroken (p q : HighProcess) (m : ℕ) : Type 0 where
+  pub down : is_down q ≡ true
+  pub removed : removed_of q ≡ removed_of p
+  pub hand : hand_of q ≡ hand_of p
+  pub published : published_of q ≡ published_of p
+  pub last : last_of q ≡ m
+
+abbrev pub IsAfter : HighFault → HighProcess → HighProcess → ℕ → Type 0
+IsAfter (Device faults) p q m = IsBroken p q m
+IsAfter (Ahead number next) p q m = q ≡ p
+IsAfter (Behind count removed) p q m = q ≡ p

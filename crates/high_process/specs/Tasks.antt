@@ -4,6 +4,7 @@ use Rattle.std.specs.Borrow.{Bor}
 use Rattle.pump_frame.specs.declared.frame.Frame.{Frame}
 use Rattle.pump_frame.specs.declared.frame.Kind.{Kind}
 use Rattle.pump_frame.specs.declared.frame.Kind.TheVariants.{Taken, Attach}
+use Rattle.pump_core.specs.Sendings.{expected}
 use Rattle.high_process.specs.declared.values.HighFault.TheVariants.{Ahead, Behind}
 use Rattle.high_process.specs.declared.values.Task.{Task}
 use Rattle.high_process.specs.declared.values.Task.TheVariants.{Refuse, Remove, Keep}
@@ -12,11 +13,6 @@ use Rattle.high_process.specs.declared.values.Task.TheVariants.{Refuse, Remove, 
 abbrev pub frame_of : Option (Bor Frame) → Option Frame
 frame_of None = None
 frame_of (Some f) = Some f.now
-
--- a message is in the hand
-abbrev pub is_full : {X : Type 0} → Option X → Bool
-is_full None = false
-is_full (Some x) = true
 
 -- what a receiver asks that has the message n, where so many are removed and `expected` is the first
 -- number that was not sent: a removed one is ignored, and one that was not sent is refused
@@ -29,14 +25,10 @@ task_in Taken n removed expected = task_taken n removed expected
 task_in Attach c removed expected = if nat_lt c removed then Refuse (Behind c removed) else if c == 0 then Keep else task_taken (c - 1) removed expected
 task_in _ n removed expected = Keep
 
--- the first number that was not sent: one above that of the message in the hand, or the next one
-abbrev pub expected_of : {X : Type 0} → ℕ → Option X → ℕ
-expected_of removed hand = if is_full hand then removed + 1 else removed
-
 -- what a frame asks of a process with this session, count and hand; one of another session asks nothing
 abbrev pub task_of : {X : Type 0} → ℕ → ℕ → Option X → Option Frame → Task
 task_of session removed hand None = Keep
-task_of session removed hand (Some f) = if f.session == session then task_in f.kind f.number removed (expected_of removed hand) else Keep
+task_of session removed hand (Some f) = if f.session == session then task_in f.kind f.number removed (expected removed hand) else Keep
 
 -- the frame is an ATTACH
 abbrev pub is_attach : Kind → Bool

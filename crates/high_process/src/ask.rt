@@ -1,10 +1,11 @@
 // What a high look asks of the passage.
-ghost use Rattle.std.specs.Prelude.{◌≡◌, ◌≤◌, true, false, length, None, IfSome};
+ghost use Rattle.std.specs.Prelude.{◌≡◌, ◌≤◌, true, false, length, IfSome};
 ghost use Rattle.pump_core.specs.Passage.{Low, High};
+ghost use Rattle.high_process.specs.States.{hand_in};
 ghost use Rattle.high_process.specs.Ends.{IsTime, told_time, Takes};
 
 use crate::values::HighAsk;
-use passage::{HighEnd, Next};
+use passage::HighEnd;
 use pump_frame::Item;
 
 // Publishes the time, if there is one.
@@ -19,36 +20,36 @@ fn tell<H: HighEnd>(time: Option<u32>, ends: &mut H)
     }
 }
 
-// Takes up the next message, if it is wanted and there is one.
-fn take_up<H: HighEnd>(wants: bool, removed: u64, ends: &mut H) -> Option<Item>
+// Takes up the next message over what stands in `into`, if it is wanted and there is one.
+fn take_up<H: HighEnd>(wants: bool, removed: u64, ends: &mut H, into: &mut Item) -> bool
     requires { (l : Low) × (h : High) × H.stands ends.old l h × (wants ≡ true → h.floor ≤ removed) }
     ensures shape { H.shape ends.new ≡ H.shape ends.old }
     ensures place { H.place ends.new ≡ H.place ends.old }
-    ensures none { wants ≡ false → result ≡ None }
+    ensures none { wants ≡ false → result ≡ false }
+    ensures kept { result ≡ false → into.new ≡ into.old }
     ensures takes { (l : Low) (h : High) → H.stands ends.old l h
-        → Takes (H.shape ends.old) H.exact (H.stands ends.new) l h wants removed result }
+        → Takes (H.shape ends.old) H.exact (H.stands ends.new) l h wants removed (hand_in result into.new) }
 {
     if !wants {
-        return None;
+        return false;
     }
-    match ends.next(removed) {
-        Next::Got(item) => Some(item),
-        Next::Empty => None,
-    }
+    ends.next_into(removed, into)
 }
 
-// What a look wants of the passage.
-pub fn fetch<H: HighEnd>(ask: &HighAsk, ends: &mut H) -> Option<Item>
+// What a look wants of the passage: its time is published before the next message is taken up. True
+// where one came.
+pub fn fetch<H: HighEnd>(ask: &HighAsk, ends: &mut H, into: &mut Item) -> bool
     requires { (l : Low) × (h : High) × H.stands ends.old l h
         × IfSome ask.now.publish (IsTime (length h.times))
         × (ask.now.wants ≡ true → h.floor ≤ ask.now.removed) }
     ensures shape { H.shape ends.new ≡ H.shape ends.old }
     ensures place { H.place ends.new ≡ H.place ends.old }
-    ensures none { ask.now.wants ≡ false → result ≡ None }
+    ensures none { ask.now.wants ≡ false → result ≡ false }
+    ensures kept { result ≡ false → into.new ≡ into.old }
     ensures takes { (l : Low) (h : High) → H.stands ends.old l h
         → Takes (H.shape ends.old) H.exact (H.stands ends.new)
-        l (told_time ask.now.publish h) ask.now.wants ask.now.removed result }
+        l (told_time ask.now.publish h) ask.now.wants ask.now.removed (hand_in result into.new) }
 {
     tell(ask.publish, ends);
-    take_up(ask.wants, ask.removed, ends)
+    take_up(ask.wants, ask.removed, ends, into)
 }

@@ -1,15 +1,14 @@
-ghost use Rattle.std.specs.Prelude.{◌≡◌, ℕ, ◌^◌, ◌<◌, ◌≤◌, true, false, IfOk, OnOk, OnErr};
+ghost use Rattle.std.specs.Prelude.{◌≡◌, ℕ, ◌^◌, ◌<◌, ◌≤◌, true, false, IfSome, IfOk, IfErr, OnOk, OnErr};
 ghost use Rattle.stable_buffer.specs.High.{IsHighReady, high_count};
 ghost use Rattle.pump_core.specs.Passage.{Low, High};
 ghost use Rattle.high_process.specs.Tasks.{frame_of};
 ghost use Rattle.high_process.specs.Past.{Past};
 ghost use Rattle.high_process.specs.States.{row_of, removed_of, last_of, is_down, task_at, attaches_at, IsBetweenLooks};
-ghost use Rattle.high_process.specs.Storing.{Fares, LeavesCounted};
+ghost use Rattle.high_process.specs.Storing.{Fares, IsAfter, LeavesCounted};
 ghost use Rattle.high_process.specs.Ends.{StandsFitting};
 ghost use Rattle.high_process.specs.Looks.{Stands, Begins, Asked, Looked};
 
 use crate::HighProcess;
-use crate::ask::fetch;
 use crate::values::{HighAsk, HighFault, HighLook};
 use disk_model::Disk;
 use passage::HighEnd;
@@ -46,6 +45,8 @@ impl HighProcess {
         ensures count { OnOk result (high_count store.new ≡ removed_of self.new) }
         ensures up { OnOk result (is_down self.new ≡ false) }
         ensures between { OnErr result (IsBetweenLooks self.new) }
+        ensures last { OnOk result (last_of self.new ≡ moment) }
+        ensures fault { IfErr result (λ fault. IsAfter fault self.old self.new moment) }
         ensures row { row_of self.new ≡ row_of self.old }
     {
         let task = self.task(frame);
@@ -81,17 +82,20 @@ impl HighProcess {
             (task_at self.old (frame_of frame.entry)) (attaches_at self.old (frame_of frame.entry)) look) }
         ensures images { LeavesCounted D.told self.old store.old store.new (frame_of frame.entry) }
         ensures refused { OnErr result (ends.new ≡ ends.old) }
+        ensures fault { IfErr result (λ fault. IsAfter fault self.old self.new moment) }
+        ensures sent { IfOk result (λ look. IfSome look.sent (λ n. n ≡ removed_of self.new)) }
 
         ensures store { OnOk result (IsHighReady D.told store.new) }
         ensures count { OnOk result (high_count store.new ≡ removed_of self.new) }
         ensures up { OnOk result (is_down self.new ≡ false) }
         ensures between { IsBetweenLooks self.new }
+        ensures last { OnOk result (last_of self.new ≡ moment) }
         ensures row { row_of self.new ≡ row_of self.old }
         ensures shape { H.shape ends.new ≡ H.shape ends.old }
         ensures place { H.place ends.new ≡ H.place ends.old }
     {
         let ask = self.begin(moment, frame, store)?;
-        let item = fetch(&ask, ends);
-        Ok(self.finish(item))
+        self.take_up(&ask, ends);
+        Ok(self.send())
     }
 }

@@ -1,8 +1,10 @@
-ghost use Rattle.std.specs.Prelude.{◌≡◌, ℕ, ◌+◌, ◌-◌, ◌^◌, ◌<◌, ◌≤◌, Bool, true, false, length, Option, Some, None, IsSome, IfSome, IfOk, OnOk, OnErr, option_map};
+ghost use Rattle.std.specs.Prelude.{◌≡◌, ℕ, ◌+◌, ◌-◌, ◌^◌, ◌<◌, ◌≤◌, Bool, true, false, length, Option, Some, None, IsSome, IfSome, IfOk, IfErr, OnOk, OnErr, option_map};
 
+use crate::ask::fetch;
 use crate::task::task_for;
 use crate::values::{Asking, HighAsk, HighFault, HighLook, Sent, Task};
 use disk_model::Disk;
+use passage::HighEnd;
 use pump_frame::{Frame, Item, Kind, SessionRow};
 use stable_buffer::HighStore;
 
@@ -12,8 +14,9 @@ pub struct HighProcess {
     row: SessionRow,
     // How many messages are removed.
     removed: u64,
-    // The next message, if it was taken up.
-    hand: Option<Item>,
+    // The next message, where it was taken up: else what was in the hand before.
+    hand: Item,
+    is_full: bool,
     // Whether it was sent since the opening.
     sent: Option<Sent>,
     // How many times were published since the opening.
@@ -23,7 +26,7 @@ pub struct HighProcess {
     asking: Option<Asking>,
     is_down: bool,
     ghost in_range: { removed ≤ 2 ^ 48 },
-    ghost in_hand: { IfSome hand (λ x. (x.number ≡ removed) × (removed < 2 ^ 48)) } by { Prim.hlevel props },
+    ghost in_hand: { is_full ≡ true → (hand.number ≡ removed) × (removed < 2 ^ 48) },
     ghost in_asking: { IfSome asking (λ a. a.wants ≡ true → removed < 2 ^ 48) } by { Prim.hlevel props },
     ghost in_time: { last ≤ 2 ^ 62 },
     ghost sent_before: { IfSome sent (λ s. s.last ≤ 2 ^ 62) } by { Prim.hlevel props },
@@ -33,12 +36,14 @@ ghost use Rattle.std.proofs.Props.{props};
 
 impl HighProcess {
     ghost use Rattle.stable_buffer.specs.High.{IsHighReady, high_count};
-    ghost use Rattle.high_process.specs.Tasks.{frame_of, task_of, attaches_in};
+    ghost use Rattle.pump_core.specs.Passage.{Low, High};
+    ghost use Rattle.high_process.specs.Tasks.{frame_of};
     ghost use Rattle.high_process.specs.Past.{fresh};
-    ghost use Rattle.high_process.specs.States.{state_of, row_of, removed_of, hand_of, published_of, last_of, is_down, IsBetweenLooks};
-    ghost use Rattle.high_process.specs.Looks.{IsHand, Stands, Finishes, TakesItem};
-    ghost use Rattle.high_process.specs.Storing.{Fares};
-    ghost use Rattle.high_process.specs.Steps.{time_of, without_hand, wants_of, sends_of, StepBegins, StepFinishes};
+    ghost use Rattle.high_process.specs.States.{state_of, row_of, removed_of, hand_of, published_of, last_of, is_down, task_at, attaches_at, IsBetweenLooks};
+    ghost use Rattle.high_process.specs.Looks.{IsHand, Stands, Finishes, AsksJust, TakesItem};
+    ghost use Rattle.high_process.specs.Ends.{IsTime};
+    ghost use Rattle.high_process.specs.Storing.{Fares, Removing, IsAfter};
+    ghost use Rattle.high_process.specs.Steps.{time_of, without_hand, wants_of, asks, ask_of, with_item, sends_of, StepBegins, StepFinishes, Fills};
 
     /// The process of an opening: with the count that was found, at most 2^48, and the message that
     /// was found to be the next one, if any.
@@ -57,7 +62,8 @@ impl HighProcess {
         HighProcess {
             row: *row,
             removed,
-            hand,
+            is_full: hand.is_some(),
+            hand: hand.unwrap_or(Item::default()),
             sent: None,
             published: 0,
             last: 0,
@@ -68,9 +74,18 @@ impl HighProcess {
 
     /// The message that is sent until it is taken.
     pub fn hand(&self) -> Option<&Item>
-        ensures { option_map (λ item. item.now) result ≡ hand_of self.now }
+        ensures hand { option_map (λ item. item.now) result ≡ hand_of self.now }
+        ensures number { IfSome result (λ item. (item.now.number ≡ removed_of self.now)
+            × (item.now.number < 2 ^ 48)) }
     {
-        self.hand.as_ref()
+        if self.is_full { Some(&self.hand) } else { None }
+    }
+
+    /// The number of its session.
+    pub fn session(&self) -> u32
+        ensures { result ≡ (row_of self.now).id }
+    {
+        self.row.id
     }
 
     /// How many messages are removed.
@@ -96,9 +111,9 @@ impl HighProcess {
 
     // What a look with this frame is to do.
     pub(crate) fn task(&self, frame: Option<&Frame>) -> Task
-        ensures { result ≡ task_of self.now.row.id self.now.removed self.now.hand (frame_of frame.entry) }
+        ensures { result ≡ task_at self.now (frame_of frame.entry) }
     {
-        let expected = if self.hand.is_some() {
+        let expected = if self.is_full {
             self.removed + 1
         } else {
             self.removed
@@ -117,7 +132,7 @@ impl HighProcess {
 
     // Whether a receiver attaches.
     pub(crate) fn attaches(&self, frame: Option<&Frame>) -> bool
-        ensures { result ≡ attaches_in self.now.row.id (frame_of frame.entry) }
+        ensures { result ≡ attaches_at self.now (frame_of frame.entry) }
     {
         match frame {
             Some(frame) => frame.session == self.row.id && matches!(frame.kind, Kind::Attach),
@@ -149,7 +164,7 @@ impl HighProcess {
     {
         let time = self.time(moment);
         self.removed += 1;
-        self.hand = None;
+        self.is_full = false;
         self.sent = None;
         if time.is_some() {
             self.published += 1;
@@ -159,9 +174,65 @@ impl HighProcess {
 
     // Whether the next message is wanted.
     fn wants(&self) -> bool
-        ensures { result ≡ wants_of self.now.removed self.now.hand }
+        ensures { result ≡ wants_of self.now.removed (hand_of self.now) }
     {
-        self.hand.is_none() && self.removed < 1 << 48
+        !self.is_full && self.removed < 1 << 48
+    }
+
+    // Removes the message in the hand, and answers with the time that this publishes.
+    fn remove<D: Disk>(
+        &mut self,
+        moment: u64,
+        store: &mut HighStore<D>,
+    ) -> Result<Option<u32>, HighFault>
+        requires asking { self.old.asking ≡ None }
+        requires moment { moment ≤ 2 ^ 62 }
+        requires store { IsHighReady D.told store.old }
+        requires count { high_count store.old ≡ self.old.removed }
+        requires below { self.old.removed < 2 ^ 48 }
+        ensures row { self.new.row ≡ self.old.row }
+        ensures asking { self.new.asking ≡ None }
+        ensures removing { Removing D.told store.old store.new result }
+        ensures fault { IfErr result (λ fault. IsAfter fault self.old self.new moment) }
+        ensures state { IfOk result (λ time. (time ≡ time_of self.old.published self.old.sent moment)
+            × (state_of self.new ≡ without_hand (state_of self.old) time)) }
+    {
+        if let Err(device) = store.remove() {
+            self.is_down = true;
+            self.last = moment;
+            return Err(HighFault::Device {
+                faults: device.faults,
+            });
+        }
+        Ok(self.drop_hand(moment))
+    }
+
+    // The look at this moment is begun.
+    fn ask(
+        &mut self,
+        moment: u64,
+        removed: Option<u64>,
+        published: Option<u32>,
+        attaches: bool,
+    ) -> HighAsk
+        requires moment { moment ≤ 2 ^ 62 }
+        ensures row { self.new.row ≡ self.old.row }
+        ensures state { state_of self.new ≡ asks (state_of self.old) moment removed published attaches }
+        ensures ask { result ≡ ask_of (state_of self.old) published }
+    {
+        let wants = self.wants();
+        self.last = moment;
+        self.asking = Some(Asking {
+            removed,
+            published,
+            attaches,
+            wants,
+        });
+        HighAsk {
+            publish: published,
+            wants,
+            removed: self.removed,
+        }
     }
 
     // The first half of a look that is to do this.
@@ -177,43 +248,26 @@ impl HighProcess {
         requires store { IsHighReady D.told store.old }
         requires count { high_count store.old ≡ self.old.removed }
         requires below { task ≡ Task.Remove → self.old.removed < 2 ^ 48 }
+        requires refusal { (faults : ℕ) → task ≡ Task.Refuse (HighFault.Device faults) → ⊥ }
         ensures row { self.new.row ≡ self.old.row }
         ensures between { OnErr result (self.new.asking ≡ None) }
+        ensures last { OnOk result (self.new.last ≡ moment) }
+        ensures fault { IfErr result (λ fault. IsAfter fault self.old self.new moment) }
         ensures fares { Fares D.told task self.old self.new store.old store.new result }
         ensures store { OnOk result (IsHighReady D.told store.new) }
         ensures count { OnOk result (high_count store.new ≡ self.new.removed) }
         ensures up { OnOk result (self.new.is_down ≡ self.old.is_down) }
         ensures steps { IfOk result (λ ask. StepBegins (state_of self.old) (state_of self.new) moment task attaches ask) }
     {
-        let mut removed = None;
-        let mut published = None;
         match task {
-            Task::Refuse(fault) => return Err(fault),
-            Task::Keep => {}
+            Task::Refuse(fault) => Err(fault),
+            Task::Keep => Ok(self.ask(moment, None, None, attaches)),
             Task::Remove => {
-                removed = Some(self.removed);
-                if let Err(device) = store.remove() {
-                    self.is_down = true;
-                    return Err(HighFault::Device {
-                        faults: device.faults,
-                    });
-                }
-                published = self.drop_hand(moment);
+                let number = self.removed;
+                let time = self.remove(moment, store)?;
+                Ok(self.ask(moment, Some(number), time, attaches))
             }
         }
-        let wants = self.wants();
-        self.last = moment;
-        self.asking = Some(Asking {
-            removed,
-            published,
-            attaches,
-            wants,
-        });
-        Ok(HighAsk {
-            publish: published,
-            wants,
-            removed: self.removed,
-        })
     }
 
     // Whether the message in the hand is sent in this look.
@@ -224,28 +278,54 @@ impl HighProcess {
             None => true,
             Some(sent) => self.last >= sent.last + u64::from(self.row.resend),
         };
-        self.hand.is_some() && (attaches || is_due)
+        self.is_full && (attaches || is_due)
     }
 
-    // The second half of a look.
-    fn step_on(&mut self, item: Option<Item>) -> HighLook
+    // Takes up what the end gives into the hand, if a message is wanted, once the time is published.
+    pub(crate) fn take_up<H: HighEnd>(&mut self, ask: &HighAsk, ends: &mut H)
+        requires asking { AsksJust self.old ask.now }
+        requires ends { (l : Low) × (h : High) × H.stands ends.old l h
+            × IfSome ask.now.publish (IsTime (length h.times))
+            × (ask.now.wants ≡ true → h.floor ≤ ask.now.removed) }
+        ensures shape { H.shape ends.new ≡ H.shape ends.old }
+        ensures place { H.place ends.new ≡ H.place ends.old }
+        ensures row { self.new.row ≡ self.old.row }
+        ensures fills { Fills (H.shape ends.old) H.exact (H.stands ends.old) (H.stands ends.new)
+            (state_of self.old) (state_of self.new) ask.now }
+    {
+        if fetch(ask, ends, &mut self.hand) {
+            self.hand.number = self.removed;
+            self.is_full = true;
+        }
+    }
+
+    // Puts the message that came into the hand.
+    fn put(&mut self, item: Option<Item>)
         requires asking { TakesItem self.old item }
+        ensures row { self.new.row ≡ self.old.row }
+        ensures state { state_of self.new ≡ with_item (state_of self.old) item }
+    {
+        if let Some(item) = item {
+            self.hand.number = self.removed;
+            self.hand.payload = item.payload;
+            self.is_full = true;
+        }
+    }
+
+    // Sends the message in the hand, if it is to be sent, and ends the look.
+    pub(crate) fn send(&mut self) -> HighLook
+        requires asking { (a : Asking) × (self.old.asking ≡ Some a) }
         ensures row { self.new.row ≡ self.old.row }
         ensures up { self.new.is_down ≡ self.old.is_down }
         ensures between { self.new.asking ≡ None }
         ensures removed { self.new.removed ≡ self.old.removed }
         ensures last { self.new.last ≡ self.old.last }
-        ensures steps { StepFinishes self.old.row.resend (state_of self.old) (state_of self.new) item result }
+        ensures sent { IfSome result.sent (λ n. n ≡ self.new.removed) }
+        ensures steps { StepFinishes self.old.row.resend (state_of self.old) (state_of self.new) None result }
     {
         let Some(asking) = self.asking else {
             unreachable!();
         };
-        if let Some(item) = item {
-            self.hand = Some(Item {
-                number: self.removed,
-                payload: item.payload,
-            });
-        }
         self.asking = None;
         let mut number = None;
         if self.sends(asking.attaches) {
@@ -275,8 +355,10 @@ impl HighProcess {
         ensures removed { removed_of self.new ≡ removed_of self.old }
         ensures last { last_of self.new ≡ last_of self.old }
         ensures up { is_down self.new ≡ is_down self.old }
+        ensures sent { IfSome result.sent (λ n. n ≡ removed_of self.new) }
         ensures row { row_of self.new ≡ row_of self.old }
     {
-        self.step_on(item)
+        self.put(item);
+        self.send()
     }
 }

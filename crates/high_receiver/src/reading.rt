@@ -1,6 +1,7 @@
 // How the records of a receiver's disk are read.
 ghost use Rattle.std.specs.Prelude.{◌≡◌, ◌≤◌, ◌<◌, ◌+◌, ◌^◌, ℕ, List, [], Some, true, false, length, take, drop, slice_index_or, IsOk, IsErr, IfOk, OnOk, OnErr, IfErr};
-ghost use Rattle.disk_model.specs.Disk.{Moves, Same, Rose, Answers};
+ghost use Rattle.pump_frame.specs.Counts.{Rose};
+ghost use Rattle.disk_model.specs.Disk.{Moves, Same, Answers};
 ghost use Rattle.stable_buffer.specs.Numbers.{length_at};
 ghost use Rattle.stable_buffer.specs.Register.{IsReady, register_disk, register_value};
 ghost use Rattle.high_receiver.specs.Records.{RecordsFrom, HasSome, HasMore};

@@ -32,11 +32,11 @@ abbrev is_down_at : phases.Phase → Bool
 is_down_at phases.Down = true
 is_down_at _ = false
 
-down_at : (ph : Phase) → is_down_at (phase_of ph) ≡ is_down_in ph
-down_at Idle = refl
-down_at (Passing item owed) = refl
-down_at (Waiting k at') = refl
-down_at Down = refl
+down_at : (ph : Phase) (hand : ℕ) → is_down_at (phase_of ph hand) ≡ is_down_in ph
+down_at Idle hand = refl
+down_at (Passing owed) hand = refl
+down_at (Waiting n at') hand = refl
+down_at Down hand = refl
 
 -- ---- the count ----
 
@@ -81,12 +81,12 @@ module _ (row : SessionRow) (n : ℕ) (g : Bool) (x : Look) where
       (at n (cond (is_hello f.kind) (permits_frame row f) g) phases.Idle)
       n (not_repeat row (record { count = 0; is_held = false }) n g f) refl refl refl refl refl refl refl refl
 
-  tied : (ph : Phase) → Tied n (is_down_in ph) (wants_in row n g ph x.arrival) x.is_fault (after row (at n g (phase_of ph)) x)
-  tied Idle = tied_idle x.arrival
-  tied Down = record { none = λ _. refl; one = λ f. absurd (cc); lost = λ _. refl; falls = refl }
-  tied (Waiting k at') = stays_tied n x.is_fault _ (two (is_gone x.arrival) (nat_le at' x.moment) (at n false phases.Idle) (at n g phases.Idle) (at n g (phases.Waiting k at')) n (record { next = refl; up = refl }) (record { next = refl; up = refl }) (record { next = refl; up = refl }))
-  tied (Passing item owed) =
-      let number : Option ℕ = if owed then Some item.number else None in
+  tied : (ph : Phase) (hand : ℕ) → Tied n (is_down_in ph) (wants_in row n g ph x.arrival) x.is_fault (after row (at n g (phase_of ph hand)) x)
+  tied Idle hand = tied_idle x.arrival
+  tied Down hand = record { none = λ _. refl; one = λ f. absurd (cc); lost = λ _. refl; falls = refl }
+  tied (Waiting k at') hand = stays_tied n x.is_fault _ (two (is_gone x.arrival) (nat_le at' x.moment) (at n false phases.Idle) (at n g phases.Idle) (at n g (phases.Waiting k at')) n (record { next = refl; up = refl }) (record { next = refl; up = refl }) (record { next = refl; up = refl }))
+  tied (Passing owed) hand =
+      let number : Option ℕ = if owed then Some hand else None in
       stays_tied n x.is_fault _ (two (is_gone x.arrival) (is_full x.feedback) (at n false (phases.Passing None)) (at n g (phases.Passing number)) (at n g (passed row x number)) n (record { next = refl; up = refl }) (record { next = refl; up = refl }) (record { next = refl; up = passed_up row x number }))
 
 -- a repeat begins no store
@@ -96,27 +96,27 @@ not_next row n g f r = elim (is_next row n g f) as (λ b. is_next row n g f ≡ 
   | false ↦ λ e. e
 ] refl
 
-repeat_wants : (row : SessionRow) (n : ℕ) (g : Bool) (ph : Phase) (a : Arrival) → phase_of ph ≡ phases.Idle → IsFrame (is_repeat row n g) a → wants_in row n g ph a ≡ false
-repeat_wants row n g Idle (Came f) e h = not_next row n g f h
-repeat_wants row n g Idle Nothing e h = absurd h
-repeat_wants row n g Idle Bad e h = absurd h
-repeat_wants row n g Idle Gone e h = absurd h
-repeat_wants row n g Down a e h = refl
-repeat_wants row n g (Waiting k at') a e h = refl
-repeat_wants row n g (Passing item owed) a e h = refl
+repeat_wants : (row : SessionRow) (n : ℕ) (g : Bool) (ph : Phase) (hand : ℕ) (a : Arrival) → phase_of ph hand ≡ phases.Idle → IsFrame (is_repeat row n g) a → wants_in row n g ph a ≡ false
+repeat_wants row n g Idle hand (Came f) e h = not_next row n g f h
+repeat_wants row n g Idle hand Nothing e h = absurd h
+repeat_wants row n g Idle hand Bad e h = absurd h
+repeat_wants row n g Idle hand Gone e h = absurd h
+repeat_wants row n g Down hand a e h = refl
+repeat_wants row n g (Waiting k at') hand a e h = refl
+repeat_wants row n g (Passing owed) hand a e h = refl
 
-passing_wants : (row : SessionRow) (n : ℕ) (g : Bool) (ph : Phase) (owed : Option ℕ) (a : Arrival) → phase_of ph ≡ phases.Passing owed → wants_in row n g ph a ≡ false
-passing_wants row n g Idle owed a e = absurd (cc)
-passing_wants row n g Down owed a e = refl
-passing_wants row n g (Waiting k at') owed a e = refl
-passing_wants row n g (Passing item o) owed a e = refl
+passing_wants : (row : SessionRow) (n : ℕ) (g : Bool) (ph : Phase) (hand : ℕ) (owed : Option ℕ) (a : Arrival) → phase_of ph hand ≡ phases.Passing owed → wants_in row n g ph a ≡ false
+passing_wants row n g Idle hand owed a e = absurd (cc)
+passing_wants row n g Down hand owed a e = refl
+passing_wants row n g (Waiting k at') hand owed a e = refl
+passing_wants row n g (Passing o) hand owed a e = refl
 
 asks_tied : (p q : LowProcess) (w d : Bool) → state_of q ≡ state_of p → w ≡ false → Tied p.next (is_down p) w d (state_of q)
 asks_tied p q w d same none = record {
   none = λ _. ap (λ t. t.next) same;
   one = λ f. absurd (cc);
   lost = λ _. ap (λ t. t.next) same;
-  falls = ap (λ (t : State). is_down_at t.phase) same ∙ down_at p.phase ∙ or_none (is_down p) w d none;
+  falls = ap (λ (t : State). is_down_at t.phase) same ∙ down_at p.phase p.hand.number ∙ or_none (is_down p) w d none;
 }
   where
     or_none : (b c e : Bool) → c ≡ false → b ≡ (b || (c && e))
@@ -127,9 +127,9 @@ asks_tied p q w d same none = record {
 -- the first half of a look
 begin_tied : (p q : LowProcess) (m w : ℕ) (a : Arrival) (d : Bool) (r : Ask) → StepBegins p q m w a d r → Tied p.next (is_down p) (wants p a) d (state_of q)
 begin_tied p q m w a d (Done l) step =
-    subst (Tied p.next (is_down p) (wants p a) d) (sym step.1.state) (tied p.row p.next p.greeted (look_of m w a d l.feedback) p.phase)
-begin_tied p q m w a d (Forward item) step = asks_tied p q (wants p a) d step.1 (passing_wants p.row p.next p.greeted p.phase step.2.0.0 a step.2.0.1)
-begin_tied p q m w a d Average step = asks_tied p q (wants p a) d step.0 (repeat_wants p.row p.next p.greeted p.phase a step.1.2.0 step.1.2.1)
+    subst (Tied p.next (is_down p) (wants p a) d) (sym step.1.state) (tied p.row p.next p.greeted (look_of m w a d l.feedback) p.phase p.hand.number)
+begin_tied p q m w a d (Forward item) step = asks_tied p q (wants p a) d step.1 (passing_wants p.row p.next p.greeted p.phase p.hand.number step.2.0.0 a step.2.0.1)
+begin_tied p q m w a d Average step = asks_tied p q (wants p a) d step.0 (repeat_wants p.row p.next p.greeted p.phase p.hand.number a step.1.2.0 step.1.2.1)
 
 -- the count, and whether the process is down, after the first half
 pub record Begun (p q : LowProcess) (a : Arrival) (d : Bool) : Type 0 where
@@ -139,7 +139,7 @@ pub record Begun (p q : LowProcess) (a : Arrival) (d : Bool) : Type 0 where
   pub falls : is_down q ≡ (is_down p || (wants p a && d))
 
 pub begun_so : (p q : LowProcess) (m w : ℕ) (a : Arrival) (d : Bool) (r : Ask) → StepBegins p q m w a d r → Begun p q a d
-begun_so p q m w a d r step = let t = begin_tied p q m w a d r step in record { none = t.none; one = t.one; lost = t.lost; falls = sym (down_at q.phase) ∙ t.falls }
+begun_so p q m w a d r step = let t = begin_tied p q m w a d r step in record { none = t.none; one = t.one; lost = t.lost; falls = sym (down_at q.phase q.hand.number) ∙ t.falls }
 
 -- ---- the replies ----
 
@@ -226,13 +226,13 @@ waited row true c k j n at' g lt e = absurd (cc)
 waited row false false k j n at' g lt e = absurd (cc)
 waited row false true k j n at' g lt e = let same : k ≡ j = ap number_of e in record { below = omega (arith, lt, same); next = refl; up = refl }
 
-acknowledges : (row : SessionRow) (n : ℕ) (g : Bool) (ph : Phase) (x : Look) (j : ℕ) → IsTrue (is_hand_of n ph) → reply_at row (at n g (phase_of ph)) x ≡ Some (acknowledgement row j) → Acknowledges j n (after row (at n g (phase_of ph)) x)
-acknowledges row n g Idle x j h e =
+acknowledges : (row : SessionRow) (n : ℕ) (g : Bool) (ph : Phase) (hand : ℕ) (x : Look) (j : ℕ) → IsTrue (is_hand_of n ph hand) → reply_at row (at n g (phase_of ph hand)) x ≡ Some (acknowledgement row j) → Acknowledges j n (after row (at n g (phase_of ph hand)) x)
+acknowledges row n g Idle hand x j h e =
     let no : is_ack (reply_idle row (at n g phases.Idle) x x.arrival) ≡ false = (idly_replies row n g x x.arrival).no_ack in
     let yes : is_ack (reply_idle row (at n g phases.Idle) x x.arrival) ≡ true = ap is_ack e in absurd (cc)
-acknowledges row n g Down x j h e = absurd (cc)
-acknowledges row n g (Passing item owed) x j h e = absurd (cc)
-acknowledges row n g (Waiting k at') x j h e = waited row (is_gone x.arrival) (nat_le at' x.moment) k j n at' g (ltb-true k n h) e
+acknowledges row n g Down hand x j h e = absurd (cc)
+acknowledges row n g (Passing owed) hand x j h e = absurd (cc)
+acknowledges row n g (Waiting k at') hand x j h e = waited row (is_gone x.arrival) (nat_le at' x.moment) k j n at' g (ltb-true k n h) e
 
 -- an acknowledgement of the first half of a look
 pub acknowledges_so : (p q : LowProcess) (m w : ℕ) (a : Arrival) (d : Bool) (r : Ask) (j : ℕ) → StepBegins p q m w a d r → reply_in r ≡ Some (acknowledgement p.row j) → (j < q.next) × (is_down q ≡ false)
@@ -240,34 +240,34 @@ acknowledges_so p q m w a d (Forward item) j step e = absurd (cc)
 acknowledges_so p q m w a d Average j step e = absurd (cc)
 acknowledges_so p q m w a d (Done l) j step e =
     let s = step.1 in
-    let k = acknowledges p.row p.next p.greeted p.phase (look_of m w a d l.feedback) j p.in_hand (sym s.reply ∙ e) in
-    (omega (arith, k.below, k.next, ap (λ (t : State). t.next) s.state), sym (down_at q.phase) ∙ ap (λ (t : State). is_down_at t.phase) s.state ∙ k.up)
+    let k = acknowledges p.row p.next p.greeted p.phase p.hand.number (look_of m w a d l.feedback) j p.in_hand (sym s.reply ∙ e) in
+    (omega (arith, k.below, k.next, ap (λ (t : State). t.next) s.state), sym (down_at q.phase q.hand.number) ∙ ap (λ (t : State). is_down_at t.phase) s.state ∙ k.up)
 
 waiting_five : (row : SessionRow) (b c d : Bool) (k : ℕ) → cond b None (cond c (Some (acknowledgement row k)) None) ≡ Some (refusal row 5 0) → d ≡ true
 waiting_five row true c d k e = absurd (cc)
 waiting_five row false true d k e = let no : is_ack (Some (acknowledgement row k)) ≡ is_ack (Some (refusal row 5 0)) = ap is_ack e in absurd (cc)
 waiting_five row false false d k e = absurd (cc)
 
-fives : (row : SessionRow) (n : ℕ) (g : Bool) (ph : Phase) (x : Look) → reply_at row (at n g (phase_of ph)) x ≡ Some (refusal row 5 0) → x.is_fault ≡ true
-fives row n g Idle x e = (idly_replies row n g x x.arrival).five (ap code_of e)
-fives row n g Down x e = absurd (cc)
-fives row n g (Passing item owed) x e = absurd (cc)
-fives row n g (Waiting k at') x e = waiting_five row (is_gone x.arrival) (nat_le at' x.moment) x.is_fault k e
+fives : (row : SessionRow) (n : ℕ) (g : Bool) (ph : Phase) (hand : ℕ) (x : Look) → reply_at row (at n g (phase_of ph hand)) x ≡ Some (refusal row 5 0) → x.is_fault ≡ true
+fives row n g Idle hand x e = (idly_replies row n g x x.arrival).five (ap code_of e)
+fives row n g Down hand x e = absurd (cc)
+fives row n g (Passing owed) hand x e = absurd (cc)
+fives row n g (Waiting k at') hand x e = waiting_five row (is_gone x.arrival) (nat_le at' x.moment) x.is_fault k e
 
 -- a refusal with code 5 in the first half of a look
 pub refuses_so : (p q : LowProcess) (m w : ℕ) (a : Arrival) (d : Bool) (r : Ask) → StepBegins p q m w a d r → reply_in r ≡ Some (refusal p.row 5 0) → d ≡ true
 refuses_so p q m w a d (Forward item) step e = absurd (cc)
 refuses_so p q m w a d Average step e = absurd (cc)
-refuses_so p q m w a d (Done l) step e = fives p.row p.next p.greeted p.phase (look_of m w a d l.feedback) (sym step.1.reply ∙ e)
+refuses_so p q m w a d (Done l) step e = fives p.row p.next p.greeted p.phase p.hand.number (look_of m w a d l.feedback) (sym step.1.reply ∙ e)
 
-silent : (row : SessionRow) (n : ℕ) (g : Bool) (ph : Phase) (x : Look) → is_down_in ph ≡ true → reply_at row (at n g (phase_of ph)) x ≡ None
-silent row n g Down x e = refl
-silent row n g Idle x e = absurd (cc)
-silent row n g (Passing item owed) x e = absurd (cc)
-silent row n g (Waiting k at') x e = absurd (cc)
+silent : (row : SessionRow) (n : ℕ) (g : Bool) (ph : Phase) (hand : ℕ) (x : Look) → is_down_in ph ≡ true → reply_at row (at n g (phase_of ph hand)) x ≡ None
+silent row n g Down hand x e = refl
+silent row n g Idle hand x e = absurd (cc)
+silent row n g (Passing owed) hand x e = absurd (cc)
+silent row n g (Waiting k at') hand x e = absurd (cc)
 
 -- a process that is down replies nothing
 pub silent_so : (p q : LowProcess) (m w : ℕ) (a : Arrival) (d : Bool) (r : Ask) → StepBegins p q m w a d r → is_down p ≡ true → reply_in r ≡ None
 silent_so p q m w a d (Forward item) step e = refl
 silent_so p q m w a d Average step e = refl
-silent_so p q m w a d (Done l) step e = step.1.reply ∙ silent p.row p.next p.greeted p.phase (look_of m w a d l.feedback) e
+silent_so p q m w a d (Done l) step e = step.1.reply ∙ silent p.row p.next p.greeted p.phase p.hand.number (look_of m w a d l.feedback) e

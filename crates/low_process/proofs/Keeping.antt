@@ -32,7 +32,7 @@ came_in : (row : SessionRow) (n : ℕ) (g : Bool) (ph : Phase) (a : Arrival) →
 came_in row n g Idle a e = came_idle row n g a e
 came_in row n g Down a e = absurd (cc)
 came_in row n g (Waiting k due) a e = absurd (cc)
-came_in row n g (Passing item owed) a e = absurd (cc)
+came_in row n g (Passing owed) a e = absurd (cc)
 
 came : (p : LowProcess) (a : Arrival) → wants p a ≡ true → IsCame a
 came p a e = came_in p.row p.next p.greeted p.phase a e
@@ -98,7 +98,7 @@ down_stays m p a d old new keeps down = ((did m (wants p a) a d old new (came p 
     down_wants row n g Down a e = refl
     down_wants row n g Idle a e = absurd (cc)
     down_wants row n g (Waiting k due) a e = absurd (cc)
-    down_wants row n g (Passing item owed) a e = absurd (cc)
+    down_wants row n g (Passing owed) a e = absurd (cc)
 
 -- ---- what a crash leaves ----
 

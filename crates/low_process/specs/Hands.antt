@@ -13,14 +13,14 @@ HasNumber f = is_data f.kind ≡ true → f.number < 2 ^ 48
 
 -- the message in the hand is the last one that was stored, and one that waits to be acknowledged
 -- was stored, where `next` is the number after the last
-abbrev pub is_hand_of : ℕ → Phase → Bool
-is_hand_of next (Passing item owed) = item.number + 1 == next
-is_hand_of next (Waiting number due) = nat_lt number next
-is_hand_of next _ = true
+abbrev pub is_hand_of : ℕ → Phase → ℕ → Bool
+is_hand_of next (Passing owed) hand = hand + 1 == next
+is_hand_of next (Waiting number due) hand = nat_lt number next
+is_hand_of next _ hand = true
 
 -- a question is open only in the phase that asks it, and a message that came once more was stored
 abbrev pub is_asked_of : ℕ → Phase → Asking → Bool
 is_asked_of next phase Nothing = true
-is_asked_of next (Passing item owed) Forward = true
+is_asked_of next (Passing owed) Forward = true
 is_asked_of next Idle (Average number) = nat_lt number next
 is_asked_of next _ _ = false

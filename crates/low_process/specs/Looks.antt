@@ -32,12 +32,12 @@ arrival_of (GivenFrame f) = Came f.now
 arrival_of GivenBad = Bad
 arrival_of GivenGone = Gone
 
--- the code's phase, with the number of the message in the hand alone, where it is owed
-abbrev pub phase_of : Phase → phases.Phase
-phase_of Idle = phases.Idle
-phase_of (Passing item owed) = phases.Passing (if owed then Some item.number else None)
-phase_of (Waiting number due) = phases.Waiting number due
-phase_of Down = phases.Down
+-- the code's phase with the number of the message in the hand, which counts where it is owed
+abbrev pub phase_of : Phase → ℕ → phases.Phase
+phase_of Idle hand = phases.Idle
+phase_of (Passing owed) hand = phases.Passing (if owed then Some hand else None)
+phase_of (Waiting number due) hand = phases.Waiting number due
+phase_of Down hand = phases.Down
 
 -- the row of the session
 abbrev pub row_of : LowProcess → SessionRow
@@ -72,7 +72,7 @@ abbrev pub is_idle : LowProcess → Bool
 is_idle p = is_idle_in p.phase
 
 abbrev pub owes_in : Phase → Bool
-owes_in (Passing item owed) = owed
+owes_in (Passing owed) = owed
 owes_in _ = false
 
 -- an acknowledgement is owed for the message in the hand
@@ -80,7 +80,7 @@ abbrev pub owes : LowProcess → Bool
 owes p = owes_in p.phase
 
 abbrev pub state_of : LowProcess → State
-state_of p = record { next = p.next; greeted = p.greeted; phase = phase_of p.phase }
+state_of p = record { next = p.next; greeted = p.greeted; phase = phase_of p.phase p.hand.number }
 
 abbrev pub look_of : ℕ → ℕ → Arrival → Bool → Feedback → Look
 look_of moment word arrival is_fault feedback = record {
@@ -178,13 +178,13 @@ abbrev pub IsHand : ℕ → Option Item → Type 0
 IsHand next None = Unit {0}
 IsHand next (Some item) = item.number + 1 ≡ next
 
-abbrev pub hand_in : Phase → Option Item
-hand_in (Passing item owed) = Some item
-hand_in _ = None
+abbrev pub hand_in : Phase → Item → Option Item
+hand_in (Passing owed) item = Some item
+hand_in _ item = None
 
 -- the message in the hand
 abbrev pub hand_of : LowProcess → Option Item
-hand_of p = hand_in p.phase
+hand_of p = hand_in p.phase p.hand
 
 -- the hand after this feedback: what was passed leaves it, and a repeat finds it empty
 abbrev pub hand_passed : Option Item → Feedback → Option Item

@@ -1,4 +1,4 @@
--- What the tests keep from look to look, so that the next one may be made; it serves them alone.
+-- What is kept from look to look, so that the next one may be made: the condition of a loop of looks.
 use Rattle.disk_model.specs.Disk.{Meaning}
 use Rattle.stable_buffer.specs.declared.low.LowStore.{LowStore}
 use Rattle.pump_core.specs.Passage.{Low, High}

@@ -1,12 +1,11 @@
-// What the low process reads in a frame, and the frames that it sends.
-ghost use Rattle.std.specs.Prelude.{◌≡◌, ◌^◌, ◌<◌, [], IsTrue};
+// What the low process reads in a frame.
+ghost use Rattle.std.specs.Prelude.{◌≡◌, ◌^◌, ◌<◌, IsTrue};
 ghost use Rattle.std.specs.Str.{bytes_eq};
 ghost use Rattle.pump_frame.specs.Frames.{greeting};
 ghost use Rattle.pump_core.specs.Exchanges.{permits_frame, is_fit};
-ghost use Rattle.pump_core.specs.Replies.{refusal};
 ghost use Rattle.low_process.specs.Hands.{HasNumber};
 
-use pump_frame::{Frame, Kind, Payload, SessionRow};
+use pump_frame::{Frame, Kind, SessionRow};
 
 /// Whether the payload is the greeting of these two names.
 fn is_greeting(payload: &[u8], low: &[u8], high: &[u8]) -> bool
@@ -43,28 +42,4 @@ pub fn is_storable(row: &SessionRow, greeted: bool, frame: &Frame) -> bool
         && greeted
         && frame.session == row.id
         && frame.payload.len() <= row.message
-}
-
-/// A reply without a payload.
-pub fn plain_reply(row: &SessionRow, kind: Kind, number: u64) -> Frame
-    ensures { result ≡ record { kind = kind; session = row.now.id; number = number; payload = [] } }
-{
-    Frame {
-        kind,
-        session: row.id,
-        number,
-        payload: Payload::from_slice(&[]).unwrap(),
-    }
-}
-
-/// A refusal.
-pub fn refuse(row: &SessionRow, code: u8, number: u64) -> Frame
-    ensures { result ≡ refusal row.now code number }
-{
-    Frame {
-        kind: Kind::Refuse,
-        session: row.id,
-        number,
-        payload: Payload::from_slice(&[code]).unwrap(),
-    }
 }

@@ -9,8 +9,8 @@ mod process;
 mod store;
 mod values;
 
-pub use process::{LowProcess, NOTHING};
-pub use values::{Answer, Arrival, Ask, AskHead, LookHead, LowLook, Reply};
+pub use process::LowProcess;
+pub use values::{Answer, Arrival, Ask, AskHead, LookHead, LowLook};
 
 #[cfg(test)]
 mod tests;

@@ -1,5 +1,7 @@
-ghost use Rattle.std.specs.Prelude.{◌≡◌, ℕ, ◌+◌, ◌^◌, ◌<◌, ◌≤◌, Bool, true, false, Option, Some, None};
+ghost use Rattle.std.specs.Prelude.{◌≡◌, ℕ, ◌+◌, ◌^◌, ◌<◌, ◌≤◌, Bool, true, false, Option, Some, None, IfSome};
 ghost use Rattle.stable_buffer.specs.Low.{low_disk};
+ghost use Rattle.pump_frame.specs.Frames.{IsLawful as IsLawfulFrame};
+ghost use Rattle.pump_core.specs.ReplyFrames.{IsLawfulReply};
 ghost use Rattle.pump_core.specs.History.{Arrival as Offered};
 ghost use Rattle.pump_core.specs.Passage.{Low, High, ComesNext};
 ghost use Rattle.low_process.specs.declared.values.Asking.TheVariants.{Forward as AsksForward};
@@ -9,7 +11,6 @@ ghost use Rattle.low_process.specs.Ends.{OfferStep, EndStep, FitsEnd, StandsFitt
 ghost use Rattle.low_process.specs.Whole.{HasStore, BeginStep, LookStep, KeepsAcknowledged, LeavesStored, reply_in};
 
 use crate::LowProcess;
-use crate::process::NOTHING;
 use crate::store::store_message;
 use crate::values::{Answer, Arrival, Ask, AskHead, LookHead, LowLook};
 use disk_model::Disk;
@@ -64,16 +65,17 @@ impl LowProcess {
         requires store { HasStore D.told self.old store.old }
 
         ensures begins { (is_fault : Bool) × BeginStep D.told self.old self.new store.old store.new
-            moment word (arrival_of arrival.entry) is_fault (ask_with (row_of self.old) self.new.phase head.new result) }
+            moment word (arrival_of arrival.entry) is_fault (ask_with (row_of self.old) self.new head.new result) }
         ensures store { HasStore D.told self.new store.new }
         ensures images { LeavesStored D.told self.old store.old store.new
             (arrival_of arrival.entry) }
         ensures still { is_down self.old ≡ true → store.new ≡ store.old }
-        ensures silent { is_down self.old ≡ true → reply_in (ask_with (row_of self.old) self.new.phase head.new result) ≡ None }
-        ensures acknowledged { KeepsAcknowledged D.told (row_of self.old) (reply_in (ask_with (row_of self.old) self.new.phase head.new result))
+        ensures silent { is_down self.old ≡ true → reply_in (ask_with (row_of self.old) self.new head.new result) ≡ None }
+        ensures acknowledged { KeepsAcknowledged D.told (row_of self.old) (reply_in (ask_with (row_of self.old) self.new head.new result))
             (low_disk store.new) }
+        ensures lawful { IfSome head.new.reply IsLawfulReply }
 
-        ensures hand { HandBegins self.old self.new (arrival_of arrival.entry) (ask_with (row_of self.old) self.new.phase head.new result) }
+        ensures hand { HandBegins self.old self.new (arrival_of arrival.entry) (ask_with (row_of self.old) self.new head.new result) }
         ensures fits { (l : Low) → FitsEnd self.old l → FitsEnd self.new l }
         ensures row { row_of self.new ≡ row_of self.old }
         ensures last { last_of self.new ≡ moment }
@@ -109,13 +111,14 @@ impl LowProcess {
         ensures silent { is_down self.old ≡ true → reply_in result ≡ None }
         ensures acknowledged { KeepsAcknowledged D.told (row_of self.old) (reply_in result)
             (low_disk store.new) }
+        ensures lawful { IfSome (reply_in result) IsLawfulFrame }
 
         ensures hand { HandBegins self.old self.new (arrival_of arrival.entry) result }
         ensures fits { (l : Low) → FitsEnd self.old l → FitsEnd self.new l }
         ensures row { row_of self.new ≡ row_of self.old }
         ensures last { last_of self.new ≡ moment }
     {
-        let mut head = NOTHING;
+        let mut head = LookHead::new();
         let asked = self.begin_into(moment, word, arrival, store, &mut head);
         self.ask(asked, &head)
     }
@@ -176,6 +179,7 @@ impl LowProcess {
         ensures silent { is_down self.old ≡ true → (look_with (row_of self.old) head.new).reply ≡ None }
         ensures acknowledged { KeepsAcknowledged D.told (row_of self.old) (look_with (row_of self.old) head.new).reply
             (low_disk store.new) }
+        ensures lawful { IfSome head.new.reply IsLawfulReply }
 
         ensures hand { hand_of self.new
             ≡ hand_after (hand_of self.old) (arrival_of arrival.entry) (look_with (row_of self.old) head.new) }
@@ -189,10 +193,7 @@ impl LowProcess {
     {
         match self.begin_into(moment, word, arrival, store, head) {
             AskHead::Done => {}
-            AskHead::Forward => {
-                let item = self.item();
-                self.offer_hand(item, ends, head)
-            }
+            AskHead::Forward => self.offer_hand(self.item(), ends, head),
             AskHead::Average => self.finish_into(Answer::Average(ends.average()), head),
         }
     }
@@ -225,6 +226,7 @@ impl LowProcess {
         ensures silent { is_down self.old ≡ true → result.reply ≡ None }
         ensures acknowledged { KeepsAcknowledged D.told (row_of self.old) result.reply
             (low_disk store.new) }
+        ensures lawful { IfSome result.reply IsLawfulFrame }
 
         ensures hand { hand_of self.new
             ≡ hand_after (hand_of self.old) (arrival_of arrival.entry) result }
@@ -236,7 +238,7 @@ impl LowProcess {
             → EndStep (L.shape ends.old) L.exact (StandsFitting (L.stands ends.new) self.new) l h
             (hand_of self.old) result.feedback }
     {
-        let mut head = NOTHING;
+        let mut head = LookHead::new();
         self.look_into(moment, word, arrival, store, ends, &mut head);
         self.whole(&head)
     }

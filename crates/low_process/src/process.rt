@@ -1,13 +1,12 @@
-ghost use Rattle.std.specs.Prelude.{◌≡◌, ℕ, ◌+◌, ◌^◌, ◌≤◌, ◌<◌, Option, Some, None, Bool, true, false, List, [], IsTrue, option_map};
-ghost use Rattle.low_process.specs.Heads.{nothing_done};
+ghost use Rattle.std.specs.Prelude.{◌≡◌, ℕ, ◌+◌, ◌^◌, ◌≤◌, ◌<◌, Option, Some, None, Bool, true, false, List, [], IsTrue, IfSome, option_map};
 ghost use Rattle.std.specs.Option.{option_copied};
 ghost use Rattle.pump_core.specs.Exchanges.{is_fit, is_gone as gone};
 ghost use Rattle.low_process.specs.Hands.{HasNumber, is_hand_of, is_asked_of};
 
-use crate::frames::{is_permitted, is_storable, plain_reply, refuse};
-use crate::values::{Answer, Arrival, Ask, AskHead, Asking, LookHead, LowLook, Phase, Reply};
+use crate::frames::{is_permitted, is_storable};
+use crate::values::{Answer, Arrival, Ask, AskHead, Asking, LookHead, LowLook, Phase};
 use delay_table::delay;
-use pump_core::{Feedback, Seen};
+use pump_core::{Feedback, Refusal, Reply, Seen};
 use pump_frame::{Frame, Item, Kind, Payload, SessionRow};
 
 /// The low process of a session.
@@ -18,6 +17,8 @@ pub struct LowProcess {
     next: u64,
     greeted: bool,
     phase: Phase,
+    // The message in the hand, in the phase Passing.
+    hand: Item,
     // The moment of the last look, and 0 before one.
     last: u64,
     // The random word of the last look.
@@ -26,50 +27,15 @@ pub struct LowProcess {
     ghost in_range: { next ≤ 2 ^ 48 },
     ghost in_time: { last ≤ 2 ^ 62 },
     ghost in_row: { row.longest ≤ 10 ^ 9 },
-    ghost in_hand: { IsTrue (is_hand_of next phase) },
+    ghost in_hand: { IsTrue (is_hand_of next phase hand.number) },
     ghost in_question: { IsTrue (is_asked_of next phase asking) },
 }
 
-/// A look that did nothing yet.
-pub const NOTHING: LookHead = LookHead {
-    taken: false,
-    stored: None,
-    reply: None,
-    feedback: Feedback::Quiet,
-};
-
-/// Forgets the look's head.
-fn clear(head: &mut LookHead)
-    ensures { head.new ≡ nothing_done }
-{
-    head.taken = false;
-    head.stored = None;
-    head.reply = None;
-    head.feedback = Feedback::Quiet;
-}
-
-/// The arrival is taken, with this reply.
-fn reply(head: &mut LookHead, reply: Reply)
-    ensures { head.new ≡ record head.old { taken = true; reply = Some reply } }
-{
-    head.taken = true;
-    head.reply = Some(reply);
-}
-
-/// The arrival is taken, and refused.
-fn refused(head: &mut LookHead, code: u8, number: u64)
-    ensures { head.new ≡ record head.old { taken = true; reply = Some (Reply.Refuse code number) } }
-{
-    reply(head, Reply::Refuse { code, number });
-}
-
-/// A message without bytes.
-fn no_item() -> Item
-    ensures { result ≡ record { number = 0; payload = [] } }
-{
+/// What stands in the hand where it is empty.
+fn no_item() -> Item {
     Item {
         number: 0,
-        payload: Payload::from_slice(&[]).unwrap(),
+        payload: Payload::default(),
     }
 }
 
@@ -84,17 +50,20 @@ impl Arrival<'_> {
 }
 
 impl LowProcess {
-    ghost use Rattle.low_process.specs.Heads.{frame_of, look_with, item_in, ask_with};
+    ghost use Rattle.low_process.specs.Heads.{nothing_done, look_with, ask_with};
+    ghost use Rattle.pump_frame.specs.Frames.{IsLawful as IsLawfulFrame};
     ghost use Rattle.pump_frame.specs.Delays.{delay_of};
     ghost use Rattle.pump_frame.specs.Rows.{IsLawfulRow};
     ghost use Rattle.pump_core.specs.History.{Arrival as Offered, Came, History, first_life, reopened, looked};
     ghost use Rattle.pump_core.specs.Standing.{KeepsExchanges};
     ghost use Rattle.low_process.specs.declared.values.Asking.TheVariants.{Forward as AsksForward};
     ghost use Rattle.pump_core.specs.Replies.{Sent, LowReplies};
+    ghost use Rattle.pump_core.specs.ReplyFrames.{frame_of, IsLawfulReply};
     ghost use Rattle.low_process.specs.Looks.{state_of, look_of, arrival_of, opening_of, IsLawful, IsHand, StandsFor, Asks, AsksFor, Answers, AnswersTo, Tells, Looks, HandBegins, IsBetweenLooks, row_of, next_of, last_of, is_down, is_idle, owes, hand_of, hand_passed};
     ghost use Rattle.low_process.specs.Steps.{Stepped, StepBegins};
     ghost use Rattle.low_process.specs.Storing.{message_in, wants};
     ghost use Rattle.low_process.specs.Ends.{number_offered};
+    ghost use Rattle.low_process.specs.Whole.{reply_in};
 
     /// The process of an opening: with the count that was found, at most 2^48, and the message that
     /// was found in the hand, if any.
@@ -115,22 +84,27 @@ impl LowProcess {
         ensures owes { owes result ≡ false }
         ensures up { is_down result ≡ false }
     {
-        let phase = match hand {
-            Some(item) => Phase::Passing {
-                item,
-                is_owed: false,
-            },
-            None => Phase::Idle,
+        let (phase, hand) = match hand {
+            Some(item) => (Phase::Passing { is_owed: false }, item),
+            None => (Phase::Idle, no_item()),
         };
         LowProcess {
             row: *row,
             next,
             greeted: false,
             phase,
+            hand,
             last: 0,
             word: 0,
             asking: Asking::Nothing,
         }
+    }
+
+    /// The session of the row.
+    pub fn session(&self) -> u32
+        ensures { result ≡ (row_of self.now).id }
+    {
+        self.row.id
     }
 
     /// The number of the next message.
@@ -166,7 +140,7 @@ impl LowProcess {
         ensures { result ≡ owes self.now }
     {
         match &self.phase {
-            Phase::Passing { is_owed, .. } => *is_owed,
+            Phase::Passing { is_owed } => *is_owed,
             _ => false,
         }
     }
@@ -214,17 +188,18 @@ impl LowProcess {
         requires fit { is_fit self.old.row self.old.greeted frame.now ≡ true }
         requires number { frame.now.number < 2 ^ 48 }
         ensures step { StepBegins self.old self.new self.old.last self.old.word
-            (Came frame.now) is_fault (ask_with self.old.row self.new.phase head.new result) }
-        ensures hand { HandBegins self.old self.new (Came frame.now) (ask_with self.old.row self.new.phase head.new result) }
+            (Came frame.now) is_fault (ask_with self.old.row self.new head.new result) }
+        ensures hand { HandBegins self.old self.new (Came frame.now) (ask_with self.old.row self.new head.new result) }
         ensures offers { is_down self.new ≡ false → number_offered self.new.next (hand_of self.new)
             ≡ number_offered self.old.next (hand_of self.old) }
         ensures row { self.new.row ≡ self.old.row }
         ensures last { self.new.last ≡ self.old.last }
         ensures word { self.new.word ≡ self.old.word }
+        ensures lawful { IfSome head.new.reply IsLawfulReply }
     {
         let number = frame.number;
         if number > self.next {
-            refused(head, 4, self.next);
+            head.refuse(Refusal::Step, self.next);
             return AskHead::Done;
         }
         if number < self.next {
@@ -233,17 +208,13 @@ impl LowProcess {
         }
         if is_fault {
             self.phase = Phase::Down;
-            refused(head, 5, 0);
+            head.refuse(Refusal::Device, 0);
             return AskHead::Done;
         }
+        self.hand.number = number;
+        self.hand.payload.set(frame.payload.as_slice());
         self.next += 1;
-        self.phase = Phase::Passing {
-            item: Item {
-                number,
-                payload: frame.payload,
-            },
-            is_owed: true,
-        };
+        self.phase = Phase::Passing { is_owed: true };
         head.taken = true;
         head.stored = Some(number);
         AskHead::Done
@@ -256,13 +227,14 @@ impl LowProcess {
         requires nothing { head.old ≡ nothing_done }
         requires lawful { HasNumber frame.now }
         ensures step { StepBegins self.old self.new self.old.last self.old.word
-            (Came frame.now) is_fault (ask_with self.old.row self.new.phase head.new result) }
-        ensures hand { HandBegins self.old self.new (Came frame.now) (ask_with self.old.row self.new.phase head.new result) }
+            (Came frame.now) is_fault (ask_with self.old.row self.new head.new result) }
+        ensures hand { HandBegins self.old self.new (Came frame.now) (ask_with self.old.row self.new head.new result) }
         ensures offers { is_down self.new ≡ false → number_offered self.new.next (hand_of self.new)
             ≡ number_offered self.old.next (hand_of self.old) }
         ensures row { self.new.row ≡ self.old.row }
         ensures last { self.new.last ≡ self.old.last }
         ensures word { self.new.word ≡ self.old.word }
+        ensures lawful { IfSome head.new.reply IsLawfulReply }
     {
         if is_storable(&self.row, self.greeted, frame) {
             return self.take_message(frame, is_fault, head);
@@ -271,20 +243,20 @@ impl LowProcess {
             Kind::Hello => {
                 if is_permitted(&self.row, frame) {
                     self.greeted = true;
-                    reply(head, Reply::Welcome { number: self.next });
+                    head.answer(Reply::Welcome { number: self.next });
                 } else {
                     self.greeted = false;
-                    refused(head, 1, 0);
+                    head.refuse(Refusal::Pair, 0);
                 }
             }
             Kind::Data => {
                 if !self.greeted || frame.session != self.row.id {
-                    refused(head, 2, 0);
+                    head.refuse(Refusal::Frame, 0);
                 } else {
-                    refused(head, 3, 0);
+                    head.refuse(Refusal::Size, 0);
                 }
             }
-            _ => refused(head, 2, 0),
+            _ => head.refuse(Refusal::Frame, 0),
         }
         AskHead::Done
     }
@@ -304,6 +276,7 @@ impl LowProcess {
         ensures row { self.new.row ≡ self.old.row }
         ensures last { self.new.last ≡ self.old.last }
         ensures word { self.new.word ≡ self.old.word }
+        ensures lawful { IfSome head.new.reply IsLawfulReply }
     {
         if is_gone {
             self.greeted = false;
@@ -331,15 +304,16 @@ impl LowProcess {
         requires moment { moment ≤ 2 ^ 62 }
         requires lawful { IsLawful (arrival_of arrival) }
         ensures step { StepBegins self.old self.new moment word
-            (arrival_of arrival.entry) is_fault (ask_with self.old.row self.new.phase head.new result) }
-        ensures hand { HandBegins self.old self.new (arrival_of arrival.entry) (ask_with self.old.row self.new.phase head.new result) }
+            (arrival_of arrival.entry) is_fault (ask_with self.old.row self.new head.new result) }
+        ensures hand { HandBegins self.old self.new (arrival_of arrival.entry) (ask_with self.old.row self.new head.new result) }
         ensures offers { is_down self.new ≡ false → number_offered self.new.next (hand_of self.new)
             ≡ number_offered self.old.next (hand_of self.old) }
         ensures row { self.new.row ≡ self.old.row }
         ensures last { self.new.last ≡ moment }
         ensures word { self.new.word ≡ word }
+        ensures lawful { IfSome head.new.reply IsLawfulReply }
     {
-        clear(head);
+        head.clear();
         self.last = moment;
         self.word = word;
         match &self.phase {
@@ -349,14 +323,10 @@ impl LowProcess {
                 self.wait(number, due, arrival.is_gone(), head);
                 AskHead::Done
             }
-            Phase::Passing { item, .. } => {
-                let item = *item;
+            Phase::Passing { .. } => {
                 if arrival.is_gone() {
                     self.greeted = false;
-                    self.phase = Phase::Passing {
-                        item,
-                        is_owed: false,
-                    };
+                    self.phase = Phase::Passing { is_owed: false };
                     head.taken = true;
                     return AskHead::Done;
                 }
@@ -367,7 +337,7 @@ impl LowProcess {
                 Arrival::Nothing => AskHead::Done,
                 Arrival::Bad => {
                     self.greeted = false;
-                    refused(head, 2, 0);
+                    head.refuse(Refusal::Frame, 0);
                     AskHead::Done
                 }
                 Arrival::Gone => {
@@ -408,12 +378,8 @@ impl LowProcess {
         ensures last { self.new.last ≡ self.old.last }
         ensures tells { Tells (owes self.old) (Answer.Passed seen) head.new.feedback }
     {
-        if let Phase::Passing {
-            item,
-            is_owed: true,
-        } = &self.phase
-        {
-            let number = item.number;
+        if let Phase::Passing { is_owed: true } = &self.phase {
+            let number = self.hand.number;
             let due = self.due(seen);
             self.phase = Phase::Waiting { number, due };
             head.feedback = Feedback::Passed(seen);
@@ -440,7 +406,7 @@ impl LowProcess {
         ensures last { self.new.last ≡ self.old.last }
         ensures tells { Tells (owes self.old) answer head.new.feedback }
     {
-        clear(head);
+        head.clear();
         let asking = self.asking;
         self.asking = Asking::Nothing;
         match asking {
@@ -480,54 +446,41 @@ impl LowProcess {
         self.step_on(answer, head)
     }
 
-    /// The frame of a reply.
-    pub fn frame(&self, reply: &Reply) -> Frame
-        ensures { result ≡ frame_of (row_of self.now) reply.now }
-    {
-        match reply {
-            Reply::Welcome { number } => plain_reply(&self.row, Kind::Welcome, *number),
-            Reply::Ack { number } => plain_reply(&self.row, Kind::Ack, *number),
-            Reply::Refuse { code, number } => refuse(&self.row, *code, *number),
-        }
-    }
-
     // The frame of a reply, if there is one.
-    fn reply(&self, reply: &Option<Reply>) -> Option<Frame>
-        ensures { result ≡ option_map (frame_of self.now.row) reply.now }
+    fn frame_in(&self, reply: &Option<Reply>) -> Option<Frame>
+        ensures value { result ≡ option_map (frame_of self.now.row.id) reply.now }
+        ensures lawful { IfSome reply.now IsLawfulReply → IfSome result IsLawfulFrame }
     {
         match reply {
-            Some(reply) => Some(self.frame(reply)),
+            Some(reply) => Some(reply.frame(self.row.id)),
             None => None,
         }
     }
 
     // The whole of the look's head.
     pub(crate) fn whole(&self, head: &LookHead) -> LowLook
-        ensures { result ≡ look_with self.now.row head.now }
+        ensures value { result ≡ look_with self.now.row head.now }
+        ensures lawful { IfSome head.now.reply IsLawfulReply → IfSome result.reply IsLawfulFrame }
     {
         LowLook {
             taken: head.taken,
             stored: head.stored,
-            reply: self.reply(&head.reply),
+            reply: self.frame_in(&head.reply),
             feedback: head.feedback,
         }
     }
 
-    // The message in the hand, or one without bytes.
+    // The message in the hand.
     pub(crate) fn item(&self) -> Item
-        ensures { result ≡ item_in self.now.phase }
+        ensures { result ≡ self.now.hand }
     {
-        match &self.phase {
-            Phase::Passing { item, .. } => *item,
-            Phase::Idle => no_item(),
-            Phase::Waiting { .. } => no_item(),
-            Phase::Down => no_item(),
-        }
+        self.hand
     }
 
     // The whole of what is asked.
     pub(crate) fn ask(&self, asked: AskHead, head: &LookHead) -> Ask
-        ensures { result ≡ ask_with self.now.row self.now.phase head.now asked }
+        ensures value { result ≡ ask_with self.now.row self.now head.now asked }
+        ensures lawful { IfSome head.now.reply IsLawfulReply → IfSome (reply_in result) IsLawfulFrame }
     {
         match asked {
             AskHead::Done => Ask::Done(self.whole(head)),
@@ -552,7 +505,7 @@ impl LowProcess {
         ensures last { last_of self.new ≡ last_of self.old }
         ensures up { is_down self.new ≡ false }
     {
-        let mut head = NOTHING;
+        let mut head = LookHead::new();
         self.finish_into(answer, &mut head);
         self.whole(&head)
     }

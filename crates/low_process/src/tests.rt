@@ -4,10 +4,10 @@ ghost use Rattle.stable_buffer.specs.Low.{IsLowReady, low_count, low_row};
 ghost use Rattle.passage.specs.Plain.{StandsFor as EndsStandFor};
 ghost use Rattle.low_process.specs.Ready.{Ready};
 
-use crate::{Arrival, LowLook, LowProcess};
+use crate::{Arrival, LookHead, LowLook, LowProcess};
 use disk_model::{Disk, MemDisk, PlainDisk, Role};
 use passage::PlainEnds;
-use pump_core::{Feedback, Seen};
+use pump_core::{Feedback, Refusal, Reply, Seen};
 use pump_frame::{Frame, Kind, Name, Payload, SessionRow};
 use stable_buffer::{LowStore, Register, format};
 use std::alloc::Global;
@@ -105,6 +105,28 @@ impl<D: Disk + Drop> Bench<D> {
         )
     }
 
+    // As `look`, into a head that may hold another look.
+    fn look_into(&mut self, moment: u64, frame: Option<&Frame>, head: &mut LookHead) -> bool
+        requires { Ready D.told self.old.process self.old.store (EndsStandFor self.old.ends) }
+        ensures { Ready D.told self.new.process self.new.store (EndsStandFor self.new.ends) }
+    {
+        if moment < self.process.last() || moment > 1 << 62 {
+            return false;
+        }
+        let arrival = match frame {
+            None => Arrival::Nothing,
+            Some(frame) => {
+                if frame.number >= 1 << 48 {
+                    return false;
+                }
+                Arrival::Frame(frame)
+            }
+        };
+        self.process
+            .look_into(moment, 0, arrival, &mut self.store, &mut self.ends, head);
+        true
+    }
+
     // The reply to the HELLO of the row's two parties.
     fn greet(&mut self, moment: u64) -> Option<(Kind, u64)>
         requires { Ready D.told self.old.process self.old.store (EndsStandFor self.old.ends) }
@@ -194,6 +216,47 @@ fn an_opening_goes_on_from_its_count(rt: HostRuntime) -> Result<(), Fail> {
         assert_eq!(rt; first.feedback, Feedback::Repeat(SEEN));
         assert_eq!(rt; reply_in(&last), Some((Kind::Ack, number)));
     }
+    Ok(())
+}
+
+#[test]
+fn a_head_holds_one_look(rt: HostRuntime) -> Result<(), Fail> {
+    let mut bench = set_up(rt.alloc(), PlainDisk::new(rt.alloc(), 110)?, 0)?;
+    assert_eq!(rt; bench.process.session(), 1);
+    let mut head = LookHead {
+        taken: true,
+        stored: Some(9),
+        reply: Some(Reply::Ack { number: 9 }),
+        feedback: Feedback::Full,
+    };
+    assert!(rt; bench.look_into(5, None, &mut head));
+    assert_eq!(rt;
+        (head.taken, head.stored, head.reply, head.feedback),
+        (false, None, None, Feedback::Quiet)
+    );
+    let early = data(0);
+    assert!(rt; bench.look_into(6, early.as_ref(), &mut head));
+    let why = Refusal::Frame;
+    assert_eq!(rt;
+        (head.taken, head.reply),
+        (true, Some(Reply::Refuse { why, number: 0 }))
+    );
+    assert_eq!(rt; bench.greet(10), Some((Kind::Welcome, 0)));
+    assert!(rt; bench.look_into(100, early.as_ref(), &mut head));
+    assert_eq!(rt;
+        (head.stored, head.reply, head.feedback),
+        (Some(0), None, Feedback::Quiet)
+    );
+    assert!(rt; bench.look_into(100, None, &mut head));
+    assert_eq!(rt;
+        (head.stored, head.feedback),
+        (None, Feedback::Passed(SEEN))
+    );
+    assert!(rt; bench.look_into(178, None, &mut head));
+    assert_eq!(rt;
+        (head.reply, head.feedback),
+        (Some(Reply::Ack { number: 0 }), Feedback::Quiet)
+    );
     Ok(())
 }
 

@@ -1,4 +1,7 @@
-use pump_core::{Feedback, Seen};
+ghost use Rattle.std.specs.Prelude.{◌≡◌, true, Some};
+ghost use Rattle.low_process.specs.Heads.{nothing_done};
+
+use pump_core::{Feedback, Refusal, Reply, Seen};
 use pump_frame::{Frame, Item};
 
 /// What a look is offered.
@@ -46,8 +49,9 @@ pub enum Answer {
 #[derive(Clone, Copy)]
 pub enum Phase {
     Idle,
-    /// A stored message is in the hand, and its acknowledgement is owed or not.
-    Passing { item: Item, is_owed: bool },
+    /// A stored message is in the hand, and its acknowledgement is owed or not. The message stands
+    /// beside the phase, so that a change of phase moves no message.
+    Passing { is_owed: bool },
     /// A message is acknowledged from the moment `due` on.
     Waiting { number: u64, due: u64 },
     /// The store failed.
@@ -63,26 +67,58 @@ pub enum Asking {
     Average(u64),
 }
 
-/// A reply, whose frame has the session of the row.
-#[derive(Clone, Copy)]
-pub enum Reply {
-    Welcome { number: u64 },
-    Ack { number: u64 },
-    Refuse { code: u8, number: u64 },
-}
-
-/// What a look did, as `LowLook`, without the frame of its reply: a frame has more than 1 KB, and
-/// moving it costs more than most looks.
+/// What a look did, as `LowLook`, with its reply in place of the frame.
 #[derive(Clone, Copy)]
 pub struct LookHead {
+    /// The arrival was taken, and is not offered again.
     pub taken: bool,
+    /// The number of the message that was stored.
     pub stored: Option<u64>,
     pub reply: Option<Reply>,
     pub feedback: Feedback,
 }
 
-/// The first half of a look, as `Ask`, without what was done and without the message, which is in
-/// the hand.
+impl LookHead {
+    /// A look that did nothing yet.
+    pub fn new() -> LookHead
+        ensures { result ≡ nothing_done }
+    {
+        LookHead {
+            taken: false,
+            stored: None,
+            reply: None,
+            feedback: Feedback::Quiet,
+        }
+    }
+
+    // Forgets the look before.
+    pub(crate) fn clear(&mut self)
+        ensures { self.new ≡ nothing_done }
+    {
+        self.taken = false;
+        self.stored = None;
+        self.reply = None;
+        self.feedback = Feedback::Quiet;
+    }
+
+    // The arrival is taken, with this reply.
+    pub(crate) fn answer(&mut self, reply: Reply)
+        ensures { self.new ≡ record self.old { taken = true; reply = Some reply } }
+    {
+        self.taken = true;
+        self.reply = Some(reply);
+    }
+
+    // The arrival is taken, and refused.
+    pub(crate) fn refuse(&mut self, why: Refusal, number: u64)
+        ensures { self.new ≡ record self.old { taken = true; reply = Some (Reply.Refuse why number) } }
+    {
+        self.answer(Reply::Refuse { why, number });
+    }
+}
+
+/// The first half of a look, as `Ask`: what was done is in the look's head, and the message that is
+/// offered in the hand.
 #[derive(Clone, Copy)]
 pub enum AskHead {
     Done,

@@ -1,15 +1,11 @@
 -- What a window stands for.
 use Rattle.std.specs.Prelude.{◌≡◌, ℕ, List, length}
-use Rattle.pump_frame.specs.Averages.{latest}
+use Rattle.pump_frame.specs.Averages.{Averaging, latest}
 use Rattle.moving_avg.specs.declared.Window.{Window}
 
--- how many of the times are averaged
-abbrev pub window_of : Window → ℕ
-window_of w = w.ring.capacity
-
--- its average while there is no time
-abbrev pub start_of : Window → ℕ
-start_of w = w.start
+-- how it averages: how many of the last times, and its average while there is none
+abbrev pub averaging_in : Window → Averaging
+averaging_in w = record { window = w.ring.capacity; start = w.start }
 
 -- how many times there are
 abbrev pub count_of : Window → ℕ

@@ -26,7 +26,7 @@ pub struct Window {
 
 impl Window {
     ghost use Rattle.pump_frame.specs.Averages.{average_of};
-    ghost use Rattle.moving_avg.specs.Windows.{HoldsTimes, window_of, start_of, count_of};
+    ghost use Rattle.moving_avg.specs.Windows.{HoldsTimes, averaging_in, count_of};
 
     /// A window over the last `m` times, 1 to 256, with no time yet. Its average is `start`, at
     /// most 10^9, until the first push.
@@ -35,8 +35,7 @@ impl Window {
         requires start { start ≤ 10 ^ 9 }
         ensures empty { IfOk result (λ window. HoldsTimes window []) }
         ensures count { IfOk result (λ window. count_of window ≡ 0) }
-        ensures size { IfOk result (λ window. window_of window ≡ m) }
-        ensures start { IfOk result (λ window. start_of window ≡ start) }
+        ensures averaging { IfOk result (λ window. averaging_in window ≡ record { window = m; start = start }) }
     {
         let ring = HeapCircularBuffer::with_capacity(alloc, m as usize)?;
         Ok(Window {
@@ -53,8 +52,7 @@ impl Window {
         requires room { count_of self.old < 2 ^ 32 - 1 }
         ensures times { (times : List ℕ) → HoldsTimes self.old times → HoldsTimes self.new (times ++ micros ∷ []) }
         ensures count { count_of self.new ≡ count_of self.old + 1 }
-        ensures size { window_of self.new ≡ window_of self.old }
-        ensures start { start_of self.new ≡ start_of self.old }
+        ensures averaging { averaging_in self.new ≡ averaging_in self.old }
     {
         let fallen_out = self.ring.push_back(micros).unwrap_or(0);
         self.sum = self.sum + micros as u64 - fallen_out as u64;
@@ -64,7 +62,7 @@ impl Window {
     /// The mean of the last times, rounded down: of the window's size, or of all where there are
     /// fewer; the start where there is none.
     pub fn average(&self) -> u32
-        ensures average { (times : List ℕ) → HoldsTimes self.now times → result ≡ average_of (window_of self.now) (start_of self.now) times }
+        ensures average { (times : List ℕ) → HoldsTimes self.now times → result ≡ average_of (averaging_in self.now) times }
         ensures bound { result ≤ 10 ^ 9 }
     {
         if self.count == 0 {
@@ -87,8 +85,7 @@ impl Window {
     pub fn clear(&mut self)
         ensures empty { HoldsTimes self.new [] }
         ensures count { count_of self.new ≡ 0 }
-        ensures size { window_of self.new ≡ window_of self.old }
-        ensures start { start_of self.new ≡ start_of self.old }
+        ensures averaging { averaging_in self.new ≡ averaging_in self.old }
     {
         self.ring.clear();
         self.sum = 0;

@@ -1,7 +1,8 @@
 -- A replay, line by line.
 use Rattle.std.proofs.Common.{◌≡◌, ℕ, ◌+◌, ◌-◌, ◌^◌, ◌<◌, ◌≤◌, inl, inr, min, List, [], ◌∷◌, ◌++◌, Option, None, Some, length, refl, sym, ap, ◌∙◌, subst, append_assoc, append-nil, arith, length-append}
 use Rattle.std.specs.Io.KnownBytes.{prepend_known, Consumes, Keeps, Appends, IsAtEnd}
-use Rattle.pump_link.specs.Causes.{AppendsFront, Rose}
+use Rattle.pump_frame.specs.Counts.{Rose}
+use Rattle.pump_link.specs.Causes.{AppendsFront}
 use Rattle.script_reader.specs.declared.line.Line.{Line}
 use Rattle.script_reader.specs.declared.event.Event.{Event}
 use Rattle.script_reader.specs.declared.fault.Fault.{Fault}

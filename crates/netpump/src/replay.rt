@@ -1,6 +1,7 @@
 ghost use Rattle.std.specs.Prelude.{◌≡◌, ◌≢◌, ◌≤◌, [], ◌++◌, List, option_to_list, Option, None, Some, OnOk, OnErr, MatchResult};
 ghost use Rattle.std.specs.Io.KnownBytes.{Appends};
-ghost use Rattle.pump_link.specs.Causes.{HasCause, AppendsFront, Rose};
+ghost use Rattle.pump_frame.specs.Counts.{Rose};
+ghost use Rattle.pump_link.specs.Causes.{HasCause, AppendsFront};
 ghost use Rattle.script_reader.specs.Lawful.{IsLawfulLine};
 ghost use Rattle.script_reader.specs.Heads.{line_with, CanHoldLine};
 ghost use Rattle.script_reader.specs.Lines.{IsReady};

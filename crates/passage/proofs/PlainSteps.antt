@@ -1,12 +1,12 @@
 -- Each call on one thread keeps what the ends stand for.
-use Rattle.std.proofs.Common.{◌≡◌, ℕ, ◌≤◌, ◌<◌, true, List, [], ◌∷◌, ◌++◌, length, drop, slice_get, Some, None, sym, refl, ap, ◌∙◌, subst, append_assoc, le_refl, arith}
+use Rattle.std.proofs.Common.{◌≡◌, ℕ, ◌-◌, ◌≤◌, ◌<◌, true, List, [], ◌∷◌, ◌++◌, length, drop, slice_get, Some, None, sym, refl, ap, ◌∙◌, subst, append_assoc, le_refl, arith}
 use Rattle.std.specs.List.{All}
 use Rattle.std.proofs.lemmas.List.{length-append}
 use Rattle.std.proofs.lemmas.Option.{slice_get_within, get_or_from_slice_get}
-use Rattle.circular_buffer.specs.Buffer.{buffer}
+use Rattle.circular_buffer.specs.Buffer.{buffer, keep_last}
 use Rattle.pump_frame.specs.Averages.{average_of}
 use Rattle.pump_frame.specs.declared.frame.Item.{Item}
-use Rattle.moving_avg.specs.Windows.{HoldsTimes, window_of, start_of}
+use Rattle.moving_avg.specs.Windows.{HoldsTimes, averaging_in}
 use Rattle.pump_core.specs.Passage.{Shape, Low, High, ComesNext, IsAverage, Agrees, Fits, forwards, tried, takes, sought, publishes, Passes, Refuses, Reads, Gives, GivesNone}
 use Rattle.pump_core.proofs.PassageSteps.{all_weaken, average_now, forwards_agrees, tried_agrees, reads_agrees, takes_agrees, sought_agrees, publishes_agrees}
 use Rattle.passage.specs.declared.plain.PlainEnds.{PlainEnds}
@@ -15,13 +15,20 @@ use Rattle.passage.specs.Plain.{StandsFor, shape_of}
 the_first : (x y : Item) (ys : List Item) → slice_get (y ∷ ys) 0 ≡ Some x → y ≡ x
 the_first x y ys at = get_or_from_slice_get (y ∷ ys) 0 x x at
 
+-- all but the first item are kept
+pub all_but_first : (xs : List Item) (x : Item) (n : ℕ) → slice_get xs 0 ≡ Some x → n ≡ length xs → keep_last (n - 1) xs ≡ drop 1 xs
+all_but_first xs x n at is = 
+    let some = slice_get_within xs 0 x at in
+    let one : length xs - (n - 1) ≡ 1 = omega (arith, is, some) in
+    ap (λ (k : ℕ). drop k xs) one
+
 -- what fits between the ends, of a list that is in between
 fits_in : (s : Shape) (l : Low) (h : High) (held : List Item) → Agrees s l h → l.forwarded ≡ h.taken ++ held → length held ≤ s.places → Fits s l h
 fits_in s l h held a is le = record { agrees = a; room = omega (arith, ap length is, length-append h.taken held) }
 
 module _ (e e' : PlainEnds) (l : Low) (h : High) (same : e'.window ≡ e.window) (s : StandsFor e l h) where
   same_shape : e'.items.capacity ≡ e.items.capacity → shape_of e' ≡ shape_of e
-  same_shape c = λ i. record { places = c i; window = window_of (same i); start = start_of (same i) }
+  same_shape c = λ i. record { places = c i; averaging = averaging_in (same i) }
 
   same_times : HoldsTimes e'.window h.times
   same_times = subst (λ w. HoldsTimes w h.times) (sym same) s.times
@@ -69,6 +76,12 @@ module _ (e e' : PlainEnds) (l : Low) (h : High) (same : e'.window ≡ e.window)
         },
       )
 
+  -- a copy of the first item is given
+  pub gives_copy : (x y : Item) (removed n : ℕ) → x ≡ y → slice_get e.items.items 0 ≡ Some x → n ≡ length e.items.items → e'.items ≡ buffer (keep_last (n - 1) e.items.items) e.items.capacity → Gives (shape_of e) true (StandsFor e') l h y removed
+  gives_copy x y removed n same_item at is left =
+      subst (λ (z : Item). Gives (shape_of e) true (StandsFor e') l h z removed) same_item
+      (gives_from e.items.items refl x removed at (left ∙ ap (λ (xs : List Item). buffer xs e.items.capacity) (all_but_first e.items.items x n at is)))
+
   pub none_from : (xs : List Item) → e.items.items ≡ xs → slice_get xs 0 ≡ None → e'.items ≡ buffer (drop 1 xs) e.items.capacity → GivesNone (shape_of e) true (StandsFor e') l h
   none_from (y ∷ ys) was at is = absurd (grind (arith, at))
   none_from [] was at is =
@@ -83,7 +96,7 @@ module _ (e e' : PlainEnds) (l : Low) (h : High) (same : e'.window ≡ e.window)
       )
 
 -- what is read is the average of all times, and no pair before had more of them
-pub reads : (e : PlainEnds) (l : Low) (h : High) (k v : ℕ) → StandsFor e l h → k ≡ length h.times → v ≡ average_of (window_of e.window) (start_of e.window) h.times → Reads (shape_of e) true (StandsFor e) l h k v
+pub reads : (e : PlainEnds) (l : Low) (h : High) (k v : ℕ) → StandsFor e l h → k ≡ length h.times → v ≡ average_of (averaging_in e.window) h.times → Reads (shape_of e) true (StandsFor e) l h k v
 reads e l h k v s all is =
     let up : All (λ p. p.0 ≤ k) l.pairs = all_weaken (IsAverage (shape_of e) h.times) (λ p. p.0 ≤ k) l.pairs (λ p a. omega (arith, a.0, all)) s.lawful.agrees.averages in (
       up,
@@ -96,9 +109,9 @@ reads e l h k v s all is =
     )
 
 -- a time is published
-pub published : (e e' : PlainEnds) (l : Low) (h : High) (micros : ℕ) → StandsFor e l h → e'.items ≡ e.items → window_of e'.window ≡ window_of e.window → start_of e'.window ≡ start_of e.window → HoldsTimes e'.window (h.times ++ micros ∷ []) → StandsFor e' l (publishes h micros)
-published e e' l h micros s is size start times =
-    let shape : shape_of e' ≡ shape_of e = λ i. record { places = (is i).capacity; window = size i; start = start i } in
+pub published : (e e' : PlainEnds) (l : Low) (h : High) (micros : ℕ) → StandsFor e l h → e'.items ≡ e.items → averaging_in e'.window ≡ averaging_in e.window → HoldsTimes e'.window (h.times ++ micros ∷ []) → StandsFor e' l (publishes h micros)
+published e e' l h micros s is same times =
+    let shape : shape_of e' ≡ shape_of e = λ i. record { places = (is i).capacity; averaging = same i } in
     record {
       lawful = subst (λ z. Fits z l (publishes h micros)) (sym shape) (record { agrees = publishes_agrees (shape_of e) l h s.lawful.agrees micros; room = s.lawful.room });
       between = s.between ∙ ap (λ b. h.taken ++ b.items) (sym is);

@@ -1,4 +1,5 @@
 -- A fact for each answer of an end.
+use Rattle.std.specs.Prelude.{Bool, true, false}
 use Rattle.pump_frame.specs.declared.frame.Item.{Item}
 use Rattle.passage.specs.declared.ends.Forwarded.{Forwarded}
 use Rattle.passage.specs.declared.ends.Forwarded.TheVariants.{Passed, Full}
@@ -19,3 +20,8 @@ IfFull (Full back) P = P back
 abbrev pub MatchNext : Next → (Item → Type 0) → Type 0 → Type 0
 MatchNext (Got item) P Q = P item
 MatchNext Empty P Q = Q
+
+-- one fact where an item was taken up, and another where there was none
+abbrev pub MatchTaken : Bool → Type 0 → Type 0 → Type 0
+MatchTaken true P Q = P
+MatchTaken false P Q = Q

@@ -1,16 +1,12 @@
 -- What both ends on one thread stand for.
 use Rattle.std.specs.Prelude.{◌≡◌, ◌++◌, List}
 use Rattle.pump_frame.specs.declared.frame.Item.{Item}
-use Rattle.moving_avg.specs.Windows.{HoldsTimes, window_of, start_of}
+use Rattle.moving_avg.specs.Windows.{HoldsTimes, averaging_in}
 use Rattle.pump_core.specs.Passage.{Shape, Low, High, Fits}
 use Rattle.passage.specs.declared.plain.PlainEnds.{PlainEnds}
 
 abbrev pub shape_of : PlainEnds → Shape
-shape_of e = record {
-  places = e.items.capacity;
-  window = window_of e.window;
-  start = start_of e.window;
-}
+shape_of e = record { places = e.items.capacity; averaging = averaging_in e.window }
 
 -- the items in between, the next one first
 abbrev pub held_in : PlainEnds → List Item

@@ -1,6 +1,6 @@
-ghost use Rattle.std.specs.Prelude.{◌≡◌, ◌+◌, ◌-◌, ◌^◌, ◌<◌, ◌≤◌, length};
+ghost use Rattle.std.specs.Prelude.{◌≡◌, ◌+◌, ◌-◌, ◌^◌, ◌<◌, ◌≤◌, false, length};
 ghost use Rattle.pump_core.specs.Passage.{Low, High, ComesNext, publishes, Passes, Refuses, Reads, Gives, GivesNone};
-ghost use Rattle.passage.specs.Answers.{IfFull, MatchForwarded, MatchNext};
+ghost use Rattle.passage.specs.Answers.{IfFull, MatchForwarded, MatchNext, MatchTaken};
 
 use pump_core::Seen;
 use pump_frame::Item;
@@ -93,9 +93,21 @@ pub trait LowEnd: LowSide {
 
 /// The end of the high process, whose calls wait for nobody.
 pub trait HighEnd: HighSide {
-    /// Takes up the next item. `removed`, the number of messages removed so far, is above that of
-    /// every earlier call that got an item. Nothing comes only where nothing was held at a step of
-    /// this call, which is told as a try.
+    /// Takes up the next item, over what stands in `into`. `removed`, the number of messages removed
+    /// so far, is above that of every earlier call that got an item. False says that nothing came:
+    /// only where nothing was held at a step of this call, which is told as a try. `into` is then
+    /// as before.
+    fn next_into(&mut self, removed: u64, into: &mut Item) -> bool
+        requires { (l : Low) × (h : High) × Self.stands self.old l h × (h.floor ≤ removed) }
+        ensures shape { Self.shape self.new ≡ Self.shape self.old }
+        ensures place { Self.place self.new ≡ Self.place self.old }
+        ensures kept { result ≡ false → into.new ≡ into.old }
+        ensures step { (l : Low) (h : High) → Self.stands self.old l h
+            → MatchTaken result
+            (Gives (Self.shape self.old) Self.exact (Self.stands self.new) l h into.new removed)
+            (GivesNone (Self.shape self.old) Self.exact (Self.stands self.new) l h) };
+
+    /// As `next_into`, with the item by value.
     fn next(&mut self, removed: u64) -> Next
         requires { (l : Low) × (h : High) × Self.stands self.old l h × (h.floor ≤ removed) }
         ensures shape { Self.shape self.new ≡ Self.shape self.old }
@@ -103,7 +115,15 @@ pub trait HighEnd: HighSide {
         ensures step { (l : Low) (h : High) → Self.stands self.old l h
             → MatchNext result
             (λ item. Gives (Self.shape self.old) Self.exact (Self.stands self.new) l h item removed)
-            (GivesNone (Self.shape self.old) Self.exact (Self.stands self.new) l h) };
+            (GivesNone (Self.shape self.old) Self.exact (Self.stands self.new) l h) }
+    {
+        let mut item = Item::default();
+        if self.next_into(removed, &mut item) {
+            Next::Got(item)
+        } else {
+            Next::Empty
+        }
+    }
 
     /// Publishes a time in microseconds, at most 10^9, where fewer than 2^32 - 1 were published.
     fn publish(&mut self, micros: u32)

@@ -1,6 +1,6 @@
 ghost use Rattle.std.specs.Prelude.{◌≡◌, ◌+◌, ◌<◌, ◌≤◌, length, IfOk};
 
-use crate::ends::{Forwarded, HighEnd, HighSide, LowEnd, LowSide, Next};
+use crate::ends::{Forwarded, HighEnd, HighSide, LowEnd, LowSide};
 use circular_buffer::HeapCircularBuffer;
 use moving_avg::Window;
 use pump_core::Seen;
@@ -96,11 +96,16 @@ impl LowEnd for PlainEnds {
 }
 
 impl HighEnd for PlainEnds {
-    fn next(&mut self, _removed: u64) -> Next {
-        match self.items.pop_front() {
-            Some(item) => Next::Got(item),
-            None => Next::Empty,
+    fn next_into(&mut self, _removed: u64, into: &mut Item) -> bool {
+        match self.items.front() {
+            Some(item) => {
+                into.number = item.number;
+                into.payload.set(item.payload.as_slice());
+            }
+            None => return false,
         }
+        self.items.truncate_front(self.items.len() - 1);
+        true
     }
 
     fn publish(&mut self, micros: u32) {

@@ -16,11 +16,12 @@ use Rattle.pump_core.specs.Step.{is_quiet, fits_passing, Fits, takes_idle, takes
 use Rattle.pump_core.specs.Standing.{State, end_of}
 use Rattle.pump_core.proofs.Runs.{not_repeat}
 
-abbrev is_released : Feedback → Bool
+-- how a cut grows by a look
+abbrev pub is_released : Feedback → Bool
 is_released Released = true
 is_released _ = false
 
-abbrev begun : SessionRow → ℕ → Bool → Look → Arrival → Part
+abbrev pub begun : SessionRow → ℕ → Bool → Look → Arrival → Part
 begun row n g x Nothing = Empty x
 begun row n g x Gone = Leaving x
 begun row n g x Bad = Answer x
@@ -29,16 +30,16 @@ begun row n g x (Came f) =
     else if is_next row n g f then (if x.is_fault then Loss x [] else Offering x [])
     else Answer x
 
-abbrev begun_held : Look → Part
+abbrev pub begun_held : Look → Part
 begun_held x = if is_released x.feedback then Release [] x else Holding x []
 
-abbrev following : SessionRow → Opening → List Part → Look → List Part
+abbrev pub following : SessionRow → Opening → List Part → Look → List Part
 following row o parts x = (if is_left o parts then begun_held x else begun row (count_after o parts) (greeted_after row parts) x x.arrival) ∷ parts
 
-abbrev wait_with : ℕ → List Look → Look → Wait
+abbrev pub wait_with : ℕ → List Look → Look → Wait
 wait_with due quiet x = if ends due x then Over quiet x else Waiting (x ∷ quiet)
 
-abbrev grow : SessionRow → Opening → List Part → Look → List Part
+abbrev pub grow : SessionRow → Opening → List Part → Look → List Part
 grow row o [] x = following row o [] x
 grow row o (Holding y ys ∷ before) x = (if is_released x.feedback then Release (y ∷ ys) x else Holding x (y ∷ ys)) ∷ before
 grow row o (Release ys last ∷ before) x = following row o (Release ys last ∷ before) x

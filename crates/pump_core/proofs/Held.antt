@@ -9,6 +9,7 @@ use Rattle.pump_frame.specs.declared.frame.Item.{Item}
 use Rattle.pump_core.specs.declared.event.Event.TheVariants.{Forward, TakeUp, Send, CarryData, TakeBegin, TakeEnd, ReturnTaken, RemoveBegin, RemoveEnd}
 use Rattle.pump_core.specs.World.{World, opened}
 use Rattle.pump_core.specs.Events.{Opened, took}
+use Rattle.pump_core.specs.Sendings.{Sending}
 use Rattle.pump_core.specs.Timed.{Step, LowLook, HighLook, Offer, Publish, Occurs, Point, opening_in, LeadsTo}
 use Rattle.pump_core.specs.Runs.{IsRun}
 
@@ -32,6 +33,9 @@ p = 7 ∷ []
 
 abbrev packet : ℕ → Item
 packet n = record { number = n; payload = p }
+
+abbrev sending_at : ℕ → ℕ → Sending
+sending_at number moment = record { number = number; moment = moment }
 
 abbrev w₀ : World
 w₀ = opened 3 0 [] (p ∷ p ∷ p ∷ [])
@@ -96,7 +100,7 @@ stood = (Offer ∷ Occurs Forward ∷ []) ∷ (Offer ∷ []) ∷ []
 abbrev point : Point
 point = record {
   world = w₁₀;
-  high = record { published = 8 ∷ []; first_sent = Some 20; unpublished = None; looking = true; moment = 20 };
+  high = record { times = 8 ∷ []; sends = sending_at 1 20 ∷ sending_at 0 12 ∷ []; unpublished = None; looking = true; moment = 20 };
   looked = 30;
   life = record { side = record { opening = opening_in w₀; events = events }; stood = stood };
   earlier = [];

@@ -1,6 +1,7 @@
 pub mod Agreement
 pub mod Bounded
 pub mod Cuts
+pub mod CutsFit
 pub mod Delivered
 pub mod Example
 pub mod Greetings
@@ -8,6 +9,7 @@ pub mod Grows
 pub mod Held
 pub mod Laws
 pub mod Lists
+pub mod MayTake
 pub mod Onward
 pub mod Once
 pub mod PassageSteps

@@ -1,5 +1,5 @@
 -- Each step of an end keeps the law of the passage.
-use Rattle.std.proofs.Common.{◌^◌, ◌≡◌, ℕ, ◌+◌, ◌≤◌, ◌<◌, suc, List, [], ◌∷◌, ◌++◌, length, sym, refl, ap, ◌∙◌, append_assoc, le_trans, arith}
+use Rattle.std.proofs.Common.{◌^◌, ◌≡◌, ℕ, ◌+◌, ◌≤◌, ◌<◌, suc, List, [], ◌∷◌, ◌++◌, length, sym, refl, ap, ◌∙◌, append_assoc, le_refl, le_trans, arith}
 use Rattle.std.specs.List.{All}
 use Rattle.std.proofs.lemmas.List.{length-append, take-append-le, take_all}
 use Rattle.std.proofs.lemmas.List.Elements.{All-append, All-cons, All-nil}
@@ -53,11 +53,11 @@ never_fall_snoc (q ∷ qs) p h le = (all_snoc (λ r. q.0 ≤ r.0) qs p h.0 (all_
 
 -- a pair stays an average of a beginning where times are added
 pub average_stays : (s : Shape) (times : List ℕ) (t : ℕ) (p : ℕ × ℕ) → IsAverage s times p → IsAverage s (times ++ t ∷ []) p
-average_stays s times t p h = (le_trans h.0 (longer times t), h.1 ∙ ap (average_of s.window s.start) (sym (take-append-le p.0 times (t ∷ []) h.0)))
+average_stays s times t p h = (le_trans h.0 (longer times t), h.1 ∙ ap (average_of s.averaging) (sym (take-append-le p.0 times (t ∷ []) h.0)))
 
 -- what is published is the average of all times
-pub average_now : (s : Shape) (times : List ℕ) (k a : ℕ) → k ≡ length times → a ≡ average_of s.window s.start times → IsAverage s times (k, a)
-average_now s times k a e h = (omega (arith, e), h ∙ ap (average_of s.window s.start) (sym (take_all k times (omega (arith, e)))))
+pub average_now : (s : Shape) (times : List ℕ) (k a : ℕ) → k ≡ length times → a ≡ average_of s.averaging times → IsAverage s times (k, a)
+average_now s times k a e h = (omega (arith, e), h ∙ ap (average_of s.averaging) (sym (take_all k times (omega (arith, e)))))
 
 module _ (s : Shape) (l : Low) (h : High) (a : Agrees s l h) where
   pub forwards_agrees : (x : Item) → ComesNext l.forwarded x.number → Agrees s (forwards l x) h
@@ -68,6 +68,8 @@ module _ (s : Shape) (l : Low) (h : High) (a : Agrees s l h) where
     never_fall = a.never_fall;
     low_tries = a.low_tries;
     high_tries = all_weaken (λ t. t.0 ≤ length l.forwarded) (λ t. t.0 ≤ length (l.forwarded ++ x ∷ [])) h.tries (λ t le. le_trans le (longer l.forwarded x)) a.high_tries;
+    each_time = a.each_time;
+    before = a.before;
   }
 
   pub tried_agrees : (taken : ℕ) → taken ≤ length h.taken → Agrees s (tried l taken) h
@@ -78,6 +80,8 @@ module _ (s : Shape) (l : Low) (h : High) (a : Agrees s l h) where
     never_fall = a.never_fall;
     low_tries = all_snoc (λ t. t.1 ≤ length h.taken) l.tries (length l.forwarded, taken) a.low_tries le;
     high_tries = a.high_tries;
+    each_time = a.each_time;
+    before = a.before;
   }
 
   pub reads_agrees : (k v : ℕ) → IsAverage s h.times (k, v) → All (λ p. p.0 ≤ k) l.pairs → Agrees s (read_pair l k v) h
@@ -88,6 +92,8 @@ module _ (s : Shape) (l : Low) (h : High) (a : Agrees s l h) where
     never_fall = never_fall_snoc l.pairs (k, v) a.never_fall up;
     low_tries = a.low_tries;
     high_tries = a.high_tries;
+    each_time = a.each_time;
+    before = a.before;
   }
 
   pub takes_agrees : (x : Item) (removed : ℕ) (rest : List Item) → l.forwarded ≡ (h.taken ++ x ∷ []) ++ rest → Agrees s l (takes h x removed)
@@ -98,6 +104,8 @@ module _ (s : Shape) (l : Low) (h : High) (a : Agrees s l h) where
     never_fall = a.never_fall;
     low_tries = all_weaken (λ t. t.1 ≤ length h.taken) (λ t. t.1 ≤ length (h.taken ++ x ∷ [])) l.tries (λ t le. le_trans le (longer h.taken x)) a.low_tries;
     high_tries = a.high_tries;
+    each_time = a.each_time;
+    before = all_weaken (λ n. n ≤ length h.taken) (λ n. n ≤ length (h.taken ++ x ∷ [])) h.taken_before (λ n le. le_trans le (longer h.taken x)) a.before;
   }
 
   pub sought_agrees : (n : ℕ) → n ≤ length l.forwarded → Agrees s l (sought h n)
@@ -108,6 +116,8 @@ module _ (s : Shape) (l : Low) (h : High) (a : Agrees s l h) where
     never_fall = a.never_fall;
     low_tries = a.low_tries;
     high_tries = all_snoc (λ t. t.0 ≤ length l.forwarded) h.tries (n, length h.taken) a.high_tries le;
+    each_time = a.each_time;
+    before = a.before;
   }
 
   pub publishes_agrees : (t : ℕ) → Agrees s l (publishes h t)
@@ -118,4 +128,6 @@ module _ (s : Shape) (l : Low) (h : High) (a : Agrees s l h) where
     never_fall = a.never_fall;
     low_tries = a.low_tries;
     high_tries = a.high_tries;
+    each_time = omega (arith, a.each_time, length-append h.taken_before (length h.taken ∷ []), length-append h.times (t ∷ []));
+    before = all_snoc (λ n. n ≤ length h.taken) h.taken_before (length h.taken) a.before (le_refl _);
   }

@@ -1,13 +1,16 @@
 pub mod Comings
 pub mod Events
 pub mod Exchanges
+pub mod HighLooks
 pub mod History
 pub mod Lawful
 pub mod Pairs
 pub mod Passage
 pub mod Phases
 pub mod Replies
+pub mod ReplyFrames
 pub mod Runs
+pub mod Sendings
 pub mod Standing
 pub mod Step
 pub mod Thinned

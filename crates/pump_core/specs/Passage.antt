@@ -2,19 +2,18 @@
 -- one call of an end leaves.
 use Rattle.std.specs.Prelude.{◌≡◌, ℕ, ◌+◌, ◌-◌, ◌<◌, ◌≤◌, Bool, true, List, [], ◌∷◌, ◌++◌, length, take}
 use Rattle.std.specs.List.{All}
-use Rattle.pump_frame.specs.Averages.{average_of}
+use Rattle.pump_frame.specs.Averages.{Averaging, averaging_of, average_of}
 use Rattle.pump_frame.specs.declared.frame.Item.{Item}
 use Rattle.pump_frame.specs.declared.row.SessionRow.{SessionRow}
 
--- how many items fit into it; how many times are averaged; the average before the first time
+-- how many items fit into it, and how times are averaged in it
 pub record Shape : Type 0 where
   pub places : ℕ
-  pub window : ℕ
-  pub start : ℕ
+  pub averaging : Averaging
 
 -- the passage of a session: two of its messages are in the hands of the processes
 abbrev pub shape_of_row : SessionRow → Shape
-shape_of_row row = record { places = row.capacity - 2; window = row.window; start = row.start }
+shape_of_row row = record { places = row.capacity - 2; averaging = averaging_of row }
 
 -- what a low end did: the items forwarded; its tries that found no room, each with the number
 -- forwarded and the number taken up; the pairs of count and average that it read
@@ -24,11 +23,13 @@ pub record Low : Type 0 where
   pub pairs : List (ℕ × ℕ)
 
 -- what a high end did: the items taken up; one above the number removed at the last of them, or 0;
--- the times published; its tries that found nothing, each with the number forwarded and taken up
+-- the times published, and beside each the number taken up when it was published; its tries that found
+-- nothing, each with the number forwarded and taken up
 pub record High : Type 0 where
   pub taken : List Item
   pub floor : ℕ
   pub times : List ℕ
+  pub taken_before : List ℕ
   pub tries : List (ℕ × ℕ)
 
 -- an end that did nothing yet
@@ -36,7 +37,7 @@ abbrev pub new_low : Low
 new_low = record { forwarded = []; tries = []; pairs = [] }
 
 abbrev pub new_high : High
-new_high = record { taken = []; floor = 0; times = []; tries = [] }
+new_high = record { taken = []; floor = 0; times = []; taken_before = []; tries = [] }
 
 -- the items have the numbers from `first` on
 abbrev pub Numbered : ℕ → List Item → Type 0
@@ -60,7 +61,7 @@ NeverFall (p ∷ ps) = All (λ q. p.0 ≤ q.0) ps × NeverFall ps
 
 -- the pair is a count of times, and the average of the first so many
 abbrev pub IsAverage : Shape → List ℕ → ℕ × ℕ → Type 0
-IsAverage s times p = (p.0 ≤ length times) × (p.1 ≡ average_of s.window s.start (take p.0 times))
+IsAverage s times p = (p.0 ≤ length times) × (p.1 ≡ average_of s.averaging (take p.0 times))
 
 -- the law of the two ends of one passage: what was taken up is the beginning of what was forwarded
 pub record Agrees (s : Shape) (l : Low) (h : High) : Type 0 where
@@ -70,6 +71,8 @@ pub record Agrees (s : Shape) (l : Low) (h : High) : Type 0 where
   pub never_fall : NeverFall l.pairs
   pub low_tries : All (λ t. t.1 ≤ length h.taken) l.tries
   pub high_tries : All (λ t. t.0 ≤ length l.forwarded) h.tries
+  pub each_time : length h.taken_before ≡ length h.times
+  pub before : All (λ n. n ≤ length h.taken) h.taken_before
 
 -- .. and no more is in between than has room
 pub record Fits (s : Shape) (l : Low) (h : High) : Type 0 where
@@ -94,7 +97,10 @@ abbrev pub sought : High → ℕ → High
 sought h forwarded = record h { tries = h.tries ++ (forwarded, length h.taken) ∷ [] }
 
 abbrev pub publishes : High → ℕ → High
-publishes h micros = record h { times = h.times ++ micros ∷ [] }
+publishes h micros = record h {
+  times = h.times ++ micros ∷ [];
+  taken_before = h.taken_before ++ length h.taken ∷ [];
+}
 
 -- What one call leaves. `after` is what the end stands for at the return, and `exact` says that
 -- both ends are on one thread, so that the call sees the other end as it is.
@@ -116,7 +122,7 @@ module _ (s : Shape) (exact : Bool) (after : Low → High → Type 0) (l : Low) 
   abbrev pub Reads : ℕ → ℕ → Type 0
   Reads count average =
       All (λ p. p.0 ≤ count) l.pairs
-      × (exact ≡ true → (count ≡ length h.times) × (average ≡ average_of s.window s.start h.times))
+      × (exact ≡ true → (count ≡ length h.times) × (average ≡ average_of s.averaging h.times))
       × after (read_pair l count average) h
 
   -- the item was taken up

@@ -1,8 +1,8 @@
 -- Timed runs: what comes to the low side, the looks of both sides, and the events of the world between
 -- them. Of the low side all lists have their newest entry first.
-use Rattle.std.specs.Prelude.{◌≡◌, ℕ, ◌-◌, ◌^◌, ◌≤◌, min, nat_lt, ◌==◌, if◌then◌else◌, Bool, true, false, List, [], ◌∷◌, ◌++◌, length, Option, Some, None}
+use Rattle.std.specs.Prelude.{◌≡◌, ℕ, ◌-◌, ◌≤◌, ◌==◌, if◌then◌else◌, Bool, true, false, List, [], ◌∷◌, ◌++◌, length, Option, Some, None}
 use Rattle.pump_frame.specs.declared.row.SessionRow.{SessionRow}
-use Rattle.pump_frame.specs.Averages.{average_of}
+use Rattle.pump_frame.specs.Averages.{averaging_of, average_of}
 use Rattle.pump_core.specs.declared.feedback.Seen.{Seen}
 use Rattle.pump_core.specs.declared.feedback.Feedback.{Feedback}
 use Rattle.pump_core.specs.declared.feedback.Feedback.TheVariants.{Quiet, Full, Passed, Released, Repeat}
@@ -12,6 +12,7 @@ use Rattle.pump_core.specs.History.{Opening}
 use Rattle.pump_core.specs.Comings.{Coming, Timed, Comes, Looks, Side}
 use Rattle.pump_core.specs.World.{World, live}
 use Rattle.pump_core.specs.Events.{Happens, Begins}
+use Rattle.pump_core.specs.Sendings.{Sending, removal_time, sending_of}
 
 -- ---- steps and points ----
 
@@ -27,12 +28,12 @@ pub data Step : Type 0 where
   Publish : Step
   Occurs : (e : Event) → Step
 
--- the high side: the times published since the pump's opening, when the message in the high hand was
--- first sent since then, the time that the last removal has still to publish, whether a look was made
+-- the high side: the times published since the pump's opening, the oldest first, the sendings since
+-- then, the newest first, the time that the last removal has still to publish, whether a look was made
 -- since then, and the moment of the last look
 pub record HighSide : Type 0 where
-  pub published : List ℕ
-  pub first_sent : Option ℕ
+  pub times : List ℕ
+  pub sends : List Sending
   pub unpublished : Option ℕ
   pub looking : Bool
   pub moment : ℕ
@@ -65,8 +66,8 @@ life_in w = record { side = record { opening = opening_in w; events = [] }; stoo
 -- the high side at an opening
 abbrev pub high_from : ℕ → HighSide
 high_from moment = record {
-  published = [];
-  first_sent = None;
+  times = [];
+  sends = [];
   unpublished = None;
   looking = false;
   moment = moment;
@@ -94,7 +95,7 @@ offered w _ = if length w.held == w.capacity - 2 then Full else Released
 
 -- what a read gives: how many times were published, and their average
 abbrev pub seen : SessionRow → List ℕ → Seen
-seen row times = record { count = length times; average = average_of row.window row.start times }
+seen row times = record { count = length times; average = average_of (averaging_of row) times }
 
 -- a read after an offer makes the look Passed, and alone it makes it Repeat
 abbrev pub with_read : Seen → Feedback → Feedback
@@ -125,33 +126,19 @@ standing t s f = record t {
 
 -- ---- events ----
 
--- the first moment stays
-abbrev pub first_moment : Option ℕ → ℕ → Option ℕ
-first_moment None m = Some m
-first_moment (Some first) m = Some first
-
--- the time that a removal publishes, in microseconds: none where its message was not sent since the
--- opening, or where 2^32 - 1 times were published
-abbrev pub time_of : Option ℕ → ℕ → List ℕ → Option ℕ
-time_of None now times = None
-time_of (Some first) now times =
-    if nat_lt (length times) (2 ^ 32 - 1) then Some (min (now - first) (10 ^ 9)) else None
-
--- the high side after it began a look, sent the message in its hand, removed it, and published a time
+-- the high side after it began a look, sent the message in this hand, removed the message with this
+-- number, and published a time
 abbrev pub high_looking : HighSide → ℕ → HighSide
 high_looking h m = record h { looking = true; moment = m }
 
-abbrev pub high_sent : HighSide → HighSide
-high_sent h = record h { first_sent = first_moment h.first_sent h.moment }
+abbrev pub high_sent : HighSide → Option ℕ → HighSide
+high_sent h hand = record h { sends = sending_of h.moment hand ++ h.sends }
 
-abbrev pub high_removed : HighSide → HighSide
-high_removed h = record h {
-  first_sent = None;
-  unpublished = time_of h.first_sent h.moment h.published;
-}
+abbrev pub high_removed : HighSide → ℕ → HighSide
+high_removed h n = record h { unpublished = removal_time n h.moment h.sends h.times }
 
 abbrev pub high_published : HighSide → ℕ → HighSide
-high_published h time = record h { published = h.published ++ time ∷ []; unpublished = None }
+high_published h time = record h { times = h.times ++ time ∷ []; unpublished = None }
 
 -- the event stands in the low look, and leads to the world v
 abbrev pub occurs : Point → Event → World → Point
@@ -162,8 +149,8 @@ occurs t e v = record t {
 
 -- the point after an event that leads to the world v
 abbrev pub after_event : Point → Event → World → Point
-after_event t Send v = record t { world = v; high = high_sent t.high }
-after_event t RemoveEnd v = record t { world = v; high = high_removed t.high }
+after_event t Send v = record t { world = v; high = high_sent t.high t.world.high_hand }
+after_event t RemoveEnd v = record t { world = v; high = high_removed t.high t.world.removed }
 after_event t (Crash (Some kept) receiver) v = reopens t v
 after_event t (StoreBegin p) v = occurs t (StoreBegin p) v
 after_event t StoreEnd v = occurs t StoreEnd v
@@ -208,7 +195,7 @@ Moves row t (LowLook m w gone d) u =
 Moves row t (HighLook m) u =
     (t.high.moment ≤ m) × IsPublished t.high × (u ≡ record t { high = high_looking t.high m })
 Moves row t Offer u = u ≡ standing t Offer (offered t.world)
-Moves row t Read u = u ≡ standing t Read (with_read (seen row t.high.published))
+Moves row t Read u = u ≡ standing t Read (with_read (seen row t.high.times))
 Moves row t Publish u =
     (time : ℕ) × (t.high.unpublished ≡ Some time) × (u ≡ record t { high = high_published t.high time })
 Moves row t (Occurs e) u =

@@ -6,6 +6,7 @@ mod event;
 mod feedback;
 mod histories;
 mod refill;
+mod reply;
 mod world;
 
 pub use event::{Event, Hostile};
@@ -14,6 +15,7 @@ pub use histories::{
     cuts_are_one, greetings_are_permitted_by_name, pairs_agree, replies_are_one, sides_decide,
     thinned_histories_agree,
 };
+pub use reply::{Refusal, Reply};
 pub use world::World;
 
 #[cfg(test)]

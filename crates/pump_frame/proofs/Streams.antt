@@ -1,12 +1,12 @@
 -- A reader's answers to a list of bytes are the stream's frames.
-use Rattle.std.proofs.Common.{◌≡◌, ℕ, ◌+◌, ◌<◌, ◌≤◌, ◌↔◌, ◌⊎◌, Bool, true, false, List, [], ◌∷◌, ◌++◌, length, get_or, drop, Option, None, Some, refl, sym, ap, ◌∙◌, subst, arith, zero, suc, inl, inr}
-use Rattle.std.proofs.lemmas.List.{append_assoc, append-nil, append_cancel_left}
-use Rattle.std.specs.List.{AllByRecursion, flat_map, concat}
+use Rattle.std.proofs.Common.{◌≡◌, ℕ, ◌<◌, ◌⊎◌, List, [], ◌∷◌, ◌++◌, length, drop, Option, None, Some, refl, sym, ap, ◌∙◌, subst, arith, inl, inr}
+use Rattle.std.proofs.lemmas.List.{append_assoc, append-nil}
+use Rattle.std.specs.List.{AllByRecursion, concat}
 use Rattle.pump_frame.specs.Frames.{IsLawful}
 use Rattle.pump_frame.specs.Spellings.{spelling, header_of, Begins, IsPartial}
-use Rattle.pump_frame.specs.Readings.{Reading, Within, Stopped, HasBegun}
+use Rattle.pump_frame.specs.Readings.{Reading, Within, Stopped}
 use Rattle.pump_frame.specs.Streams.{spellings, IsStream, Feeds, frames_of, Reads, ReadsPieces}
-use Rattle.pump_frame.specs.Places.{run, step, kind_of, AreBytes, IsFrameOf, IsWhole}
+use Rattle.pump_frame.specs.Places.{run, AreBytes, IsFrameOf, IsWhole}
 use Rattle.pump_frame.specs.declared.frame.Frame.{Frame}
 use Rattle.pump_frame.specs.declared.place.Place.{Place}
 use Rattle.byteorder.specs.Endian.{big_number}
@@ -14,7 +14,7 @@ use Rattle.pump_frame.specs.declared.place.Place.TheVariants.{FirstMark, SecondM
 use Rattle.pump_frame.specs.declared.reader.Fed.{Fed}
 use Rattle.pump_frame.specs.declared.reader.Fed.TheVariants.{More, Whole, Bad}
 use Rattle.pump_frame.proofs.Reading.{read_frame}
-use Rattle.pump_frame.proofs.Exact.{apart, free, same_frame, partial_from, push_bytes, begins_nothing}
+use Rattle.pump_frame.proofs.Exact.{apart, same_frame, partial_from, push_bytes, begins_nothing}
 
 pub nothing_partial : IsPartial []
 nothing_partial = partial_from [] FirstMark (λ i. omega arith) refl (λ e. cc)

@@ -1,4 +1,5 @@
 pub mod Averages
+pub mod Counts
 pub mod Delays
 pub mod Frames
 pub mod Names

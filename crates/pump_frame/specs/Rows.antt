@@ -5,6 +5,13 @@ use Rattle.pump_frame.specs.declared.row.SessionRow.{SessionRow}
 use Rattle.pump_frame.specs.declared.row.RowKey.{RowKey}
 use Rattle.pump_frame.specs.declared.row.RowKey.TheVariants.{Capacity, Message, Window, Start, Longest, Resend}
 
+-- how many messages a row lets the relay hold: from the least to the greatest
+abbrev pub least_capacity : ℕ
+least_capacity = 3
+
+abbrev pub greatest_capacity : ℕ
+greatest_capacity = 64
+
 -- a number from `least` to `greatest`
 abbrev pub is_within : ℕ → ℕ → ℕ → Bool
 is_within least greatest value = nat_le least value && nat_le value greatest
@@ -12,7 +19,7 @@ is_within least greatest value = nat_le least value && nat_le value greatest
 -- the first key whose number is outside its range
 abbrev pub first_bad : SessionRow → Option RowKey
 first_bad row =
-    if is_within 3 64 row.capacity then
+    if is_within least_capacity greatest_capacity row.capacity then
     if is_within 1 1024 row.message then
     if is_within 1 256 row.window then
     if is_within 0 1000000000 row.start then

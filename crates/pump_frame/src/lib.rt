@@ -1,6 +1,7 @@
 //! The values that every layer of the relay speaks of: names, payloads, frames and session rows.
 #![tactic(auto)]
 
+mod count;
 mod frame;
 mod laws;
 mod memory;
@@ -11,6 +12,7 @@ mod reader;
 mod row;
 mod spelling;
 
+pub use count::raised;
 pub use frame::{Frame, Item, Kind};
 pub use laws::{
     all_bytes_are_a_stream, answers_are_exact, cuts_do_not_matter, names_are_one,
@@ -20,7 +22,7 @@ pub use memory::OutOfMemory;
 pub use name::Name;
 pub use payload::Payload;
 pub use reader::{Fed, Reader};
-pub use row::{RowKey, SessionRow};
+pub use row::{GREATEST_CAPACITY, LEAST_CAPACITY, RowKey, SessionRow};
 pub use spelling::encode;
 
 #[cfg(test)]

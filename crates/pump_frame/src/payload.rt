@@ -45,6 +45,18 @@ impl Payload {
         })
     }
 
+    /// From now on it is these bytes, at most 1024. Only they are written, and zeros over what the
+    /// old ones reached past them.
+    pub fn set(&mut self, bytes: &[u8])
+        requires short { length bytes.now ≤ 1024 }
+        ensures value { self.new ≡ bytes.now }
+    {
+        let end = self.len.max(bytes.len());
+        self.cells[..bytes.len()].copy_from_slice(bytes);
+        self.cells[bytes.len()..end].fill(0);
+        self.len = bytes.len();
+    }
+
     /// Its bytes.
     pub fn as_slice(&self) -> &[u8]
         ensures value { result.now ≡ self.now }
@@ -64,7 +76,13 @@ impl Payload {
 
 /// The payload without bytes.
 impl Default for Payload {
-    fn default() -> Payload {
+    ghost use Rattle.std.specs.Prelude.{◌≡◌, []};
+
+    ghost is_default = { λ payload. payload ≡ [] };
+
+    fn default() -> Payload
+        ensures { result ≡ [] }
+    {
         Payload {
             cells: [0; 1024],
             len: 0,

@@ -3,6 +3,12 @@ ghost use Rattle.pump_frame.specs.Rows.{first_bad};
 
 use crate::name::Name;
 
+/// The least number of messages that a row lets the relay hold.
+pub const LEAST_CAPACITY: u32 = 3;
+
+/// The greatest number of messages that a row lets the relay hold.
+pub const GREATEST_CAPACITY: u32 = 64;
+
 /// One session of the table: who may use it, and its numbers. All times are in microseconds.
 #[derive(Clone, Copy)]
 pub struct SessionRow {
@@ -11,7 +17,7 @@ pub struct SessionRow {
     pub low: Name,
     /// The high party's name.
     pub high: Name,
-    /// How many messages the relay holds at most, 3 to 64.
+    /// How many messages the relay holds at most, `LEAST_CAPACITY` to `GREATEST_CAPACITY`.
     pub capacity: u32,
     /// The longest payload in bytes, 1 to 1024.
     pub message: u32,
@@ -56,7 +62,7 @@ impl SessionRow {
     pub fn first_bad(&self) -> Option<RowKey>
         ensures { result ≡ first_bad self.now }
     {
-        if !is_within(self.capacity, 3, 64) {
+        if !is_within(self.capacity, LEAST_CAPACITY, GREATEST_CAPACITY) {
             return Some(RowKey::Capacity);
         }
         if !is_within(self.message, 1, 1024) {

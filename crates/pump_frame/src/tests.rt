@@ -121,3 +121,14 @@ fn a_hello_has_its_names(rt: HostRuntime) {
     let high = Name::from_slice(b"watch").expect(&rt, "a name");
     assert!(rt; has_names(&Frame::hello(1, &low, &high), b"weather", b"watch"));
 }
+
+#[test]
+fn a_payload_is_set_anew(rt: HostRuntime) {
+    let mut payload = Payload::default();
+    assert!(rt; payload.as_slice().is_empty());
+    payload.set(b"longer");
+    payload.set(b"ab");
+    assert!(rt; payload.as_slice() == b"ab".as_slice());
+    payload.set(b"abc");
+    assert!(rt; payload.as_slice() == b"abc".as_slice() && payload.len() == 3);
+}

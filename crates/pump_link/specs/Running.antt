@@ -1,6 +1,6 @@
 -- What a contract sees of a clock, of words and of a link in memory, and what these tell.
 use Rattle.std.specs.Prelude.{◌≡◌, ℕ, ◌+◌, ◌-◌, ◌^◌, ◌<◌, min, ◌⊎◌, List, [], ◌∷◌, ◌++◌, length, take, drop, Contains}
-use Rattle.pump_link.specs.Causes.{raised}
+use Rattle.pump_frame.specs.Counts.{raised}
 use Rattle.pump_link.specs.declared.link.Looked.{Looked}
 use Rattle.pump_link.specs.declared.link.Looked.TheVariants.{Byte, NotYet, Ended, Failed}
 

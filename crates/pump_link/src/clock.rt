@@ -1,5 +1,5 @@
 ghost use Rattle.std.specs.Prelude.{◌≡◌, ℕ, ◌≤◌, ◌^◌, List, [], ◌∷◌};
-ghost use Rattle.pump_link.specs.Causes.{raised};
+ghost use Rattle.pump_frame.specs.Counts.{raised};
 ghost use Rattle.pump_link.specs.Tells.{Draws};
 
 /// Gives moments in microseconds, which never fall.

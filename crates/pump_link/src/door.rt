@@ -1,5 +1,5 @@
 ghost use Rattle.std.specs.Prelude.{◌≡◌, ℕ, ◌≤◌, List, [], ◌∷◌};
-ghost use Rattle.pump_link.specs.Causes.{Rose};
+ghost use Rattle.pump_frame.specs.Counts.{Rose};
 ghost use Rattle.pump_link.specs.Doors.{DoorStep, BackLink, answered};
 ghost use Rattle.pump_link.specs.Tells.{Draws, Grows};
 

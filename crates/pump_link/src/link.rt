@@ -1,5 +1,6 @@
 ghost use Rattle.std.specs.Prelude.{◌≡◌, ℕ, ◌≤◌, List, [], ◌∷◌};
-ghost use Rattle.pump_link.specs.Causes.{HasCause, Rose};
+ghost use Rattle.pump_frame.specs.Counts.{Rose};
+ghost use Rattle.pump_link.specs.Causes.{HasCause};
 ghost use Rattle.pump_link.specs.Tells.{Draws, Grows, Sends};
 
 /// A send that failed.

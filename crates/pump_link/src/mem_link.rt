@@ -1,9 +1,11 @@
 ghost use Rattle.std.specs.Prelude.{◌≡◌, ℕ, ◌-◌, ◌≤◌, ◌<◌, ◌↔◌, ◌⊎◌, min, List, [], ◌∷◌, ◌++◌, length, take, drop, Contains, IsErr, IsTrue, OnOk, OnErr};
-ghost use Rattle.pump_link.specs.Causes.{HasCause, Rose};
+ghost use Rattle.pump_frame.specs.Counts.{Rose};
+ghost use Rattle.pump_link.specs.Causes.{HasCause};
 ghost use Rattle.pump_link.specs.Running.{MemoryLink, LooksFrom, first_look, after_look, with_sent, after_send, FailsToSend};
 ghost use Rattle.pump_link.specs.Tells.{Draws, Grows, Sends};
 
 use crate::link::{Link, Looked, SendFault};
+use pump_frame::raised;
 use std::marker::Model;
 
 /// A link in memory. Its looks give a list in order, then `Ended` for good. What is sent is kept
@@ -83,7 +85,7 @@ impl Link for MemLink {
         let look = self.arrivals.get(self.at).copied().unwrap_or(Looked::Ended);
         self.at = self.arrivals.len().min(self.at + 1);
         if matches!(look, Looked::Failed) {
-            self.faults = self.faults.saturating_add(1);
+            self.faults = raised(self.faults);
         }
         look
     }
@@ -97,13 +99,13 @@ impl Link for MemLink {
         ensures err { OnErr result (FailsToSend self.old self.new bytes.now) }
     {
         let number = self.calls;
-        self.calls = number.saturating_add(1);
+        self.calls = raised(number);
         if self.fails.contains(&number) {
-            self.faults = self.faults.saturating_add(1);
+            self.faults = raised(self.faults);
             return Err(SendFault);
         }
         if !self.put(bytes) {
-            self.faults = self.faults.saturating_add(1);
+            self.faults = raised(self.faults);
             return Err(SendFault);
         }
         Ok(())

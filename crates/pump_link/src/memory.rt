@@ -1,10 +1,14 @@
 ghost use Rattle.std.specs.Prelude.{◌≡◌, ℕ, ◌+◌, ◌-◌, ◌^◌, ◌<◌, ◌≤◌, ◌↔◌, ◌⊎◌, List, [], ◌++◌, length, take, drop, min, Contains, Some, IfOk, OnErr, OnOk, IsErr};
 ghost use Rattle.std.specs.Io.{ReadsAtMost};
 ghost use Rattle.std.specs.Io.KnownBytes.{ReadConsumes, WriteAppends};
-ghost use Rattle.pump_link.specs.Causes.{HasCause, raised};
+ghost use Rattle.pump_frame.specs.Counts.{raised};
+ghost use Rattle.pump_link.specs.Causes.{HasCause};
+ghost use Rattle.pump_link.specs.Tells.{Draws};
+ghost use Rattle.pump_link.specs.Pieces.{piece_in, PiecesFrom};
 ghost use Rattle.pump_link.specs.Memory.{MemorySource, MemorySink};
 
 use crate::stream::{ReadFault, Sink, Source, WriteFault};
+use pump_frame::raised;
 use std::marker::Model;
 
 /// Bytes in memory as a source, given in pieces; some of its reads fail.
@@ -46,12 +50,15 @@ impl MemSource {
 impl Source for MemSource {
     ghost left = { λ s. Some s.left };
 
+    ghost gives = { λ s. PiecesFrom s.left };
+
     ghost faults = { λ s. s.faults };
 
     fn read(&mut self, into: &mut [u8]) -> Result<usize, ReadFault>
         requires { 0 < length into.old }
         ensures bound { ReadsAtMost result into.new }
         ensures bytes { ReadConsumes (Some self.old.left) (Some self.new.left) result into.new }
+        ensures gives { Draws (PiecesFrom self.old.left) (PiecesFrom self.new.left) (piece_in result into.new) }
         ensures cause { HasCause self.old.faults self.new.faults result }
         ensures fails { IsErr result ↔ Contains self.old.fails self.old.calls }
         ensures pieces { IfOk result (λ n. n ≡ min self.old.piece (min (length into.old) (length self.old.left))) }
@@ -59,9 +66,9 @@ impl Source for MemSource {
         ensures err { OnErr result (self.new ≡ record self.old { calls = raised self.old.calls; faults = raised self.old.faults }) }
     {
         let number = self.calls;
-        self.calls = number.saturating_add(1);
+        self.calls = raised(number);
         if self.fails.contains(&number) {
-            self.faults = self.faults.saturating_add(1);
+            self.faults = raised(self.faults);
             return Err(ReadFault);
         }
         let rest = &self.bytes[self.at..];
@@ -136,9 +143,9 @@ impl Sink for MemSink {
         ensures err { OnErr result (self.new ≡ record self.old { calls = raised self.old.calls; faults = raised self.old.faults }) }
     {
         let number = self.calls;
-        self.calls = number.saturating_add(1);
+        self.calls = raised(number);
         if self.at == self.bytes.len() || self.fails.contains(&number) {
-            self.faults = self.faults.saturating_add(1);
+            self.faults = raised(self.faults);
             return Err(WriteFault);
         }
         let count = self.piece.min(bytes.len()).min(self.bytes.len() - self.at);

@@ -1,9 +1,10 @@
 ghost use Rattle.std.specs.Prelude.{◌≡◌, ℕ, ◌+◌, ◌≤◌, ◌^◌, min, List, [], ◌∷◌};
-ghost use Rattle.pump_link.specs.Causes.{raised};
+ghost use Rattle.pump_frame.specs.Counts.{raised};
 ghost use Rattle.pump_link.specs.Running.{MemoryClock, StepsFrom};
 ghost use Rattle.pump_link.specs.Tells.{Draws};
 
 use crate::clock::Clock;
+use pump_frame::raised;
 use std::marker::Model;
 
 /// The latest moment of a clock.
@@ -56,7 +57,7 @@ impl Clock for StepClock {
     {
         let now = self.next;
         self.next = now.saturating_add(self.step).min(LATEST);
-        self.readings = self.readings.saturating_add(1);
+        self.readings = raised(self.readings);
         now
     }
 

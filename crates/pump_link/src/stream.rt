@@ -2,6 +2,8 @@ ghost use Rattle.std.specs.Prelude.{◌≡◌, ℕ, ◌+◌, ◌<◌, ◌≤◌,
 ghost use Rattle.std.specs.Io.{ReadsAtMost};
 ghost use Rattle.std.specs.Io.KnownBytes.{Appends, ReadConsumes, WriteAppends};
 ghost use Rattle.pump_link.specs.Causes.{HasCause, AppendsFront};
+ghost use Rattle.pump_link.specs.Tells.{Draws};
+ghost use Rattle.pump_link.specs.Pieces.{piece_in};
 
 /// A read that failed.
 #[derive(Clone, Copy, PartialEq, Eq, Debug)]
@@ -16,6 +18,9 @@ pub trait Source {
     /// The bytes that are left, where they are told.
     ghost left: { Self → Option (List ℕ) };
 
+    /// Its next reads give these pieces, where it tells them.
+    ghost gives: { Self → List (List ℕ) → Type 0 };
+
     ghost faults: { Self → ℕ };
 
     /// Gives the next bytes and answers how many; `Ok(0)` is the end, which stays. It answers
@@ -24,6 +29,7 @@ pub trait Source {
         requires { 0 < length into.old }
         ensures bound { ReadsAtMost result into.new }
         ensures bytes { ReadConsumes (left self.old) (left self.new) result into.new }
+        ensures gives { Draws (gives self.old) (gives self.new) (piece_in result into.new) }
         ensures cause { HasCause (faults self.old) (faults self.new) result };
 
     /// How many reads have failed. The count never falls, and stays at its greatest value.

@@ -11,8 +11,9 @@ use Rattle.pump_core.proofs.Laws.{runs_lawfully}
 use Rattle.script_reader.specs.declared.line.Line.{Line}
 use Rattle.script_reader.specs.declared.line.Line.TheVariants as lines
 use Rattle.script_reader.specs.declared.event.Event.{Event}
+use Rattle.pump_core.specs.HighLooks.{Perhaps, Returns, IsSent}
 use Rattle.script_reader.specs.Past.{Past}
-use Rattle.script_reader.specs.Highs.{Perhaps, Returns, Sends, IsHighLook, is_ahead, IsReturnBy, IsReturn, IsCarried, place}
+use Rattle.script_reader.specs.Highs.{IsHighLook, is_ahead, IsReturnBy, IsReturn, IsCarried, place}
 use Rattle.script_reader.specs.Steps.{GoesOn, Step}
 use Rattle.script_reader.specs.Tolds.{LowPast}
 use Rattle.script_reader.specs.Scripts.{Begun, Whole, Alone, GoesOn as GoesOnBegun, Leads, LeadTo}
@@ -78,16 +79,16 @@ returns_lawful : (n : ℕ) (w : World) (back : Option ℕ) (v : World) → (Stay
 returns_lawful n w None v l e = subst (Stays n) (sym e) l
 returns_lawful n w (Some k) v l h = stays_one n w (ReturnTaken k) v l h
 
-sends_lawful : (n : ℕ) (b : Bool) (w v : World) → (Stays n) w → Sends b w v → (Stays n) v
+sends_lawful : (n : ℕ) (b : Bool) (w v : World) → (Stays n) w → IsSent b w v → (Stays n) v
 sends_lawful n true w v l h = stays_one n w Send v l h
 sends_lawful n false w v l e = subst (Stays n) (sym e) l
 
-high_lawful : (n : ℕ) (s : SessionRow) (p : Past) (m : ℕ) (back : Option ℕ) (q : Past) (printed : List Event) → (Stays n) p.world → IsHighLook s p m back q printed → (Stays n) q.world
+pub high_lawful : (n : ℕ) (s : SessionRow) (p : Past) (m : ℕ) (back : Option ℕ) (q : Past) (printed : List Event) → (Stays n) p.world → IsHighLook s p m back q printed → (Stays n) q.world
 high_lawful n s p m back q printed l (mid, first, second, r, t, e) =
-    let a = returns_lawful n p.world back r.answered l r.returns in
-    let b = perhaps_lawful n r.answered RemoveBegin (RemoveEnd ∷ []) mid.world a r.removes in
-    let c = perhaps_lawful n mid.world TakeUp [] t.taken b t.takes_up in
-    sends_lawful n t.is_sent t.taken q.world c t.sends
+    let a = returns_lawful n p.world back r.look.answered l r.look.returns in
+    let b = perhaps_lawful n r.look.answered RemoveBegin (RemoveEnd ∷ []) mid.world a r.look.removes in
+    let c = perhaps_lawful n mid.world TakeUp [] t.look.taken b t.look.takes_up in
+    sends_lawful n t.look.is_sent t.look.taken q.world c t.look.sent
 
 return_by_lawful : (b : Bool) (n : ℕ) (s : SessionRow) (p : Past) (m k : ℕ) (q : Past) (printed : List Event) → (Stays n) p.world → IsReturnBy b s p m k q printed → (Stays n) q.world
 return_by_lawful true n s p m k q printed l h = subst (λ (t : Past). (Stays n) t.world) (sym h.0) l
@@ -129,7 +130,7 @@ begins_so (Alone s) new = subst (λ (p : LowPast). length p.waits ≤ 64) (sym n
 goes_so : (s : Begun) (line : Line) (after : Option Begun) (printed : List Event) → GoesOnBegun s line after printed → Holds (Some s) → Holds after
 goes_so (Whole s) line after printed (timely, (q, step, e)) (l, few) =
     subst Holds (sym e) (step_lawful s.row.capacity s.row s.past line q printed l step, step_waits s.row s.past line q printed few step)
-goes_so (Alone s) line after printed (timely, (q, step, e)) few = subst Holds (sym e) (step_low_waits s.row s.past line q printed step)
+goes_so (Alone s) line after printed (timely, (q, step, e)) few = subst Holds (sym e) (step_low_waits s.row s.past line false q printed step)
 
 leads_so : (running : Option Begun) (line : Line) (after : Option Begun) (printed : List Event) → Leads running line after printed → Holds running → Holds after
 leads_so running line after printed h k =

@@ -68,19 +68,6 @@ plain_decimal n fits =
 pub number_unplain : (bound : ℕ) (field : List ℕ) → bound ≤ 2 ^ 64 → (IsPlain field → ⊥) → None ≡ number bound field
 number_unplain bound field fits h = number_not bound field fits (λ n low e. h (rw e (plain_decimal n low)))
 
-pub number_untext : (bound : ℕ) (field : List ℕ) → bound ≤ 2 ^ 64 → (IsUtf8 field → ⊥) → None ≡ number bound field
-number_untext bound field fits h = number_not bound field fits (λ n low e. h (rw e (IsUtf8-from_ascii (decimal n) (IsAscii-decimal n low))))
-
-pub number_unparsed : {E : Type 0} (bound : ℕ) (field : List ℕ) (r : Result ℕ E) (e : E) → bound ≤ 2 ^ 64 → ParsesUnsigned 64 10 field r → r ≡ Err e → None ≡ number bound field
-number_unparsed bound field r e fits parses err = number_not bound field fits (λ n low same. cc (parse-decimal 64 n field r low low same parses))
-
-pub parsed_is : {E : Type 0} (field : List ℕ) (r : Result ℕ E) (n : ℕ) → ParsesUnsigned 64 10 field r → r ≡ Ok n → IsPlain field → (field ≡ decimal n) × (n < 2 ^ 64)
-parsed_is field r n parses ok plain =
-    let no_plus : get_or field 0 0 ≡ 43 → ⊥ = λ e. absurd (omega (arith, e, plain.low)) in
-    let p = OkIff-at_ok r _ (digits_value 10 field) n (parse_plain own 64 field r parses no_plus) ok in
-    let text = decimal-digits_value own field p.0.0 p.0.1 plain.alone p.0.2 in
-    (sym text ∙ ap (λ m. decimal m) (sym p.1), rw p.1 p.0.2)
-
 -- a byte that is no digit
 pub number_undigit : (field : List ℕ) (i : ℕ) → i < length field → (IsInRange 48 57 (get_or field i 0) → ⊥) → None ≡ number (2 ^ 64) field
 number_undigit field i below no_digit = number_not (2 ^ 64) field (omega arith) (λ n low e.
@@ -139,26 +126,6 @@ word_again field n h =
     let q = decode_of-ok field (to_be_bytes w32 n) h.1 in
     let decoded : decode_sized field 4 ≡ Ok (to_be_bytes w32 n) = decode_sized-twice field 4 q.2 ∙ h.1 in
     ap word_from decoded ∙ ap Some (from_be_bytes-to_be_bytes_4 n h.0)
-
-word_is_at : (r : Result (List ℕ) FromHexError) (answer : Result (Unit {0}) FromHexError) (out : List ℕ) (u : Unit {0})
-    → MatchResult r (λ bytes. (answer ≡ Ok tt) × (out ≡ bytes)) (λ e. answer ≡ Err e) → answer ≡ Ok u → Some (from_be_bytes w32 out) ≡ word_from r
-word_is_at (Ok bytes) answer out u h ok = ap (λ b. Some (from_be_bytes w32 b)) h.1
-word_is_at (Err x) answer out u h ok = cc (sym h ∙ ok)
-
-no_word_at : (r : Result (List ℕ) FromHexError) (answer : Result (Unit {0}) FromHexError) (out : List ℕ) (e : FromHexError)
-    → MatchResult r (λ bytes. (answer ≡ Ok tt) × (out ≡ bytes)) (λ e. answer ≡ Err e) → answer ≡ Err e → None ≡ word_from r
-no_word_at (Ok bytes) answer out e h err = cc (sym h.0 ∙ err)
-no_word_at (Err x) answer out e h err = refl
-
-pub word_is : (field : List ℕ) (answer : Result (Unit {0}) FromHexError) (out : List ℕ) (u : Unit {0})
-    → MatchResult (decode_sized field 4) (λ bytes. (answer ≡ Ok tt) × (out ≡ bytes)) (λ e. answer ≡ Err e) → answer ≡ Ok u → Some (from_be_bytes w32 out) ≡ word field
-unfolding word
-word_is field answer out u h ok = word_is_at (decode_sized field 4) answer out u h ok
-
-pub no_word : (field : List ℕ) (answer : Result (Unit {0}) FromHexError) (out : List ℕ) (e : FromHexError)
-    → MatchResult (decode_sized field 4) (λ bytes. (answer ≡ Ok tt) × (out ≡ bytes)) (λ e. answer ≡ Err e) → answer ≡ Err e → None ≡ word field
-unfolding word
-no_word field answer out e h err = no_word_at (decode_sized field 4) answer out e h err
 
 chosen : {A : Type 0} (b : Bool) (x y : Option A) (z : A) → cond b x y ≡ Some z → ((b ≡ true) × (x ≡ Some z)) ⊎ ((b ≡ false) × (y ≡ Some z))
 chosen true x y z e = inl (refl, e)

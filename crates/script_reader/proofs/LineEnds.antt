@@ -12,7 +12,7 @@ use Rattle.std.specs.Io.KnownBytes.{prepend_known, Consumes, Keeps, IsAtEnd}
 use Rattle.memchr.specs.Find.{IsFirstByte, is_byte}
 use Rattle.script_reader.specs.declared.line.Line.{Line}
 use Rattle.script_reader.specs.Grammar.{IsLine}
-use Rattle.script_reader.specs.Lines.{is_end, IsUnended, IsBad, IsReady}
+use Rattle.script_reader.specs.Lines.{is_end, IsSome, IsUnended, IsBad, IsReady}
 
 none_test : (b : Bool) (x : ℕ) → cond b (Some x) None ≡ None → b ≡ false
 none_test true x e = cc
@@ -190,3 +190,13 @@ ready_by_length held None e h = (
   ],
 )
 ready_by_length held (Some i) e h = cc
+
+-- something is to come where something is held
+pub some_come : (old a : Option (List ℕ)) (held : List ℕ) → Keeps old (prepend_known held a) → ((more : List ℕ) → IsSome (held ++ more)) → IfSome old IsSome
+some_come None a held k h = tt
+some_come (Some xs) None held k h = absurd k
+some_come (Some xs) (Some ys) held k h = rw (← k) (h ys)
+
+-- a line end stands in it
+pub ended_some : (held : List ℕ) (len : ℕ) → position is_end held ≡ Some len → (more : List ℕ) → IsSome (held ++ more)
+ended_some held len at more = rw ((ended held len at).1) (nonempty (take len held) (drop (len + 1) held) 10 more)

@@ -7,7 +7,7 @@ use Rattle.script_reader.specs.declared.lines.Lined.{Lined}
 use Rattle.script_reader.specs.declared.lines.Lined.TheVariants as lined
 use Rattle.script_reader.specs.Lines.{Reading, to_come, is_end, IsUnended, IsNext}
 use Rattle.script_reader.specs.Fronts.{IsFirst}
-use Rattle.script_reader.proofs.LineEnds.{ended, bad_line, line_come, bad_come, bad_last, end_come}
+use Rattle.script_reader.proofs.LineEnds.{ended, ended_some, bad_line, line_come, bad_come, some_come, bad_last, end_come}
 
 line_next : (old now new : Reading) (left rest : Option (List ℕ)) (line : Line) (len : ℕ)
     → Keeps (to_come old left) (to_come now rest) → now.number ≡ old.number → length now.held ≤ 4096 → position is_end now.held ≡ Some len
@@ -34,7 +34,7 @@ bad_next old now new left rest len keeps same short at f =
       keeps,
       elim f.0 [
         | inl bad ↦ inl (bad_come (to_come old left) rest now.held keeps (λ more. bad_line now.held (take len now.held) (drop (len + 1) now.held) more p.1 p.0 bad))
-        | inr e ↦ inr (sym same ∙ e)
+        | inr e ↦ inr (sym same ∙ e, some_come (to_come old left) rest now.held keeps (ended_some now.held len at))
       ],
       rw same refl,
       short,
@@ -49,7 +49,7 @@ first_next old now new left rest len lined.Bad keeps same short at f = bad_next 
 first_next old now new left rest len lined.End keeps same short at f = absurd f
 first_next old now new left rest len lined.Failed keeps same short at f = absurd f
 
-is_empty : (xs : List ℕ) → (xs ≡ []) ⊎ (xs ≢ [])
+pub is_empty : (xs : List ℕ) → (xs ≡ []) ⊎ (xs ≢ [])
 is_empty [] = inl refl
 is_empty (x ∷ xs) = inr (λ e. cc)
 

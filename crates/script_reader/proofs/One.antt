@@ -17,9 +17,11 @@ use Rattle.pump_core.proofs.Cuts.{one_cut}
 use Rattle.script_reader.specs.declared.line.Line.{Line}
 use Rattle.script_reader.specs.declared.line.Line.TheVariants as lines
 use Rattle.script_reader.specs.declared.event.Event.{Event}
-use Rattle.script_reader.specs.Past.{Past}
+use Rattle.pump_core.specs.HighLooks.{Perhaps, Returns, IsSent, time_of, Removes, Sends}
+use Rattle.pump_core.specs.Sendings.{Sending, sends_hand, sending_of}
+use Rattle.script_reader.specs.Past.{Past, high_of}
 use Rattle.script_reader.specs.Lows.{first_of, is_bad, feedback, offers, stored_events, acks_of, printed_store, printed_feedback, printed_replies, IsLook}
-use Rattle.script_reader.specs.Highs.{Perhaps, Returns, Sends, time_of, printed_removal, sends_hand, sending_of, printed_sending, printed_carry, IsRemoval, IsSending, IsHighLook, is_ahead, IsReturnBy, IsReturn, IsCarried, place}
+use Rattle.script_reader.specs.Highs.{printed_removal, printed_sending, printed_carry, IsRemoval, IsSending, IsHighLook, is_ahead, IsReturnBy, IsReturn, IsCarried, place}
 use Rattle.script_reader.specs.Steps.{Coming, bad_of, came, IsRead, Arrives, joined, lost, look_of, IsLowLook, IsOfferedLook, GoesOn, Step}
 use Rattle.script_reader.specs.declared.line.Arriving.{Arriving}
 use Rattle.script_reader.specs.declared.line.Arriving.TheVariants as arriving
@@ -71,7 +73,7 @@ returns_one : (w : World) (back : Option ℕ) (v u : World) → Returns w back v
 returns_one w None v u h k = h ∙ sym k
 returns_one w (Some n) v u h k = happens_one w (ReturnTaken n) v u h k
 
-sends_one : (b : Bool) (w v u : World) → Sends b w v → Sends b w u → v ≡ u
+sends_one : (b : Bool) (w v u : World) → IsSent b w v → IsSent b w u → v ≡ u
 sends_one true w v u h k = happens_one w Send v u h k
 sends_one false w v u h k = h ∙ sym k
 
@@ -83,21 +85,27 @@ pub record Same (q r : Past) (xs ys : List Event) : Type 0 where
 
 removal_one : (s : SessionRow) (p : Past) (m : ℕ) (back : Option ℕ) (q r : Past) (xs ys : List Event) → IsRemoval s p m back q xs → IsRemoval s p m back r ys → Same q r xs ys
 removal_one s p m back q r xs ys h k =
-    let a = returns_one p.world back h.answered k.answered h.returns k.returns in
-    let b = perhaps_one h.answered RemoveBegin (RemoveEnd ∷ []) q.world r.world h.removes (subst (λ (w : World). Perhaps w RemoveBegin (RemoveEnd ∷ []) r.world) (sym a) k.removes) in
-    let t : h.time ≡ k.time = h.is_time ∙ ap (λ (u : World × World). time_of p m u.0 u.1) (λ i. (a i, b i)) ∙ sym k.is_time in
+    let x : Removes (high_of p) m back (high_of q) = h.look in
+    let y : Removes (high_of p) m back (high_of r) = k.look in
+    let a = returns_one p.world back x.answered y.answered x.returns y.returns in
+    let b = perhaps_one x.answered RemoveBegin (RemoveEnd ∷ []) q.world r.world x.removes (subst (λ (w : World). Perhaps w RemoveBegin (RemoveEnd ∷ []) r.world) (sym a) y.removes) in
+    let t : x.time ≡ y.time = x.is_time ∙ ap (λ (u : World × World). time_of (high_of p) m u.0 u.1) (λ i. (a i, b i)) ∙ sym y.is_time in
+    let times : q.times ≡ r.times = x.times ∙ ap (λ (o : Option ℕ). p.times ++ option_to_list o) t ∙ sym y.times in
     record {
-      past = h.rest ∙ (λ i. record p { world = b i; times = p.times ++ option_to_list (t i) }) ∙ sym k.rest;
+      past = h.rest ∙ (λ i. record p { world = b i; times = times i }) ∙ sym k.rest;
       printed = h.printed_is ∙ (λ i. printed_removal s.id m (a i) (b i) (t i)) ∙ sym k.printed_is;
     }
 
 sending_one : (s : SessionRow) (p : Past) (m : ℕ) (q r : Past) (xs ys : List Event) → IsSending s p m q xs → IsSending s p m r ys → Same q r xs ys
 sending_one s p m q r xs ys h k =
-    let a = perhaps_one p.world TakeUp [] h.taken k.taken h.takes_up k.takes_up in
-    let c : h.is_sent ≡ k.is_sent = h.cause ∙ ap (λ (w : World). sends_hand s p.sends m w.high_hand) a ∙ sym k.cause in
-    let b = sends_one h.is_sent h.taken q.world r.world h.sends (subst (λ (u : Bool × World). Sends u.0 u.1 r.world) (λ i. (sym c i, sym a i)) k.sends) in
+    let x : Sends s.resend false (high_of p) m (high_of q) = h.look in
+    let y : Sends s.resend false (high_of p) m (high_of r) = k.look in
+    let a = perhaps_one p.world TakeUp [] x.taken y.taken x.takes_up y.takes_up in
+    let c : x.is_sent ≡ y.is_sent = x.cause ∙ ap (λ (w : World). sends_hand s.resend false p.sends m w.high_hand) a ∙ sym y.cause in
+    let b = sends_one x.is_sent x.taken q.world r.world x.sent (subst (λ (u : Bool × World). IsSent u.0 u.1 r.world) (λ i. (sym c i, sym a i)) y.sent) in
+    let sends : q.sends ≡ r.sends = x.sends ∙ (λ i. if c i then sending_of m (a i).high_hand ++ p.sends else p.sends) ∙ sym y.sends in
     record {
-      past = h.rest ∙ (λ i. record p { world = b i; sends = if c i then sending_of m (a i).high_hand ++ p.sends else p.sends; moment = m }) ∙ sym k.rest;
+      past = h.rest ∙ (λ i. record p { world = b i; sends = sends i; moment = m }) ∙ sym k.rest;
       printed = h.printed_is ∙ (λ i. if c i then printed_sending s.id m (a i).high_hand else []) ∙ sym k.printed_is;
     }
 

@@ -13,8 +13,8 @@ use Rattle.script_reader.proofs.LineLaws.{one_line}
 use Rattle.script_reader.proofs.OneReading.{taken, not_nothing}
 use Rattle.pump_frame.specs.declared.row.SessionRow.{SessionRow}
 use Rattle.script_reader.specs.Past.{Past}
-use Rattle.script_reader.specs.Steps.{Coming, joined, IsCrowded, IsBarred, Step}
-use Rattle.script_reader.specs.Tolds.{LowPast, joined_low, IsCrowdedLow, IsBarredLow, StepLow}
+use Rattle.script_reader.specs.Steps.{Coming, joined, IsCrowded, IsRefusedWhole, Step}
+use Rattle.script_reader.specs.Tolds.{LowPast, joined_low, IsCrowdedLow, IsRefusedAlone, StepLow}
 use Rattle.script_reader.proofs.One.{arrives_one}
 use Rattle.script_reader.proofs.OneScript.{leads_one}
 
@@ -35,7 +35,7 @@ crowded_steps s p (lines.Carry session back) q printed h k = h
 crowded_steps s p (lines.Return session m back) q printed h k = h
 crowded_steps s p (lines.Done session m t) q printed h k = h
 
-barred_goes : (s : Running) (line : Line) (mid : Option Begun) (printed : List Event) → IsBarred s.row s.past line → Goes s line mid printed → ⊥
+barred_goes : (s : Running) (line : Line) (mid : Option Begun) (printed : List Event) → IsRefusedWhole s.row s.past line → Goes s line mid printed → ⊥
 barred_goes s line mid printed h (timely, (q, step, e)) =
     elim h [ inl late ↦ both_ways _ late timely | inr crowded ↦ crowded_steps s.row s.past line q printed crowded step ]
 
@@ -53,7 +53,7 @@ crowded_low s p (lines.Carry session back) q printed h k = h
 crowded_low s p (lines.Return session m back) q printed h k = h
 crowded_low s p (lines.Done session m t) q printed h k = h
 
-barred_low : (s : LowRunning) (line : Line) (mid : Option Begun) (printed : List Event) → IsBarredLow s.row s.past line → GoesLow s line mid printed → ⊥
+barred_low : (s : LowRunning) (line : Line) (mid : Option Begun) (printed : List Event) → IsRefusedAlone s.row s.past line → GoesLow s line mid printed → ⊥
 barred_low s line mid printed h (timely, (q, step, e)) =
     elim h [ inl late ↦ both_ways _ late timely | inr crowded ↦ crowded_low s.row s.past line q printed crowded step ]
 

@@ -13,16 +13,17 @@ use Rattle.script_reader.specs.declared.line.ToldFeedback.{ToldFeedback}
 use Rattle.script_reader.specs.declared.line.ToldFeedback.TheVariants.{Quiet as Silent}
 use Rattle.script_reader.specs.declared.event.Event.{Event}
 use Rattle.script_reader.specs.declared.event.Event.TheVariants as prints
+use Rattle.pump_core.specs.HighLooks.{has_removed}
 use Rattle.script_reader.specs.Past.{Past}
 use Rattle.script_reader.specs.Lows.{printed_store, printed_feedback, printed_replies, IsLook}
-use Rattle.script_reader.specs.Highs.{has_removed, printed_sending, IsRemoval, IsSending, IsHighLook, is_ahead, IsReturnBy, IsReturn, IsCarried, place}
+use Rattle.script_reader.specs.Highs.{printed_sending, IsRemoval, IsSending, IsHighLook, is_ahead, IsReturnBy, IsReturn, IsCarried, place}
 use Rattle.script_reader.specs.Steps.{joined, lost, GoesOn, IsDone, Step}
 use Rattle.script_reader.specs.Tolds.{LowPast, IsToldLook, joined_low, lost_low, StepLow}
 use Rattle.script_reader.specs.Scripts.{Begun, Whole, Alone, GoesOn as GoesOnBegun, Leads, LeadTo}
 use Rattle.script_reader.specs.Readouts.{low_line, low_lines, row_of, history_of}
 use Rattle.script_reader.proofs.Leading.{IsNew, led}
 
-low-append : (xs ys : List Event) → low_lines (xs ++ ys) ≡ low_lines xs ++ low_lines ys
+pub low-append : (xs ys : List Event) → low_lines (xs ++ ys) ≡ low_lines xs ++ low_lines ys
 low-append [] ys = refl
 low-append (x ∷ xs) ys = ap (λ l. low_line x ++ l) (low-append xs ys) ∙ sym (append_assoc (low_line x) (low_lines xs) (low_lines ys))
 
@@ -58,7 +59,7 @@ of_carry session n true = refl
 of_carry session n false = refl
 
 -- the history stays, and nothing of it is printed
-record Aside (p q : Past) (printed : List Event) : Type 0 where
+pub record Aside (p q : Past) (printed : List Event) : Type 0 where
   history : q.history ≡ p.history
   low : low_lines printed ≡ []
 
@@ -71,16 +72,16 @@ both p mid q first second printed a b e = record {
 removal_aside : (s : SessionRow) (p : Past) (m : ℕ) (back : Option ℕ) (q : Past) (printed : List Event) → IsRemoval s p m back q printed → Aside p q printed
 removal_aside s p m back q printed r = record {
   history = ap (λ (t : Past). t.history) r.rest;
-  low = ap low_lines r.printed_is ∙ of_removal s.id m r.answered.removed r.time (has_removed r.answered q.world);
+  low = ap low_lines r.printed_is ∙ of_removal s.id m r.look.answered.removed r.look.time (has_removed r.look.answered q.world);
 }
 
 sending_aside : (s : SessionRow) (p : Past) (m : ℕ) (q : Past) (printed : List Event) → IsSending s p m q printed → Aside p q printed
 sending_aside s p m q printed r = record {
   history = ap (λ (t : Past). t.history) r.rest;
-  low = ap low_lines r.printed_is ∙ of_sending s.id m r.taken.high_hand r.is_sent;
+  low = ap low_lines r.printed_is ∙ of_sending s.id m r.look.taken.high_hand r.look.is_sent;
 }
 
-high_aside : (s : SessionRow) (p : Past) (m : ℕ) (back : Option ℕ) (q : Past) (printed : List Event) → IsHighLook s p m back q printed → Aside p q printed
+pub high_aside : (s : SessionRow) (p : Past) (m : ℕ) (back : Option ℕ) (q : Past) (printed : List Event) → IsHighLook s p m back q printed → Aside p q printed
 high_aside s p m back q printed (mid, first, second, r, t, e) = both p mid q first second printed (removal_aside s p m back mid first r) (sending_aside s mid m q second t) e
 
 return_by_aside : (b : Bool) (s : SessionRow) (p : Past) (m n : ℕ) (q : Past) (printed : List Event) → IsReturnBy b s p m n q printed → Aside p q printed
@@ -106,10 +107,10 @@ done_aside s p m t q printed (mid, first, second, h, g, e) =
     both p mid q first second printed (high_aside s p m None mid first h) (goes_aside s mid.world.high_hand mid (m + t) q second g) e
 
 -- what is kept by a line: the replies of the history
-abbrev Grows : SessionRow → History → History → List Event → Type 0
+abbrev pub Grows : SessionRow → History → History → List Event → Type 0
 Grows s h g printed = (rs : List Sent) → LowReplies s h rs → LowReplies s g (rs ++ low_lines printed)
 
-aside_grows : (s : SessionRow) (p q : Past) (printed : List Event) → Aside p q printed → Grows s p.history q.history printed
+pub aside_grows : (s : SessionRow) (p q : Past) (printed : List Event) → Aside p q printed → Grows s p.history q.history printed
 aside_grows s p q printed a rs h =
     subst (λ (t : History × List Sent). LowReplies s t.0 (rs ++ t.1)) (λ i. (sym a.history i, sym a.low i)) (subst (LowReplies s p.history) (sym (append-nil rs)) h)
 
@@ -140,17 +141,17 @@ told_grows : (s : SessionRow) (p : LowPast) (told : ToldFeedback) (x : Look) (q 
 told_grows s p told x q printed i =
     new_grows s p.history x q.history i.replies i.new printed i.are_replies i.are_replies_with i.history (ap low_lines i.printed_is ∙ of_look s.id x.moment _ x.feedback i.new)
 
-step_low_grows : (s : SessionRow) (p : LowPast) (line : Line) (q : LowPast) (printed : List Event) → StepLow s p line false q printed → Grows s p.history q.history printed
-step_low_grows s p (lines.Told session m w fault told z) q printed (c, comes, (few, (f, i))) = told_grows s (joined_low p fault c) told _ q printed i
-step_low_grows s p (lines.Gone session m) q printed (f, i) = told_grows s (lost_low p) Silent _ q printed i
-step_low_grows s p lines.Skip q printed h = absurd h
-step_low_grows s p (lines.Session row) q printed h = absurd h
-step_low_grows s p (lines.LowSession row next held) q printed h = absurd h
-step_low_grows s p (lines.Look session m w z) q printed h = absurd h
-step_low_grows s p (lines.High session m) q printed h = absurd h
-step_low_grows s p (lines.Carry session back) q printed h = absurd h
-step_low_grows s p (lines.Return session m back) q printed h = absurd h
-step_low_grows s p (lines.Done session m t) q printed h = absurd h
+pub step_low_grows : (s : SessionRow) (p : LowPast) (line : Line) (is_fault : Bool) (q : LowPast) (printed : List Event) → StepLow s p line is_fault q printed → Grows s p.history q.history printed
+step_low_grows s p (lines.Told session m w fault told z) is_fault q printed (c, comes, (few, (f, i))) = told_grows s (joined_low p fault c) told _ q printed i
+step_low_grows s p (lines.Gone session m) is_fault q printed (f, i) = told_grows s (lost_low p) Silent _ q printed i
+step_low_grows s p lines.Skip is_fault q printed h = absurd h
+step_low_grows s p (lines.Session row) is_fault q printed h = absurd h
+step_low_grows s p (lines.LowSession row next held) is_fault q printed h = absurd h
+step_low_grows s p (lines.Look session m w z) is_fault q printed h = absurd h
+step_low_grows s p (lines.High session m) is_fault q printed h = absurd h
+step_low_grows s p (lines.Carry session back) is_fault q printed h = absurd h
+step_low_grows s p (lines.Return session m back) is_fault q printed h = absurd h
+step_low_grows s p (lines.Done session m t) is_fault q printed h = absurd h
 
 -- the replies of the session that runs
 abbrev pub Replies : Option Begun → List Sent → Type 0
@@ -177,7 +178,7 @@ goes_so : (s : Begun) (line : Line) (after : Option Begun) (printed : List Event
 goes_so (Whole s) line after printed rs (timely, (q, step, e)) k =
     subst (λ (t : Option Begun). Replies t (rs ++ low_lines printed)) (sym e) (step_grows s.row s.past line q printed step rs k)
 goes_so (Alone s) line after printed rs (timely, (q, step, e)) k =
-    subst (λ (t : Option Begun). Replies t (rs ++ low_lines printed)) (sym e) (step_low_grows s.row s.past line q printed step rs k)
+    subst (λ (t : Option Begun). Replies t (rs ++ low_lines printed)) (sym e) (step_low_grows s.row s.past line false q printed step rs k)
 
 leads_so : (running : Option Begun) (line : Line) (after : Option Begun) (printed : List Event) (rs : List Sent) → Leads running line after printed → Replies running rs → Replies after (rs ++ low_lines printed)
 leads_so running line after printed rs h k =

@@ -15,7 +15,7 @@ use Rattle.script_reader.specs.Steps.{joined, GoesOn, Step}
 abbrev waits_in : Past → List Arrival
 waits_in p = p.waits
 
-high_waits : (s : SessionRow) (p : Past) (m : ℕ) (back : Option ℕ) (q : Past) (printed : List Event) → IsHighLook s p m back q printed → q.waits ≡ p.waits
+pub high_waits : (s : SessionRow) (p : Past) (m : ℕ) (back : Option ℕ) (q : Past) (printed : List Event) → IsHighLook s p m back q printed → q.waits ≡ p.waits
 high_waits s p m back q printed (mid, a, b, h, t, e) = ap waits_in t.rest ∙ ap waits_in h.rest
 
 return_by_waits : (b : Bool) (s : SessionRow) (p : Past) (m n : ℕ) (q : Past) (printed : List Event) → IsReturnBy b s p m n q printed → q.waits ≡ p.waits
@@ -46,14 +46,14 @@ step_waits s p (lines.Carry session back) q printed h t = rw t.rest h
 step_waits s p (lines.Return session m back) q printed h t = rw (return_waits s p m (place p.world.returned back) q printed t) h
 step_waits s p (lines.Done session m t) q printed h (mid, a, b, k, g, e) = rw (goes_waits s mid.world.high_hand mid (m + t) q b g ∙ high_waits s p m None mid a k) h
 
-pub step_low_waits : (s : SessionRow) (p : LowPast) (line : Line) (q : LowPast) (printed : List Event) → StepLow s p line false q printed → length q.waits ≤ 64
-step_low_waits s p (lines.Told session m w fault told a) q printed (c, comes, (few, (f, i))) = rw i.waits (dropped (takes i.after) (joined_low p fault c).waits few)
-step_low_waits s p (lines.Gone session m) q printed (f, i) = rw i.waits (dropped (takes i.after) [] (omega arith))
-step_low_waits s p lines.Skip q printed h = absurd h
-step_low_waits s p (lines.Session row) q printed h = absurd h
-step_low_waits s p (lines.LowSession row next held) q printed h = absurd h
-step_low_waits s p (lines.Look session m w z) q printed h = absurd h
-step_low_waits s p (lines.High session m) q printed h = absurd h
-step_low_waits s p (lines.Carry session back) q printed h = absurd h
-step_low_waits s p (lines.Return session m back) q printed h = absurd h
-step_low_waits s p (lines.Done session m t) q printed h = absurd h
+pub step_low_waits : (s : SessionRow) (p : LowPast) (line : Line) (is_fault : Bool) (q : LowPast) (printed : List Event) → StepLow s p line is_fault q printed → length q.waits ≤ 64
+step_low_waits s p (lines.Told session m w fault told a) is_fault q printed (c, comes, (few, (f, i))) = rw i.waits (dropped (takes i.after) (joined_low p fault c).waits few)
+step_low_waits s p (lines.Gone session m) is_fault q printed (f, i) = rw i.waits (dropped (takes i.after) [] (omega arith))
+step_low_waits s p lines.Skip is_fault q printed h = absurd h
+step_low_waits s p (lines.Session row) is_fault q printed h = absurd h
+step_low_waits s p (lines.LowSession row next held) is_fault q printed h = absurd h
+step_low_waits s p (lines.Look session m w z) is_fault q printed h = absurd h
+step_low_waits s p (lines.High session m) is_fault q printed h = absurd h
+step_low_waits s p (lines.Carry session back) is_fault q printed h = absurd h
+step_low_waits s p (lines.Return session m back) is_fault q printed h = absurd h
+step_low_waits s p (lines.Done session m t) is_fault q printed h = absurd h

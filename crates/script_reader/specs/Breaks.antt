@@ -17,9 +17,10 @@ use Rattle.script_reader.specs.declared.event.Event.{Event}
 use Rattle.script_reader.specs.declared.event.Event.TheVariants.{Low}
 use Rattle.script_reader.specs.declared.line.Line.{Line}
 use Rattle.script_reader.specs.declared.line.Line.TheVariants as lines
+use Rattle.pump_core.specs.HighLooks.{Returns}
 use Rattle.script_reader.specs.Past.{Past}
 use Rattle.script_reader.specs.Lows.{first_of}
-use Rattle.script_reader.specs.Highs.{Returns, IsHighLook, IsCarried, overfills, place}
+use Rattle.script_reader.specs.Highs.{IsHighLook, IsCarried, overfills, place}
 use Rattle.script_reader.specs.Steps.{Coming, Arrives, joined}
 
 -- the look x takes the next message, and the low disk fails in its store: it is refused, and from then

@@ -1,43 +1,18 @@
 -- A high look of a session, and a packet that is carried to the receiver.
-use Rattle.std.specs.Prelude.{◌≡◌, ◌⊎◌, ℕ, ◌+◌, ◌-◌, ◌^◌, Bool, true, false, ◌&&◌, ◌==◌, nat_lt, nat_le, min, if◌then◌else◌, List, [], ◌∷◌, ◌++◌, length, slice_get, option_to_list, Option, Some, None, is_some}
+use Rattle.std.specs.Prelude.{◌≡◌, ℕ, ◌+◌, ◌-◌, Bool, true, false, ◌&&◌, ◌==◌, nat_lt, nat_le, if◌then◌else◌, List, [], ◌∷◌, ◌++◌, length, slice_get, Option, Some, None}
 use Rattle.pump_frame.specs.declared.payload.Payload.{Payload}
 use Rattle.pump_frame.specs.declared.frame.Item.{Item}
 use Rattle.pump_frame.specs.declared.row.SessionRow.{SessionRow}
-use Rattle.pump_core.specs.declared.event.Event.{Event as WorldEvent}
-use Rattle.pump_core.specs.declared.event.Event.TheVariants.{TakeUp, Send, CarryData, TakeBegin, TakeEnd, ReturnTaken, RemoveBegin, RemoveEnd}
+use Rattle.pump_core.specs.declared.event.Event.TheVariants.{CarryData, TakeBegin, TakeEnd}
 use Rattle.pump_core.specs.World.{World}
-use Rattle.pump_core.specs.Events.{Happens, Run}
+use Rattle.pump_core.specs.Events.{Happens}
+use Rattle.pump_core.specs.HighLooks.{Perhaps, has_removed, Removes, Sends}
+use Rattle.pump_core.specs.Sendings.{expected}
 use Rattle.script_reader.specs.declared.event.Event.{Event}
 use Rattle.script_reader.specs.declared.event.Event.TheVariants.{Removed, Sent, Took, Again}
-use Rattle.script_reader.specs.Past.{Past, Sending, last_sending, first_sending}
-
--- these events happen, where the first of them can; else nothing happens
-abbrev pub Perhaps : World → WorldEvent → List WorldEvent → World → Type 0
-Perhaps w e later v = Run w (e ∷ later) v ⊎ (((x : World) → Happens w e x → ⊥) × (v ≡ w))
-
--- the TAKEN at this place of those ever sent comes back, or none does
-abbrev pub Returns : World → Option ℕ → World → Type 0
-Returns w None v = v ≡ w
-Returns w (Some k) v = Happens w (ReturnTaken k) v
+use Rattle.script_reader.specs.Past.{Past, high_of}
 
 -- ---- a removal and its time ----
-
--- whether a removal happened between these worlds
-abbrev pub has_removed : World → World → Bool
-has_removed w v = nat_lt w.removed v.removed
-
--- High's time for a message that was first sent at t; no time where it was not sent since the opening
-abbrev pub time_since : Option ℕ → ℕ → Option ℕ
-time_since None m = None
-time_since (Some t) m = Some (min (m - t) (10 ^ 9))
-
--- it is published, unless 2^32 - 1 times were
-abbrev pub published : List ℕ → Option ℕ → Option ℕ
-published times time = if nat_lt (length times) (2 ^ 32 - 1) then time else None
-
--- the time that is published with the removal at m, if one happened
-abbrev pub time_of : Past → ℕ → World → World → Option ℕ
-time_of p m w v = if has_removed w v then published p.times (time_since (first_sending w.removed p.sends) m) else None
 
 abbrev pub printed_removal : ℕ → ℕ → World → World → Option ℕ → List Event
 printed_removal session m w v time = if has_removed w v then Removed session m w.removed time ∷ [] else []
@@ -45,49 +20,22 @@ printed_removal session m w v time = if has_removed w v then Removed session m w
 -- the first part of a high look at m: a TAKEN comes back, the message in the hand is removed where
 -- that is due, and its time is published
 pub record IsRemoval (row : SessionRow) (p : Past) (m : ℕ) (back : Option ℕ) (q : Past) (printed : List Event) : Type 0 where
-  pub answered : World
-  pub returns : Returns p.world back answered
-  pub removes : Perhaps answered RemoveBegin (RemoveEnd ∷ []) q.world
-  pub time : Option ℕ
-  pub is_time : time ≡ time_of p m answered q.world
-  pub rest : q ≡ record p { world = q.world; times = p.times ++ option_to_list time }
-  pub printed_is : printed ≡ printed_removal row.id m answered q.world time
+  pub look : Removes (high_of p) m back (high_of q)
+  pub rest : q ≡ record p { world = q.world; times = q.times }
+  pub printed_is : printed ≡ printed_removal row.id m look.answered q.world look.time
 
 -- ---- a sending ----
-
--- a message is sent at m where it was not sent since the opening, or `resend` after its last sending
-abbrev pub is_due : ℕ → Option ℕ → ℕ → Bool
-is_due resend None m = true
-is_due resend (Some t) m = nat_le (t + resend) m
-
--- whether the high hand is sent at m
-abbrev pub sends_hand : SessionRow → List Sending → ℕ → Option ℕ → Bool
-sends_hand row sends m None = false
-sends_hand row sends m (Some n) = is_due row.resend (last_sending n sends) m
-
-abbrev pub sending_of : ℕ → Option ℕ → List Sending
-sending_of m None = []
-sending_of m (Some n) = record { number = n; moment = m } ∷ []
 
 abbrev pub printed_sending : ℕ → ℕ → Option ℕ → List Event
 printed_sending session m None = []
 printed_sending session m (Some n) = Sent session m n ∷ []
 
--- the high hand is sent, or nothing is
-abbrev pub Sends : Bool → World → World → Type 0
-Sends true w v = Happens w Send v
-Sends false w v = v ≡ w
-
 -- the second part of a high look at m: an empty hand takes up the next message, and the message in
 -- the hand is sent where it is due
 pub record IsSending (row : SessionRow) (p : Past) (m : ℕ) (q : Past) (printed : List Event) : Type 0 where
-  pub taken : World
-  pub takes_up : Perhaps p.world TakeUp [] taken
-  pub is_sent : Bool
-  pub cause : is_sent ≡ sends_hand row p.sends m taken.high_hand
-  pub sends : Sends is_sent taken q.world
-  pub rest : q ≡ record p { world = q.world; sends = (if is_sent then sending_of m taken.high_hand ++ p.sends else p.sends); moment = m }
-  pub printed_is : printed ≡ (if is_sent then printed_sending row.id m taken.high_hand else [])
+  pub look : Sends row.resend false (high_of p) m (high_of q)
+  pub rest : q ≡ record p { world = q.world; sends = q.sends; moment = m }
+  pub printed_is : printed ≡ (if look.is_sent then printed_sending row.id m look.taken.high_hand else [])
 
 -- a high look at m leads from p to q and prints this; `back` is the place of the TAKEN that comes back
 abbrev pub IsHighLook : SessionRow → Past → ℕ → Option ℕ → Past → List Event → Type 0
@@ -97,17 +45,13 @@ IsHighLook row p m back q printed =
 
 -- ---- a TAKEN that comes back ----
 
--- the number of the next message that was not sent yet
-abbrev pub expected : World → ℕ
-expected w = if is_some w.high_hand then w.removed + 1 else w.removed
-
 abbrev pub is_not_below : ℕ → Option ℕ → Bool
 is_not_below n None = false
 is_not_below n (Some number) = nat_le n number
 
 -- the TAKEN at this place is of a message that was not sent
 abbrev pub is_ahead : World → ℕ → Bool
-is_ahead w k = is_not_below (expected w) (slice_get w.returned k)
+is_ahead w k = is_not_below (expected w.removed w.high_hand) (slice_get w.returned k)
 
 -- such a TAKEN is refused, and its look does nothing; any other comes back in a high look
 abbrev pub IsReturnBy : Bool → SessionRow → Past → ℕ → ℕ → Past → List Event → Type 0

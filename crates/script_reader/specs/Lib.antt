@@ -1,10 +1,11 @@
 pub mod Breaks
-pub mod Heads
 pub mod DigitValues
+pub mod EventHeads
 pub mod Faults
 pub mod Fields
 pub mod Fronts
 pub mod Grammar
+pub mod Heads
 pub mod Highs
 pub mod Lawful
 pub mod Lines
@@ -13,6 +14,7 @@ pub mod Parsing
 pub mod Past
 pub mod Readouts
 pub mod Scripts
+pub mod Sides
 pub mod Steps
 pub mod Tolds
 pub mod Transcript

@@ -1,17 +1,14 @@
 -- What a session has been through, when a script has run so far.
-use Rattle.std.specs.Prelude.{ℕ, ◌==◌, Bool, false, if◌then◌else◌, List, [], ◌∷◌, length, Option, Some, None}
-use Rattle.pump_frame.specs.Averages.{average_of}
+use Rattle.std.specs.Prelude.{ℕ, Bool, false, List, [], length}
+use Rattle.pump_frame.specs.Averages.{averaging_of, average_of}
 use Rattle.pump_frame.specs.Readings.{Reading, Within}
 use Rattle.pump_frame.specs.declared.row.SessionRow.{SessionRow}
 use Rattle.pump_core.specs.declared.feedback.Seen.{Seen}
 use Rattle.pump_core.specs.History.{Arrival, History, first_life}
+use Rattle.pump_core.specs.HighLooks.{HighPast}
+use Rattle.pump_core.specs.Sendings.{Sending}
 use Rattle.pump_core.specs.World as worlds
 use Rattle.pump_core.specs.World.{World}
-
--- a sending of a message by the high process
-pub record Sending : Type 0 where
-  pub number : ℕ
-  pub moment : ℕ
 
 pub record Past : Type 0 where
   -- the low history, each look with its arrival and its feedback
@@ -47,18 +44,8 @@ fresh row = record {
 
 -- what a read of High's times gives: how many were published, and their average
 abbrev pub pair : SessionRow → Past → Seen
-pair row p = record { count = length p.times; average = average_of row.window row.start p.times }
+pair row p = record { count = length p.times; average = average_of (averaging_of row) p.times }
 
--- the moment of the last sending of message n
-abbrev pub last_sending : ℕ → List Sending → Option ℕ
-last_sending n [] = None
-last_sending n (x ∷ earlier) = if x.number == n then Some x.moment else last_sending n earlier
-
-abbrev pub or_else : Option ℕ → Option ℕ → Option ℕ
-or_else (Some a) b = Some a
-or_else None b = b
-
--- the moment of the first sending of message n
-abbrev pub first_sending : ℕ → List Sending → Option ℕ
-first_sending n [] = None
-first_sending n (x ∷ earlier) = or_else (first_sending n earlier) (if x.number == n then Some x.moment else None)
+-- what its high side has come to
+abbrev pub high_of : Past → HighPast
+high_of p = record { world = p.world; times = p.times; sends = p.sends }

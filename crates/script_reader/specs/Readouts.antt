@@ -1,9 +1,9 @@
 -- What is read off a transcript, and what holds of the session that it leads to.
-use Rattle.std.specs.Prelude.{◌+◌, ◌-◌, ◌≤◌, List, [], ◌∷◌, ◌++◌, length}
+use Rattle.std.specs.Prelude.{◌≡◌, ◌+◌, ◌-◌, ◌≤◌, List, [], ◌∷◌, ◌++◌, length, Option, None, Some}
 use Rattle.pump_frame.specs.declared.row.SessionRow.{SessionRow}
 use Rattle.pump_core.specs.History.{History}
 use Rattle.pump_core.specs.Lawful.{IsPrefixOf}
-use Rattle.pump_core.specs.Replies.{Sent}
+use Rattle.pump_core.specs.Replies.{Sent, LowReplies}
 use Rattle.script_reader.specs.declared.event.Event.{Event}
 use Rattle.script_reader.specs.declared.event.Event.TheVariants.{Low}
 use Rattle.script_reader.specs.Scripts.{Running, Begun, Whole, Alone}
@@ -38,3 +38,14 @@ pub record IsWithin (s : Running) : Type 0 where
 abbrev pub KeepsBounds : Begun → Type 0
 KeepsBounds (Whole s) = IsWithin s
 KeepsBounds (Alone s) = length s.past.waits ≤ 64
+
+-- what holds of the session that was led to, and of all that was printed on the way: the `low` lines are
+-- the replies of the low history
+pub record IsSound (s : Begun) (printed : List Event) : Type 0 where
+  pub replies : LowReplies (row_of s) (history_of s) (low_lines printed)
+  pub bounds : KeepsBounds s
+
+-- .. and before a session is begun nothing is printed
+abbrev pub Sound : Option Begun → List Event → Type 0
+Sound None printed = printed ≡ []
+Sound (Some s) printed = IsSound s printed

@@ -1,5 +1,5 @@
 -- The transcript of a whole script, which has one session: a whole one, or a low side alone.
-use Rattle.std.specs.Prelude.{◌≡◌, ℕ, Bool, true, false, List, [], ◌∷◌, ◌++◌, length, Option, Some, None}
+use Rattle.std.specs.Prelude.{◌≡◌, ◌⊎◌, ℕ, Bool, true, false, List, [], ◌∷◌, ◌++◌, length, Option, Some, None}
 use Rattle.disk_model.specs.declared.name.Role.TheVariants as roles
 use Rattle.pump_frame.specs.Rows.{first_bad, IsLawfulRow}
 use Rattle.pump_frame.specs.declared.row.RowKey.{RowKey}
@@ -12,8 +12,8 @@ use Rattle.script_reader.specs.declared.fault.Fault.TheVariants as faults
 use Rattle.script_reader.specs.declared.event.Event.{Event}
 use Rattle.script_reader.specs.declared.event.Event.TheVariants.{End}
 use Rattle.script_reader.specs.Past.{Past, fresh}
-use Rattle.script_reader.specs.Steps.{is_timely, Step, IsBarred, Overfills}
-use Rattle.script_reader.specs.Tolds.{LowPast, fresh_low, is_timely_low, StepLow, IsBarredLow}
+use Rattle.script_reader.specs.Steps.{is_timely, Step, IsRefusedWhole, Overfills}
+use Rattle.script_reader.specs.Tolds.{LowPast, fresh_low, is_timely_low, StepLow, IsRefusedAlone}
 
 -- a whole session that a script has begun: its row, and what it has been through
 pub record Running : Type 0 where
@@ -70,20 +70,21 @@ IsRefused running lines.Skip = ⊥
 IsRefused None (lines.Session row) = (key : RowKey) × (first_bad row ≡ Some key)
 IsRefused None (lines.LowSession row next held) = (key : RowKey) × (first_bad row ≡ Some key)
 IsRefused None line = Unit {0}
-IsRefused (Some (Whole s)) line = IsBarred s.row s.past line
-IsRefused (Some (Alone s)) line = IsBarredLow s.row s.past line
+IsRefused (Some (Whole s)) line = IsRefusedWhole s.row s.past line
+IsRefused (Some (Alone s)) line = IsRefusedAlone s.row s.past line
 
--- the line can be applied, and stops the script with this fault after it printed this: a message does
--- not fit at the receiver, or the device of a low side alone fails in a store
-abbrev pub Halts : Option Begun → Line → List Event → Fault → Type 0
-Halts None line printed fault = ⊥
-Halts (Some (Whole s)) line printed fault =
+-- the line can be applied, and stops the script with this fault, after it has led to `after` and printed
+-- this: a message does not fit at the receiver, or the device of a low side alone fails in a store
+abbrev pub Stops : Option Begun → Line → Option Begun → List Event → Fault → Type 0
+Stops None line after printed fault = ⊥
+Stops (Some (Whole s)) line after printed fault =
     (is_timely s.row s.past line ≡ true)
-    × ((end size_of_message size : ℕ) × Overfills s.row s.past line printed end size_of_message size
-    × (fault ≡ faults.Full s.row.id end size_of_message size))
-Halts (Some (Alone s)) line printed fault =
+    × ((q : Past) × (end size_of_message size : ℕ) × Overfills s.row s.past line q printed end size_of_message size
+    × (fault ≡ faults.Full s.row.id end size_of_message size) × (after ≡ Some (Whole (record { row = s.row; past = q }))))
+Stops (Some (Alone s)) line after printed fault =
     (is_timely_low s.row s.past line ≡ true)
-    × ((q : LowPast) × StepLow s.row s.past line true q printed × (fault ≡ faults.Device s.row.id roles.Low))
+    × ((q : LowPast) × StepLow s.row s.past line true q printed
+    × (fault ≡ faults.Device s.row.id roles.Low) × (after ≡ Some (Alone (record { row = s.row; past = q }))))
 
 -- these lines lead from `running` to `after`, and print this
 abbrev pub LeadTo : Option Begun → List Line → Option Begun → List Event → Type 0
@@ -113,7 +114,19 @@ IsTranscript script printed =
     (after : Option Begun) × (body : List Event) × (last : List Event)
     × LeadTo None script after body × Ends after last × (printed ≡ body ++ last)
 
--- what these lines print, all of which can be applied, where the line after them can't be
-abbrev pub IsStopped : List Line → Line → List Event → Type 0
-IsStopped script line printed =
-    (after : Option Begun) × LeadTo None script after printed × IsRefused after line
+-- these lines led to `after` and printed this: all of them can be applied, and the last one may stop the
+-- script
+pub record StopsAfter (script : List Line) (after : Option Begun) (printed : List Event) : Type 0 where
+  pub before : List Line
+  pub line : Line
+  pub script_is : script ≡ before ++ line ∷ []
+  pub running : Option Begun
+  pub first : List Event
+  pub leads : LeadTo None before running first
+  pub last : List Event
+  pub fault : Fault
+  pub stops : Stops running line after last fault
+  pub printed_is : printed ≡ first ++ last
+
+abbrev pub ComesTo : List Line → Option Begun → List Event → Type 0
+ComesTo script after printed = LeadTo None script after printed ⊎ StopsAfter script after printed

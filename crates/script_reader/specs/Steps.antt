@@ -100,8 +100,8 @@ IsCrowded p (lines.Look session m w a) =
 IsCrowded p line = ⊥
 
 -- the line can't be applied
-abbrev pub IsBarred : SessionRow → Past → Line → Type 0
-IsBarred row p line = (is_timely row p line ≡ false) ⊎ IsCrowded p line
+abbrev pub IsRefusedWhole : SessionRow → Past → Line → Type 0
+IsRefusedWhole row p line = (is_timely row p line ≡ false) ⊎ IsCrowded p line
 
 -- ---- what a line does ----
 
@@ -150,12 +150,12 @@ Step row p (lines.Carry session back) q printed = IsCarried row p back q printed
 Step row p (lines.Return session m back) q printed = IsReturn row p m (place p.world.returned back) q printed
 Step row p (lines.Done session m t) q printed = IsDone row p m t q printed
 
--- the line could be applied, but a message does not fit at the receiver: this is printed before it
--- stops, and its record would begin at `end`
-abbrev pub Overfills : SessionRow → Past → Line → List Event → ℕ → ℕ → ℕ → Type 0
-Overfills row p (lines.Carry session back) printed end size_of_message size =
-    IsOverfull p.world back end size_of_message size × (printed ≡ [])
-Overfills row p (lines.Done session m t) printed end size_of_message size =
-    (mid : Past) × (n : ℕ) × IsHighLook row p m None mid printed
-    × (mid.world.high_hand ≡ Some n) × IsOverfull mid.world 0 end size_of_message size
-Overfills row p _ printed end size_of_message size = ⊥
+-- the line could be applied, but a message does not fit at the receiver: it has come to q before that,
+-- and printed this; the message's record would begin at `end`
+abbrev pub Overfills : SessionRow → Past → Line → Past → List Event → ℕ → ℕ → ℕ → Type 0
+Overfills row p (lines.Carry session back) q printed end size_of_message size =
+    IsOverfull p.world back end size_of_message size × (q ≡ p) × (printed ≡ [])
+Overfills row p (lines.Done session m t) q printed end size_of_message size =
+    IsHighLook row p m None q printed × ((n : ℕ) × (q.world.high_hand ≡ Some n))
+    × IsOverfull q.world 0 end size_of_message size
+Overfills row p _ q printed end size_of_message size = ⊥

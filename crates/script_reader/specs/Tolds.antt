@@ -1,6 +1,7 @@
 -- A low side alone, to which a script tells what the passage answers: what it has been through, and
 -- what a line does to it.
 use Rattle.std.specs.Prelude.{◌≡◌, ◌⊎◌, ℕ, ◌<◌, ◌≤◌, Bool, true, false, ◌&&◌, ◌||◌, ◌==◌, not, nat_le, if◌then◌else◌, List, [], ◌∷◌, ◌++◌, length, drop}
+use Rattle.pump_frame.specs.Averages.{averaging_of, average_of}
 use Rattle.pump_frame.specs.Readings.{Reading, Within}
 use Rattle.pump_frame.specs.declared.row.SessionRow.{SessionRow}
 use Rattle.pump_core.specs.declared.feedback.Seen.{Seen}
@@ -70,8 +71,8 @@ told_of_offer owed Full = feedbacks.Full
 -- a read gives the pair, and by all else that no time was published
 abbrev pub told_of_read : SessionRow → ToldFeedback → Seen
 told_of_read row (Pair count average) = record { count = count; average = average }
-told_of_read row Quiet = record { count = 0; average = row.start }
-told_of_read row Full = record { count = 0; average = row.start }
+told_of_read row Quiet = record { count = 0; average = average_of (averaging_of row) [] }
+told_of_read row Full = record { count = 0; average = average_of (averaging_of row) [] }
 
 -- a look without an offer reads High's times where it takes a repeated message
 abbrev pub told_of_arrival : SessionRow → Opening → List Part → ToldFeedback → Arrival → Feedback
@@ -162,8 +163,8 @@ IsCrowdedLow p (lines.Told session m w fault told a) =
 IsCrowdedLow p line = ⊥
 
 -- the line can't be applied
-abbrev pub IsBarredLow : SessionRow → LowPast → Line → Type 0
-IsBarredLow row p line = (is_timely_low row p line ≡ false) ⊎ IsCrowdedLow p line
+abbrev pub IsRefusedAlone : SessionRow → LowPast → Line → Type 0
+IsRefusedAlone row p line = (is_timely_low row p line ≡ false) ⊎ IsCrowdedLow p line
 
 -- the line leads from p to q and prints this, and the disk fails in it or not
 abbrev pub StepLow : SessionRow → LowPast → Line → Bool → LowPast → List Event → Type 0

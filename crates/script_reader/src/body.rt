@@ -48,7 +48,7 @@ impl Body {
         self.len = 0;
     }
 
-    /// Holds the bytes of these digits, so many, where they are digits.
+    /// Holds so many bytes, each of two digits; false where they are not so many digits.
     pub(crate) fn decode(&mut self, digits: &[u8], count: usize) -> bool
         requires { count ≤ 1042 }
         ensures read { (if result then Some self.new else None) ≡ bytes_from (decode_sized digits.now count) }

@@ -1,10 +1,7 @@
-//! Hexadecimal digits, by a table: which kind a digit is can hardly be foreseen, and a branch on it costs
-//! more than the rest.
-
-ghost use Rattle.std.specs.Prelude.{◌≡◌, ℕ, length, Some, None, MatchOption, if◌then◌else◌};
-ghost use Rattle.hex.specs.Hex.{decode_sized, pair_value};
-ghost use Rattle.hex.specs.declared.FromHexError.{FromHexError};
-ghost use Rattle.std.specs.Prelude.{Ok, Err};
+// Hexadecimal digits, by a table: a branch on whether a digit is a letter is often foretold wrongly, and
+// costs more than all else that is done with it.
+ghost use Rattle.std.specs.Prelude.{◌≡◌, ℕ, length, Some, None, if◌then◌else◌};
+ghost use Rattle.hex.specs.Hex.{decode_sized};
 ghost use Rattle.script_reader.specs.Parsing.{bytes_from};
 ghost use Rattle.script_reader.specs.DigitValues.{digit_value, Pairs};
 
@@ -53,10 +50,7 @@ fn pair(high: u8, low: u8) -> Option<u8>
 pub(crate) fn decode(digits: &[u8], room: &mut [u8]) -> bool
     ensures read { (if result then Some room.new else None) ≡ bytes_from (decode_sized digits.now (length room.old)) }
 {
-    if digits.len() % 2 != 0 {
-        return false;
-    }
-    if digits.len() / 2 != room.len() {
+    if digits.len() % 2 != 0 || digits.len() / 2 != room.len() {
         return false;
     }
     'bytes: for i in 0..room.len() {

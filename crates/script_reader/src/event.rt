@@ -1,4 +1,7 @@
-use pump_core::Seen;
+ghost use Rattle.std.specs.Prelude.{◌≡◌, false};
+ghost use Rattle.script_reader.specs.EventHeads.{event_of, is_reply};
+
+use pump_core::{Reply, Seen};
 use pump_frame::Frame;
 
 /// A line of a transcript; `docs/formats.md`, "Transcripts", says when each comes. Moments and
@@ -77,6 +80,272 @@ impl Default for Event {
         Event::Full {
             session: 0,
             moment: 0,
+        }
+    }
+}
+
+/// A line of a transcript, as `Event`, with its reply in place of the frame.
+#[derive(Clone, Copy)]
+pub enum EventHead {
+    Stored {
+        session: u32,
+        moment: u64,
+        number: u64,
+    },
+    Full {
+        session: u32,
+        moment: u64,
+    },
+    Passed {
+        session: u32,
+        moment: u64,
+        seen: Seen,
+    },
+    Released {
+        session: u32,
+        moment: u64,
+    },
+    Repeat {
+        session: u32,
+        moment: u64,
+        seen: Seen,
+    },
+    Low {
+        session: u32,
+        moment: u64,
+        reply: Reply,
+    },
+    Removed {
+        session: u32,
+        moment: u64,
+        number: u64,
+        time: Option<u32>,
+    },
+    Sent {
+        session: u32,
+        moment: u64,
+        number: u64,
+    },
+    Took {
+        session: u32,
+        number: u64,
+    },
+    Again {
+        session: u32,
+        number: u64,
+    },
+    End {
+        session: u32,
+        accepted: u64,
+        high: Option<(u64, u64)>,
+    },
+}
+
+/// What a list of events holds where it has none yet.
+impl Default for EventHead {
+    fn default() -> EventHead {
+        EventHead::Full {
+            session: 0,
+            moment: 0,
+        }
+    }
+}
+
+impl EventHead {
+    /// The event, whose reply is a frame of its session.
+    pub fn event(&self) -> Event
+        ensures { result ≡ event_of self.now }
+    {
+        match *self {
+            EventHead::Stored {
+                session,
+                moment,
+                number,
+            } => Event::Stored {
+                session,
+                moment,
+                number,
+            },
+            EventHead::Full {
+                session,
+                moment,
+            } => Event::Full {
+                session,
+                moment,
+            },
+            EventHead::Passed {
+                session,
+                moment,
+                seen,
+            } => Event::Passed {
+                session,
+                moment,
+                seen,
+            },
+            EventHead::Released {
+                session,
+                moment,
+            } => Event::Released {
+                session,
+                moment,
+            },
+            EventHead::Repeat {
+                session,
+                moment,
+                seen,
+            } => Event::Repeat {
+                session,
+                moment,
+                seen,
+            },
+            EventHead::Low {
+                session,
+                moment,
+                reply,
+            } => Event::Low {
+                session,
+                moment,
+                reply: reply.frame(session),
+            },
+            EventHead::Removed {
+                session,
+                moment,
+                number,
+                time,
+            } => Event::Removed {
+                session,
+                moment,
+                number,
+                time,
+            },
+            EventHead::Sent {
+                session,
+                moment,
+                number,
+            } => Event::Sent {
+                session,
+                moment,
+                number,
+            },
+            EventHead::Took {
+                session,
+                number,
+            } => Event::Took {
+                session,
+                number,
+            },
+            EventHead::Again {
+                session,
+                number,
+            } => Event::Again {
+                session,
+                number,
+            },
+            EventHead::End {
+                session,
+                accepted,
+                high,
+            } => Event::End {
+                session,
+                accepted,
+                high,
+            },
+        }
+    }
+}
+
+impl Event {
+    // The event where it is no reply: then it has no frame.
+    pub(crate) fn head(&self) -> EventHead
+        requires { is_reply self.now ≡ false }
+        ensures { event_of result ≡ self.now }
+    {
+        match *self {
+            Event::Stored {
+                session,
+                moment,
+                number,
+            } => EventHead::Stored {
+                session,
+                moment,
+                number,
+            },
+            Event::Full {
+                session,
+                moment,
+            } => EventHead::Full {
+                session,
+                moment,
+            },
+            Event::Passed {
+                session,
+                moment,
+                seen,
+            } => EventHead::Passed {
+                session,
+                moment,
+                seen,
+            },
+            Event::Released {
+                session,
+                moment,
+            } => EventHead::Released {
+                session,
+                moment,
+            },
+            Event::Repeat {
+                session,
+                moment,
+                seen,
+            } => EventHead::Repeat {
+                session,
+                moment,
+                seen,
+            },
+            Event::Low { .. } => EventHead::default(),
+            Event::Removed {
+                session,
+                moment,
+                number,
+                time,
+            } => EventHead::Removed {
+                session,
+                moment,
+                number,
+                time,
+            },
+            Event::Sent {
+                session,
+                moment,
+                number,
+            } => EventHead::Sent {
+                session,
+                moment,
+                number,
+            },
+            Event::Took {
+                session,
+                number,
+            } => EventHead::Took {
+                session,
+                number,
+            },
+            Event::Again {
+                session,
+                number,
+            } => EventHead::Again {
+                session,
+                number,
+            },
+            Event::End {
+                session,
+                accepted,
+                high,
+            } => EventHead::End {
+                session,
+                accepted,
+                high,
+            },
         }
     }
 }

@@ -1,5 +1,4 @@
-ghost use Rattle.std.specs.Prelude.{◌≡◌, ℕ, ◌+◌, ◌^◌, ◌<◌, ◌≤◌, List, [], ◌∷◌, length, decimal, IsSome, IfSome, IfNone, MatchOption, IsTrue, ◌↔◌, option_map};
-ghost use Rattle.std.specs.Prelude.{position};
+ghost use Rattle.std.specs.Prelude.{◌≡◌, ℕ, ◌+◌, ◌^◌, ◌<◌, ◌≤◌, List, [], ◌∷◌, length, decimal, IsSome, IfSome, IfNone, MatchOption, IsTrue, ◌↔◌, option_map, position};
 ghost use Rattle.std.specs.Option.{option_copied};
 ghost use Rattle.script_reader.specs.Fields.{is_space};
 ghost use Rattle.script_reader.specs.Parsing.{Reads, field_at, IsPlain, number, word, name, choice, is_slash, pair, feedback, hex, raw, held_from};
@@ -140,10 +139,7 @@ fn raw_of(field: &[u8], body: &mut Body) -> Option<()>
     if half == 0 || half > 1042 {
         return None;
     }
-    if !body.decode(field, half) {
-        return None;
-    }
-    Some(())
+    if body.decode(field, half) { Some(()) } else { None }
 }
 
 #[tactic(auto, unfolding(crate::specs::Parsing::hex))]
@@ -159,10 +155,7 @@ fn hex_of(field: &[u8], body: &mut Body) -> Option<()>
     if half == 0 || half > 1024 {
         return None;
     }
-    if !body.decode(field, half) {
-        return None;
-    }
-    Some(())
+    if body.decode(field, half) { Some(()) } else { None }
 }
 
 /// Whether the field begins with a digit, and has no leading zero.
@@ -189,13 +182,8 @@ fn any_number_of(field: &[u8]) -> Option<u64>
         if !byte.is_ascii_digit() {
             return None;
         }
-        let Some(tens) = n.checked_mul(10) else {
-            return None;
-        };
-        let Some(sum) = tens.checked_add(u64::from(byte - b'0')) else {
-            return None;
-        };
-        n = sum;
+        let tens = n.checked_mul(10)?;
+        n = tens.checked_add(u64::from(byte - b'0'))?;
     }
     Some(n)
 }
@@ -258,10 +246,11 @@ fn word_of(field: &[u8]) -> Option<u32>
     ensures { result ≡ word field.now }
 {
     let mut bytes = [0; 4];
-    if !decode(field, &mut bytes) {
-        return None;
+    if decode(field, &mut bytes) {
+        Some(u32::from_be_bytes(bytes))
+    } else {
+        None
     }
-    Some(u32::from_be_bytes(bytes))
 }
 
 fn name_of(field: &[u8]) -> Option<Name>

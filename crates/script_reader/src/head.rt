@@ -1,6 +1,5 @@
-//! Lines without the bytes that come with them, which stand in a room of the caller's: a line with its
-//! bytes has more than 1 KB, and moving it costs more than reading it.
-
+// Lines without the bytes that come with them, which stand in a room of the caller's: a line with its
+// bytes has more than 1 KB, and to move it costs more than to read it.
 ghost use Rattle.std.specs.Prelude.{◌≡◌};
 ghost use Rattle.script_reader.specs.Heads.{arriving_with, line_with, bytes_in, bytes_of, CanHold, CanHoldLine};
 

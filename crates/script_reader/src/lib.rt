@@ -2,29 +2,31 @@
 //! stream.
 #![tactic(auto)]
 
-mod head;
 mod body;
 mod digits;
 mod event;
 mod fault;
 mod fields;
+mod head;
 mod laws;
 mod line;
 mod lines;
 mod printing;
 mod reading;
 
-pub use head::{ArrivingHead, LineHead, LinedHead};
 pub use body::Body;
-pub use event::Event;
+pub use event::{Event, EventHead};
 pub use fault::Fault;
+pub use head::{ArrivingHead, LineHead, LinedHead};
 pub use laws::{
-    faulty_scripts_have_no_transcript, low_lines_are_replies, one_reading, stopping_lines_are_one,
+    faulty_scripts_have_no_transcript, full_moments_and_averages_decide, low_lines_are_a_function,
+    low_lines_are_replies, low_sides_have_one_transcript, one_reading, stopping_lines_are_one,
     transcripts_are_bounded, transcripts_are_one,
+    transcripts_are_sound,
 };
 pub use line::{Arriving, Line, ToldFeedback};
 pub use lines::{Lined, Lines};
-pub use printing::{print_event, print_fault};
+pub use printing::{append_fault, append_head, print_event, print_fault, print_head};
 pub use reading::{read_head, read_line};
 
 #[cfg(test)]

@@ -1,12 +1,13 @@
 ghost use Rattle.std.specs.Prelude.{◌≡◌, ◌≢◌, ℕ, ◌+◌, ◌-◌, ◌^◌, ◌<◌, ◌≤◌, min, List, [], ◌++◌, length, take, drop, position, Some, IsTrue, ◌↔◌, IfOk, OnErr, OnOk};
 ghost use Rattle.std.specs.Io.KnownBytes.{Keeps, IsAtEnd};
-ghost use Rattle.pump_link.specs.Causes.{HasCause, Rose};
-ghost use Rattle.script_reader.specs.Lines.{Reading, to_come, is_end, IsNext, IsReady};
-ghost use Rattle.script_reader.specs.Fronts.{IsFirst};
+ghost use Rattle.pump_frame.specs.Counts.{Rose};
+ghost use Rattle.pump_link.specs.Causes.{HasCause};
+ghost use Rattle.script_reader.specs.Lines.{Reading, to_come, is_end, IsNext, IsReady, ReadsOn};
+ghost use Rattle.script_reader.specs.Fronts.{IsFirst, Fills};
 ghost use Rattle.script_reader.specs.Heads.{lined_with, CanHoldNext};
 
-use crate::head::LinedHead;
 use crate::body::Body;
+use crate::head::LinedHead;
 use crate::line::Line;
 use crate::reading::read_head;
 use memchr::memchr;
@@ -100,6 +101,7 @@ impl Lines {
 
     fn fill<I: Source>(&mut self, script: &mut I) -> Result<usize, ReadFault>
         requires { length self.old.held < 4096 }
+        ensures fills { Fills self.old self.new (I.gives script.old) (I.gives script.new) result }
         ensures kept { Keeps (to_come self.old (I.left script.old)) (to_come self.new (I.left script.new)) }
         ensures grown { IfOk result (λ n. length self.new.held ≡ length self.old.held + n) }
         ensures same { IfOk result (λ n. n ≡ 0 → self.new.held ≡ self.old.held) }
@@ -125,10 +127,12 @@ impl Lines {
         line_end(held).is_some() || held.len() > 2400
     }
 
-    /// The next line of the script. The source is asked only where `is_ready` is false. After any
-    /// answer but a line, what is still to come is as it was before.
+    /// The next line of the script. The source is asked only where `is_ready` is false, and again only
+    /// as long as it is. After any answer but a line, what is still to come is as it was before; after
+    /// `Failed` no whole line is held.
     pub fn next<I: Source>(&mut self, script: &mut I) -> Lined
         ensures next { IsNext self.old self.new (I.left script.old) (I.left script.new) result }
+        ensures reads { ReadsOn self.old self.new (I.gives script.old) (I.gives script.new) result }
         ensures failed { result ≡ Lined.Failed → Rose (I.faults script.old) (I.faults script.new) }
         ensures later { I.faults script.old ≤ I.faults script.new }
         ensures few { result ≢ Lined.Failed → result ≢ Lined.End → self.new.number < 2 ^ 32 }
@@ -147,6 +151,7 @@ impl Lines {
     /// with its bytes has more than 1 KB.
     pub fn next_head<I: Source>(&mut self, script: &mut I, body: &mut Body) -> LinedHead
         ensures next { IsNext self.old self.new (I.left script.old) (I.left script.new) (lined_with body.new result) }
+        ensures reads { ReadsOn self.old self.new (I.gives script.old) (I.gives script.new) (lined_with body.new result) }
         ensures room { CanHoldNext result body.new }
         ensures failed { result ≡ LinedHead.Failed → Rose (I.faults script.old) (I.faults script.new) }
         ensures later { I.faults script.old ≤ I.faults script.new }

@@ -1,28 +1,29 @@
 ghost use Rattle.std.specs.Prelude.{◌≡◌, ℕ, ◌+◌, ◌≤◌, List, [], ◌∷◌, ◌++◌, None, Some, length, codes, decimal, slice_index};
 ghost use Rattle.arrayvec.specs.ArrayVec.{array_vec_len};
+ghost use Rattle.script_reader.specs.EventHeads.{event_of};
 ghost use Rattle.script_reader.specs.Transcript.{role_field, reply_fields, high_fields, time_field, event_line, fault_line, line_with_end};
 
-use crate::event::Event;
+use crate::event::{Event, EventHead};
 use crate::fault::Fault;
 use arrayvec::ArrayVec;
 use disk_model::Role;
 use itoa::Buffer;
-use pump_core::Seen;
+use pump_core::{Reply, Seen};
 use pump_frame::{Frame, Kind};
 
-/// The room that a printed line is put into.
-type Room = ArrayVec<u8, 2400>;
+// A printed line goes behind what a room holds. None of them has more than 256 bytes: at most a word
+// of 40 bytes and five numbers of 40.
 
-fn put(into: &mut Room, text: &[u8])
-    requires { array_vec_len into.old + length text.now ≤ 2400 }
+fn put<const N: usize>(into: &mut ArrayVec<u8, N>, text: &[u8])
+    requires { array_vec_len into.old + length text.now ≤ N }
     ensures items { into.new.items ≡ into.old.items ++ text.now }
     ensures len { array_vec_len into.new ≡ array_vec_len into.old + length text.now }
 {
     into.try_extend_from_slice(text).unwrap();
 }
 
-fn put_number(into: &mut Room, number: u64)
-    requires { array_vec_len into.old ≤ 2300 }
+fn put_number<const N: usize>(into: &mut ArrayVec<u8, N>, number: u64)
+    requires { array_vec_len into.old + 40 ≤ N }
     ensures items { into.new.items ≡ into.old.items ++ decimal number }
     ensures len { array_vec_len into.new ≤ array_vec_len into.old + 40 }
 {
@@ -31,8 +32,8 @@ fn put_number(into: &mut Room, number: u64)
 }
 
 /// A space and a number.
-fn put_field(into: &mut Room, number: u64)
-    requires { array_vec_len into.old ≤ 2200 }
+fn put_field<const N: usize>(into: &mut ArrayVec<u8, N>, number: u64)
+    requires { array_vec_len into.old + 41 ≤ N }
     ensures items { into.new.items ≡ into.old.items ++ 32 ∷ decimal number }
     ensures len { array_vec_len into.new ≤ array_vec_len into.old + 41 }
 {
@@ -41,10 +42,10 @@ fn put_field(into: &mut Room, number: u64)
 }
 
 /// A line of a word and one number.
-fn put_one(into: &mut Room, word: &[u8], first: u64)
-    requires empty { into.old.items ≡ [] }
+fn put_one<const N: usize>(into: &mut ArrayVec<u8, N>, word: &[u8], first: u64)
+    requires room { array_vec_len into.old + 256 ≤ N }
     requires short { length word.now ≤ 40 }
-    ensures { into.new.items ≡ line_with_end (word.now ∷ decimal first ∷ []) }
+    ensures { into.new.items ≡ into.old.items ++ line_with_end (word.now ∷ decimal first ∷ []) }
 {
     put(into, word);
     put_field(into, first);
@@ -52,10 +53,10 @@ fn put_one(into: &mut Room, word: &[u8], first: u64)
 }
 
 /// A line of a word and two numbers.
-fn put_two(into: &mut Room, word: &[u8], first: u64, second: u64)
-    requires empty { into.old.items ≡ [] }
+fn put_two<const N: usize>(into: &mut ArrayVec<u8, N>, word: &[u8], first: u64, second: u64)
+    requires room { array_vec_len into.old + 256 ≤ N }
     requires short { length word.now ≤ 40 }
-    ensures { into.new.items ≡ line_with_end (word.now ∷ decimal first ∷ decimal second ∷ []) }
+    ensures { into.new.items ≡ into.old.items ++ line_with_end (word.now ∷ decimal first ∷ decimal second ∷ []) }
 {
     put(into, word);
     put_field(into, first);
@@ -64,10 +65,10 @@ fn put_two(into: &mut Room, word: &[u8], first: u64, second: u64)
 }
 
 /// A line of a word and three numbers.
-fn put_three(into: &mut Room, word: &[u8], first: u64, second: u64, third: u64)
-    requires empty { into.old.items ≡ [] }
+fn put_three<const N: usize>(into: &mut ArrayVec<u8, N>, word: &[u8], first: u64, second: u64, third: u64)
+    requires room { array_vec_len into.old + 256 ≤ N }
     requires short { length word.now ≤ 40 }
-    ensures { into.new.items ≡ line_with_end (word.now ∷ decimal first ∷ decimal second ∷ decimal third ∷ []) }
+    ensures { into.new.items ≡ into.old.items ++ line_with_end (word.now ∷ decimal first ∷ decimal second ∷ decimal third ∷ []) }
 {
     put(into, word);
     put_field(into, first);
@@ -77,10 +78,10 @@ fn put_three(into: &mut Room, word: &[u8], first: u64, second: u64, third: u64)
 }
 
 /// A line of a word and four numbers.
-fn put_four(into: &mut Room, word: &[u8], first: u64, second: u64, third: u64, fourth: u64)
-    requires empty { into.old.items ≡ [] }
+fn put_four<const N: usize>(into: &mut ArrayVec<u8, N>, word: &[u8], first: u64, second: u64, third: u64, fourth: u64)
+    requires room { array_vec_len into.old + 256 ≤ N }
     requires short { length word.now ≤ 40 }
-    ensures { into.new.items ≡ line_with_end (word.now ∷ decimal first ∷ decimal second ∷ decimal third ∷ decimal fourth ∷ []) }
+    ensures { into.new.items ≡ into.old.items ++ line_with_end (word.now ∷ decimal first ∷ decimal second ∷ decimal third ∷ decimal fourth ∷ []) }
 {
     put(into, word);
     put_field(into, first);
@@ -91,11 +92,11 @@ fn put_four(into: &mut Room, word: &[u8], first: u64, second: u64, third: u64, f
 }
 
 /// A word, a session and a moment: the front of most lines.
-fn put_front(into: &mut Room, word: &[u8], session: u32, moment: u64)
-    requires empty { into.old.items ≡ [] }
+fn put_front<const N: usize>(into: &mut ArrayVec<u8, N>, word: &[u8], session: u32, moment: u64)
+    requires room { array_vec_len into.old + 256 ≤ N }
     requires short { length word.now ≤ 40 }
-    ensures items { into.new.items ≡ word.now ++ 32 ∷ decimal session ++ 32 ∷ decimal moment }
-    ensures len { array_vec_len into.new ≤ 200 }
+    ensures items { into.new.items ≡ into.old.items ++ word.now ++ 32 ∷ decimal session ++ 32 ∷ decimal moment }
+    ensures len { array_vec_len into.new ≤ array_vec_len into.old + 122 }
 {
     put(into, word);
     put_field(into, u64::from(session));
@@ -103,10 +104,10 @@ fn put_front(into: &mut Room, word: &[u8], session: u32, moment: u64)
 }
 
 /// A reply of a word and the session's count or the message's number.
-fn put_numbered(into: &mut Room, session: u32, moment: u64, word: &[u8], number: u64)
-    requires empty { into.old.items ≡ [] }
+fn put_numbered<const N: usize>(into: &mut ArrayVec<u8, N>, session: u32, moment: u64, word: &[u8], number: u64)
+    requires room { array_vec_len into.old + 256 ≤ N }
     requires short { length word.now ≤ 40 }
-    ensures { into.new.items ≡ line_with_end (codes "low" ∷ decimal session ∷ decimal moment ∷ word.now ∷ decimal number ∷ []) }
+    ensures { into.new.items ≡ into.old.items ++ line_with_end (codes "low" ∷ decimal session ∷ decimal moment ∷ word.now ∷ decimal number ∷ []) }
 {
     put_front(into, b"low", session, moment);
     put(into, b" ");
@@ -115,9 +116,9 @@ fn put_numbered(into: &mut Room, session: u32, moment: u64, word: &[u8], number:
     put(into, b"\n");
 }
 
-fn put_refusal(into: &mut Room, session: u32, moment: u64, code: u8, number: u64)
-    requires { into.old.items ≡ [] }
-    ensures { into.new.items ≡ line_with_end (codes "low" ∷ decimal session ∷ decimal moment ∷ codes "refuse" ∷ decimal code ∷ decimal number ∷ []) }
+fn put_refusal<const N: usize>(into: &mut ArrayVec<u8, N>, session: u32, moment: u64, code: u8, number: u64)
+    requires { array_vec_len into.old + 256 ≤ N }
+    ensures { into.new.items ≡ into.old.items ++ line_with_end (codes "low" ∷ decimal session ∷ decimal moment ∷ codes "refuse" ∷ decimal code ∷ decimal number ∷ []) }
 {
     put_front(into, b"low", session, moment);
     put(into, b" refuse");
@@ -136,17 +137,17 @@ fn code_of(reply: &Frame) -> u8
     }
 }
 
-fn put_other(into: &mut Room, session: u32, moment: u64)
-    requires { into.old.items ≡ [] }
-    ensures { into.new.items ≡ line_with_end (codes "low" ∷ decimal session ∷ decimal moment ∷ []) }
+fn put_other<const N: usize>(into: &mut ArrayVec<u8, N>, session: u32, moment: u64)
+    requires { array_vec_len into.old + 256 ≤ N }
+    ensures { into.new.items ≡ into.old.items ++ line_with_end (codes "low" ∷ decimal session ∷ decimal moment ∷ []) }
 {
     put_front(into, b"low", session, moment);
     put(into, b"\n");
 }
 
-fn put_reply(into: &mut Room, session: u32, moment: u64, reply: &Frame)
-    requires { into.old.items ≡ [] }
-    ensures { into.new.items ≡ line_with_end (codes "low" ∷ decimal session ∷ decimal moment ∷ reply_fields reply.now.kind reply.now.number reply.now.payload) }
+fn put_reply<const N: usize>(into: &mut ArrayVec<u8, N>, session: u32, moment: u64, reply: &Frame)
+    requires { array_vec_len into.old + 256 ≤ N }
+    ensures { into.new.items ≡ into.old.items ++ line_with_end (codes "low" ∷ decimal session ∷ decimal moment ∷ reply_fields reply.now.kind reply.now.number reply.now.payload) }
 {
     match reply.kind {
         Kind::Welcome => put_numbered(into, session, moment, b"welcome", reply.number),
@@ -156,9 +157,9 @@ fn put_reply(into: &mut Room, session: u32, moment: u64, reply: &Frame)
     }
 }
 
-fn put_removed(into: &mut Room, session: u32, moment: u64, number: u64, time: Option<u32>)
-    requires { into.old.items ≡ [] }
-    ensures { into.new.items ≡ line_with_end (codes "removed" ∷ decimal session ∷ decimal moment ∷ decimal number ∷ time_field time ∷ []) }
+fn put_removed<const N: usize>(into: &mut ArrayVec<u8, N>, session: u32, moment: u64, number: u64, time: Option<u32>)
+    requires { array_vec_len into.old + 256 ≤ N }
+    ensures { into.new.items ≡ into.old.items ++ line_with_end (codes "removed" ∷ decimal session ∷ decimal moment ∷ decimal number ∷ time_field time ∷ []) }
 {
     put_front(into, b"removed", session, moment);
     put_field(into, number);
@@ -169,9 +170,9 @@ fn put_removed(into: &mut Room, session: u32, moment: u64, number: u64, time: Op
     put(into, b"\n");
 }
 
-fn put_end(into: &mut Room, session: u32, accepted: u64, high: Option<(u64, u64)>)
-    requires { into.old.items ≡ [] }
-    ensures { into.new.items ≡ line_with_end (codes "end" ∷ decimal session ∷ decimal accepted ∷ high_fields high) }
+fn put_end<const N: usize>(into: &mut ArrayVec<u8, N>, session: u32, accepted: u64, high: Option<(u64, u64)>)
+    requires { array_vec_len into.old + 256 ≤ N }
+    ensures { into.new.items ≡ into.old.items ++ line_with_end (codes "end" ∷ decimal session ∷ decimal accepted ∷ high_fields high) }
 {
     match high {
         Some((removed, received)) => put_four(
@@ -190,10 +191,10 @@ fn put_end(into: &mut Room, session: u32, accepted: u64, high: Option<(u64, u64)
 }
 
 /// A pair that the low process read of High's times.
-fn put_seen(into: &mut Room, word: &[u8], session: u32, moment: u64, seen: &Seen)
-    requires empty { into.old.items ≡ [] }
+fn put_seen<const N: usize>(into: &mut ArrayVec<u8, N>, word: &[u8], session: u32, moment: u64, seen: &Seen)
+    requires room { array_vec_len into.old + 256 ≤ N }
     requires short { length word.now ≤ 40 }
-    ensures { into.new.items ≡ line_with_end (word.now ∷ decimal session ∷ decimal moment ∷ decimal seen.now.count ∷ decimal seen.now.average ∷ []) }
+    ensures { into.new.items ≡ into.old.items ++ line_with_end (word.now ∷ decimal session ∷ decimal moment ∷ decimal seen.now.count ∷ decimal seen.now.average ∷ []) }
 {
     put_four(
         into,
@@ -205,52 +206,63 @@ fn put_seen(into: &mut Room, word: &[u8], session: u32, moment: u64, seen: &Seen
     );
 }
 
-/// The room then holds the event's line, with its line end; `docs/formats.md`, "Transcripts", has
-/// the lines. The reply of a `Low` is a WELCOME, an ACK or a REFUSE; of another frame only the word,
-/// the session and the moment are printed.
-pub fn print_event(event: &Event, into: &mut ArrayVec<u8, 2400>)
-    ensures line { into.new.items ≡ event_line event.now }
+// A `low` line.
+fn put_answer<const N: usize>(into: &mut ArrayVec<u8, N>, session: u32, moment: u64, reply: &Reply)
+    requires { array_vec_len into.old + 256 ≤ N }
+    ensures { into.new.items ≡ into.old.items ++ event_line (event_of (EventHead.Low session moment reply.now)) }
 {
-    into.clear();
+    match reply {
+        Reply::Welcome { number } => put_numbered(into, session, moment, b"welcome", *number),
+        Reply::Ack { number } => put_numbered(into, session, moment, b"ack", *number),
+        Reply::Refuse { why, number } => put_refusal(into, session, moment, why.code(), *number),
+    }
+}
+
+/// Puts the event's line, with its line end, behind what the room holds; `docs/formats.md`,
+/// "Transcripts", has the lines.
+pub fn append_head<const N: usize>(event: &EventHead, into: &mut ArrayVec<u8, N>)
+    requires { array_vec_len into.old + 256 ≤ N }
+    ensures line { into.new.items ≡ into.old.items ++ event_line (event_of event.now) }
+{
     match *event {
-        Event::Stored {
+        EventHead::Stored {
             session,
             moment,
             number,
         } => put_three(into, b"stored", u64::from(session), moment, number),
-        Event::Full { session, moment } => put_two(into, b"full", u64::from(session), moment),
-        Event::Passed {
+        EventHead::Full { session, moment } => put_two(into, b"full", u64::from(session), moment),
+        EventHead::Passed {
             session,
             moment,
             seen,
         } => put_seen(into, b"passed", session, moment, &seen),
-        Event::Released { session, moment } => {
+        EventHead::Released { session, moment } => {
             put_two(into, b"released", u64::from(session), moment)
         }
-        Event::Repeat {
+        EventHead::Repeat {
             session,
             moment,
             seen,
         } => put_seen(into, b"repeat", session, moment, &seen),
-        Event::Low {
+        EventHead::Low {
             session,
             moment,
             reply,
-        } => put_reply(into, session, moment, &reply),
-        Event::Removed {
+        } => put_answer(into, session, moment, &reply),
+        EventHead::Removed {
             session,
             moment,
             number,
             time,
         } => put_removed(into, session, moment, number, time),
-        Event::Sent {
+        EventHead::Sent {
             session,
             moment,
             number,
         } => put_three(into, b"sent", u64::from(session), moment, number),
-        Event::Took { session, number } => put_two(into, b"took", u64::from(session), number),
-        Event::Again { session, number } => put_two(into, b"again", u64::from(session), number),
-        Event::End {
+        EventHead::Took { session, number } => put_two(into, b"took", u64::from(session), number),
+        EventHead::Again { session, number } => put_two(into, b"again", u64::from(session), number),
+        EventHead::End {
             session,
             accepted,
             high,
@@ -258,35 +270,57 @@ pub fn print_event(event: &Event, into: &mut ArrayVec<u8, 2400>)
     }
 }
 
-/// Which of a session's three disks.
-fn put_role(into: &mut Room, role: Role)
-    requires { array_vec_len into.old ≤ 2300 }
-    ensures items { into.new.items ≡ into.old.items ++ role_field role }
-    ensures len { array_vec_len into.new ≤ array_vec_len into.old + 40 }
+/// The room then holds the event's line, with its line end.
+pub fn print_head(event: &EventHead, into: &mut ArrayVec<u8, 2400>)
+    ensures line { into.new.items ≡ event_line (event_of event.now) }
 {
-    match role {
-        Role::Low => put(into, b"low"),
-        Role::High => put(into, b"high"),
-        Role::Recv => put(into, b"recv"),
+    into.clear();
+    append_head(event, into);
+}
+
+/// The room then holds the event's line, with its line end; `docs/formats.md`, "Transcripts", has
+/// the lines. The reply of a `Low` is a WELCOME, an ACK or a REFUSE; of another frame only the word,
+/// the session and the moment are printed.
+pub fn print_event(event: &Event, into: &mut ArrayVec<u8, 2400>)
+    ensures line { into.new.items ≡ event_line event.now }
+{
+    into.clear();
+    match event {
+        Event::Low {
+            session,
+            moment,
+            reply,
+        } => put_reply(into, *session, *moment, reply),
+        _ => append_head(&event.head(), into),
     }
 }
 
-fn put_device(into: &mut Room, session: u32, role: Role)
-    requires { into.old.items ≡ [] }
-    ensures { into.new.items ≡ line_with_end (codes "fault" ∷ codes "device" ∷ decimal session ∷ role_field role ∷ []) }
+/// A space, which of a session's three disks, and the line end.
+fn put_role<const N: usize>(into: &mut ArrayVec<u8, N>, role: Role)
+    requires { array_vec_len into.old + 40 ≤ N }
+    ensures { into.new.items ≡ into.old.items ++ (32 ∷ role_field role ++ 10 ∷ []) }
+{
+    match role {
+        Role::Low => put(into, b" low\n"),
+        Role::High => put(into, b" high\n"),
+        Role::Recv => put(into, b" recv\n"),
+    }
+}
+
+fn put_device<const N: usize>(into: &mut ArrayVec<u8, N>, session: u32, role: Role)
+    requires { array_vec_len into.old + 256 ≤ N }
+    ensures { into.new.items ≡ into.old.items ++ line_with_end (codes "fault" ∷ codes "device" ∷ decimal session ∷ role_field role ∷ []) }
 {
     put(into, b"fault device");
     put_field(into, u64::from(session));
-    put(into, b" ");
     put_role(into, role);
-    put(into, b"\n");
 }
 
-/// The room then holds the fault's line, with its line end.
-pub fn print_fault(fault: &Fault, into: &mut ArrayVec<u8, 2400>)
-    ensures line { into.new.items ≡ fault_line fault.now }
+/// Puts the fault's line, with its line end, behind what the room holds.
+pub fn append_fault<const N: usize>(fault: &Fault, into: &mut ArrayVec<u8, N>)
+    requires { array_vec_len into.old + 256 ≤ N }
+    ensures line { into.new.items ≡ into.old.items ++ fault_line fault.now }
 {
-    into.clear();
     match fault {
         Fault::Words => put(into, b"fault words\n"),
         Fault::Read => put(into, b"fault read\n"),
@@ -306,4 +340,12 @@ pub fn print_fault(fault: &Fault, into: &mut ArrayVec<u8, 2400>)
             *size,
         ),
     }
+}
+
+/// The room then holds the fault's line, with its line end.
+pub fn print_fault(fault: &Fault, into: &mut ArrayVec<u8, 2400>)
+    ensures line { into.new.items ≡ fault_line fault.now }
+{
+    into.clear();
+    append_fault(fault, into);
 }

@@ -1,5 +1,5 @@
 -- A new disk.
-use Rattle.std.specs.Prelude.{ℕ, List, [], ◌∷◌, ◌++◌, replicate}
+use Rattle.std.specs.Prelude.{ℕ, ◌-◌, List, [], ◌∷◌, ◌++◌, replicate}
 use Rattle.byteorder.specs.Endian.{big_bytes}
 use Rattle.pump_frame.specs.declared.row.SessionRow.{SessionRow}
 use Rattle.disk_model.specs.declared.name.Role.{Role}
@@ -19,6 +19,7 @@ second_of Low = 0
 second_of High = 0
 second_of Recv = 80
 
+-- how many bytes a new disk has
 abbrev pub size_of : SessionRow → Role → ℕ
 size_of row Low = low_size row
 size_of row High = 80
@@ -35,6 +36,14 @@ header_of row role first second =
     ++ big_bytes 8 first
     ++ big_bytes 8 second
     ++ replicate 16 0
+
+-- all bytes of a new disk
+abbrev pub new_bytes : SessionRow → Role → ℕ → List ℕ
+new_bytes row role count = header_of row (role_byte role) count (second_of role) ++ replicate (size_of row role - 80) 0
+
+-- how many bytes a receiver's disk may fill
+abbrev pub receiver_size : ℕ
+receiver_size = 16777216
 
 -- what a new disk stands for: a count without messages, a count, or no message
 abbrev pub FormatStands : SessionRow → Role → ℕ → List ℕ → Type 0

@@ -1,6 +1,6 @@
 -- An open store of low's messages.
 use Rattle.std.specs.Prelude.{◌≡◌, ℕ, ◌^◌, ◌≤◌, Bool, List}
-use Rattle.pump_frame.specs.Rows.{IsLawfulRow}
+use Rattle.pump_frame.specs.Rows.{IsLawfulRow, greatest_capacity}
 use Rattle.pump_frame.specs.declared.row.SessionRow.{SessionRow}
 use Rattle.disk_model.specs.Disk.{Meaning, Settled}
 use Rattle.stable_buffer.specs.Register.{IsReady, with_disk}
@@ -10,7 +10,7 @@ use Rattle.stable_buffer.specs.declared.low.LowStore.{LowStore}
 -- the ranges that a lawful row's two numbers have
 pub record HasRanges (row : SessionRow) : Type 0 where
   pub some : 1 ≤ row.capacity
-  pub few : row.capacity ≤ 64
+  pub few : row.capacity ≤ greatest_capacity
   pub short : row.message ≤ 1024
 
 -- a disk stands for a count and some messages

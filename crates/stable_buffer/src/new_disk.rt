@@ -1,11 +1,10 @@
 // A new disk.
-ghost use Rattle.std.specs.Prelude.{◌≡◌, ◌+◌, ◌^◌, ◌≤◌, false, [], ◌∷◌, ◌++◌, length, take, OnOk, IfErr};
+ghost use Rattle.std.specs.Prelude.{◌≡◌, ◌+◌, ◌-◌, ◌^◌, ◌≤◌, false, [], ◌∷◌, ◌++◌, length, replicate, OnOk, IfErr};
 ghost use Rattle.disk_model.specs.Disk.{Settled, Answers};
 ghost use Rattle.disk_model.specs.declared.name.Role.TheVariants.{Recv};
 ghost use Rattle.byteorder.specs.Endian.{big_bytes};
 ghost use Rattle.pump_frame.specs.Rows.{IsLawfulRow};
-ghost use Rattle.stable_buffer.specs.Low.{HasRanges};
-ghost use Rattle.stable_buffer.specs.Format.{header_of, role_byte, second_of, size_of, FormatStands};
+ghost use Rattle.stable_buffer.specs.Format.{header_of, role_byte, second_of, size_of, new_bytes, FormatStands};
 
 use crate::Device;
 use crate::bytes::cell_of;
@@ -13,6 +12,9 @@ use crate::device::{sync, write};
 use byteorder::{BigEndian, ByteOrder};
 use disk_model::{Disk, Role};
 use pump_frame::SessionRow;
+
+/// How many bytes a receiver's disk may fill.
+pub const RECEIVER_SIZE: u64 = 16_777_216;
 
 fn letter(role: Role) -> u8
     ensures { result ≡ role_byte role }
@@ -33,8 +35,10 @@ fn second(role: Role) -> u64
     }
 }
 
-fn size(row: &SessionRow, role: Role) -> u64
-    requires { HasRanges row.now }
+/// How many bytes the new disk of a row has. Low's keeps that size and high's too; a receiver's
+/// grows with each message, to `RECEIVER_SIZE` at most.
+pub fn disk_size(row: &SessionRow, role: Role) -> u64
+    requires { IsLawfulRow row.now }
     ensures size { result ≡ size_of row.now role }
     ensures whole { 80 ≤ result }
 {
@@ -65,14 +69,13 @@ fn header(row: &SessionRow, role: Role, count: u64) -> [u8; 80]
     front
 }
 
-// Writes zeros from the end of the disk on.
+// Writes zeros from the end of the disk on, to another end.
 fn fill_zeros<D: Disk>(disk: &mut D, from: u64, to: u64) -> Result<(), Device>
     requires ordered { from ≤ to }
     requires starts { D.told.tells → length (D.told.reading disk.old) ≡ from }
     requires calm { D.told.tells_plan → D.told.armed disk.old ≡ false }
-    ensures size { OnOk result (D.told.tells → length (D.told.reading disk.new) ≡ to) }
-    ensures front { OnOk result (D.told.tells
-        → take from (D.told.reading disk.new) ≡ take from (D.told.reading disk.old)) }
+    ensures zeros { OnOk result (D.told.tells
+        → D.told.reading disk.new ≡ D.told.reading disk.old ++ replicate (to - from) 0) }
     ensures answers { Answers D.told (to ≤ D.told.room disk.old) disk.old disk.new result }
     ensures device { IfErr result (λ e. e.faults ≡ D.told.count disk.new) }
 {
@@ -86,8 +89,9 @@ fn fill_zeros<D: Disk>(disk: &mut D, from: u64, to: u64) -> Result<(), Device>
     Ok(())
 }
 
-/// Makes an empty disk one that stands for a count and, for `Role::Low`, no message. What a crash
-/// inside it leaves is not said: format again on an emptied disk.
+/// Makes an empty disk one that stands for a count and, for `Role::Low`, no message. After an `Ok`
+/// its bytes are the header, zeros, the cell with the count, and zeros to its end, whatever crash
+/// comes. What a crash inside the call leaves is not said: format again on an emptied disk.
 pub fn format<D: Disk>(disk: &mut D, row: &SessionRow, role: Role, count: u64) -> Result<(), Device>
     requires empty { D.told.tells → D.told.reading disk.old ≡ [] }
     requires lawful { IsLawfulRow row.now }
@@ -96,6 +100,8 @@ pub fn format<D: Disk>(disk: &mut D, row: &SessionRow, role: Role, count: u64) -
 
     ensures stands { OnOk result (D.told.tells
         → FormatStands row.now role count (D.told.reading disk.new)) }
+    ensures bytes { OnOk result (D.told.tells
+        → D.told.reading disk.new ≡ new_bytes row.now role count) }
     ensures settled { OnOk result (Settled D.told disk.new) }
     ensures answers { Answers D.told (size_of row.now role ≤ D.told.room disk.old)
         disk.old disk.new result }
@@ -103,7 +109,7 @@ pub fn format<D: Disk>(disk: &mut D, row: &SessionRow, role: Role, count: u64) -
 {
     let front = header(row, role, count);
     write(disk, 0, &front)?;
-    fill_zeros(disk, 80, size(row, role))?;
+    fill_zeros(disk, 80, disk_size(row, role))?;
     sync(disk)?;
     Ok(())
 }

@@ -16,7 +16,8 @@ use Rattle.pump_core.proofs.Lists.{All-at, length-push}
 use Rattle.pump_core.proofs.Laws.{runs_lawfully}
 use Rattle.high_receiver.specs.Receiving.{recv_count, recv_end, recv_row}
 use Rattle.script_reader.specs.Past.{Past}
-use Rattle.script_reader.specs.Highs.{Perhaps, place, overfills, receiver_size, log_end}
+use Rattle.pump_core.specs.HighLooks.{Perhaps}
+use Rattle.script_reader.specs.Highs.{place, overfills, receiver_size, log_end}
 use Rattle.two_worlds.specs.declared.pump.parts.Parts.{Parts}
 use Rattle.two_worlds.specs.Standing.{kept_of, HoldsWorld, Stands}
 use Rattle.two_worlds.specs.Timelines.{IsAtRest}

@@ -26,7 +26,8 @@ use Rattle.high_receiver.specs.declared.values.TakeFault.TheVariants as faults
 use Rattle.script_reader.specs.declared.event.Event.{Event}
 use Rattle.script_reader.specs.declared.event.Event.TheVariants.{Took, Again}
 use Rattle.script_reader.specs.Past.{Past}
-use Rattle.script_reader.specs.Highs.{Perhaps, place, overfills, receiver_size, printed_carry, IsCarried, IsOverfull}
+use Rattle.pump_core.specs.HighLooks.{Perhaps}
+use Rattle.script_reader.specs.Highs.{place, overfills, receiver_size, printed_carry, IsCarried, IsOverfull}
 use Rattle.script_reader.specs.Breaks.{IsUntaken}
 use Rattle.two_worlds.specs.declared.pump.parts.Parts.{Parts}
 use Rattle.two_worlds.specs.Carrying.{printed_taken}

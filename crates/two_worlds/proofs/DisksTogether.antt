@@ -2,7 +2,8 @@
 use Rattle.std.proofs.Common.{◌≡◌, inl, inr, ℕ, ◌≤◌, Bool, false, List, length, None, Result, Ok, Err, refl, sym, ap, ◌∙◌, subst, arith, le_trans}
 use Rattle.std.specs.Coded.{le_prop}
 use Rattle.std.proofs.Math.Logic.{∥∥₁_elim}
-use Rattle.disk_model.specs.Disk.{Meaning, Answers, Rose}
+use Rattle.pump_frame.specs.Counts.{Rose}
+use Rattle.disk_model.specs.Disk.{Meaning, Answers}
 use Rattle.disk_model.specs.declared.name.Role.TheVariants as roles
 use Rattle.pump_frame.specs.declared.row.SessionRow.{SessionRow}
 use Rattle.stable_buffer.specs.Register.{value_of}
@@ -23,7 +24,7 @@ use Rattle.two_worlds.proofs.PartsReady.{high_reading, recv_reading}
 
 module _ {D : Type 0} (m : Meaning D) (least : ℕ) (old mid new : D) (is_fault : Bool) where
   rose_then : Rose (m.count mid) (m.count new) → m.count old ≤ m.count mid → Rose (m.count old) (m.count new)
-  rose_then rose le less = let more = rose less in omega (arith, le, more)
+  rose_then rose le = omega (arith, rose, le)
 
   answers_then : Answers m (least ≤ m.room old) old mid (outcome false) → Answers m (least ≤ m.room mid) mid new (outcome is_fault) → Answers m (least ≤ m.room old) old new (outcome is_fault)
   answers_then a b = record {

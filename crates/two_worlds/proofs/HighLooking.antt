@@ -24,8 +24,9 @@ use Rattle.high_process.specs.declared.values.HighLook.{HighLook}
 use Rattle.high_process.specs.declared.values.Task.{Task}
 use Rattle.high_process.specs.declared.values.Task.TheVariants.{Refuse, Remove, Keep}
 use Rattle.script_reader.specs.declared.event.Event.{Event}
+use Rattle.pump_core.specs.HighLooks.{Returns}
 use Rattle.script_reader.specs.Past.{Past}
-use Rattle.script_reader.specs.Highs.{Returns, IsHighLook, IsReturnBy, is_ahead}
+use Rattle.script_reader.specs.Highs.{IsHighLook, IsReturnBy, is_ahead}
 use Rattle.two_worlds.specs.Standing.{HoldsWorld, Stands, kept_of, high_past_of}
 use Rattle.two_worlds.specs.Timelines.{IsAtRest}
 use Rattle.stable_buffer.specs.Stands.{HighStands}
@@ -34,7 +35,6 @@ use Rattle.two_worlds.specs.Doing.{LeavesFit}
 use Rattle.two_worlds.specs.HighLooks.{ComesBack, LeadsWith, most_lines, removed_line, sent_line, printed_look}
 use Rattle.two_worlds.specs.declared.pump.parts.Parts.{Parts}
 use Rattle.two_worlds.proofs.ImagesFit.{low_alone, recv_alone, all_alone, high_leaves}
-use Rattle.two_worlds.proofs.HighTimes.{listed_same}
 use Rattle.two_worlds.proofs.HighRemovals.{Asks, TakesHand, without_first, with_due, asks, attaches_not, keeps, removes, removal, time_in}
 use Rattle.two_worlds.proofs.HighFetching.{FetchedBy, fetched_by}
 use Rattle.two_worlds.proofs.HighDisks.{went, removed_disks}
@@ -165,7 +165,7 @@ module _ {D : Type 0} (m : Meaning D) (c : Parts D) (p : Past) (stands : Stands 
       next = record past { removed = past.removed + 1; hand = None; times = p.times ++ option_to_list time }
 
       next_is : high_past.begun Remove past moment ≡ next
-      next_is = λ i. record past { removed = past.removed + 1; hand = None; times = p.times ++ listed_same time i }
+      next_is = refl
 
       looks_removing : (frame : Option Frame) → LeavesCounted m c.high c.high_store store frame → is_ahead p.world k ≡ false → Removing m c.high_store store (went look) → look.removed ≡ Some past.removed → look.published ≡ time
           → Seen c.row.resend false time look.sent (high_past.begun Remove past moment) → Leads (Some k) look

@@ -10,20 +10,21 @@ use Rattle.pump_frame.specs.declared.frame.Kind.TheVariants.{Taken}
 use Rattle.pump_core.specs.declared.event.Event.TheVariants.{ReturnTaken, RemoveBegin, RemoveEnd}
 use Rattle.pump_core.specs.World.{World}
 use Rattle.pump_core.specs.Events.{Happens, Run, holds, answered}
+use Rattle.pump_core.specs.HighLooks.{Returns}
+use Rattle.pump_core.specs.Sendings.{removal_time, expected}
 use Rattle.pump_core.proofs.Bounded.{in_hand}
 use Rattle.high_process.specs.States as high
 use Rattle.high_process.specs.Past as high_past
-use Rattle.high_process.specs.Tasks.{is_full, expected_of, task_taken, task_in, attaches_in, is_attach}
+use Rattle.high_process.specs.Tasks.{task_taken, task_in, attaches_in, is_attach}
 use Rattle.high_process.specs.declared.values.HighFault.TheVariants.{Ahead, Behind, Device}
 use Rattle.high_process.specs.declared.values.Task.{Task}
 use Rattle.high_process.specs.declared.values.Task.TheVariants.{Refuse, Remove, Keep}
 use Rattle.script_reader.specs.declared.event.Event.TheVariants.{Removed}
-use Rattle.script_reader.specs.Past.{Past, first_sending}
-use Rattle.script_reader.specs.Highs.{Returns, time_since, published, IsRemoval, expected, is_not_below, is_ahead}
+use Rattle.script_reader.specs.Past.{Past}
+use Rattle.script_reader.specs.Highs.{IsRemoval, is_not_below, is_ahead}
 use Rattle.two_worlds.specs.Standing.{Stands, number_of, high_past_of}
 use Rattle.two_worlds.specs.HighLooks.{ComesBack, removed_line}
 use Rattle.two_worlds.specs.declared.pump.parts.Parts.{Parts}
-use Rattle.two_worlds.proofs.HighTimes.{published_same}
 
 -- ---- what a number asks ----
 
@@ -31,10 +32,10 @@ not_less : (n : ℕ) → nat_lt n n ≡ false
 not_less n = grind (arith, nat_tests)
 
 by_tests : (n removed : ℕ) (hand : Option Item) (P : Task → Type 0)
-    → (n < removed → nat_le (expected_of removed hand) n ≡ false → P Keep)
-    → (nat_le (expected_of removed hand) n ≡ true → P (Refuse (Ahead n (expected_of removed hand))))
-    → ((x : Item) → hand ≡ Some x → n ≡ removed → nat_le (expected_of removed hand) n ≡ false → P Remove)
-    → P (task_taken n removed (expected_of removed hand))
+    → (n < removed → nat_le (expected removed hand) n ≡ false → P Keep)
+    → (nat_le (expected removed hand) n ≡ true → P (Refuse (Ahead n (expected removed hand))))
+    → ((x : Item) → hand ≡ Some x → n ≡ removed → nat_le (expected removed hand) n ≡ false → P Remove)
+    → P (task_taken n removed (expected removed hand))
 by_tests n removed None P keep refuse remove = elim (nat_lt n removed) as (λ b. nat_lt n removed ≡ b → P (cond b Keep (cond (nat_le removed n) (Refuse (Ahead n removed)) Remove))) [
   | true ↦ λ e. keep (grind (arith, nat_tests)) (grind (arith, nat_tests))
   | false ↦ λ e. elim (nat_le removed n) as (λ b. nat_le removed n ≡ b → P (cond b (Refuse (Ahead n removed)) Remove)) [
@@ -50,7 +51,7 @@ by_tests n removed (Some x) P keep refuse remove = elim (nat_lt n removed) as (�
   ] refl
 ] refl
 
-some_full : (hand : Option Item) → is_some (number_of hand) ≡ is_full hand
+some_full : (hand : Option Item) → is_some (number_of hand) ≡ is_some hand
 some_full None = refl
 some_full (Some x) = refl
 
@@ -105,14 +106,14 @@ module _ {D : Type 0} (m : Meaning D) (c : Parts D) (p : Past) (stands : Stands 
   abbrev removed : ℕ
   removed = high.removed_of c.high
 
-  expected_same : expected w ≡ expected_of removed (high.hand_of c.high)
+  expected_same : expected w.removed w.high_hand ≡ expected removed (high.hand_of c.high)
   expected_same =
       ap (λ (t : Bool × ℕ). cond t.0 (t.1 + 1) t.1) (λ i. (ap is_some stands.world.high_hand i, stands.world.removed i))
       ∙ ap (λ (b : Bool). cond b (removed + 1) removed) (some_full (high.hand_of c.high))
 
   module _ (k n : ℕ) (at : slice_get w.returned k ≡ Some n) where
-    ahead_is : is_ahead w k ≡ nat_le (expected_of removed (high.hand_of c.high)) n
-    ahead_is = ap (is_not_below (expected w)) at ∙ ap (λ (x : ℕ). nat_le x n) expected_same
+    ahead_is : is_ahead w k ≡ nat_le (expected removed (high.hand_of c.high)) n
+    ahead_is = ap (is_not_below (expected w.removed w.high_hand)) at ∙ ap (λ (x : ℕ). nat_le x n) expected_same
 
     returns_other : n < removed → Happens w (ReturnTaken k) w
     returns_other less =
@@ -136,16 +137,16 @@ module _ {D : Type 0} (m : Meaning D) (c : Parts D) (p : Past) (stands : Stands 
       takes_hand : TakesHand c p k
       takes_hand = record { item = x; hand = hand; returns = (n, at, stands.rest.removing, sym (answered_due w n is_due)) }
 
-    asks_number : Asks c p (Some k) (task_taken n removed (expected_of removed (high.hand_of c.high)))
+    asks_number : Asks c p (Some k) (task_taken n removed (expected removed (high.hand_of c.high)))
     asks_number = by_tests n removed (high.hand_of c.high) (Asks c p (Some k))
         (λ less e. (returns_other less, ahead_is ∙ e))
         (λ e. ahead_is ∙ e)
         (λ x hand same e. (takes_hand x hand same, ahead_is ∙ e))
 
-  task_same : (f : Frame) → f.kind ≡ Taken → f.session ≡ c.row.id → high.task_at c.high (Some f) ≡ task_taken f.number removed (expected_of removed (high.hand_of c.high))
+  task_same : (f : Frame) → f.kind ≡ Taken → f.session ≡ c.row.id → high.task_at c.high (Some f) ≡ task_taken f.number removed (expected removed (high.hand_of c.high))
   task_same f kind session =
       let e : (f.session == (high.row_of c.high).id) ≡ true = eq-eqb f.session (high.row_of c.high).id (session ∙ sym (ap (λ r. r.id) stands.high_ready.row)) in
-      ap (λ (t : Bool × Kind). cond t.0 (task_in t.1 f.number removed (expected_of removed (high.hand_of c.high))) Keep) (λ i. (e i, kind i))
+      ap (λ (t : Bool × Kind). cond t.0 (task_in t.1 f.number removed (expected removed (high.hand_of c.high))) Keep) (λ i. (e i, kind i))
 
   pub asks : (frame : Option Frame) (back : Option ℕ) → ComesBack c.row.id w frame back → Asks c p back (high.task_at c.high frame)
   asks None None comes = tt
@@ -158,12 +159,16 @@ module _ {D : Type 0} (m : Meaning D) (c : Parts D) (p : Past) (stands : Stands 
   keeps moment back returns =
       let none = not_less w.removed in
       record {
-        answered = w;
-        returns = returns;
-        removes = inr ((λ x e. (let due = e.0 in let off = stands.rest.due in absurd (cc))), refl);
-        time = None;
-        is_time = rw none refl;
-        rest = λ i. record p { times = sym (append-nil p.times) i };
+        look = record {
+          answered = w;
+          returns = returns;
+          removes = inr ((λ x e. (let due = e.0 in let off = stands.rest.due in absurd (cc))), refl);
+          time = None;
+          is_time = rw none refl;
+          times = sym (append-nil p.times);
+          sends = refl;
+        };
+        rest = refl;
         printed_is = rw none refl;
       }
 
@@ -173,21 +178,23 @@ module _ {D : Type 0} (m : Meaning D) (c : Parts D) (p : Past) (stands : Stands 
 
   -- the time that is published
   abbrev pub time_in : ℕ → Option ℕ
-  time_in moment = high_past.published (high_past_of c p) moment
+  time_in moment = high_past.next_time (high_past_of c p) moment
 
   pub removes : (moment k : ℕ) → TakesHand c p k
       → IsRemoval c.row p moment (Some k) (record p { world = without_first w; times = p.times ++ option_to_list (time_in moment) }) (removed_line c.row.id moment (Some removed) (time_in moment))
   removes moment k takes =
       let less : nat_lt w.removed (w.removed + 1) ≡ true = lt-ltb w.removed (w.removed + 1) (omega arith) in
       record {
-        answered = with_due w;
-        returns = takes.returns;
-        removes = inl removal;
-        time = time_in moment;
-        is_time =
-            published_same removed moment p.sends p.times
-            ∙ ap (λ (r : ℕ). published p.times (time_since (first_sending r p.sends) moment)) (sym stands.world.removed)
-            ∙ sym (ap (λ (b : Bool). cond b (published p.times (time_since (first_sending w.removed p.sends) moment)) None) less);
+        look = record {
+          answered = with_due w;
+          returns = takes.returns;
+          removes = inl removal;
+          time = time_in moment;
+          is_time = ap (λ (n : ℕ). removal_time n moment p.sends p.times) (sym stands.world.removed)
+              ∙ sym (ap (λ (b : Bool). cond b (removal_time w.removed moment p.sends p.times) None) less);
+          times = refl;
+          sends = refl;
+        };
         rest = refl;
         printed_is = ap (λ (x : ℕ). Removed c.row.id moment x (time_in moment) ∷ []) (sym stands.world.removed) ∙ sym (ap (λ (b : Bool). cond b (Removed c.row.id moment w.removed (time_in moment) ∷ []) []) less);
       }

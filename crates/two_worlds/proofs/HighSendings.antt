@@ -10,18 +10,18 @@ use Rattle.pump_core.specs.declared.event.Event.TheVariants.{TakeUp, Send}
 use Rattle.pump_core.specs.World.{World}
 use Rattle.pump_core.specs.Events.{Happens}
 use Rattle.pump_core.specs.Lawful.{IsLawful, numbers}
+use Rattle.pump_core.specs.HighLooks.{Perhaps}
+use Rattle.pump_core.specs.Sendings.{last_sending, is_due, sends_hand}
 use Rattle.pump_core.proofs.Bounded.{in_hand, first_live}
 use Rattle.pump_core.proofs.Laws.{stays_lawful}
 use Rattle.high_process.specs.Past as high
 use Rattle.script_reader.specs.declared.event.Event.{Event}
 use Rattle.script_reader.specs.declared.event.Event.TheVariants.{Sent}
-use Rattle.script_reader.specs.Past.{Past, last_sending}
-use Rattle.script_reader.specs.Highs as looks
-use Rattle.script_reader.specs.Highs.{Perhaps, IsSending}
-use Rattle.two_worlds.specs.Standing.{Kept, HoldsWorld, IsAccepted, IsAcceptedHand, number_of, sending_of}
+use Rattle.script_reader.specs.Past.{Past}
+use Rattle.script_reader.specs.Highs.{IsSending}
+use Rattle.two_worlds.specs.Standing.{Kept, HoldsWorld, IsAccepted, IsAcceptedHand, number_of}
 use Rattle.two_worlds.specs.Timelines.{IsAtRest}
 use Rattle.two_worlds.specs.HighLooks.{sent_line, packets_after}
-use Rattle.two_worlds.proofs.HighTimes.{last_same, due_same}
 use Rattle.two_worlds.proofs.Packets.{keep_last_push}
 
 -- ---- what the passage gave ----
@@ -36,7 +36,7 @@ Fetched false held got after = (got ≡ None) × (after ≡ held)
 
 -- what the high process has been through, by what is kept
 abbrev pub past_of : Kept → Past → List ℕ → ℕ → high.Past
-past_of k p times moment = record { removed = k.removed; hand = k.high_hand; sends = map sending_of p.sends; times = times; moment = moment }
+past_of k p times moment = record { removed = k.removed; hand = k.high_hand; sends = p.sends; times = times; moment = moment }
 
 abbrev numbers_of : List Item → List ℕ
 numbers_of held = map (λ (x : Item). x.number) held
@@ -56,7 +56,7 @@ module _ (row : SessionRow) (p : Past) (m : ℕ) (k : Kept) (packets : Buffer It
     pub holds : HoldsWorld (record k { high_hand = hand; held = held; sent = (packets_after (if b then Some k.removed else None) hand packets).items }) end.world
     pub rest : IsAtRest end.world
     pub lawful : IsLawful end.world
-    pub sends : map sending_of end.sends ≡ (if b then record { number = k.removed; moment = m } ∷ map sending_of p.sends else map sending_of p.sends)
+    pub sends : end.sends ≡ (if b then record { number = k.removed; moment = m } ∷ p.sends else p.sends)
     pub few : length p.sends ≤ length p.world.sent → length end.sends ≤ length end.world.sent
 
 module _ (row : SessionRow) (p : Past) (m : ℕ) (k : Kept) (packets : Buffer Item) (times : List ℕ) (old : ℕ)
@@ -88,11 +88,11 @@ module _ (row : SessionRow) (p : Past) (m : ℕ) (k : Kept) (packets : Buffer It
     w = with_hand p.world hand held
 
     -- nothing is sent
-    quiet : false ≡ looks.sends_hand row p.sends m w.high_hand → Second row p m k packets hand held false
+    quiet : false ≡ sends_hand row.resend false p.sends m w.high_hand → Second row p m k packets hand held false
     quiet cause = record {
       end = record p { world = w; moment = m };
       printed = [];
-      is_sending = record { taken = w; takes_up = takes; is_sent = false; cause = cause; sends = refl; rest = refl; printed_is = refl };
+      is_sending = record { look = record { taken = w; takes_up = takes; is_sent = false; cause = cause; sent = refl; times = refl; sends = refl }; rest = refl; printed_is = refl };
       printed_is = refl;
       same = refl;
       holds = kept;
@@ -111,19 +111,17 @@ module _ (row : SessionRow) (p : Past) (m : ℕ) (k : Kept) (packets : Buffer It
     number : x.number ≡ k.removed
     number = (in_hand taken x.number lawful_then.bounded refl).0 ∙ holds.removed
 
-    cause_is : is_sent (Some x) ≡ looks.sends_hand row p.sends m (Some x.number)
-    cause_is =
-        due_same row.resend (high.last_sending k.removed (map sending_of p.sends)) m
-        ∙ ap (λ (o : Option ℕ). looks.is_due row.resend o m) (last_same k.removed p.sends ∙ ap (λ (n : ℕ). last_sending n p.sends) (sym number))
+    cause_is : is_sent (Some x) ≡ sends_hand row.resend false p.sends m (Some x.number)
+    cause_is = ap (λ (n : ℕ). is_due row.resend (last_sending n p.sends) m) (sym number)
 
-    sends : true ≡ looks.sends_hand row p.sends m (Some x.number) → Second row p m k packets (Some x) held true
+    sends : true ≡ sends_hand row.resend false p.sends m (Some x.number) → Second row p m k packets (Some x) held true
     sends cause =
         let v : World = record taken { sent = p.world.sent ++ x ∷ [] } in
         let happens : Happens taken Send v = (x.number, x.payload, refl, rest.removing, kept.high_payload, refl) in
         record {
           end = record p { world = v; sends = record { number = x.number; moment = m } ∷ p.sends; moment = m };
           printed = Sent row.id m x.number ∷ [];
-          is_sending = record { taken = taken; takes_up = takes; is_sent = true; cause = cause; sends = happens; rest = refl; printed_is = refl };
+          is_sending = record { look = record { taken = taken; takes_up = takes; is_sent = true; cause = cause; sent = happens; times = refl; sends = refl }; rest = refl; printed_is = refl };
           printed_is = ap (λ (n : ℕ). Sent row.id m n ∷ []) number;
           same = refl;
           holds = record {
@@ -144,7 +142,7 @@ module _ (row : SessionRow) (p : Past) (m : ℕ) (k : Kept) (packets : Buffer It
           };
           rest = record { storing = rest.storing; due = rest.due; removing = rest.removing; packet = rest.packet; taking = rest.taking };
           lawful = stays_lawful taken Send v lawful_then happens;
-          sends = ap (λ (n : ℕ). record { number = n; moment = m } ∷ map sending_of p.sends) number;
+          sends = ap (λ (n : ℕ). record { number = n; moment = m } ∷ p.sends) number;
           few = λ le. omega (arith, le, length-append p.world.sent (x ∷ []));
         }
 

@@ -5,7 +5,6 @@ pub mod Carries
 pub mod CarryServes
 pub mod Coming
 pub mod Crashes
-pub mod CutsFit
 pub mod DisksTogether
 pub mod DoesMore
 pub mod DoneLines
@@ -20,7 +19,6 @@ pub mod HighReturning
 pub mod HighSendings
 pub mod HighServes
 pub mod HighStanding
-pub mod HighTimes
 pub mod ImagesFit
 pub mod Joining
 pub mod LeavesWorld

@@ -44,7 +44,8 @@ use Rattle.two_worlds.proofs.LowLooked.{Looked}
 use Rattle.two_worlds.proofs.LowPasses.{Passes, passes, is_full, seen_of}
 use Rattle.two_worlds.proofs.LowSorts.{Sort, sort_of, repeats, waits_below}
 use Rattle.two_worlds.proofs.LowStepping.{Stepped, stepped, lives_reply}
-use Rattle.two_worlds.proofs.LowTold.{LookHead, is_passing, moves, may_take_is, owed_is, told_by, told_in, passing_is, hears_room, feedback_is}
+use Rattle.pump_core.proofs.MayTake.{may_take_is}
+use Rattle.two_worlds.proofs.LowTold.{LookHead, is_passing, moves, owed_is, told_by, told_in, passing_is, hears_room, feedback_is}
 use Rattle.two_worlds.proofs.LowWants.{taking, hand_is_empty, is_short, stored_is}
 use Rattle.two_worlds.proofs.LowWorlds.{Led, led_by, hand_by, held_by, passed_is, empty_hand, room_is, full_number}
 
@@ -117,14 +118,14 @@ module _ {D : Type 0} (m : Meaning D) (c d : Parts D) (p : Past) (moment word : 
   seen : seen_of c.ends stands.ends.high ≡ pair row p
   seen = (λ i. record {
     count = length (stands.ends.times i);
-    average = average_of ((stands.ends.shape i).window) ((stands.ends.shape i).start) (stands.ends.times i);
+    average = average_of ((stands.ends.shape i).averaging) (stands.ends.times i);
   }) ∙ ap (λ (r : SessionRow). pair r p) (sym row_is)
 
   head : LookHead (length p.world.held == row.capacity - 2) (pair row p) l.feedback
   head = subst (λ (t : Bool × Seen). LookHead t.0 t.1 l.feedback) (λ i. (full i, seen i)) passed.head
 
   passing : is_passing s.phase ≡ is_some hand
-  passing = passing_is c.low.phase
+  passing = passing_is c.low.phase c.low.hand
 
   told : l.feedback ≡ feedback row p at.parts a
   told =

@@ -22,7 +22,7 @@ is_full e = length (held_in e) == (shape_of e).places
 
 -- what a read gives
 abbrev pub seen_of : PlainEnds → High → Seen
-seen_of e h = record { count = length h.times; average = average_of (shape_of e).window (shape_of e).start h.times }
+seen_of e h = record { count = length h.times; average = average_of (shape_of e).averaging h.times }
 
 -- the ends after a look, and what the passage told
 pub record Passes (e e' : PlainEnds) (q : LowProcess) (h : High) (hand : Option Item) (f : Feedback) : Type 0 where

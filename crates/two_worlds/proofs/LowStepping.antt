@@ -14,7 +14,7 @@ use Rattle.pump_core.proofs.Standings.{stands_after, replies_after, newest_after
 use Rattle.low_process.specs.declared.process.LowProcess.{LowProcess}
 use Rattle.low_process.specs.declared.values.LowLook.{LowLook}
 use Rattle.low_process.specs.Looks.{row_of, last_of, state_of, StandsFor, Looks}
-use Rattle.two_worlds.proofs.CutsFit.{cuts_fit}
+use Rattle.pump_core.proofs.CutsFit.{cuts_fit}
 
 -- a history that can be cut has replies
 pub lives_reply : (row : SessionRow) (lives : List Life) → AllByRecursion (Keeps row) lives → (rs : List Sent) × LivesReplies row lives rs

@@ -1,6 +1,7 @@
 -- What a low look is told is what the past says.
 use Rattle.std.proofs.Common.{◌≡◌, ℕ, Bool, true, false, cond, List, [], ◌∷◌, Option, Some, None, refl, ap}
 use Rattle.std.specs.Prelude.{if◌then◌else◌, ◌&&◌, ◌==◌, ◌-◌, not, is_some, length}
+use Rattle.pump_frame.specs.declared.frame.Item.{Item}
 use Rattle.pump_frame.specs.declared.row.SessionRow.{SessionRow}
 use Rattle.pump_core.specs.declared.feedback.Seen.{Seen}
 use Rattle.pump_core.specs.declared.feedback.Feedback.{Feedback}
@@ -17,6 +18,7 @@ use Rattle.low_process.specs.declared.values.Phase.TheVariants as low
 use Rattle.low_process.specs.Looks.{look_of, phase_of, hand_in}
 use Rattle.pump_core.specs.Step.{is_quiet, fits_passing, fits_idle, fits_in}
 use Rattle.pump_core.specs.Standing.{State, phase_after}
+use Rattle.pump_core.proofs.MayTake.{is_idle}
 use Rattle.script_reader.specs.Past.{Past, pair}
 use Rattle.script_reader.specs.Lows.{is_owed, comes_again, feedback_at}
 
@@ -24,28 +26,9 @@ abbrev pub is_passing : Phase → Bool
 is_passing (Passing owed) = true
 is_passing _ = false
 
-abbrev pub is_idle : Phase → Bool
-is_idle Idle = true
-is_idle _ = false
-
 abbrev pub owes : Phase → Bool
 owes (Passing (Some n)) = true
 owes _ = false
-
-pub may_take_is : (row : SessionRow) (o : Opening) (parts : List Part) → may_take o parts ≡ is_idle (phase_after row o parts)
-may_take_is row o [] = elim o.is_held as (λ b. not b ≡ is_idle (cond b (Passing None) Idle)) [ true ↦ refl | false ↦ refl ]
-may_take_is row o (Holding newest older ∷ before) = refl
-may_take_is row o (Release looks last ∷ before) = refl
-may_take_is row o (Empty x ∷ before) = refl
-may_take_is row o (Leaving x ∷ before) = refl
-may_take_is row o (Answer x ∷ before) = refl
-may_take_is row o (Repeated first (Waiting quiet) ∷ before) = refl
-may_take_is row o (Repeated first (Over quiet last) ∷ before) = refl
-may_take_is row o (Offering first full ∷ before) = refl
-may_take_is row o (Dropped first full gone ∷ before) = refl
-may_take_is row o (Delivery first full passing (Waiting quiet) ∷ before) = refl
-may_take_is row o (Delivery first full passing (Over quiet last) ∷ before) = refl
-may_take_is row o (Loss first rest ∷ before) = refl
 
 pub owed_is : (row : SessionRow) (o : Opening) (parts : List Part) → is_owed parts ≡ owes (phase_after row o parts)
 owed_is row o [] = elim o.is_held as (λ b. false ≡ owes (cond b (Passing None) Idle)) [ true ↦ refl | false ↦ refl ]
@@ -149,11 +132,11 @@ told_in row st (Passing owed) (Some n) m w a d f seen full e h fit =
 -- ---- by the process and the past ----
 
 -- a message is in the low hand exactly while it is to be passed
-pub passing_is : (ph : LowPhase) → is_passing (phase_of ph) ≡ is_some (hand_in ph)
-passing_is low.Idle = refl
-passing_is (low.Passing item owed) = refl
-passing_is (low.Waiting n t) = refl
-passing_is low.Down = refl
+pub passing_is : (ph : LowPhase) (hand : Item) → is_passing (phase_of ph hand.number) ≡ is_some (hand_in ph hand)
+passing_is low.Idle hand = refl
+passing_is (low.Passing owed) hand = refl
+passing_is (low.Waiting n t) hand = refl
+passing_is low.Down hand = refl
 
 -- what was passed found room
 pub hears_room : (full : Bool) (seen : Seen) (f : Feedback) → LookHead full seen f → moves f ≡ true → full ≡ false

@@ -2,13 +2,14 @@
 -- of it.
 use Rattle.std.proofs.Common.{◌≡◌, ℕ, ◌+◌, ◌-◌, ◌≤◌, Bool, true, false, List, [], ◌∷◌, ◌++◌, length, drop, replicate, refl, sym, ap, ◌∙◌, subst, arith}
 use Rattle.std.specs.Prelude.{◌==◌, ◌&&◌}
+use Rattle.std.specs.List.{All}
 use Rattle.std.proofs.Math.Logic.{∥∥₁_elim}
 use Rattle.std.proofs.Math.Seq.{drop-append_seam}
 use Rattle.std.proofs.Props.{props}
 use Rattle.std.specs.Coded.{le_prop}
 use Rattle.std.proofs.lemmas.Bool.{and_parts, eqb-true, eq-eqb}
 use Rattle.std.proofs.lemmas.List.{length-append, length-drop, length-replicate}
-use Rattle.std.proofs.lemmas.List.Elements.{All-nil}
+use Rattle.std.proofs.lemmas.List.Elements.{All-nil, All-replicate}
 use Rattle.disk_model.specs.Disk.{Meaning}
 use Rattle.pump_frame.specs.Averages.{latest}
 use Rattle.pump_frame.specs.declared.frame.Item.{Item}
@@ -107,12 +108,18 @@ nothing_is (Average n) e = absurd (cc)
 
 -- ---- the ends ----
 
+-- nothing was taken up when these were published
+all_none : (n : ℕ) → All (λ (k : ℕ). k ≤ 0) (replicate n 0)
+all_none n = All-replicate (λ (k : ℕ). k ≤ 0) n 0 (omega arith)
+
 module _ {D : Type 0} (m : Meaning D) (c : Parts D) (some : ∥ StandsForSome m c ∥₁) where
   abbrev pub low_seen : Low
   low_seen = record { forwarded = held_in c.ends; tries = []; pairs = [] }
 
   abbrev pub high_seen : High
-  high_seen = record { taken = []; floor = 0; times = padded c.ends.window.count c.ends.window.ring.items; tries = [] }
+  high_seen =
+      let times = padded c.ends.window.count c.ends.window.ring.items in
+      record { taken = []; floor = 0; times = times; taken_before = replicate (length times) 0; tries = [] }
 
   times_seen : Counts c.ends.window.count c.ends.window.ring.capacity c.ends.window.ring.items (padded c.ends.window.count c.ends.window.ring.items)
   times_seen = ∥∥₁_elim some (hlevel props) (λ s. counts_padded c.ends.window.count c.ends.window.ring.capacity c.ends.window.ring.items s.1.ends.high.times s.1.ends.stand.times)
@@ -134,6 +141,8 @@ module _ {D : Type 0} (m : Meaning D) (c : Parts D) (some : ∥ StandsForSome m 
         never_fall = tt;
         low_tries = All-nil (λ t. t.1 ≤ 0);
         high_tries = All-nil (λ t. t.0 ≤ length (held_in c.ends));
+        each_time = length-replicate (length (padded c.ends.window.count c.ends.window.ring.items)) 0;
+        before = all_none (length (padded c.ends.window.count c.ends.window.ring.items));
       };
       room = let le = c.ends.fits in omega (arith, le);
     };

@@ -14,7 +14,7 @@ use Rattle.stable_buffer.proofs.Logs.{found, finds}
 use Rattle.high_receiver.specs.Receiving.{IsRecvReady, StandsForSome as DiskStandsForSome}
 use Rattle.low_process.specs.Whole.{IsStoreOf}
 use Rattle.high_process.specs.States as high
-use Rattle.high_process.specs.Tasks.{is_full}
+use Rattle.std.specs.Prelude.{is_some}
 use Rattle.pump_core.specs.World.{World}
 use Rattle.two_worlds.specs.Disks.{LowFits, HighFits, RecvFits, live_messages}
 use Rattle.two_worlds.specs.declared.pump.parts.Parts.{Parts}
@@ -62,7 +62,7 @@ disk_stands row disk some =
       },
     )
 
-none_by : {X : Type 0} (o : Option X) → is_full o ≡ false → o ≡ None
+none_by : {X : Type 0} (o : Option X) → is_some o ≡ false → o ≡ None
 none_by None e = refl
 none_by (Some x) e = absurd (cc)
 
@@ -133,7 +133,7 @@ module _ {D : Type 0} (m : Meaning D) (c : Parts D) (some : ∥ StandsForSome m 
   high_is_up = ∥∥₁_elim some (hlevel props) (λ s. s.1.high_ready.up)
 
   pub high_is_between : high.IsBetweenLooks c.high
-  high_is_between = none_by c.high.asking (∥∥₁_elim some (hlevel props) (λ s. ap is_full s.1.high_ready.between))
+  high_is_between = none_by c.high.asking (∥∥₁_elim some (hlevel props) (λ s. ap is_some s.1.high_ready.between))
 
   pub high_is_timely : high.last_of c.high ≤ c.moment
   high_is_timely = ∥∥₁_elim some le_prop (λ s. s.1.high_ready.last)

@@ -9,9 +9,10 @@ use Rattle.pump_core.specs.History.{Arrival}
 use Rattle.pump_core.specs.Comings.{comings}
 use Rattle.pump_core.specs.World.{World}
 use Rattle.pump_core.specs.Events.{Happens, Run}
+use Rattle.pump_core.specs.Sendings.{Sending}
 use Rattle.pump_core.specs.Timed.{Step, Occurs, Point, LeadsTo}
 use Rattle.script_reader.specs.declared.event.Event.{Event}
-use Rattle.script_reader.specs.Past.{Past, Sending}
+use Rattle.script_reader.specs.Past.{Past}
 use Rattle.script_reader.specs.Highs.{IsCarried, place}
 use Rattle.two_worlds.specs.Timelines.{taken_in, AreLeft, IsAtRest, HasSent, IsTimeline, only_if, carry_steps}
 use Rattle.two_worlds.proofs.TimelineLooks.{timeline, HasMore}
@@ -104,7 +105,6 @@ carry row p steps t back q printed i h =
     let moment : q.moment ≡ p.moment = ap (λ (x : Past). x.moment) h.rest in
     let low = i.low_moment in
     let high = i.high_moment in
-    let removed_back = sym c.removed_is in
     let times_back = sym (ap (λ (x : Past). x.times) h.rest) in
     let sends_back = sym (ap (λ (x : Past). x.sends) h.rest) in
     let waits_back = sym (ap (λ (x : Past). x.waits) h.rest) in
@@ -113,7 +113,7 @@ carry row p steps t back q printed i h =
       timeline row q (carry_steps back p q ++ steps) (record t { world = q.world }) p.history (ap (λ (x : Past). x.history) h.rest)
           (record { leads = c.leads; low = i.run.low; feedback = i.run.feedback; places = i.run.places })
           refl c.rest
-          (subst (λ (l : ℕ × List ℕ × List Sending). HasSent l.0 l.1 l.2 t.high) (λ j. (removed_back j, times_back j, sends_back j)) i.high)
+          (subst (λ (l : List ℕ × List Sending). HasSent l.0 l.1 t.high) (λ j. (times_back j, sends_back j)) i.high)
           (subst (λ (l : List Arrival × Bool). AreLeft (comings t.life.side.events) (taken_in row steps t p.history i.run) l.0 l.1) (λ j. (waits_back j, broken_back j)) i.waits)
           (omega (arith, low, moment)) (omega (arith, high, moment)),
     )

@@ -8,11 +8,12 @@ use Rattle.pump_core.specs.World.{World}
 use Rattle.pump_core.specs.Events.{Happens, Run}
 use Rattle.pump_core.specs.History.{Arrival}
 use Rattle.pump_core.specs.Comings.{comings}
+use Rattle.pump_core.specs.HighLooks.{has_removed}
+use Rattle.pump_core.specs.Sendings.{Sending}
 use Rattle.pump_core.specs.Timed.{Step, HighLook, Publish, Occurs, Point, high_looking, LeadsTo}
 use Rattle.script_reader.specs.declared.event.Event.{Event}
-use Rattle.script_reader.specs.Past.{Past, Sending}
-use Rattle.script_reader.specs.Steps.{goes_on}
-use Rattle.script_reader.specs.Highs.{Perhaps, Sends, has_removed, IsHighLook}
+use Rattle.script_reader.specs.Past.{Past}
+use Rattle.script_reader.specs.Highs.{IsHighLook}
 use Rattle.two_worlds.specs.Timelines.{taken_in, AreLeft, IsAtRest, IsTimeline, only_if, come_back, high_steps}
 use Rattle.two_worlds.proofs.TimelineLooks.{timeline, HasMore}
 use Rattle.two_worlds.proofs.TimelineStands.{at, Stands, Settled, returned}
@@ -30,7 +31,7 @@ module _ (row : SessionRow) (p : Past) (steps : List Step) (t : Point) (m : ℕ)
         leads = (at t p.world t.high, subst (λ (u : World). LeadsTo row steps (at t u t.high)) i.world i.run.leads, (omega (arith, was, late), i.high.nothing_left, refl));
         looking = refl;
         moment = refl;
-        sent = record { published = i.high.published; nothing_left = i.high.nothing_left; first = i.high.first; no_later = i.high.no_later };
+        sent = record { times = i.high.times; sends = i.high.sends; nothing_left = i.high.nothing_left };
       }
 
   ended : (more : List Step) (q : Past) → q.history ≡ p.history → q.waits ≡ p.waits → q.is_broken ≡ p.is_broken → q.moment ≡ m
@@ -55,31 +56,31 @@ module _ (row : SessionRow) (p : Past) (steps : List Step) (t : Point) (m : ℕ)
 
   pub high_look : (back : Option ℕ) (q : Past) (printed : List Event) → IsHighLook row p m back q printed → HasMore row q steps (high_steps m back p q)
   high_look back q printed (mid, first, second, r, k, e) =
-      let a = returned row steps t m p.times p.sends (HighLook m ∷ []) p.world r.answered back began i.rest r.returns in
-      let b = removed row steps t m p.times p.sends (come_back back ++ HighLook m ∷ []) r.answered mid.world a.stands a.rest r.time r.is_time r.removes in
-      let times : mid.times ≡ p.times ++ option_to_list r.time = ap (λ (x : Past). x.times) r.rest in
-      let sends : mid.sends ≡ p.sends = ap (λ (x : Past). x.sends) r.rest in
-      let times_back = sym times in
-      let sends_back = sym sends in
-      let begun : List Step = publish_steps row steps t m r.time ++ (only_if (has_removed r.answered mid.world) (Occurs RemoveEnd ∷ Occurs RemoveBegin ∷ []) ++ (come_back back ++ HighLook m ∷ [])) in
+      let f = r.look in
+      let g = k.look in
+      let a = returned row steps t m p.times p.sends (HighLook m ∷ []) p.world f.answered back began i.rest f.returns in
+      let b = removed row steps t m p.times p.sends (come_back back ++ HighLook m ∷ []) f.answered mid.world a.stands a.rest f.time f.is_time f.removes in
+      let times_back = sym f.times in
+      let sends_back = sym f.sends in
+      let begun : List Step = publish_steps row steps t m f.time ++ (only_if (has_removed f.answered mid.world) (Occurs RemoveEnd ∷ Occurs RemoveBegin ∷ []) ++ (come_back back ++ HighLook m ∷ [])) in
       let mid_stands = subst (λ (l : List ℕ × List Sending). Stands row steps t m l.0 l.1 begun mid.world) (λ j. (times_back j, sends_back j)) b.stands in
-      let c = taken_up row steps t m mid.times mid.sends begun mid.world k.taken mid_stands b.rest k.takes_up in
-      let up : List Step = only_if (takes_up row steps t m mid.times mid.world k.taken) (Occurs TakeUp ∷ []) ++ begun in
-      let d = sent row steps t m mid.times mid.sends up k.taken q.world k.is_sent c.stands c.rest k.sends in
-      let sends_after = sym (ap (λ (x : Past). x.sends) k.rest) in
-      let times_after = sym (ap (λ (x : Past). x.times) k.rest) in
-      let keeps = sending_keeps row steps t m mid.times k.taken q.world k.is_sent k.sends in
-      let sent_so : k.is_sent ≡ nat_lt (length p.sends) (length q.sends) =
-      sym (sends_grow row steps t m mid.times mid.sends k.taken q.world k.is_sent k.sends) ∙ (λ j. nat_lt (length (sends j)) (length (sends_after j))) in
-      let before : mid.world.held ≡ p.world.held = removal_holds r.answered mid.world r.removes ∙ a.held in
-      let after : k.taken.held ≡ q.world.held = sym keeps.1 in
-      let up_so : takes_up row steps t m mid.times mid.world k.taken ≡ nat_lt (length q.world.held) (length p.world.held) = λ j. nat_lt (length (after j)) (length (before j)) in
-      let listed : q.times ≡ p.times ++ option_to_list r.time = ap (λ (x : Past). x.times) k.rest ∙ times in
-      let times_so : publish_steps row steps t m r.time ≡ only_if (nat_lt (length p.times) (length q.times)) (Publish ∷ []) =
-      times_grow p.times r.time ∙ ap (λ (l : List ℕ). only_if (nat_lt (length p.times) (length l)) (Publish ∷ [])) (sym listed) in
-      let count : mid.world.removed ≡ q.world.removed = sym (keeps.0 ∙ taking_up_keeps row steps t m mid.times mid.world k.taken k.takes_up) in
-      let removed_so : has_removed r.answered mid.world ≡ nat_lt p.world.removed q.world.removed = λ j. nat_lt (a.removed j) (count j) in
-      let all : only_if k.is_sent (Occurs Send ∷ []) ++ up ≡ high_steps m back p q =
+      let c = taken_up row steps t m mid.times mid.sends begun mid.world g.taken mid_stands b.rest g.takes_up in
+      let up : List Step = only_if (takes_up row steps t m mid.times mid.world g.taken) (Occurs TakeUp ∷ []) ++ begun in
+      let d = sent row steps t m mid.times mid.sends up g.taken q.world g.is_sent c.stands c.rest g.sent in
+      let sends_after = sym g.sends in
+      let times_after = sym g.times in
+      let keeps = sending_keeps row steps t m mid.times g.taken q.world g.is_sent g.sent in
+      let sent_so : g.is_sent ≡ nat_lt (length p.sends) (length q.sends) =
+      sym (sends_grow row steps t m mid.times mid.sends g.taken q.world g.is_sent g.sent) ∙ (λ j. nat_lt (length (f.sends j)) (length (sends_after j))) in
+      let before : mid.world.held ≡ p.world.held = removal_holds f.answered mid.world f.removes ∙ a.held in
+      let after : g.taken.held ≡ q.world.held = sym keeps.1 in
+      let up_so : takes_up row steps t m mid.times mid.world g.taken ≡ nat_lt (length q.world.held) (length p.world.held) = λ j. nat_lt (length (after j)) (length (before j)) in
+      let listed : q.times ≡ p.times ++ option_to_list f.time = g.times ∙ f.times in
+      let times_so : publish_steps row steps t m f.time ≡ only_if (nat_lt (length p.times) (length q.times)) (Publish ∷ []) =
+      times_grow p.times f.time ∙ ap (λ (l : List ℕ). only_if (nat_lt (length p.times) (length l)) (Publish ∷ [])) (sym listed) in
+      let count : mid.world.removed ≡ q.world.removed = sym (keeps.0 ∙ taking_up_keeps row steps t m mid.times mid.world g.taken g.takes_up) in
+      let removed_so : has_removed f.answered mid.world ≡ nat_lt p.world.removed q.world.removed = λ j. nat_lt (a.removed j) (count j) in
+      let all : only_if g.is_sent (Occurs Send ∷ []) ++ up ≡ high_steps m back p q =
       λ j. only_if (sent_so j) (Occurs Send ∷ []) ++ (only_if (up_so j) (Occurs TakeUp ∷ []) ++ (times_so j
       ++ (only_if (removed_so j) (Occurs RemoveEnd ∷ Occurs RemoveBegin ∷ []) ++ (come_back back ++ HighLook m ∷ [])))) in
       ended (high_steps m back p q) q (ap (λ (x : Past). x.history) k.rest ∙ ap (λ (x : Past). x.history) r.rest)

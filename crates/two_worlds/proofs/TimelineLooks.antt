@@ -10,11 +10,12 @@ use Rattle.pump_core.specs.Exchanges.{is_gone}
 use Rattle.pump_core.specs.Replies.{takes}
 use Rattle.pump_core.specs.Comings.{Coming, comings, is_nothing}
 use Rattle.pump_core.specs.World.{World}
+use Rattle.pump_core.specs.Sendings.{Sending}
 use Rattle.pump_core.specs.Timed.{Step, HighSide, Arrives, Point}
 use Rattle.pump_core.specs.Runs.{steps_in, IsRun}
 use Rattle.pump_core.proofs.Onward.{arrives_to}
 use Rattle.script_reader.specs.declared.event.Event.{Event}
-use Rattle.script_reader.specs.Past.{Past, Sending}
+use Rattle.script_reader.specs.Past.{Past}
 use Rattle.script_reader.specs.Lows.{first_of, is_bad, IsLook}
 use Rattle.script_reader.specs.Steps.{lost, look_of}
 use Rattle.two_worlds.specs.Timelines.{taken_in, arrived, AreLeft, IsAtRest, HasSent, IsTimeline}
@@ -25,7 +26,7 @@ use Rattle.two_worlds.proofs.TimelineWaits.{comes_more, offered_first, offers_no
 
 -- the run of a history that is the past's
 pub timeline : (row : SessionRow) (q : Past) (steps : List Step) (t : Point) (h : History) → q.history ≡ h
-    → (run : IsRun row steps t h) → t.world ≡ q.world → IsAtRest q.world → HasSent q.world.removed q.times q.sends t.high
+    → (run : IsRun row steps t h) → t.world ≡ q.world → IsAtRest q.world → HasSent q.times q.sends t.high
     → AreLeft (comings t.life.side.events) (taken_in row steps t h run) q.waits q.is_broken
     → t.looked ≤ q.moment → t.high.moment ≤ q.moment → IsTimeline row q steps t
 timeline row q steps t h e run world rest high left low_moment high_moment =
@@ -77,12 +78,10 @@ module _ (row : SessionRow) (p : Past) (steps : List Step) (t : Point) (m w : �
     (run : IsRun row steps t p.history) (world : t.world ≡ p.world) (i : IsLook row p (look_of m w a f) q printed) where
   -- what the run comes to is the session's after the look
   after_look : (l : HasLooked row steps t p.history run m w a f i.after q.world)
-      → IsAtRest p.world → HasSent p.world.removed p.times p.sends t.high → t.high.moment ≤ m
+      → IsAtRest p.world → HasSent p.times p.sends t.high → t.high.moment ≤ m
       → AreLeft (comings l.to.life.side.events) (taken_in row (done_steps m w (is_gone a) (steps_in i.after) ++ steps) l.to (looked p.history (look_of m w a f)) l.run_on) q.waits q.is_broken
       → HasMore row q steps (done_steps m w (is_gone a) (steps_in i.after))
   after_look l rest high high_moment left =
-      let removed : q.world.removed ≡ p.world.removed = l.leaves.removed ∙ ap (λ (u : World). u.removed) world in
-      let removed_back = sym removed in
       let times_back = sym i.times in
       let sends_back = sym i.sends in
       let high_back = sym l.high in
@@ -92,7 +91,7 @@ module _ (row : SessionRow) (p : Past) (steps : List Step) (t : Point) (m w : �
         l.to,
         timeline row q (done_steps m w (is_gone a) (steps_in i.after) ++ steps) l.to (looked p.history (look_of m w a f)) i.history l.run_on l.world
             (l.leaves.rest (subst IsAtRest (sym world) rest))
-            (subst (λ (k : ℕ × List ℕ × List Sending × HighSide). HasSent k.0 k.1 k.2 k.3) (λ j. (removed_back j, times_back j, sends_back j, high_back j)) high)
+            (subst (λ (k : List ℕ × List Sending × HighSide). HasSent k.0 k.1 k.2) (λ j. (times_back j, sends_back j, high_back j)) high)
             left (omega (arith, late, moment)) (omega (arith, high_same, high_moment, moment)),
       )
 
@@ -116,7 +115,7 @@ offered_look row p steps t m w f q printed k late i =
     let low_moment = k.low_moment in
     let high_moment = k.high_moment in
     let l : HasLooked row steps t p.history k.run m w a f i.after q.world =
-    look_on row p steps t m w a f q printed k.run k.world k.high.published (omega (arith, low_moment, late)) (λ g. offered_first came taken p.waits p.is_broken k.waits) i in
+    look_on row p steps t m w a f q printed k.run k.world k.high.times (omega (arith, low_moment, late)) (λ g. offered_first came taken p.waits p.is_broken k.waits) i in
     let left = left_after came taken p.waits p.is_broken (takes i.after) k.waits (λ e. l.some stays e) in
     let events : comings l.to.life.side.events ≡ came = ap comings l.events ∙ ap (λ (b : Bool). if b then [] else came) stays in
     let count : taken_in row (done_steps m w (is_gone a) (steps_in i.after) ++ steps) l.to (looked p.history (look_of m w a f)) l.run_on ≡ (if takes i.after then taken + 1 else taken) =
@@ -142,7 +141,7 @@ lost_look row p steps t m w f q printed k late i =
     let low_moment = k.low_moment in
     let high_moment = k.high_moment in
     let l : HasLooked row steps t p.history k.run m w Gone f i.after q.world =
-    look_on row (lost p) steps t m w Gone f q printed k.run k.world k.high.published (omega (arith, low_moment, late)) (λ g. absurd (cc)) i in
+    look_on row (lost p) steps t m w Gone f q printed k.run k.world k.high.times (omega (arith, low_moment, late)) (λ g. absurd (cc)) i in
     let left = none_left (takes i.after) q.waits q.is_broken i.waits i.broken in
     let events_back = sym (ap comings l.events) in
     let count_back = sym l.count in

@@ -113,7 +113,7 @@ module _ (row : SessionRow) (past : List Step) (t : Point) (m w : ℕ) (gone : B
   offers_so : (f : Feedback) → offered t.world Quiet ≡ f → LeadsTo row (Offer ∷ LowLook m w gone false ∷ past) (to f (Offer ∷ []) t.world)
   offers_so f e = (to Quiet [] t.world, began, ap (λ (g : Feedback). to g (Offer ∷ []) t.world) (sym e))
 
-  pub deed_leads : (d : Deed) (v : World) → Says (length t.world.held == t.world.capacity - 2) (seen row t.high.published) (feedback_by d)
+  pub deed_leads : (d : Deed) (v : World) → Says (length t.world.held == t.world.capacity - 2) (seen row t.high.times) (feedback_by d)
       → Run t.world (events_by d) v → LeadsTo row (done_steps m w gone (steps_by d) ++ past) (to (feedback_by d) (steps_by d) v)
   deed_leads Rests v s r = subst (λ (u : World). LeadsTo row (LowLook m w gone false ∷ past) (to Quiet [] u)) (sym r) began
   deed_leads (Stores p) v s (v₁, h₁, (v₂, h₂, e)) =
@@ -173,7 +173,7 @@ pub record HasLooked (row : SessionRow) (steps : List Step) (t : Point) (h : His
   pub leaves : Leaves t.world v
 
 module _ (row : SessionRow) (p : Past) (steps : List Step) (t : Point) (m w : ℕ) (a : Arrival) (f : Feedback) (q : Past) (printed : List Event)
-    (run : IsRun row steps t p.history) (world : t.world ≡ p.world) (times : t.high.published ≡ p.times) (late : t.looked ≤ m)
+    (run : IsRun row steps t p.history) (world : t.world ≡ p.world) (times : t.high.times ≡ p.times) (late : t.looked ≤ m)
     (comes : is_gone a ≡ false → a ≡ offer t.life.side.events (taken_in row steps t p.history run))
     (i : IsLook row p (look_of m w a f) q printed) where
   abbrev x : Look
@@ -196,7 +196,7 @@ module _ (row : SessionRow) (p : Past) (steps : List Step) (t : Point) (m w : �
       let places = has_places row steps t run.leads in
       sym (λ j. length ((world j).held) == places j - 2)
 
-  does : Says (length t.world.held == t.world.capacity - 2) (seen row t.high.published) (feedback_by n.deed)
+  does : Says (length t.world.held == t.world.capacity - 2) (seen row t.high.times) (feedback_by n.deed)
   does =
       let back = sym times in
       let told : feedback row p i.before a ≡ feedback_by n.deed = sym i.told ∙ n.feedback in

@@ -56,7 +56,7 @@ fresh_timeline row lawful =
     })
     refl
     (record { storing = refl; due = refl; removing = refl; packet = refl; taking = refl })
-    (record { published = refl; nothing_left = refl; first = refl; no_later = tt })
+    (record { times = refl; sends = refl; nothing_left = refl })
     (record { came_before = omega arith; rest = refl; behind = refl })
     (omega arith) (omega arith)
 
@@ -112,7 +112,7 @@ refused_look row p steps t m i le =
         run = record { leads = (t, i.run.leads, (omega (arith, high, le), i.high.nothing_left, refl)); low = i.run.low; feedback = i.run.feedback; places = i.run.places };
         world = i.world;
         rest = i.rest;
-        high = record { published = i.high.published; nothing_left = i.high.nothing_left; first = i.high.first; no_later = i.high.no_later };
+        high = record { times = i.high.times; sends = i.high.sends; nothing_left = i.high.nothing_left };
         waits = i.waits;
         low_moment = omega (arith, low, le);
         high_moment = omega arith;

@@ -1,25 +1,18 @@
 -- A message that is taken up and sent in a high look.
 use Rattle.std.proofs.Common.{◌≡◌, ⊎_elim, ℕ, suc, ◌+◌, Bool, true, false, List, [], ◌∷◌, ◌++◌, length, Option, Some, None, refl, sym, ap, ◌∙◌, subst, arith}
 use Rattle.std.specs.Prelude.{if◌then◌else◌, ◌==◌, nat_lt}
-use Rattle.std.proofs.lemmas.Bool.{eq-eqb, lt-ltb, le-ltb}
+use Rattle.std.proofs.lemmas.Bool.{lt-ltb, le-ltb}
 use Rattle.pump_frame.specs.declared.row.SessionRow.{SessionRow}
 use Rattle.pump_core.specs.declared.event.Event.TheVariants.{TakeUp, Send}
 use Rattle.pump_core.specs.World.{World}
 use Rattle.pump_core.specs.Events.{Happens, Run}
-use Rattle.pump_core.specs.Timed.{Step, Occurs, Point, first_moment, high_sent}
-use Rattle.pump_core.proofs.Bounded.{in_hand}
-use Rattle.script_reader.specs.Past.{Sending, or_else, first_sending}
-use Rattle.script_reader.specs.Highs.{Perhaps, sending_of, Sends}
+use Rattle.pump_core.specs.Timed.{Step, Occurs, Point, high_sent}
+use Rattle.pump_core.specs.HighLooks.{Perhaps, IsSent}
+use Rattle.pump_core.specs.Sendings.{Sending, sending_of}
 use Rattle.two_worlds.specs.Timelines.{IsAtRest, only_if}
-use Rattle.two_worlds.proofs.Worlds.{leads_lawfully}
 use Rattle.two_worlds.proofs.TimelineStands.{at, aside, Stands, Settled}
-use Rattle.two_worlds.proofs.TimelineRemovals.{later_still}
 
 -- ---- a sending ----
-
-first_more : (first : Option ℕ) (m : ℕ) → first_moment first m ≡ or_else first (Some m)
-first_more None m = refl
-first_more (Some a) m = refl
 
 module _ (row : SessionRow) (past : List Step) (t : Point) (m : ℕ) (times : List ℕ) where
   -- the next message is taken up, or none is
@@ -35,7 +28,7 @@ module _ (row : SessionRow) (past : List Step) (t : Point) (m : ℕ) (times : Li
       let yes : takes_up w v ≡ true = lt-ltb (length v.held) (length w.held) (omega (arith, held)) in
       record {
         stands = subst (λ (b : Bool). Stands row past t m times sends (only_if b (Occurs TakeUp ∷ []) ++ steps) v) (sym yes)
-            (aside row past t m times sends steps w v s (Occurs TakeUp) (at t w s.high, s.leads, (k.0, k.1, (s.looking, s.sent.nothing_left), ap (λ (u : World). at t u s.high) e)) (ap (λ (u : World). u.removed) (e ∙ k.1.4)));
+            (aside row past t m times sends steps w v s (Occurs TakeUp) (at t w s.high, s.leads, (k.0, k.1, (s.looking, s.sent.nothing_left), ap (λ (u : World). at t u s.high) e)));
         rest = subst IsAtRest (sym (e ∙ k.1.4)) (record { storing = r.storing; due = r.due; removing = r.removing; packet = r.packet; taking = r.taking });
       })
       (λ (k : ((u : World) → Happens w TakeUp u → ⊥) × (v ≡ w)).
@@ -58,46 +51,32 @@ module _ (row : SessionRow) (past : List Step) (t : Point) (m : ℕ) (times : Li
   -- the message in the hand is sent
   one_sent : (sends : List Sending) (steps : List Step) (w v : World) → Stands row past t m times sends steps w → IsAtRest w → Happens w Send v
       → Settled row past t m times (sending_of m w.high_hand ++ sends) (Occurs Send ∷ steps) v
-  one_sent sends steps w v s r h =
-      let lawful = leads_lawfully row (steps ++ past) (at t w s.high) s.leads in
-      let hand : h.0 ≡ w.removed = (in_hand w h.0 lawful.bounded h.2).0 in
-      let same : v.removed ≡ w.removed = ap (λ (u : World). u.removed) h.5 in
-      let is : (h.0 == v.removed) ≡ true = eq-eqb h.0 v.removed (hand ∙ sym same) in
-      let back = sym same in
-      let first : s.high.first_sent ≡ first_sending v.removed sends = s.sent.first ∙ ap (λ (n : ℕ). first_sending n sends) back in
-      let moment = s.moment in
-      let now : first_moment s.high.first_sent s.high.moment ≡ or_else (first_sending v.removed sends) (if h.0 == v.removed then Some m else None) =
-      (λ i. first_moment (first i) (moment i)) ∙ first_more (first_sending v.removed sends) m
-      ∙ sym (ap (λ (b : Bool). or_else (first_sending v.removed sends) (if b then Some m else None)) is) in
-      let new : List Sending = record { number = h.0; moment = m } ∷ sends in
-      let stands : Stands row past t m times new (Occurs Send ∷ steps) v = record {
-        high = high_sent s.high;
-        leads = (at t w s.high, s.leads, (v, h, s.looking, refl));
-        looking = s.looking;
-        moment = s.moment;
-        sent = record {
-          published = s.sent.published;
-          nothing_left = s.sent.nothing_left;
-          first = now;
-          no_later = (omega (arith, hand, same), later_still w.removed v.removed sends (omega (arith, same)) s.sent.no_later);
-        };
-      } in
-      record {
-        stands = subst (λ (l : List Sending). Stands row past t m times l (Occurs Send ∷ steps) v) (sym (ap (λ (o : Option ℕ). sending_of m o ++ sends) h.2)) stands;
-        rest = subst IsAtRest (sym h.5) (record { storing = r.storing; due = r.due; removing = r.removing; packet = r.packet; taking = r.taking });
-      }
+  one_sent sends steps w v s r h = record {
+    stands = record {
+      high = high_sent s.high w.high_hand;
+      leads = (at t w s.high, s.leads, (v, h, s.looking, refl));
+      looking = s.looking;
+      moment = s.moment;
+      sent = record {
+        times = s.sent.times;
+        sends = λ i. sending_of (s.moment i) w.high_hand ++ s.sent.sends i;
+        nothing_left = s.sent.nothing_left;
+      };
+    };
+    rest = subst IsAtRest (sym h.5) (record { storing = r.storing; due = r.due; removing = r.removing; packet = r.packet; taking = r.taking });
+  }
 
-  pub sent : (sends : List Sending) (steps : List Step) (w v : World) (is_sent : Bool) → Stands row past t m times sends steps w → IsAtRest w → Sends is_sent w v
+  pub sent : (sends : List Sending) (steps : List Step) (w v : World) (is_sent : Bool) → Stands row past t m times sends steps w → IsAtRest w → IsSent is_sent w v
       → Settled row past t m times (if is_sent then sending_of m w.high_hand ++ sends else sends) (only_if is_sent (Occurs Send ∷ []) ++ steps) v
   sent sends steps w v true s r h = one_sent sends steps w v s r h
   sent sends steps w v false s r e = record { stands = subst (Stands row past t m times sends steps) (sym e) s; rest = subst IsAtRest (sym e) r }
 
-  pub sending_keeps : (w v : World) (is_sent : Bool) → Sends is_sent w v → (v.removed ≡ w.removed) × (v.held ≡ w.held)
+  pub sending_keeps : (w v : World) (is_sent : Bool) → IsSent is_sent w v → (v.removed ≡ w.removed) × (v.held ≡ w.held)
   sending_keeps w v true h = (ap (λ (u : World). u.removed) h.5, ap (λ (u : World). u.held) h.5)
   sending_keeps w v false e = (ap (λ (u : World). u.removed) e, ap (λ (u : World). u.held) e)
 
   -- one more is sent where a message was
-  pub sends_grow : (sends : List Sending) (w v : World) (is_sent : Bool) → Sends is_sent w v
+  pub sends_grow : (sends : List Sending) (w v : World) (is_sent : Bool) → IsSent is_sent w v
       → nat_lt (length sends) (length (if is_sent then sending_of m w.high_hand ++ sends else sends)) ≡ is_sent
   sends_grow sends w v true h = ap (λ (o : Option ℕ). nat_lt (length sends) (length (sending_of m o ++ sends))) h.2 ∙ lt-ltb (length sends) (suc (length sends)) (omega arith)
   sends_grow sends w v false e = le-ltb (length sends) (length sends) (omega arith)

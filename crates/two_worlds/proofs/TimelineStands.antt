@@ -5,9 +5,9 @@ use Rattle.pump_frame.specs.declared.row.SessionRow.{SessionRow}
 use Rattle.pump_core.specs.declared.event.Event.TheVariants.{ReturnTaken}
 use Rattle.pump_core.specs.World.{World}
 use Rattle.pump_core.specs.Events.{holds}
+use Rattle.pump_core.specs.HighLooks.{Returns}
+use Rattle.pump_core.specs.Sendings.{Sending}
 use Rattle.pump_core.specs.Timed.{Step, Occurs, HighSide, Point, LeadsTo}
-use Rattle.script_reader.specs.Past.{Sending}
-use Rattle.script_reader.specs.Highs.{Returns}
 use Rattle.two_worlds.specs.Timelines.{IsAtRest, HasSent, come_back}
 
 -- ---- where a run stands within a high look ----
@@ -35,7 +35,7 @@ pub record Stands (row : SessionRow) (past : List Step) (t : Point) (m : ℕ) (t
   pub leads : LeadsTo row (steps ++ past) (at t v high)
   pub looking : high.looking ≡ true
   pub moment : high.moment ≡ m
-  pub sent : HasSent v.removed times sends high
+  pub sent : HasSent times sends high
 
 -- .. and nothing is unfinished
 pub record Settled (row : SessionRow) (past : List Step) (t : Point) (m : ℕ) (times : List ℕ) (sends : List Sending) (steps : List Step) (v : World) : Type 0 where
@@ -44,17 +44,16 @@ pub record Settled (row : SessionRow) (past : List Step) (t : Point) (m : ℕ) (
 
 -- ---- one event within a look ----
 
--- one event that changes the world alone, and not how many are removed
+-- one event that changes the world alone
 pub aside : (row : SessionRow) (past : List Step) (t : Point) (m : ℕ) (times : List ℕ) (sends : List Sending) (steps : List Step) (w v : World)
     (s : Stands row past t m times sends steps w) (step : Step)
-    → LeadsTo row ((step ∷ steps) ++ past) (at t v s.high)
-    → v.removed ≡ w.removed → Stands row past t m times sends (step ∷ steps) v
-aside row past t m times sends steps w v s step leads e = record {
+    → LeadsTo row ((step ∷ steps) ++ past) (at t v s.high) → Stands row past t m times sends (step ∷ steps) v
+aside row past t m times sends steps w v s step leads = record {
   high = s.high;
   leads = leads;
   looking = s.looking;
   moment = s.moment;
-  sent = subst (λ (n : ℕ). HasSent n times sends s.high) (sym e) s.sent;
+  sent = s.sent;
 }
 
 either : (b : Bool) (v u : World) (n : ℕ) → v.removed ≡ n → u.removed ≡ n → (cond b v u).removed ≡ n
@@ -90,7 +89,7 @@ module _ (row : SessionRow) (past : List Step) (t : Point) (m : ℕ) where
       let heeds = h.0 == w.removed && holds w.high_hand h.0 in
       let same : v.removed ≡ w.removed = ap (λ (u : World). u.removed) h.3 ∙ either heeds _ _ w.removed refl refl in
       record {
-        stands = aside row past t m times sends steps w v s (Occurs (ReturnTaken k)) (at t w s.high, s.leads, (v, h, s.looking, refl)) same;
+        stands = aside row past t m times sends steps w v s (Occurs (ReturnTaken k)) (at t w s.high, s.leads, (v, h, s.looking, refl));
         rest = subst IsReady (sym h.3) (same_rest heeds _ _
             (record { storing = r.storing; removing = r.removing; packet = r.packet; taking = r.taking }) (ready w r));
         removed = same;

@@ -17,7 +17,8 @@ use Rattle.script_reader.specs.declared.line.ToldFeedback.{ToldFeedback}
 use Rattle.script_reader.specs.declared.line.ToldFeedback.TheVariants.{Quiet, Full, Pair}
 use Rattle.script_reader.specs.Lows.{comes_again}
 use Rattle.script_reader.specs.Tolds.{has_message, told_of_offer, told_of_read, told_feedback}
-use Rattle.two_worlds.proofs.LowTold.{is_passing, is_idle, owes, may_take_is, owed_is, quiet_is}
+use Rattle.pump_core.proofs.MayTake.{is_idle, may_take_is}
+use Rattle.two_worlds.proofs.LowTold.{is_passing, owes, owed_is, quiet_is}
 
 -- this feedback comes of what was told
 abbrev pub Hears : SessionRow → ToldFeedback → Feedback → Type 0

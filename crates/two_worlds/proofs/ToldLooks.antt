@@ -29,7 +29,7 @@ use Rattle.two_worlds.specs.LowParts.{disk_of, PartsStand, EndsBy, stop_of}
 use Rattle.two_worlds.specs.declared.applied.Stop.{Stop}
 use Rattle.two_worlds.specs.declared.applied.Stop.TheVariants as stops
 use Rattle.two_worlds.specs.declared.low_pump.parts.LowParts.{LowParts}
-use Rattle.two_worlds.proofs.CutsFit.{cuts_fit}
+use Rattle.pump_core.proofs.CutsFit.{cuts_fit}
 use Rattle.two_worlds.proofs.LowStepping.{lives_reply}
 use Rattle.two_worlds.proofs.ToldFeedback.{Hears, told_is}
 use Rattle.two_worlds.proofs.ToldStores.{Serves, serves, begins_is}

@@ -23,7 +23,7 @@ use Rattle.high_process.specs.States as high
 use Rattle.high_process.specs.Past as high_past
 use Rattle.high_process.specs.Looks.{Stands as HighStandsFor}
 use Rattle.high_process.specs.Ends as high_ends
-use Rattle.script_reader.specs.Past.{Past, Sending}
+use Rattle.script_reader.specs.Past.{Past}
 use Rattle.script_reader.specs.Highs.{log_end, receiver_size}
 use Rattle.two_worlds.specs.Connections.{waits_of, is_broken_of, reading_of}
 use Rattle.two_worlds.specs.Disks.{DisksFit}
@@ -99,15 +99,12 @@ pub record LowIsReady {D : Type 0} (m : Meaning D) (c : Parts D) : Type 0 where
   pub row : low.row_of c.low ≡ c.row
   pub last : low.last_of c.low ≤ c.moment
 
-abbrev pub sending_of : Sending → high_past.Sending
-sending_of s = record { number = s.number; moment = s.moment }
-
 -- what the high process has been through, by what the session has
 abbrev pub high_past_of : {D : Type 0} → Parts D → Past → high_past.Past
 high_past_of c p = record {
   removed = high.removed_of c.high;
   hand = high.hand_of c.high;
-  sends = map sending_of p.sends;
+  sends = p.sends;
   times = p.times;
   moment = high.last_of c.high;
 }

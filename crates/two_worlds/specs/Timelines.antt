@@ -1,19 +1,20 @@
 -- What a script's session has been through, as a timed run: its lines are looks, arrivals and events of
 -- the world, and what it was told, it was told by the run.
 use Rattle.std.specs.Prelude.{◌≡◌, ℕ, ◌+◌, ◌≤◌, nat_lt, Bool, true, false, if◌then◌else◌, List, [], ◌∷◌, ◌++◌, length, map, take, drop, reverse, Option, Some, None}
-use Rattle.std.specs.List.{AllByRecursion, list_any}
+use Rattle.std.specs.List.{list_any}
 use Rattle.pump_frame.specs.declared.row.SessionRow.{SessionRow}
 use Rattle.pump_core.specs.declared.event.Event.TheVariants.{TakeUp, Send, CarryData, TakeBegin, TakeEnd, ReturnTaken, RemoveBegin, RemoveEnd}
 use Rattle.pump_core.specs.History.{Arrival, History}
 use Rattle.pump_core.specs.Exchanges.{Part, IsCut}
 use Rattle.pump_core.specs.Comings.{Coming, is_broken, comings, arrival_of_coming}
 use Rattle.pump_core.specs.World.{World}
+use Rattle.pump_core.specs.Sendings.{Sending}
 use Rattle.pump_core.specs.Timed.{Step, Arrives, LowLook, HighLook, Publish, Occurs, HighSide, IsPublished, Point}
 use Rattle.pump_core.specs.Runs.{steps_in, IsRun}
 use Rattle.script_reader.specs.declared.line.Line.{Line}
 use Rattle.script_reader.specs.declared.line.Line.TheVariants as lines
 use Rattle.script_reader.specs.declared.event.Event.{Event}
-use Rattle.script_reader.specs.Past.{Past, Sending, first_sending}
+use Rattle.script_reader.specs.Past.{Past}
 use Rattle.script_reader.specs.Highs.{IsHighLook, IsCarried, is_ahead, place}
 use Rattle.script_reader.specs.Steps as script
 use Rattle.script_reader.specs.Scripts.{Running, Whole as WholeSession, Goes, LeadTo}
@@ -47,13 +48,11 @@ pub record IsAtRest (w : World) : Type 0 where
   pub taking : w.taking ≡ false
 
 -- the high side of the run published these times and made these sendings since the opening, and it
--- has nothing left to publish. The message in the high hand has the number of those removed: it has
--- its first sending, and no later message was sent
-pub record HasSent (removed : ℕ) (times : List ℕ) (sends : List Sending) (high : HighSide) : Type 0 where
-  pub published : high.published ≡ times
+-- has nothing left to publish
+pub record HasSent (published : List ℕ) (sent : List Sending) (high : HighSide) : Type 0 where
+  pub times : high.times ≡ published
+  pub sends : high.sends ≡ sent
   pub nothing_left : IsPublished high
-  pub first : high.first_sent ≡ first_sending removed sends
-  pub no_later : AllByRecursion (λ (s : Sending). s.number ≤ removed) sends
 
 -- ---- the timed run of a session ----
 
@@ -65,7 +64,7 @@ pub record IsTimeline (row : SessionRow) (p : Past) (steps : List Step) (t : Poi
   pub run : IsRun row steps t p.history
   pub world : t.world ≡ p.world
   pub rest : IsAtRest p.world
-  pub high : HasSent p.world.removed p.times p.sends t.high
+  pub high : HasSent p.times p.sends t.high
   pub waits : AreLeft (comings t.life.side.events) (taken_in row steps t p.history run) p.waits p.is_broken
   -- neither side has looked after the session's last moment
   pub low_moment : t.looked ≤ p.moment

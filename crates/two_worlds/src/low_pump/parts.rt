@@ -12,13 +12,13 @@ ghost use Rattle.two_worlds.specs.LowParts.{armed_if, answer_of};
 
 use crate::applied::Stop;
 use crate::connection::Connection;
-use crate::printing::print_head;
+use crate::printing::print_look;
 use arrayvec::ArrayVec;
 use disk_model::{PlainDisk, Role};
-use low_process::{Answer, Arrival, AskHead, LookHead, LowProcess, NOTHING};
+use low_process::{Answer, Arrival, AskHead, LookHead, LowProcess};
 use pump_core::Seen;
 use pump_frame::{Item, OutOfMemory, Payload, SessionRow};
-use script_reader::{ArrivingHead, LineHead, Event, ToldFeedback};
+use script_reader::{ArrivingHead, LineHead, EventHead, ToldFeedback};
 use stable_buffer::{LowStore, Register, format};
 use std::alloc::Global;
 
@@ -121,9 +121,9 @@ impl LowParts {
     ghost use Rattle.script_reader.specs.Heads.{arriving_with, line_with, CanHold, CanHoldLine};
     ghost use Rattle.script_reader.specs.Lows.{first_of};
     ghost use Rattle.script_reader.specs.Scripts.{IsLowEnd};
-    ghost use Rattle.script_reader.specs.Tolds.{LowPast, fresh_low, lost_low, is_timely_low, IsBarredLow, StepLow, IsToldAt};
+    ghost use Rattle.script_reader.specs.Tolds.{LowPast, fresh_low, lost_low, is_timely_low, IsRefusedAlone, StepLow, IsToldAt};
     ghost use Rattle.two_worlds.specs.LowParts.{PartsStand, StandsForSome, HasAsked, AnsweredBy, Ends, NeverBars, Crowds, IsJoinedTold, stop_of};
-    ghost use Rattle.two_worlds.specs.Printing.{look_prints};
+    ghost use Rattle.two_worlds.specs.Printing.{lines_in, look_prints};
 
     /// The parts before the first line, with `next` messages stored, of which the last is held or not.
     pub fn open(
@@ -184,25 +184,25 @@ impl LowParts {
         &mut self,
         moment: u64,
         head: &LookHead,
-        out: &mut ArrayVec<Event, 4>,
+        out: &mut ArrayVec<EventHead, 4>,
     ) -> Option<Stop>
         requires out { out.old.items ≡ [] }
         ensures rest { self.new ≡ record self.old { moment = moment } }
-        ensures events { out.new.items ≡ look_prints self.old.row.id moment (look_with (row_of self.old.process) head.now) }
+        ensures events { lines_in out.new.items ≡ look_prints self.old.row.id moment (look_with self.old.row head.now) }
         ensures stop { result ≡ stop_of self.new }
     {
         self.moment = moment;
-        print_head(self.row.id, moment, &self.process, head, out);
+        print_look(&self.row, moment, head, out);
         self.stop()
     }
 
     /// The rest of a look, which is answered by what was told.
     fn answer(&mut self, ask: AskHead, told: ToldFeedback, head: &mut LookHead)
-        requires asked { HasAsked self.old.process (ask_with (row_of self.old.process) self.old.process.phase head.old ask) }
+        requires asked { HasAsked self.old.process (ask_with (row_of self.old.process) self.old.process head.old ask) }
         requires told { IsLawfulFeedback told }
         requires row { IsLawfulRow self.old.row }
         ensures answered { AnsweredBy self.old.row told self.old.process self.new.process
-            (ask_with (row_of self.old.process) self.old.process.phase head.old ask) (look_with (row_of self.old.process) head.new) }
+            (ask_with (row_of self.old.process) self.old.process head.old ask) (look_with (row_of self.old.process) head.new) }
         ensures rest { self.new ≡ record self.old { process = self.new.process } }
         ensures of_row { row_of self.new.process ≡ row_of self.old.process }
     {
@@ -222,7 +222,7 @@ impl LowParts {
         moment: u64,
         word: u32,
         told: ToldFeedback,
-        out: &mut ArrayVec<Event, 4>,
+        out: &mut ArrayVec<EventHead, 4>,
     ) -> Option<Stop>
         requires stands { ∥ StandsForSome self.old ∥₁ }
         requires order { self.old.moment ≤ moment }
@@ -230,11 +230,11 @@ impl LowParts {
         requires told { IsLawfulFeedback told }
         requires out { out.old.items ≡ [] }
         ensures ends { Ends self.old self.new NeverBars (λ p is_fault q printed. IsToldAt self.old.row p
-            moment word told (first_of p.is_broken p.waits) is_fault q printed) out.new.items result }
+            moment word told (first_of p.is_broken p.waits) is_fault q printed) (lines_in out.new.items) result }
         ensures row { self.new.row ≡ self.old.row }
     {
         let arrival = self.connection.first();
-        let mut head = NOTHING;
+        let mut head = LookHead::new();
         let ask = self
             .process
             .begin_into(moment, word, arrival, &mut self.store, &mut head);
@@ -244,17 +244,17 @@ impl LowParts {
     }
 
     /// The look of a connection that is lost: nothing waits on the new one.
-    fn look_gone(&mut self, moment: u64, out: &mut ArrayVec<Event, 4>) -> Option<Stop>
+    fn look_gone(&mut self, moment: u64, out: &mut ArrayVec<EventHead, 4>) -> Option<Stop>
         requires stands { ∥ StandsForSome self.old ∥₁ }
         requires order { self.old.moment ≤ moment }
         requires moment { moment ≤ 2 ^ 62 }
         requires unused { self.old.connection ≡ unused }
         requires out { out.old.items ≡ [] }
         ensures ends { Ends self.old self.new NeverBars (λ p is_fault q printed. IsToldAt self.old.row p
-            moment 0 Quiet Gone is_fault q printed) out.new.items result }
+            moment 0 Quiet Gone is_fault q printed) (lines_in out.new.items) result }
         ensures row { self.new.row ≡ self.old.row }
     {
-        let mut head = NOTHING;
+        let mut head = LookHead::new();
         let ask = self
             .process
             .begin_into(moment, 0, Arrival::Gone, &mut self.store, &mut head);
@@ -272,7 +272,7 @@ impl LowParts {
         told: ToldFeedback,
         arriving: &ArrivingHead,
         bytes: &[u8],
-        out: &mut ArrayVec<Event, 4>,
+        out: &mut ArrayVec<EventHead, 4>,
     ) -> Option<Stop>
         requires stands { ∥ StandsForSome self.old ∥₁ }
         requires order { self.old.moment ≤ moment }
@@ -282,7 +282,7 @@ impl LowParts {
         requires room { CanHold arriving.now bytes.now }
         requires out { out.old.items ≡ [] }
         ensures ends { Ends self.old self.new (Crowds self.old.row fault (arriving_with bytes.now arriving.now))
-            (IsJoinedTold self.old.row moment word fault told (arriving_with bytes.now arriving.now)) out.new.items result }
+            (IsJoinedTold self.old.row moment word fault told (arriving_with bytes.now arriving.now)) (lines_in out.new.items) result }
         ensures row { self.new.row ≡ self.old.row }
     {
         if !self.connection.join(self.row.id, arriving, bytes) {
@@ -293,13 +293,13 @@ impl LowParts {
     }
 
     /// A `gone` line.
-    fn gone(&mut self, moment: u64, out: &mut ArrayVec<Event, 4>) -> Option<Stop>
+    fn gone(&mut self, moment: u64, out: &mut ArrayVec<EventHead, 4>) -> Option<Stop>
         requires stands { ∥ StandsForSome self.old ∥₁ }
         requires order { self.old.moment ≤ moment }
         requires moment { moment ≤ 2 ^ 62 }
         requires out { out.old.items ≡ [] }
         ensures ends { Ends self.old self.new NeverBars (λ p is_fault q printed. IsToldAt self.old.row
-            (lost_low p) moment 0 Quiet Gone is_fault q printed) out.new.items result }
+            (lost_low p) moment 0 Quiet Gone is_fault q printed) (lines_in out.new.items) result }
         ensures row { self.new.row ≡ self.old.row }
     {
         self.connection.lose();
@@ -311,14 +311,14 @@ impl LowParts {
         &mut self,
         line: &LineHead,
         bytes: &[u8],
-        out: &mut ArrayVec<Event, 4>,
+        out: &mut ArrayVec<EventHead, 4>,
     ) -> Option<Stop>
         requires lawful { IsLawfulLine (line_with bytes.now line.now) }
         requires room { CanHoldLine line.now bytes.now }
         requires stands { ∥ StandsForSome self.old ∥₁ }
-        ensures ends { Ends self.old self.new (λ p. IsBarredLow self.old.row p (line_with bytes.now line.now))
+        ensures ends { Ends self.old self.new (λ p. IsRefusedAlone self.old.row p (line_with bytes.now line.now))
             (λ p is_fault q printed. (is_timely_low self.old.row p (line_with bytes.now line.now) ≡ true)
-            × StepLow self.old.row p (line_with bytes.now line.now) is_fault q printed) out.new.items result }
+            × StepLow self.old.row p (line_with bytes.now line.now) is_fault q printed) (lines_in out.new.items) result }
         ensures row { self.new.row ≡ self.old.row }
     {
         out.clear();

@@ -9,16 +9,17 @@ ghost use Rattle.script_reader.specs.Highs.{IsHighLook, IsReturn, place};
 ghost use Rattle.script_reader.specs.Breaks.{IsUnremoved};
 ghost use Rattle.two_worlds.specs.Standing.{Stands, StandsForSome};
 ghost use Rattle.two_worlds.specs.Doing.{Does, DoesFrom, NeverBreaks, NeverOverfills, DisksServe, LeavesAlone};
+ghost use Rattle.two_worlds.specs.Printing.{lines_in};
 ghost use Rattle.two_worlds.specs.HighLooks.{ComesBack, LeadsWith, BreaksWith, frame_when, most_lines, printed_look, packets_after};
 
 use crate::applied::Stop;
-use crate::printing::{put_removed, put_sent};
+use crate::printing::put;
 use crate::pump::parts::Parts;
 use arrayvec::ArrayVec;
 use disk_model::{Disk, Role};
 use high_process::{HighFault, HighLook};
 use pump_frame::Frame;
-use script_reader::Event;
+use script_reader::EventHead;
 
 /// The frame, where it comes back.
 fn frame_back(comes_back: bool, frame: &Frame) -> Option<&Frame>
@@ -30,21 +31,36 @@ fn frame_back(comes_back: bool, frame: &Frame) -> Option<&Frame>
 impl<D: Disk> Parts<D> {
     /// The removal and the sending of a look are printed, and the message that was sent joins the
     /// packets.
-    fn tell_high(&mut self, moment: u64, look: &HighLook, out: &mut ArrayVec<Event, 4>)
+    fn tell_high(&mut self, moment: u64, look: &HighLook, out: &mut ArrayVec<EventHead, 4>)
         requires out { length out.old.items + length (printed_look self.old.row.id moment look.now) ≤ 4 }
-        ensures out { out.new.items ≡ out.old.items ++ printed_look self.old.row.id moment look.now }
+        ensures out { lines_in out.new.items ≡ lines_in out.old.items ++ printed_look self.old.row.id moment look.now }
         ensures rest { self.new ≡ record self.old {
           sent = packets_after look.now.sent (high.hand_of self.old.high) self.old.sent;
         } }
     {
         if let Some(number) = look.removed {
-            put_removed(self.row.id, moment, number, look.published, out);
+            put(
+                EventHead::Removed {
+                    session: self.row.id,
+                    moment,
+                    number,
+                    time: look.published,
+                },
+                out,
+            );
         }
         if let Some(number) = look.sent {
             if let Some(item) = self.high.hand() {
                 self.sent.push_back(*item);
             }
-            put_sent(self.row.id, moment, number, out);
+            put(
+                EventHead::Sent {
+                    session: self.row.id,
+                    moment,
+                    number,
+                },
+                out,
+            );
         }
     }
 
@@ -53,7 +69,7 @@ impl<D: Disk> Parts<D> {
         &mut self,
         moment: u64,
         comes_back: bool,
-        out: &mut ArrayVec<Event, 4>,
+        out: &mut ArrayVec<EventHead, 4>,
     ) -> Result<(), Stop>
         requires stands { ∥ StandsForSome D.told self.old ∥₁ }
         requires order { self.old.moment ≤ moment }
@@ -64,7 +80,7 @@ impl<D: Disk> Parts<D> {
         ensures does { (p : Past) → Stands D.told self.old p
             → (back : Option ℕ) → ComesBack self.old.row.id p.world (frame_when comes_back self.old.taken) back
             → DoesFrom (LeadsWith self.old.row moment back) (BreaksWith moment back) NeverOverfills
-            D.told self.old self.new out.old.items out.new.items p result }
+            D.told self.old self.new (lines_in out.old.items) (lines_in out.new.items) p result }
         ensures serve { DisksServe D.told self.old self.new result }
         ensures low { LeavesAlone roles.Low self.old self.new }
         ensures high { frame_when comes_back self.old.taken ≡ None → LeavesAlone roles.High self.old self.new }
@@ -96,13 +112,13 @@ impl<D: Disk> Parts<D> {
 
     /// A high look to which nothing comes back, at this moment in microseconds, which is not below the
     /// last one and at most 2^62. No disk is called.
-    pub fn look_high(&mut self, moment: u64, out: &mut ArrayVec<Event, 4>) -> Result<(), Stop>
+    pub fn look_high(&mut self, moment: u64, out: &mut ArrayVec<EventHead, 4>) -> Result<(), Stop>
         requires stands { ∥ StandsForSome D.told self.old ∥₁ }
         requires order { self.old.moment ≤ moment }
         requires moment { moment ≤ 2 ^ 62 }
         requires out { length out.old.items ≤ 3 }
         ensures does { Does (λ p q printed. IsHighLook self.old.row p moment None q printed)
-            NeverBreaks NeverOverfills D.told self.old self.new out.old.items out.new.items result }
+            NeverBreaks NeverOverfills D.told self.old self.new (lines_in out.old.items) (lines_in out.new.items) result }
         ensures serve { DisksServe D.told self.old self.new result }
         ensures low { LeavesAlone roles.Low self.old self.new }
         ensures high { LeavesAlone roles.High self.old self.new }
@@ -129,7 +145,7 @@ impl<D: Disk> Parts<D> {
         &mut self,
         moment: u64,
         back: u64,
-        out: &mut ArrayVec<Event, 4>,
+        out: &mut ArrayVec<EventHead, 4>,
     ) -> Result<(), Stop>
         requires stands { ∥ StandsForSome D.told self.old ∥₁ }
         requires order { self.old.moment ≤ moment }
@@ -139,7 +155,7 @@ impl<D: Disk> Parts<D> {
         ensures does { Does (λ p q printed. IsReturn self.old.row p moment (place p.world.returned back) q printed)
             (λ role p q printed. (role ≡ roles.High)
             × IsUnremoved p moment (Some (place p.world.returned back)) q × (printed ≡ []))
-            NeverOverfills D.told self.old self.new out.old.items out.new.items result }
+            NeverOverfills D.told self.old self.new (lines_in out.old.items) (lines_in out.new.items) result }
         ensures serve { DisksServe D.told self.old self.new result }
         ensures low { LeavesAlone roles.Low self.old self.new }
         ensures recv { LeavesAlone roles.Recv self.old self.new }

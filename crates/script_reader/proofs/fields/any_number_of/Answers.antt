@@ -17,16 +17,16 @@ returns-then-not-is_ascii_digit c = number_undigit c.args.field.now c.digits.i (
       | inr high ↦ absurd (omega (arith, r.1, high))
     ])
 
-pub returns-in_default : goal.returns-in_default
-returns-in_default c =
+pub returns-in_err-tens : goal.returns-in_err-tens
+returns-in_err-tens c =
     let more = digits_value_more 10 c.args.field.now c.digits.i (omega arith) in
-    number_large c.args.field.now (c.digits.i + 1) (omega (arith, more, c.digits.invariant.1, c.in_default.ensures))
+    c.from_residual.ensures ∙ number_large c.args.field.now (c.digits.i + 1) (omega (arith, more, c.digits.invariant.1, c.in_err-tens.ensures))
 
-pub returns-in_default-checked_add : goal.returns-in_default-checked_add
-returns-in_default-checked_add c =
+pub returns-in_err-n : goal.returns-in_err-n
+returns-in_err-n c =
     let more = digits_value_more 10 c.args.field.now c.digits.i (omega arith) in
     let digit = digit_value_digit _ c.if-not-is_ascii_digit.ensures.cases in
-    number_large c.args.field.now (c.digits.i + 1) (omega (arith, more, digit, c.digits.invariant.1, c.in-Some.ensures, c.from.ensures, c.in_default-checked_add.ensures))
+    c.from_residual-in_err-n.ensures ∙ number_large c.args.field.now (c.digits.i + 1) (omega (arith, more, digit, c.digits.invariant.1, c.in_ok-tens.ensures, c.from.ensures, c.in_err-n.ensures))
 
 pub digits-preserved : goal.digits-preserved
 digits-preserved c =
@@ -34,8 +34,8 @@ digits-preserved c =
     let k = c.if-not-is_ascii_digit.ensures in
     let digit = digit_value_digit _ k.cases in (
       digits_more 10 c.args.field.now c.digits.i (omega arith) c.digits.invariant.0 k.bound,
-      omega (arith, more, digit, c.digits.invariant.1, c.in-Some.ensures, c.from.ensures, c.in-Some-checked_add.ensures),
-      omega (arith, c.in-Some-checked_add.ensures),
+      omega (arith, more, digit, c.digits.invariant.1, c.in_ok-tens.ensures, c.from.ensures, c.in_ok-n.ensures),
+      omega (arith, c.in_ok-n.ensures),
     )
 
 pub returns : goal.returns

@@ -1,4 +1,4 @@
-use Rattle.script_reader.proofs.Halting.{no_transcript, one_stop}
+use Rattle.script_reader.proofs.Stopping.{no_transcript, one_stop}
 use Rattle.script_reader.proofs.laws.stopping_lines_are_one.Goals as goal
 
 pub returns-clause-apart : goal.returns-clause-apart

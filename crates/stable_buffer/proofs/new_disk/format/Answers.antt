@@ -1,21 +1,26 @@
-use Rattle.std.proofs.Common.{◌≡◌, ℕ, List, length, take, ◌∙◌, ap, arith}
-use Rattle.std.proofs.lemmas.List.{take_all}
+use Rattle.std.proofs.Common.{◌≡◌, ℕ, ◌-◌, List, ◌++◌, length, take, replicate, ◌∙◌, ap, arith, length-append}
+use Rattle.std.proofs.lemmas.List.{take_at, length-replicate}
 use Rattle.stable_buffer.specs.Format.{header_of, role_byte, second_of, size_of}
 use Rattle.stable_buffer.proofs.Fresh.{fresh_stands, holds_empty, header_length}
 use Rattle.stable_buffer.proofs.new_disk.format.Goals as goal
 
+pub returns-clause-bytes : goal.returns-clause-bytes
+returns-clause-bytes g c = λ told.
+    let m = g.D.Disk.told in
+    let front = header_of c.args.row.now (role_byte c.args.role) c.args.count (second_of c.args.role) in
+    let first : m.reading c.write.new.disk ≡ front =
+    holds_empty (m.reading c.args.disk.now) c.header-front.result (m.reading c.write.new.disk) (c.requires.empty told) (c.in_ok-write.ensures.written told) ∙ c.header-front.ensures in
+    c.sync.ensures.moves.reads told ∙ c.in_ok-fill_zeros.ensures.zeros told ∙ (λ i. first i ++ replicate (c.disk_size.ensures.size i - 80) 0)
+
 pub returns-clause-stands : goal.returns-clause-stands
 returns-clause-stands g c = λ told.
-    let m = g.D.Disk.told in
     let row = c.args.row.now in
     let role = c.args.role in
-    let first : m.reading c.write.new.disk ≡ header_of row (role_byte role) c.args.count (second_of role) =
-    holds_empty (m.reading c.args.disk.now) c.header-front.result (m.reading c.write.new.disk) (c.requires.empty told) (c.in_ok-write.ensures.written told) ∙ c.header-front.ensures in
+    let disk = g.D.Disk.told.reading c.sync.new.disk in
+    let front = header_of row (role_byte role) c.args.count (second_of role) in
+    let rest = replicate (size_of row role - 80) 0 in
+    let bytes : disk ≡ front ++ rest = returns-clause-bytes g c told in
     let size = header_length row (role_byte role) c.args.count (second_of role) in
-    let kept : take 80 (m.reading c.sync.new.disk) ≡ header_of row (role_byte role) c.args.count (second_of role) =
-    ap (λ (l : List ℕ). take 80 l) (c.sync.ensures.moves.reads told)
-    ∙ c.in_ok-fill_zeros.ensures.front told
-    ∙ ap (λ (l : List ℕ). take 80 l) first
-    ∙ take_all 80 _ (omega (arith, size)) in
-    let whole : length (m.reading c.sync.new.disk) ≡ size_of row role = ap length (c.sync.ensures.moves.reads told) ∙ c.in_ok-fill_zeros.ensures.size told ∙ c.size.ensures.size in
-    fresh_stands row role c.args.count (m.reading c.sync.new.disk) c.requires.count c.requires.receiver kept whole
+    let left = length-replicate {A = ℕ} (size_of row role - 80) 0 in
+    let all : length (front ++ rest) ≡ size_of row role = omega (arith, length-append front rest, size, left, c.disk_size.ensures.whole, c.disk_size.ensures.size) in
+    fresh_stands row role c.args.count disk c.requires.count c.requires.receiver (ap (take 80) bytes ∙ take_at front rest 80 size) (ap length bytes ∙ all)

@@ -20,11 +20,11 @@ returns-clause-begins g c =
     let keeps : StoreStep m (message_in p a) old new d = subst (λ (t : Option (List ℕ)). StoreStep m t old new d) c.wanted-message.ensures c.store_message-is_fault.ensures in (
       d,
       record {
-        begins = begun p q c.args.moment c.args.word a d (ask_with p.row q.phase c.step.new.head c.step.result) e.step e.row e.last e.word c.requires.order;
+        begins = begun p q c.args.moment c.args.word a d (ask_with p.row q c.step.new.head c.step.result) e.step e.row e.last e.word c.requires.order;
         keeps = keeps;
-        count = counts_so p q a d (begun_so p q c.args.moment c.args.word a d (ask_with p.row q.phase c.step.new.head c.step.result) e.step);
-        falls = falls_by m p q a d old new (begun_so p q c.args.moment c.args.word a d (ask_with p.row q.phase c.step.new.head c.step.result) e.step) keeps;
-        refuses = λ r. refuses_so p q c.args.moment c.args.word a d (ask_with p.row q.phase c.step.new.head c.step.result) e.step r;
+        count = counts_so p q a d (begun_so p q c.args.moment c.args.word a d (ask_with p.row q c.step.new.head c.step.result) e.step);
+        falls = falls_by m p q a d old new (begun_so p q c.args.moment c.args.word a d (ask_with p.row q c.step.new.head c.step.result) e.step) keeps;
+        refuses = λ r. refuses_so p q c.args.moment c.args.word a d (ask_with p.row q c.step.new.head c.step.result) e.step r;
       },
     )
 
@@ -39,7 +39,7 @@ returns-clause-store g c =
     let new = c.store_message-is_fault.new.store in
     let e = c.step.ensures in
     let keeps : StoreStep m (message_in p a) old new d = subst (λ (t : Option (List ℕ)). StoreStep m t old new d) c.wanted-message.ensures c.store_message-is_fault.ensures in
-    store_kept m p q a d old new (begun_so p q c.args.moment c.args.word a d (ask_with p.row q.phase c.step.new.head c.step.result) e.step) e.row keeps c.requires.store
+    store_kept m p q a d old new (begun_so p q c.args.moment c.args.word a d (ask_with p.row q c.step.new.head c.step.result) e.step) e.row keeps c.requires.store
 
 pub returns-clause-images : goal.returns-clause-images
 returns-clause-images g c =
@@ -59,5 +59,5 @@ returns-clause-acknowledged g c = λ n is.
     let q = c.step.new.self in
     let a = arrival_of c.args.arrival in
     let d = c.store_message-is_fault.result in
-    let k = acknowledges_so p q c.args.moment c.args.word a d (ask_with p.row q.phase c.step.new.head c.step.result) n c.step.ensures.step is in
+    let k = acknowledges_so p q c.args.moment c.args.word a d (ask_with p.row q c.step.new.head c.step.result) n c.step.ensures.step is in
     beyond m q c.store_message-is_fault.new.store n (returns-clause-store g c) k.1 k.0

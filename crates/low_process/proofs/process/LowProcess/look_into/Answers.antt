@@ -1,6 +1,7 @@
 use Rattle.std.proofs.Common.{◌≡◌, Bool, false, sym, ◌∙◌, ap, subst, option_map}
 use Rattle.pump_frame.specs.declared.row.SessionRow.{SessionRow}
-use Rattle.low_process.specs.Heads.{look_with, frame_of}
+use Rattle.pump_core.specs.ReplyFrames.{frame_of}
+use Rattle.low_process.specs.Heads.{look_with}
 use Rattle.low_process.specs.Looks.{arrival_of, is_down, StandsFor, AsksFor, Looks, look_of, row_of}
 use Rattle.low_process.proofs.Looking.{look_from}
 use Rattle.low_process.proofs.process.LowProcess.look_into.Goals as goal
@@ -25,7 +26,7 @@ returns-in-Forward-clause-looks g c =
         keeps = step.keeps;
         count = c.offer_hand.ensures.next ∙ step.count;
         falls = goes_on (is_down r) (is_down c.offer_hand.new.self) _ up c.offer_hand.ensures.up step.falls;
-        refuses = λ e. (let none = ap (option_map (frame_of (row_of c.args.self.now))) (sym c.offer_hand.ensures.reply) ∙ e in absurd (cc));
+        refuses = λ e. (let none = ap (option_map (frame_of (row_of c.args.self.now).id)) (sym c.offer_hand.ensures.reply) ∙ e in absurd (cc));
       },
     )
 
@@ -46,6 +47,6 @@ returns-in-Average-clause-looks g c =
         keeps = step.keeps;
         count = c.finish_into.ensures.next ∙ step.count;
         falls = goes_on (is_down r) (is_down c.finish_into.new.self) _ up c.finish_into.ensures.up step.falls;
-        refuses = λ e. (let none = ap (option_map (frame_of (row_of c.args.self.now))) (sym c.finish_into.ensures.reply) ∙ e in absurd (cc));
+        refuses = λ e. (let none = ap (option_map (frame_of (row_of c.args.self.now).id)) (sym c.finish_into.ensures.reply) ∙ e in absurd (cc));
       },
     )

@@ -1,5 +1,6 @@
 use Rattle.std.proofs.Common.{None, Some, refl, ap, sym}
 use Rattle.std.specs.Prelude.{if◌then◌else◌}
+use Rattle.low_process.specs.declared.values.Phase.{Phase}
 use Rattle.low_process.specs.Looks.{arrival_of, phase_of}
 use Rattle.low_process.proofs.process.LowProcess.step.Goals as goal
 
@@ -10,4 +11,5 @@ returns-in-Waiting-clause-step c =
 pub returns-else-is_gone-clause-step : goal.returns-else-is_gone-clause-step
 returns-else-is_gone-clause-step c =
     let i = c.in-Passing in
-    (refl, refl, ((if i.is_owed then Some i.item.number else None, ap phase_of i.is), sym c.if-is_gone.ensures))
+    let hand = c.args.self.now.hand.number in
+    (refl, refl, ((if i.is_owed then Some hand else None, ap (λ (p : Phase). phase_of p hand) i.is), sym c.if-is_gone.ensures))

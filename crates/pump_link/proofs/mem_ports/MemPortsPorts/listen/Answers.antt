@@ -1,15 +1,16 @@
-use Rattle.std.proofs.Common.{refl, ap, ◌∙◌}
-use Rattle.pump_link.specs.Ports.{NoDoor, Listened}
-use Rattle.pump_link.proofs.PortsSteps.{none_back}
+use Rattle.std.proofs.Common.{ap, ◌∙◌, sym}
+use Rattle.pump_link.specs.Ports.{NoDoor, Listened, first_of, leave, with_next_out}
+use Rattle.pump_link.proofs.PortsSteps.{did_more}
 use Rattle.pump_link.proofs.mem_ports.MemPortsPorts.listen.Goals as goal
 
 pub returns-then-is_failing-clause-did : goal.returns-then-is_failing-clause-did
 returns-then-is_failing-clause-did c =
-    let after = c.is_failing.ensures.after in
-    none_back c.args.self.now _ (NoDoor c.args.port) refl (ap (λ p. p.given_back) after) (ap (λ p. p.lost) after) (ap (λ p. p.connected) after)
+    let after = c.if-is_failing.ensures.after in
+    did_more c.args.self.now c.is_failing.new.self (NoDoor c.args.port) (ap (λ p. p.kept) after) (ap (λ p. p.connected) after)
 
 pub returns-clause-did : goal.returns-clause-did
 returns-clause-did c =
-    let after = c.is_failing.ensures.after in
+    let after = c.if-is_failing.ensures.after in
     let next = c.next.ensures.after in
-    none_back c.args.self.now _ (Listened c.args.port c.new.result) refl (ap (λ p. p.given_back) next ∙ ap (λ p. p.given_back) after) (ap (λ p. p.lost) next ∙ ap (λ p. p.lost) after) (ap (λ p. p.connected) next ∙ ap (λ p. p.connected) after)
+    let came = ap (λ door. door.waiting) c.new.ensures ∙ c.next.ensures.link ∙ ap (λ p. first_of p.coming) after in
+    did_more c.args.self.now c.next.new.self (Listened c.args.port c.new.result) (ap (λ p. p.kept) (next ∙ ap with_next_out after) ∙ ap (leave c.args.self.now.kept) (sym came)) (ap (λ p. p.connected) next ∙ ap (λ p. p.connected) after)

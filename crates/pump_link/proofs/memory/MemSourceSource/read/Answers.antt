@@ -13,3 +13,6 @@ returns-clause-bytes c =
       ap (λ s. s.left) (sym c.self.view_is) ∙ front_and_rest c.min-count.result c.self.inside.at c.self.inside.bytes.items c.args.into.now _ (omega arith) copied,
       λ zero room. drop_all (c.self.inside.at + c.min-count.result) c.self.inside.bytes.items (omega (arith, first, count, c.requires, c.self.invariant, length-drop c.self.inside.at c.self.inside.bytes.items)),
     )
+
+pub returns-clause-gives : goal.returns-clause-gives
+returns-clause-gives c = record { told = λ rest t. (_, (returns-clause-bytes c).0, t) }

@@ -1,4 +1,5 @@
 use Rattle.std.proofs.Common.{◌≡◌, ◌+◌, ◌-◌, ◌++◌, ◌≤◌, List, ℕ, length, append-nil, take, drop, ap, ◌∙◌, arith}
+use Rattle.std.proofs.lemmas.List.{length-take-le}
 use borrow.Rule.Slice.PartMut.{put_mid}
 use Rattle.script_reader.proofs.LineEnds.{held_more, Keeps-moved}
 use Rattle.script_reader.proofs.lines.Lines.fill.Goals as goal
@@ -8,6 +9,13 @@ grown_to : (cells turned into : List ℕ) (start end count : ℕ) → turned ≡
 grown_to cells turned into start end count e order fits few =
     let zero : end - start + count - 0 ≡ end - start + count = omega arith in
     rw (zero, e) (held_more cells into start end count (4096 - (end - start)) order fits few)
+
+pub returns-clause-fills : goal.returns-clause-fills
+returns-clause-fills g c =
+    let s = c.self.inside in
+    let few : c.in_ok-count.count ≤ length c.read.new.into = omega (arith, c.in_ok-count.ensures.bound) in
+    let grown = grown_to s.cells c.rotate_left.new.self c.read.new.into s.start s.end c.in_ok-count.count c.rotate_left.ensures.after (omega arith) (omega (arith, c.self.told)) few in
+    (take c.in_ok-count.count c.read.new.into, length-take-le _ _ few, rw (← c.self.view_is) grown, c.in_ok-count.ensures.gives)
 
 pub returns-clause-kept : goal.returns-clause-kept
 returns-clause-kept g c =

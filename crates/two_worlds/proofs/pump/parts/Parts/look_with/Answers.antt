@@ -11,6 +11,9 @@ use Rattle.two_worlds.proofs.PartsEnds.{low_seen, high_seen, ends_seen, high_fit
 use Rattle.two_worlds.proofs.HighServes.{removes_behind, looked_serves, broken_serves, refused_serves, asks_no_device, comes_not_behind}
 use Rattle.two_worlds.proofs.HighLooking.{looks, led, lines_by}
 use Rattle.two_worlds.proofs.HighFailing.{fared, breaks, refused}
+use Rattle.std.proofs.lemmas.List.{length-map}
+use Rattle.script_reader.specs.EventHeads.{event_of}
+use Rattle.two_worlds.specs.Printing.{lines_in}
 use Rattle.two_worlds.proofs.pump.parts.Parts.look_with.Goals as goal
 
 pub look-requires-clause-between : goal.look-requires-clause-between
@@ -50,7 +53,7 @@ returns-in-Ok-clause-does g c = λ p s back given.
     let looked = c.in-Ok.ensures.looks s.ends.low s.ends.high (high_past_of d p) (s.ends.stand, s.ends.high_fits) s.high_ready.past in
     led m d p s c.args.moment c.requires.order c.look.new.self c.look.new.store c.look.new.ends back c.in-Ok.look
     (looks m d p s c.args.moment c.requires.order c.look.new.self c.look.new.store c.look.new.ends c.in-Ok.look c.in-Ok.ensures.store c.in-Ok.ensures.count c.in-Ok.ensures.up c.look.ensures.between c.look.ensures.row c.look.ensures.shape (frame_of c.frame_back-frame.result) back comes c.in-Ok.ensures.fares looked c.look.ensures.images)
-    c.args.out.now.items c.tell_high.new.out.items c.tell_high.ensures.out c.tell_high.new.self c.tell_high.ensures.rest
+    (lines_in c.args.out.now.items) (lines_in c.tell_high.new.out.items) c.tell_high.ensures.out c.tell_high.new.self c.tell_high.ensures.rest
 
 pub returns-in-Ok-clause-serve : goal.returns-in-Ok-clause-serve
 returns-in-Ok-clause-serve g c =
@@ -64,7 +67,7 @@ pub returns-in-Ok-clause-out : goal.returns-in-Ok-clause-out
 returns-in-Ok-clause-out g c = ∥∥₁_elim c.requires.stands le_prop (λ s.
     let d = c.args.self.now in
     let few = lines_by d s.0 s.1 c.look.new.self c.look.new.ends c.args.moment (frame_of c.frame_back-frame.result) c.in-Ok.look c.in-Ok.ensures.looks in
-    omega (arith, few, ap most_lines c.frame_back-frame.ensures, ap length c.tell_high.ensures.out, length-append c.args.out.now.items (printed_look d.row.id c.args.moment c.in-Ok.look)))
+    omega (arith, few, ap most_lines c.frame_back-frame.ensures, ap length c.tell_high.ensures.out, length-append (lines_in c.args.out.now.items) (printed_look d.row.id c.args.moment c.in-Ok.look), length-map c.args.out.now.items event_of, length-map c.tell_high.new.out.items event_of))
 
 pub returns-in-Err-Device-clause-does : goal.returns-in-Err-Device-clause-does
 returns-in-Err-Device-clause-does g c = λ p s back given.
@@ -74,7 +77,7 @@ returns-in-Err-Device-clause-does g c = λ p s back given.
     let task = task_at d.high (frame_of c.frame_back-frame.result) in
     let fares = fared m task d.high c.look.new.self d.high_store c.look.new.store c.look.result (Device c.in-Err-Device.faults) (c.in-Err-Device.is ∙ ap (λ f. Err f) c.in-Err-Device.field-0-is) c.look.ensures.fares in
     let b = breaks m d p s c.args.moment c.requires.order c.look.new.self c.look.new.store c.look.new.ends (frame_of c.frame_back-frame.result) back c.in-Err-Device.faults comes fares c.look.ensures.images in
-    (b.end, [], b.breaks, sym (append-nil c.args.out.now.items), b.fails, b.fits)
+    (b.end, [], b.breaks, sym (append-nil (lines_in c.args.out.now.items)), b.fails, b.fits)
 
 pub returns-in-Err-Device-clause-serve : goal.returns-in-Err-Device-clause-serve
 returns-in-Err-Device-clause-serve g c =
@@ -99,7 +102,7 @@ returns-in-Err-Ahead-clause-does g c = λ p s back given.
     let fares = fared m task d.high c.look.new.self d.high_store c.look.new.store c.look.result (Ahead c.in-Err-Ahead.field-0-0 c.in-Err-Ahead.field-0-1) (c.in-Err-Ahead.is ∙ ap (λ f. Err f) c.in-Err-Ahead.field-0-is) c.look.ensures.fares in
     let same = subst (λ r. OnErr r (c.look.new.ends ≡ d.ends)) c.in-Err-Ahead.is c.look.ensures.refused in
     let b = refused m d p s c.args.moment c.requires.order c.look.new.self c.look.new.store c.look.new.ends (frame_of c.frame_back-frame.result) back c.in-Err-Ahead.field-0-0 c.in-Err-Ahead.field-0-1 comes fares same in
-    (b.end, [], b.leads, sym (append-nil c.args.out.now.items), b.stand, b.fits)
+    (b.end, [], b.leads, sym (append-nil (lines_in c.args.out.now.items)), b.stand, b.fits)
 
 pub returns-in-Err-Ahead-clause-serve : goal.returns-in-Err-Ahead-clause-serve
 returns-in-Err-Ahead-clause-serve g c =

@@ -7,6 +7,7 @@ use Rattle.two_worlds.specs.Doing.{NeverOverfills}
 use Rattle.two_worlds.specs.HighLooks.{LeadsWith, BreaksWith}
 use Rattle.two_worlds.proofs.DoesMore.{does_more}
 use Rattle.two_worlds.proofs.HighReturning.{numbered, stands_numbered, comes_numbered}
+use Rattle.two_worlds.specs.Printing.{lines_in}
 use Rattle.two_worlds.proofs.pump.parts.Parts.take_back.Goals as goal
 
 pub look_with-requires-clause-stands : goal.look_with-requires-clause-stands
@@ -23,7 +24,7 @@ returns-clause-does g c = λ p s.
     let k = place p.world.returned c.args.back in
     let now = numbered c.args.self.now c.number_back-self.result in
     let stands = stands_numbered m c.args.self.now c.number_back-self.result p s in
-    does_more m c.args.self.now now c.look_with.new.self c.args.out.now.items c.look_with.new.out.items p
+    does_more m c.args.self.now now c.look_with.new.self (lines_in c.args.out.now.items) (lines_in c.look_with.new.out.items) p
     (LeadsWith row c.args.moment (Some k)) (λ p q printed. IsReturn row p c.args.moment (place p.world.returned c.args.back) q printed)
     (BreaksWith c.args.moment (Some k)) (λ role p q printed. (role ≡ roles.High) × IsUnremoved p c.args.moment (Some (place p.world.returned c.args.back)) q × (printed ≡ []))
     NeverOverfills c.look_with.result (λ q printed h. h) (λ role q printed h. h) (λ q f. record { low = f.low; high = f.high; recv = f.recv })

@@ -1,0 +1,456 @@
+-- The low lines of a transcript are a function of low's own lines and of what is said to Low.
+use Rattle.std.proofs.Common.{◌≡◌, ℕ, suc, true, false, List, [], ◌∷◌, ◌++◌, map, Option, Some, None, refl, sym, ap, ◌∙◌, subst, arith, append-nil}
+use Rattle.std.specs.Prelude.{◌≢◌, if◌then◌else◌, filter_map, All, AllPairs}
+use Rattle.std.proofs.lemmas.List.Elements.{All-tail, filter-append, filter_map-append}
+use Rattle.std.specs.List.{AllByRecursion, cons_option}
+use Rattle.pump_frame.specs.declared.row.SessionRow.{SessionRow}
+use Rattle.pump_core.specs.declared.feedback.Feedback.{Feedback}
+use Rattle.pump_core.specs.declared.feedback.Feedback.TheVariants.{Quiet, Full, Passed, Released, Repeat}
+use Rattle.pump_core.specs.History.{Look, Life}
+use Rattle.pump_core.specs.History.{Gone}
+use Rattle.pump_core.specs.Replies.{Sent, LowReplies}
+use Rattle.pump_core.specs.Exchanges.{count_after}
+use Rattle.pump_core.specs.Pairs.{uncounted, SameLooks, SameLives}
+use Rattle.pump_core.proofs.Runs.{one_list_of_lives}
+use Rattle.pump_core.proofs.Agreement.{same_lives}
+use Rattle.script_reader.specs.declared.line.Line.{Line}
+use Rattle.script_reader.specs.declared.line.Line.TheVariants as lines
+use Rattle.script_reader.specs.declared.line.ToldFeedback.{ToldFeedback}
+use Rattle.script_reader.specs.declared.event.Event.{Event}
+use Rattle.script_reader.specs.declared.event.Event.TheVariants.{End}
+use Rattle.script_reader.specs.Past.{Past}
+use Rattle.script_reader.specs.Lows.{first_of, IsLook}
+use Rattle.script_reader.specs.Tolds.{LowPast, IsToldLook}
+use Rattle.script_reader.specs.Steps.{Coming, Arrives, joined, lost, Step}
+use Rattle.script_reader.specs.Scripts.{Running, LowRunning, Begun, Whole, Alone, Goes, GoesOn, Leads, LeadTo, Ends, IsTranscript}
+use Rattle.script_reader.specs.Readouts.{low_lines}
+use Rattle.script_reader.specs.Sides.{is_lows, low_side_of, told_to_low, full_moments, averages, look_moment, HaveOwnMoments}
+use Rattle.script_reader.proofs.One.{arrives_one}
+use Rattle.script_reader.proofs.OneScript.{leads_one}
+use Rattle.script_reader.proofs.Replying.{Replies, lead_so, low-append}
+use Rattle.script_reader.proofs.Telling.{Said, said_to_low, said-append, said_by, said_of_look, plain, full_said, average_said, told_is_said, full_is_said, average_is_said, map-append, OneKind, one_told, one_full}
+use Rattle.script_reader.proofs.LowAlike.{Half, half, Alike, Looked, Decided, looks_alike}
+use Rattle.script_reader.proofs.LowAside.{step_aside}
+
+-- ---- one line of a whole session ----
+
+lost_alike : (p q : Past) → Alike (half p) (half q) → Alike (half (lost p)) (half (lost q))
+lost_alike p q a = record { history = a.history; waits = refl; broken = refl; reading = refl }
+
+joined_alike : (p q : Past) (c d : Coming) → c ≡ d → Alike (half p) (half q) → Alike (half (joined p c)) (half (joined q d))
+joined_alike p q c d e a = record {
+  history = a.history;
+  waits = λ i. a.waits i ++ (e i).added;
+  broken = a.broken;
+  reading = λ i. (e i).reading;
+}
+
+-- what two looks of this line are told is the same up to the count
+abbrev DecidedAt : Line → List Event → List Event → Type 0
+DecidedAt line xs ys = (m : ℕ) → look_moment line ≡ Some m → Decided m xs ys
+
+step_alike : (row : SessionRow) (p q : Past) (line : Line) (p' q' : Past) (xs ys : List Event)
+    → is_lows line ≡ true → Alike (half p) (half q) → Step row p line p' xs → Step row q line q' ys
+    → DecidedAt line xs ys → Looked p' q' xs ys
+step_alike row p q (lines.Look session m w z) p' q' xs ys own alike (c, comes, (few, h)) (d, comes', (few', k)) decide =
+    let same : c ≡ d = arrives_one session q.reading z c d (subst (λ r. Arrives session r z c) alike.reading comes) comes' in
+    let both = joined_alike p q c d same alike in
+    looks_alike row (joined p c) (joined q d) m w (first_of p.is_broken (joined p c).waits) (first_of q.is_broken (joined q d).waits) p' q' xs ys both
+    (λ i. first_of (both.broken i) (both.waits i)) h k (decide m refl)
+step_alike row p q (lines.Gone session m) p' q' xs ys own alike h k decide =
+    looks_alike row (lost p) (lost q) m 0 Gone Gone p' q' xs ys (lost_alike p q alike) refl h k (decide m refl)
+step_alike row p q lines.Skip p' q' xs ys own alike h k decide = absurd h
+step_alike row p q (lines.Session other) p' q' xs ys own alike h k decide = absurd h
+step_alike row p q (lines.LowSession other next held) p' q' xs ys own alike h k decide = absurd h
+step_alike row p q (lines.Told session m w fault told z) p' q' xs ys own alike h k decide = absurd h
+step_alike row p q (lines.High session m) p' q' xs ys own alike h k decide = absurd (cc)
+step_alike row p q (lines.Carry session back) p' q' xs ys own alike h k decide = absurd (cc)
+step_alike row p q (lines.Return session m back) p' q' xs ys own alike h k decide = absurd (cc)
+step_alike row p q (lines.Done session m t) p' q' xs ys own alike h k decide = absurd (cc)
+
+-- ---- scripts ----
+
+-- what a script has begun, as far as it is low's
+data Lows : Type 0 where
+  Nobody : Lows
+  Whole' : (row : SessionRow) (half : Half) → Lows
+  Alone' : (s : LowRunning) → Lows
+
+abbrev lows : Option Begun → Lows
+lows None = Nobody
+lows (Some (Whole s)) = Whole' s.row (half s.past)
+lows (Some (Alone s)) = Alone' s
+
+-- alike up to the counts
+abbrev AlikeFor : Lows → Lows → Type 0
+AlikeFor Nobody Nobody = Unit {0}
+AlikeFor (Whole' row p) (Whole' other q) = (row ≡ other) × Alike p q
+AlikeFor (Alone' s) (Alone' t) = s ≡ t
+AlikeFor _ _ = ⊥
+
+-- a line that is not low's own
+record IsAside (running after : Option Begun) (printed : List Event) : Type 0 where
+  same : lows running ≡ lows after
+  said : said_to_low printed ≡ []
+
+leads_aside : (running : Option Begun) (line : Line) (after : Option Begun) (printed : List Event) → is_lows line ≡ false → Leads running line after printed → IsAside running after printed
+leads_aside running line after printed own h = by running line own h
+  where
+    goes : (s : Running) (line : Line) → is_lows line ≡ false → Goes s line after printed → IsAside (Some (Whole s)) after printed
+    goes s line own (timely, (q, step, e)) =
+        let a = step_aside s.row s.past line q printed own step in
+        record { same = ap (Whole' s.row) a.half ∙ sym (ap lows e); said = a.said }
+
+    by : (running : Option Begun) (line : Line) → is_lows line ≡ false → Leads running line after printed → IsAside running after printed
+    by None lines.Skip own h = record { same = sym (ap lows h.0); said = ap said_to_low h.1 }
+    by (Some s) lines.Skip own h = record { same = sym (ap lows h.0); said = ap said_to_low h.1 }
+    by running (lines.Session row) own h = absurd (cc)
+    by running (lines.LowSession row next held) own h = absurd (cc)
+    by running (lines.Look session m w z) own h = absurd (cc)
+    by running (lines.Told session m w fault told z) own h = absurd (cc)
+    by running (lines.Gone session m) own h = absurd (cc)
+    by None (lines.High session m) own h = absurd h
+    by None (lines.Carry session back) own h = absurd h
+    by None (lines.Return session m back) own h = absurd h
+    by None (lines.Done session m t) own h = absurd h
+    by (Some (Whole s)) (lines.High session m) own h = goes s (lines.High session m) own h
+    by (Some (Whole s)) (lines.Carry session back) own h = goes s (lines.Carry session back) own h
+    by (Some (Whole s)) (lines.Return session m back) own h = goes s (lines.Return session m back) own h
+    by (Some (Whole s)) (lines.Done session m t) own h = goes s (lines.Done session m t) own h
+    by (Some (Alone s)) (lines.High session m) own h = absurd (h.1.1)
+    by (Some (Alone s)) (lines.Carry session back) own h = absurd (h.1.1)
+    by (Some (Alone s)) (lines.Return session m back) own h = absurd (h.1.1)
+    by (Some (Alone s)) (lines.Done session m t) own h = absurd (h.1.1)
+
+-- low's own lines lead from here to there, with other lines between them, and this is said
+abbrev LowLeads : Lows → List Line → Lows → List Said → Type 0
+LowLeads start [] end said = (start ≡ end) × (said ≡ [])
+LowLeads start (line ∷ later) end said =
+    (r s : Option Begun) × (first : List Event) × (second : List Said)
+    × (start ≡ lows r) × (is_lows line ≡ true) × Leads r line s first × LowLeads (lows s) later end second
+    × (said ≡ said_to_low first ++ second)
+
+from : (a b : Lows) (script : List Line) (end : Lows) (said : List Said) → a ≡ b → LowLeads b script end said → LowLeads a script end said
+from a b script end said e h = subst (λ t. LowLeads t script end said) (sym e) h
+
+low_leads : (running : Option Begun) (script : List Line) (after : Option Begun) (printed : List Event)
+    → LeadTo running script after printed → LowLeads (lows running) (low_side_of script) (lows after) (said_to_low printed)
+low_leads running [] after printed h = (sym (ap lows h.0), ap said_to_low h.1)
+low_leads running (line ∷ script) after printed (mid, first, second, h, later, e) =
+    elim (is_lows line) as (λ b. is_lows line ≡ b → LowLeads (lows running) (if b then line ∷ low_side_of script else low_side_of script) (lows after) (said_to_low printed)) [
+      | true ↦ λ own. (running, mid, first, said_to_low second, refl, own, h, low_leads mid script after second later, ap said_to_low e ∙ said-append first second)
+      | false ↦ λ own.
+          let a = leads_aside running line mid first own h in
+          let said : said_to_low printed ≡ said_to_low second = ap said_to_low e ∙ said-append first second ∙ ap (λ l. l ++ said_to_low second) a.said in
+          subst (LowLeads (lows running) (low_side_of script) (lows after)) (sym said)
+          (from (lows running) (lows mid) (low_side_of script) (lows after) (said_to_low second) a.same (low_leads mid script after second later))
+    ] refl
+
+-- ---- the full moments are moments of the looks ----
+
+-- no low look of these lines is at m
+abbrev IsFree : ℕ → List Line → Type 0
+IsFree m script = AllByRecursion (λ n. m ≢ n) (filter_map look_moment script)
+
+-- .. and none of these is a full moment
+abbrev IsUnsaid : ℕ → List Said → Type 0
+IsUnsaid m said = AllByRecursion (λ n. m ≢ n) (filter_map full_said said)
+
+-- each full moment is that of a look
+abbrev IsFrom : List Line → List Said → Type 0
+IsFrom script said = (m : ℕ) → IsFree m script → IsUnsaid m said
+
+record Free (P : ℕ → Type 0) (o : Option ℕ) (rest : List ℕ) : Type 0 where
+  head : (k : ℕ) → o ≡ Some k → P k
+  tail : AllByRecursion P rest
+
+freed : (P : ℕ → Type 0) (o : Option ℕ) (rest : List ℕ) → AllByRecursion P (cons_option o rest) → Free P o rest
+freed P None rest h = record { head = λ k e. absurd (cc); tail = h }
+freed P (Some j) rest h = record { head = λ k e. subst P (let f : j ≡ k = cc in f) h.0; tail = h.1 }
+
+all_append : (P : ℕ → Type 0) (xs ys : List ℕ) → AllByRecursion P xs → AllByRecursion P ys → AllByRecursion P (xs ++ ys)
+all_append P [] ys h k = k
+all_append P (x ∷ xs) ys h k = (h.0, all_append P xs ys h.1 k)
+
+unsaid_by : (m k : ℕ) (f : Feedback) → m ≢ k → IsUnsaid m (said_by k f)
+unsaid_by m k Quiet off = tt
+unsaid_by m k Full off = (off, tt)
+unsaid_by m k (Passed s) off = tt
+unsaid_by m k Released off = tt
+unsaid_by m k (Repeat s) off = tt
+
+unsaid_so : (m k : ℕ) (f : Feedback) (printed : List Event) → said_to_low printed ≡ said_by k f → m ≢ k → IsUnsaid m (said_to_low printed)
+unsaid_so m k f printed e off = subst (IsUnsaid m) (sym e) (unsaid_by m k f off)
+
+unsaid_none : (m : ℕ) (printed : List Event) → printed ≡ [] → IsUnsaid m (said_to_low printed)
+unsaid_none m printed e = subst (λ l. IsUnsaid m (said_to_low l)) (sym e) tt
+
+unsaid_look : (row : SessionRow) (p : Past) (x : Look) (q : Past) (printed : List Event) (m : ℕ) → IsLook row p x q printed → m ≢ x.moment → IsUnsaid m (said_to_low printed)
+unsaid_look row p x q printed m i off = unsaid_so m x.moment x.feedback printed (ap said_to_low i.printed_is ∙ said_of_look row.id x.moment _ x.feedback i.new) off
+
+unsaid_told : (row : SessionRow) (p : LowPast) (told : ToldFeedback) (x : Look) (q : LowPast) (printed : List Event) (m : ℕ) → IsToldLook row p told x q printed → m ≢ x.moment → IsUnsaid m (said_to_low printed)
+unsaid_told row p told x q printed m i off = unsaid_so m x.moment x.feedback printed (ap said_to_low i.printed_is ∙ said_of_look row.id x.moment _ x.feedback i.new) off
+
+unsaid : (r : Option Begun) (line : Line) (s : Option Begun) (printed : List Event) (m : ℕ) → is_lows line ≡ true
+    → Leads r line s printed → ((k : ℕ) → look_moment line ≡ Some k → m ≢ k) → IsUnsaid m (said_to_low printed)
+unsaid None (lines.Session row) s printed m own h off = unsaid_none m printed h.1
+unsaid None (lines.LowSession row next held) s printed m own h off = unsaid_none m printed h.1
+unsaid None (lines.Look session k w z) s printed m own h off = absurd h
+unsaid None (lines.Told session k w fault told z) s printed m own h off = absurd h
+unsaid None (lines.Gone session k) s printed m own h off = absurd h
+unsaid (Some (Whole t)) (lines.Look session k w z) s printed m own (timely, (q, (c, comes, (few, (f, i))), e)) off = unsaid_look t.row (joined t.past c) _ q printed m i (off k refl)
+unsaid (Some (Whole t)) (lines.Gone session k) s printed m own (timely, (q, (f, i), e)) off = unsaid_look t.row (lost t.past) _ q printed m i (off k refl)
+unsaid (Some (Whole t)) (lines.Told session k w fault told z) s printed m own h off = absurd (h.1.1)
+unsaid (Some (Whole t)) (lines.Session row) s printed m own h off = absurd (h.1.1)
+unsaid (Some (Whole t)) (lines.LowSession row next held) s printed m own h off = absurd (h.1.1)
+unsaid (Some (Alone t)) (lines.Told session k w fault told z) s printed m own (timely, (q, (c, comes, (few, (f, i))), e)) off = unsaid_told t.row _ told _ q printed m i (off k refl)
+unsaid (Some (Alone t)) (lines.Gone session k) s printed m own (timely, (q, (f, i), e)) off = unsaid_told t.row _ _ _ q printed m i (off k refl)
+unsaid (Some (Alone t)) (lines.Look session k w z) s printed m own h off = absurd (h.1.1)
+unsaid (Some (Alone t)) (lines.Session row) s printed m own h off = absurd (h.1.1)
+unsaid (Some (Alone t)) (lines.LowSession row next held) s printed m own h off = absurd (h.1.1)
+unsaid r lines.Skip s printed m own h off = absurd (cc)
+unsaid r (lines.High session k) s printed m own h off = absurd (cc)
+unsaid r (lines.Carry session back) s printed m own h off = absurd (cc)
+unsaid r (lines.Return session k back) s printed m own h off = absurd (cc)
+unsaid r (lines.Done session k t) s printed m own h off = absurd (cc)
+
+low_from : (a : Lows) (script : List Line) (b : Lows) (said : List Said) → LowLeads a script b said → IsFrom script said
+low_from a [] b said h m free = subst (IsUnsaid m) (sym h.1) tt
+low_from a (line ∷ script) b said (r, s, first, second, e, own, h, later, is) m free =
+    let f = freed (λ n. m ≢ n) (look_moment line) (filter_map look_moment script) free in
+    let here = unsaid r line s first m own h f.head in
+    let there = low_from (lows s) script b second later m f.tail in
+    subst (IsUnsaid m) (sym is)
+    (subst (AllByRecursion (λ n. m ≢ n)) (sym (filter_map-append full_said (said_to_low first) second))
+    (all_append (λ n. m ≢ n) (filter_map full_said (said_to_low first)) (filter_map full_said second) here there))
+
+-- ---- two scripts ----
+
+looks_self : (xs : List Look) → SameLooks xs xs
+looks_self [] = tt
+looks_self (x ∷ xs) = (record { moment = refl; word = refl; arrival = refl; outcome = refl; feedback = refl }, looks_self xs)
+
+lives_self : (ls : List Life) → SameLives ls ls
+lives_self [] = tt
+lives_self (l ∷ ls) = (record { opening = refl; looks = looks_self l.looks }, lives_self ls)
+
+self : (l : Lows) → AlikeFor l l
+self Nobody = tt
+self (Whole' row p) = (refl, record { history = lives_self (p.history.life ∷ p.history.earlier); waits = refl; broken = refl; reading = refl })
+self (Alone' s) = refl
+
+record Both (m n : Lows) (xs ys : List Event) : Type 0 where
+  alike : AlikeFor m n
+  said : said_to_low xs ≡ said_to_low ys
+
+-- a line in one session
+one_session : (r s r' s' : Option Begun) (line : Line) (xs ys : List Event) → r ≡ s
+    → Leads r line r' xs → Leads s line s' ys → Both (lows r') (lows s') xs ys
+one_session r s r' s' line xs ys same h k =
+    let one = leads_one r line r' s' xs ys h (subst (λ t. Leads t line s' ys) (sym same) k) in
+    record { alike = subst (λ t. AlikeFor (lows r') (lows t)) one.after (self (lows r')); said = ap said_to_low one.printed }
+
+goes_of : (s : Begun) (line : Line) (after : Option Begun) (printed : List Event) → is_lows line ≡ true → Leads (Some s) line after printed → GoesOn s line after printed
+goes_of s lines.Skip after printed own h = absurd (cc)
+goes_of s (lines.Session row) after printed own h = h
+goes_of s (lines.LowSession row next held) after printed own h = h
+goes_of s (lines.Look session m w z) after printed own h = h
+goes_of s (lines.Told session m w fault told z) after printed own h = h
+goes_of s (lines.Gone session m) after printed own h = h
+goes_of s (lines.High session m) after printed own h = absurd (cc)
+goes_of s (lines.Carry session back) after printed own h = absurd (cc)
+goes_of s (lines.Return session m back) after printed own h = absurd (cc)
+goes_of s (lines.Done session m t) after printed own h = absurd (cc)
+
+-- a line in two whole sessions
+whole_sessions : (s t : Running) (r' s' : Option Begun) (line : Line) (xs ys : List Event) → is_lows line ≡ true
+    → AlikeFor (lows (Some (Whole s))) (lows (Some (Whole t))) → Goes s line r' xs → Goes t line s' ys
+    → DecidedAt line xs ys → Both (lows r') (lows s') xs ys
+whole_sessions s t r' s' line xs ys own (row, alike) (timely, (p', h, e)) (timely', (q', k, f)) decide =
+    let both = step_alike s.row s.past t.past line p' q' xs ys own alike h (subst (λ u. Step u t.past line q' ys) (sym row) k) decide in
+    record {
+      alike = subst (λ (u : Option Begun × Option Begun). AlikeFor (lows u.0) (lows u.1)) (λ i. (sym e i, sym f i)) (row, both.alike);
+      said = both.said;
+    }
+
+line_alike : (r s r' s' : Option Begun) (line : Line) (xs ys : List Event) → is_lows line ≡ true
+    → AlikeFor (lows r) (lows s) → Leads r line r' xs → Leads s line s' ys → DecidedAt line xs ys → Both (lows r') (lows s') xs ys
+line_alike None None r' s' line xs ys own alike h k decide = one_session None None r' s' line xs ys refl h k
+line_alike (Some (Whole s)) (Some (Whole t)) r' s' line xs ys own alike h k decide =
+    whole_sessions s t r' s' line xs ys own alike (goes_of (Whole s) line r' xs own h) (goes_of (Whole t) line s' ys own k) decide
+line_alike (Some (Alone s)) (Some (Alone t)) r' s' line xs ys own alike h k decide =
+    one_session (Some (Alone s)) (Some (Alone t)) r' s' line xs ys (ap (λ u. Some (Alone u)) alike) h k
+line_alike None (Some (Whole t)) r' s' line xs ys own alike h k decide = absurd alike
+line_alike None (Some (Alone t)) r' s' line xs ys own alike h k decide = absurd alike
+line_alike (Some (Whole s)) None r' s' line xs ys own alike h k decide = absurd alike
+line_alike (Some (Alone s)) None r' s' line xs ys own alike h k decide = absurd alike
+line_alike (Some (Whole s)) (Some (Alone t)) r' s' line xs ys own alike h k decide = absurd alike
+line_alike (Some (Alone s)) (Some (Whole t)) r' s' line xs ys own alike h k decide = absurd alike
+
+-- how the words to Low are compared: P holds of the lines that are left and of what is said in them
+abbrev Decides : (List Line → List Said → List Said → Type 0) → Type 0
+Decides P = (line : Line) (script : List Line) (m : ℕ) (f g : Feedback) (later more : List Said) → look_moment line ≡ Some m → OneKind f g
+    → IsFrom script later → IsFrom script more → P (line ∷ script) (said_by m f ++ later) (said_by m g ++ more) → uncounted f ≡ uncounted g
+
+abbrev GoesOnBy : (List Line → List Said → List Said → Type 0) → Type 0
+GoesOnBy P = (line : Line) (script : List Line) (first later more : List Said) → P (line ∷ script) (first ++ later) (first ++ more) → P script later more
+
+module _ (P : List Line → List Said → List Said → Type 0) (decides : Decides P) (goes_on : GoesOnBy P) where
+  sides_alike : (a b a' b' : Lows) (script : List Line) (ts us : List Said) → AlikeFor a b
+      → LowLeads a script a' ts → LowLeads b script b' us → P script ts us → AlikeFor a' b'
+  sides_alike a b a' b' [] ts us alike h k p = subst (λ (u : Lows × Lows). AlikeFor u.0 u.1) (λ i. (h.0 i, k.0 i)) alike
+  sides_alike a b a' b' (line ∷ script) ts us alike (r, r', xs, later, from, own, h, hs, e) (s, s', ys, more, from', own', k, ks, f) p =
+      let here : AlikeFor (lows r) (lows s) = subst (λ (u : Lows × Lows). AlikeFor u.0 u.1) (λ i. (from i, from' i)) alike in
+      let now : P (line ∷ script) (said_to_low xs ++ later) (said_to_low ys ++ more) = subst (λ (u : List Said × List Said). P (line ∷ script) u.0 u.1) (λ i. (e i, f i)) p in
+      let lf = low_from (lows r') script a' later hs in
+      let mf = low_from (lows s') script b' more ks in
+      let both = line_alike r s r' s' line xs ys own here h k (λ m at x y kind px py.
+      decides line script m x y later more at kind lf mf (subst (λ (u : List Said × List Said). P (line ∷ script) (u.0 ++ later) (u.1 ++ more)) (λ i. (px i, py i)) now)) in
+      let rest = goes_on line script (said_to_low xs) later more (subst (λ u. P (line ∷ script) (said_to_low xs ++ later) (u ++ more)) (sym both.said) now) in
+      sides_alike (lows r') (lows s') a' b' script later more both.alike hs ks rest
+
+-- sessions that are alike for Low have given the same replies
+replies_alike : (r s : Option Begun) (xs ys : List Sent) → AlikeFor (lows r) (lows s) → Replies r xs → Replies s ys → xs ≡ ys
+replies_alike None None xs ys alike h k = h ∙ sym k
+replies_alike (Some (Whole s)) (Some (Whole t)) xs ys (row, alike) h k =
+    let p = s.past.history in
+    let q = t.past.history in
+    same_lives s.row (p.life ∷ p.earlier) (q.life ∷ q.earlier) xs ys alike.history h (subst (λ u. LowReplies u t.past.history ys) (sym row) k)
+replies_alike (Some (Alone s)) (Some (Alone t)) xs ys alike h k =
+    let p = s.past.history in
+    one_list_of_lives s.row (p.life ∷ p.earlier) xs ys h (subst (λ (u : LowRunning). LowReplies u.row u.past.history ys) (sym alike) k)
+replies_alike None (Some (Whole t)) xs ys alike h k = absurd alike
+replies_alike None (Some (Alone t)) xs ys alike h k = absurd alike
+replies_alike (Some (Whole s)) None xs ys alike h k = absurd alike
+replies_alike (Some (Alone s)) None xs ys alike h k = absurd alike
+replies_alike (Some (Whole s)) (Some (Alone t)) xs ys alike h k = absurd alike
+replies_alike (Some (Alone s)) (Some (Whole t)) xs ys alike h k = absurd alike
+
+-- the end of a script says nothing of Low
+record IsStill (printed : List Event) : Type 0 where
+  said : said_to_low printed ≡ []
+  low : low_lines printed ≡ []
+
+ends_still : (r : Option Begun) (printed : List Event) → Ends r printed → IsStill printed
+ends_still None printed e = record { said = ap said_to_low e; low = ap low_lines e }
+ends_still (Some (Whole s)) printed e = record { said = ap said_to_low e; low = ap low_lines e }
+ends_still (Some (Alone s)) printed (event, (parts, cut, is), e) =
+    let f : printed ≡ End s.row.id (count_after s.past.history.life.opening parts) None ∷ [] = e ∙ ap (λ (x : Event). x ∷ []) is in
+    record { said = ap said_to_low f; low = ap low_lines f }
+
+module _ (P : List Line → List Said → List Said → Type 0) (decides : Decides P) (goes_on : GoesOnBy P) where
+  -- lines so far
+  leads_alike : (script other : List Line) (r s : Option Begun) (xs ys : List Event)
+      → LeadTo None script r xs → LeadTo None other s ys
+      → low_side_of script ≡ low_side_of other → P (low_side_of script) (said_to_low xs) (said_to_low ys) → low_lines xs ≡ low_lines ys
+  leads_alike script other r s xs ys h k same p =
+      let a = low_leads None script r xs h in
+      let b = subst (λ l. LowLeads Nobody l (lows s) (said_to_low ys)) (sym same) (low_leads None other s ys k) in
+      replies_alike r s (low_lines xs) (low_lines ys)
+      (sides_alike P decides goes_on Nobody Nobody (lows r) (lows s) (low_side_of script) (said_to_low xs) (said_to_low ys) tt a b p)
+      (lead_so None script r xs [] h refl) (lead_so None other s ys [] k refl)
+
+  transcripts_alike : (script other : List Line) (xs ys : List Event) → IsTranscript script xs → IsTranscript other ys
+      → low_side_of script ≡ low_side_of other → P (low_side_of script) (said_to_low xs) (said_to_low ys) → low_lines xs ≡ low_lines ys
+  transcripts_alike script other xs ys (r, a, last, h, end, e) (s, b, last', k, end', f) same p =
+      let x = ends_still r last end in
+      let y = ends_still s last' end' in
+      let tx : said_to_low xs ≡ said_to_low a = ap said_to_low e ∙ said-append a last ∙ ap (λ l. said_to_low a ++ l) x.said ∙ append-nil (said_to_low a) in
+      let ty : said_to_low ys ≡ said_to_low b = ap said_to_low f ∙ said-append b last' ∙ ap (λ l. said_to_low b ++ l) y.said ∙ append-nil (said_to_low b) in
+      let lx : low_lines xs ≡ low_lines a = ap low_lines e ∙ low-append a last ∙ ap (λ l. low_lines a ++ l) x.low ∙ append-nil (low_lines a) in
+      let ly : low_lines ys ≡ low_lines b = ap low_lines f ∙ low-append b last' ∙ ap (λ l. low_lines b ++ l) y.low ∙ append-nil (low_lines b) in
+      lx ∙ leads_alike script other r s a b h k same (subst (λ (u : List Said × List Said). P (low_side_of script) u.0 u.1) (λ i. (tx i, ty i)) p) ∙ sym ly
+
+cancel : {X : Type 0} (ts later more : List X) → ts ++ later ≡ ts ++ more → later ≡ more
+cancel [] later more e = e
+cancel (t ∷ ts) later more e = cancel ts later more (let f : ts ++ later ≡ ts ++ more = cc in f)
+
+-- ---- the first law: all that is told, in order ----
+
+abbrev SameTold : List Line → List Said → List Said → Type 0
+SameTold script ts us = map plain ts ≡ map plain us
+
+told_decides : Decides SameTold
+told_decides line script m f g later more at kind lf mf p = one_told f g m later more kind p
+
+told_goes_on : GoesOnBy SameTold
+told_goes_on line script first later more p =
+    cancel (map plain first) (map plain later) (map plain more) (sym (map-append first later) ∙ p ∙ map-append first more)
+
+pub same_told : (script other : List Line) (xs ys : List Event) → IsTranscript script xs → IsTranscript other ys
+    → low_side_of script ≡ low_side_of other → told_to_low xs ≡ told_to_low ys → low_lines xs ≡ low_lines ys
+same_told script other xs ys h k same told =
+    transcripts_alike SameTold told_decides told_goes_on script other xs ys h k same (sym (told_is_said xs) ∙ told ∙ told_is_said ys)
+
+pub same_told_so_far : (script other : List Line) (r s : Option Begun) (xs ys : List Event) → LeadTo None script r xs → LeadTo None other s ys
+    → low_side_of script ≡ low_side_of other → told_to_low xs ≡ told_to_low ys → low_lines xs ≡ low_lines ys
+same_told_so_far script other r s xs ys h k same told =
+    leads_alike SameTold told_decides told_goes_on script other r s xs ys h k same (sym (told_is_said xs) ∙ told ∙ told_is_said ys)
+
+pub same_but_high : (before highs others later : List Line) (xs ys : List Event)
+    → low_side_of highs ≡ [] → low_side_of others ≡ []
+    → IsTranscript (before ++ (highs ++ later)) xs → IsTranscript (before ++ (others ++ later)) ys
+    → told_to_low xs ≡ told_to_low ys → low_lines xs ≡ low_lines ys
+same_but_high before highs others later xs ys e f h k told =
+    same_told (before ++ (highs ++ later)) (before ++ (others ++ later)) xs ys h k (split highs ∙ ap (λ l. low_side_of before ++ (l ++ low_side_of later)) (e ∙ sym f) ∙ sym (split others)) told
+  where
+    split : (mid : List Line) → low_side_of (before ++ (mid ++ later)) ≡ low_side_of before ++ (low_side_of mid ++ low_side_of later)
+    split mid = filter-append is_lows before (mid ++ later) ∙ ap (λ l. low_side_of before ++ l) (filter-append is_lows mid later)
+
+-- ---- the second law: full moments and averages ----
+
+pairs_tail : {X : Type 0} (R : X → X → Type 0) (x : X) (xs : List X) → AllPairs R (x ∷ xs) → AllPairs R xs
+pairs_tail R x xs h = λ i j d less within. h (suc i) (suc j) d (omega arith) (omega arith)
+
+all_by : {X : Type 0} (P : X → Type 0) (xs : List X) → All P xs → AllByRecursion P xs
+all_by P [] h = tt
+all_by P (x ∷ xs) h = (h 0 x (omega arith), all_by P xs (All-tail P x xs h))
+
+pairs_head : {X : Type 0} (R : X → X → Type 0) (x : X) (xs : List X) → AllPairs R (x ∷ xs) → AllByRecursion (R x) xs
+pairs_head R x xs h = all_by (R x) xs (λ k d within. h 0 (suc k) d (omega arith) (omega arith))
+
+abbrev AreApart : List ℕ → Type 0
+AreApart moments = AllPairs (λ a b. a ≢ b) moments
+
+-- the moment of the first line, if it has one, is none of the others, which are apart
+record Apart (o : Option ℕ) (rest : List ℕ) : Type 0 where
+  head : (m : ℕ) → o ≡ Some m → AllByRecursion (λ n. m ≢ n) rest
+  tail : AreApart rest
+
+apart : (o : Option ℕ) (rest : List ℕ) → AreApart (cons_option o rest) → Apart o rest
+apart None rest h = record { head = λ m e. absurd (cc); tail = h }
+apart (Some k) rest h = record {
+  head = λ m e. subst (λ j. AllByRecursion (λ n. j ≢ n) rest) (let f : k ≡ m = cc in f) (pairs_head (λ a b. a ≢ b) k rest h);
+  tail = pairs_tail (λ a b. a ≢ b) k rest h;
+}
+
+record SameFull (script : List Line) (ts us : List Said) : Type 0 where
+  own : HaveOwnMoments script
+  full : filter_map full_said ts ≡ filter_map full_said us
+  average : filter_map average_said ts ≡ filter_map average_said us
+
+full_decides : Decides SameFull
+full_decides line script m f g later more at kind lf mf p =
+    let free = (apart (look_moment line) (filter_map look_moment script) p.own).head m at in
+    one_full f g m later more kind (lf m free) (mf m free) p.full p.average
+
+chosen_goes_on : (h : Said → Option ℕ) (first later more : List Said) → filter_map h (first ++ later) ≡ filter_map h (first ++ more) → filter_map h later ≡ filter_map h more
+chosen_goes_on h first later more e =
+    cancel (filter_map h first) (filter_map h later) (filter_map h more) (sym (filter_map-append h first later) ∙ e ∙ filter_map-append h first more)
+
+full_goes_on : GoesOnBy SameFull
+full_goes_on line script first later more p = record {
+  own = (apart (look_moment line) (filter_map look_moment script) p.own).tail;
+  full = chosen_goes_on full_said first later more p.full;
+  average = chosen_goes_on average_said first later more p.average;
+}
+
+pub same_full : (script other : List Line) (xs ys : List Event) → IsTranscript script xs → IsTranscript other ys
+    → low_side_of script ≡ low_side_of other → HaveOwnMoments (low_side_of script)
+    → full_moments xs ≡ full_moments ys → averages xs ≡ averages ys → low_lines xs ≡ low_lines ys
+same_full script other xs ys h k same own full average =
+    transcripts_alike SameFull full_decides full_goes_on script other xs ys h k same (record {
+      own = own;
+      full = sym (full_is_said xs) ∙ full ∙ full_is_said ys;
+      average = sym (average_is_said xs) ∙ average ∙ average_is_said ys;
+    })

@@ -1,0 +1,170 @@
+ghost use Rattle.std.specs.Prelude.{◌≡◌, ◌≢◌, ◌<◌, IfOk};
+ghost use Rattle.std.specs.List.{All};
+ghost use Rattle.pump_frame.specs.Rows.{IsLawfulRow};
+ghost use Rattle.toml.specs.View.{table_view};
+ghost use Rattle.session_table.specs.Rows.{begun, with_number, filled, numbered, row_of, has_id, has_port, placed};
+ghost use Rattle.session_table.specs.Tables.{AreApart};
+
+use crate::TableFault;
+use crate::key::{ROW_KEYS, has_other};
+use crate::value::{name_at, port_at, whole_at};
+use pump_frame::{Name, RowKey, SessionRow};
+use toml::Table as Document;
+
+// A row of these three. Only a whole row can be asked for its ranges, so it begins with some numbers
+// that are in them, which the document's own replace one by one.
+fn begun(id: u32, low: Name, high: Name) -> SessionRow
+    ensures value { result ≡ begun id low high }
+    ensures lawful { IsLawfulRow result }
+{
+    SessionRow {
+        id,
+        low,
+        high,
+        capacity: 3,
+        message: 1,
+        window: 1,
+        start: 0,
+        longest: 0,
+        resend: 1,
+        low_port: 1,
+        high_port: 1,
+    }
+}
+
+fn with_number(row: SessionRow, key: RowKey, number: u32) -> SessionRow
+    ensures { result ≡ with_number row key number }
+{
+    match key {
+        RowKey::Capacity => SessionRow {
+            capacity: number,
+            ..row
+        },
+        RowKey::Message => SessionRow {
+            message: number,
+            ..row
+        },
+        RowKey::Window => SessionRow {
+            window: number,
+            ..row
+        },
+        RowKey::Start => SessionRow {
+            start: number,
+            ..row
+        },
+        RowKey::Longest => SessionRow {
+            longest: number,
+            ..row
+        },
+        RowKey::Resend => SessionRow {
+            resend: number,
+            ..row
+        },
+        _ => row,
+    }
+}
+
+// The row with the document's number at this key, if it is lawful then.
+fn filled(
+    place: u32,
+    document: &Document,
+    key: RowKey,
+    row: SessionRow,
+) -> Result<SessionRow, TableFault>
+    ensures value { result ≡ filled place (table_view document.now) key row }
+    ensures lawful { IfOk result IsLawfulRow }
+{
+    let number = whole_at(place, key, 0, u32::MAX, document)?;
+    let next = with_number(row, key, number);
+    if next.first_bad().is_some() {
+        return Err(TableFault::OutOfRange {
+            row: place,
+            key,
+            value: Some(i64::from(number)),
+        });
+    }
+    Ok(next)
+}
+
+#[tactic(auto, unfolding(crate::specs::Rows::numbered))]
+fn numbered(place: u32, document: &Document, row: SessionRow) -> Result<SessionRow, TableFault>
+    ensures value { result ≡ numbered place (table_view document.now) row }
+    ensures lawful { IfOk result IsLawfulRow }
+{
+    let row = filled(place, document, RowKey::Capacity, row)?;
+    let row = filled(place, document, RowKey::Message, row)?;
+    let row = filled(place, document, RowKey::Window, row)?;
+    let row = filled(place, document, RowKey::Start, row)?;
+    let row = filled(place, document, RowKey::Longest, row)?;
+    filled(place, document, RowKey::Resend, row)
+}
+
+/// The row at this place of a document, counted from 1, by itself: each key is looked at in turn.
+#[tactic(auto, unfolding(crate::specs::Rows::row_of))]
+pub(crate) fn row_of(place: u32, document: &Document) -> Result<SessionRow, TableFault>
+    ensures value { result ≡ row_of place (table_view document.now) }
+    ensures lawful { IfOk result IsLawfulRow }
+    ensures ports { IfOk result (λ row. (0 < row.low_port) × (0 < row.high_port)) }
+{
+    if has_other(&ROW_KEYS, document) {
+        return Err(TableFault::UnknownKey { row: place });
+    }
+    let id = whole_at(place, RowKey::Id, 0, u32::MAX, document)?;
+    let low = name_at(place, RowKey::Low, document)?;
+    let high = name_at(place, RowKey::High, document)?;
+    let row = numbered(place, document, begun(id, low, high))?;
+    let low_port = port_at(place, RowKey::LowPort, document)?;
+    let high_port = port_at(place, RowKey::HighPort, document)?;
+    Ok(SessionRow {
+        low_port,
+        high_port,
+        ..row
+    })
+}
+
+fn has_id(earlier: &[SessionRow], id: u32) -> bool
+    ensures { result ≡ has_id earlier.now id }
+{
+    earlier.iter().any(|row| row.id == id)
+}
+
+fn has_port(earlier: &[SessionRow], port: u16) -> bool
+    ensures { result ≡ has_port earlier.now port }
+{
+    earlier
+        .iter()
+        .any(|row| row.low_port == port || row.high_port == port)
+}
+
+/// A row at this place, if its id and its two ports are its own.
+#[tactic(auto, unfolding(crate::specs::Rows::placed))]
+pub(crate) fn placed(
+    place: u32,
+    earlier: &[SessionRow],
+    row: SessionRow,
+) -> Result<SessionRow, TableFault>
+    ensures value { result ≡ placed place earlier.now row }
+    ensures same { IfOk result (λ next. next ≡ row) }
+    ensures two_ports { IfOk result (λ next. next.low_port ≢ next.high_port) }
+    ensures apart { IfOk result (λ next. All (λ a. AreApart a next) earlier.now) }
+{
+    if has_id(earlier, row.id) {
+        return Err(TableFault::TwiceId {
+            row: place,
+            id: row.id,
+        });
+    }
+    if has_port(earlier, row.low_port) {
+        return Err(TableFault::TwicePort {
+            row: place,
+            port: row.low_port,
+        });
+    }
+    if has_port(earlier, row.high_port) || row.high_port == row.low_port {
+        return Err(TableFault::TwicePort {
+            row: place,
+            port: row.high_port,
+        });
+    }
+    Ok(row)
+}

@@ -1,0 +1,364 @@
+use crate::{Table, TableFault};
+use pump_frame::{Name, RowKey, SessionRow};
+use std::alloc::{AllocError, Global};
+use std::test::Fail;
+
+// The example of `docs/formats.md`.
+const FIRST: &str = r#"[[session]]
+id = 1
+low = "weather"
+high = "watch"
+capacity = 3
+message = 8
+window = 2
+start = 20000
+longest = 100000
+resend = 500000
+low_port = 7001
+high_port = 7002
+"#;
+
+// Each number at an end of its range, and the keys in another order.
+const SECOND: &str = r#"[[session]]
+high_port = 0x1b5c
+low_port = 65_535
+resend = 1
+longest = 1_000_000_000
+start = 0
+window = 256
+message = 1024
+capacity = 64
+high = "-"
+low = "a-name-of-thirty-two-bytes-00009"
+id = 4294967295
+"#;
+
+fn is_first(row: &SessionRow) -> bool {
+    (row.id, row.capacity, row.message, row.window) == (1, 3, 8, 2)
+        && (row.start, row.longest, row.resend) == (20000, 100_000, 500_000)
+        && (row.low_port, row.high_port) == (7001, 7002)
+        && row.low.as_slice() == b"weather".as_slice()
+        && row.high.as_slice() == b"watch".as_slice()
+}
+
+fn is_second(row: &SessionRow) -> bool {
+    (row.id, row.capacity, row.message, row.window) == (u32::MAX, 64, 1024, 256)
+        && (row.start, row.longest, row.resend) == (0, 1_000_000_000, 1)
+        && (row.low_port, row.high_port) == (65535, 7004)
+        && row.low.as_slice() == b"a-name-of-thirty-two-bytes-00009".as_slice()
+        && row.high.as_slice() == b"-".as_slice()
+}
+
+#[test]
+fn a_table_has_the_rows_of_its_document(rt: HostRuntime) -> Result<(), Fail> {
+    let text = format!(in rt.alloc(); "{FIRST}{SECOND}")?;
+    let table = Table::read(rt.alloc(), text.as_bytes())
+        .ok()
+        .ok_or("it is refused")?;
+    let [first, second] = table.rows() else {
+        return Err("it has not two rows".into());
+    };
+    assert!(rt; is_first(first) && is_second(second));
+    assert!(rt; table.row(1).is_some_and(|row| is_first(&row)));
+    assert!(rt; table.row(u32::MAX).is_some_and(|row| is_second(&row)));
+    assert!(rt; table.row(2).is_none());
+    let low = Name::from_slice(b"weather").ok_or("low")?;
+    let high = Name::from_slice(b"watch").ok_or("high")?;
+    assert!(rt; table.permits(1, &low, &high));
+    assert!(rt; !table.permits(1, &high, &low) && !table.permits(2, &low, &high));
+    for (document, rows) in [(FIRST, 1), (SECOND, 1), ("session = []", 0)] {
+        let table = Table::read(rt.alloc(), document.as_bytes());
+        assert!(rt;
+            table.is_ok_and(|table| table.rows().len() == rows),
+            "{document}"
+        );
+    }
+    Ok(())
+}
+
+// The refusal of the two rows with one text of theirs changed to another.
+fn refusal(alloc: Global, from: &str, to: &str) -> Result<Option<TableFault>, AllocError> {
+    let text = format!(in alloc; "{FIRST}{SECOND}")?;
+    let changed = text.as_str().replace(alloc, from, to)?;
+    Ok(Table::read(alloc, changed.as_bytes()).err())
+}
+
+fn missing(row: u32, key: RowKey) -> TableFault {
+    TableFault::MissingKey { row, key }
+}
+
+fn outside(row: u32, key: RowKey, value: i64) -> TableFault {
+    TableFault::OutOfRange {
+        row,
+        key,
+        value: Some(value),
+    }
+}
+
+fn no_number(row: u32, key: RowKey) -> TableFault {
+    TableFault::OutOfRange {
+        row,
+        key,
+        value: None,
+    }
+}
+
+fn no_name(row: u32, key: RowKey) -> TableFault {
+    TableFault::Name { row, key }
+}
+
+#[test]
+fn a_row_is_refused_for_the_first_thing_that_is_wrong(rt: HostRuntime) -> Result<(), Fail> {
+    let twice_id = TableFault::TwiceId { row: 2, id: 1 };
+    for (from, to, fault) in [
+        ("id = 1", "id = 1.0", no_number(1, RowKey::Id)),
+        (
+            "4294967295",
+            "4294967296",
+            outside(2, RowKey::Id, 4294967296),
+        ),
+        ("id = 4294967295", "id = 1", twice_id),
+        ("low = \"weather\"\n", "", missing(1, RowKey::Low)),
+        ("\"weather\"", "\"Weather\"", no_name(1, RowKey::Low)),
+        ("\"weather\"", "\"\"", no_name(1, RowKey::Low)),
+        ("00009\"", "000009\"", no_name(2, RowKey::Low)),
+        ("\"watch\"", "7", no_name(1, RowKey::High)),
+        (
+            "capacity = 3\nmessage = 8",
+            "message = 0",
+            missing(1, RowKey::Capacity),
+        ),
+        (
+            "capacity = 3",
+            "capacity = 2",
+            outside(1, RowKey::Capacity, 2),
+        ),
+        (
+            "capacity = 64",
+            "capacity = 65",
+            outside(2, RowKey::Capacity, 65),
+        ),
+        (
+            "capacity = 3",
+            "capacity = -1",
+            outside(1, RowKey::Capacity, -1),
+        ),
+        (
+            "capacity = 3",
+            "capacity = 3.0",
+            no_number(1, RowKey::Capacity),
+        ),
+        (
+            "capacity = 3",
+            "capacity = \"3\"",
+            no_number(1, RowKey::Capacity),
+        ),
+        ("message = 8", "message = 0", outside(1, RowKey::Message, 0)),
+        (
+            "message = 1024",
+            "message = 1025",
+            outside(2, RowKey::Message, 1025),
+        ),
+        (
+            "window = 2\n",
+            "window = 0\n",
+            outside(1, RowKey::Window, 0),
+        ),
+        (
+            "window = 256",
+            "window = 257",
+            outside(2, RowKey::Window, 257),
+        ),
+        (
+            "start = 20000",
+            "start = 1000000001",
+            outside(1, RowKey::Start, 1000000001),
+        ),
+        (
+            "longest = 100000",
+            "longest = 1000000001",
+            outside(1, RowKey::Longest, 1000000001),
+        ),
+        (
+            "resend = 500000",
+            "resend = 0",
+            outside(1, RowKey::Resend, 0),
+        ),
+        (
+            "low_port = 7001",
+            "low_port = 0",
+            outside(1, RowKey::LowPort, 0),
+        ),
+        (
+            "low_port = 7001",
+            "low_port = 65536",
+            outside(1, RowKey::LowPort, 65536),
+        ),
+        ("high_port = 7002\n", "", missing(1, RowKey::HighPort)),
+        (
+            "high_port = 7002",
+            "high_port = 7001",
+            TableFault::TwicePort { row: 1, port: 7001 },
+        ),
+        (
+            "low_port = 65_535",
+            "low_port = 7002",
+            TableFault::TwicePort { row: 2, port: 7002 },
+        ),
+        (
+            "high_port = 0x1b5c",
+            "high_port = 7001",
+            TableFault::TwicePort { row: 2, port: 7001 },
+        ),
+        (
+            "id = 1\n",
+            "identity = 1\n",
+            TableFault::UnknownKey { row: 1 },
+        ),
+        (
+            "resend = 1\n",
+            "coarse = true\n",
+            TableFault::UnknownKey { row: 2 },
+        ),
+        (
+            "capacity = 3",
+            "capacity = 3\ncapacity = 3",
+            TableFault::NotToml,
+        ),
+        (
+            "capacity = 3",
+            "capacity = 9223372036854775808",
+            TableFault::NotToml,
+        ),
+    ] {
+        assert_eq!(rt; refusal(rt.alloc(), from, to)?, Some(fault), "{to}");
+    }
+    let small = FIRST.replace(rt.alloc(), "capacity = 3", "capacity = 2")?;
+    let refused = Table::read(rt.alloc(), small.as_bytes()).err();
+    assert_eq!(rt; refused, Some(outside(1, RowKey::Capacity, 2)));
+    Ok(())
+}
+
+#[test]
+fn a_document_is_refused_for_its_top_level_first(rt: HostRuntime) {
+    let top = no_number(0, RowKey::Session);
+    let few = "session = [{}, {}, {}, {}, {}, {}, {}, {}, {}, {}, {}, {}, {}, {}, {}, {}]";
+    let many = "session = [{}, {}, {}, {}, {}, {}, {}, {}, {}, {}, {}, {}, {}, {}, {}, {}, {}]";
+    let mixed = "session = [{}, {}, {}, {}, {}, {}, {}, {}, {}, {}, {}, {}, {}, {}, {}, {}, 7]";
+    for (document, fault) in [
+        ("", missing(0, RowKey::Session)),
+        ("sessions = []", TableFault::UnknownKey { row: 0 }),
+        ("other = 1\nsession = 7", TableFault::UnknownKey { row: 0 }),
+        ("session = 7", top),
+        ("[session]", top),
+        ("session = [{}, 7]", top),
+        (few, missing(1, RowKey::Id)),
+        (many, TableFault::TooMany { rows: 17 }),
+        (mixed, top),
+        ("session = [", TableFault::NotToml),
+    ] {
+        let refused = Table::read(rt.alloc(), document.as_bytes()).err();
+        assert_eq!(rt; refused, Some(fault), "{document}");
+    }
+    assert_eq!(rt;
+        Table::read(rt.alloc(), b"\xff").err(),
+        Some(TableFault::NotToml)
+    );
+}
+
+#[test]
+fn a_refusal_says_what_to_mend(rt: HostRuntime) -> Result<(), Fail> {
+    let keys =
+        "id, low, high, capacity, message, window, start, longest, resend, low_port and high_port";
+    let unknown = format!(in rt.alloc();
+        "row 3 of the table has a key that is none of {keys}; take it out or mend its name"
+    )?;
+    for (fault, number, row, sentence) in [
+        (
+            TableFault::NotToml,
+            1,
+            0,
+            "the table is no TOML document; mend how it is written, and give no key twice",
+        ),
+        (
+            missing(0, RowKey::Session),
+            2,
+            0,
+            "the table has no session; begin each with a line [[session]]",
+        ),
+        (
+            missing(2, RowKey::Id),
+            2,
+            2,
+            "row 2 of the table has no id; give it a whole number from 0 to 4294967295",
+        ),
+        (
+            missing(1, RowKey::High),
+            2,
+            1,
+            "row 1 of the table has no high; give it a name in quotes, 1 to 32 of a to z, 0 to 9 and -",
+        ),
+        (
+            TableFault::UnknownKey { row: 0 },
+            3,
+            0,
+            "the table has a key at its top level that is not session; take it out or mend its name",
+        ),
+        (TableFault::UnknownKey { row: 3 }, 3, 3, unknown.as_str()),
+        (
+            no_number(0, RowKey::Session),
+            4,
+            0,
+            "session is no array of tables; begin each session of the table with a line [[session]]",
+        ),
+        (
+            outside(1, RowKey::Capacity, 2),
+            4,
+            1,
+            "row 1 of the table has capacity = 2; give it a whole number from 3 to 64",
+        ),
+        (
+            no_number(1, RowKey::LowPort),
+            4,
+            1,
+            "row 1 of the table has no whole number as its low_port; give it a whole number from 1 to 65535",
+        ),
+        (
+            no_name(1, RowKey::Low),
+            5,
+            1,
+            "row 1 of the table has no name as its low; give it a name in quotes, 1 to 32 of a to z, 0 to 9 and -",
+        ),
+        (
+            TableFault::TwiceId { row: 2, id: 7 },
+            6,
+            2,
+            "row 2 of the table has id = 7, as an earlier row has; give it an id of its own",
+        ),
+        (
+            TableFault::TwicePort { row: 2, port: 7001 },
+            7,
+            2,
+            "row 2 of the table has the port 7001, which it or an earlier row has already; give it ports of its own",
+        ),
+        (
+            TableFault::TooMany { rows: 17 },
+            8,
+            0,
+            "the table has 17 rows, and 16 are the most; take the others out",
+        ),
+        (
+            TableFault::Memory,
+            9,
+            0,
+            "there is not enough memory for the table; end other programs and try again",
+        ),
+    ] {
+        assert_eq!(rt; (fault.number(), fault.row()), (number, row), "{sentence}");
+        assert!(rt;
+            fault.to_string(rt.alloc())?.as_str() == sentence,
+            "{fault}"
+        );
+    }
+    Ok(())
+}

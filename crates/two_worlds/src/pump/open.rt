@@ -24,7 +24,7 @@ use high_process::HighProcess;
 use high_receiver::Receiver;
 use low_process::LowProcess;
 use passage::PlainEnds;
-use pump_frame::{Item, OutOfMemory, SessionRow};
+use pump_frame::{Frame, Item, Kind, OutOfMemory, Payload, SessionRow};
 use stable_buffer::{HighStore, LowStore, RECEIVER_SIZE};
 use std::alloc::Global;
 
@@ -86,6 +86,12 @@ impl<D: Disk> Parts<D> {
             receiver: Receiver::over(registers.recv, row, RECEIVER_SIZE),
             sent: memory.sent,
             returned: memory.returned,
+            taken: Frame {
+                kind: Kind::Taken,
+                session: row.id,
+                number: 0,
+                payload: Payload::default(),
+            },
             moment: 0,
         }
     }

@@ -289,99 +289,112 @@ fn a_document_is_refused_for_its_top_level_first(rt: HostRuntime) {
     );
 }
 
+fn says(alloc: Global, fault: TableFault, sentence: &str) -> Result<bool, AllocError> {
+    Ok(fault.to_string(alloc)?.as_str() == sentence)
+}
+
 #[test]
 fn a_refusal_says_what_to_mend(rt: HostRuntime) -> Result<(), Fail> {
-    for (fault, number, row, sentence) in [
-        (
+    let alloc = rt.alloc();
+    let small = outside(1, RowKey::Capacity, 2);
+    assert_eq!(rt; (small.number(), small.row()), (4, 1));
+    assert!(rt;
+        says(
+            alloc,
             TableFault::NotToml,
-            1,
-            0,
-            "the table is no TOML document; mend how it is written, and give no key twice",
-        ),
-        (
+            "the table is no TOML document; mend how it is written, and give no key twice"
+        )?
+    );
+    assert!(rt;
+        says(
+            alloc,
             missing(0, RowKey::Session),
-            2,
-            0,
-            "the table has no session; begin each with a line [[session]]",
-        ),
-        (
+            "the table has no session; begin each with a line [[session]]"
+        )?
+    );
+    assert!(rt;
+        says(
+            alloc,
             missing(2, RowKey::Id),
-            2,
-            2,
-            "row 2 of the table has no id; give it a whole number from 0 to 4294967295",
-        ),
-        (
+            "row 2 of the table has no id; give it a whole number from 0 to 4294967295"
+        )?
+    );
+    assert!(rt;
+        says(
+            alloc,
             missing(1, RowKey::High),
-            2,
-            1,
-            "row 1 of the table has no high; give it a name in quotes, 1 to 32 of a to z, 0 to 9 and -",
-        ),
-        (
+            "row 1 of the table has no high; give it a name in quotes, 1 to 32 of a to z, 0 to 9 and -"
+        )?
+    );
+    assert!(rt;
+        says(
+            alloc,
             TableFault::UnknownKey { row: 0 },
-            3,
-            0,
-            "the table has a key at its top level that is not session; take it out or mend its name",
-        ),
-        (
+            "the table has a key at its top level that is not session; take it out or mend its name"
+        )?
+    );
+    assert!(rt;
+        says(
+            alloc,
             TableFault::UnknownKey { row: 3 },
-            3,
-            3,
-            "row 3 of the table has a key that is none of id, low, high, capacity, message, window, start, longest, resend, low_port and high_port; take it out or mend its name",
-        ),
-        (
+            "row 3 of the table has a key that is none of id, low, high, capacity, message, window, start, longest, resend, low_port and high_port; take it out or mend its name"
+        )?
+    );
+    assert!(rt;
+        says(
+            alloc,
             no_number(0, RowKey::Session),
-            4,
-            0,
-            "session is no array of tables; begin each session of the table with a line [[session]]",
-        ),
-        (
+            "session is no array of tables; begin each session of the table with a line [[session]]"
+        )?
+    );
+    assert!(rt;
+        says(
+            alloc,
             outside(1, RowKey::Capacity, 2),
-            4,
-            1,
-            "row 1 of the table has capacity = 2; give it a whole number from 3 to 64",
-        ),
-        (
+            "row 1 of the table has capacity = 2; give it a whole number from 3 to 64"
+        )?
+    );
+    assert!(rt;
+        says(
+            alloc,
             no_number(1, RowKey::LowPort),
-            4,
-            1,
-            "row 1 of the table has no whole number as its low_port; give it a whole number from 1 to 65535",
-        ),
-        (
+            "row 1 of the table has no whole number as its low_port; give it a whole number from 1 to 65535"
+        )?
+    );
+    assert!(rt;
+        says(
+            alloc,
             no_name(1, RowKey::Low),
-            5,
-            1,
-            "row 1 of the table has no name as its low; give it a name in quotes, 1 to 32 of a to z, 0 to 9 and -",
-        ),
-        (
+            "row 1 of the table has no name as its low; give it a name in quotes, 1 to 32 of a to z, 0 to 9 and -"
+        )?
+    );
+    assert!(rt;
+        says(
+            alloc,
             TableFault::TwiceId { row: 2, id: 7 },
-            6,
-            2,
-            "row 2 of the table has id = 7, as an earlier row has; give it an id of its own",
-        ),
-        (
+            "row 2 of the table has id = 7, as an earlier row has; give it an id of its own"
+        )?
+    );
+    assert!(rt;
+        says(
+            alloc,
             TableFault::TwicePort { row: 2, port: 7001 },
-            7,
-            2,
-            "row 2 of the table has the port 7001, which it or an earlier row has already; give it ports of its own",
-        ),
-        (
+            "row 2 of the table has the port 7001, which it or an earlier row has already; give it ports of its own"
+        )?
+    );
+    assert!(rt;
+        says(
+            alloc,
             TableFault::TooMany { rows: 17 },
-            8,
-            0,
-            "the table has 17 rows, and 16 are the most; take the others out",
-        ),
-        (
+            "the table has 17 rows, and 16 are the most; take the others out"
+        )?
+    );
+    assert!(rt;
+        says(
+            alloc,
             TableFault::Memory,
-            9,
-            0,
-            "there is not enough memory for the table; end other programs and try again",
-        ),
-    ] {
-        assert_eq!(rt; (fault.number(), fault.row()), (number, row), "{sentence}");
-        assert!(rt;
-            fault.to_string(rt.alloc())?.as_str() == sentence,
-            "{fault}"
-        );
-    }
+            "there is not enough memory for the table; end other programs and try again"
+        )?
+    );
     Ok(())
 }

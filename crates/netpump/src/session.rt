@@ -2,7 +2,6 @@
 
 ghost use Rattle.std.specs.Prelude.{◌≡◌, ◌≢◌, [], ◌∷◌, Some, IfOk};
 ghost use Rattle.pump_frame.specs.Rows.{IsLawfulRow};
-ghost use Rattle.stable_buffer.specs.Stands.{low_size};
 ghost use Rattle.script_reader.specs.Lawful.{IsLawfulLine};
 ghost use Rattle.script_reader.specs.Heads.{line_with, CanHoldLine};
 ghost use Rattle.script_reader.specs.Grammar.{IsCount};
@@ -12,25 +11,12 @@ ghost use Rattle.script_reader.specs.Scripts.{Begun, Running, LowRunning, Whole,
 ghost use Rattle.netpump.specs.Sessions.{id_of, IsUp, StandsFor, Applies};
 
 use arrayvec::ArrayVec;
-use disk_model::PlainDisk;
+use disk_model::{PlainDisk, Role};
 use pump_frame::{OutOfMemory, SessionRow};
 use script_reader::{LineHead, Body, Event, Line};
+use stable_buffer::{RECEIVER_SIZE, disk_size};
 use std::alloc::Global;
 use two_worlds::{LowPump, Pump, Stop};
-
-/// The bytes of a high disk.
-const HIGH_SIZE: u64 = 80;
-
-/// The bytes of a receiver's disk.
-const RECEIVER_SIZE: u64 = 16_777_216;
-
-/// The bytes of the low disk of a lawful row.
-fn low_disk_size(row: &SessionRow) -> u64
-    requires lawful { IsLawfulRow row.now }
-    ensures { result ≡ low_size row.now }
-{
-    80 + u64::from(row.capacity) * (2 + u64::from(row.message))
-}
 
 /// A session with its number. All its room was taken when it was opened.
 #[derive(Drop)]
@@ -45,8 +31,8 @@ impl Session {
         requires lawful { IsLawfulRow row.now }
         ensures { IfOk result (λ session. StandsFor session (Whole (record { row = row.now; past = fresh row.now }))) }
     {
-        let low = PlainDisk::new(alloc, low_disk_size(row))?;
-        let high = PlainDisk::new(alloc, HIGH_SIZE)?;
+        let low = PlainDisk::new(alloc, disk_size(row, Role::Low))?;
+        let high = PlainDisk::new(alloc, disk_size(row, Role::High))?;
         let recv = PlainDisk::new(alloc, RECEIVER_SIZE)?;
         match Pump::open(alloc, row, low, high, recv) {
             Ok(pump) => Ok(Session::Whole { id: row.id, pump }),

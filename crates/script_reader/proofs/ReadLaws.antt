@@ -1,5 +1,5 @@
 -- One call of the reader of lines reads no more than it needs.
-use Rattle.std.proofs.Common.{◌≡◌, inl, inr, min, ℕ, ◌+◌, ◌-◌, ◌^◌, ◌≢◌, List, [], ◌∷◌, ◌++◌, Option, Some, length, take, drop, refl, sym, ap, ◌∙◌, subst, append_assoc, append-nil}
+use Rattle.std.proofs.Common.{◌≡◌, inl, inr, min, ℕ, ◌+◌, ◌-◌, ◌^◌, ◌≢◌, List, [], ◌∷◌, ◌++◌, Some, take, refl, sym, ap, ◌∙◌, subst, append_assoc, append-nil}
 use Rattle.std.specs.List.{position}
 use Rattle.pump_link.specs.Tells.{Draws}
 use Rattle.script_reader.specs.declared.lines.Lined.{Lined}

@@ -19,7 +19,7 @@ use low_process::{Answer, Arrival, AskHead, LookHead, LowProcess};
 use pump_core::Seen;
 use pump_frame::{Item, OutOfMemory, Payload, SessionRow};
 use script_reader::{ArrivingHead, LineHead, EventHead, ToldFeedback};
-use stable_buffer::{LowStore, Register, format};
+use stable_buffer::{LowStore, Register, disk_size, format};
 use std::alloc::Global;
 
 /// The low process of a session with its connection and its store.
@@ -31,14 +31,6 @@ pub struct LowParts {
     pub store: LowStore<PlainDisk>,
     /// The moment of the last line that had one.
     pub moment: u64,
-}
-
-/// How many bytes the low disk of a row has.
-fn disk_size(row: &SessionRow) -> u64
-    requires { IsLawfulRow row.now }
-    ensures { result ≡ low_size row.now }
-{
-    80 + u64::from(row.capacity) * (2 + u64::from(row.message))
 }
 
 /// A store with this count on an empty disk.
@@ -138,7 +130,7 @@ impl LowParts {
         ensures stands { IfOk result (λ c. PartsStand c (fresh_low next held)) }
         ensures row { IfOk result (λ c. c.row ≡ row.now) }
     {
-        let disk = PlainDisk::new(alloc, disk_size(row))?;
+        let disk = PlainDisk::new(alloc, disk_size(row, Role::Low))?;
         let store = new_store(disk, row, next);
         let hand = hand_of(next, held);
         let connection = Connection::new(alloc)?;

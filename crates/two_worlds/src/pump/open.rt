@@ -25,14 +25,11 @@ use high_receiver::Receiver;
 use low_process::LowProcess;
 use passage::PlainEnds;
 use pump_frame::{Frame, Item, Kind, OutOfMemory, Payload, SessionRow};
-use stable_buffer::{HighStore, LowStore};
+use stable_buffer::{HighStore, LowStore, RECEIVER_SIZE};
 use std::alloc::Global;
 
 /// How many packets are kept in each direction.
 const PACKETS: usize = 64;
-
-/// The size of the receiver's disk in bytes.
-const RECEIVER_SIZE: u64 = 16_777_216;
 
 // All memory that a pump takes.
 #[derive(Drop)]

@@ -1,4 +1,8 @@
+use crate::TableFault::{NotToml, TooMany, TwiceId, TwicePort, UnknownKey};
 use crate::{Table, TableFault};
+use pump_frame::RowKey::{
+    Capacity, High, HighPort, Id, Longest, Low, LowPort, Message, Resend, Session, Start, Window,
+};
 use pump_frame::{Name, RowKey, SessionRow};
 use std::alloc::{AllocError, Global};
 use std::test::Fail;
@@ -132,161 +136,101 @@ fn no_name(row: u32, key: RowKey) -> TableFault {
 
 #[test]
 fn a_row_is_refused_for_the_first_thing_that_is_wrong(rt: HostRuntime) -> Result<(), Fail> {
-    let twice_id = TableFault::TwiceId { row: 2, id: 1 };
     for (from, to, fault) in [
-        ("id = 1", "id = 1.0", no_number(1, RowKey::Id)),
-        (
-            "4294967295",
-            "4294967296",
-            outside(2, RowKey::Id, 4294967296),
-        ),
-        ("id = 4294967295", "id = 1", twice_id),
-        ("low = \"weather\"\n", "", missing(1, RowKey::Low)),
-        ("\"weather\"", "\"Weather\"", no_name(1, RowKey::Low)),
-        ("\"weather\"", "\"\"", no_name(1, RowKey::Low)),
-        ("00009\"", "000009\"", no_name(2, RowKey::Low)),
-        ("\"watch\"", "7", no_name(1, RowKey::High)),
+        ("id = 1", "id = 1.0", no_number(1, Id)),
+        ("4294967295", "4294967296", outside(2, Id, 4294967296)),
+        ("id = 4294967295", "id = 1", TwiceId { row: 2, id: 1 }),
+        ("low = \"weather\"\n", "", missing(1, Low)),
+        ("\"weather\"", "\"Weather\"", no_name(1, Low)),
+        ("\"weather\"", "\"\"", no_name(1, Low)),
+        ("00009\"", "000009\"", no_name(2, Low)),
+        ("\"watch\"", "7", no_name(1, High)),
         (
             "capacity = 3\nmessage = 8",
             "message = 0",
-            missing(1, RowKey::Capacity),
+            missing(1, Capacity),
         ),
-        (
-            "capacity = 3",
-            "capacity = 2",
-            outside(1, RowKey::Capacity, 2),
-        ),
-        (
-            "capacity = 64",
-            "capacity = 65",
-            outside(2, RowKey::Capacity, 65),
-        ),
-        (
-            "capacity = 3",
-            "capacity = -1",
-            outside(1, RowKey::Capacity, -1),
-        ),
-        (
-            "capacity = 3",
-            "capacity = 3.0",
-            no_number(1, RowKey::Capacity),
-        ),
-        (
-            "capacity = 3",
-            "capacity = \"3\"",
-            no_number(1, RowKey::Capacity),
-        ),
-        ("message = 8", "message = 0", outside(1, RowKey::Message, 0)),
+        ("capacity = 3", "capacity = 2", outside(1, Capacity, 2)),
+        ("capacity = 64", "capacity = 65", outside(2, Capacity, 65)),
+        ("capacity = 3", "capacity = -1", outside(1, Capacity, -1)),
+        ("capacity = 3", "capacity = 3.0", no_number(1, Capacity)),
+        ("capacity = 3", "capacity = \"3\"", no_number(1, Capacity)),
+        ("message = 8", "message = 0", outside(1, Message, 0)),
         (
             "message = 1024",
             "message = 1025",
-            outside(2, RowKey::Message, 1025),
+            outside(2, Message, 1025),
         ),
-        (
-            "window = 2\n",
-            "window = 0\n",
-            outside(1, RowKey::Window, 0),
-        ),
-        (
-            "window = 256",
-            "window = 257",
-            outside(2, RowKey::Window, 257),
-        ),
+        ("window = 2\n", "window = 0\n", outside(1, Window, 0)),
+        ("window = 256", "window = 257", outside(2, Window, 257)),
         (
             "start = 20000",
             "start = 1000000001",
-            outside(1, RowKey::Start, 1000000001),
+            outside(1, Start, 1000000001),
         ),
         (
             "longest = 100000",
             "longest = 1000000001",
-            outside(1, RowKey::Longest, 1000000001),
+            outside(1, Longest, 1000000001),
         ),
-        (
-            "resend = 500000",
-            "resend = 0",
-            outside(1, RowKey::Resend, 0),
-        ),
-        (
-            "low_port = 7001",
-            "low_port = 0",
-            outside(1, RowKey::LowPort, 0),
-        ),
+        ("resend = 500000", "resend = 0", outside(1, Resend, 0)),
+        ("low_port = 7001", "low_port = 0", outside(1, LowPort, 0)),
         (
             "low_port = 7001",
             "low_port = 65536",
-            outside(1, RowKey::LowPort, 65536),
+            outside(1, LowPort, 65536),
         ),
-        ("high_port = 7002\n", "", missing(1, RowKey::HighPort)),
+        ("high_port = 7002\n", "", missing(1, HighPort)),
         (
             "high_port = 7002",
             "high_port = 7001",
-            TableFault::TwicePort { row: 1, port: 7001 },
+            TwicePort { row: 1, port: 7001 },
         ),
         (
             "low_port = 65_535",
             "low_port = 7002",
-            TableFault::TwicePort { row: 2, port: 7002 },
+            TwicePort { row: 2, port: 7002 },
         ),
         (
             "high_port = 0x1b5c",
             "high_port = 7001",
-            TableFault::TwicePort { row: 2, port: 7001 },
+            TwicePort { row: 2, port: 7001 },
         ),
-        (
-            "id = 1\n",
-            "identity = 1\n",
-            TableFault::UnknownKey { row: 1 },
-        ),
-        (
-            "resend = 1\n",
-            "coarse = true\n",
-            TableFault::UnknownKey { row: 2 },
-        ),
-        (
-            "capacity = 3",
-            "capacity = 3\ncapacity = 3",
-            TableFault::NotToml,
-        ),
-        (
-            "capacity = 3",
-            "capacity = 9223372036854775808",
-            TableFault::NotToml,
-        ),
+        ("id = 1\n", "identity = 1\n", UnknownKey { row: 1 }),
+        ("resend = 1\n", "coarse = true\n", UnknownKey { row: 2 }),
+        ("capacity = 3", "capacity = 3\ncapacity = 3", NotToml),
+        ("capacity = 3", "capacity = 9223372036854775808", NotToml),
     ] {
         assert_eq!(rt; changed(rt.alloc(), from, to)?.err(), Some(fault), "{to}");
     }
     let small = FIRST.replace(rt.alloc(), "capacity = 3", "capacity = 2")?;
     let refused = Table::read(rt.alloc(), small.as_bytes()).err();
-    assert_eq!(rt; refused, Some(outside(1, RowKey::Capacity, 2)));
+    assert_eq!(rt; refused, Some(outside(1, Capacity, 2)));
     Ok(())
 }
 
 #[test]
 fn a_document_is_refused_for_its_top_level_first(rt: HostRuntime) {
-    let top = no_number(0, RowKey::Session);
+    let top = no_number(0, Session);
     let few = "session = [{}, {}, {}, {}, {}, {}, {}, {}, {}, {}, {}, {}, {}, {}, {}, {}]";
     let many = "session = [{}, {}, {}, {}, {}, {}, {}, {}, {}, {}, {}, {}, {}, {}, {}, {}, {}]";
     let mixed = "session = [{}, {}, {}, {}, {}, {}, {}, {}, {}, {}, {}, {}, {}, {}, {}, {}, 7]";
     for (document, fault) in [
-        ("", missing(0, RowKey::Session)),
-        ("sessions = []", TableFault::UnknownKey { row: 0 }),
-        ("other = 1\nsession = 7", TableFault::UnknownKey { row: 0 }),
+        ("", missing(0, Session)),
+        ("sessions = []", UnknownKey { row: 0 }),
+        ("other = 1\nsession = 7", UnknownKey { row: 0 }),
         ("session = 7", top),
         ("[session]", top),
         ("session = [{}, 7]", top),
-        (few, missing(1, RowKey::Id)),
-        (many, TableFault::TooMany { rows: 17 }),
+        (few, missing(1, Id)),
+        (many, TooMany { rows: 17 }),
         (mixed, top),
-        ("session = [", TableFault::NotToml),
+        ("session = [", NotToml),
     ] {
         let refused = Table::read(rt.alloc(), document.as_bytes()).err();
         assert_eq!(rt; refused, Some(fault), "{document}");
     }
-    assert_eq!(rt;
-        Table::read(rt.alloc(), b"\xff").err(),
-        Some(TableFault::NotToml)
-    );
+    assert_eq!(rt; Table::read(rt.alloc(), b"\xff").err(), Some(NotToml));
 }
 
 fn says(alloc: Global, fault: TableFault, sentence: &str) -> Result<bool, AllocError> {
@@ -296,96 +240,96 @@ fn says(alloc: Global, fault: TableFault, sentence: &str) -> Result<bool, AllocE
 #[test]
 fn a_refusal_says_what_to_mend(rt: HostRuntime) -> Result<(), Fail> {
     let alloc = rt.alloc();
-    let small = outside(1, RowKey::Capacity, 2);
+    let small = outside(1, Capacity, 2);
     assert_eq!(rt; (small.number(), small.row()), (4, 1));
     assert!(rt;
         says(
             alloc,
-            TableFault::NotToml,
+            NotToml,
             "the table is no TOML document; mend how it is written, and give no key twice"
         )?
     );
     assert!(rt;
         says(
             alloc,
-            missing(0, RowKey::Session),
+            missing(0, Session),
             "the table has no session; begin each with a line [[session]]"
         )?
     );
     assert!(rt;
         says(
             alloc,
-            missing(2, RowKey::Id),
+            missing(2, Id),
             "row 2 of the table has no id; give it a whole number from 0 to 4294967295"
         )?
     );
     assert!(rt;
         says(
             alloc,
-            missing(1, RowKey::High),
+            missing(1, High),
             "row 1 of the table has no high; give it a name in quotes, 1 to 32 of a to z, 0 to 9 and -"
         )?
     );
     assert!(rt;
         says(
             alloc,
-            TableFault::UnknownKey { row: 0 },
+            UnknownKey { row: 0 },
             "the table has a key at its top level that is not session; take it out or mend its name"
         )?
     );
     assert!(rt;
         says(
             alloc,
-            TableFault::UnknownKey { row: 3 },
+            UnknownKey { row: 3 },
             "row 3 of the table has a key that is none of id, low, high, capacity, message, window, start, longest, resend, low_port and high_port; take it out or mend its name"
         )?
     );
     assert!(rt;
         says(
             alloc,
-            no_number(0, RowKey::Session),
+            no_number(0, Session),
             "session is no array of tables; begin each session of the table with a line [[session]]"
         )?
     );
     assert!(rt;
         says(
             alloc,
-            outside(1, RowKey::Capacity, 2),
+            outside(1, Capacity, 2),
             "row 1 of the table has capacity = 2; give it a whole number from 3 to 64"
         )?
     );
     assert!(rt;
         says(
             alloc,
-            no_number(1, RowKey::LowPort),
+            no_number(1, LowPort),
             "row 1 of the table has no whole number as its low_port; give it a whole number from 1 to 65535"
         )?
     );
     assert!(rt;
         says(
             alloc,
-            no_name(1, RowKey::Low),
+            no_name(1, Low),
             "row 1 of the table has no name as its low; give it a name in quotes, 1 to 32 of a to z, 0 to 9 and -"
         )?
     );
     assert!(rt;
         says(
             alloc,
-            TableFault::TwiceId { row: 2, id: 7 },
+            TwiceId { row: 2, id: 7 },
             "row 2 of the table has id = 7, as an earlier row has; give it an id of its own"
         )?
     );
     assert!(rt;
         says(
             alloc,
-            TableFault::TwicePort { row: 2, port: 7001 },
+            TwicePort { row: 2, port: 7001 },
             "row 2 of the table has the port 7001, which it or an earlier row has already; give it ports of its own"
         )?
     );
     assert!(rt;
         says(
             alloc,
-            TableFault::TooMany { rows: 17 },
+            TooMany { rows: 17 },
             "the table has 17 rows, and 16 are the most; take the others out"
         )?
     );

@@ -35,8 +35,8 @@ crowded_steps s p (lines.Carry session back) q printed h k = h
 crowded_steps s p (lines.Return session m back) q printed h k = h
 crowded_steps s p (lines.Done session m t) q printed h k = h
 
-barred_goes : (s : Running) (line : Line) (mid : Option Begun) (printed : List Event) → IsRefusedWhole s.row s.past line → Goes s line mid printed → ⊥
-barred_goes s line mid printed h (timely, (q, step, e)) =
+refused_goes : (s : Running) (line : Line) (mid : Option Begun) (printed : List Event) → IsRefusedWhole s.row s.past line → Goes s line mid printed → ⊥
+refused_goes s line mid printed h (timely, (q, step, e)) =
     elim h [ inl late ↦ both_ways _ late timely | inr crowded ↦ crowded_steps s.row s.past line q printed crowded step ]
 
 crowded_low : (s : SessionRow) (p : LowPast) (line : Line) (q : LowPast) (printed : List Event) → IsCrowdedLow p line → StepLow s p line false q printed → ⊥
@@ -53,8 +53,8 @@ crowded_low s p (lines.Carry session back) q printed h k = h
 crowded_low s p (lines.Return session m back) q printed h k = h
 crowded_low s p (lines.Done session m t) q printed h k = h
 
-barred_low : (s : LowRunning) (line : Line) (mid : Option Begun) (printed : List Event) → IsRefusedAlone s.row s.past line → GoesLow s line mid printed → ⊥
-barred_low s line mid printed h (timely, (q, step, e)) =
+refused_low : (s : LowRunning) (line : Line) (mid : Option Begun) (printed : List Event) → IsRefusedAlone s.row s.past line → GoesLow s line mid printed → ⊥
+refused_low s line mid printed h (timely, (q, step, e)) =
     elim h [ inl late ↦ both_ways _ late timely | inr crowded ↦ crowded_low s.row s.past line q printed crowded step ]
 
 -- a line that can't be applied leads nowhere
@@ -69,24 +69,24 @@ refused_leads None (lines.High session m) mid printed r h = absurd h
 refused_leads None (lines.Carry session back) mid printed r h = absurd h
 refused_leads None (lines.Return session m back) mid printed r h = absurd h
 refused_leads None (lines.Done session m t) mid printed r h = absurd h
-refused_leads (Some (Whole s)) (lines.Session row) mid printed r h = barred_goes s (lines.Session row) mid printed r h
-refused_leads (Some (Whole s)) (lines.LowSession row next held) mid printed r h = barred_goes s (lines.LowSession row next held) mid printed r h
-refused_leads (Some (Whole s)) (lines.Look session m w z) mid printed r h = barred_goes s (lines.Look session m w z) mid printed r h
-refused_leads (Some (Whole s)) (lines.Told session m w fault told z) mid printed r h = barred_goes s (lines.Told session m w fault told z) mid printed r h
-refused_leads (Some (Whole s)) (lines.Gone session m) mid printed r h = barred_goes s (lines.Gone session m) mid printed r h
-refused_leads (Some (Whole s)) (lines.High session m) mid printed r h = barred_goes s (lines.High session m) mid printed r h
-refused_leads (Some (Whole s)) (lines.Carry session back) mid printed r h = barred_goes s (lines.Carry session back) mid printed r h
-refused_leads (Some (Whole s)) (lines.Return session m back) mid printed r h = barred_goes s (lines.Return session m back) mid printed r h
-refused_leads (Some (Whole s)) (lines.Done session m t) mid printed r h = barred_goes s (lines.Done session m t) mid printed r h
-refused_leads (Some (Alone s)) (lines.Session row) mid printed r h = barred_low s (lines.Session row) mid printed r h
-refused_leads (Some (Alone s)) (lines.LowSession row next held) mid printed r h = barred_low s (lines.LowSession row next held) mid printed r h
-refused_leads (Some (Alone s)) (lines.Look session m w z) mid printed r h = barred_low s (lines.Look session m w z) mid printed r h
-refused_leads (Some (Alone s)) (lines.Told session m w fault told z) mid printed r h = barred_low s (lines.Told session m w fault told z) mid printed r h
-refused_leads (Some (Alone s)) (lines.Gone session m) mid printed r h = barred_low s (lines.Gone session m) mid printed r h
-refused_leads (Some (Alone s)) (lines.High session m) mid printed r h = barred_low s (lines.High session m) mid printed r h
-refused_leads (Some (Alone s)) (lines.Carry session back) mid printed r h = barred_low s (lines.Carry session back) mid printed r h
-refused_leads (Some (Alone s)) (lines.Return session m back) mid printed r h = barred_low s (lines.Return session m back) mid printed r h
-refused_leads (Some (Alone s)) (lines.Done session m t) mid printed r h = barred_low s (lines.Done session m t) mid printed r h
+refused_leads (Some (Whole s)) (lines.Session row) mid printed r h = refused_goes s (lines.Session row) mid printed r h
+refused_leads (Some (Whole s)) (lines.LowSession row next held) mid printed r h = refused_goes s (lines.LowSession row next held) mid printed r h
+refused_leads (Some (Whole s)) (lines.Look session m w z) mid printed r h = refused_goes s (lines.Look session m w z) mid printed r h
+refused_leads (Some (Whole s)) (lines.Told session m w fault told z) mid printed r h = refused_goes s (lines.Told session m w fault told z) mid printed r h
+refused_leads (Some (Whole s)) (lines.Gone session m) mid printed r h = refused_goes s (lines.Gone session m) mid printed r h
+refused_leads (Some (Whole s)) (lines.High session m) mid printed r h = refused_goes s (lines.High session m) mid printed r h
+refused_leads (Some (Whole s)) (lines.Carry session back) mid printed r h = refused_goes s (lines.Carry session back) mid printed r h
+refused_leads (Some (Whole s)) (lines.Return session m back) mid printed r h = refused_goes s (lines.Return session m back) mid printed r h
+refused_leads (Some (Whole s)) (lines.Done session m t) mid printed r h = refused_goes s (lines.Done session m t) mid printed r h
+refused_leads (Some (Alone s)) (lines.Session row) mid printed r h = refused_low s (lines.Session row) mid printed r h
+refused_leads (Some (Alone s)) (lines.LowSession row next held) mid printed r h = refused_low s (lines.LowSession row next held) mid printed r h
+refused_leads (Some (Alone s)) (lines.Look session m w z) mid printed r h = refused_low s (lines.Look session m w z) mid printed r h
+refused_leads (Some (Alone s)) (lines.Told session m w fault told z) mid printed r h = refused_low s (lines.Told session m w fault told z) mid printed r h
+refused_leads (Some (Alone s)) (lines.Gone session m) mid printed r h = refused_low s (lines.Gone session m) mid printed r h
+refused_leads (Some (Alone s)) (lines.High session m) mid printed r h = refused_low s (lines.High session m) mid printed r h
+refused_leads (Some (Alone s)) (lines.Carry session back) mid printed r h = refused_low s (lines.Carry session back) mid printed r h
+refused_leads (Some (Alone s)) (lines.Return session m back) mid printed r h = refused_low s (lines.Return session m back) mid printed r h
+refused_leads (Some (Alone s)) (lines.Done session m t) mid printed r h = refused_low s (lines.Done session m t) mid printed r h
 
 -- no line stands at the end
 end_is_fine : (running : Option Begun) (rest : List ℕ) → rest ≡ [] → IsFaulty (Some rest) running → ⊥

@@ -18,7 +18,7 @@ use disk_model::{PlainDisk, Role};
 use low_process::{Answer, Arrival, AskHead, LookHead, LowProcess};
 use pump_core::Seen;
 use pump_frame::{Item, OutOfMemory, Payload, SessionRow};
-use script_reader::{ArrivingHead, LineHead, EventHead, ToldFeedback};
+use script_reader::{ArrivingHead, EventHead, LineHead, ToldFeedback};
 use stable_buffer::{LowStore, Register, disk_size, format};
 use std::alloc::Global;
 

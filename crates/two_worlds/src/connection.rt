@@ -3,7 +3,7 @@
 ghost use Rattle.std.specs.Prelude.{◌≡◌, ◌+◌, ◌^◌, ◌<◌, ◌≤◌, ◌++◌, [], ◌∷◌, List, take, length, vec_len, vec_capacity, IfOk};
 ghost use Rattle.pump_core.specs.History.{Arrival as Offered};
 ghost use Rattle.script_reader.specs.Steps.{coming};
-ghost use Rattle.two_worlds.specs.Arrivals.{added_of, IsFed, Gathers};
+ghost use Rattle.two_worlds.specs.Private.Arrivals.{added_of, IsFed, Gathers};
 
 use arrayvec::ArrayVec;
 use low_process::Arrival;
@@ -45,7 +45,7 @@ impl Model for Connection {
 
     ghost Value = { Connected };
 
-    ghost use Rattle.two_worlds.specs.Arrivals.{arrivals_of};
+    ghost use Rattle.two_worlds.specs.Private.Arrivals.{arrivals_of};
 
     ghost view = { λ c. record {
       waits = arrivals_of c.waits.items;

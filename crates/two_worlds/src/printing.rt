@@ -4,7 +4,7 @@ ghost use Rattle.std.specs.Prelude.{◌≡◌, ◌+◌, ◌≤◌, [], ◌∷◌
 ghost use Rattle.low_process.specs.Heads.{look_with};
 ghost use Rattle.script_reader.specs.EventHeads.{event_of};
 ghost use Rattle.script_reader.specs.Lows.{printed_store, printed_feedback};
-ghost use Rattle.two_worlds.specs.Carrying.{printed_taken};
+ghost use Rattle.two_worlds.specs.Private.Carrying.{printed_taken};
 ghost use Rattle.two_worlds.specs.Printing.{lines_in, look_prints};
 
 use arrayvec::ArrayVec;

@@ -6,7 +6,7 @@ ghost use Rattle.disk_model.specs.declared.name.Role.TheVariants as roles;
 ghost use Rattle.pump_frame.specs.Rows.{IsLawfulRow};
 ghost use Rattle.stable_buffer.specs.Format.{FormatStands, second_of, size_of};
 ghost use Rattle.stable_buffer.specs.Register.{IsReady, register_disk, register_value};
-ghost use Rattle.two_worlds.specs.Formatted.{formatted_disk};
+ghost use Rattle.two_worlds.specs.Private.Formatted.{formatted_disk};
 ghost use Rattle.two_worlds.specs.Openings.{IsFormatted, ComeBack};
 
 use crate::not_open::NotOpen;

@@ -10,7 +10,7 @@ ghost use Rattle.script_reader.specs.Breaks.{IsUnremoved};
 ghost use Rattle.two_worlds.specs.Standing.{Stands, StandsForSome};
 ghost use Rattle.two_worlds.specs.Doing.{Does, DoesFrom, NeverBreaks, NeverOverfills, DisksServe, LeavesAlone};
 ghost use Rattle.two_worlds.specs.Printing.{lines_in};
-ghost use Rattle.two_worlds.specs.HighLooks.{ComesBack, LeadsWith, BreaksWith, frame_when, most_lines, printed_look, packets_after};
+ghost use Rattle.two_worlds.specs.Private.HighLooks.{ComesBack, LeadsWith, BreaksWith, frame_when, most_lines, printed_look, packets_after};
 
 use crate::applied::Stop;
 use crate::printing::put;

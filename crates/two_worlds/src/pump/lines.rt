@@ -10,7 +10,7 @@ ghost use Rattle.script_reader.specs.Breaks.{BreaksOff};
 ghost use Rattle.two_worlds.specs.Printing.{lines_in};
 ghost use Rattle.two_worlds.specs.Standing.{Stands, StandsForSome};
 ghost use Rattle.two_worlds.specs.Doing.{Does, DisksServe, LeavesAlone};
-ghost use Rattle.two_worlds.specs.LineSteps.{goes_on_by, is_timely_by, CarriesBack, IsOverfullSent, Runs, Attempts, answer_of};
+ghost use Rattle.two_worlds.specs.Private.LineSteps.{goes_on_by, is_timely_by, CarriesBack, IsOverfullSent, Runs, Attempts, answer_of};
 
 use crate::applied::Stop;
 use crate::pump::parts::Parts;

@@ -9,7 +9,7 @@ ghost use Rattle.script_reader.specs.Breaks.{IsLost};
 ghost use Rattle.two_worlds.specs.Connections.{unused};
 ghost use Rattle.two_worlds.specs.Standing.{StandsForSome};
 ghost use Rattle.two_worlds.specs.Doing.{Does, NeverBreaks, NeverOverfills, DisksServe};
-ghost use Rattle.two_worlds.specs.LowLooks.{EndsLook};
+ghost use Rattle.two_worlds.specs.Private.LowLooks.{EndsLook};
 ghost use Rattle.two_worlds.specs.Printing.{lines_in};
 
 use crate::applied::Stop;

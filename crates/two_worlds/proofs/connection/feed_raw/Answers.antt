@@ -1,5 +1,5 @@
 use Rattle.std.proofs.Common.{sym, ◌∙◌}
-use Rattle.two_worlds.proofs.RawBytes.{feeds_more, feeds_whole, feeds_bad, feeds_still}
+use Rattle.two_worlds.proofs.Arriving.RawBytes.{feeds_more, feeds_whole, feeds_bad, feeds_still}
 use Rattle.two_worlds.proofs.connection.feed_raw.Goals as goal
 
 pub returns-in-More : goal.returns-in-More

@@ -1,5 +1,5 @@
 use Rattle.std.proofs.Common.{sym, ◌∙◌}
-use Rattle.two_worlds.proofs.RawBytes.{push_fits, push_full}
+use Rattle.two_worlds.proofs.Arriving.RawBytes.{push_fits, push_full}
 use Rattle.two_worlds.proofs.connection.hold.Goals as goal
 
 pub returns-then-len-lt64 : goal.returns-then-len-lt64

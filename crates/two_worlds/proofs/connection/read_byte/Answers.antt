@@ -1,8 +1,8 @@
 use Rattle.std.proofs.Common.{List, [], ◌∷◌, sym, subst, append-nil}
 use Rattle.pump_core.specs.History.{Arrival}
-use Rattle.two_worlds.specs.Arrivals.{Gathers}
-use Rattle.two_worlds.specs.Arrivals.{arrival_of}
-use Rattle.two_worlds.proofs.RawBytes.{gathers_more}
+use Rattle.two_worlds.specs.Private.Arrivals.{Gathers}
+use Rattle.two_worlds.specs.Private.Arrivals.{arrival_of}
+use Rattle.two_worlds.proofs.Arriving.RawBytes.{gathers_more}
 use Rattle.two_worlds.proofs.connection.read_byte.Goals as goal
 
 pub returns-in-None-clause-gathers : goal.returns-in-None-clause-gathers

@@ -1,7 +1,7 @@
 use Rattle.std.proofs.Common.{◌++◌, [], List, ℕ, arith, subst}
 use Rattle.script_reader.specs.Steps.{coming}
-use Rattle.two_worlds.specs.Arrivals.{IsFed}
-use Rattle.two_worlds.proofs.RawBytes.{fed_nothing, fed_one_more, gathers_none, take_fits}
+use Rattle.two_worlds.specs.Private.Arrivals.{IsFed}
+use Rattle.two_worlds.proofs.Arriving.RawBytes.{fed_nothing, fed_one_more, gathers_none, take_fits}
 use Rattle.two_worlds.proofs.connection.read_raw.Goals as goal
 
 pub loop-byte-init : goal.loop-byte-init

@@ -1,7 +1,7 @@
 use Rattle.std.proofs.Common.{◌≤◌, take, List}
 use Rattle.pump_core.specs.History.{Arrival}
 use Rattle.script_reader.specs.Steps.{coming}
-use Rattle.two_worlds.specs.Arrivals.{IsFed, Gathers}
+use Rattle.two_worlds.specs.Private.Arrivals.{IsFed, Gathers}
 use Rattle.two_worlds.proofs.connection.read_raw.Given as goal
 
 abbrev pub invariant-loop-byte : goal.invariant-loop-byte

@@ -1,4 +1,4 @@
-use Rattle.two_worlds.proofs.Outliving.{keeps_messages}
+use Rattle.two_worlds.proofs.Runs.Outliving.{keeps_messages}
 use Rattle.two_worlds.proofs.laws.accepted_outlives.Goals as goal
 
 pub returns : goal.returns

@@ -1,4 +1,4 @@
-use Rattle.two_worlds.proofs.Acknowledged.{run_acks}
+use Rattle.two_worlds.proofs.Runs.Acknowledged.{run_acks}
 use Rattle.two_worlds.proofs.laws.acknowledged_is_accepted.Goals as goal
 
 pub returns : goal.returns

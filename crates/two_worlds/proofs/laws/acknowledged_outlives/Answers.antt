@@ -1,4 +1,4 @@
-use Rattle.two_worlds.proofs.Outliving.{run_keeps}
+use Rattle.two_worlds.proofs.Runs.Outliving.{run_keeps}
 use Rattle.two_worlds.proofs.laws.acknowledged_outlives.Goals as goal
 
 pub returns : goal.returns

@@ -1,6 +1,6 @@
 use Rattle.std.proofs.Common.{None, Some}
 use Rattle.script_reader.specs.Scripts.{Alone}
-use Rattle.two_worlds.proofs.LowTimelines.{script_events}
+use Rattle.two_worlds.proofs.Timeline.Alone.{script_events}
 use Rattle.two_worlds.proofs.laws.low_scripts_are_timed.Goals as goal
 
 pub returns : goal.returns

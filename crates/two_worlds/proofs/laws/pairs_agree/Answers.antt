@@ -2,7 +2,7 @@ use Rattle.std.proofs.Common.{List, map, subst, sym}
 use Rattle.pump_core.specs.Comings.{Side, HasSides}
 use Rattle.pump_core.specs.Pairs.{uncounted}
 use Rattle.pump_core.specs.Runs.{side_with, sides}
-use Rattle.two_worlds.proofs.Pairs.{same_low}
+use Rattle.two_worlds.proofs.Runs.Pairs.{same_low}
 use Rattle.two_worlds.proofs.laws.pairs_agree.Goals as goal
 
 pub returns : goal.returns

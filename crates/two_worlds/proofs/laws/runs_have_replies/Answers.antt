@@ -1,4 +1,4 @@
-use Rattle.two_worlds.proofs.Replied.{run_has}
+use Rattle.two_worlds.proofs.Low.Replied.{run_has}
 use Rattle.two_worlds.proofs.laws.runs_have_replies.Goals as goal
 
 pub returns : goal.returns

@@ -1,4 +1,4 @@
-use Rattle.two_worlds.proofs.Worlds.{leads_lawfully}
+use Rattle.two_worlds.proofs.Runs.Worlds.{leads_lawfully}
 use Rattle.two_worlds.proofs.laws.timed_worlds_are_lawful.Goals as goal
 
 pub returns : goal.returns

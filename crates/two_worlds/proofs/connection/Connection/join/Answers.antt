@@ -2,7 +2,7 @@ use Rattle.std.proofs.Common.{sym, ap, subst, true}
 use Rattle.script_reader.specs.Heads.{arriving_with}
 use Rattle.script_reader.specs.declared.line.Arriving.{Arriving}
 use Rattle.two_worlds.specs.Connections.{Connected, Joins}
-use Rattle.two_worlds.proofs.Joining.{joins_nothing}
+use Rattle.two_worlds.proofs.Arriving.Joining.{joins_nothing}
 use Rattle.two_worlds.proofs.connection.Connection.join.Goals as goal
 
 pub returns-in-Nothing : goal.returns-in-Nothing

@@ -1,6 +1,6 @@
 use Rattle.std.proofs.Common.{true, false, subst, arith, length-append}
 use Rattle.two_worlds.specs.Connections.{Connected, JoinsRaw}
-use Rattle.two_worlds.proofs.Joining.{holding, raw_crowds, held_fits, raw_lawful, raw_joins}
+use Rattle.two_worlds.proofs.Arriving.Joining.{holding, raw_crowds, held_fits, raw_lawful, raw_joins}
 use Rattle.two_worlds.proofs.connection.Connection.join_raw.Goals as goal
 
 pub returns-then-count-count_of : goal.returns-then-count-count_of

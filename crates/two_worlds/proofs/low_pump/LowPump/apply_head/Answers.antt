@@ -3,7 +3,7 @@ use Rattle.script_reader.specs.declared.event.Event.{Event}
 use Rattle.script_reader.specs.Tolds.{LowPast, is_timely_low, IsRefusedAlone, StepLow}
 use Rattle.two_worlds.specs.LowPumps.{low_row_of}
 use Rattle.script_reader.specs.Heads.{line_with}
-use Rattle.two_worlds.proofs.LowPumpLines.{applies_low, down_after, still_holds}
+use Rattle.two_worlds.proofs.Told.PumpLines.{applies_low, down_after, still_holds}
 use Rattle.two_worlds.specs.Printing.{lines_in}
 use Rattle.two_worlds.proofs.low_pump.LowPump.apply_head.Goals as goal
 

@@ -2,7 +2,7 @@ use Rattle.std.proofs.Common.{[]}
 use Rattle.std.proofs.Math.Logic.{∥∥₁_map, ∥∥₁_elim}
 use Rattle.std.proofs.Props.{props}
 use Rattle.script_reader.specs.Heads.{line_with}
-use Rattle.two_worlds.proofs.LinesApplied.{still_keeps, down_after, applied}
+use Rattle.two_worlds.proofs.Lines.Applied.{still_keeps, down_after, applied}
 use Rattle.two_worlds.specs.Printing.{lines_in}
 use Rattle.two_worlds.proofs.pump.Pump.apply_head.Goals as goal
 

@@ -1,6 +1,6 @@
 use Rattle.std.proofs.Math.Logic.{∥∥₁_map}
 use Rattle.pump_frame.specs.Rows.{first_bad}
-use Rattle.two_worlds.proofs.LinesApplied.{none_bad}
+use Rattle.two_worlds.proofs.Lines.Applied.{none_bad}
 use Rattle.two_worlds.proofs.pump.Pump.close.Goals as goal
 
 pub close-requires-clause-lawful : goal.close-requires-clause-lawful

@@ -1,5 +1,5 @@
 use Rattle.std.proofs.Common.{◌∙◌}
-use Rattle.two_worlds.proofs.FormattedValues.{format_value}
+use Rattle.two_worlds.proofs.Opening.Formatted.{format_value}
 use Rattle.two_worlds.proofs.pump.formatted.format_register.Goals as goal
 
 pub returns-in-Ok-clause-value : goal.returns-in-Ok-clause-value

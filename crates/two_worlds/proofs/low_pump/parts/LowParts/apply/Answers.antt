@@ -3,7 +3,7 @@ use Rattle.std.proofs.Common.{◌≡◌, ap, true, subst, sym, ◌∙◌}
 use Rattle.script_reader.specs.declared.line.Line.{Line}
 use Rattle.script_reader.specs.Tolds.{is_timely_low, IsRefusedAlone, StepLow}
 use Rattle.two_worlds.specs.LowParts.{EndsBy}
-use Rattle.two_worlds.proofs.ToldLines.{applies_told, applies_gone}
+use Rattle.two_worlds.proofs.Told.Lines.{applies_told, applies_gone}
 use Rattle.two_worlds.specs.Printing.{lines_in}
 use Rattle.two_worlds.proofs.low_pump.parts.LowParts.apply.Goals as goal
 

@@ -1,4 +1,4 @@
-use Rattle.two_worlds.proofs.ToldLines.{gone_stands, gone_ends}
+use Rattle.two_worlds.proofs.Told.Lines.{gone_stands, gone_ends}
 use Rattle.two_worlds.specs.Printing.{lines_in}
 use Rattle.two_worlds.proofs.low_pump.parts.LowParts.gone.Goals as goal
 

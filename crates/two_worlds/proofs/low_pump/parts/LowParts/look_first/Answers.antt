@@ -4,9 +4,9 @@ use Rattle.pump_frame.specs.declared.row.SessionRow.{SessionRow}
 use Rattle.two_worlds.specs.declared.low_pump.parts.LowParts.{LowParts}
 use Rattle.two_worlds.specs.Printing.{lines_in, look_prints}
 use Rattle.two_worlds.specs.LowParts.{AnsweredBy}
-use Rattle.two_worlds.proofs.LowPartsReady.{is_between, row_lawful, in_order, has_store}
+use Rattle.two_worlds.proofs.Told.Ready.{is_between, row_lawful, in_order, has_store}
 use Rattle.low_process.specs.Looks.{arrival_of, row_of}
-use Rattle.two_worlds.proofs.ToldEnds.{first_ends}
+use Rattle.two_worlds.proofs.Told.Ends.{first_ends}
 use Rattle.two_worlds.proofs.low_pump.parts.LowParts.look_first.Goals as goal
 
 pub begin_into-ask-requires-clause-between : goal.begin_into-ask-requires-clause-between

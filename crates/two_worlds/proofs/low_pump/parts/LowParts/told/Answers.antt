@@ -1,5 +1,5 @@
 use Rattle.script_reader.specs.Heads.{arriving_with}
-use Rattle.two_worlds.proofs.ToldLines.{told_stands, told_ends}
+use Rattle.two_worlds.proofs.Told.Lines.{told_stands, told_ends}
 use Rattle.two_worlds.specs.Printing.{lines_in}
 use Rattle.two_worlds.proofs.low_pump.parts.LowParts.told.Goals as goal
 

@@ -2,8 +2,8 @@ use Rattle.script_reader.specs.Heads.{line_with}
 use Rattle.std.proofs.Common.{subst, List, Result}
 use Rattle.script_reader.specs.declared.event.Event.{Event}
 use Rattle.two_worlds.specs.declared.applied.Stop.{Stop}
-use Rattle.two_worlds.specs.LineSteps.{Attempts}
-use Rattle.two_worlds.proofs.LinesApplied.{answer_is}
+use Rattle.two_worlds.specs.Private.LineSteps.{Attempts}
+use Rattle.two_worlds.proofs.Lines.Applied.{answer_is}
 use Rattle.two_worlds.specs.Printing.{lines_in}
 use Rattle.two_worlds.proofs.pump.parts.Parts.apply.Goals as goal
 

@@ -1,7 +1,7 @@
 use Rattle.std.proofs.Common.{ℕ, [], refl, sym, ap, ◌∙◌, subst}
 use Rattle.stable_buffer.specs.Stands.{LowStands, HighStands}
 use Rattle.stable_buffer.specs.Log.{RecvStands}
-use Rattle.two_worlds.proofs.Starts.{starts}
+use Rattle.two_worlds.proofs.Opening.Starts.{starts}
 use Rattle.two_worlds.proofs.pump.parts.Parts.assemble.Goals as goal
 
 pub returns-clause-stands : goal.returns-clause-stands

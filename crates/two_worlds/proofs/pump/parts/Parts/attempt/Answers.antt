@@ -1,7 +1,7 @@
 use Rattle.script_reader.specs.Heads.{line_with}
 use Rattle.std.proofs.Common.{sym, ◌∙◌}
-use Rattle.two_worlds.proofs.TimelyLines.{untimely, attempted}
-use Rattle.two_worlds.proofs.DisksTogether.{serve_none}
+use Rattle.two_worlds.proofs.Lines.Timely.{untimely, attempted}
+use Rattle.two_worlds.proofs.Disks.Together.{serve_none}
 use Rattle.two_worlds.specs.Printing.{lines_in}
 use Rattle.two_worlds.proofs.pump.parts.Parts.attempt.Goals as goal
 

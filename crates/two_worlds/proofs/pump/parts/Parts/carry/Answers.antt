@@ -5,12 +5,12 @@ use Rattle.std.proofs.Math.Logic.{∥∥₁_elim}
 use Rattle.std.proofs.Props.{props}
 use Rattle.high_receiver.specs.Receiving.{recv_count, recv_end, recv_size}
 use Rattle.high_receiver.specs.declared.values.TakeFault.TheVariants.{Device, LogFull, Ahead}
-use Rattle.two_worlds.proofs.Answered.{never_ahead}
-use Rattle.two_worlds.proofs.Carried.{small, short}
-use Rattle.two_worlds.proofs.Carries.{leads_by, breaks, overfull, returned}
-use Rattle.two_worlds.proofs.CarryServes.{answered_with, serves_ok, serves_device, serves_full}
-use Rattle.two_worlds.proofs.PartsReady.{recv_is_ready}
-use Rattle.two_worlds.proofs.Packets.{keep_last_some}
+use Rattle.two_worlds.proofs.Carry.Answered.{never_ahead}
+use Rattle.two_worlds.proofs.Carry.Carried.{small, short}
+use Rattle.two_worlds.proofs.Carry.Carries.{leads_by, breaks, overfull, returned}
+use Rattle.two_worlds.proofs.Carry.Serves.{answered_with, serves_ok, serves_device, serves_full}
+use Rattle.two_worlds.proofs.Opening.Ready.{recv_is_ready}
+use Rattle.two_worlds.proofs.Carry.Packets.{keep_last_some}
 use Rattle.two_worlds.specs.Printing.{lines_in}
 use Rattle.two_worlds.proofs.pump.parts.Parts.carry.Goals as goal
 

@@ -2,8 +2,8 @@ use Rattle.std.proofs.Common.{subst}
 use Rattle.std.proofs.lemmas.Result.{err_from_is_err_and}
 use Rattle.std.proofs.Math.Logic.{∥∥₁_map}
 use Rattle.pump_frame.specs.declared.row.SessionRow.{SessionRow}
-use Rattle.two_worlds.proofs.DoneLines as done
-use Rattle.two_worlds.proofs.DisksTogether.{serve_then}
+use Rattle.two_worlds.proofs.Lines.Done as done
+use Rattle.two_worlds.proofs.Disks.Together.{serve_then}
 use Rattle.two_worlds.specs.Printing.{lines_in}
 use Rattle.two_worlds.proofs.pump.parts.Parts.carry_back.Goals as goal
 

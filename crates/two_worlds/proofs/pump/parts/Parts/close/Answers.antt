@@ -2,9 +2,9 @@ use Rattle.std.proofs.Common.{sym, subst}
 use Rattle.disk_model.specs.declared.name.Role.TheVariants as roles
 use Rattle.two_worlds.specs.Disks.{Opens, CrashesOpen, LeaveWorld}
 use Rattle.two_worlds.specs.Standing.{disk_at}
-use Rattle.two_worlds.proofs.LeavesWorld.{parts_leave}
-use Rattle.two_worlds.proofs.OpensSurely.{crashes_surely_open, readings_surely_open}
-use Rattle.two_worlds.proofs.RowRanges.{short_messages}
+use Rattle.two_worlds.proofs.Disks.LeavesWorld.{parts_leave}
+use Rattle.two_worlds.proofs.Disks.OpensSurely.{crashes_surely_open, readings_surely_open}
+use Rattle.two_worlds.proofs.Opening.RowRanges.{short_messages}
 use Rattle.two_worlds.proofs.pump.parts.Parts.close.Goals as goal
 
 pub returns-clause-crashes : goal.returns-clause-crashes

@@ -2,9 +2,9 @@ use Rattle.std.proofs.Common.{subst, ◌∙◌}
 use Rattle.std.specs.Coded.{le_prop}
 use Rattle.std.proofs.Math.Logic.{∥∥₁_map, ∥∥₁_elim}
 use Rattle.pump_frame.specs.declared.row.SessionRow.{SessionRow}
-use Rattle.two_worlds.proofs.TimelyLines.{hand_lent}
-use Rattle.two_worlds.proofs.DoneLines as done
-use Rattle.two_worlds.proofs.DisksTogether.{serve_then}
+use Rattle.two_worlds.proofs.Lines.Timely.{hand_lent}
+use Rattle.two_worlds.proofs.Lines.Done as done
+use Rattle.two_worlds.proofs.Disks.Together.{serve_then}
 use Rattle.two_worlds.specs.Printing.{lines_in}
 use Rattle.two_worlds.proofs.pump.parts.Parts.done_line.Goals as goal
 

@@ -1,7 +1,7 @@
 use Rattle.std.proofs.Common.{◌∙◌, sym}
 use Rattle.std.proofs.Math.Logic.{∥∥₁_elim}
 use Rattle.std.proofs.Props.{props}
-use Rattle.two_worlds.proofs.TimelyLines.{held_is, hand_lent, goes_held}
+use Rattle.two_worlds.proofs.Lines.Timely.{held_is, hand_lent, goes_held}
 use Rattle.two_worlds.proofs.pump.parts.Parts.goes_on.Goals as goal
 
 pub returns-else-is_some : goal.returns-else-is_some

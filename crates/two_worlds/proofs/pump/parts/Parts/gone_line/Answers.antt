@@ -1,6 +1,6 @@
 use Rattle.std.proofs.Math.Logic.{∥∥₁_map}
-use Rattle.two_worlds.proofs.PartsConnected.{some_lost}
-use Rattle.two_worlds.proofs.LineRuns.{gone_runs}
+use Rattle.two_worlds.proofs.Arriving.Connected.{some_lost}
+use Rattle.two_worlds.proofs.Lines.Runs.{gone_runs}
 use Rattle.two_worlds.specs.Printing.{lines_in}
 use Rattle.two_worlds.proofs.pump.parts.Parts.gone_line.Goals as goal
 

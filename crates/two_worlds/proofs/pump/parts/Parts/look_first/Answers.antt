@@ -8,11 +8,11 @@ use Rattle.pump_frame.specs.declared.row.SessionRow.{SessionRow}
 use Rattle.low_process.specs.Heads.{look_with}
 use Rattle.two_worlds.specs.Printing.{lines_in, look_prints}
 use Rattle.two_worlds.specs.declared.pump.parts.Parts.{Parts}
-use Rattle.two_worlds.proofs.PartsReady.{low_has_store}
-use Rattle.two_worlds.proofs.PartsEnds.{low_between, low_order, low_seen, high_seen, ends_seen, low_fits_seen}
-use Rattle.two_worlds.proofs.LowLooked.{Looked, looked_as, stops_as, row_as}
-use Rattle.two_worlds.proofs.LowServes.{low_serves}
-use Rattle.two_worlds.proofs.LowDoes.{offered_does}
+use Rattle.two_worlds.proofs.Opening.Ready.{low_has_store}
+use Rattle.two_worlds.proofs.Opening.Ends.{low_between, low_order, low_seen, high_seen, ends_seen, low_fits_seen}
+use Rattle.two_worlds.proofs.Low.Looked.{Looked, looked_as, stops_as, row_as}
+use Rattle.two_worlds.proofs.Low.Serves.{low_serves}
+use Rattle.two_worlds.proofs.Low.Does.{offered_does}
 use Rattle.two_worlds.proofs.pump.parts.Parts.look_first.Goals as goal
 
 pub look_into-requires-clause-between : goal.look_into-requires-clause-between

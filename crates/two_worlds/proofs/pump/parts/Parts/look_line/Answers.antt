@@ -2,9 +2,9 @@ use Rattle.std.proofs.Common.{subst, Bool}
 use Rattle.std.proofs.Math.Logic.{∥∥₁_map}
 use Rattle.script_reader.specs.Heads.{arriving_with}
 use Rattle.two_worlds.specs.Connections.{Joins}
-use Rattle.two_worlds.proofs.PartsConnected.{some_joined}
-use Rattle.two_worlds.proofs.LineRuns.{look_runs, look_crowds}
-use Rattle.two_worlds.proofs.DisksTogether.{serve_none}
+use Rattle.two_worlds.proofs.Arriving.Connected.{some_joined}
+use Rattle.two_worlds.proofs.Lines.Runs.{look_runs, look_crowds}
+use Rattle.two_worlds.proofs.Disks.Together.{serve_none}
 use Rattle.two_worlds.specs.Printing.{lines_in}
 use Rattle.two_worlds.proofs.pump.parts.Parts.look_line.Goals as goal
 

@@ -4,13 +4,13 @@ use Rattle.std.specs.Coded.{le_prop}
 use Rattle.high_process.specs.Tasks.{frame_of}
 use Rattle.high_process.specs.States.{task_at}
 use Rattle.high_process.specs.declared.values.HighFault.TheVariants.{Ahead, Behind, Device}
-use Rattle.two_worlds.specs.HighLooks.{ComesBack, most_lines, printed_look}
+use Rattle.two_worlds.specs.Private.HighLooks.{ComesBack, most_lines, printed_look}
 use Rattle.two_worlds.specs.Standing.{high_past_of}
-use Rattle.two_worlds.proofs.PartsReady.{high_is_ready, high_is_up, high_is_between, high_is_timely, high_counts}
-use Rattle.two_worlds.proofs.PartsEnds.{low_seen, high_seen, ends_seen, high_fits_seen}
-use Rattle.two_worlds.proofs.HighServes.{removes_behind, looked_serves, broken_serves, refused_serves, asks_no_device, comes_not_behind}
-use Rattle.two_worlds.proofs.HighLooking.{looks, led, lines_by}
-use Rattle.two_worlds.proofs.HighFailing.{fared, breaks, refused}
+use Rattle.two_worlds.proofs.Opening.Ready.{high_is_ready, high_is_up, high_is_between, high_is_timely, high_counts}
+use Rattle.two_worlds.proofs.Opening.Ends.{low_seen, high_seen, ends_seen, high_fits_seen}
+use Rattle.two_worlds.proofs.High.Serves.{removes_behind, looked_serves, broken_serves, refused_serves, asks_no_device, comes_not_behind}
+use Rattle.two_worlds.proofs.High.Looking.{looks, led, lines_by}
+use Rattle.two_worlds.proofs.High.Failing.{fared, breaks, refused}
 use Rattle.std.proofs.lemmas.List.{length-map}
 use Rattle.script_reader.specs.EventHeads.{event_of}
 use Rattle.two_worlds.specs.Printing.{lines_in}

@@ -1,6 +1,6 @@
 use Rattle.std.proofs.Common.{ap}
 use Rattle.script_reader.specs.Heads.{line_with}
-use Rattle.two_worlds.proofs.LineRuns.{high_runs, carry_runs, return_runs}
+use Rattle.two_worlds.proofs.Lines.Runs.{high_runs, carry_runs, return_runs}
 use Rattle.two_worlds.specs.Printing.{lines_in}
 use Rattle.two_worlds.proofs.pump.parts.Parts.run.Goals as goal
 

@@ -4,9 +4,9 @@ use Rattle.disk_model.specs.declared.name.Role.TheVariants as roles
 use Rattle.script_reader.specs.Highs.{IsReturn, place}
 use Rattle.script_reader.specs.Breaks.{IsUnremoved}
 use Rattle.two_worlds.specs.Doing.{NeverOverfills}
-use Rattle.two_worlds.specs.HighLooks.{LeadsWith, BreaksWith}
-use Rattle.two_worlds.proofs.DoesMore.{does_more}
-use Rattle.two_worlds.proofs.HighReturning.{numbered, stands_numbered, comes_numbered}
+use Rattle.two_worlds.specs.Private.HighLooks.{LeadsWith, BreaksWith}
+use Rattle.two_worlds.proofs.Lines.DoesMore.{does_more}
+use Rattle.two_worlds.proofs.High.Returning.{numbered, stands_numbered, comes_numbered}
 use Rattle.two_worlds.specs.Printing.{lines_in}
 use Rattle.two_worlds.proofs.pump.parts.Parts.take_back.Goals as goal
 

@@ -1,0 +1,6 @@
+-- A packet that comes to the receiver.
+pub mod Answered
+pub mod Carried
+pub mod Carries
+pub mod Packets
+pub mod Serves

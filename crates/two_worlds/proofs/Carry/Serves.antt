@@ -1,0 +1,157 @@
+-- The disks' calls in a carry: only the receiver's disk is called, and no crash leaves more removed than taken.
+use Rattle.std.proofs.Common.{◌≡◌, inl, inr, ⊎_elim, ℕ, ◌+◌, ◌-◌, ◌≤◌, ◌<◌, Bool, true, false, cond, List, [], ◌∷◌, ◌++◌, length, None, Some, Result, Ok, Err, refl, sym, ap, subst, arith, nat_lt, length-append, IsOk, IsErr, IfSome}
+use Rattle.std.specs.Prelude.{slice_get}
+use Rattle.std.specs.Coded.{le_prop}
+use Rattle.std.proofs.Math.Logic.{∥∥₁_elim}
+use Rattle.std.proofs.Props.{props}
+use Rattle.circular_buffer.specs.Buffer.{Buffer}
+use Rattle.disk_model.specs.Disk.{Meaning, Each, Moves, Answers}
+use Rattle.disk_model.specs.declared.name.Role.TheVariants as roles
+use Rattle.disk_model.proofs.Run.{each_after, each_weaker}
+use Rattle.pump_frame.specs.declared.row.SessionRow.{SessionRow}
+use Rattle.pump_frame.specs.declared.frame.Item.{Item}
+use Rattle.stable_buffer.specs.Register.{value_of}
+use Rattle.stable_buffer.specs.Stands.{low_size}
+use Rattle.stable_buffer.specs.Log.{RecvStands}
+use Rattle.stable_buffer.specs.High.{high_disk}
+use Rattle.low_process.specs.Storing.{outcome}
+use Rattle.high_receiver.specs.Steps.{MayTake}
+use Rattle.high_receiver.specs.Receiving.{Stores, answer_at_once, recv_count, recv_end, recv_row, recv_size, recv_disk}
+use Rattle.high_receiver.specs.declared.receiver.Receiver.{Receiver}
+use Rattle.high_receiver.specs.declared.values.Taken.{Taken}
+use Rattle.high_receiver.specs.declared.values.Taken.TheVariants as answers
+use Rattle.high_receiver.specs.declared.values.TakeFault.{TakeFault}
+use Rattle.high_receiver.specs.declared.values.TakeFault.TheVariants as faults
+use Rattle.script_reader.specs.Past.{Past}
+use Rattle.script_reader.specs.Highs.{receiver_size}
+use Rattle.two_worlds.specs.declared.applied.Stop.TheVariants.{Device, Full}
+use Rattle.two_worlds.specs.declared.pump.parts.Parts.{Parts}
+use Rattle.two_worlds.specs.Disks.{RecvFits, HighFits, RemovesBehind}
+use Rattle.two_worlds.specs.Doing.{Serves, DisksServe}
+use Rattle.two_worlds.specs.Standing.{Stands, StandsForSome, disk_at}
+use Rattle.two_worlds.proofs.Carry.Answered.{AnsweredWith, answered, in_store, full, took, repeated}
+use Rattle.two_worlds.proofs.Carry.Carried.{not_ahead}
+use Rattle.two_worlds.proofs.Opening.Ready.{high_reading, recv_reading}
+
+-- a receiver's disk has taken so many at least
+abbrev pub HasTaken : ℕ → List ℕ → Type 0
+HasTaken removed disk = removed ≤ (value_of disk).0
+
+taken_by : (row : SessionRow) (removed : ℕ) (messages : List (List ℕ)) (disk : List ℕ) → removed ≤ length messages → RecvStands row messages disk → HasTaken removed disk
+taken_by row removed messages disk le s = let v = ap (λ (v : ℕ × ℕ). v.0) s.value in omega (arith, le, v)
+
+taken_more : (row : SessionRow) (removed : ℕ) (messages : List (List ℕ)) (message disk : List ℕ) → removed ≤ length messages → RecvStands row (messages ++ message ∷ []) disk → HasTaken removed disk
+taken_more row removed messages message disk le s =
+    let v = ap (λ (v : ℕ × ℕ). v.0) s.value in
+    let l = length-append messages (message ∷ []) in
+    omega (arith, le, v, l)
+
+module _ {D : Type 0} (m : Meaning D) (c : Parts D) where
+  -- the receiver's disk has what was removed
+  pub recv_has : (p : Past) → Stands m c p → Each m (HasTaken p.world.removed) (recv_disk c.receiver)
+  recv_has p s = each_weaker m (RecvFits c.row p.world) (HasTaken p.world.removed) (recv_disk c.receiver)
+      (λ disk fit. taken_by c.row p.world.removed p.world.received disk s.lawful.delivered.removed (recv_reading c.row p.world disk s.rest.packet fit)) s.disks.recv_disk
+
+  -- .. and after a taking too
+  pub recv_has_after : (p : Past) (message : List ℕ) (new : D) → Stands m c p → Moves m (MayTake (recv_row c.receiver) message) (recv_disk c.receiver) new → Each m (HasTaken p.world.removed) new
+  recv_has_after p message new s moves =
+      each_after m (RecvFits c.row p.world) (HasTaken p.world.removed) (MayTake (recv_row c.receiver) message) (recv_disk c.receiver) new s.disks.recv_disk
+      (λ old now fit may.
+      let le = s.lawful.delivered.removed in
+      let row = recv_row c.receiver in
+      let was : RecvStands row p.world.received old = subst (λ (r : SessionRow). RecvStands r p.world.received old) (sym s.recv_ready.row) (recv_reading c.row p.world old s.rest.packet fit) in
+      ⊎_elim (λ stays. taken_by row p.world.removed p.world.received now le stays) (λ more. taken_more row p.world.removed p.world.received message now le more) (may.either p.world.received was))
+      moves
+
+  -- the high disk has what was removed
+  pub high_has : (p : Past) → Stands m c p → Each m (λ disk. (value_of disk).0 ≡ p.world.removed) (high_disk c.high_store)
+  high_has p s = each_weaker m (HighFits c.row p.world) (λ disk. (value_of disk).0 ≡ p.world.removed) (high_disk c.high_store)
+      (λ disk fit. ap (λ (v : ℕ × ℕ). v.0) (high_reading c.row p.world disk s.rest.removing fit).value) s.disks.high_disk
+
+  -- the high disk is left alone
+  pub behind_alone : (recv : D) → ∥ StandsForSome m c ∥₁ → ((p : Past) → Stands m c p → Each m (HasTaken p.world.removed) recv)
+      → RemovesBehind m (high_disk c.high_store) (high_disk c.high_store) recv
+  behind_alone recv some has = λ told b since d image. ∥∥₁_elim some le_prop (λ s.
+      let high = (high_has s.0 s.1).images told b (m.only_now told (high_disk c.high_store) b since) in
+      let taken = (has s.0 s.1).images told d image in
+      omega (arith, high, taken))
+
+-- no call of a disk
+pub serves_alone : {D : Type 0} (m : Meaning D) (least : ℕ) (d : D) → Serves m least d d false
+serves_alone m least d = inl (refl, refl)
+
+-- a receiver's store answers as its disk's calls do
+store_serves : {D : Type 0} (m : Meaning D) (fits : Type 0) (least : ℕ) (old new : D) (is_fault : Bool) (result : Result Taken TakeFault) → (least ≤ m.room old → fits)
+    → (IsErr result → IsErr (outcome is_fault)) → (IsErr (outcome is_fault) → IsErr result) → (IsOk result → IsOk (outcome is_fault)) → Answers m fits old new result → Serves m least old new is_fault
+store_serves m fits least old new is_fault result room there back ok a = inr (record {
+  counts = a.counts;
+  rose = λ e. a.rose (back e);
+  never = λ plan unarmed has. ok (a.never plan unarmed (room has));
+  always = λ plan armed. there (a.always plan armed);
+  room = a.room;
+  disarmed = a.disarmed;
+})
+
+-- a receiver answers to a packet that is kept: it is not ahead
+pub answered_with : {D : Type 0} (m : Meaning D) (c : Parts D) (some : ∥ StandsForSome m c ∥₁) (back : ℕ) (packet : Item) → back < length c.sent.items
+    → cond (nat_lt back (length c.sent.items)) (slice_get c.sent.items (length c.sent.items - back - 1)) None ≡ Some packet
+    → (new : Receiver D) (result answer : Result Taken TakeFault) → result ≡ answer
+    → IfSome (answer_at_once (recv_count c.receiver) (recv_end c.receiver) (recv_size c.receiver) packet.number (length packet.payload)) (λ a. result ≡ a)
+    → IfSome (answer_at_once (recv_count c.receiver) (recv_end c.receiver) (recv_size c.receiver) packet.number (length packet.payload)) (λ a. new ≡ c.receiver)
+    → (answer_at_once (recv_count c.receiver) (recv_end c.receiver) (recv_size c.receiver) packet.number (length packet.payload) ≡ None → Stores m packet.payload c.receiver new result)
+    → AnsweredWith m packet.payload packet.number (recv_count c.receiver) (recv_end c.receiver) (recv_size c.receiver) c.receiver new answer
+answered_with m c some back packet less at new result answer is at_once unchanged stores =
+    let le = ∥∥₁_elim some le_prop (λ s. not_ahead m c s.0 back packet s.1 less at) in
+    subst (λ r. AnsweredWith m packet.payload packet.number (recv_count c.receiver) (recv_end c.receiver) (recv_size c.receiver) c.receiver new r) is
+    (answered m packet.payload packet.number (recv_count c.receiver) (recv_end c.receiver) (recv_size c.receiver) c.receiver new result le at_once unchanged stores)
+
+module _ {D : Type 0} (m : Meaning D) (c : Parts D) (some : ∥ StandsForSome m c ∥₁) (message : List ℕ) (n : ℕ) (new : Receiver D) where
+  abbrev pub With : Result Taken TakeFault → Type 0
+  With result = AnsweredWith m message n (recv_count c.receiver) (recv_end c.receiver) (recv_size c.receiver) c.receiver new result
+
+  size_is : recv_size c.receiver ≡ receiver_size
+  size_is = ∥∥₁_elim some (hlevel props) (λ s. s.1.recv_ready.size)
+
+  roomy : recv_end c.receiver + 2 + length message ≤ recv_size c.receiver → receiver_size ≤ m.room (recv_disk c.receiver) → recv_end c.receiver + 2 + length message ≤ m.room (recv_disk c.receiver)
+  roomy fits room = let e = size_is in omega (arith, fits, room, e)
+
+  unchanged : new ≡ c.receiver → (p : Past) → Stands m c p → Each m (HasTaken p.world.removed) (recv_disk new)
+  unchanged same p s = subst (λ (r : Receiver D). Each m (HasTaken p.world.removed) (recv_disk r)) (sym same) (recv_has m c p s)
+
+  pub serves_ok : (t : Taken) (returned : Buffer ℕ) → With (Ok t) → DisksServe m c (record c { receiver = new; returned = returned }) (Ok tt)
+  serves_ok answers.Took returned w =
+      let a = took m message n (recv_count c.receiver) (recv_end c.receiver) (recv_size c.receiver) c.receiver new w in
+      record {
+        low = serves_alone m (low_size c.row) (disk_at roles.Low c);
+        high = serves_alone m 80 (disk_at roles.High c);
+        recv = store_serves m (recv_end c.receiver + 2 + length message ≤ m.room (recv_disk c.receiver)) receiver_size (recv_disk c.receiver) (recv_disk new) false (Ok answers.Took) (roomy a.1) (λ e. e) (λ e. e) (λ e. e) a.2.answers;
+        behind = behind_alone m c (recv_disk new) some (λ p s. recv_has_after m c p message (recv_disk new) s a.2.moves);
+      }
+  serves_ok answers.Repeat returned w =
+      let a = repeated m message n (recv_count c.receiver) (recv_end c.receiver) (recv_size c.receiver) c.receiver new w in
+      record {
+        low = serves_alone m (low_size c.row) (disk_at roles.Low c);
+        high = serves_alone m 80 (disk_at roles.High c);
+        recv = inl (ap (λ (r : Receiver D). recv_disk r) a.1, refl);
+        behind = behind_alone m c (recv_disk new) some (unchanged a.1);
+      }
+
+  pub serves_device : (count : ℕ) → With (Err (faults.Device count)) → DisksServe m c (record c { receiver = new }) (Err (Device roles.Recv count))
+  serves_device count w =
+      let a = in_store m message n (recv_count c.receiver) (recv_end c.receiver) (recv_size c.receiver) c.receiver new count w in
+      record {
+        low = serves_alone m (low_size c.row) (disk_at roles.Low c);
+        high = serves_alone m 80 (disk_at roles.High c);
+        recv = store_serves m (recv_end c.receiver + 2 + length message ≤ m.room (recv_disk c.receiver)) receiver_size (recv_disk c.receiver) (recv_disk new) true (Err (faults.Device count)) (roomy a.1) (λ e. e) (λ e. e) (λ e. e) a.2.answers;
+        behind = behind_alone m c (recv_disk new) some (λ p s. recv_has_after m c p message (recv_disk new) s a.2.moves);
+      }
+
+  pub serves_full : (end size_of_message size : ℕ) → With (Err (faults.LogFull end size_of_message size)) → DisksServe m c (record c { receiver = new }) (Err (Full end size_of_message size))
+  serves_full end k size w =
+      let a = full m message n (recv_count c.receiver) (recv_end c.receiver) (recv_size c.receiver) c.receiver new end k size w in
+      record {
+        low = serves_alone m (low_size c.row) (disk_at roles.Low c);
+        high = serves_alone m 80 (disk_at roles.High c);
+        recv = inl (ap (λ (r : Receiver D). recv_disk r) a.same, refl);
+        behind = behind_alone m c (recv_disk new) some (unchanged a.same);
+      }

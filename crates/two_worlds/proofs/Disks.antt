@@ -1,0 +1,6 @@
+-- What crashes leave of the three disks.
+pub mod Crashes
+pub mod Images
+pub mod LeavesWorld
+pub mod OpensSurely
+pub mod Together

@@ -1,0 +1,230 @@
+-- What crashes leave of the disks at any moment of a part of a line fits the world before or the one after.
+use Rattle.std.proofs.Common.{◌≡◌, ◌⊎◌, inl, inr, ⊎_elim, ℕ, ◌+◌, ◌≤◌, Bool, true, false, List, [], ◌∷◌, ◌++◌, length, drop, Option, Some, None, refl, sym, ap, ◌∙◌, subst, arith, append-nil, length-append}
+use Rattle.std.specs.Prelude.{option_to_list}
+use Rattle.disk_model.specs.Disk.{Meaning, Leaves}
+use Rattle.disk_model.specs.declared.name.Role.{Role}
+use Rattle.disk_model.specs.declared.name.Role.TheVariants as roles
+use Rattle.pump_frame.specs.declared.frame.Frame.{Frame}
+use Rattle.pump_frame.specs.declared.payload.Payload.{Payload}
+use Rattle.pump_frame.specs.declared.row.SessionRow.{SessionRow}
+use Rattle.stable_buffer.specs.Stands.{LowStands, HighStands}
+use Rattle.stable_buffer.specs.Log.{RecvStands}
+use Rattle.stable_buffer.specs.Low.{low_disk, low_row}
+use Rattle.stable_buffer.specs.High.{high_disk}
+use Rattle.stable_buffer.specs.declared.high.HighStore.{HighStore}
+use Rattle.high_receiver.specs.Receiving.{recv_disk}
+use Rattle.pump_core.specs.History.{Arrival}
+use Rattle.pump_core.specs.World.{World}
+use Rattle.pump_core.proofs.Bounded.{place}
+use Rattle.low_process.specs.Looks as low
+use Rattle.low_process.specs.Storing.{StoreStep, message_in}
+use Rattle.low_process.specs.Whole.{HasOrGains}
+use Rattle.low_process.specs.declared.values.LowLook.{LowLook}
+use Rattle.high_process.specs.States as high
+use Rattle.high_process.specs.Storing.{LeavesCounted}
+use Rattle.script_reader.specs.Past.{Past}
+use Rattle.two_worlds.specs.declared.pump.parts.Parts.{Parts}
+use Rattle.two_worlds.specs.Disks.{live_messages, LowFits, HighFits, RecvFits}
+use Rattle.two_worlds.specs.Doing.{LeavesFit, Fails}
+use Rattle.two_worlds.specs.Standing.{Stands, disk_at, number_of}
+use Rattle.two_worlds.proofs.Low.Disks.{live_push}
+use Rattle.two_worlds.proofs.Low.Grows.{Grows}
+use Rattle.two_worlds.proofs.Low.Looked.{Looked}
+use Rattle.two_worlds.proofs.Low.Wants.{taking, hand_is_empty}
+use Rattle.two_worlds.proofs.Disks.OpensSurely.{one_received}
+use Rattle.two_worlds.proofs.Opening.Ready.{low_reading, high_reading, recv_reading}
+
+-- a disk that is left alone has the images from before
+left_alone : {D : Type 0} (m : Meaning D) (P : List ℕ → Type 0) (old new : D) → (m.tells_images → (x : List ℕ) → m.images old x → P x) → new ≡ old → Leaves m old new P
+left_alone {D} m P old new has same told x since = has told x (m.only_now told old x (subst (λ (d : D). m.since d (m.moment old) x) same since))
+
+module _ {D : Type 0} (m : Meaning D) (c : Parts D) (p : Past) (stands : Stands m c p) where
+  pub low_alone : (Q : List ℕ → Type 0) (new : D) → new ≡ disk_at roles.Low c → Leaves m (disk_at roles.Low c) new (λ x. LowFits c.row p.world x ⊎ Q x)
+  low_alone Q new same = left_alone m (λ x. LowFits c.row p.world x ⊎ Q x) (disk_at roles.Low c) new (λ told x image. inl (stands.disks.low_disk.images told x image)) same
+
+  pub high_alone : (Q : List ℕ → Type 0) (new : D) → new ≡ disk_at roles.High c → Leaves m (disk_at roles.High c) new (λ x. HighFits c.row p.world x ⊎ Q x)
+  high_alone Q new same = left_alone m (λ x. HighFits c.row p.world x ⊎ Q x) (disk_at roles.High c) new (λ told x image. inl (stands.disks.high_disk.images told x image)) same
+
+  pub recv_alone : (Q : List ℕ → Type 0) (new : D) → new ≡ disk_at roles.Recv c → Leaves m (disk_at roles.Recv c) new (λ x. RecvFits c.row p.world x ⊎ Q x)
+  recv_alone Q new same = left_alone m (λ x. RecvFits c.row p.world x ⊎ Q x) (disk_at roles.Recv c) new (λ told x image. inl (stands.disks.recv_disk.images told x image)) same
+
+  -- no call was made
+  pub all_alone : (d : Parts D) (q : Past) → disk_at roles.Low d ≡ disk_at roles.Low c → disk_at roles.High d ≡ disk_at roles.High c → disk_at roles.Recv d ≡ disk_at roles.Recv c → LeavesFit m c d p q
+  all_alone d q low high recv = record {
+    low = low_alone (LowFits c.row q.world) (disk_at roles.Low d) low;
+    high = high_alone (HighFits c.row q.world) (disk_at roles.High d) high;
+    recv = recv_alone (RecvFits c.row q.world) (disk_at roles.Recv d) recv;
+  }
+
+  -- a high look
+  high_reads : m.tells → HighStands c.row (high.removed_of c.high) (m.reading (high_disk c.high_store))
+  high_reads told = subst (λ n. HighStands c.row n (m.reading (high_disk c.high_store))) stands.world.removed (high_reading c.row p.world (m.reading (high_disk c.high_store)) stands.rest.removing (stands.disks.high_disk.reading told))
+
+  pub high_leaves : (Q : List ℕ → Type 0) (store : HighStore D) (frame : Option Frame) → LeavesCounted m c.high c.high_store store frame
+      → ((x : List ℕ) → HighStands c.row (p.world.removed + 1) x → Q x) → Leaves m (high_disk c.high_store) (high_disk store) (λ x. HighFits c.row p.world x ⊎ Q x)
+  high_leaves Q store frame leaves more told x since = ⊎_elim
+      (λ is. inl (inl (subst (λ n. HighStands c.row n x) (sym stands.world.removed) is)))
+      (λ given. inr (more x (subst (λ n. HighStands c.row (n + 1) x) (sym stands.world.removed) given.1)))
+      (leaves c.row high_reads told x since)
+
+-- ---- a low look ----
+
+-- the world after it has the message too
+grown : (row : SessionRow) (w v : World) (o : Option Payload) (message : Payload) (x : List ℕ) → w.removed ≤ length w.accepted → Grows w v (option_to_list o) → o ≡ Some message
+    → LowStands row (length w.accepted + 1) w.removed (live_messages w ++ message ∷ []) x → LowStands row (length v.accepted) v.removed (live_messages v) x
+grown row w v o message x below grows is stands =
+    let accepted : v.accepted ≡ w.accepted ++ message ∷ [] = grows.accepted ∙ ap (λ (t : Option Payload). w.accepted ++ option_to_list t) is in
+    let count : length w.accepted + 1 ≡ length v.accepted = omega (arith, ap length accepted, length-append w.accepted (message ∷ [])) in
+    let list : live_messages w ++ message ∷ [] ≡ live_messages v = sym (live_push w message below) ∙ (λ i. drop (sym grows.removed i) (sym accepted i)) in
+    subst (λ (t : ℕ × ℕ × List (List ℕ)). LowStands row t.0 t.1 t.2 x) (λ i. (count i, sym grows.removed i, list i)) stands
+
+module _ {D : Type 0} (m : Meaning D) (c d : Parts D) (p : Past) (moment word : ℕ) (a : Arrival) (is_fault : Bool) (l : LowLook) (did : Looked m c d moment word a is_fault l) (stands : Stands m c p) where
+  store_row_is : low_row c.low_store ≡ c.row
+  store_row_is = stands.low_ready.store.row ∙ stands.low_ready.row
+
+  free : (message : Payload) → message_in c.low a ≡ Some message → low.next_of c.low + 1 ≤ p.world.removed + (low_row c.low_store).capacity
+  free message e =
+      let none = hand_is_empty c.low a message (taking c.low a message e) in
+      let b = stands.lawful.bounded in
+      let low : p.world.low_hand ≡ None = stands.world.low_hand ∙ ap number_of none in
+      let has = (place p.world b low).place in
+      let same : (low_row c.low_store).capacity ≡ c.row.capacity = ap (λ (r : SessionRow). r.capacity) store_row_is in
+      omega (arith, has, b.size, b.within.below, stands.world.capacity, stands.world.accepted, same)
+
+  low_reads : m.tells → LowStands (low_row c.low_store) (low.next_of c.low) p.world.removed (live_messages p.world) (m.reading (low_disk c.low_store))
+  low_reads told = subst (λ (t : SessionRow × ℕ). LowStands t.0 t.1 p.world.removed (live_messages p.world) (m.reading (low_disk c.low_store))) (λ i. (sym store_row_is i, stands.world.accepted i))
+      (low_reading c.row p.world (m.reading (low_disk c.low_store)) stands.rest.storing (stands.disks.low_disk.reading told))
+
+  module _ (Q : List ℕ → Type 0) where
+    -- where it stores this message
+    Stored : Payload → Type 0
+    Stored message = (x : List ℕ) → LowStands c.row (length p.world.accepted + 1) p.world.removed (live_messages p.world ++ message ∷ []) x → Q x
+
+    stored_leaves : (message : Payload) → message_in c.low a ≡ Some message → Stored message → Leaves m (low_disk c.low_store) (low_disk d.low_store) (λ x. LowFits c.row p.world x ⊎ Q x)
+    unfolding Stored
+    stored_leaves message e more told x since =
+        let t = taking c.low a message e in
+        let left = did.images p.world.removed (live_messages p.world) stands.low_ready.up (free message e) low_reads told x since in
+        let count : low.next_of c.low ≡ length p.world.accepted = sym stands.world.accepted in
+        let either = subst (λ (u : Arrival). HasOrGains (low_row c.low_store) (low.next_of c.low) p.world.removed (live_messages p.world) u x) t.comes left in
+        ⊎_elim
+        (λ is. inl (inl (subst (λ (u : SessionRow × ℕ). LowStands u.0 u.1 p.world.removed (live_messages p.world) x) (λ i. (store_row_is i, count i)) is)))
+        (λ is. inr (more x (subst (λ (u : SessionRow × ℕ × Payload). LowStands u.0 (u.1 + 1) p.world.removed (live_messages p.world ++ u.2 ∷ []) x) (λ i. (store_row_is i, count i, sym t.is_message i)) is)))
+        either
+
+    leaves_by : (message : Option Payload) → message_in c.low a ≡ message → StoreStep m message c.low_store d.low_store is_fault
+        → ((t : Payload) → message_in c.low a ≡ Some t → Stored t) → Leaves m (low_disk c.low_store) (low_disk d.low_store) (λ x. LowFits c.row p.world x ⊎ Q x)
+    leaves_by None e s more = low_alone m c p stands Q (low_disk d.low_store) (ap low_disk s.1)
+    leaves_by (Some message) e s more = stored_leaves message e (more message e)
+
+  high_same : high_disk d.high_store ≡ high_disk c.high_store
+  high_same = ap (λ (t : Parts D). high_disk t.high_store) did.rest
+
+  recv_same : recv_disk d.receiver ≡ recv_disk c.receiver
+  recv_same = ap (λ (t : Parts D). recv_disk t.receiver) did.rest
+
+  -- it went well
+  pub grown_fits : (q : Past) → Grows p.world q.world (option_to_list (message_in c.low a)) → LeavesFit m c d p q
+  unfolding Stored
+  grown_fits q grows = record {
+    low = leaves_by (LowFits c.row q.world) (message_in c.low a) refl did.step.keeps
+        (λ message e x is. inl (grown c.row p.world q.world (message_in c.low a) message x stands.lawful.bounded.within.below grows e is));
+    high = high_alone m c p stands (HighFits c.row q.world) (high_disk d.high_store) high_same;
+    recv = recv_alone m c p stands (RecvFits c.row q.world) (recv_disk d.receiver) recv_same;
+  }
+
+  -- the device failed in the store of a message
+  pub lost_fits : (q : Past) (message stored : Payload) → message_in c.low a ≡ Some message → message ≡ stored → q.world ≡ record p.world { storing = Some stored } → LeavesFit m c d p q
+  unfolding Stored
+  lost_fits q message stored e same world = record {
+    low = leaves_by (LowFits c.row q.world) (message_in c.low a) refl did.step.keeps
+        (λ t f x is.
+        let one : t ≡ stored = some_same t message (sym f ∙ e) ∙ same in
+        subst (λ (w : World). LowFits c.row w x) (sym world)
+        (inr (stored, refl, subst (λ (u : Payload). LowStands c.row (length p.world.accepted + 1) p.world.removed (live_messages p.world ++ u ∷ []) x) one is)));
+    high = high_alone m c p stands (HighFits c.row q.world) (high_disk d.high_store) high_same;
+    recv = recv_alone m c p stands (RecvFits c.row q.world) (recv_disk d.receiver) recv_same;
+  } where
+    some_same : (t u : Payload) → Some t ≡ Some u → t ≡ u
+    some_same t u e = cc
+
+-- ---- two parts of a line ----
+
+-- one disk that fits two worlds
+high_onto : (row : SessionRow) (w v : World) (r x : List ℕ) → w.removing ≡ false → HighFits row w r → HighFits row v r → HighFits row w x → HighFits row v x
+high_onto row w v r x idle is (inl other) fits =
+    let a = high_reading row w r idle is in
+    let b = high_reading row w x idle fits in
+    let same : w.removed ≡ v.removed = ap (λ (t : ℕ × ℕ). t.0) (sym a.value ∙ other.value) in
+    inl (subst (λ n. HighStands row n x) same b)
+high_onto row w v r x idle is (inr (e, other)) fits =
+    let a = high_reading row w r idle is in
+    let b = high_reading row w x idle fits in
+    let same : w.removed ≡ v.removed + 1 = ap (λ (t : ℕ × ℕ). t.0) (sym a.value ∙ other.value) in
+    inr (e, subst (λ n. HighStands row n x) same b)
+
+recv_onto : (row : SessionRow) (w v : World) (r x : List ℕ) → w.packet ≡ None → RecvFits row w r → RecvFits row v r → RecvFits row w x → RecvFits row v x
+recv_onto row w v r x idle is (inl other) fits =
+    let same = one_received row w.received v.received r (recv_reading row w r idle is) other in
+    inl (subst (λ (l : List Payload). RecvStands row l x) same (recv_reading row w x idle fits))
+recv_onto row w v r x idle is (inr (p, e, t, other)) fits =
+    let same = one_received row w.received (v.received ++ p ∷ []) r (recv_reading row w r idle is) other in
+    inr (p, e, t, subst (λ (l : List Payload). RecvStands row l x) same (recv_reading row w x idle fits))
+
+-- the disks of a past that the parts stand for, or came to when a disk failed
+pub record Reads {D : Type 0} (m : Meaning D) (d : Parts D) (q : Past) : Type 0 where
+  pub high : m.tells → HighFits d.row q.world (m.reading (disk_at roles.High d))
+  pub recv : m.tells → RecvFits d.row q.world (m.reading (disk_at roles.Recv d))
+
+pub stands_reads : {D : Type 0} (m : Meaning D) (d : Parts D) (q : Past) → Stands m d q → Reads m d q
+stands_reads m d q s = record { high = s.disks.high_disk.reading; recv = s.disks.recv_disk.reading }
+
+pub fails_reads : {D : Type 0} (m : Meaning D) (d : Parts D) (q : Past) (role : Role) (faults : ℕ) → Fails m d q role faults → Reads m d q
+fails_reads m d q role faults f = record { high = f.disks.high_disk.reading; recv = f.disks.recv_disk.reading }
+
+module _ {D : Type 0} (m : Meaning D) (c e d : Parts D) (p mid q : Past) (stands : Stands m c p) (stands_mid : Stands m e mid) (row : e.row ≡ c.row) where
+  -- what fits in the middle, fits before where the disk was left alone until then
+  high_before : disk_at roles.High e ≡ disk_at roles.High c → m.tells → (x : List ℕ) → HighFits e.row mid.world x → HighFits c.row p.world x
+  high_before same told x fits =
+      let was : HighFits e.row p.world (m.reading (disk_at roles.High e)) = subst (λ (t : SessionRow × D). HighFits t.0 p.world (m.reading t.1)) (λ i. (sym row i, sym same i)) (stands.disks.high_disk.reading told) in
+      subst (λ (r : SessionRow). HighFits r p.world x) row (high_onto e.row mid.world p.world (m.reading (disk_at roles.High e)) x stands_mid.rest.removing (stands_mid.disks.high_disk.reading told) was fits)
+
+  recv_before : disk_at roles.Recv e ≡ disk_at roles.Recv c → m.tells → (x : List ℕ) → RecvFits e.row mid.world x → RecvFits c.row p.world x
+  recv_before same told x fits =
+      let was : RecvFits e.row p.world (m.reading (disk_at roles.Recv e)) = subst (λ (t : SessionRow × D). RecvFits t.0 p.world (m.reading t.1)) (λ i. (sym row i, sym same i)) (stands.disks.recv_disk.reading told) in
+      subst (λ (r : SessionRow). RecvFits r p.world x) row (recv_onto e.row mid.world p.world (m.reading (disk_at roles.Recv e)) x stands_mid.rest.packet (stands_mid.disks.recv_disk.reading told) was fits)
+
+  -- .. and after where it is left alone from then on
+  recv_after : disk_at roles.Recv d ≡ disk_at roles.Recv e → d.row ≡ e.row → Reads m d q → m.tells → (x : List ℕ) → RecvFits c.row mid.world x → RecvFits c.row q.world x
+  recv_after same row' reads told x fits =
+      let is : RecvFits c.row q.world (m.reading (disk_at roles.Recv e)) = subst (λ (t : SessionRow × D). RecvFits t.0 q.world (m.reading t.1)) (λ i. ((row' ∙ row) i, same i)) (reads.recv told) in
+      recv_onto c.row mid.world q.world (m.reading (disk_at roles.Recv e)) x stands_mid.rest.packet (subst (λ (r : SessionRow). RecvFits r mid.world (m.reading (disk_at roles.Recv e))) row (stands_mid.disks.recv_disk.reading told)) is fits
+
+  -- the first part called no disk, and the second not the low one
+  pub later_fits : disk_at roles.Low d ≡ disk_at roles.Low c → disk_at roles.High e ≡ disk_at roles.High c → disk_at roles.Recv e ≡ disk_at roles.Recv c → LeavesFit m e d mid q → LeavesFit m c d p q
+  later_fits low high recv fits = record {
+    low = low_alone m c p stands (LowFits c.row q.world) (disk_at roles.Low d) low;
+    high = λ told x since. ⊎_elim
+        (λ is. inl (high_before high (m.images_tell told) x is))
+        (λ is. inr (subst (λ (r : SessionRow). HighFits r q.world x) row is))
+        (fits.high told x (subst (λ (h : D). m.since (disk_at roles.High d) (m.moment h) x) (sym high) since));
+    recv = λ told x since. ⊎_elim
+        (λ is. inl (recv_before recv (m.images_tell told) x is))
+        (λ is. inr (subst (λ (r : SessionRow). RecvFits r q.world x) row is))
+        (fits.recv told x (subst (λ (h : D). m.since (disk_at roles.Recv d) (m.moment h) x) (sym recv) since));
+  }
+
+  -- the first part called the receiver's disk alone, and the second the high one alone
+  pub both_fit : disk_at roles.Low d ≡ disk_at roles.Low c → disk_at roles.High e ≡ disk_at roles.High c → disk_at roles.Recv d ≡ disk_at roles.Recv e → d.row ≡ e.row → Reads m d q
+      → LeavesFit m c e p mid → LeavesFit m e d mid q → LeavesFit m c d p q
+  both_fit low high recv row' reads first second = record {
+    low = low_alone m c p stands (LowFits c.row q.world) (disk_at roles.Low d) low;
+    high = λ told x since. ⊎_elim
+        (λ is. inl (high_before high (m.images_tell told) x is))
+        (λ is. inr (subst (λ (r : SessionRow). HighFits r q.world x) row is))
+        (second.high told x (subst (λ (h : D). m.since (disk_at roles.High d) (m.moment h) x) (sym high) since));
+    recv = λ told x since. ⊎_elim
+        (λ is. inl is)
+        (λ is. inr (recv_after recv row' reads (m.images_tell told) x is))
+        (first.recv told x (subst (λ (h : D). m.since h (m.moment (disk_at roles.Recv c)) x) recv since));
+  }

@@ -1,0 +1,104 @@
+-- The calls of the three disks in a high look.
+use Rattle.disk_model.specs.Disk.{Answers, Meaning}
+use Rattle.high_process.specs.Storing.{Fares, LeavesCounted}
+use Rattle.high_process.specs.declared.process.HighProcess.{HighProcess}
+use Rattle.high_process.specs.declared.values.HighFault.TheVariants.{Ahead, Behind, Device}
+use Rattle.high_process.specs.declared.values.HighFault.{HighFault}
+use Rattle.high_process.specs.declared.values.HighLook.{HighLook}
+use Rattle.high_process.specs.declared.values.Task.TheVariants.{Keep, Refuse, Remove}
+use Rattle.high_process.specs.declared.values.Task.{Task}
+use Rattle.high_receiver.specs.Receiving.{recv_disk}
+use Rattle.passage.specs.declared.plain.PlainEnds.{PlainEnds}
+use Rattle.pump_frame.specs.declared.frame.Frame.{Frame}
+use Rattle.script_reader.specs.Past.{Past}
+use Rattle.stable_buffer.specs.High.{high_disk, removal_end}
+use Rattle.stable_buffer.specs.declared.high.HighStore.{HighStore}
+use Rattle.std.proofs.Common.{None, Ok, Option, Some, ap, arith, false, inl, inr, le_trans, refl, subst, sym, true, ℕ, ◌≡◌, ◌≤◌}
+use Rattle.std.proofs.Math.Logic.{∥∥₁_elim}
+use Rattle.std.proofs.Props.{props}
+use Rattle.std.specs.Coded.{le_prop}
+use Rattle.two_worlds.proofs.High.Disks.{behind, failed, went}
+use Rattle.two_worlds.proofs.High.Removals.{Asks, asks}
+use Rattle.two_worlds.specs.Disks.{RemovesBehind}
+use Rattle.two_worlds.specs.Doing.{DisksServe, Serves}
+use Rattle.two_worlds.specs.Private.HighLooks.{ComesBack}
+use Rattle.two_worlds.specs.Standing.{Stands, StandsForSome}
+use Rattle.two_worlds.specs.declared.pump.parts.Parts.{Parts}
+use Rattle.two_worlds.proofs.High.Failing.{never_behind}
+use Rattle.two_worlds.proofs.High.Standing.{looked_parts}
+use Rattle.high_process.specs.States as high
+
+-- ---- the high disk ----
+
+short : {D : Type 0} (store : HighStore D) → removal_end store ≤ 80
+short store = omega arith
+
+module _ {D : Type 0} (m : Meaning D) (q r : HighProcess) (old new : HighStore D) where
+  served : (look : HighLook) → Answers m (removal_end old ≤ m.room (high_disk old)) (high_disk old) (high_disk new) (went look) → Serves m 80 (high_disk old) (high_disk new) false
+  served look a = inr (record {
+    counts = a.counts;
+    rose = a.rose;
+    never = λ plan off fits. a.never plan off (le_trans (short old) fits);
+    always = a.always;
+    room = a.room;
+    disarmed = a.disarmed;
+  })
+
+  pub serves : (task : Task) (look : HighLook) → Fares m task q r old new (went look) → Serves m 80 (high_disk old) (high_disk new) false
+  serves Keep look fares = inl (ap high_disk fares.1, refl)
+  serves (Refuse e) look fares = inl (ap high_disk fares.2, refl)
+  serves Remove look fares = served look fares.0.answers
+
+  pub broken : (e : HighFault) → Answers m (removal_end old ≤ m.room (high_disk old)) (high_disk old) (high_disk new) (failed e) → Serves m 80 (high_disk old) (high_disk new) true
+  broken e a = inr (record {
+    counts = a.counts;
+    rose = a.rose;
+    never = λ plan off fits. a.never plan off (le_trans (short old) fits);
+    always = a.always;
+    room = a.room;
+    disarmed = a.disarmed;
+  })
+
+-- nothing that comes back asks for a fault of the disk
+no_device : {D : Type 0} (c : Parts D) (p : Past) (back : Option ℕ) (faults : ℕ) → Asks c p back (Refuse (Device faults)) → ⊥
+no_device c p None faults asked = asked
+no_device c p (Some k) faults asked = asked
+
+-- ---- the calls of a look ----
+
+module _ {D : Type 0} (m : Meaning D) (c : Parts D) (q : HighProcess) (store : HighStore D) (frame : Option Frame) where
+  pub broken_serves : (task : Task) (faults : ℕ) → Fares m task c.high q c.high_store store (failed (Device faults)) → (task ≡ Refuse (Device faults) → ⊥) → Serves m 80 (high_disk c.high_store) (high_disk store) true
+  broken_serves Keep faults fares never = absurd fares.0
+  broken_serves Remove faults fares never = broken m c.high q c.high_store store (Device faults) fares.0.answers
+  broken_serves (Refuse e) faults fares never = absurd (never (cc))
+
+  pub refused_serves : (task : Task) (n next : ℕ) → Fares m task c.high q c.high_store store (failed (Ahead n next)) → Serves m 80 (high_disk c.high_store) (high_disk store) false
+  refused_serves Keep n next fares = absurd fares.0
+  refused_serves Remove n next fares = let no = fares.0.fault in absurd (cc)
+  refused_serves (Refuse e) n next fares = inl (ap high_disk fares.2, refl)
+
+  module _ (some : ∥ StandsForSome m c ∥₁) (comes : (p : Past) → Stands m c p → (back : Option ℕ) × ComesBack c.row.id p.world frame back) where
+    -- whatever comes back, no crash leaves more removed than taken
+    pub removes_behind : LeavesCounted m c.high c.high_store store frame → RemovesBehind m (high_disk c.high_store) (high_disk store) (recv_disk c.receiver)
+    removes_behind leaves = λ told b left d image.
+        ∥∥₁_elim some le_prop (λ s. (let back = comes s.0 s.1 in behind m c s.0 s.1 store frame back.0 back.1 leaves told b left d image))
+
+    pub asks_no_device : (faults : ℕ) → high.task_at c.high frame ≡ Refuse (Device faults) → ⊥
+    asks_no_device faults e =
+        ∥∥₁_elim some (hlevel props) (λ s. (let back = comes s.0 s.1 in no_device c s.0 back.0 faults (subst (Asks c s.0 back.0) e (asks m c s.0 s.1 frame back.0 back.1))))
+
+    pub comes_not_behind : (ends : PlainEnds) (n removed : ℕ) → Fares m (high.task_at c.high frame) c.high q c.high_store store (failed (Behind n removed)) → ⊥
+    comes_not_behind ends n removed fares =
+        ∥∥₁_elim some (hlevel props) (λ s. (let back = comes s.0 s.1 in never_behind m c s.0 s.1 c.moment (omega arith) q store ends frame back.0 n removed back.1 fares))
+
+-- after a look that went well
+pub looked_serves : {D : Type 0} (m : Meaning D) (c : Parts D) (moment : ℕ) (q : HighProcess) (store : HighStore D) (ends : PlainEnds) (look : HighLook) (task : Task)
+    → Fares m task c.high q c.high_store store (went look) → RemovesBehind m (high_disk c.high_store) (high_disk store) (recv_disk c.receiver)
+    → (d : Parts D) → d ≡ looked_parts m c moment q store ends look.sent → DisksServe m c d (Ok tt)
+looked_serves {D} m c moment q store ends look task fares behind d is =
+    subst (λ (e : Parts D). DisksServe m c e (Ok tt)) (sym is) (record {
+      low = inl (refl, refl);
+      high = serves m c.high q c.high_store store task look fares;
+      recv = inl (refl, refl);
+      behind = behind;
+    })

@@ -1,0 +1,6 @@
+-- A line of the script, from its parts.
+pub mod Applied
+pub mod DoesMore
+pub mod Done
+pub mod Runs
+pub mod Timely

@@ -1,0 +1,6 @@
+-- New parts, and what parts that stand for something have ready.
+pub mod Ends
+pub mod Formatted
+pub mod Ready
+pub mod RowRanges
+pub mod Starts

@@ -1,0 +1,5 @@
+-- The laws over worlds and runs.
+pub mod Acknowledged
+pub mod Outliving
+pub mod Pairs
+pub mod Worlds

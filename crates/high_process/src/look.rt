@@ -19,7 +19,8 @@ impl HighProcess {
     /// The first half of a look: of this moment in microseconds, which is not below the last one
     /// and at most 2^62, with this frame. It stores a removal, and says what is to be asked of the
     /// passage. A frame that is refused as ahead or behind changes nothing; after a device fault
-    /// the process is down. A crash at any moment leaves the count from before the look, or one
+    /// the process is down, with the count, the hand and the number of times published as before,
+    /// and the look counts as made. A crash at any moment leaves the count from before the look, or one
     /// more where the receiver has the message in the hand.
     pub fn begin<D: Disk>(
         &mut self,
@@ -55,7 +56,7 @@ impl HighProcess {
     }
 
     /// A whole look over the store and the high end of the passage: `begin`, what it asks of the
-    /// end, and `finish`. As many times were published at the end as by this process since its
+    /// end, and `finish`; the time is published before the next message is taken up. As many times were published at the end as by this process since its
     /// opening, and the last message that the end gave was asked for with fewer removed than now,
     /// or with as many where the hand is full; afterwards this holds again.
     pub fn look<D: Disk, H: HighEnd>(

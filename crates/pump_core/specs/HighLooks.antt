@@ -28,17 +28,17 @@ abbrev pub has_removed : World → World → Bool
 has_removed w v = nat_lt w.removed v.removed
 
 -- the time that is published with the removal at m, if one happened
-abbrev pub time_of : HighPast → ℕ → World → World → Option ℕ
-time_of p m w v = if has_removed w v then removal_time w.removed m p.sends p.times else None
+abbrev pub time_between : HighPast → ℕ → World → World → Option ℕ
+time_between p m w v = if has_removed w v then removal_time w.removed m p.sends p.times else None
 
 -- the first part of a look at m: a TAKEN comes back, the message in the hand is removed where that is
 -- due, and its time is published
-pub record Removes (p : HighPast) (m : ℕ) (back : Option ℕ) (q : HighPast) : Type 0 where
+pub record RemovalPart (p : HighPast) (m : ℕ) (back : Option ℕ) (q : HighPast) : Type 0 where
   pub answered : World
   pub returns : Returns p.world back answered
   pub removes : Perhaps answered RemoveBegin (RemoveEnd ∷ []) q.world
   pub time : Option ℕ
-  pub is_time : time ≡ time_of p m answered q.world
+  pub is_time : time ≡ time_between p m answered q.world
   pub times : q.times ≡ p.times ++ option_to_list time
   pub sends : q.sends ≡ p.sends
 
@@ -49,7 +49,7 @@ IsSent false w v = v ≡ w
 
 -- the second part of a look at m: an empty hand takes up the next message, and the message in the hand
 -- is sent where it is due, and in any case where a receiver attaches
-pub record Sends (resend : ℕ) (attaches : Bool) (p : HighPast) (m : ℕ) (q : HighPast) : Type 0 where
+pub record SendingPart (resend : ℕ) (attaches : Bool) (p : HighPast) (m : ℕ) (q : HighPast) : Type 0 where
   pub taken : World
   pub takes_up : Perhaps p.world TakeUp [] taken
   pub is_sent : Bool
@@ -59,5 +59,5 @@ pub record Sends (resend : ℕ) (attaches : Bool) (p : HighPast) (m : ℕ) (q : 
   pub sends : q.sends ≡ (if is_sent then sending_of m taken.high_hand ++ p.sends else p.sends)
 
 -- a whole look at m; `back` is the place of the TAKEN that comes back
-abbrev pub Looks : ℕ → Bool → HighPast → ℕ → Option ℕ → HighPast → Type 0
-Looks resend attaches p m back q = (mid : HighPast) × Removes p m back mid × Sends resend attaches mid m q
+abbrev pub WholeLook : ℕ → Bool → HighPast → ℕ → Option ℕ → HighPast → Type 0
+WholeLook resend attaches p m back q = (mid : HighPast) × RemovalPart p m back mid × SendingPart resend attaches mid m q

@@ -17,7 +17,7 @@ use Rattle.pump_core.proofs.Cuts.{one_cut}
 use Rattle.script_reader.specs.declared.line.Line.{Line}
 use Rattle.script_reader.specs.declared.line.Line.TheVariants as lines
 use Rattle.script_reader.specs.declared.event.Event.{Event}
-use Rattle.pump_core.specs.HighLooks.{Perhaps, Returns, IsSent, time_of, Removes, Sends}
+use Rattle.pump_core.specs.HighLooks.{Perhaps, Returns, IsSent, time_between, RemovalPart, SendingPart}
 use Rattle.pump_core.specs.Sendings.{sends_hand, sending_of}
 use Rattle.script_reader.specs.Past.{Past, high_of}
 use Rattle.script_reader.specs.Lows.{first_of, is_bad, feedback, offers, stored_events, acks_of, printed_store, printed_feedback, printed_replies, IsLook}
@@ -85,11 +85,11 @@ pub record Same (q r : Past) (xs ys : List Event) : Type 0 where
 
 removal_one : (s : SessionRow) (p : Past) (m : ℕ) (back : Option ℕ) (q r : Past) (xs ys : List Event) → IsRemoval s p m back q xs → IsRemoval s p m back r ys → Same q r xs ys
 removal_one s p m back q r xs ys h k =
-    let x : Removes (high_of p) m back (high_of q) = h.look in
-    let y : Removes (high_of p) m back (high_of r) = k.look in
+    let x : RemovalPart (high_of p) m back (high_of q) = h.look in
+    let y : RemovalPart (high_of p) m back (high_of r) = k.look in
     let a = returns_one p.world back x.answered y.answered x.returns y.returns in
     let b = perhaps_one x.answered RemoveBegin (RemoveEnd ∷ []) q.world r.world x.removes (subst (λ (w : World). Perhaps w RemoveBegin (RemoveEnd ∷ []) r.world) (sym a) y.removes) in
-    let t : x.time ≡ y.time = x.is_time ∙ ap (λ (u : World × World). time_of (high_of p) m u.0 u.1) (λ i. (a i, b i)) ∙ sym y.is_time in
+    let t : x.time ≡ y.time = x.is_time ∙ ap (λ (u : World × World). time_between (high_of p) m u.0 u.1) (λ i. (a i, b i)) ∙ sym y.is_time in
     let times : q.times ≡ r.times = x.times ∙ ap (λ (o : Option ℕ). p.times ++ option_to_list o) t ∙ sym y.times in
     record {
       past = h.rest ∙ (λ i. record p { world = b i; times = times i }) ∙ sym k.rest;
@@ -98,8 +98,8 @@ removal_one s p m back q r xs ys h k =
 
 sending_one : (s : SessionRow) (p : Past) (m : ℕ) (q r : Past) (xs ys : List Event) → IsSending s p m q xs → IsSending s p m r ys → Same q r xs ys
 sending_one s p m q r xs ys h k =
-    let x : Sends s.resend false (high_of p) m (high_of q) = h.look in
-    let y : Sends s.resend false (high_of p) m (high_of r) = k.look in
+    let x : SendingPart s.resend false (high_of p) m (high_of q) = h.look in
+    let y : SendingPart s.resend false (high_of p) m (high_of r) = k.look in
     let a = perhaps_one p.world TakeUp [] x.taken y.taken x.takes_up y.takes_up in
     let c : x.is_sent ≡ y.is_sent = x.cause ∙ ap (λ (w : World). sends_hand s.resend false p.sends m w.high_hand) a ∙ sym y.cause in
     let b = sends_one x.is_sent x.taken q.world r.world x.sent (subst (λ (u : Bool × World). IsSent u.0 u.1 r.world) (λ i. (sym c i, sym a i)) y.sent) in

@@ -7,7 +7,7 @@ use Rattle.pump_core.specs.declared.event.Event.TheVariants.{CarryData, TakeBegi
 use Rattle.pump_core.specs.World.{World}
 pub use Rattle.stable_buffer.specs.Format.{receiver_size}
 use Rattle.pump_core.specs.Events.{Happens}
-use Rattle.pump_core.specs.HighLooks.{Perhaps, has_removed, Removes, Sends}
+use Rattle.pump_core.specs.HighLooks.{Perhaps, has_removed, RemovalPart, SendingPart}
 use Rattle.pump_core.specs.Sendings.{expected}
 use Rattle.script_reader.specs.declared.event.Event.{Event}
 use Rattle.script_reader.specs.declared.event.Event.TheVariants.{Removed, Sent, Took, Again}
@@ -21,7 +21,7 @@ printed_removal session m w v time = if has_removed w v then Removed session m w
 -- the first part of a high look at m: a TAKEN comes back, the message in the hand is removed where
 -- that is due, and its time is published
 pub record IsRemoval (row : SessionRow) (p : Past) (m : ℕ) (back : Option ℕ) (q : Past) (printed : List Event) : Type 0 where
-  pub look : Removes (high_of p) m back (high_of q)
+  pub look : RemovalPart (high_of p) m back (high_of q)
   pub rest : q ≡ record p { world = q.world; times = q.times }
   pub printed_is : printed ≡ printed_removal row.id m look.answered q.world look.time
 
@@ -34,7 +34,7 @@ printed_sending session m (Some n) = Sent session m n ∷ []
 -- the second part of a high look at m: an empty hand takes up the next message, and the message in
 -- the hand is sent where it is due
 pub record IsSending (row : SessionRow) (p : Past) (m : ℕ) (q : Past) (printed : List Event) : Type 0 where
-  pub look : Sends row.resend false (high_of p) m (high_of q)
+  pub look : SendingPart row.resend false (high_of p) m (high_of q)
   pub rest : q ≡ record p { world = q.world; sends = q.sends; moment = m }
   pub printed_is : printed ≡ (if look.is_sent then printed_sending row.id m look.taken.high_hand else [])
 

@@ -1,6 +1,7 @@
 ghost use Rattle.std.specs.Prelude.{◌≡◌};
 
 use arrayvec::ArrayVec;
+use pump_frame::raised;
 use pump_link::{ReadFault, Sink, Source, WriteFault};
 use std::io::{Read, Write};
 
@@ -29,7 +30,7 @@ impl<R: Read> Source for StdSource<R> {
         match self.inner.read(into) {
             Ok(count) => Ok(count),
             Err(_) => {
-                self.faults = self.faults.saturating_add(1);
+                self.faults = raised(self.faults);
                 Err(ReadFault)
             }
         }
@@ -85,7 +86,7 @@ impl<W: Write> Sink for StdSink<W> {
                 Ok(count)
             }
             _ => {
-                self.faults = self.faults.saturating_add(1);
+                self.faults = raised(self.faults);
                 Err(WriteFault)
             }
         }

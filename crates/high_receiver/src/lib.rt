@@ -2,7 +2,6 @@
 //! moment. The bytes are those of `docs/formats.md`, "Disks".
 #![tactic(auto)]
 
-mod beside;
 mod reading;
 mod receiver;
 mod values;

@@ -3,7 +3,6 @@ ghost use Rattle.disk_model.specs.Disk.{Moves, Same, Settled, Leaves, Answers};
 ghost use Rattle.pump_frame.specs.Rows.{IsLawfulRow};
 ghost use Rattle.stable_buffer.specs.Log.{RecvStands};
 
-use crate::beside::{spell, write_beside};
 use crate::reading::read_message;
 use crate::{TakeFault, Taken};
 use disk_model::Disk;
@@ -51,7 +50,7 @@ impl<D: Disk> Receiver<D> {
         }
     }
 
-    /// No call has failed. Once one has, only `is_open` and `into_disk` may be called.
+    /// No call of the disk has failed. Once one has, `take` and `message` may not be called.
     pub fn is_open(&self) -> bool
         ensures { result ≡ recv_is_open self.now }
     {
@@ -129,9 +128,8 @@ impl<D: Disk> Receiver<D> {
         ensures device { IfErr result (λ e. e.faults ≡ D.told.count (recv_disk self.new)) }
     {
         let (count, end) = self.register.value();
-        let record = spell(payload);
         let length = payload.len();
-        write_beside(&mut self.register, end, &record[..2 + length as usize])?;
+        self.register.write_message(end, payload)?;
         self.register.stage(count + 1, end + 2 + length as u64)?;
         self.register.commit()?;
         Ok(())

@@ -17,7 +17,7 @@ the_first x y ys at = get_or_from_slice_get (y ∷ ys) 0 x x at
 
 -- all but the first item are kept
 pub all_but_first : (xs : List Item) (x : Item) (n : ℕ) → slice_get xs 0 ≡ Some x → n ≡ length xs → keep_last (n - 1) xs ≡ drop 1 xs
-all_but_first xs x n at is = 
+all_but_first xs x n at is =
     let some = slice_get_within xs 0 x at in
     let one : length xs - (n - 1) ≡ 1 = omega (arith, is, some) in
     ap (λ (k : ℕ). drop k xs) one

@@ -1,4 +1,5 @@
-ghost use Rattle.std.specs.Prelude.{◌≡◌, ◌+◌, ◌<◌, ◌≤◌, length, IfOk};
+ghost use Rattle.std.specs.Prelude.{◌≡◌, ◌+◌, ◌-◌, ◌<◌, ◌≤◌, length, IfOk};
+ghost use Rattle.pump_frame.specs.Rows.{greatest_capacity};
 
 use crate::ends::{Forwarded, HighEnd, HighSide, LowEnd, LowSide};
 use circular_buffer::HeapCircularBuffer;
@@ -15,7 +16,7 @@ pub struct PlainEnds {
     items: HeapCircularBuffer<Item>,
     window: Window,
     ghost fits: { length items.items ≤ items.capacity },
-    ghost room: { (0 < items.capacity) × (items.capacity ≤ 62) },
+    ghost room: { (0 < items.capacity) × (items.capacity ≤ greatest_capacity - 2) },
 }
 
 impl LowSide for PlainEnds {

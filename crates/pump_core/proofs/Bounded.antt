@@ -5,6 +5,7 @@ use Rattle.std.specs.List.{range_with_len}
 use Rattle.std.proofs.lemmas.List.FromFn.{length-range_with_len}
 use Rattle.std.proofs.lemmas.Bool.{and_parts, eqb-true, eqb-false, ne_eqb, lt-ltb}
 use Rattle.std.proofs.Math.Nat.{mul-le-mul_left}
+use Rattle.pump_frame.specs.Rows.{least_capacity, greatest_capacity}
 use Rattle.pump_frame.specs.declared.payload.Payload.{Payload}
 use Rattle.pump_frame.specs.declared.frame.Item.{Item}
 use Rattle.pump_core.specs.World.{World, refilled}
@@ -310,7 +311,7 @@ refilled_order capacity removed (suc k) two le =
     ] refl
 
 -- a pump that is filled anew
-pub refills : (w : World) → (3 ≤ w.capacity) × (w.capacity ≤ 64)
+pub refills : (w : World) → (least_capacity ≤ w.capacity) × (w.capacity ≤ greatest_capacity)
     → IsWithin w.capacity w.removed (length w.accepted)
     → All (IsMessage w.removed w.accepted) w.sent → All (λ n. n < length w.accepted) w.acknowledged
     → IsBounded (refilled w)

@@ -10,7 +10,7 @@ use Rattle.pump_core.specs.Phases.{Idle, Passing}
 use Rattle.pump_core.specs.History.{Arrival}
 use Rattle.pump_core.specs.History.{Nothing, Came, Bad, Gone}
 use Rattle.pump_core.specs.History.{Look, Opening}
-use Rattle.pump_core.specs.Exchanges.{is_gone, is_repeat, is_next, is_passed, has_average, due, ends, Wait, Waiting, Over, Part, Holding, Release, Empty, Leaving, Answer, Repeated, Offering, Dropped, Delivery, Loss, looks_of, is_finished, count_after, greeted_after, is_left, IsWait, IsPart, AreParts}
+use Rattle.pump_core.specs.Exchanges.{is_gone, is_repeat, is_next, is_passed, has_average, due, ends, Waiting, Over, Part, Holding, Release, Empty, Leaving, Answer, Repeated, Offering, Dropped, Delivery, Loss, looks_of, is_finished, count_after, greeted_after, is_left, IsWait, IsPart, AreParts}
 use Rattle.pump_core.specs.Replies.{number_in}
 use Rattle.pump_core.specs.Step.{is_quiet, fits_passing, fits_idle, fits_in, Fits}
 use Rattle.pump_core.specs.Standing.{end_of}

@@ -1,6 +1,7 @@
 -- Whatever happens, a world stays lawful: each event keeps it so, and then all of them do.
 use Rattle.std.proofs.Common.{◌≡◌, ℕ, ◌<◌, ◌≤◌, true, List, [], ◌∷◌, ◌++◌, length, Some, None, refl, sym, subst, arith, length-append}
 use Rattle.std.proofs.lemmas.List.Elements.{All-nil}
+use Rattle.pump_frame.specs.Rows.{least_capacity, greatest_capacity}
 use Rattle.pump_frame.specs.declared.payload.Payload.{Payload}
 use Rattle.pump_core.specs.declared.event.Event.{Event}
 use Rattle.pump_core.specs.declared.event.Event.TheVariants.{StoreBegin, StoreEnd, Forward, TakeUp, Send, CarryData, TakeBegin, TakeEnd, ReturnTaken, RemoveBegin, RemoveEnd, Acknowledge, Crash}
@@ -66,7 +67,7 @@ stays_delivered w (Crash (Some p) r) v b d h =
 
 -- ---- beginnings ----
 
-empty_is_bounded : (capacity : ℕ) → 3 ≤ capacity → capacity ≤ 64 → IsBounded (empty capacity)
+empty_is_bounded : (capacity : ℕ) → least_capacity ≤ capacity → capacity ≤ greatest_capacity → IsBounded (empty capacity)
 empty_is_bounded capacity low high = record {
   size = (low, high);
   within = record { below = omega arith; above = omega arith };
@@ -77,8 +78,8 @@ empty_is_bounded capacity low high = record {
   acknowledged = All-nil (λ n. n < 0);
 }
 
-opened_is_bounded : (capacity removed : ℕ) (received later : List Payload) → 3 ≤ capacity
-    → capacity ≤ 64 → Agree capacity removed received later
+opened_is_bounded : (capacity removed : ℕ) (received later : List Payload) → least_capacity ≤ capacity
+    → capacity ≤ greatest_capacity → Agree capacity removed received later
     → IsBounded (opened capacity removed received later)
 opened_is_bounded capacity removed received later low high a =
     bounded.refills (record (empty capacity) { accepted = received ++ later; removed = removed; received = received; returned = last_taken received })

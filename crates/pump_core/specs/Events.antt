@@ -1,5 +1,6 @@
 -- What may happen in a world: each event where its condition holds, and it changes only what is named.
 use Rattle.std.specs.Prelude.{◌≡◌, ℕ, ◌+◌, ◌-◌, ◌<◌, ◌≤◌, ◌&&◌, nat_lt, ◌==◌, if◌then◌else◌, Bool, true, false, List, [], ◌∷◌, ◌++◌, length, slice_get, Option, Some, None}
+use Rattle.pump_frame.specs.Rows.{least_capacity, greatest_capacity}
 use Rattle.pump_frame.specs.declared.payload.Payload.{Payload}
 use Rattle.pump_frame.specs.declared.frame.Item.{Item}
 use Rattle.pump_core.specs.declared.event.Event.{Event}
@@ -121,9 +122,9 @@ Run w (e ∷ es) v = (next : World) × Happens w e next × Run next es v
 
 -- a world begins empty, or opens on disks that agree
 pub data Begins : World → Type 0 where
-  Empty : (capacity : ℕ) → 3 ≤ capacity → capacity ≤ 64 → Begins (empty capacity)
+  Empty : (capacity : ℕ) → least_capacity ≤ capacity → capacity ≤ greatest_capacity → Begins (empty capacity)
   Opened : (capacity removed : ℕ) (received later : List Payload)
-      → 3 ≤ capacity → capacity ≤ 64 → Agree capacity removed received later
+      → least_capacity ≤ capacity → capacity ≤ greatest_capacity → Agree capacity removed received later
       → Begins (opened capacity removed received later)
 
 -- ---- forged answers ----

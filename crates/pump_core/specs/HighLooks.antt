@@ -5,7 +5,7 @@ use Rattle.pump_core.specs.declared.event.Event.{Event}
 use Rattle.pump_core.specs.declared.event.Event.TheVariants.{TakeUp, Send, ReturnTaken, RemoveBegin, RemoveEnd}
 use Rattle.pump_core.specs.World.{World}
 use Rattle.pump_core.specs.Events.{Happens, Run}
-use Rattle.pump_core.specs.Sendings.{Sending, first_sending, removal_time, sends_hand, sending_of}
+use Rattle.pump_core.specs.Sendings.{Sending, removal_time, sends_hand, sending_of}
 
 -- what the high side has come to: the world, the times published since the opening, the oldest first,
 -- and the sendings since the opening, the newest first

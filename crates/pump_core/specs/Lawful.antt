@@ -1,6 +1,7 @@
 -- What holds of every world that events lead to.
 use Rattle.std.specs.Prelude.{◌≡◌, ◌≢◌, ℕ, ◌+◌, ◌-◌, ◌%◌, ◌<◌, ◌≤◌, Bool, true, false, List, ◌++◌, length, slice_get, All, Option, Some, None, option_to_list}
 use Rattle.std.specs.List.{range_with_len}
+use Rattle.pump_frame.specs.Rows.{least_capacity, greatest_capacity}
 use Rattle.pump_frame.specs.declared.payload.Payload.{Payload}
 use Rattle.pump_frame.specs.declared.frame.Item.{Item}
 use Rattle.pump_core.specs.World.{World}
@@ -47,7 +48,7 @@ pub record IsMessage (removed : ℕ) (accepted : List Payload) (d : Item) : Type
 
 -- a world whose pump keeps to all of this
 pub record IsBounded (w : World) : Type 0 where
-  pub size : (3 ≤ w.capacity) × (w.capacity ≤ 64)
+  pub size : (least_capacity ≤ w.capacity) × (w.capacity ≤ greatest_capacity)
   pub within : IsWithin w.capacity w.removed (length w.accepted)
   pub order : AreInOrder w.capacity w.removed (length w.accepted) w.high_hand w.held w.low_hand
   pub store : StoresWithPlace w.capacity w.removed (length w.accepted) w.low_hand w.storing

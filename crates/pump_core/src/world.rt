@@ -64,15 +64,16 @@ fn at<T: Copy>(list: &[T], place: u64) -> Option<T>
 }
 
 impl World {
+    ghost use Rattle.pump_frame.specs.Rows.{least_capacity, greatest_capacity};
     ghost use Rattle.pump_core.specs.World.{empty};
     ghost use Rattle.pump_core.specs.Events.{Answers, pump_crashed, receiver_crashed};
     ghost use Rattle.pump_core.specs.View.{IsRefill};
 
-    /// A world with nothing in it, for a pump with this many places, 3 to 64. The error comes only for
-    /// want of memory.
+    /// A world with nothing in it, for a pump with this many places, `LEAST_CAPACITY` to
+    /// `GREATEST_CAPACITY`. The error comes only for want of memory.
     pub fn new(alloc: Global, capacity: u32) -> Result<World, OutOfMemory>
-        requires at_least { 3 ≤ capacity }
-        requires at_most { capacity ≤ 64 }
+        requires at_least { least_capacity ≤ capacity }
+        requires at_most { capacity ≤ greatest_capacity }
         ensures { IfOk result (λ w. w ≡ empty capacity) }
     {
         Ok(World {

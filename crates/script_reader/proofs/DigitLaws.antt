@@ -1,12 +1,12 @@
 -- The table of digits, and what two digits are.
-use Rattle.std.proofs.Common.{◌≡◌, ℕ, ◌+◌, ◌*◌, ◌<◌, ◌≤◌, Bool, true, false, cond, List, Option, None, Some, Result, Ok, Err, map, length, take, drop, slice_index, slice_set, refl, sym, ap, ◌∙◌, arith}
+use Rattle.std.proofs.Common.{◌≡◌, ℕ, ◌+◌, ◌*◌, ◌<◌, ◌≤◌, Bool, true, false, cond, List, Option, None, Some, Result, Ok, Err, map, slice_index, refl, ap, ◌∙◌, arith}
 use Rattle.std.specs.List.{range_with_len}
 use Rattle.std.specs.Int.{from_be_bytes, w32}
 use Rattle.std.proofs.lemmas.List.FromFn.{get_or-map-range_with_len}
-use Rattle.hex.specs.Hex.{hex_digit_value, pair_value, digit_or_error, value_at, decode_sized, decode_pairs}
+use Rattle.hex.specs.Hex.{hex_digit_value, pair_value, digit_or_error, value_at, decode_sized}
 use Rattle.hex.specs.declared.FromHexError.{FromHexError}
 use Rattle.hex.specs.declared.FromHexError.TheVariants.{InvalidHexCharacter}
-use Rattle.script_reader.specs.DigitValues.{value_in, digit_value, Pairs}
+use Rattle.script_reader.specs.DigitValues.{value_in, digit_value}
 use Rattle.script_reader.specs.Parsing.{bytes_from, word, word_from}
 use Rattle.script_reader.specs.declared.digits.TheConstants.{VALUES}
 

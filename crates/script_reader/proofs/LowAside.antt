@@ -49,7 +49,7 @@ sending_aside s p m q printed r = record {
   said = ap said_to_low r.printed_is ∙ of_sending s.id m r.look.taken.high_hand r.look.is_sent;
 }
 
-high_aside : (s : SessionRow) (p : Past) (m : ℕ) (back : Option ℕ) (q : Past) (printed : List Event) → IsHighLook s p m back q printed → Aside p q printed
+pub high_aside : (s : SessionRow) (p : Past) (m : ℕ) (back : Option ℕ) (q : Past) (printed : List Event) → IsHighLook s p m back q printed → Aside p q printed
 high_aside s p m back q printed (mid, first, second, r, t, e) = both p mid q first second printed (removal_aside s p m back mid first r) (sending_aside s mid m q second t) e
 
 return_by_aside : (b : Bool) (s : SessionRow) (p : Past) (m n : ℕ) (q : Past) (printed : List Event) → IsReturnBy b s p m n q printed → Aside p q printed

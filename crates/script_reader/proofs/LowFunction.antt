@@ -1,5 +1,5 @@
 -- The low lines of a transcript are a function of low's own lines and of what is said to Low.
-use Rattle.std.proofs.Common.{◌≡◌, ℕ, suc, true, false, List, [], ◌∷◌, ◌++◌, map, Option, Some, None, refl, sym, ap, ◌∙◌, subst, arith, append-nil}
+use Rattle.std.proofs.Common.{◌≡◌, inl, inr, ℕ, suc, true, false, List, [], ◌∷◌, ◌++◌, map, Option, Some, None, refl, sym, ap, ◌∙◌, subst, arith, append-nil, append_assoc}
 use Rattle.std.specs.Prelude.{◌≢◌, if◌then◌else◌, filter_map, All, AllPairs}
 use Rattle.std.proofs.lemmas.List.Elements.{All-tail, filter-append, filter_map-append}
 use Rattle.std.specs.List.{AllByRecursion, cons_option}
@@ -16,21 +16,24 @@ use Rattle.pump_core.proofs.Agreement.{same_lives}
 use Rattle.script_reader.specs.declared.line.Line.{Line}
 use Rattle.script_reader.specs.declared.line.Line.TheVariants as lines
 use Rattle.script_reader.specs.declared.line.ToldFeedback.{ToldFeedback}
+use Rattle.script_reader.specs.declared.fault.Fault.{Fault}
 use Rattle.script_reader.specs.declared.event.Event.{Event}
 use Rattle.script_reader.specs.declared.event.Event.TheVariants.{End}
 use Rattle.script_reader.specs.Past.{Past}
 use Rattle.script_reader.specs.Lows.{first_of, IsLook}
-use Rattle.script_reader.specs.Tolds.{LowPast, IsToldLook}
-use Rattle.script_reader.specs.Steps.{Coming, Arrives, joined, lost, Step}
-use Rattle.script_reader.specs.Scripts.{Running, LowRunning, Begun, Whole, Alone, Goes, GoesOn, Leads, LeadTo, Ends, IsTranscript}
+use Rattle.script_reader.specs.Tolds.{LowPast, IsToldLook, StepLow}
+use Rattle.script_reader.specs.Steps.{Coming, Arrives, joined, lost, Step, Overfills}
+use Rattle.script_reader.specs.Scripts.{Running, LowRunning, Begun, Whole, Alone, Goes, GoesOn, Leads, LeadTo, Stops, ComesTo, Ends, IsTranscript}
 use Rattle.script_reader.specs.Readouts.{low_lines}
 use Rattle.script_reader.specs.Sides.{is_lows, low_side_of, told_to_low, full_moments, averages, look_moment, HaveOwnMoments}
 use Rattle.script_reader.proofs.One.{arrives_one}
 use Rattle.script_reader.proofs.OneScript.{leads_one}
-use Rattle.script_reader.proofs.Replying.{Replies, lead_so, low-append}
+use Rattle.script_reader.proofs.Replying.{Replies, low-append}
 use Rattle.script_reader.proofs.Telling.{Said, said_to_low, said-append, said_by, said_of_look, plain, full_said, average_said, told_is_said, full_is_said, average_is_said, map-append, OneKind, one_told, one_full}
 use Rattle.script_reader.proofs.LowAlike.{Half, half, Alike, Looked, Decided, looks_alike}
-use Rattle.script_reader.proofs.LowAside.{step_aside}
+use Rattle.script_reader.proofs.LowAside.{Aside, high_aside, step_aside}
+use Rattle.script_reader.proofs.Stopping.{stops_leads, stops_one}
+use Rattle.script_reader.proofs.Soundness.{replies_so}
 
 -- ---- one line of a whole session ----
 
@@ -122,12 +125,17 @@ leads_aside running line after printed own h = by running line own h
     by (Some (Alone s)) (lines.Return session m back) own h = absurd (h.1.1)
     by (Some (Alone s)) (lines.Done session m t) own h = absurd (h.1.1)
 
+-- a line is applied, and goes on or stops the script
+data Moves (running : Option Begun) (line : Line) (after : Option Begun) (printed : List Event) : Type 0 where
+  Goes' : Leads running line after printed → Moves running line after printed
+  Stops' : (fault : Fault) → Stops running line after printed fault → Moves running line after printed
+
 -- low's own lines lead from here to there, with other lines between them, and this is said
 abbrev LowLeads : Lows → List Line → Lows → List Said → Type 0
 LowLeads start [] end said = (start ≡ end) × (said ≡ [])
 LowLeads start (line ∷ later) end said =
     (r s : Option Begun) × (first : List Event) × (second : List Said)
-    × (start ≡ lows r) × (is_lows line ≡ true) × Leads r line s first × LowLeads (lows s) later end second
+    × (start ≡ lows r) × (is_lows line ≡ true) × Moves r line s first × LowLeads (lows s) later end second
     × (said ≡ said_to_low first ++ second)
 
 from : (a b : Lows) (script : List Line) (end : Lows) (said : List Said) → a ≡ b → LowLeads b script end said → LowLeads a script end said
@@ -138,7 +146,7 @@ low_leads : (running : Option Begun) (script : List Line) (after : Option Begun)
 low_leads running [] after printed h = (sym (ap lows h.0), ap said_to_low h.1)
 low_leads running (line ∷ script) after printed (mid, first, second, h, later, e) =
     elim (is_lows line) as (λ b. is_lows line ≡ b → LowLeads (lows running) (if b then line ∷ low_side_of script else low_side_of script) (lows after) (said_to_low printed)) [
-      | true ↦ λ own. (running, mid, first, said_to_low second, refl, own, h, low_leads mid script after second later, ap said_to_low e ∙ said-append first second)
+      | true ↦ λ own. (running, mid, first, said_to_low second, refl, own, Goes' h, low_leads mid script after second later, ap said_to_low e ∙ said-append first second)
       | false ↦ λ own.
           let a = leads_aside running line mid first own h in
           let said : said_to_low printed ≡ said_to_low second = ap said_to_low e ∙ said-append first second ∙ ap (λ l. l ++ said_to_low second) a.said in
@@ -214,11 +222,43 @@ unsaid r (lines.Carry session back) s printed m own h off = absurd (cc)
 unsaid r (lines.Return session k back) s printed m own h off = absurd (cc)
 unsaid r (lines.Done session k t) s printed m own h off = absurd (cc)
 
+-- a line of a whole session that is low's own never finds a message that does not fit
+own_fits : (row : SessionRow) (p : Past) (line : Line) (q : Past) (printed : List Event) (end n size : ℕ) → is_lows line ≡ true → Overfills row p line q printed end n size → ⊥
+own_fits row p lines.Skip q printed end n size own h = absurd h
+own_fits row p (lines.Session other) q printed end n size own h = absurd h
+own_fits row p (lines.LowSession other next held) q printed end n size own h = absurd h
+own_fits row p (lines.Look session m w z) q printed end n size own h = absurd h
+own_fits row p (lines.Told session m w fault told z) q printed end n size own h = absurd h
+own_fits row p (lines.Gone session m) q printed end n size own h = absurd h
+own_fits row p (lines.High session m) q printed end n size own h = absurd h
+own_fits row p (lines.Return session m back) q printed end n size own h = absurd h
+own_fits row p (lines.Carry session back) q printed end n size own h = absurd (cc)
+own_fits row p (lines.Done session m t) q printed end n size own h = absurd (cc)
+
+unsaid_step : (s : LowRunning) (line : Line) (q : LowPast) (printed : List Event) (m : ℕ) → StepLow s.row s.past line true q printed → ((k : ℕ) → look_moment line ≡ Some k → m ≢ k) → IsUnsaid m (said_to_low printed)
+unsaid_step s (lines.Told session k w fault told z) q printed m (c, comes, (few, (f, i))) off = unsaid_told s.row _ told _ q printed m i (off k refl)
+unsaid_step s (lines.Gone session k) q printed m (f, i) off = unsaid_told s.row _ _ _ q printed m i (off k refl)
+unsaid_step s lines.Skip q printed m h off = absurd h
+unsaid_step s (lines.Session row) q printed m h off = absurd h
+unsaid_step s (lines.LowSession row next held) q printed m h off = absurd h
+unsaid_step s (lines.Look session k w z) q printed m h off = absurd h
+unsaid_step s (lines.High session k) q printed m h off = absurd h
+unsaid_step s (lines.Carry session back) q printed m h off = absurd h
+unsaid_step s (lines.Return session k back) q printed m h off = absurd h
+unsaid_step s (lines.Done session k t) q printed m h off = absurd h
+
+unsaid_moves : (r : Option Begun) (line : Line) (s : Option Begun) (printed : List Event) (m : ℕ) → is_lows line ≡ true
+    → Moves r line s printed → ((k : ℕ) → look_moment line ≡ Some k → m ≢ k) → IsUnsaid m (said_to_low printed)
+unsaid_moves r line s printed m own (Goes' h) off = unsaid r line s printed m own h off
+unsaid_moves None line s printed m own (Stops' fault h) off = absurd h
+unsaid_moves (Some (Whole t)) line s printed m own (Stops' fault (timely, (q, end, n, size, o, f, e))) off = absurd (own_fits t.row t.past line q printed end n size own o)
+unsaid_moves (Some (Alone t)) line s printed m own (Stops' fault (timely, (q, step, f, e))) off = unsaid_step t line q printed m step off
+
 low_from : (a : Lows) (script : List Line) (b : Lows) (said : List Said) → LowLeads a script b said → IsFrom script said
 low_from a [] b said h m free = subst (IsUnsaid m) (sym h.1) tt
 low_from a (line ∷ script) b said (r, s, first, second, e, own, h, later, is) m free =
     let f = freed (λ n. m ≢ n) (look_moment line) (filter_map look_moment script) free in
-    let here = unsaid r line s first m own h f.head in
+    let here = unsaid_moves r line s first m own h f.head in
     let there = low_from (lows s) script b second later m f.tail in
     subst (IsUnsaid m) (sym is)
     (subst (AllByRecursion (λ n. m ≢ n)) (sym (filter_map-append full_said (said_to_low first) second))
@@ -273,19 +313,60 @@ whole_sessions s t r' s' line xs ys own (row, alike) (timely, (p', h, e)) (timel
       said = both.said;
     }
 
-line_alike : (r s r' s' : Option Begun) (line : Line) (xs ys : List Event) → is_lows line ≡ true
+goes_alike : (r s r' s' : Option Begun) (line : Line) (xs ys : List Event) → is_lows line ≡ true
     → AlikeFor (lows r) (lows s) → Leads r line r' xs → Leads s line s' ys → DecidedAt line xs ys → Both (lows r') (lows s') xs ys
-line_alike None None r' s' line xs ys own alike h k decide = one_session None None r' s' line xs ys refl h k
-line_alike (Some (Whole s)) (Some (Whole t)) r' s' line xs ys own alike h k decide =
+goes_alike None None r' s' line xs ys own alike h k decide = one_session None None r' s' line xs ys refl h k
+goes_alike (Some (Whole s)) (Some (Whole t)) r' s' line xs ys own alike h k decide =
     whole_sessions s t r' s' line xs ys own alike (goes_of (Whole s) line r' xs own h) (goes_of (Whole t) line s' ys own k) decide
-line_alike (Some (Alone s)) (Some (Alone t)) r' s' line xs ys own alike h k decide =
+goes_alike (Some (Alone s)) (Some (Alone t)) r' s' line xs ys own alike h k decide =
     one_session (Some (Alone s)) (Some (Alone t)) r' s' line xs ys (ap (λ u. Some (Alone u)) alike) h k
-line_alike None (Some (Whole t)) r' s' line xs ys own alike h k decide = absurd alike
-line_alike None (Some (Alone t)) r' s' line xs ys own alike h k decide = absurd alike
-line_alike (Some (Whole s)) None r' s' line xs ys own alike h k decide = absurd alike
-line_alike (Some (Alone s)) None r' s' line xs ys own alike h k decide = absurd alike
-line_alike (Some (Whole s)) (Some (Alone t)) r' s' line xs ys own alike h k decide = absurd alike
-line_alike (Some (Alone s)) (Some (Whole t)) r' s' line xs ys own alike h k decide = absurd alike
+goes_alike None (Some (Whole t)) r' s' line xs ys own alike h k decide = absurd alike
+goes_alike None (Some (Alone t)) r' s' line xs ys own alike h k decide = absurd alike
+goes_alike (Some (Whole s)) None r' s' line xs ys own alike h k decide = absurd alike
+goes_alike (Some (Alone s)) None r' s' line xs ys own alike h k decide = absurd alike
+goes_alike (Some (Whole s)) (Some (Alone t)) r' s' line xs ys own alike h k decide = absurd alike
+goes_alike (Some (Alone s)) (Some (Whole t)) r' s' line xs ys own alike h k decide = absurd alike
+
+-- a line of low's own that stops a script is one of a low side alone
+stops_alone : (s : Option Begun) (line : Line) (after : Option Begun) (printed : List Event) (fault : Fault) → is_lows line ≡ true → Stops s line after printed fault → (t : LowRunning) × (s ≡ Some (Alone t))
+stops_alone None line after printed fault own h = absurd h
+stops_alone (Some (Whole s)) line after printed fault own (timely, (q, end, n, size, o, f, e)) = absurd (own_fits s.row s.past line q printed end n size own o)
+stops_alone (Some (Alone t)) line after printed fault own h = (t, refl)
+
+same_alone : (r s : Option Begun) (t : LowRunning) → AlikeFor (lows r) (lows s) → s ≡ Some (Alone t) → r ≡ s
+same_alone (Some (Alone a)) (Some (Alone b)) t alike e = ap (λ u. Some (Alone u)) alike
+same_alone None (Some (Alone b)) t alike e = absurd alike
+same_alone (Some (Whole a)) (Some (Alone b)) t alike e = absurd alike
+same_alone r None t alike e = absurd (cc)
+same_alone r (Some (Whole b)) t alike e = absurd (cc)
+
+alone_same : (r s : Option Begun) (t : LowRunning) → AlikeFor (lows r) (lows s) → r ≡ Some (Alone t) → r ≡ s
+alone_same (Some (Alone a)) (Some (Alone b)) t alike e = ap (λ u. Some (Alone u)) alike
+alone_same (Some (Alone a)) None t alike e = absurd alike
+alone_same (Some (Alone a)) (Some (Whole b)) t alike e = absurd alike
+alone_same None s t alike e = absurd (cc)
+alone_same (Some (Whole a)) s t alike e = absurd (cc)
+
+both_stop : (r s r' s' : Option Begun) (line : Line) (xs ys : List Event) (fault stop : Fault) → r ≡ s
+    → Stops r line r' xs fault → Stops s line s' ys stop → Both (lows r') (lows s') xs ys
+both_stop r s r' s' line xs ys fault stop same h k =
+    let one = stops_one r line r' s' xs ys fault stop h (subst (λ (t : Option Begun). Stops t line s' ys stop) (sym same) k) in
+    record { alike = subst (λ t. AlikeFor (lows r') (lows t)) one.past (self (lows r')); said = ap said_to_low one.printed }
+
+line_alike : (r s r' s' : Option Begun) (line : Line) (xs ys : List Event) → is_lows line ≡ true
+    → AlikeFor (lows r) (lows s) → Moves r line r' xs → Moves s line s' ys → DecidedAt line xs ys → Both (lows r') (lows s') xs ys
+line_alike r s r' s' line xs ys own alike (Goes' h) (Goes' k) decide = goes_alike r s r' s' line xs ys own alike h k decide
+line_alike r s r' s' line xs ys own alike (Stops' fault h) (Stops' stop k) decide =
+    let t = stops_alone s line s' ys stop own k in
+    both_stop r s r' s' line xs ys fault stop (same_alone r s t.0 alike t.1) h k
+line_alike r s r' s' line xs ys own alike (Goes' h) (Stops' stop k) decide =
+    let t = stops_alone s line s' ys stop own k in
+    let same = same_alone r s t.0 alike t.1 in
+    absurd (stops_leads s line s' ys stop r' xs k (subst (λ (u : Option Begun). Leads u line r' xs) same h))
+line_alike r s r' s' line xs ys own alike (Stops' fault h) (Goes' k) decide =
+    let t = stops_alone r line r' xs fault own h in
+    let same = alone_same r s t.0 alike t.1 in
+    absurd (stops_leads r line r' xs fault s' ys h (subst (λ (u : Option Begun). Leads u line s' ys) (sym same) k))
 
 -- how the words to Low are compared: P holds of the lines that are left and of what is said in them
 abbrev Decides : (List Line → List Said → List Said → Type 0) → Type 0
@@ -338,17 +419,73 @@ ends_still (Some (Alone s)) printed (event, (parts, cut, is), e) =
     let f : printed ≡ End s.row.id (count_after s.past.history.life.opening parts) None ∷ [] = e ∙ ap (λ (x : Event). x ∷ []) is in
     record { said = ap said_to_low f; low = ap low_lines f }
 
+-- ---- a script that stopped ----
+
+low_then : (a b c : Lows) (script later : List Line) (ts us : List Said) → LowLeads a script b ts → LowLeads b later c us → LowLeads a (script ++ later) c (ts ++ us)
+low_then a b c [] later ts us h k = subst (λ l. LowLeads a later c (l ++ us)) (sym h.1) (from a b later c us h.0 k)
+low_then a b c (line ∷ script) later ts us (r, s, first, second, e, own, h, hs, is) k =
+    (r, s, first, second ++ us, e, own, h, low_then (lows s) b c script later second us hs k, ap (λ l. l ++ us) is ∙ append_assoc (said_to_low first) second us)
+
+overfills_aside : (s : SessionRow) (p : Past) (line : Line) (q : Past) (printed : List Event) (end n size : ℕ) → Overfills s p line q printed end n size → Aside p q printed
+overfills_aside s p (lines.Carry session back) q printed end n size (o, e, f) = record { half = sym (ap half e); said = ap said_to_low f }
+overfills_aside s p (lines.Done session m t) q printed end n size (h, hand, o) = high_aside s p m None q printed h
+overfills_aside s p lines.Skip q printed end n size h = absurd h
+overfills_aside s p (lines.Session row) q printed end n size h = absurd h
+overfills_aside s p (lines.LowSession row next held) q printed end n size h = absurd h
+overfills_aside s p (lines.Look session m w z) q printed end n size h = absurd h
+overfills_aside s p (lines.Told session m w fault told z) q printed end n size h = absurd h
+overfills_aside s p (lines.Gone session m) q printed end n size h = absurd h
+overfills_aside s p (lines.High session m) q printed end n size h = absurd h
+overfills_aside s p (lines.Return session m back) q printed end n size h = absurd h
+
+step_own : (s : LowRunning) (line : Line) (q : LowPast) (printed : List Event) → is_lows line ≡ false → StepLow s.row s.past line true q printed → ⊥
+step_own s (lines.Told session m w fault told z) q printed own h = absurd (cc)
+step_own s (lines.Gone session m) q printed own h = absurd (cc)
+step_own s lines.Skip q printed own h = h
+step_own s (lines.Session row) q printed own h = h
+step_own s (lines.LowSession row next held) q printed own h = h
+step_own s (lines.Look session m w z) q printed own h = h
+step_own s (lines.High session m) q printed own h = h
+step_own s (lines.Carry session back) q printed own h = h
+step_own s (lines.Return session m back) q printed own h = h
+step_own s (lines.Done session m t) q printed own h = h
+
+stops_aside : (running : Option Begun) (line : Line) (after : Option Begun) (printed : List Event) (fault : Fault) → is_lows line ≡ false → Stops running line after printed fault → IsAside running after printed
+stops_aside None line after printed fault own h = absurd h
+stops_aside (Some (Whole s)) line after printed fault own (timely, (q, end, n, size, o, f, e)) =
+    let a = overfills_aside s.row s.past line q printed end n size o in
+    record { same = ap (Whole' s.row) a.half ∙ sym (ap lows e); said = a.said }
+stops_aside (Some (Alone s)) line after printed fault own (timely, (q, step, f, e)) = absurd (step_own s line q printed own step)
+
+-- the line that stops a script, alone
+last_line : (running : Option Begun) (line : Line) (after : Option Begun) (printed : List Event) (fault : Fault) → Stops running line after printed fault
+    → LowLeads (lows running) (low_side_of (line ∷ [])) (lows after) (said_to_low printed)
+last_line running line after printed fault h =
+    elim (is_lows line) as (λ b. is_lows line ≡ b → LowLeads (lows running) (if b then line ∷ [] else []) (lows after) (said_to_low printed)) [
+      | true ↦ λ own. (running, after, printed, [], refl, own, Stops' fault h, (refl, refl), sym (append-nil (said_to_low printed)))
+      | false ↦ λ own. let a = stops_aside running line after printed fault own h in (a.same, a.said)
+    ] refl
+
+comes_leads : (script : List Line) (after : Option Begun) (printed : List Event) → ComesTo script after printed → LowLeads Nobody (low_side_of script) (lows after) (said_to_low printed)
+comes_leads script after printed (inl h) = low_leads None script after printed h
+comes_leads script after printed (inr s) =
+    let whole = low_then Nobody (lows s.running) (lows after) (low_side_of s.before) (low_side_of (s.line ∷ [])) (said_to_low s.first) (said_to_low s.last)
+    (low_leads None s.before s.running s.first s.leads) (last_line s.running s.line after s.last s.fault s.stops) in
+    let side : low_side_of script ≡ low_side_of s.before ++ low_side_of (s.line ∷ []) = ap low_side_of s.script_is ∙ filter-append is_lows s.before (s.line ∷ []) in
+    let said : said_to_low printed ≡ said_to_low s.first ++ said_to_low s.last = ap said_to_low s.printed_is ∙ said-append s.first s.last in
+    subst (λ (u : List Line × List Said). LowLeads Nobody u.0 (lows after) u.1) (λ i. (sym side i, sym said i)) whole
+
 module _ (P : List Line → List Said → List Said → Type 0) (decides : Decides P) (goes_on : GoesOnBy P) where
-  -- lines so far
-  leads_alike : (script other : List Line) (r s : Option Begun) (xs ys : List Event)
-      → LeadTo None script r xs → LeadTo None other s ys
+  -- what was printed so far
+  comes_alike : (script other : List Line) (r s : Option Begun) (xs ys : List Event)
+      → ComesTo script r xs → ComesTo other s ys
       → low_side_of script ≡ low_side_of other → P (low_side_of script) (said_to_low xs) (said_to_low ys) → low_lines xs ≡ low_lines ys
-  leads_alike script other r s xs ys h k same p =
-      let a = low_leads None script r xs h in
-      let b = subst (λ l. LowLeads Nobody l (lows s) (said_to_low ys)) (sym same) (low_leads None other s ys k) in
+  comes_alike script other r s xs ys h k same p =
+      let a = comes_leads script r xs h in
+      let b = subst (λ l. LowLeads Nobody l (lows s) (said_to_low ys)) (sym same) (comes_leads other s ys k) in
       replies_alike r s (low_lines xs) (low_lines ys)
       (sides_alike P decides goes_on Nobody Nobody (lows r) (lows s) (low_side_of script) (said_to_low xs) (said_to_low ys) tt a b p)
-      (lead_so None script r xs [] h refl) (lead_so None other s ys [] k refl)
+      (replies_so script r xs h) (replies_so other s ys k)
 
   transcripts_alike : (script other : List Line) (xs ys : List Event) → IsTranscript script xs → IsTranscript other ys
       → low_side_of script ≡ low_side_of other → P (low_side_of script) (said_to_low xs) (said_to_low ys) → low_lines xs ≡ low_lines ys
@@ -359,7 +496,7 @@ module _ (P : List Line → List Said → List Said → Type 0) (decides : Decid
       let ty : said_to_low ys ≡ said_to_low b = ap said_to_low f ∙ said-append b last' ∙ ap (λ l. said_to_low b ++ l) y.said ∙ append-nil (said_to_low b) in
       let lx : low_lines xs ≡ low_lines a = ap low_lines e ∙ low-append a last ∙ ap (λ l. low_lines a ++ l) x.low ∙ append-nil (low_lines a) in
       let ly : low_lines ys ≡ low_lines b = ap low_lines f ∙ low-append b last' ∙ ap (λ l. low_lines b ++ l) y.low ∙ append-nil (low_lines b) in
-      lx ∙ leads_alike script other r s a b h k same (subst (λ (u : List Said × List Said). P (low_side_of script) u.0 u.1) (λ i. (tx i, ty i)) p) ∙ sym ly
+      lx ∙ comes_alike script other r s a b (inl h) (inl k) same (subst (λ (u : List Said × List Said). P (low_side_of script) u.0 u.1) (λ i. (tx i, ty i)) p) ∙ sym ly
 
 cancel : {X : Type 0} (ts later more : List X) → ts ++ later ≡ ts ++ more → later ≡ more
 cancel [] later more e = e
@@ -382,10 +519,10 @@ pub same_told : (script other : List Line) (xs ys : List Event) → IsTranscript
 same_told script other xs ys h k same told =
     transcripts_alike SameTold told_decides told_goes_on script other xs ys h k same (sym (told_is_said xs) ∙ told ∙ told_is_said ys)
 
-pub same_told_so_far : (script other : List Line) (r s : Option Begun) (xs ys : List Event) → LeadTo None script r xs → LeadTo None other s ys
+pub same_told_so_far : (script other : List Line) (r s : Option Begun) (xs ys : List Event) → ComesTo script r xs → ComesTo other s ys
     → low_side_of script ≡ low_side_of other → told_to_low xs ≡ told_to_low ys → low_lines xs ≡ low_lines ys
 same_told_so_far script other r s xs ys h k same told =
-    leads_alike SameTold told_decides told_goes_on script other r s xs ys h k same (sym (told_is_said xs) ∙ told ∙ told_is_said ys)
+    comes_alike SameTold told_decides told_goes_on script other r s xs ys h k same (sym (told_is_said xs) ∙ told ∙ told_is_said ys)
 
 pub same_but_high : (before highs others later : List Line) (xs ys : List Event)
     → low_side_of highs ≡ [] → low_side_of others ≡ []
@@ -450,6 +587,16 @@ pub same_full : (script other : List Line) (xs ys : List Event) → IsTranscript
     → full_moments xs ≡ full_moments ys → averages xs ≡ averages ys → low_lines xs ≡ low_lines ys
 same_full script other xs ys h k same own full average =
     transcripts_alike SameFull full_decides full_goes_on script other xs ys h k same (record {
+      own = own;
+      full = sym (full_is_said xs) ∙ full ∙ full_is_said ys;
+      average = sym (average_is_said xs) ∙ average ∙ average_is_said ys;
+    })
+
+pub same_full_so_far : (script other : List Line) (r s : Option Begun) (xs ys : List Event) → ComesTo script r xs → ComesTo other s ys
+    → low_side_of script ≡ low_side_of other → HaveOwnMoments (low_side_of script)
+    → full_moments xs ≡ full_moments ys → averages xs ≡ averages ys → low_lines xs ≡ low_lines ys
+same_full_so_far script other r s xs ys h k same own full average =
+    comes_alike SameFull full_decides full_goes_on script other r s xs ys h k same (record {
       own = own;
       full = sym (full_is_said xs) ∙ full ∙ full_is_said ys;
       average = sym (average_is_said xs) ∙ average ∙ average_is_said ys;

@@ -18,7 +18,7 @@ use Rattle.script_reader.specs.declared.line.Line.{Line}
 use Rattle.script_reader.specs.declared.line.Line.TheVariants as lines
 use Rattle.script_reader.specs.declared.event.Event.{Event}
 use Rattle.pump_core.specs.HighLooks.{Perhaps, Returns, IsSent, time_of, Removes, Sends}
-use Rattle.pump_core.specs.Sendings.{Sending, sends_hand, sending_of}
+use Rattle.pump_core.specs.Sendings.{sends_hand, sending_of}
 use Rattle.script_reader.specs.Past.{Past, high_of}
 use Rattle.script_reader.specs.Lows.{first_of, is_bad, feedback, offers, stored_events, acks_of, printed_store, printed_feedback, printed_replies, IsLook}
 use Rattle.script_reader.specs.Highs.{printed_removal, printed_sending, printed_carry, IsRemoval, IsSending, IsHighLook, is_ahead, IsReturnBy, IsReturn, IsCarried, place}

@@ -7,7 +7,7 @@ use Rattle.script_reader.specs.declared.line.Line.TheVariants as lines
 use Rattle.script_reader.specs.Grammar.{IsLine}
 use Rattle.script_reader.specs.Lines.{AreLines, IsUnended}
 use Rattle.script_reader.specs.Scripts.{Running, LowRunning, Begun, Whole, Alone, Goes, GoesLow, Leads, LeadTo, IsRefused, IsTranscript}
-use Rattle.script_reader.specs.Faults.{IsFaultyNext}
+use Rattle.script_reader.specs.Faults.{IsFaulty}
 use Rattle.script_reader.proofs.LineEnds.{one_front}
 use Rattle.script_reader.proofs.LineLaws.{one_line}
 use Rattle.script_reader.proofs.OneReading.{taken, not_nothing}
@@ -35,8 +35,8 @@ crowded_steps s p (lines.Carry session back) q printed h k = h
 crowded_steps s p (lines.Return session m back) q printed h k = h
 crowded_steps s p (lines.Done session m t) q printed h k = h
 
-barred_goes : (s : Running) (line : Line) (mid : Option Begun) (printed : List Event) → IsRefusedWhole s.row s.past line → Goes s line mid printed → ⊥
-barred_goes s line mid printed h (timely, (q, step, e)) =
+refused_goes : (s : Running) (line : Line) (mid : Option Begun) (printed : List Event) → IsRefusedWhole s.row s.past line → Goes s line mid printed → ⊥
+refused_goes s line mid printed h (timely, (q, step, e)) =
     elim h [ inl late ↦ both_ways _ late timely | inr crowded ↦ crowded_steps s.row s.past line q printed crowded step ]
 
 crowded_low : (s : SessionRow) (p : LowPast) (line : Line) (q : LowPast) (printed : List Event) → IsCrowdedLow p line → StepLow s p line false q printed → ⊥
@@ -53,8 +53,8 @@ crowded_low s p (lines.Carry session back) q printed h k = h
 crowded_low s p (lines.Return session m back) q printed h k = h
 crowded_low s p (lines.Done session m t) q printed h k = h
 
-barred_low : (s : LowRunning) (line : Line) (mid : Option Begun) (printed : List Event) → IsRefusedAlone s.row s.past line → GoesLow s line mid printed → ⊥
-barred_low s line mid printed h (timely, (q, step, e)) =
+refused_low : (s : LowRunning) (line : Line) (mid : Option Begun) (printed : List Event) → IsRefusedAlone s.row s.past line → GoesLow s line mid printed → ⊥
+refused_low s line mid printed h (timely, (q, step, e)) =
     elim h [ inl late ↦ both_ways _ late timely | inr crowded ↦ crowded_low s.row s.past line q printed crowded step ]
 
 -- a line that can't be applied leads nowhere
@@ -69,27 +69,27 @@ refused_leads None (lines.High session m) mid printed r h = absurd h
 refused_leads None (lines.Carry session back) mid printed r h = absurd h
 refused_leads None (lines.Return session m back) mid printed r h = absurd h
 refused_leads None (lines.Done session m t) mid printed r h = absurd h
-refused_leads (Some (Whole s)) (lines.Session row) mid printed r h = barred_goes s (lines.Session row) mid printed r h
-refused_leads (Some (Whole s)) (lines.LowSession row next held) mid printed r h = barred_goes s (lines.LowSession row next held) mid printed r h
-refused_leads (Some (Whole s)) (lines.Look session m w z) mid printed r h = barred_goes s (lines.Look session m w z) mid printed r h
-refused_leads (Some (Whole s)) (lines.Told session m w fault told z) mid printed r h = barred_goes s (lines.Told session m w fault told z) mid printed r h
-refused_leads (Some (Whole s)) (lines.Gone session m) mid printed r h = barred_goes s (lines.Gone session m) mid printed r h
-refused_leads (Some (Whole s)) (lines.High session m) mid printed r h = barred_goes s (lines.High session m) mid printed r h
-refused_leads (Some (Whole s)) (lines.Carry session back) mid printed r h = barred_goes s (lines.Carry session back) mid printed r h
-refused_leads (Some (Whole s)) (lines.Return session m back) mid printed r h = barred_goes s (lines.Return session m back) mid printed r h
-refused_leads (Some (Whole s)) (lines.Done session m t) mid printed r h = barred_goes s (lines.Done session m t) mid printed r h
-refused_leads (Some (Alone s)) (lines.Session row) mid printed r h = barred_low s (lines.Session row) mid printed r h
-refused_leads (Some (Alone s)) (lines.LowSession row next held) mid printed r h = barred_low s (lines.LowSession row next held) mid printed r h
-refused_leads (Some (Alone s)) (lines.Look session m w z) mid printed r h = barred_low s (lines.Look session m w z) mid printed r h
-refused_leads (Some (Alone s)) (lines.Told session m w fault told z) mid printed r h = barred_low s (lines.Told session m w fault told z) mid printed r h
-refused_leads (Some (Alone s)) (lines.Gone session m) mid printed r h = barred_low s (lines.Gone session m) mid printed r h
-refused_leads (Some (Alone s)) (lines.High session m) mid printed r h = barred_low s (lines.High session m) mid printed r h
-refused_leads (Some (Alone s)) (lines.Carry session back) mid printed r h = barred_low s (lines.Carry session back) mid printed r h
-refused_leads (Some (Alone s)) (lines.Return session m back) mid printed r h = barred_low s (lines.Return session m back) mid printed r h
-refused_leads (Some (Alone s)) (lines.Done session m t) mid printed r h = barred_low s (lines.Done session m t) mid printed r h
+refused_leads (Some (Whole s)) (lines.Session row) mid printed r h = refused_goes s (lines.Session row) mid printed r h
+refused_leads (Some (Whole s)) (lines.LowSession row next held) mid printed r h = refused_goes s (lines.LowSession row next held) mid printed r h
+refused_leads (Some (Whole s)) (lines.Look session m w z) mid printed r h = refused_goes s (lines.Look session m w z) mid printed r h
+refused_leads (Some (Whole s)) (lines.Told session m w fault told z) mid printed r h = refused_goes s (lines.Told session m w fault told z) mid printed r h
+refused_leads (Some (Whole s)) (lines.Gone session m) mid printed r h = refused_goes s (lines.Gone session m) mid printed r h
+refused_leads (Some (Whole s)) (lines.High session m) mid printed r h = refused_goes s (lines.High session m) mid printed r h
+refused_leads (Some (Whole s)) (lines.Carry session back) mid printed r h = refused_goes s (lines.Carry session back) mid printed r h
+refused_leads (Some (Whole s)) (lines.Return session m back) mid printed r h = refused_goes s (lines.Return session m back) mid printed r h
+refused_leads (Some (Whole s)) (lines.Done session m t) mid printed r h = refused_goes s (lines.Done session m t) mid printed r h
+refused_leads (Some (Alone s)) (lines.Session row) mid printed r h = refused_low s (lines.Session row) mid printed r h
+refused_leads (Some (Alone s)) (lines.LowSession row next held) mid printed r h = refused_low s (lines.LowSession row next held) mid printed r h
+refused_leads (Some (Alone s)) (lines.Look session m w z) mid printed r h = refused_low s (lines.Look session m w z) mid printed r h
+refused_leads (Some (Alone s)) (lines.Told session m w fault told z) mid printed r h = refused_low s (lines.Told session m w fault told z) mid printed r h
+refused_leads (Some (Alone s)) (lines.Gone session m) mid printed r h = refused_low s (lines.Gone session m) mid printed r h
+refused_leads (Some (Alone s)) (lines.High session m) mid printed r h = refused_low s (lines.High session m) mid printed r h
+refused_leads (Some (Alone s)) (lines.Carry session back) mid printed r h = refused_low s (lines.Carry session back) mid printed r h
+refused_leads (Some (Alone s)) (lines.Return session m back) mid printed r h = refused_low s (lines.Return session m back) mid printed r h
+refused_leads (Some (Alone s)) (lines.Done session m t) mid printed r h = refused_low s (lines.Done session m t) mid printed r h
 
 -- no line stands at the end
-end_is_fine : (running : Option Begun) (rest : List ℕ) → rest ≡ [] → IsFaultyNext rest running → ⊥
+end_is_fine : (running : Option Begun) (rest : List ℕ) → rest ≡ [] → IsFaulty (Some rest) running → ⊥
 end_is_fine running rest e f =
     elim f [
       | inl bad ↦ bad.some e
@@ -100,7 +100,7 @@ end_is_fine running rest e f =
 
 -- the next line is the one that there is
 next_is_fine : (running mid : Option Begun) (rest bytes left : List ℕ) (line : Line) (printed : List Event) → rest ≡ bytes ++ 10 ∷ left → IsUnended bytes → IsLine line bytes
-    → Leads running line mid printed → IsFaultyNext rest running → ⊥
+    → Leads running line mid printed → IsFaulty (Some rest) running → ⊥
 next_is_fine running mid rest bytes left line printed e u i h f =
     elim f [
       | inl bad ↦ bad.bad line bytes left (record { unended = u; spelled = i; whole = e })
@@ -112,13 +112,13 @@ next_is_fine running mid rest bytes left line printed e u i h f =
     ]
 
 both_end : (all rest : List ℕ) (ls script : List Line) (from running after : Option Begun) (events body : List Event)
-    → AreLines (Some all) ls (Some rest) → LeadTo from ls running events → IsFaultyNext rest running
+    → AreLines (Some all) ls (Some rest) → LeadTo from ls running events → IsFaulty (Some rest) running
     → AreLines (Some all) script (Some []) → LeadTo from script after body → ⊥
 both_end all rest [] [] from running after events body p h f q k =
     end_is_fine running rest (p ∙ sym q) f
 both_end all rest [] (x ∷ xs) from running after events body p h f q k =
     let t = taken all q.0 q.1 q.4 in
-    next_is_fine from k.0 rest q.0 t.0 x k.1 (p ∙ t.2) q.2 q.3 k.3 (subst (λ r. IsFaultyNext rest r) h.0 f)
+    next_is_fine from k.0 rest q.0 t.0 x k.1 (p ∙ t.2) q.2 q.3 k.3 (subst (λ r. IsFaulty (Some rest) r) h.0 f)
 both_end all rest (x ∷ xs) [] from running after events body p h f q k =
     let t = taken all p.0 p.1 p.4 in
     not_nothing p.0 t.0 (sym t.2 ∙ sym q)
@@ -133,6 +133,6 @@ both_end all rest (x ∷ xs) (y ∷ ys) from running after events body p h f q k
     both_end u.0 rest xs ys h.0 running after h.2 k.2 left h.4 f right (subst (λ r. LeadTo r ys after k.2) (sym led.after) k.4)
 
 pub faulty_scripts : (all rest : List ℕ) (ls script : List Line) (running : Option Begun) (events printed : List Event)
-    → AreLines (Some all) ls (Some rest) → LeadTo None ls running events → IsFaultyNext rest running
+    → AreLines (Some all) ls (Some rest) → LeadTo None ls running events → IsFaulty (Some rest) running
     → AreLines (Some all) script (Some []) → IsTranscript script printed → ⊥
 faulty_scripts all rest ls script running events printed p h f q k = both_end all rest ls script None running k.0 events k.1 p h f q k.3

@@ -1,10 +1,10 @@
 -- One call of the reader of lines reads no more than it needs.
-use Rattle.std.proofs.Common.{◌≡◌, inl, inr, min, ℕ, ◌+◌, ◌-◌, ◌^◌, ◌≢◌, List, [], ◌∷◌, ◌++◌, Option, Some, length, take, drop, refl, sym, ap, ◌∙◌, subst, append_assoc, append-nil}
+use Rattle.std.proofs.Common.{◌≡◌, inl, inr, min, ℕ, ◌+◌, ◌-◌, ◌^◌, ◌≢◌, List, [], ◌∷◌, ◌++◌, Some, take, refl, sym, ap, ◌∙◌, subst, append_assoc, append-nil}
 use Rattle.std.specs.List.{position}
 use Rattle.pump_link.specs.Tells.{Draws}
 use Rattle.script_reader.specs.declared.lines.Lined.{Lined}
 use Rattle.script_reader.specs.declared.lines.Lined.TheVariants as lined
-use Rattle.script_reader.specs.Lines.{Reading, is_end, IsSome, IsReady, AreNeeded, with_pieces, ReadsTo, LeavesHeld, ReadsOn}
+use Rattle.script_reader.specs.Lines.{LineReading, is_end, IsSome, IsReady, AreNeeded, with_pieces, ReadsTo, LeavesHeld, ReadsOn}
 use Rattle.script_reader.specs.Fronts.{IsFirst}
 use Rattle.script_reader.proofs.LineEnds.{ended, ended_some}
 use Rattle.script_reader.proofs.NextLaws.{is_empty}
@@ -38,20 +38,20 @@ reads_kept held all same p q r e d is = record {
 some_held : (held : List ℕ) (len : ℕ) → position is_end held ≡ Some len → IsSome held
 some_held held len at = subst IsSome (append-nil held) (ended_some held len at [])
 
-leaves_first : (now new : Reading) (len : ℕ) (result : Lined) → position is_end now.held ≡ Some len → IsFirst now new len result → LeavesHeld result now.held new.held
+leaves_first : (now new : LineReading) (len : ℕ) (result : Lined) → position is_end now.held ≡ Some len → IsFirst now new len result → LeavesHeld result now.held new.held
 leaves_first now new len (lined.Line line) at f =
     let p = ended now.held len at in
-    (take len now.held, p.0, f.0, p.1 ∙ ap (λ (r : Reading). take len now.held ++ 10 ∷ r.held) (sym f.1))
-leaves_first now new len lined.Bad at f = (ap (λ (r : Reading). r.held) f.1, some_held now.held len at)
+    (take len now.held, p.0, f.0, p.1 ∙ ap (λ (r : LineReading). take len now.held ++ 10 ∷ r.held) (sym f.1))
+leaves_first now new len lined.Bad at f = (ap (λ (r : LineReading). r.held) f.1, some_held now.held len at)
 leaves_first now new len lined.End at f = absurd f
 leaves_first now new len lined.Failed at f = absurd f
 
 -- the first line of what is held is the next
-pub first_reads : (old now new : Reading) (p q : List (List ℕ) → Type 0) (len : ℕ) (result : Lined) → ReadsTo old.held p q now.held → position is_end now.held ≡ Some len → IsFirst now new len result → ReadsOn old new p q result
+pub first_reads : (old now new : LineReading) (p q : List (List ℕ) → Type 0) (len : ℕ) (result : Lined) → ReadsTo old.held p q now.held → position is_end now.held ≡ Some len → IsFirst now new len result → ReadsOn old new p q result
 first_reads old now new p q len result e at f = (now.held, e, leaves_first now new len result at f)
 
 -- what is held at the end of the script is the last of it
-pub last_reads : (old now new : Reading) (p q : List (List ℕ) → Type 0) (result : Lined) → ReadsTo old.held p q now.held
+pub last_reads : (old now new : LineReading) (p q : List (List ℕ) → Type 0) (result : Lined) → ReadsTo old.held p q now.held
     → (now.held ≡ [] → (result ≡ lined.End) × (new ≡ now)) → (now.held ≢ [] → (result ≡ lined.Bad) × (new ≡ record { held = now.held; number = min (now.number + 1) (2 ^ 32 - 1) }))
     → ReadsOn old new p q result
 last_reads old now new p q result e none some =

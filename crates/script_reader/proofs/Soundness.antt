@@ -1,7 +1,6 @@
 -- What is printed is sound at each line of a script, and where a line stops it.
-use Rattle.std.proofs.Common.{◌≡◌, ◌⊎◌, inl, inr, ⊎_elim, ℕ, ◌≤◌, Bool, true, List, [], ◌∷◌, ◌++◌, length, Option, Some, None, refl, sym, ap, ◌∙◌, subst, append_assoc, append-nil}
+use Rattle.std.proofs.Common.{◌≡◌, inl, inr, ⊎_elim, ℕ, ◌≤◌, true, List, [], ◌∷◌, ◌++◌, length, Option, Some, None, refl, sym, ap, ◌∙◌, subst, append_assoc, append-nil}
 use Rattle.pump_frame.specs.declared.row.SessionRow.{SessionRow}
-use Rattle.pump_core.specs.History.{History}
 use Rattle.pump_core.specs.Replies.{Sent, LowReplies}
 use Rattle.script_reader.specs.declared.line.Line.{Line}
 use Rattle.script_reader.specs.declared.line.Line.TheVariants as lines
@@ -11,7 +10,7 @@ use Rattle.script_reader.specs.Past.{Past}
 use Rattle.script_reader.specs.Steps.{Overfills}
 use Rattle.script_reader.specs.Scripts.{Begun, Whole, Alone, GoesOn, Leads, LeadTo, Stops, StopsAfter, ComesTo}
 use Rattle.script_reader.specs.Readouts.{low_lines, Sound}
-use Rattle.script_reader.proofs.Leading.{IsNew, led}
+use Rattle.script_reader.proofs.Leading.{led}
 use Rattle.script_reader.proofs.Waiting.{high_waits, step_low_waits}
 use Rattle.script_reader.proofs.Replying as replying
 use Rattle.script_reader.proofs.Replying.{Replies, Grows, aside_grows, high_aside, step_low_grows, low-append}
@@ -98,13 +97,21 @@ stops_begins None line after more fault printed h = absurd h
 stops_begins (Some (Whole s)) line after more fault printed (timely, (q, end, n, size, o, f, e)) = subst (λ (r : Option Begun). Begins r printed) (sym e) tt
 stops_begins (Some (Alone s)) line after more fault printed (timely, (q, step, f, e)) = subst (λ (r : Option Begun). Begins r printed) (sym e) tt
 
+replies_stop : (script : List Line) (after : Option Begun) (printed : List Event) → StopsAfter script after printed → Replies after (low_lines printed)
+replies_stop script after printed s =
+    subst (Replies after) (sym (ap low_lines s.printed_is ∙ low-append s.first s.last))
+    (stops_grows s.running s.line after s.last s.fault (low_lines s.first) s.stops (replying.lead_so None s.before s.running s.first [] s.leads refl))
+
+-- the low lines of what was printed so far are the replies
+pub replies_so : (script : List Line) (after : Option Begun) (printed : List Event) → ComesTo script after printed → Replies after (low_lines printed)
+replies_so script after printed h =
+    ⊎_elim (λ (l : LeadTo None script after printed). replying.lead_so None script after printed [] l refl) (λ (s : StopsAfter script after printed). replies_stop script after printed s) h
+
 sound_stop : (script : List Line) (after : Option Begun) (printed : List Event) → StopsAfter script after printed → Sound after printed
 sound_stop script after printed s =
-    let replies = stops_grows s.running s.line after s.last s.fault (low_lines s.first) s.stops (replying.lead_so None s.before s.running s.first [] s.leads refl) in
-    subst (Sound after) (sym s.printed_is)
-    (sound_of after (s.first ++ s.last) (subst (Replies after) (sym (low-append s.first s.last)) replies)
-        (stops_holds s.running s.line after s.last s.fault s.stops (bounding.lead_so None s.before s.running s.first s.leads tt))
-        (stops_begins s.running s.line after s.last s.fault (s.first ++ s.last) s.stops))
+    sound_of after printed (replies_stop script after printed s)
+    (stops_holds s.running s.line after s.last s.fault s.stops (bounding.lead_so None s.before s.running s.first s.leads tt))
+    (stops_begins s.running s.line after s.last s.fault printed s.stops)
 
 pub sound_so : (script : List Line) (after : Option Begun) (printed : List Event) → ComesTo script after printed → Sound after printed
 sound_so script after printed h = ⊎_elim (λ (l : LeadTo None script after printed). sound_lead script after printed l) (λ (s : StopsAfter script after printed). sound_stop script after printed s) h

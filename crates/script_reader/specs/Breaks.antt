@@ -1,5 +1,5 @@
 -- A line of a whole session that the device of a disk cuts short: its last event stays unfinished.
-use Rattle.std.specs.Prelude.{◌≡◌, ◌⊎◌, ℕ, ◌+◌, ◌≤◌, true, false, List, [], ◌∷◌, ◌++◌, length, drop, slice_get, Option, None, Some}
+use Rattle.std.specs.Prelude.{◌≡◌, ℕ, ◌+◌, ◌≤◌, true, false, List, [], ◌∷◌, ◌++◌, length, drop, slice_get, Option, None, Some}
 use Rattle.disk_model.specs.declared.name.Role.{Role}
 use Rattle.disk_model.specs.declared.name.Role.TheVariants as roles
 use Rattle.pump_frame.specs.declared.frame.Frame.{Frame}
@@ -7,7 +7,7 @@ use Rattle.pump_frame.specs.declared.frame.Item.{Item}
 use Rattle.pump_frame.specs.declared.row.SessionRow.{SessionRow}
 use Rattle.pump_core.specs.declared.event.Event.TheVariants.{StoreBegin, CarryData, TakeBegin, RemoveBegin}
 use Rattle.pump_core.specs.declared.feedback.Feedback.TheVariants.{Quiet}
-use Rattle.pump_core.specs.History.{Arrival, Look, looked}
+use Rattle.pump_core.specs.History.{Look, looked}
 use Rattle.pump_core.specs.History.{Came}
 use Rattle.pump_core.specs.Exchanges.{Part, Loss, IsCut}
 use Rattle.pump_core.specs.Replies.{refusal}

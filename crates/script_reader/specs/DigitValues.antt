@@ -1,5 +1,5 @@
 -- Hexadecimal digits by their values. It serves private clauses and proofs alone.
-use Rattle.std.specs.Prelude.{◌≡◌, ℕ, Option, None, Some, Result, Ok, Err}
+use Rattle.std.specs.Prelude.{◌≡◌, ℕ, Option, None, Some, Ok, Err}
 use Rattle.hex.specs.Hex.{hex_digit_value, pair_value}
 use Rattle.hex.specs.declared.FromHexError.{FromHexError}
 

@@ -5,6 +5,7 @@ use Rattle.pump_frame.specs.declared.frame.Item.{Item}
 use Rattle.pump_frame.specs.declared.row.SessionRow.{SessionRow}
 use Rattle.pump_core.specs.declared.event.Event.TheVariants.{CarryData, TakeBegin, TakeEnd}
 use Rattle.pump_core.specs.World.{World}
+pub use Rattle.stable_buffer.specs.Format.{receiver_size}
 use Rattle.pump_core.specs.Events.{Happens}
 use Rattle.pump_core.specs.HighLooks.{Perhaps, has_removed, Removes, Sends}
 use Rattle.pump_core.specs.Sendings.{expected}
@@ -71,10 +72,6 @@ place packets back = length packets - 1 - back
 -- whether the receiver had the message already
 abbrev pub printed_carry : ℕ → World → Item → Event
 printed_carry session w d = if nat_lt d.number (length w.received) then Again session d.number else Took session d.number
-
--- the size of the receiver's disk
-abbrev pub receiver_size : ℕ
-receiver_size = 16777216
 
 -- where the receiver's records end: each is a length of two bytes and a message, from byte 80 on
 abbrev pub log_end : List Payload → ℕ

@@ -8,12 +8,12 @@ use Rattle.script_reader.specs.declared.lines.Lined.{Lined}
 use Rattle.script_reader.specs.declared.lines.Lined.TheVariants as lined
 
 -- what a reader of lines holds, and the number of the line last answered
-pub record Reading : Type 0 where
+pub record LineReading : Type 0 where
   pub held : List ℕ
   pub number : ℕ
 
 -- what is still to come: what is held, then what the source has left, where it tells
-abbrev pub to_come : Reading → Option (List ℕ) → Option (List ℕ)
+abbrev pub to_come : LineReading → Option (List ℕ) → Option (List ℕ)
 to_come reading left = prepend_known reading.held left
 
 abbrev pub is_end : ℕ → Bool
@@ -44,7 +44,7 @@ IsReady held = (IsUnended held → ⊥) ⊎ (2400 < length held)
 
 -- What the next line of a stream is, by what is to come before the call and after it. `length new.held` says how little
 -- of the source was taken ahead.
-abbrev pub IsNext : Reading → Reading → Option (List ℕ) → Option (List ℕ) → Lined → Type 0
+abbrev pub IsNext : LineReading → LineReading → Option (List ℕ) → Option (List ℕ) → Lined → Type 0
 IsNext old new left rest (lined.Line line) = (bytes : List ℕ) × IsUnended bytes × IsLine line bytes
     × Consumes (to_come old left) (to_come new rest) (bytes ++ 10 ∷ []) × (new.number ≡ old.number + 1)
     × (length bytes + 1 + length new.held ≤ 4096)
@@ -83,7 +83,7 @@ LeavesHeld lined.End all held = (held ≡ all) × (all ≡ [])
 LeavesHeld lined.Failed all held = (held ≡ all) × (IsReady all → ⊥)
 
 -- a call reads no more than it needs, and loses nothing of it
-abbrev pub ReadsOn : Reading → Reading → (List (List ℕ) → Type 0) → (List (List ℕ) → Type 0) → Lined → Type 0
+abbrev pub ReadsOn : LineReading → LineReading → (List (List ℕ) → Type 0) → (List (List ℕ) → Type 0) → Lined → Type 0
 ReadsOn old new gives later result = (all : List ℕ) × ReadsTo old.held gives later all × LeavesHeld result all new.held
 
 -- the bytes are these lines, each with its line end, and then the rest, where they are known

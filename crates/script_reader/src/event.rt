@@ -166,13 +166,7 @@ impl EventHead {
                 moment,
                 number,
             },
-            EventHead::Full {
-                session,
-                moment,
-            } => Event::Full {
-                session,
-                moment,
-            },
+            EventHead::Full { session, moment } => Event::Full { session, moment },
             EventHead::Passed {
                 session,
                 moment,
@@ -182,13 +176,7 @@ impl EventHead {
                 moment,
                 seen,
             },
-            EventHead::Released {
-                session,
-                moment,
-            } => Event::Released {
-                session,
-                moment,
-            },
+            EventHead::Released { session, moment } => Event::Released { session, moment },
             EventHead::Repeat {
                 session,
                 moment,
@@ -227,20 +215,8 @@ impl EventHead {
                 moment,
                 number,
             },
-            EventHead::Took {
-                session,
-                number,
-            } => Event::Took {
-                session,
-                number,
-            },
-            EventHead::Again {
-                session,
-                number,
-            } => Event::Again {
-                session,
-                number,
-            },
+            EventHead::Took { session, number } => Event::Took { session, number },
+            EventHead::Again { session, number } => Event::Again { session, number },
             EventHead::End {
                 session,
                 accepted,
@@ -270,13 +246,7 @@ impl Event {
                 moment,
                 number,
             },
-            Event::Full {
-                session,
-                moment,
-            } => EventHead::Full {
-                session,
-                moment,
-            },
+            Event::Full { session, moment } => EventHead::Full { session, moment },
             Event::Passed {
                 session,
                 moment,
@@ -286,13 +256,7 @@ impl Event {
                 moment,
                 seen,
             },
-            Event::Released {
-                session,
-                moment,
-            } => EventHead::Released {
-                session,
-                moment,
-            },
+            Event::Released { session, moment } => EventHead::Released { session, moment },
             Event::Repeat {
                 session,
                 moment,
@@ -323,20 +287,8 @@ impl Event {
                 moment,
                 number,
             },
-            Event::Took {
-                session,
-                number,
-            } => EventHead::Took {
-                session,
-                number,
-            },
-            Event::Again {
-                session,
-                number,
-            } => EventHead::Again {
-                session,
-                number,
-            },
+            Event::Took { session, number } => EventHead::Took { session, number },
+            Event::Again { session, number } => EventHead::Again { session, number },
             Event::End {
                 session,
                 accepted,

@@ -139,7 +139,11 @@ fn raw_of(field: &[u8], body: &mut Body) -> Option<()>
     if half == 0 || half > 1042 {
         return None;
     }
-    if body.decode(field, half) { Some(()) } else { None }
+    if body.decode(field, half) {
+        Some(())
+    } else {
+        None
+    }
 }
 
 #[tactic(auto, unfolding(crate::specs::Parsing::hex))]
@@ -155,7 +159,11 @@ fn hex_of(field: &[u8], body: &mut Body) -> Option<()>
     if half == 0 || half > 1024 {
         return None;
     }
-    if body.decode(field, half) { Some(()) } else { None }
+    if body.decode(field, half) {
+        Some(())
+    } else {
+        None
+    }
 }
 
 /// Whether the field begins with a digit, and has no leading zero.

@@ -4,7 +4,7 @@ ghost use Rattle.script_reader.specs.Lines.{AreLines};
 ghost use Rattle.pump_core.specs.Replies.{LowReplies};
 ghost use Rattle.script_reader.specs.declared.event.Event.{Event as Printed};
 ghost use Rattle.script_reader.specs.Scripts.{Begun, LeadTo, Stops, ComesTo, IsTranscript};
-ghost use Rattle.script_reader.specs.Faults.{IsFaultyNext};
+ghost use Rattle.script_reader.specs.Faults.{IsFaulty};
 ghost use Rattle.script_reader.specs.Readouts.{row_of, history_of, low_lines, KeepsBounds, Sound};
 ghost use Rattle.script_reader.specs.declared.fault.Fault.{Fault};
 ghost use Rattle.script_reader.specs.Sides.{low_side_of, told_to_low, full_moments, averages, HaveOwnMoments};
@@ -40,7 +40,7 @@ pub fn transcripts_are_one()
 /// has no transcript.
 pub fn faulty_scripts_have_no_transcript()
     ensures { (all rest : List ℕ) (lines script : List Line) (running : Option Begun) (events printed : List Printed) →
-        AreLines (Some all) lines (Some rest) → LeadTo None lines running events → IsFaultyNext rest running →
+        AreLines (Some all) lines (Some rest) → LeadTo None lines running events → IsFaulty (Some rest) running →
         AreLines (Some all) script (Some []) → IsTranscript script printed → ⊥ }
 {}
 
@@ -68,15 +68,15 @@ pub fn stopping_lines_are_one()
 /// Low's replies are a function of low's own lines, of where the buffer was full, and of the averages:
 /// two scripts with the same low side, whose transcripts tell Low the same in the same order, have the
 /// same `low` lines at the same moments, whatever High, the network and the receiver do in each. No
-/// count and no moment of what is told plays a part. So it is with what two scripts print so far; and
-/// with one script in which other lines of High's stand in place of some.
+/// count and no moment of what is told plays a part. So it is with what two scripts have printed so far,
+/// where a line may have stopped them; and with one script in which other lines of High's stand in place of some.
 pub fn low_lines_are_a_function()
     ensures whole { (script other : List Line) (xs ys : List Printed) →
         IsTranscript script xs → IsTranscript other ys →
         low_side_of script ≡ low_side_of other → told_to_low xs ≡ told_to_low ys →
         low_lines xs ≡ low_lines ys }
     ensures so_far { (script other : List Line) (running after : Option Begun) (xs ys : List Printed) →
-        LeadTo None script running xs → LeadTo None other after ys →
+        ComesTo script running xs → ComesTo other after ys →
         low_side_of script ≡ low_side_of other → told_to_low xs ≡ told_to_low ys →
         low_lines xs ≡ low_lines ys }
     ensures replaced { (before highs others later : List Line) (xs ys : List Printed) →
@@ -89,8 +89,13 @@ pub fn low_lines_are_a_function()
 /// Where no two low looks have one moment, the moments of a full buffer and the averages alone decide
 /// the `low` lines of a low side.
 pub fn full_moments_and_averages_decide()
-    ensures { (script other : List Line) (xs ys : List Printed) →
+    ensures whole { (script other : List Line) (xs ys : List Printed) →
         IsTranscript script xs → IsTranscript other ys →
+        low_side_of script ≡ low_side_of other → HaveOwnMoments (low_side_of script) →
+        full_moments xs ≡ full_moments ys → averages xs ≡ averages ys →
+        low_lines xs ≡ low_lines ys }
+    ensures so_far { (script other : List Line) (running after : Option Begun) (xs ys : List Printed) →
+        ComesTo script running xs → ComesTo other after ys →
         low_side_of script ≡ low_side_of other → HaveOwnMoments (low_side_of script) →
         full_moments xs ≡ full_moments ys → averages xs ≡ averages ys →
         low_lines xs ≡ low_lines ys }

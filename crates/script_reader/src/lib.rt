@@ -21,8 +21,7 @@ pub use head::{ArrivingHead, LineHead, LinedHead};
 pub use laws::{
     faulty_scripts_have_no_transcript, full_moments_and_averages_decide, low_lines_are_a_function,
     low_lines_are_replies, low_sides_have_one_transcript, one_reading, stopping_lines_are_one,
-    transcripts_are_bounded, transcripts_are_one,
-    transcripts_are_sound,
+    transcripts_are_bounded, transcripts_are_one, transcripts_are_sound,
 };
 pub use line::{Arriving, Line, ToldFeedback};
 pub use lines::{Lined, Lines};

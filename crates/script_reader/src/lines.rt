@@ -2,7 +2,7 @@ ghost use Rattle.std.specs.Prelude.{◌≡◌, ◌≢◌, ℕ, ◌+◌, ◌-◌,
 ghost use Rattle.std.specs.Io.KnownBytes.{Keeps, IsAtEnd};
 ghost use Rattle.pump_frame.specs.Counts.{Rose};
 ghost use Rattle.pump_link.specs.Causes.{HasCause};
-ghost use Rattle.script_reader.specs.Lines.{Reading, to_come, is_end, IsNext, IsReady, ReadsOn};
+ghost use Rattle.script_reader.specs.Lines.{LineReading, to_come, is_end, IsNext, IsReady, ReadsOn};
 ghost use Rattle.script_reader.specs.Fronts.{IsFirst, Fills};
 ghost use Rattle.script_reader.specs.Heads.{lined_with, CanHoldNext};
 
@@ -40,9 +40,9 @@ pub struct Lines {
 
 impl Model for Lines {
     ghost use Rattle.std.specs.Prelude.{◌≡◌, ◌-◌, ◌≤◌, length, take, drop};
-    ghost use Rattle.script_reader.specs.Lines.{Reading};
+    ghost use Rattle.script_reader.specs.Lines.{LineReading};
 
-    ghost Value = { Reading };
+    ghost Value = { LineReading };
 
     ghost view = { λ s. record { held = take (s.end - s.start) (drop s.start s.cells); number = s.number } };
 

@@ -65,7 +65,13 @@ fn put_two<const N: usize>(into: &mut ArrayVec<u8, N>, word: &[u8], first: u64, 
 }
 
 /// A line of a word and three numbers.
-fn put_three<const N: usize>(into: &mut ArrayVec<u8, N>, word: &[u8], first: u64, second: u64, third: u64)
+fn put_three<const N: usize>(
+    into: &mut ArrayVec<u8, N>,
+    word: &[u8],
+    first: u64,
+    second: u64,
+    third: u64,
+)
     requires room { array_vec_len into.old + 256 ≤ N }
     requires short { length word.now ≤ 40 }
     ensures { into.new.items ≡ into.old.items ++ line_with_end (word.now ∷ decimal first ∷ decimal second ∷ decimal third ∷ []) }
@@ -78,7 +84,14 @@ fn put_three<const N: usize>(into: &mut ArrayVec<u8, N>, word: &[u8], first: u64
 }
 
 /// A line of a word and four numbers.
-fn put_four<const N: usize>(into: &mut ArrayVec<u8, N>, word: &[u8], first: u64, second: u64, third: u64, fourth: u64)
+fn put_four<const N: usize>(
+    into: &mut ArrayVec<u8, N>,
+    word: &[u8],
+    first: u64,
+    second: u64,
+    third: u64,
+    fourth: u64,
+)
     requires room { array_vec_len into.old + 256 ≤ N }
     requires short { length word.now ≤ 40 }
     ensures { into.new.items ≡ into.old.items ++ line_with_end (word.now ∷ decimal first ∷ decimal second ∷ decimal third ∷ decimal fourth ∷ []) }
@@ -104,7 +117,13 @@ fn put_front<const N: usize>(into: &mut ArrayVec<u8, N>, word: &[u8], session: u
 }
 
 /// A reply of a word and the session's count or the message's number.
-fn put_numbered<const N: usize>(into: &mut ArrayVec<u8, N>, session: u32, moment: u64, word: &[u8], number: u64)
+fn put_numbered<const N: usize>(
+    into: &mut ArrayVec<u8, N>,
+    session: u32,
+    moment: u64,
+    word: &[u8],
+    number: u64,
+)
     requires room { array_vec_len into.old + 256 ≤ N }
     requires short { length word.now ≤ 40 }
     ensures { into.new.items ≡ into.old.items ++ line_with_end (codes "low" ∷ decimal session ∷ decimal moment ∷ word.now ∷ decimal number ∷ []) }
@@ -116,7 +135,13 @@ fn put_numbered<const N: usize>(into: &mut ArrayVec<u8, N>, session: u32, moment
     put(into, b"\n");
 }
 
-fn put_refusal<const N: usize>(into: &mut ArrayVec<u8, N>, session: u32, moment: u64, code: u8, number: u64)
+fn put_refusal<const N: usize>(
+    into: &mut ArrayVec<u8, N>,
+    session: u32,
+    moment: u64,
+    code: u8,
+    number: u64,
+)
     requires { array_vec_len into.old + 256 ≤ N }
     ensures { into.new.items ≡ into.old.items ++ line_with_end (codes "low" ∷ decimal session ∷ decimal moment ∷ codes "refuse" ∷ decimal code ∷ decimal number ∷ []) }
 {
@@ -157,7 +182,13 @@ fn put_reply<const N: usize>(into: &mut ArrayVec<u8, N>, session: u32, moment: u
     }
 }
 
-fn put_removed<const N: usize>(into: &mut ArrayVec<u8, N>, session: u32, moment: u64, number: u64, time: Option<u32>)
+fn put_removed<const N: usize>(
+    into: &mut ArrayVec<u8, N>,
+    session: u32,
+    moment: u64,
+    number: u64,
+    time: Option<u32>,
+)
     requires { array_vec_len into.old + 256 ≤ N }
     ensures { into.new.items ≡ into.old.items ++ line_with_end (codes "removed" ∷ decimal session ∷ decimal moment ∷ decimal number ∷ time_field time ∷ []) }
 {
@@ -170,7 +201,12 @@ fn put_removed<const N: usize>(into: &mut ArrayVec<u8, N>, session: u32, moment:
     put(into, b"\n");
 }
 
-fn put_end<const N: usize>(into: &mut ArrayVec<u8, N>, session: u32, accepted: u64, high: Option<(u64, u64)>)
+fn put_end<const N: usize>(
+    into: &mut ArrayVec<u8, N>,
+    session: u32,
+    accepted: u64,
+    high: Option<(u64, u64)>,
+)
     requires { array_vec_len into.old + 256 ≤ N }
     ensures { into.new.items ≡ into.old.items ++ line_with_end (codes "end" ∷ decimal session ∷ decimal accepted ∷ high_fields high) }
 {
@@ -191,7 +227,13 @@ fn put_end<const N: usize>(into: &mut ArrayVec<u8, N>, session: u32, accepted: u
 }
 
 /// A pair that the low process read of High's times.
-fn put_seen<const N: usize>(into: &mut ArrayVec<u8, N>, word: &[u8], session: u32, moment: u64, seen: &Seen)
+fn put_seen<const N: usize>(
+    into: &mut ArrayVec<u8, N>,
+    word: &[u8],
+    session: u32,
+    moment: u64,
+    seen: &Seen,
+)
     requires room { array_vec_len into.old + 256 ≤ N }
     requires short { length word.now ≤ 40 }
     ensures { into.new.items ≡ into.old.items ++ line_with_end (word.now ∷ decimal session ∷ decimal moment ∷ decimal seen.now.count ∷ decimal seen.now.average ∷ []) }

@@ -4,9 +4,9 @@ ghost use Rattle.script_reader.specs.Grammar.{IsLine};
 ghost use Rattle.script_reader.specs.Lawful.{IsLawfulLine};
 ghost use Rattle.script_reader.specs.Parsing.{Reads, field_at, number, row_at, session_of, low_session_of, hello_of, data_of, raw_of, arriving_of, look_of, told_of, gone_of, high_of, carry_of, return_of, done_of, line_of, line_at};
 
-use crate::head::{ArrivingHead, LineHead};
 use crate::body::Body;
 use crate::fields::Fields;
+use crate::head::{ArrivingHead, LineHead};
 use crate::line::Line;
 use pump_frame::SessionRow;
 

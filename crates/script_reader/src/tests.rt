@@ -1,7 +1,13 @@
-use crate::{Arriving, Fault, Line, ToldFeedback, print_fault, read_line};
+use crate::{
+    Arriving, Body, EventHead, Fault, Line, LineHead, LinedHead, Lines, ToldFeedback, append_head,
+    print_event, print_fault, print_head, read_line,
+};
 use arrayvec::ArrayVec;
 use disk_model::Role;
+use pump_core::{Refusal, Reply, Seen};
 use pump_frame::{Name, Payload, SessionRow};
+use pump_link::MemSource;
+use std::alloc::AllocError;
 use std::process::Abort;
 
 fn is_row(row: &SessionRow) -> bool {
@@ -247,4 +253,84 @@ fn faults_have_their_lines(rt: HostRuntime) {
     assert!(rt; prints(high, b"fault device 4294967295 high\n"));
     assert!(rt; prints(receiver, b"fault device 0 recv\n"));
     assert!(rt; prints(full, b"fault full 1 16777210 8 16777216\n"));
+}
+
+// Whether the event is printed so by its head, by the event itself, and behind what a small room holds.
+fn tells(event: &EventHead, line: &[u8]) -> bool {
+    let mut head = ArrayVec::new();
+    print_head(event, &mut head);
+    let mut whole = ArrayVec::new();
+    print_event(&event.event(), &mut whole);
+    let mut small: ArrayVec<u8, 256> = ArrayVec::new();
+    append_head(event, &mut small);
+    head.as_slice() == line && whole.as_slice() == line && small.as_slice() == line
+}
+
+#[test]
+fn events_have_their_lines(rt: HostRuntime) {
+    let (session, moment) = (4294967295, 20);
+    let stored = EventHead::Stored {
+        session,
+        moment,
+        number: 281474976710655,
+    };
+    let repeat = EventHead::Repeat {
+        session,
+        moment,
+        seen: Seen {
+            count: 3,
+            average: 20000,
+        },
+    };
+    assert!(rt; tells(&stored, b"stored 4294967295 20 281474976710655\n"));
+    assert!(rt; tells(&repeat, b"repeat 4294967295 20 3 20000\n"));
+    for (reply, line) in [
+        (
+            Reply::Welcome { number: 7 },
+            b"low 4294967295 20 welcome 7\n".as_slice(),
+        ),
+        (Reply::Ack { number: 0 }, b"low 4294967295 20 ack 0\n"),
+        (
+            Reply::Refuse {
+                why: Refusal::Step,
+                number: 2,
+            },
+            b"low 4294967295 20 refuse 4 2\n",
+        ),
+    ] {
+        let low = EventHead::Low {
+            session,
+            moment,
+            reply,
+        };
+        assert!(rt; tells(&low, line));
+    }
+}
+
+// The next line that is a `high` line's moment, 0 for a skipped line, 1 for a failed read, and 2 else.
+fn next_of(lines: &mut Lines, source: &mut MemSource, body: &mut Body) -> u64 {
+    match lines.next_head(source, body) {
+        LinedHead::Line(LineHead::High { moment, .. }) => moment,
+        LinedHead::Line(LineHead::Skip) => 0,
+        LinedHead::Failed => 1,
+        _ => 2,
+    }
+}
+
+// The second read fails, and no read is made before it is needed.
+#[test]
+fn reading_goes_on_after_a_failure(rt: HostRuntime) -> Result<(), AllocError> {
+    let alloc = rt.alloc();
+    let mut script = Vec::new(alloc);
+    script.extend_from_slice(b"#\nhigh 1 50\nhigh 1 60\n")?;
+    let mut source = MemSource::new(script, 4, vec![in alloc; 1]?);
+    let mut lines = Lines::new();
+    let mut body = Body::new();
+    let mut given = [9; 5];
+    for i in 0..5 {
+        given[i] = next_of(&mut lines, &mut source, &mut body);
+    }
+    assert_eq!(rt; given, [0, 1, 50, 60, 2]);
+    assert_eq!(rt; lines.number(), 3);
+    Ok(())
 }

@@ -1,9 +1,9 @@
 -- A row whose id and ports no earlier row has is apart from each of them.
-use Rattle.std.proofs.Common.{◌≡◌, ℕ, ◌||◌, ◌==◌, false, List, [], ◌∷◌, rules, arith}
+use Rattle.std.proofs.Common.{◌≡◌, ◌||◌, ◌==◌, false, List, [], ◌∷◌, arith}
 use Rattle.std.proofs.lemmas.Bool.{or_parts}
 use Rattle.std.proofs.lemmas.Bool.Decides.{nat_tests}
 use Rattle.std.proofs.lemmas.List.Elements.{All-nil, All-cons}
-use Rattle.std.specs.List.{All, list_any}
+use Rattle.std.specs.List.{All}
 use Rattle.pump_frame.specs.declared.row.SessionRow.{SessionRow}
 use Rattle.session_table.specs.Rows.{has_id, has_port}
 use Rattle.session_table.specs.Tables.{AreApart}

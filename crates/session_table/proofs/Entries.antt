@@ -1,5 +1,5 @@
 -- The entries of a document's own map and list, beside what is said of its members and items.
-use Rattle.std.proofs.Common.{◌≡◌, ℕ, suc, length, is_some, not, ◌&&◌, ◌||◌, List, [], ◌∷◌, String, Global, string_bytes, refl, ap}
+use Rattle.std.proofs.Common.{◌≡◌, suc, length, is_some, not, ◌&&◌, ◌||◌, List, [], ◌∷◌, String, Global, string_bytes, refl, ap}
 use Rattle.std.specs.List.{list_all, list_any}
 use Rattle.std.specs.Map.{keys_of}
 use Rattle.pump_frame.specs.declared.row.RowKey.{RowKey}

@@ -1,5 +1,5 @@
 -- The test of a name, beside what a name is.
-use Rattle.std.proofs.Common.{◌≡◌, ℕ, List, true, false, IsTrue, rules, arith}
+use Rattle.std.proofs.Common.{◌≡◌, ℕ, List, true, arith}
 use Rattle.std.proofs.lemmas.Bool.Decides.{nat_tests}
 use Rattle.pump_frame.specs.Names.{IsName}
 use Rattle.session_table.specs.Values.{is_name}

@@ -1,5 +1,5 @@
 -- What holds of the rows of every table.
-use Rattle.std.specs.Prelude.{ℕ, ◌<◌, ◌≤◌, ◌≢◌, List, length}
+use Rattle.std.specs.Prelude.{◌<◌, ◌≤◌, ◌≢◌, List, length}
 use Rattle.std.specs.List.{All, AllPairs}
 use Rattle.pump_frame.specs.Rows.{IsLawfulRow}
 use Rattle.pump_frame.specs.declared.row.SessionRow.{SessionRow}

@@ -13,7 +13,7 @@ use crate::row::{placed, row_of};
 use crate::value::required;
 use pump_frame::{RowKey, SessionRow};
 use std::alloc::Global;
-use toml::{Table as Document, Value};
+use toml::{Table as Members, Value};
 
 const NO_TABLES: TableFault = TableFault::OutOfRange {
     row: 0,
@@ -94,18 +94,18 @@ fn rows_at(alloc: Global, value: &Value) -> Result<Vec<SessionRow>, TableFault>
 
 /// The rows of a document.
 #[tactic(auto, unfolding(crate::specs::Documents::rows_of))]
-pub(crate) fn rows_of(alloc: Global, document: &Document) -> Result<Vec<SessionRow>, TableFault>
-    ensures value { AnswersBy (λ rows. rows.items) result (rows_of (table_view document.now)) }
+pub(crate) fn rows_of(alloc: Global, members: &Members) -> Result<Vec<SessionRow>, TableFault>
+    ensures value { AnswersBy (λ rows. rows.items) result (rows_of (table_view members.now)) }
     ensures table { IfOk result (λ rows. IsTable rows.items) }
 {
-    if has_other(&[RowKey::Session], document) {
+    if has_other(&[RowKey::Session], members) {
         return Err(TableFault::UnknownKey { row: 0 });
     }
-    rows_at(alloc, required(0, RowKey::Session, document)?)
+    rows_at(alloc, required(0, RowKey::Session, members)?)
 }
 
 /// The document of these bytes.
-pub(crate) fn document(alloc: Global, bytes: &[u8]) -> Result<Document, TableFault>
+pub(crate) fn document(alloc: Global, bytes: &[u8]) -> Result<Members, TableFault>
     ensures { AnswersBy table_view result (document bytes.now) }
 {
     match toml::table_from_slice(alloc, bytes) {

@@ -5,7 +5,7 @@ ghost use Rattle.toml.specs.View.{table_view};
 ghost use Rattle.session_table.specs.Keys.{key_name, is_named, has_other};
 
 use pump_frame::RowKey;
-use toml::Table as Document;
+use toml::Table as Members;
 
 /// The keys of a row, in the order in which they are looked at.
 pub(crate) const ROW_KEYS: [RowKey; 11] = [
@@ -49,15 +49,15 @@ fn is_named(keys: &[RowKey], name: &str) -> bool
 }
 
 // What `has_other` says, in the words of the document's own map.
-fn has_unnamed(keys: &[RowKey], document: &Document) -> bool
-    ensures { result ≡ list_any (λ name. not (is_named keys.now (string_bytes name))) (keys_of document.now.entries) }
+fn has_unnamed(keys: &[RowKey], members: &Members) -> bool
+    ensures { result ≡ list_any (λ name. not (is_named keys.now (string_bytes name))) (keys_of members.now.entries) }
 {
-    document.keys().any(|name| !is_named(keys, name.as_str()))
+    members.keys().any(|name| !is_named(keys, name.as_str()))
 }
 
 /// Whether a table has a key that is none of these.
-pub(crate) fn has_other(keys: &[RowKey], document: &Document) -> bool
-    ensures { result ≡ has_other keys.now (table_view document.now) }
+pub(crate) fn has_other(keys: &[RowKey], members: &Members) -> bool
+    ensures { result ≡ has_other keys.now (table_view members.now) }
 {
-    has_unnamed(keys, document)
+    has_unnamed(keys, members)
 }

@@ -9,7 +9,7 @@ use crate::TableFault;
 use crate::key::{ROW_KEYS, has_other};
 use crate::value::{name_at, port_at, whole_at};
 use pump_frame::{Name, RowKey, SessionRow};
-use toml::Table as Document;
+use toml::Table as Members;
 
 // A row of these three. Only a whole row can be asked for its ranges, so it begins with some numbers
 // that are in them, which the document's own replace one by one.
@@ -67,14 +67,14 @@ fn with_number(row: SessionRow, key: RowKey, number: u32) -> SessionRow
 // The row with the document's number at this key, if it is lawful then.
 fn filled(
     place: u32,
-    document: &Document,
+    members: &Members,
     key: RowKey,
     row: SessionRow,
 ) -> Result<SessionRow, TableFault>
-    ensures value { result ≡ filled place (table_view document.now) key row }
+    ensures value { result ≡ filled place (table_view members.now) key row }
     ensures lawful { IfOk result IsLawfulRow }
 {
-    let number = whole_at(place, key, 0, u32::MAX, document)?;
+    let number = whole_at(place, key, 0, u32::MAX, members)?;
     let next = with_number(row, key, number);
     if next.first_bad().is_some() {
         return Err(TableFault::OutOfRange {
@@ -87,34 +87,34 @@ fn filled(
 }
 
 #[tactic(auto, unfolding(crate::specs::Rows::numbered))]
-fn numbered(place: u32, document: &Document, row: SessionRow) -> Result<SessionRow, TableFault>
-    ensures value { result ≡ numbered place (table_view document.now) row }
+fn numbered(place: u32, members: &Members, row: SessionRow) -> Result<SessionRow, TableFault>
+    ensures value { result ≡ numbered place (table_view members.now) row }
     ensures lawful { IfOk result IsLawfulRow }
 {
-    let row = filled(place, document, RowKey::Capacity, row)?;
-    let row = filled(place, document, RowKey::Message, row)?;
-    let row = filled(place, document, RowKey::Window, row)?;
-    let row = filled(place, document, RowKey::Start, row)?;
-    let row = filled(place, document, RowKey::Longest, row)?;
-    filled(place, document, RowKey::Resend, row)
+    let row = filled(place, members, RowKey::Capacity, row)?;
+    let row = filled(place, members, RowKey::Message, row)?;
+    let row = filled(place, members, RowKey::Window, row)?;
+    let row = filled(place, members, RowKey::Start, row)?;
+    let row = filled(place, members, RowKey::Longest, row)?;
+    filled(place, members, RowKey::Resend, row)
 }
 
-/// The row at this place of a document, counted from 1, by itself: each key is looked at in turn.
+/// The row at this place of a members, counted from 1, by itself: each key is looked at in turn.
 #[tactic(auto, unfolding(crate::specs::Rows::row_of))]
-pub(crate) fn row_of(place: u32, document: &Document) -> Result<SessionRow, TableFault>
-    ensures value { result ≡ row_of place (table_view document.now) }
+pub(crate) fn row_of(place: u32, members: &Members) -> Result<SessionRow, TableFault>
+    ensures value { result ≡ row_of place (table_view members.now) }
     ensures lawful { IfOk result IsLawfulRow }
     ensures ports { IfOk result (λ row. (0 < row.low_port) × (0 < row.high_port)) }
 {
-    if has_other(&ROW_KEYS, document) {
+    if has_other(&ROW_KEYS, members) {
         return Err(TableFault::UnknownKey { row: place });
     }
-    let id = whole_at(place, RowKey::Id, 0, u32::MAX, document)?;
-    let low = name_at(place, RowKey::Low, document)?;
-    let high = name_at(place, RowKey::High, document)?;
-    let row = numbered(place, document, begun(id, low, high))?;
-    let low_port = port_at(place, RowKey::LowPort, document)?;
-    let high_port = port_at(place, RowKey::HighPort, document)?;
+    let id = whole_at(place, RowKey::Id, 0, u32::MAX, members)?;
+    let low = name_at(place, RowKey::Low, members)?;
+    let high = name_at(place, RowKey::High, members)?;
+    let row = numbered(place, members, begun(id, low, high))?;
+    let low_port = port_at(place, RowKey::LowPort, members)?;
+    let high_port = port_at(place, RowKey::HighPort, members)?;
     Ok(SessionRow {
         low_port,
         high_port,

@@ -43,7 +43,8 @@ fn permits(row: &SessionRow, id: u32, low: &Name, high: &Name) -> bool
 }
 
 impl Table {
-    /// The table of a document's bytes, or the first thing that is wrong with them.
+    /// The table of a document's bytes, or the first thing that is wrong with them, in the order of
+    /// `docs/formats.md`.
     pub fn read(alloc: Global, bytes: &[u8]) -> Result<Table, TableFault>
         ensures { Answers result (table_of bytes.now) }
     {

@@ -49,16 +49,20 @@ fn is_second(row: &SessionRow) -> bool {
         && row.high.as_slice() == b"-".as_slice()
 }
 
+fn has_both(table: &Table) -> bool {
+    match table.rows() {
+        [first, second] => is_first(first) && is_second(second),
+        _ => false,
+    }
+}
+
 #[test]
 fn a_table_has_the_rows_of_its_document(rt: HostRuntime) -> Result<(), Fail> {
     let text = format!(in rt.alloc(); "{FIRST}{SECOND}")?;
     let table = Table::read(rt.alloc(), text.as_bytes())
         .ok()
         .ok_or("it is refused")?;
-    let [first, second] = table.rows() else {
-        return Err("it has not two rows".into());
-    };
-    assert!(rt; is_first(first) && is_second(second));
+    assert!(rt; has_both(&table));
     assert!(rt; table.row(1).is_some_and(|row| is_first(&row)));
     assert!(rt; table.row(u32::MAX).is_some_and(|row| is_second(&row)));
     assert!(rt; table.row(2).is_none());
@@ -76,11 +80,30 @@ fn a_table_has_the_rows_of_its_document(rt: HostRuntime) -> Result<(), Fail> {
     Ok(())
 }
 
-// The refusal of the two rows with one text of theirs changed to another.
-fn refusal(alloc: Global, from: &str, to: &str) -> Result<Option<TableFault>, AllocError> {
+// The answer to the two rows with one text of theirs changed to another.
+fn changed(alloc: Global, from: &str, to: &str) -> Result<Result<Table, TableFault>, AllocError> {
     let text = format!(in alloc; "{FIRST}{SECOND}")?;
-    let changed = text.as_str().replace(alloc, from, to)?;
-    Ok(Table::read(alloc, changed.as_bytes()).err())
+    let other = text.as_str().replace(alloc, from, to)?;
+    Ok(Table::read(alloc, other.as_bytes()))
+}
+
+#[test]
+fn a_row_may_be_written_in_any_way_of_toml(rt: HostRuntime) -> Result<(), Fail> {
+    for (from, to) in [
+        ("capacity = 3", "capacity = 0b11"),
+        ("capacity = 3", "capacity = 0o3"),
+        ("capacity = 3", "\"capacity\" = +3 # messages"),
+        ("\"weather\"", "'weather'"),
+        ("\"weather\"", "\"w\\u0065ather\""),
+        (
+            "[[session]]\nid = 1\n",
+            "\u{feff}[[session]]\r\n\r\nid=1\r\n",
+        ),
+    ] {
+        let table = changed(rt.alloc(), from, to)?;
+        assert!(rt; table.is_ok_and(|table| has_both(&table)), "{to}");
+    }
+    Ok(())
 }
 
 fn missing(row: u32, key: RowKey) -> TableFault {
@@ -231,7 +254,7 @@ fn a_row_is_refused_for_the_first_thing_that_is_wrong(rt: HostRuntime) -> Result
             TableFault::NotToml,
         ),
     ] {
-        assert_eq!(rt; refusal(rt.alloc(), from, to)?, Some(fault), "{to}");
+        assert_eq!(rt; changed(rt.alloc(), from, to)?.err(), Some(fault), "{to}");
     }
     let small = FIRST.replace(rt.alloc(), "capacity = 3", "capacity = 2")?;
     let refused = Table::read(rt.alloc(), small.as_bytes()).err();
@@ -266,99 +289,112 @@ fn a_document_is_refused_for_its_top_level_first(rt: HostRuntime) {
     );
 }
 
+fn says(alloc: Global, fault: TableFault, sentence: &str) -> Result<bool, AllocError> {
+    Ok(fault.to_string(alloc)?.as_str() == sentence)
+}
+
 #[test]
 fn a_refusal_says_what_to_mend(rt: HostRuntime) -> Result<(), Fail> {
-    let keys =
-        "id, low, high, capacity, message, window, start, longest, resend, low_port and high_port";
-    let unknown = format!(in rt.alloc();
-        "row 3 of the table has a key that is none of {keys}; take it out or mend its name"
-    )?;
-    for (fault, number, row, sentence) in [
-        (
+    let alloc = rt.alloc();
+    let small = outside(1, RowKey::Capacity, 2);
+    assert_eq!(rt; (small.number(), small.row()), (4, 1));
+    assert!(rt;
+        says(
+            alloc,
             TableFault::NotToml,
-            1,
-            0,
-            "the table is no TOML document; mend how it is written, and give no key twice",
-        ),
-        (
+            "the table is no TOML document; mend how it is written, and give no key twice"
+        )?
+    );
+    assert!(rt;
+        says(
+            alloc,
             missing(0, RowKey::Session),
-            2,
-            0,
-            "the table has no session; begin each with a line [[session]]",
-        ),
-        (
+            "the table has no session; begin each with a line [[session]]"
+        )?
+    );
+    assert!(rt;
+        says(
+            alloc,
             missing(2, RowKey::Id),
-            2,
-            2,
-            "row 2 of the table has no id; give it a whole number from 0 to 4294967295",
-        ),
-        (
+            "row 2 of the table has no id; give it a whole number from 0 to 4294967295"
+        )?
+    );
+    assert!(rt;
+        says(
+            alloc,
             missing(1, RowKey::High),
-            2,
-            1,
-            "row 1 of the table has no high; give it a name in quotes, 1 to 32 of a to z, 0 to 9 and -",
-        ),
-        (
+            "row 1 of the table has no high; give it a name in quotes, 1 to 32 of a to z, 0 to 9 and -"
+        )?
+    );
+    assert!(rt;
+        says(
+            alloc,
             TableFault::UnknownKey { row: 0 },
-            3,
-            0,
-            "the table has a key at its top level that is not session; take it out or mend its name",
-        ),
-        (TableFault::UnknownKey { row: 3 }, 3, 3, unknown.as_str()),
-        (
+            "the table has a key at its top level that is not session; take it out or mend its name"
+        )?
+    );
+    assert!(rt;
+        says(
+            alloc,
+            TableFault::UnknownKey { row: 3 },
+            "row 3 of the table has a key that is none of id, low, high, capacity, message, window, start, longest, resend, low_port and high_port; take it out or mend its name"
+        )?
+    );
+    assert!(rt;
+        says(
+            alloc,
             no_number(0, RowKey::Session),
-            4,
-            0,
-            "session is no array of tables; begin each session of the table with a line [[session]]",
-        ),
-        (
+            "session is no array of tables; begin each session of the table with a line [[session]]"
+        )?
+    );
+    assert!(rt;
+        says(
+            alloc,
             outside(1, RowKey::Capacity, 2),
-            4,
-            1,
-            "row 1 of the table has capacity = 2; give it a whole number from 3 to 64",
-        ),
-        (
+            "row 1 of the table has capacity = 2; give it a whole number from 3 to 64"
+        )?
+    );
+    assert!(rt;
+        says(
+            alloc,
             no_number(1, RowKey::LowPort),
-            4,
-            1,
-            "row 1 of the table has no whole number as its low_port; give it a whole number from 1 to 65535",
-        ),
-        (
+            "row 1 of the table has no whole number as its low_port; give it a whole number from 1 to 65535"
+        )?
+    );
+    assert!(rt;
+        says(
+            alloc,
             no_name(1, RowKey::Low),
-            5,
-            1,
-            "row 1 of the table has no name as its low; give it a name in quotes, 1 to 32 of a to z, 0 to 9 and -",
-        ),
-        (
+            "row 1 of the table has no name as its low; give it a name in quotes, 1 to 32 of a to z, 0 to 9 and -"
+        )?
+    );
+    assert!(rt;
+        says(
+            alloc,
             TableFault::TwiceId { row: 2, id: 7 },
-            6,
-            2,
-            "row 2 of the table has id = 7, as an earlier row has; give it an id of its own",
-        ),
-        (
+            "row 2 of the table has id = 7, as an earlier row has; give it an id of its own"
+        )?
+    );
+    assert!(rt;
+        says(
+            alloc,
             TableFault::TwicePort { row: 2, port: 7001 },
-            7,
-            2,
-            "row 2 of the table has the port 7001, which it or an earlier row has already; give it ports of its own",
-        ),
-        (
+            "row 2 of the table has the port 7001, which it or an earlier row has already; give it ports of its own"
+        )?
+    );
+    assert!(rt;
+        says(
+            alloc,
             TableFault::TooMany { rows: 17 },
-            8,
-            0,
-            "the table has 17 rows, and 16 are the most; take the others out",
-        ),
-        (
+            "the table has 17 rows, and 16 are the most; take the others out"
+        )?
+    );
+    assert!(rt;
+        says(
+            alloc,
             TableFault::Memory,
-            9,
-            0,
-            "there is not enough memory for the table; end other programs and try again",
-        ),
-    ] {
-        assert_eq!(rt; (fault.number(), fault.row()), (number, row), "{sentence}");
-        assert!(rt;
-            fault.to_string(rt.alloc())?.as_str() == sentence,
-            "{fault}"
-        );
-    }
+            "there is not enough memory for the table; end other programs and try again"
+        )?
+    );
     Ok(())
 }

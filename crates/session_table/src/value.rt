@@ -8,23 +8,23 @@ ghost use Rattle.session_table.specs.Values.{required, whole_of, whole_at, name_
 use crate::TableFault;
 use crate::key::key_name;
 use pump_frame::{Name, RowKey};
-use toml::{Table as Document, Value};
+use toml::{Table as Members, Value};
 
-fn found<'a>(key: RowKey, document: &'a Document) -> Option<&'a Value>
-    ensures { option_map (λ value. view value.now) result ≡ get_member (key_name key) (table_view document.now) }
+fn found<'a>(key: RowKey, members: &'a Members) -> Option<&'a Value>
+    ensures { option_map (λ value. view value.now) result ≡ get_member (key_name key) (table_view members.now) }
 {
-    document.get(key_name(key))
+    members.get(key_name(key))
 }
 
 /// What stands at a key that has to be there.
 pub(crate) fn required<'a>(
     row: u32,
     key: RowKey,
-    document: &'a Document,
+    members: &'a Members,
 ) -> Result<&'a Value, TableFault>
-    ensures { LendsBy view result (required row key (get_member (key_name key) (table_view document.now))) }
+    ensures { LendsBy view result (required row key (get_member (key_name key) (table_view members.now))) }
 {
-    match found(key, document) {
+    match found(key, members) {
         Some(value) => Ok(value),
         None => Err(TableFault::MissingKey { row, key }),
     }
@@ -76,26 +76,26 @@ pub(crate) fn whole_at(
     key: RowKey,
     least: u32,
     greatest: u32,
-    document: &Document,
+    members: &Members,
 ) -> Result<u32, TableFault>
-    ensures value { result ≡ whole_at row key least greatest (table_view document.now) }
+    ensures value { result ≡ whole_at row key least greatest (table_view members.now) }
     ensures within { IfOk result (λ number. (least ≤ number) × (number ≤ greatest)) }
 {
-    whole_of(row, key, least, greatest, required(row, key, document)?)
+    whole_of(row, key, least, greatest, required(row, key, members)?)
 }
 
 /// The port at a key.
-pub(crate) fn port_at(row: u32, key: RowKey, document: &Document) -> Result<u16, TableFault>
-    ensures value { result ≡ whole_at row key 1 65535 (table_view document.now) }
+pub(crate) fn port_at(row: u32, key: RowKey, members: &Members) -> Result<u16, TableFault>
+    ensures value { result ≡ whole_at row key 1 65535 (table_view members.now) }
     ensures some { IfOk result (λ port. 0 < port) }
 {
-    let port = whole_at(row, key, 1, 65535, document)?;
+    let port = whole_at(row, key, 1, 65535, members)?;
     Ok(port as u16)
 }
 
 /// The name at a key.
-pub(crate) fn name_at(row: u32, key: RowKey, document: &Document) -> Result<Name, TableFault>
-    ensures { result ≡ name_at row key (table_view document.now) }
+pub(crate) fn name_at(row: u32, key: RowKey, members: &Members) -> Result<Name, TableFault>
+    ensures { result ≡ name_at row key (table_view members.now) }
 {
-    name_of(row, key, required(row, key, document)?)
+    name_of(row, key, required(row, key, members)?)
 }

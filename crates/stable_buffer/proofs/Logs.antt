@@ -40,16 +40,16 @@ take_two k (x ∷ []) = ap (λ (l : List ℕ). x ∷ l) (sym (take_all k [] (ome
 take_two k (x ∷ y ∷ zs) = refl
 
 -- a length and a message that were read are a message in its slot
-pub in_slot : (row : SessionRow) (n l : ℕ) (head payload disk : List ℕ) → l ≤ row.message → length payload ≡ l → l ≡ length_at disk (slot_of row n) → big_bytes 2 l ≡ take 2 head → length head ≡ 2
-    → head ≡ take 2 (drop (slot_of row n) disk) → payload ≡ message_at disk (slot_of row n) → InSlot row n payload disk
-in_slot row n l head payload disk fits size is spells two read message = record {
+pub in_slot : (row : SessionRow) (n l : ℕ) (payload disk : List ℕ) → l ≤ row.message → length payload ≡ l → l ≡ length_at disk (slot_of row n)
+    → big_bytes 2 l ≡ take 2 (drop (slot_of row n) disk) → payload ≡ message_at disk (slot_of row n) → InSlot row n payload disk
+in_slot row n l payload disk fits size is spells message = record {
   fits = omega (arith, fits, size);
   bytes =
       let s = slot_of row n in
       let k = length payload in
       let e : suc (suc k) ≡ 2 + k = omega arith in
       let there : take (2 + k) (drop s disk) ≡ take 2 (drop s disk) ++ take k (drop 2 (drop s disk)) = subst (λ j. take j (drop s disk) ≡ take 2 (drop s disk) ++ take k (drop 2 (drop s disk))) e (take_two k (drop s disk)) in
-      let front : take 2 (drop s disk) ≡ big_bytes 2 k = sym read ∙ sym (take_all 2 head (omega (arith, two))) ∙ sym spells ∙ ap (λ j. big_bytes 2 j) (sym size) in
+      let front : take 2 (drop s disk) ≡ big_bytes 2 k = sym spells ∙ ap (λ j. big_bytes 2 j) (sym size) in
       let at : drop 2 (drop s disk) ≡ drop (s + 2) disk = drop-drop 2 s disk in
       let back : take k (drop 2 (drop s disk)) ≡ payload = (λ i. take ((size ∙ is) i) (at i)) ∙ sym message in
       there ∙ (λ i. front i ++ back i);

@@ -31,7 +31,7 @@ impl<D: Disk> HighStore<D> {
         HighStore { register }
     }
 
-    /// No call has failed. Once one has, only `is_open` and `into_disk` may be called.
+    /// No call of the disk has failed. Once one has, `remove` may not be called.
     pub fn is_open(&self) -> bool
         ensures { result ≡ high_is_open self.now }
     {

@@ -4,7 +4,6 @@ ghost use Rattle.pump_frame.specs.Rows.{IsLawfulRow};
 ghost use Rattle.stable_buffer.specs.Numbers.{length_at, message_at};
 ghost use Rattle.stable_buffer.specs.Stands.{slot_of, slot_end, low_size, InSlot, LowStands, StandsOn, MayGain, Gains, StandsOrGains};
 
-use crate::bytes::{read_length, spell};
 use crate::{Device, Register};
 use disk_model::Disk;
 use pump_frame::{Payload, SessionRow};
@@ -42,7 +41,7 @@ impl<D: Disk> LowStore<D> {
         }
     }
 
-    /// No call has failed. Once one has, only `is_open` and `into_disk` may be called.
+    /// No call of the disk has failed. Once one has, `store` and `slot` may not be called.
     pub fn is_open(&self) -> bool
         ensures { result ≡ low_is_open self.now }
     {
@@ -56,8 +55,8 @@ impl<D: Disk> LowStore<D> {
         self.register.faults()
     }
 
-    /// The disk itself. Its bytes are the store's: once they are written through it, only
-    /// `into_disk` may be called.
+    /// The disk itself. Its bytes are the store's: once they are written through it, `store` and
+    /// `slot` may not be called.
     pub fn disk(&mut self) -> &mut D
         ensures value { result.now ≡ low_disk self.old }
         ensures* writes_back { sem 𝓛 (Lends (the_row D.row) D.row self.entry result
@@ -109,9 +108,7 @@ impl<D: Disk> LowStore<D> {
     {
         let number = self.register.value().0;
         let at = self.place(number);
-        let slot = spell(payload);
-        let end = 2 + payload.len() as usize;
-        self.register.write_beside(at, &slot[..end])
+        self.register.write_message(at, payload)
     }
 
     /// Stores a message, and gives its number.
@@ -178,19 +175,14 @@ impl<D: Disk> LowStore<D> {
         ensures device { IfErr result (λ e. e.faults ≡ D.told.count (low_disk self.new)) }
     {
         let at = self.place(n);
-        let mut head = [0; 2];
-        self.register.read_at(at, &mut head)?;
-        let length = read_length(&head);
+        let length = self.register.read_length(at)?;
         if length > self.row.message {
             return Ok(length);
         }
         let mut bytes = [0; 1024];
         self.register
-            .read_at(at + 2, &mut bytes[..length as usize])?;
-        match Payload::from_slice(&bytes[..length as usize]) {
-            Some(payload) => *into = payload,
-            None => unreachable!(),
-        }
+            .read_beside(at + 2, &mut bytes[..length as usize])?;
+        into.set(&bytes[..length as usize]);
         Ok(length)
     }
 }

@@ -1,10 +1,14 @@
-ghost use Rattle.std.specs.Prelude.{◌≡◌, ◌⊎◌, ◌+◌, ◌≤◌, false, length, take, drop, IfOk, OnOk, OnErr, IfErr};
+ghost use Rattle.std.specs.Prelude.{◌≡◌, ◌⊎◌, ◌+◌, ◌^◌, ◌<◌, ◌≤◌, false, length, take, drop, IfOk, OnOk, OnErr, IfErr};
 ghost use Rattle.disk_model.specs.Disk.{Moves, Same, Torn, Holds, Settled, Leaves, Answers};
+ghost use Rattle.byteorder.specs.Endian.{big_bytes};
+ghost use Rattle.stable_buffer.specs.Numbers.{length_at};
+ghost use Rattle.stable_buffer.specs.Stands.{spelled};
 
 use crate::Device;
-use crate::bytes::{cell_of, read_number};
+use crate::bytes::{cell_of, read_length, read_number, spell};
 use crate::device::{write, write_and_sync};
 use disk_model::{Disk, DiskFault};
+use pump_frame::Payload;
 
 /// Two numbers on bytes 32 to 79 of a disk: a selector, and two cells of which it selects one. A
 /// change of them is whole or not at all, whenever a crash comes.
@@ -139,7 +143,8 @@ impl<D: Disk> Register<D> {
         Ok(())
     }
 
-    /// No call has failed. Once one has, only `is_open` and `into_disk` may be called.
+    /// No call of the disk has failed. Once one has, nothing may be staged, committed, written or
+    /// read.
     pub fn is_open(&self) -> bool
         ensures { result ≡ register_is_open self.now }
     {
@@ -154,7 +159,7 @@ impl<D: Disk> Register<D> {
     }
 
     // Writes beside the register.
-    pub(crate) fn write_beside(&mut self, at: u64, bytes: &[u8]) -> Result<(), Device>
+    fn write_beside(&mut self, at: u64, bytes: &[u8]) -> Result<(), Device>
         requires ready { IsReady D.told self.old }
         requires beside { 80 ≤ at }
         requires within { D.told.tells → at ≤ length (D.told.reading (register_disk self.old)) }
@@ -178,7 +183,56 @@ impl<D: Disk> Register<D> {
         Ok(())
     }
 
-    pub(crate) fn read_at(&mut self, at: u64, into: &mut [u8]) -> Result<(), Device>
+    /// Writes a message beside the register: its length in two bytes, then its bytes.
+    pub fn write_message(&mut self, at: u64, message: &Payload) -> Result<(), Device>
+        requires ready { IsReady D.told self.old }
+        requires beside { 80 ≤ at }
+        requires within { D.told.tells → at ≤ length (D.told.reading (register_disk self.old)) }
+
+        ensures ready { OnOk result (IsReady D.told self.new) }
+        ensures value { register_value self.new ≡ register_value self.old }
+        ensures written { OnOk result (D.told.tells → Holds (D.told.reading (register_disk self.old))
+            at (spelled message.now) (D.told.reading (register_disk self.new))) }
+        ensures moves { Moves D.told (Torn at (2 + length message.now))
+            (register_disk self.old) (register_disk self.new) }
+
+        ensures closed { OnErr result (register_is_open self.new ≡ false) }
+        ensures answers { Answers D.told
+            (at + 2 + length message.now ≤ D.told.room (register_disk self.old))
+            (register_disk self.old) (register_disk self.new) result }
+        ensures device { IfErr result (λ e. e.faults ≡ D.told.count (register_disk self.new)) }
+    {
+        let record = spell(message);
+        self.write_beside(at, &record[..2 + message.len() as usize])
+    }
+
+    /// The length of the message that stands beside the register.
+    pub fn read_length(&mut self, at: u64) -> Result<u32, Device>
+        requires ready { IsReady D.told self.old }
+
+        ensures ready { OnOk result (IsReady D.told self.new) }
+        ensures value { register_value self.new ≡ register_value self.old }
+        ensures length { IfOk result (λ l. D.told.tells
+            → l ≡ length_at (D.told.reading (register_disk self.old)) at) }
+        ensures spells { IfOk result (λ l. D.told.tells
+            → big_bytes 2 l ≡ take 2 (drop at (D.told.reading (register_disk self.old)))) }
+        ensures small { IfOk result (λ l. l < 2 ^ 16) }
+        ensures moves { Moves D.told Same (register_disk self.old) (register_disk self.new) }
+
+        ensures closed { OnErr result (register_is_open self.new ≡ false) }
+        ensures answers { Answers D.told
+            (at + 2 ≤ length (D.told.reading (register_disk self.old)))
+            (register_disk self.old) (register_disk self.new) result }
+        ensures device { IfErr result (λ e. e.faults ≡ D.told.count (register_disk self.new)) }
+    {
+        let mut head = [0; 2];
+        self.read_beside(at, &mut head)?;
+        let length = read_length(&head);
+        Ok(length)
+    }
+
+    /// The bytes from an offset on. Where they end past the disk, its call fails.
+    pub fn read_beside(&mut self, at: u64, into: &mut [u8]) -> Result<(), Device>
         requires ready { IsReady D.told self.old }
 
         ensures ready { OnOk result (IsReady D.told self.new) }
@@ -205,8 +259,8 @@ impl<D: Disk> Register<D> {
         Ok(())
     }
 
-    /// The disk itself. Its bytes 32 to 79 are the register's: once they are written through it, only
-    /// `into_disk` may be called.
+    /// The disk itself. Its bytes 32 to 79 are the register's: once they are written through it,
+    /// nothing may be staged, committed, written or read.
     pub fn disk(&mut self) -> &mut D
         ensures value { result.now ≡ register_disk self.old }
         ensures* writes_back { sem 𝓛 (Lends (the_row D.row) D.row self.entry result

@@ -82,7 +82,7 @@ module _ {D : Type 0} (m : Meaning D) (c : Parts D) (p : Past) (back : ℕ) (pac
     high_ready = record { past = stands.high_ready.past; store = stands.high_ready.store; count = stands.high_ready.count; up = stands.high_ready.up; between = stands.high_ready.between; row = stands.high_ready.row; last = stands.high_ready.last };
     recv_ready = record { ready = ready; row = row; size = size };
     ends = record { low = stands.ends.low; high = stands.ends.high; stand = stands.ends.stand; shape = stands.ends.shape; times = stands.ends.times; low_fits = stands.ends.low_fits; high_fits = stands.ends.high_fits };
-    packets = record { sent = stands.packets.sent; returned = capacity ∙ stands.packets.returned };
+    packets = record { sent = stands.packets.sent; returned = capacity ∙ stands.packets.returned; taken = stands.packets.taken };
     disks = disks;
   }
 

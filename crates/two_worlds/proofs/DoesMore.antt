@@ -4,19 +4,20 @@ use Rattle.disk_model.specs.Disk.{Meaning}
 use Rattle.disk_model.specs.declared.name.Role.{Role}
 use Rattle.script_reader.specs.declared.event.Event.{Event}
 use Rattle.script_reader.specs.Past.{Past}
-use Rattle.two_worlds.specs.Doing.{DoesFrom}
+use Rattle.two_worlds.specs.Doing.{DoesFrom, LeavesFit}
 use Rattle.two_worlds.specs.declared.applied.Stop.{Stop}
 use Rattle.two_worlds.specs.declared.applied.Stop.TheVariants.{Line, Device, Full}
 use Rattle.two_worlds.specs.declared.pump.parts.Parts.{Parts}
 
 -- what leads and breaks off from p also does so by the other words
-pub does_more : {D : Type 0} (m : Meaning D) (c d : Parts D) (out now : List Event) (p : Past)
+pub does_more : {D : Type 0} (m : Meaning D) (c c' d : Parts D) (out now : List Event) (p : Past)
     (leads leads_by : Past → Past → List Event → Type 0) (breaks breaks_by : Role → Past → Past → List Event → Type 0)
     (overfills : Past → Past → List Event → ℕ → ℕ → ℕ → Type 0) (result : Result (Unit {0}) Stop)
     → ((q : Past) (printed : List Event) → leads p q printed → leads_by p q printed)
     → ((role : Role) (q : Past) (printed : List Event) → breaks role p q printed → breaks_by role p q printed)
-    → DoesFrom leads breaks overfills m c d out now p result → DoesFrom leads_by breaks_by overfills m c d out now p result
-does_more m c d out now p leads leads_by breaks breaks_by overfills (Ok done) f g (q, printed, h, told, stand, fit) = (q, printed, f q printed h, told, stand, fit)
-does_more m c d out now p leads leads_by breaks breaks_by overfills (Err Line) f g h = h
-does_more m c d out now p leads leads_by breaks breaks_by overfills (Err (Device role faults)) f g (q, printed, h, told, fails, fit) = (q, printed, g role q printed h, told, fails, fit)
-does_more m c d out now p leads leads_by breaks breaks_by overfills (Err (Full end length size)) f g h = h
+    → ((q : Past) → LeavesFit m c' d p q → LeavesFit m c d p q)
+    → DoesFrom leads breaks overfills m c' d out now p result → DoesFrom leads_by breaks_by overfills m c d out now p result
+does_more m c c' d out now p leads leads_by breaks breaks_by overfills (Ok done) f g k (q, printed, h, told, stand, fit) = (q, printed, f q printed h, told, stand, k q fit)
+does_more m c c' d out now p leads leads_by breaks breaks_by overfills (Err Line) f g k h = h
+does_more m c c' d out now p leads leads_by breaks breaks_by overfills (Err (Device role faults)) f g k (q, printed, h, told, fails, fit) = (q, printed, g role q printed h, told, fails, k q fit)
+does_more m c c' d out now p leads leads_by breaks breaks_by overfills (Err (Full end length size)) f g k (q, printed, h, told, stand, fit) = (q, printed, h, told, stand, k q fit)

@@ -137,7 +137,7 @@ module _ {D : Type 0} (m : Meaning D) (c : Parts D) (p : Past) (stands : Stands 
       low_fits = stands.ends.low_fits;
       high_fits = stands.ends.high_fits;
     };
-    packets = record { sent = stands.packets.sent; returned = stands.packets.returned };
+    packets = record { sent = stands.packets.sent; returned = stands.packets.returned; taken = stands.packets.taken };
     disks = stands.disks;
   }
 

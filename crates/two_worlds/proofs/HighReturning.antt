@@ -1,9 +1,10 @@
--- The TAKEN that comes back is among those that were sent.
+-- The TAKEN that comes back: it is among those that were sent, and is put into the frame at hand.
 use Rattle.std.proofs.Common.{◌≡◌, ℕ, ◌<◌, List, Some, length, subst}
 use Rattle.std.specs.Prelude.{slice_get}
 use Rattle.disk_model.specs.Disk.{Meaning}
 use Rattle.script_reader.specs.Past.{Past}
 use Rattle.script_reader.specs.Highs.{place}
+use Rattle.two_worlds.specs.HighLooks.{ComesBack}
 use Rattle.two_worlds.specs.Standing.{Stands}
 use Rattle.two_worlds.specs.declared.pump.parts.Parts.{Parts}
 use Rattle.two_worlds.proofs.Packets.{in_whole}
@@ -14,3 +15,52 @@ pub number_comes : {D : Type 0} (m : Meaning D) (c : Parts D) (p : Past) → Sta
 number_comes m c p s back n less at =
     in_whole p.world.returned back n (subst (λ (l : List ℕ). back < length l) s.world.returned less)
     (subst (λ (l : List ℕ). slice_get l (place l back) ≡ Some n) s.world.returned at)
+
+-- ---- the frame at hand ----
+
+-- the parts with this number in the frame at hand
+abbrev pub numbered : {D : Type 0} → Parts D → ℕ → Parts D
+numbered c n = record c { taken = record c.taken { number = n } }
+
+pub stands_numbered : {D : Type 0} (m : Meaning D) (c : Parts D) (n : ℕ) (p : Past) → Stands m c p → Stands m (numbered c n) p
+stands_numbered m c n p s = record {
+  row = s.row;
+  history = s.history;
+  waits = s.waits;
+  broken = s.broken;
+  reading = s.reading;
+  few = s.few;
+  world = s.world;
+  rest = s.rest;
+  lawful = s.lawful;
+  fits = s.fits;
+  sends = s.sends;
+  moment = s.moment;
+  low_ready = record { store = s.low_ready.store; up = s.low_ready.up; between = s.low_ready.between; row = s.low_ready.row; last = s.low_ready.last };
+  high_ready = record {
+    past = s.high_ready.past;
+    store = s.high_ready.store;
+    count = s.high_ready.count;
+    up = s.high_ready.up;
+    between = s.high_ready.between;
+    row = s.high_ready.row;
+    last = s.high_ready.last;
+  };
+  recv_ready = record { ready = s.recv_ready.ready; row = s.recv_ready.row; size = s.recv_ready.size };
+  ends = record {
+    low = s.ends.low;
+    high = s.ends.high;
+    stand = s.ends.stand;
+    shape = s.ends.shape;
+    times = s.ends.times;
+    low_fits = s.ends.low_fits;
+    high_fits = s.ends.high_fits;
+  };
+  packets = record { sent = s.packets.sent; returned = s.packets.returned; taken = s.packets.taken };
+  disks = s.disks;
+}
+
+-- so it is the session's TAKEN that comes back
+pub comes_numbered : {D : Type 0} (m : Meaning D) (c : Parts D) (p : Past) → Stands m c p → (back n : ℕ) → back < length c.returned.items
+    → slice_get c.returned.items (place c.returned.items back) ≡ Some n → ComesBack c.row.id p.world (Some (numbered c n).taken) (Some (place p.world.returned back))
+comes_numbered m c p s back n less at = (s.packets.taken.0, s.packets.taken.1, number_comes m c p s back n less at)

@@ -141,7 +141,7 @@ module _ {D : Type 0} (m : Meaning D) (c : Parts D) (p : Past) (stands : Stands 
           low_fits = stands.ends.low_fits;
           high_fits = fetched.fits;
         };
-        packets = record { sent = packets_capacity sent (high.hand_of q) c.sent ∙ stands.packets.sent; returned = stands.packets.returned };
+        packets = record { sent = packets_capacity sent (high.hand_of q) c.sent ∙ stands.packets.sent; returned = stands.packets.returned; taken = stands.packets.taken };
         disks = record { low_disk = disks.low_disk; high_disk = disks.high_disk; recv_disk = disks.recv_disk };
       });
     }

@@ -17,7 +17,7 @@ use Rattle.two_worlds.specs.declared.applied.Stop.TheVariants.{Line, Device, Ful
 use Rattle.two_worlds.specs.Connections.{Connected, unused, Joins}
 use Rattle.two_worlds.specs.declared.pump.parts.Parts.{Parts}
 use Rattle.two_worlds.specs.Doing.{DoesFrom, Does, LeavesFit, NeverBreaks, NeverOverfills}
-use Rattle.two_worlds.specs.LineSteps.{LeavesOff, RunsFrom, Runs}
+use Rattle.two_worlds.specs.LineSteps.{RunsFrom, Runs}
 use Rattle.two_worlds.proofs.PartsConnected.{stands_joined, stands_lost, arrives_at, few_at, many_at}
 
 -- what it does from p' is what the line does from p
@@ -25,7 +25,7 @@ pub runs_from : {D : Type 0} (m : Meaning D) (c c' d : Parts D) (line : ScriptLi
     (Leads : Past → Past → List Event → Type 0) (Cuts : Role → Past → Past → List Event → Type 0) (Over : Past → Past → List Event → ℕ → ℕ → ℕ → Type 0) (p from : Past) (result : Result (Unit {0}) Stop)
     → ((q : Past) (printed : List Event) → Leads from q printed → Step c.row p line q printed)
     → ((role : Role) (q : Past) (printed : List Event) → Cuts role from q printed → Breaks c.row p line role q printed)
-    → ((q : Past) (printed : List Event) (end k size : ℕ) → Over from q printed end k size → LeavesOff c.row p line q printed × Overfills c.row p line printed end k size)
+    → ((q : Past) (printed : List Event) (end k size : ℕ) → Over from q printed end k size → Overfills c.row p line q printed end k size)
     → ((q : Past) → LeavesFit m c' d from q → LeavesFit m c d p q)
     → DoesFrom Leads Cuts Over m c' d out now from result → RunsFrom m c d line out now p result
 runs_from m c c' d line out now Leads Cuts Over p from (Ok done) f g h k r = (r.0, r.1, f r.0 r.1 r.2, r.3, r.4, k r.0 r.5)
@@ -91,7 +91,7 @@ module _ {D : Type 0} (m : Meaning D) (c d : Parts D) (out now : List Event) (re
       (λ p q printed end k size. (q ≡ p) × IsOverfull p.world back end k size × (printed ≡ [])) p p result
       (λ q printed carried. carried)
       (λ role q printed x. subst (λ (r : Role). Breaks c.row p (lines.Carry session back) r q printed) (sym x.0) (x.1, x.2))
-      (λ q printed end k size x. ((x.0, x.2), (x.1, x.2))) (λ q f. f)
+      (λ q printed end k size x. (x.1, x.0, x.2)) (λ q f. f)
       (does p s))
 
   pub return_runs : (moment back : ℕ) → line ≡ lines.Return session moment back

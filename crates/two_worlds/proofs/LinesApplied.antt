@@ -19,7 +19,7 @@ use Rattle.two_worlds.specs.declared.pump.parts.Parts.{Parts}
 use Rattle.two_worlds.specs.declared.pump.Pump.{Pump}
 use Rattle.two_worlds.specs.Doing.{Fails}
 use Rattle.two_worlds.specs.Keeping.{Keeps}
-use Rattle.two_worlds.specs.LineSteps.{LeavesOff, Attempts, AttemptsFrom, answer_of}
+use Rattle.two_worlds.specs.LineSteps.{Attempts, AttemptsFrom, answer_of}
 use Rattle.two_worlds.specs.Standing.{Stands, is_down}
 use Rattle.two_worlds.specs.LowPumps.{is_device}
 use Rattle.two_worlds.specs.Pumps.{Applies, row_of}
@@ -93,11 +93,8 @@ applied m s t line p printed None a = (a.0, (
 ))
 applied m s t line p printed (Some Line) a = (a.2, a.1, pump_is s t a.0)
 applied m s t line p printed (Some (Device role faults)) a = (a.0, (a.1.0, subst (λ (l : List Event). Breaks (row_of s) p line role a.1.0 l) (sym a.1.3) a.1.2, a.1.4, a.1.5))
-applied m s t line p printed (Some (Full end k size)) a = (
-  a.0,
-  subst (λ (l : List Event). Overfills (row_of s) p line l end k size) (sym a.1.3) a.1.2.1,
-  (a.1.0, subst (λ (l : List Event). LeavesOff (row_of s) p line a.1.0 l) (sym a.1.3) a.1.2.0, a.1.4, a.1.5),
-)
+applied m s t line p printed (Some (Full end k size)) a =
+    (a.0, (a.1.0, subst (λ (l : List Event). Overfills (row_of s) p line a.1.0 l end k size) (sym a.1.3) a.1.2, a.1.4, a.1.5))
 
 -- ---- the row ----
 

@@ -125,7 +125,7 @@ module _ {D : Type 0} (m : Meaning D) (c d : Parts D) (p : Past) (moment word : 
   head = subst (λ (t : Bool × Seen). LookHead t.0 t.1 l.feedback) (λ i. (full i, seen i)) passed.head
 
   passing : is_passing s.phase ≡ is_some hand
-  passing = passing_is c.low.phase
+  passing = passing_is c.low.phase c.low.hand
 
   told : l.feedback ≡ feedback row p at.parts a
   told =
@@ -285,7 +285,7 @@ module _ {D : Type 0} (m : Meaning D) (c d : Parts D) (p : Past) (moment word : 
       low_fits = passed.fits;
       high_fits = stands.ends.high_fits;
     };
-    packets = record { sent = stands.packets.sent; returned = stands.packets.returned };
+    packets = record { sent = stands.packets.sent; returned = stands.packets.returned; taken = stands.packets.taken };
     disks = disks;
   }
 

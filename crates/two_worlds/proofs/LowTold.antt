@@ -1,6 +1,7 @@
 -- What a low look is told is what the past says.
 use Rattle.std.proofs.Common.{◌≡◌, ℕ, Bool, true, false, cond, List, [], ◌∷◌, Option, Some, None, refl, ap}
 use Rattle.std.specs.Prelude.{if◌then◌else◌, ◌&&◌, ◌==◌, ◌-◌, not, is_some, length}
+use Rattle.pump_frame.specs.declared.frame.Item.{Item}
 use Rattle.pump_frame.specs.declared.row.SessionRow.{SessionRow}
 use Rattle.pump_core.specs.declared.feedback.Seen.{Seen}
 use Rattle.pump_core.specs.declared.feedback.Feedback.{Feedback}
@@ -131,11 +132,11 @@ told_in row st (Passing owed) (Some n) m w a d f seen full e h fit =
 -- ---- by the process and the past ----
 
 -- a message is in the low hand exactly while it is to be passed
-pub passing_is : (ph : LowPhase) → is_passing (phase_of ph) ≡ is_some (hand_in ph)
-passing_is low.Idle = refl
-passing_is (low.Passing item owed) = refl
-passing_is (low.Waiting n t) = refl
-passing_is low.Down = refl
+pub passing_is : (ph : LowPhase) (hand : Item) → is_passing (phase_of ph hand.number) ≡ is_some (hand_in ph hand)
+passing_is low.Idle hand = refl
+passing_is (low.Passing owed) hand = refl
+passing_is (low.Waiting n t) hand = refl
+passing_is low.Down hand = refl
 
 -- what was passed found room
 pub hears_room : (full : Bool) (seen : Seen) (f : Feedback) → LookHead full seen f → moves f ≡ true → full ≡ false

@@ -4,6 +4,7 @@ use Rattle.std.specs.Prelude.{◌==◌, ◌&&◌, ◌^◌, nat_lt, nat_le, optio
 use Rattle.std.proofs.lemmas.Bool.{and_parts, leb-true}
 use Rattle.pump_frame.specs.declared.row.SessionRow.{SessionRow}
 use Rattle.pump_frame.specs.declared.frame.Frame.{Frame}
+use Rattle.pump_frame.specs.declared.frame.Item.{Item}
 use Rattle.pump_core.specs.declared.feedback.Feedback.{Feedback}
 use Rattle.pump_core.specs.Phases as phases
 use Rattle.pump_core.specs.History.{Arrival}
@@ -43,17 +44,17 @@ taking p a message e = taking_by p a (wants p a) message refl e
 -- ---- by the phase ----
 
 -- the process is idle, and the frame the next one
-idle_next : (row : SessionRow) (n : ℕ) (g : Bool) (ph : Phase) (f : Frame) → wants_in row n g ph (Came f) ≡ true → (phase_of ph ≡ phases.Idle) × (is_next row n g f ≡ true)
-idle_next row n g Idle f e = (refl, e)
-idle_next row n g Down f e = absurd (cc)
-idle_next row n g (Waits k due) f e = absurd (cc)
-idle_next row n g (Passing item owed) f e = absurd (cc)
+idle_next : (row : SessionRow) (n : ℕ) (g : Bool) (ph : Phase) (hand : ℕ) (f : Frame) → wants_in row n g ph (Came f) ≡ true → (phase_of ph hand ≡ phases.Idle) × (is_next row n g f ≡ true)
+idle_next row n g Idle hand f e = (refl, e)
+idle_next row n g Down hand f e = absurd (cc)
+idle_next row n g (Waits k due) hand f e = absurd (cc)
+idle_next row n g (Passing owed) hand f e = absurd (cc)
 
-empty_in : (row : SessionRow) (n : ℕ) (g : Bool) (ph : Phase) (f : Frame) → wants_in row n g ph (Came f) ≡ true → hand_in ph ≡ None
-empty_in row n g Idle f e = refl
-empty_in row n g Down f e = absurd (cc)
-empty_in row n g (Waits k due) f e = absurd (cc)
-empty_in row n g (Passing item owed) f e = absurd (cc)
+empty_in : (row : SessionRow) (n : ℕ) (g : Bool) (ph : Phase) (hand : Item) (f : Frame) → wants_in row n g ph (Came f) ≡ true → hand_in ph hand ≡ None
+empty_in row n g Idle hand f e = refl
+empty_in row n g Down hand f e = absurd (cc)
+empty_in row n g (Waits k due) hand f e = absurd (cc)
+empty_in row n g (Passing owed) hand f e = absurd (cc)
 
 -- what a look stores, where the device is fine
 chosen_payloads : (r s : Bool) (f : Frame) → (s ≡ true → r ≡ false) → payloads (cond r None (cond s (Some f.number) None)) (Came f) ≡ option_to_list (message_of s (Came f))
@@ -62,15 +63,15 @@ chosen_payloads true false f other = refl
 chosen_payloads false true f other = refl
 chosen_payloads false false f other = refl
 
-stored_in : (row : SessionRow) (n : ℕ) (g : Bool) (ph : Phase) (m w : ℕ) (a : Arrival) (b : Feedback)
-    → payloads (stores_at row (at n g (phase_of ph)) (look_of m w a false b)) a ≡ option_to_list (message_of (wants_in row n g ph a) a)
-stored_in row n g Idle m w (Came f) b = chosen_payloads (is_repeat row n g f) (is_next row n g f) f (not_repeat row (record { count = 0; is_held = false }) n g f)
-stored_in row n g Idle m w Nothing b = refl
-stored_in row n g Idle m w Bad b = refl
-stored_in row n g Idle m w Gone b = refl
-stored_in row n g Down m w a b = refl
-stored_in row n g (Waits k due) m w a b = refl
-stored_in row n g (Passing item owed) m w a b = refl
+stored_in : (row : SessionRow) (n : ℕ) (g : Bool) (ph : Phase) (hand m w : ℕ) (a : Arrival) (b : Feedback)
+    → payloads (stores_at row (at n g (phase_of ph hand)) (look_of m w a false b)) a ≡ option_to_list (message_of (wants_in row n g ph a) a)
+stored_in row n g Idle hand m w (Came f) b = chosen_payloads (is_repeat row n g f) (is_next row n g f) f (not_repeat row (record { count = 0; is_held = false }) n g f)
+stored_in row n g Idle hand m w Nothing b = refl
+stored_in row n g Idle hand m w Bad b = refl
+stored_in row n g Idle hand m w Gone b = refl
+stored_in row n g Down hand m w a b = refl
+stored_in row n g (Waits k due) hand m w a b = refl
+stored_in row n g (Passing owed) hand m w a b = refl
 
 -- a look whose device failed says this
 pub record Refuses (row : SessionRow) (p : LowProcess) (m w : ℕ) (f : Frame) (b : Feedback) : Type 0 where
@@ -90,26 +91,26 @@ says_idle row n g m w f b e fit =
     let r : is_repeat row n g f ≡ false = not_repeat row (record { count = 0; is_held = false }) n g f e in
     (sym (ap (λ (t : Bool). cond t (has_average b) (is_quiet b)) r) ∙ fit, rw r (rw e refl), rw (r, e) refl)
 
-says_in : (row : SessionRow) (n : ℕ) (g : Bool) (ph : Phase) (m w : ℕ) (f : Frame) (b : Feedback) → wants_in row n g ph (Came f) ≡ true → Says row n g (phase_of ph) m w f b
-says_in row n g Idle m w f b e = says_idle row n g m w f b e
-says_in row n g Down m w f b e = absurd (cc)
-says_in row n g (Waits k due) m w f b e = absurd (cc)
-says_in row n g (Passing item owed) m w f b e = absurd (cc)
+says_in : (row : SessionRow) (n : ℕ) (g : Bool) (ph : Phase) (hand m w : ℕ) (f : Frame) (b : Feedback) → wants_in row n g ph (Came f) ≡ true → Says row n g (phase_of ph hand) m w f b
+says_in row n g Idle hand m w f b e = says_idle row n g m w f b e
+says_in row n g Down hand m w f b e = absurd (cc)
+says_in row n g (Waits k due) hand m w f b e = absurd (cc)
+says_in row n g (Passing owed) hand m w f b e = absurd (cc)
 
 -- ---- of a process ----
 
 pub stored_is : (p : LowProcess) (m w : ℕ) (a : Arrival) (b : Feedback) → payloads (stores_at (row_of p) (state_of p) (look_of m w a false b)) a ≡ option_to_list (message_in p a)
-stored_is p m w a b = stored_in p.row p.next p.greeted p.phase m w a b
+stored_is p m w a b = stored_in p.row p.next p.greeted p.phase p.hand.number m w a b
 
 module _ (p : LowProcess) (a : Arrival) (message : List ℕ) (t : Taking p a message) where
   pub hand_is_empty : hand_of p ≡ None
-  hand_is_empty = empty_in p.row p.next p.greeted p.phase t.frame t.wanted
+  hand_is_empty = empty_in p.row p.next p.greeted p.phase p.hand t.frame t.wanted
 
   pub is_idle_now : (state_of p).phase ≡ phases.Idle
-  is_idle_now = (idle_next p.row p.next p.greeted p.phase t.frame t.wanted).0
+  is_idle_now = (idle_next p.row p.next p.greeted p.phase p.hand.number t.frame t.wanted).0
 
   pub comes_next : is_next (row_of p) (state_of p).next (state_of p).greeted t.frame ≡ true
-  comes_next = (idle_next p.row p.next p.greeted p.phase t.frame t.wanted).1
+  comes_next = (idle_next p.row p.next p.greeted p.phase p.hand.number t.frame t.wanted).1
 
   -- it is no longer than the row's messages
   pub is_short : length message ≤ (row_of p).message
@@ -123,5 +124,5 @@ module _ (p : LowProcess) (a : Arrival) (message : List ℕ) (t : Taking p a mes
 
   pub refuses : (m w : ℕ) (b : Feedback) → Fits (row_of p) (state_of p) (look_of m w (Came t.frame) true b) → Refuses (row_of p) p m w t.frame b
   refuses m w b fit =
-      let r = says_in p.row p.next p.greeted p.phase m w t.frame b t.wanted fit in
+      let r = says_in p.row p.next p.greeted p.phase p.hand.number m w t.frame b t.wanted fit in
       record { quiet = r.0; stored = r.1; reply = r.2 }

@@ -48,7 +48,7 @@ module _ {D : Type 0} (m : Meaning D) (c : Parts D) (k : Connected) where
       low_fits = s.ends.low_fits;
       high_fits = s.ends.high_fits;
     };
-    packets = record { sent = s.packets.sent; returned = s.packets.returned };
+    packets = record { sent = s.packets.sent; returned = s.packets.returned; taken = s.packets.taken };
     disks = s.disks;
   }
 

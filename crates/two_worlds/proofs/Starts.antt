@@ -7,6 +7,7 @@ use Rattle.disk_model.proofs.Run.{each_settled}
 use Rattle.pump_frame.specs.Rows.{IsLawfulRow}
 use Rattle.pump_frame.specs.declared.payload.Payload.{Payload}
 use Rattle.pump_frame.specs.declared.frame.Item.{Item}
+use Rattle.pump_frame.specs.declared.frame.Kind.TheVariants.{Taken}
 use Rattle.stable_buffer.specs.Low.{IsLowReady, low_disk, low_count, low_row}
 use Rattle.stable_buffer.specs.High.{IsHighReady, high_disk, high_count}
 use Rattle.stable_buffer.specs.Stands.{LowStands, HighStands}
@@ -68,6 +69,7 @@ pub record IsNew {D : Type 0} (m : Meaning D) (c : Parts D) : Type 0 where
   pub shape : shape_of c.ends ≡ shape_of_row c.row
   pub sent : c.sent ≡ buffer [] 64
   pub returned : c.returned ≡ buffer [] 64
+  pub taken : (c.taken.kind ≡ Taken) × (c.taken.session ≡ c.row.id)
   pub moment : c.moment ≡ 0
 
 module _ {D : Type 0} (m : Meaning D) (c : Parts D) (n : IsNew m c) where
@@ -150,7 +152,7 @@ module _ {D : Type 0} (m : Meaning D) (c : Parts D) (n : IsNew m c) where
       low_fits = λ up. tt;
       high_fits = record { count = sym n.published; floor = omega arith };
     };
-    packets = record { sent = ap (λ (b : Buffer Item). b.capacity) n.sent; returned = ap (λ (b : Buffer ℕ). b.capacity) n.returned };
+    packets = record { sent = ap (λ (b : Buffer Item). b.capacity) n.sent; returned = ap (λ (b : Buffer ℕ). b.capacity) n.returned; taken = n.taken };
     disks = record {
       low_disk = each_settled m (LowFits c.row empty) (low_disk c.low_store) n.low_ready.settled (λ told. inl n.low_is);
       high_disk = each_settled m (HighFits c.row empty) (high_disk c.high_store) n.high_ready.settled (λ told. inl n.high_is);

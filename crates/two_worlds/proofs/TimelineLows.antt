@@ -1,7 +1,7 @@
 -- A low look goes on with a timed run: it is offered what came, told what the run tells it, and its
 -- steps stand in their places.
 use Rattle.std.proofs.Common.{◌≡◌, ℕ, ◌+◌, ◌-◌, ◌≤◌, Bool, true, false, List, [], ◌∷◌, ◌++◌, length, map, Option, Some, None, refl, sym, ap, ◌∙◌, subst, append_assoc}
-use Rattle.std.specs.Prelude.{if◌then◌else◌, ◌&&◌, not, ◌==◌}
+use Rattle.std.specs.Prelude.{if◌then◌else◌, ◌&&◌, not, ◌==◌, reverse}
 use Rattle.pump_frame.specs.declared.row.SessionRow.{SessionRow}
 use Rattle.pump_core.specs.declared.event.Event.{Event as WorldEvent}
 use Rattle.pump_core.specs.declared.feedback.Seen.{Seen}
@@ -15,7 +15,7 @@ use Rattle.pump_core.specs.Comings.{Timed, Comes, Looks, comings, first_of, offe
 use Rattle.pump_core.specs.World.{World}
 use Rattle.pump_core.specs.Events.{Run}
 use Rattle.pump_core.specs.Timed.{Step, LowLook, Offer, Read, Occurs, Point, offered, seen, LeadsTo}
-use Rattle.pump_core.specs.Runs.{LifeFeedback, with_feedback, IsRun}
+use Rattle.pump_core.specs.Runs.{LifeFeedback, with_feedback, steps_in, IsRun}
 use Rattle.pump_core.proofs.Runs.{one_list_of_lives}
 use Rattle.pump_core.proofs.Cuts.{one_cut}
 use Rattle.pump_core.proofs.Onward.{looks_to}
@@ -23,7 +23,7 @@ use Rattle.script_reader.specs.declared.event.Event.{Event}
 use Rattle.script_reader.specs.Past.{Past, pair}
 use Rattle.script_reader.specs.Lows.{is_owed, comes_again, feedback_at, feedback, offers, stored_events, acks_of, IsLook}
 use Rattle.script_reader.specs.Steps.{look_of}
-use Rattle.two_worlds.specs.Timelines.{taken_in, outline}
+use Rattle.two_worlds.specs.Timelines.{taken_in}
 use Rattle.two_worlds.proofs.TimelineCuts.{Newest, newest_of}
 use Rattle.two_worlds.proofs.TimelineDeeds.{Deed, Rests, Stores, FindsFull, Releases, Passes, Reads, Acknowledges, feedback_by, own_events, events_by, steps_by}
 use Rattle.two_worlds.proofs.TimelineWorlds.{Leaves, deed_leaves, has_places}
@@ -93,9 +93,9 @@ says row p before a = says_gone (length p.world.held == row.capacity - 2) (is_go
 abbrev looked_to : Point → ℕ → ℕ → Bool → Feedback → List Step → World → Point
 looked_to t m w gone f stood v = looks_to t (record t { world = v; looked = m }) m w gone false f stood
 
--- .. to which more steps lead, with these arrivals and looks among them
-abbrev Leads : SessionRow → List Step → List Step → Point → Type 0
-Leads row past out u = (more : List Step) × LeadsTo row (more ++ past) u × (outline more ≡ out)
+-- the steps of a look in which this was done
+abbrev pub done_steps : ℕ → ℕ → Bool → List Step → List Step
+done_steps m w gone stood = reverse stood ++ LowLook m w gone false ∷ []
 
 is_offered : (full : Bool) (f : Feedback) → full ≡ true → (if full then Full else f) ≡ Full
 is_offered full f e = rw e refl
@@ -114,40 +114,24 @@ module _ (row : SessionRow) (past : List Step) (t : Point) (m w : ℕ) (gone : B
   offers_so f e = (to Quiet [] t.world, began, ap (λ (g : Feedback). to g (Offer ∷ []) t.world) (sym e))
 
   pub deed_leads : (d : Deed) (v : World) → Says (length t.world.held == t.world.capacity - 2) (seen row t.high.times) (feedback_by d)
-      → Run t.world (events_by d) v → Leads row past (LowLook m w gone false ∷ []) (to (feedback_by d) (steps_by d) v)
-  deed_leads Rests v s r = (LowLook m w gone false ∷ [], subst (λ (u : World). LeadsTo row (LowLook m w gone false ∷ past) (to Quiet [] u)) (sym r) began, refl)
-  deed_leads (Stores p) v s (v₁, h₁, (v₂, h₂, e)) = (
-    Occurs StoreEnd ∷ Occurs (StoreBegin p) ∷ LowLook m w gone false ∷ [],
-    (to Quiet (Occurs (StoreBegin p) ∷ []) v₁, (to Quiet [] t.world, began, (v₁, h₁, tt, refl)), (v₂, h₂, tt, ap (λ (u : World). to Quiet (Occurs (StoreBegin p) ∷ Occurs StoreEnd ∷ []) u) e)),
-    refl,
-  )
+      → Run t.world (events_by d) v → LeadsTo row (done_steps m w gone (steps_by d) ++ past) (to (feedback_by d) (steps_by d) v)
+  deed_leads Rests v s r = subst (λ (u : World). LeadsTo row (LowLook m w gone false ∷ past) (to Quiet [] u)) (sym r) began
+  deed_leads (Stores p) v s (v₁, h₁, (v₂, h₂, e)) =
+      (to Quiet (Occurs (StoreBegin p) ∷ []) v₁, (to Quiet [] t.world, began, (v₁, h₁, tt, refl)), (v₂, h₂, tt, ap (λ (u : World). to Quiet (Occurs (StoreBegin p) ∷ Occurs StoreEnd ∷ []) u) e))
   deed_leads FindsFull v s r =
-      (Offer ∷ LowLook m w gone false ∷ [], subst (λ (u : World). LeadsTo row (Offer ∷ LowLook m w gone false ∷ past) (to Full (Offer ∷ []) u)) (sym r) (offers_so Full (is_offered _ Released s)), refl)
-  deed_leads Releases v s (v₁, h₁, e) = (
-    Occurs Forward ∷ Offer ∷ LowLook m w gone false ∷ [],
-    (to Released (Offer ∷ []) t.world, offers_so Released (is_released _ Released s), (v₁, h₁, tt, ap (λ (u : World). to Released (Offer ∷ Occurs Forward ∷ []) u) e)),
-    refl,
-  )
+      subst (λ (u : World). LeadsTo row (Offer ∷ LowLook m w gone false ∷ past) (to Full (Offer ∷ []) u)) (sym r) (offers_so Full (is_offered _ Released s))
+  deed_leads Releases v s (v₁, h₁, e) =
+      (to Released (Offer ∷ []) t.world, offers_so Released (is_released _ Released s), (v₁, h₁, tt, ap (λ (u : World). to Released (Offer ∷ Occurs Forward ∷ []) u) e))
   deed_leads (Passes a) v s (v₁, h₁, e) = (
-    Read ∷ Occurs Forward ∷ Offer ∷ LowLook m w gone false ∷ [],
-    (
-      to Released (Offer ∷ Occurs Forward ∷ []) v,
-      (to Released (Offer ∷ []) t.world, offers_so Released (is_released _ Released s.0), (v₁, h₁, tt, ap (λ (u : World). to Released (Offer ∷ Occurs Forward ∷ []) u) e)),
-      ap (λ (b : Seen). to (Passed b) (Offer ∷ Occurs Forward ∷ Read ∷ []) v) s.1,
-    ),
-    refl,
+    to Released (Offer ∷ Occurs Forward ∷ []) v,
+    (to Released (Offer ∷ []) t.world, offers_so Released (is_released _ Released s.0), (v₁, h₁, tt, ap (λ (u : World). to Released (Offer ∷ Occurs Forward ∷ []) u) e)),
+    ap (λ (b : Seen). to (Passed b) (Offer ∷ Occurs Forward ∷ Read ∷ []) v) s.1,
   )
-  deed_leads (Reads a) v s r = (
-    Read ∷ LowLook m w gone false ∷ [],
-    subst (λ (u : World). LeadsTo row (Read ∷ LowLook m w gone false ∷ past) (to (Repeat a) (Read ∷ []) u)) (sym r)
-        (to Quiet [] t.world, began, ap (λ (b : Seen). to (Repeat b) (Read ∷ []) t.world) s),
-    refl,
-  )
-  deed_leads (Acknowledges n) v s (v₁, h₁, e) = (
-    Occurs (Acknowledge n) ∷ LowLook m w gone false ∷ [],
-    (to Quiet [] t.world, began, (v₁, h₁, tt, ap (λ (u : World). to Quiet (Occurs (Acknowledge n) ∷ []) u) e)),
-    refl,
-  )
+  deed_leads (Reads a) v s r =
+      subst (λ (u : World). LeadsTo row (Read ∷ LowLook m w gone false ∷ past) (to (Repeat a) (Read ∷ []) u)) (sym r)
+      (to Quiet [] t.world, began, ap (λ (b : Seen). to (Repeat b) (Read ∷ []) t.world) s)
+  deed_leads (Acknowledges n) v s (v₁, h₁, e) =
+      (to Quiet [] t.world, began, (v₁, h₁, tt, ap (λ (u : World). to Quiet (Occurs (Acknowledge n) ∷ []) u) e))
 
 -- ---- the look ----
 
@@ -176,18 +160,16 @@ told_also f [] = []
 told_also f (l ∷ ls) = record { is_held = l.is_held; looks = f ∷ l.looks } ∷ ls
 
 -- a run that went on by this look, in which the world became v
-pub record HasLooked (row : SessionRow) (steps : List Step) (t : Point) (h : History) (run : IsRun row steps t h) (m w : ℕ) (a : Arrival) (f : Feedback) (takes : Bool) (v : World) : Type 0 where
-  pub more : List Step
-  pub out : outline more ≡ LowLook m w (is_gone a) false ∷ []
+pub record HasLooked (row : SessionRow) (steps : List Step) (t : Point) (h : History) (run : IsRun row steps t h) (m w : ℕ) (a : Arrival) (f : Feedback) (parts : List Part) (v : World) : Type 0 where
   pub to : Point
-  pub run_on : IsRun row (more ++ steps) to (looked h (look_of m w a f))
+  pub run_on : IsRun row (done_steps m w (is_gone a) (steps_in parts) ++ steps) to (looked h (look_of m w a f))
   pub world : to.world ≡ v
   pub high : to.high ≡ t.high
   pub late : to.looked ≡ m
   pub events : to.life.side.events ≡ Looks m w (is_gone a) false f ∷ t.life.side.events
-  pub count : taken_in row (more ++ steps) to (looked h (look_of m w a f)) run_on ≡ taken_after (is_gone a) takes (taken_in row steps t h run)
+  pub count : taken_in row (done_steps m w (is_gone a) (steps_in parts) ++ steps) to (looked h (look_of m w a f)) run_on ≡ taken_after (is_gone a) (takes parts) (taken_in row steps t h run)
   -- what it takes is something
-  pub some : is_gone a ≡ false → takes ≡ true → is_nothing a ≡ false
+  pub some : is_gone a ≡ false → takes parts ≡ true → is_nothing a ≡ false
   pub leaves : Leaves t.world v
 
 module _ (row : SessionRow) (p : Past) (steps : List Step) (t : Point) (m w : ℕ) (a : Arrival) (f : Feedback) (q : Past) (printed : List Event)
@@ -231,10 +213,12 @@ module _ (row : SessionRow) (p : Past) (steps : List Step) (t : Point) (m w : �
   abbrev end : Point
   end = looks_to t (record t { world = q.world; looked = m }) m w (is_gone a) false f (steps_by n.deed)
 
-  goes : Leads row steps (LowLook m w (is_gone a) false ∷ []) end
+  goes : LeadsTo row (done_steps m w (is_gone a) (steps_in i.after) ++ steps) end
   goes =
       let l = deed_leads row steps t m w (is_gone a) run.leads late n.deed q.world does happened in
-      (l.0, subst (λ (g : Feedback). LeadsTo row (l.0 ++ steps) (looks_to t (record t { world = q.world; looked = m }) m w (is_gone a) false g (steps_by n.deed))) (sym n.feedback) l.1, l.2)
+      let feedback_back = sym n.feedback in
+      let steps_back = sym n.steps in
+      subst (λ (k : Feedback × List Step). LeadsTo row (done_steps m w (is_gone a) k.1 ++ steps) (looks_to t (record t { world = q.world; looked = m }) m w (is_gone a) false k.0 (steps_by n.deed))) (λ j. (feedback_back j, steps_back j)) l
 
   offered_here : IsOffered row o (map (with_feedback uncounted) t.life.side.events) m w (is_gone a) false (uncounted f) p.history.life.looks x taken now
   offered_here = record {
@@ -253,13 +237,11 @@ module _ (row : SessionRow) (p : Past) (steps : List Step) (t : Point) (m w : �
   here =
       subst (λ (k : Opening). IsOffered row k (map (with_feedback uncounted) t.life.side.events) m w (is_gone a) false (uncounted f) p.history.life.looks x taken now) run.low.0 offered_here
 
-  pub look_on : HasLooked row steps t p.history run m w a f (takes i.after) q.world
+  pub look_on : HasLooked row steps t p.history run m w a f i.after q.world
   look_on = record {
-    more = goes.0;
-    out = goes.2;
     to = end;
     run_on = record {
-      leads = goes.1;
+      leads = goes;
       low = (run.low.0, (now, (taken, here, run.low.1.1)), run.low.2);
       feedback = ap (told_also f) run.feedback;
       places = (((i.after, i.cut_with, sym n.steps), run.places.0), run.places.1);

@@ -1,13 +1,15 @@
 -- What a script's session has been through is a timed run: line by line.
-use Rattle.std.proofs.Common.{◌≡◌, ℕ, ◌+◌, ◌≤◌, Bool, true, false, List, [], ◌∷◌, ◌++◌, map, Option, Some, None, refl, sym, ap, ◌∙◌, subst, arith}
-use Rattle.std.specs.Prelude.{◌==◌, ◌&&◌, ◌||◌, ◌^◌, nat_le, not, is_some, if◌then◌else◌, reverse}
+use Rattle.std.proofs.Common.{◌≡◌, ℕ, ◌+◌, ◌≤◌, Bool, true, false, List, [], ◌∷◌, ◌++◌, map, Option, Some, None, refl, sym, ap, ◌∙◌, subst, arith, append_assoc}
+use Rattle.std.specs.Prelude.{◌==◌, ◌&&◌, ◌||◌, ◌^◌, nat_le, not, if◌then◌else◌, reverse}
 use Rattle.std.proofs.lemmas.Bool.{and_parts}
 use Rattle.std.proofs.lemmas.Bool.Decides.{nat_tests}
 use Rattle.pump_frame.specs.declared.frame.Frame.{Frame}
 use Rattle.pump_frame.specs.declared.row.SessionRow.{SessionRow}
 use Rattle.pump_frame.specs.Readings.{Reading, Within, Stopped}
 use Rattle.pump_frame.specs.Rows.{IsLawfulRow}
-use Rattle.pump_core.specs.History.{Arrival, History, first_life}
+use Rattle.pump_core.specs.History.{Arrival, Look, History, first_life}
+use Rattle.pump_core.specs.Exchanges.{IsCut}
+use Rattle.pump_core.specs.Runs.{steps_in}
 use Rattle.pump_core.specs.Comings.{Coming, Whole, Broken}
 use Rattle.pump_core.specs.World as worlds
 use Rattle.pump_core.specs.World.{live}
@@ -20,14 +22,16 @@ use Rattle.script_reader.specs.declared.line.Line.TheVariants as lines
 use Rattle.script_reader.specs.declared.event.Event.{Event}
 use Rattle.script_reader.specs.Past.{Past, fresh}
 use Rattle.script_reader.specs.Highs.{IsHighLook, IsReturn, IsReturnBy, is_ahead, place}
+use Rattle.script_reader.specs.Lows.{IsLook}
 use Rattle.script_reader.specs.Steps as coming
-use Rattle.script_reader.specs.Steps.{bad_of, came, IsRead, Arrives as ArrivesWith, joined, goes_on, is_timely, GoesOn as CarriesOn, Step as LineStep}
+use Rattle.script_reader.specs.Steps.{bad_of, came, IsRead, Arrives as ArrivesWith, joined, lost, goes_on, is_timely, GoesOn as CarriesOn, Step as LineStep}
 use Rattle.script_reader.specs.Scripts.{Running, Begun, Whole as WholeSession, Alone, Goes, GoesOn as GoesOnBegun, Leads, LeadTo}
 use Rattle.script_reader.proofs.Fresh.{row_capacity}
 use Rattle.script_reader.proofs.Leading.{IsNew, led}
-use Rattle.two_worlds.specs.Timelines.{arrived, IsTimeline, IsOutline, RunGoesOn}
+use Rattle.two_worlds.specs.Timelines.{arrived, IsTimeline, high_steps, return_steps, carry_steps, AreLookSteps, AreDoneSteps, AreSteps, RunGoesOn}
 use Rattle.two_worlds.proofs.TimelineLooks.{timeline, HasMore, both, all_come, offered_look, lost_look}
-use Rattle.two_worlds.proofs.TimelineHighs.{high_look, hand_after}
+use Rattle.two_worlds.proofs.TimelineHighs.{high_look}
+use Rattle.two_worlds.proofs.TimelineLows.{done_steps}
 use Rattle.two_worlds.proofs.TimelineRemovals.{different}
 use Rattle.two_worlds.proofs.TimelineCarries.{carry}
 
@@ -84,8 +88,9 @@ elsewhere row p steps t r i = record { run = i.run; world = i.world; rest = i.re
 joins : (row : SessionRow) (p : Past) (steps : List Step) (t : Point) (c : coming.Coming) (k : Came c.added)
     → IsTimeline row p steps t → HasMore row (joined p c) steps (reverse (map (λ x. Arrives x) k.0))
 joins row p steps t c k i =
-    let (more, u, j, out) = all_come row p steps t k.0 i in
-    (more, u, elsewhere row _ (more ++ steps) u c.reading (subst (λ (l : List Arrival). IsTimeline row (record p { waits = p.waits ++ l }) (more ++ steps) u) (sym k.1) j), out)
+    let more : List Step = reverse (map (λ x. Arrives x) k.0) in
+    let (u, j) = all_come row p steps t k.0 i in
+    (u, elsewhere row _ (more ++ steps) u c.reading (subst (λ (l : List Arrival). IsTimeline row (record p { waits = p.waits ++ l }) (more ++ steps) u) (sym k.1) j))
 
 -- ---- a line ----
 
@@ -102,7 +107,6 @@ refused_look : (row : SessionRow) (p : Past) (steps : List Step) (t : Point) (m 
 refused_look row p steps t m i le =
     let low = i.low_moment in
     let high = i.high_moment in (
-      HighLook m ∷ [],
       record t { high = high_looking t.high m },
       record {
         run = record { leads = (t, i.run.leads, (omega (arith, high, le), i.high.nothing_left, refl)); low = i.run.low; feedback = i.run.feedback; places = i.run.places };
@@ -113,42 +117,44 @@ refused_look row p steps t m i le =
         low_moment = omega (arith, low, le);
         high_moment = omega arith;
       },
-      refl,
     )
 
 return_by : (ahead : Bool) (row : SessionRow) (p : Past) (steps : List Step) (t : Point) (m k : ℕ) (q : Past) (printed : List Event)
-    → IsTimeline row p steps t → p.moment ≤ m → IsReturnBy ahead row p m k q printed → HasMore row q steps (HighLook m ∷ [])
+    → IsTimeline row p steps t → p.moment ≤ m → IsReturnBy ahead row p m k q printed → HasMore row q steps (if ahead then HighLook m ∷ [] else high_steps m (Some k) p q)
 return_by true row p steps t m k q printed i le (e, none) =
     subst (λ (x : Past). HasMore row x steps (HighLook m ∷ [])) (sym e) (refused_look row p steps t m i le)
 return_by false row p steps t m k q printed i le h = high_look row p steps t m i le (Some k) q printed h
 
 -- a TAKEN that comes back
 return_look : (row : SessionRow) (p : Past) (steps : List Step) (t : Point) (m k : ℕ) (q : Past) (printed : List Event)
-    → IsTimeline row p steps t → p.moment ≤ m → IsReturn row p m k q printed → HasMore row q steps (HighLook m ∷ [])
+    → IsTimeline row p steps t → p.moment ≤ m → IsReturn row p m k q printed → HasMore row q steps (return_steps m k p q)
 return_look row p steps t m k q printed i le h = return_by (is_ahead p.world k) row p steps t m k q printed i le h
 
--- the second high look of `done`
-abbrev second_look : Bool → ℕ → List Step
-second_look full m = if full then HighLook m ∷ [] else []
+-- the session's timed run goes on by steps that are these
+abbrev HasSome : SessionRow → Past → List Step → (List Step → Type 0) → Type 0
+HasSome row q steps Are = (more : List Step) × HasMore row q steps more × Are more
 
 -- after the high look of `done`
 done_on : (row : SessionRow) (hand : Option ℕ) (p : Past) (steps : List Step) (t : Point) (m : ℕ) (q : Past) (printed : List Event)
-    → IsTimeline row p steps t → p.moment ≤ m → CarriesOn row hand p m q printed → HasMore row q steps (second_look (is_some hand) m)
-done_on row None p steps t m q printed i le (e, k) = ([], t, subst (λ (x : Past). IsTimeline row x steps t) (sym e) i, refl)
+    → IsTimeline row p steps t → p.moment ≤ m → CarriesOn row hand p m q printed → HasSome row q steps (AreDoneSteps row hand p m q)
+done_on row None p steps t m q printed i le (e, k) = ([], (t, subst (λ (x : Past). IsTimeline row x steps t) (sym e) i), refl)
 done_on row (Some n) p steps t m q printed i le (mid, first, second, c, h, e) =
-    both row mid q steps [] (HighLook m ∷ []) (carry row p steps t 0 mid first i c)
-    (λ past u k. let same : mid.moment ≡ p.moment = ap (λ (x : Past). x.moment) c.rest in
-    return_look row mid past u m (place mid.world.returned 0) q second k (omega (arith, le, same)) h)
+    let k = place mid.world.returned 0 in
+    let same : mid.moment ≡ p.moment = ap (λ (x : Past). x.moment) c.rest in (
+      return_steps m k mid q ++ carry_steps 0 p mid,
+      both row mid q steps (carry_steps 0 p mid) (return_steps m k mid q) (carry row p steps t 0 mid first i c)
+          (λ past u j. return_look row mid past u m k q second j (omega (arith, le, same)) h),
+      (mid, first, c, refl),
+    )
 
--- both high looks of `done`
-two_looks : (full : Bool) (m n : ℕ) → second_look full n ++ HighLook m ∷ [] ≡ (if full then HighLook n ∷ HighLook m ∷ [] else HighLook m ∷ [])
-two_looks true m n = refl
-two_looks false m n = refl
-
--- a run with these arrivals and looks goes on by this line
-goes_by : (row : SessionRow) (p : Past) (line : Line) (steps : List Step) (q : Past) (out : List Step) → IsOutline p line out → HasMore row q steps out
+-- a run goes on by these steps of the line
+goes_by : (row : SessionRow) (p : Past) (line : Line) (steps : List Step) (q : Past) (more : List Step) → HasMore row q steps more → AreSteps row p line q more
     → RunGoesOn row p line steps q
-goes_by row p line steps q out is (more, t, i, e) = (more, t, i, subst (IsOutline p line) (sym e) is)
+goes_by row p line steps q more (t, i) are = (more, t, i, are)
+
+-- the steps of a look stand in it
+look_steps : (row : SessionRow) (p q : Past) (x : Look) (m w : ℕ) (gone : Bool) (printed : List Event) (i : IsLook row p x q printed) → AreLookSteps row q (LowLook m w gone false) (done_steps m w gone (steps_in i.after))
+look_steps row p q x m w gone printed i = (i.after, subst (λ (h : History). IsCut row h.life i.after) (sym i.history) i.cut_with, refl)
 
 -- a line goes on with any timed run of its session
 pub line_goes : (row : SessionRow) (p : Past) (line : Line) (q : Past) (printed : List Event) (steps : List Step) (t : Point)
@@ -158,36 +164,37 @@ line_goes row p (lines.Session other) q printed steps t timely h i = absurd h
 line_goes row p (lines.LowSession other next held) q printed steps t timely h i = absurd h
 line_goes row p (lines.Told session m w fault told a) q printed steps t timely h i = absurd h
 line_goes row p (lines.High session m) q printed steps t timely h i =
-    goes_by row p (lines.High session m) steps q (HighLook m ∷ []) refl
-    (high_look row p steps t m i (later session row.id p.moment m timely) None q printed h)
+    goes_by row p (lines.High session m) steps q (high_steps m None p q) (high_look row p steps t m i (later session row.id p.moment m timely) None q printed h) refl
 line_goes row p (lines.Carry session back) q printed steps t timely h i =
-    goes_by row p (lines.Carry session back) steps q [] refl (carry row p steps t back q printed i h)
+    goes_by row p (lines.Carry session back) steps q (carry_steps back p q) (carry row p steps t back q printed i h) refl
 line_goes row p (lines.Return session m back) q printed steps t timely h i =
     let k = (and_parts (session == row.id) _ timely).1 in
     let l = (and_parts (nat_le p.moment m) _ k).0 in
-    goes_by row p (lines.Return session m back) steps q (HighLook m ∷ []) refl
-    (return_look row p steps t m (place p.world.returned back) q printed i (grind (arith, nat_tests)) h)
+    goes_by row p (lines.Return session m back) steps q (return_steps m (place p.world.returned back) p q)
+    (return_look row p steps t m (place p.world.returned back) q printed i (grind (arith, nat_tests)) h) refl
 line_goes row p (lines.Look session m w a) q printed steps t timely (c, comes, (few, (f, look))) i =
     let le = later session row.id p.moment m timely in
     let k = arrives_came session p.reading a c comes in
     let brought = reverse (map (λ x. Arrives x) k.0) in
-    goes_by row p (lines.Look session m w a) steps q (LowLook m w false false ∷ brought) (c, comes, k.0, k.1, refl)
-    (both row (joined p c) q steps brought (LowLook m w false false ∷ []) (joins row p steps t c k i)
+    let of_look = done_steps m w false (steps_in look.after) in
+    goes_by row p (lines.Look session m w a) steps q (of_look ++ brought)
+    (both row (joined p c) q steps brought of_look (joins row p steps t c k i)
     (λ past u j. offered_look row (joined p c) past u m w f q printed j le look))
+    (c, comes, k.0, k.1, (of_look, look_steps row (joined p c) q _ m w false printed look, refl))
 line_goes row p (lines.Gone session m) q printed steps t timely (f, look) i =
-    goes_by row p (lines.Gone session m) steps q (LowLook m 0 true false ∷ []) refl
+    goes_by row p (lines.Gone session m) steps q (done_steps m 0 true (steps_in look.after))
     (lost_look row p steps t m 0 f q printed i (later session row.id p.moment m timely) look)
+    (look_steps row (lost p) q _ m 0 true printed look)
 line_goes row p (lines.Done session m time) q printed steps t timely (mid, first, second, h, g, e) i =
     let parts = (and_parts (session == row.id) (nat_le p.moment m && (not (goes_on p.world) || nat_le (m + time) (2 ^ 62))) timely).1 in
     let k = (and_parts (nat_le p.moment m) (not (goes_on p.world) || nat_le (m + time) (2 ^ 62)) parts).0 in
     let le : p.moment ≤ m = grind (arith, nat_tests) in
     let at = high_moment row p m None mid first h in
-    let hand = hand_after row p m mid first i.rest h in
-    let out : second_look (is_some mid.world.high_hand) (m + time) ++ HighLook m ∷ [] ≡ (if goes_on p.world then HighLook (m + time) ∷ HighLook m ∷ [] else HighLook m ∷ []) =
-    ap (λ (b : Bool). second_look b (m + time) ++ HighLook m ∷ []) hand ∙ two_looks (goes_on p.world) m (m + time) in
-    goes_by row p (lines.Done session m time) steps q (second_look (is_some mid.world.high_hand) (m + time) ++ HighLook m ∷ []) out
-    (both row mid q steps (HighLook m ∷ []) (second_look (is_some mid.world.high_hand) (m + time)) (high_look row p steps t m i le None mid first h)
-    (λ past u j. done_on row mid.world.high_hand mid past u (m + time) q second j (omega (arith, at)) g))
+    let (u, j) = high_look row p steps t m i le None mid first h in
+    let (more, on, are) = done_on row mid.world.high_hand mid (high_steps m None p mid ++ steps) u (m + time) q second j (omega (arith, at)) g in
+    goes_by row p (lines.Done session m time) steps q (more ++ high_steps m None p mid)
+    (on.0, subst (λ (l : List Step). IsTimeline row q l on.0) (sym (append_assoc more (high_steps m None p mid) steps)) on.1)
+    (mid, first, h, (more, are, refl))
 
 -- ---- a script ----
 

@@ -22,7 +22,7 @@ use Rattle.script_reader.specs.declared.line.ToldFeedback.{ToldFeedback}
 use Rattle.script_reader.specs.declared.line.ToldFeedback.TheVariants.{Quiet}
 use Rattle.script_reader.specs.Lows.{first_of}
 use Rattle.script_reader.specs.Steps.{Coming, Arrives}
-use Rattle.script_reader.specs.Tolds.{LowPast, IsToldAt, joined_low, lost_low, is_timely_low, IsBarredLow, StepLow}
+use Rattle.script_reader.specs.Tolds.{LowPast, IsToldAt, joined_low, lost_low, is_timely_low, IsRefusedAlone, StepLow}
 use Rattle.two_worlds.specs.Connections.{Connected, waits_of, is_broken_of, reading_of, unused, joined, Joins}
 use Rattle.two_worlds.specs.LowParts.{PartsStand, StandsForSome, armed_if, EndsBy, Crowds, IsJoinedTold}
 use Rattle.two_worlds.specs.declared.applied.Stop.{Stop}
@@ -192,9 +192,9 @@ module _ (c : LowParts) (p : LowPast) (was : PartsStand c p) where
     told_line = lines.Told session m w fault told a
 
     pub applies_told : EndsBy (Crowds c.row fault a p) (IsJoinedTold c.row m w fault told a p) c d events stop
-        → EndsBy (IsBarredLow c.row p told_line) (λ is_fault q printed. (is_timely_low c.row p told_line ≡ true) × StepLow c.row p told_line is_fault q printed) c d events stop
+        → EndsBy (IsRefusedAlone c.row p told_line) (λ is_fault q printed. (is_timely_low c.row p told_line ≡ true) × StepLow c.row p told_line is_fault q printed) c d events stop
     applies_told h =
-        ends_as (Crowds c.row fault a p) (IsBarredLow c.row p told_line) (IsJoinedTold c.row m w fault told a p)
+        ends_as (Crowds c.row fault a p) (IsRefusedAlone c.row p told_line) (IsJoinedTold c.row m w fault told a p)
         (λ is_fault q printed. (is_timely_low c.row p told_line ≡ true) × StepLow c.row p told_line is_fault q printed) c d events stop
         (λ crowds. inr (crowds.0, subst (λ (n : ℕ). Arrives n p.reading a crowds.0) (names session m timely) crowds.1, crowds.2))
         (λ is_fault q printed look. (sym (timely_is session m) ∙ timely, (look.0, subst (λ (n : ℕ). Arrives n p.reading a look.0) (names session m timely) look.1, look.2))) h
@@ -204,8 +204,8 @@ module _ (c : LowParts) (p : LowPast) (was : PartsStand c p) where
     gone_line = lines.Gone session m
 
     pub applies_gone : EndsBy ⊥ (λ is_fault q printed. IsToldAt c.row (lost_low p) m 0 Quiet Gone is_fault q printed) c d events stop
-        → EndsBy (IsBarredLow c.row p gone_line) (λ is_fault q printed. (is_timely_low c.row p gone_line ≡ true) × StepLow c.row p gone_line is_fault q printed) c d events stop
+        → EndsBy (IsRefusedAlone c.row p gone_line) (λ is_fault q printed. (is_timely_low c.row p gone_line ≡ true) × StepLow c.row p gone_line is_fault q printed) c d events stop
     applies_gone h =
-        ends_after (IsBarredLow c.row p gone_line) (λ is_fault q printed. IsToldAt c.row (lost_low p) m 0 Quiet Gone is_fault q printed)
+        ends_after (IsRefusedAlone c.row p gone_line) (λ is_fault q printed. IsToldAt c.row (lost_low p) m 0 Quiet Gone is_fault q printed)
         (λ is_fault q printed. (is_timely_low c.row p gone_line ≡ true) × StepLow c.row p gone_line is_fault q printed) c c d events stop
         (λ is_fault q printed look. (sym (timely_is session m) ∙ timely, look)) h

@@ -25,14 +25,14 @@ use Rattle.pump_core.proofs.MayTake.{is_idle, may_take_is}
 
 -- ---- a look that begins to store ----
 
-wants_in_is : (row : SessionRow) (n : ℕ) (g : Bool) (ph : Phase) (a : Arrival) → wants_in row n g ph a ≡ (is_idle (phase_of ph) && comes_next row n g a)
-wants_in_is row n g Idle Nothing = refl
-wants_in_is row n g Idle Bad = refl
-wants_in_is row n g Idle Gone = refl
-wants_in_is row n g Idle (Came f) = refl
-wants_in_is row n g (Passing item owed) a = refl
-wants_in_is row n g (Waits k due) a = refl
-wants_in_is row n g Down a = refl
+wants_in_is : (row : SessionRow) (n : ℕ) (g : Bool) (ph : Phase) (hand : ℕ) (a : Arrival) → wants_in row n g ph a ≡ (is_idle (phase_of ph hand) && comes_next row n g a)
+wants_in_is row n g Idle hand Nothing = refl
+wants_in_is row n g Idle hand Bad = refl
+wants_in_is row n g Idle hand Gone = refl
+wants_in_is row n g Idle hand (Came f) = refl
+wants_in_is row n g (Passing owed) hand a = refl
+wants_in_is row n g (Waits k due) hand a = refl
+wants_in_is row n g Down hand a = refl
 
 abbrev stores_in : SessionRow → Arrival → State → Bool
 stores_in row a s = is_idle s.phase && comes_next row s.next s.greeted a
@@ -42,7 +42,7 @@ pub begins_is : (p : LowProcess) (o : Opening) (before : List Part) (a : Arrival
 begins_is p o before a same =
     ap (λ b. b && comes_next (row_of p) (count_after o before) (greeted_after (row_of p) before) a) (may_take_is (row_of p) o before)
     ∙ ap (stores_in (row_of p) a) (sym same)
-    ∙ sym (wants_in_is p.row p.next p.greeted p.phase a)
+    ∙ sym (wants_in_is p.row p.next p.greeted p.phase p.hand.number a)
 
 -- what is stored is no longer than the row's messages
 next_is_short : (row : SessionRow) (n : ℕ) (g : Bool) (f : Frame) → is_next row n g f ≡ true → length f.payload ≤ row.message
@@ -52,13 +52,13 @@ next_is_short row n g f e =
 
 wanted_is_short : (row : SessionRow) (n : ℕ) (g : Bool) (ph : Phase) (f : Frame) → wants_in row n g ph (Came f) ≡ true → length f.payload ≤ row.message
 wanted_is_short row n g Idle f e = next_is_short row n g f e
-wanted_is_short row n g (Passing item owed) f e = absurd (cc)
+wanted_is_short row n g (Passing owed) f e = absurd (cc)
 wanted_is_short row n g (Waits k due) f e = absurd (cc)
 wanted_is_short row n g Down f e = absurd (cc)
 
 never_wanted : (row : SessionRow) (n : ℕ) (g : Bool) (ph : Phase) (a : Arrival) → comes_next row n g a ≡ false → wants_in row n g ph a ≡ false
-never_wanted row n g Idle a e = wants_in_is row n g Idle a ∙ e
-never_wanted row n g (Passing item owed) a e = refl
+never_wanted row n g Idle a e = wants_in_is row n g Idle 0 a ∙ e
+never_wanted row n g (Passing owed) a e = refl
 never_wanted row n g (Waits k due) a e = refl
 never_wanted row n g Down a e = refl
 

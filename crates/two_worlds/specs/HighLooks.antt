@@ -1,5 +1,5 @@
 -- A high look of a pump, with the TAKEN that comes back or without one.
-use Rattle.std.specs.Prelude.{◌≡◌, ℕ, List, [], ◌∷◌, ◌++◌, slice_get, Option, Some, None}
+use Rattle.std.specs.Prelude.{◌≡◌, ℕ, Bool, true, false, List, [], ◌∷◌, ◌++◌, slice_get, Option, Some, None}
 use Rattle.circular_buffer.specs.Buffer.{Buffer, buffer, keep_last}
 use Rattle.disk_model.specs.declared.name.Role.{Role}
 use Rattle.disk_model.specs.declared.name.Role.TheVariants as roles
@@ -14,6 +14,11 @@ use Rattle.script_reader.specs.declared.event.Event.TheVariants.{Removed, Sent}
 use Rattle.script_reader.specs.Past.{Past}
 use Rattle.script_reader.specs.Highs.{IsHighLook, IsReturn}
 use Rattle.script_reader.specs.Breaks.{IsUnremoved}
+
+-- this frame comes back, or none does
+abbrev pub frame_when : Bool → Frame → Option Frame
+frame_when true f = Some f
+frame_when false f = None
 
 -- the frame is the session's TAKEN at this place of those ever sent, or there is none
 abbrev pub ComesBack : ℕ → World → Option Frame → Option ℕ → Type 0

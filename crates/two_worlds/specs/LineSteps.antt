@@ -9,7 +9,7 @@ use Rattle.script_reader.specs.declared.line.Line.{Line as ScriptLine}
 use Rattle.script_reader.specs.declared.line.Line.TheVariants as lines
 use Rattle.script_reader.specs.Past.{Past}
 use Rattle.script_reader.specs.Highs.{IsHighLook, IsCarried, IsReturn, IsOverfull, place}
-use Rattle.script_reader.specs.Steps.{is_timely, IsCrowded, IsBarred, Step, Overfills}
+use Rattle.script_reader.specs.Steps.{is_timely, IsCrowded, IsRefusedWhole, Step, Overfills}
 use Rattle.script_reader.specs.Breaks.{Breaks}
 use Rattle.two_worlds.specs.declared.applied.Stop.{Stop}
 use Rattle.two_worlds.specs.declared.applied.Stop.TheVariants.{Line, Device, Full}
@@ -53,20 +53,12 @@ abbrev pub IsOverfullSent : Past → Past → List Event → ℕ → ℕ → ℕ
 IsOverfullSent p q printed end size_of_message size =
     (q ≡ p) × IsOverfull p.world 0 end size_of_message size × (printed ≡ [])
 
--- a line whose message does not fit has come to q before it, and printed this: a `carry` has done
--- nothing, and `done` its first high look
-abbrev pub LeavesOff : SessionRow → Past → ScriptLine → Past → List Event → Type 0
-LeavesOff row p (lines.Carry session back) q printed = (q ≡ p) × (printed ≡ [])
-LeavesOff row p (lines.Done session m t) q printed = IsHighLook row p m None q printed
-LeavesOff row p _ q printed = ⊥
-
 -- the line was carried out, or the device of a disk cut it short, or a message did not fit
 abbrev pub LineDoes : {D : Type 0} → Meaning D → Parts D → Parts D → ScriptLine → List Event → List Event → Past → Result (Unit {0}) Stop → Type 0
 LineDoes m c d line out now p result =
     DoesFrom (λ p q printed. Step c.row p line q printed)
     (λ role p q printed. Breaks c.row p line role q printed)
-    (λ p q printed end size_of_message size. LeavesOff c.row p line q printed
-    × Overfills c.row p line printed end size_of_message size)
+    (λ p q printed end size_of_message size. Overfills c.row p line q printed end size_of_message size)
     m c d out now p result
 
 -- a line for which the test holds: so it did, or more than 64 arrivals would wait and nothing has changed
@@ -82,7 +74,7 @@ Runs m c d line out now result = (p : Past) → Stands m c p → RunsFrom m c d 
 -- any line: it can be applied, and did so; or it can't, and nothing has changed
 abbrev pub AttemptsFrom : {D : Type 0} → Meaning D → Parts D → Parts D → ScriptLine → List Event → List Event → Past → Result (Unit {0}) Stop → Type 0
 AttemptsFrom m c d line out now p (Ok done) = (is_timely c.row p line ≡ true) × LineDoes m c d line out now p (Ok done)
-AttemptsFrom m c d line out now p (Err Line) = (d ≡ c) × (now ≡ out) × IsBarred c.row p line
+AttemptsFrom m c d line out now p (Err Line) = (d ≡ c) × (now ≡ out) × IsRefusedWhole c.row p line
 AttemptsFrom m c d line out now p (Err (Device role faults)) =
     (is_timely c.row p line ≡ true) × LineDoes m c d line out now p (Err (Device role faults))
 AttemptsFrom m c d line out now p (Err (Full end size_of_message size)) =

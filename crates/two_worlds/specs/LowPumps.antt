@@ -5,7 +5,7 @@ use Rattle.pump_frame.specs.declared.row.SessionRow.{SessionRow}
 use Rattle.low_process.specs.Looks.{is_down}
 use Rattle.script_reader.specs.declared.event.Event.{Event}
 use Rattle.script_reader.specs.declared.line.Line.{Line}
-use Rattle.script_reader.specs.Tolds.{LowPast, is_timely_low, StepLow, IsBarredLow}
+use Rattle.script_reader.specs.Tolds.{LowPast, is_timely_low, StepLow, IsRefusedAlone}
 use Rattle.two_worlds.specs.LowParts.{PartsStand, disk_of}
 use Rattle.two_worlds.specs.declared.applied.Stop.{Stop}
 use Rattle.two_worlds.specs.declared.applied.Stop.TheVariants as stops
@@ -35,7 +35,7 @@ AppliesLow old new line p printed None =
     (is_timely_low (low_row_of old) p line ≡ true)
     × ((q : LowPast) × StepLow (low_row_of old) p line false q printed × LowStandsFor new q)
 AppliesLow old new line p printed (Some stops.Line) =
-    IsBarredLow (low_row_of old) p line × (printed ≡ []) × (new ≡ old)
+    IsRefusedAlone (low_row_of old) p line × (printed ≡ []) × (new ≡ old)
 AppliesLow old new line p printed (Some (stops.Device roles.Low faults)) =
     (is_timely_low (low_row_of old) p line ≡ true)
     × ((q : LowPast) × StepLow (low_row_of old) p line true q printed)

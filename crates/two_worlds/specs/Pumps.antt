@@ -6,14 +6,13 @@ use Rattle.pump_frame.specs.declared.row.SessionRow.{SessionRow}
 use Rattle.script_reader.specs.declared.event.Event.{Event}
 use Rattle.script_reader.specs.declared.line.Line.{Line as ScriptLine}
 use Rattle.script_reader.specs.Past.{Past}
-use Rattle.script_reader.specs.Steps.{is_timely, Step, IsBarred, Overfills}
+use Rattle.script_reader.specs.Steps.{is_timely, Step, IsRefusedWhole, Overfills}
 use Rattle.script_reader.specs.Breaks.{Breaks}
 use Rattle.two_worlds.specs.declared.applied.Stop.{Stop}
 use Rattle.two_worlds.specs.declared.applied.Stop.TheVariants.{Line, Device, Full}
 use Rattle.two_worlds.specs.declared.pump.Pump.{Pump}
 use Rattle.two_worlds.specs.Standing as parts
 use Rattle.two_worlds.specs.Doing.{Fails, LeavesFit}
-use Rattle.two_worlds.specs.LineSteps.{LeavesOff}
 use Rattle.two_worlds.specs.Timelines.{IsTimeline, RunGoesOn}
 use Rattle.pump_core.specs.Timed.{Step as TimedStep, Point}
 
@@ -56,10 +55,10 @@ Applies m s t line p printed None =
     (is_timely (row_of s) p line ≡ true)
     × ((q : Past) × Step (row_of s) p line q printed × StandsFor m t q
     × LeavesFit m s.parts t.parts p q × GoesOnTimed (row_of s) p line q)
-Applies m s t line p printed (Some Line) = IsBarred (row_of s) p line × (printed ≡ []) × (t ≡ s)
+Applies m s t line p printed (Some Line) = IsRefusedWhole (row_of s) p line × (printed ≡ []) × (t ≡ s)
 Applies m s t line p printed (Some (Device role faults)) =
     (is_timely (row_of s) p line ≡ true)
     × ((q : Past) × Breaks (row_of s) p line role q printed × FailsAt m t q role faults × LeavesFit m s.parts t.parts p q)
 Applies m s t line p printed (Some (Full end length size)) =
-    (is_timely (row_of s) p line ≡ true) × Overfills (row_of s) p line printed end length size
-    × ((q : Past) × LeavesOff (row_of s) p line q printed × StandsFor m t q × LeavesFit m s.parts t.parts p q)
+    (is_timely (row_of s) p line ≡ true)
+    × ((q : Past) × Overfills (row_of s) p line q printed end length size × StandsFor m t q × LeavesFit m s.parts t.parts p q)

@@ -8,6 +8,7 @@ use Rattle.disk_model.specs.declared.name.Role.TheVariants as roles
 use Rattle.pump_frame.specs.Rows.{IsLawfulRow}
 use Rattle.pump_frame.specs.declared.payload.Payload.{Payload}
 use Rattle.pump_frame.specs.declared.frame.Item.{Item}
+use Rattle.pump_frame.specs.declared.frame.Kind.TheVariants.{Taken}
 use Rattle.stable_buffer.specs.Low.{low_disk}
 use Rattle.stable_buffer.specs.High.{IsHighReady, high_count, high_disk}
 use Rattle.high_receiver.specs.Receiving.{IsRecvReady, recv_count, recv_end, recv_row, recv_size, recv_disk, recv_is_open}
@@ -134,10 +135,11 @@ pub record EndsAreReady {D : Type 0} (c : Parts D) (p : Past) : Type 0 where
   pub low_fits : low_ends.FitsEnd c.low low
   pub high_fits : high_ends.FitsEnd c.high high
 
--- .. what was sent last is kept, 64 packets in each direction
+-- what was sent last is kept, 64 packets in each direction, and a TAKEN of the session is at hand
 pub record KeepsPackets {D : Type 0} (c : Parts D) : Type 0 where
   pub sent : c.sent.capacity ≡ 64
   pub returned : c.returned.capacity ≡ 64
+  pub taken : (c.taken.kind ≡ Taken) × (c.taken.session ≡ c.row.id)
 
 -- the parts stand for what the session has been through
 pub record Stands {D : Type 0} (m : Meaning D) (c : Parts D) (p : Past) : Type 0 where

@@ -1,18 +1,21 @@
 -- What a script's session has been through, as a timed run: its lines are looks, arrivals and events of
 -- the world, and what it was told, it was told by the run.
-use Rattle.std.specs.Prelude.{◌≡◌, ℕ, ◌+◌, ◌≤◌, Bool, true, false, if◌then◌else◌, List, [], ◌∷◌, ◌++◌, length, map, take, drop, reverse, Some, None}
+use Rattle.std.specs.Prelude.{◌≡◌, ℕ, ◌+◌, ◌≤◌, nat_lt, Bool, true, false, if◌then◌else◌, List, [], ◌∷◌, ◌++◌, length, map, take, drop, reverse, Option, Some, None}
 use Rattle.std.specs.List.{list_any}
 use Rattle.pump_frame.specs.declared.row.SessionRow.{SessionRow}
+use Rattle.pump_core.specs.declared.event.Event.TheVariants.{TakeUp, Send, CarryData, TakeBegin, TakeEnd, ReturnTaken, RemoveBegin, RemoveEnd}
 use Rattle.pump_core.specs.History.{Arrival, History}
+use Rattle.pump_core.specs.Exchanges.{Part, IsCut}
 use Rattle.pump_core.specs.Comings.{Coming, is_broken, comings, arrival_of_coming}
 use Rattle.pump_core.specs.World.{World}
 use Rattle.pump_core.specs.Sendings.{Sending}
-use Rattle.pump_core.specs.Timed.{Step, Arrives, LowLook, HighLook, Offer, Read, Publish, Occurs, HighSide, IsPublished, Point}
-use Rattle.pump_core.specs.Runs.{IsRun}
+use Rattle.pump_core.specs.Timed.{Step, Arrives, LowLook, HighLook, Publish, Occurs, HighSide, IsPublished, Point}
+use Rattle.pump_core.specs.Runs.{steps_in, IsRun}
 use Rattle.script_reader.specs.declared.line.Line.{Line}
 use Rattle.script_reader.specs.declared.line.Line.TheVariants as lines
 use Rattle.script_reader.specs.declared.event.Event.{Event}
 use Rattle.script_reader.specs.Past.{Past}
+use Rattle.script_reader.specs.Highs.{IsHighLook, IsCarried, is_ahead, place}
 use Rattle.script_reader.specs.Steps as script
 use Rattle.script_reader.specs.Scripts.{Running, Whole as WholeSession, Goes, LeadTo}
 
@@ -69,41 +72,74 @@ pub record IsTimeline (row : SessionRow) (p : Past) (steps : List Step) (t : Poi
 
 -- ---- the steps of a line ----
 
--- the arrivals and the looks among steps
-abbrev pub outline : List Step → List Step
-outline [] = []
-outline (Arrives c ∷ past) = Arrives c ∷ outline past
-outline (LowLook m w gone d ∷ past) = LowLook m w gone d ∷ outline past
-outline (HighLook m ∷ past) = HighLook m ∷ outline past
-outline (Offer ∷ past) = outline past
-outline (Read ∷ past) = outline past
-outline (Publish ∷ past) = outline past
-outline (Occurs e ∷ past) = outline past
+-- these steps, or none
+abbrev pub only_if : Bool → List Step → List Step
+only_if happened steps = if happened then steps else []
 
--- a `look` line is what comes with it and one low look, a `gone` line one low look with the news that
--- the connection is lost; a `high` and a `return` line are one high look, a `carry` line none, and a
--- `done` line one, and one more where that leaves a message in the hand
-abbrev pub IsOutline : Past → Line → List Step → Type 0
-IsOutline p lines.Skip out = ⊥
-IsOutline p (lines.Session other) out = ⊥
-IsOutline p (lines.LowSession other next held) out = ⊥
-IsOutline p (lines.Told session m w fault told a) out = ⊥
-IsOutline p (lines.Look session m w a) out =
+-- the TAKEN at this place comes back, or none does
+abbrev pub come_back : Option ℕ → List Step
+come_back None = []
+come_back (Some k) = Occurs (ReturnTaken k) ∷ []
+
+-- the steps of a high look at m that leads from p to q, the newest first: a TAKEN comes back or none, and
+-- a message is removed, its time published, the next one taken up, and the hand sent, each where it was
+abbrev pub high_steps : ℕ → Option ℕ → Past → Past → List Step
+high_steps m back p q =
+    only_if (nat_lt (length p.sends) (length q.sends)) (Occurs Send ∷ [])
+    ++ (only_if (nat_lt (length q.world.held) (length p.world.held)) (Occurs TakeUp ∷ [])
+    ++ (only_if (nat_lt (length p.times) (length q.times)) (Publish ∷ [])
+    ++ (only_if (nat_lt p.world.removed q.world.removed) (Occurs RemoveEnd ∷ Occurs RemoveBegin ∷ [])
+    ++ (come_back back ++ HighLook m ∷ []))))
+
+-- .. of one in which this TAKEN comes back: where it is refused, nothing but the look
+abbrev pub return_steps : ℕ → ℕ → Past → Past → List Step
+return_steps m k p q = if is_ahead p.world k then HighLook m ∷ [] else high_steps m (Some k) p q
+
+-- a DATA is carried, and taken where it was the receiver's next
+abbrev pub carry_steps : ℕ → Past → Past → List Step
+carry_steps back p q =
+    only_if (nat_lt (length p.world.received) (length q.world.received)) (Occurs TakeEnd ∷ Occurs TakeBegin ∷ [])
+    ++ Occurs (CarryData (place p.world.sent back)) ∷ []
+
+-- the steps of a low look are those that stand in the newest look of the history
+abbrev pub AreLookSteps : SessionRow → Past → Step → List Step → Type 0
+AreLookSteps row q look steps =
+    (parts : List Part) × IsCut row q.history.life parts × (steps ≡ reverse (steps_in parts) ++ look ∷ [])
+
+-- after the high look of `done`, which led to `mid`: where a message is in the hand, its carry and the
+-- return of its TAKEN
+abbrev pub AreDoneSteps : SessionRow → Option ℕ → Past → ℕ → Past → List Step → Type 0
+AreDoneSteps row None mid m q steps = steps ≡ []
+AreDoneSteps row (Some n) mid m q steps =
+    (far : Past) × (printed : List Event) × IsCarried row mid 0 far printed
+    × (steps ≡ return_steps m (place far.world.returned 0) far q ++ carry_steps 0 mid far)
+
+-- the steps of a line that leads from p to q, the newest first: what comes with it, its looks, marks and
+-- events, and nothing else
+abbrev pub AreSteps : SessionRow → Past → Line → Past → List Step → Type 0
+AreSteps row p lines.Skip q steps = ⊥
+AreSteps row p (lines.Session other) q steps = ⊥
+AreSteps row p (lines.LowSession other next held) q steps = ⊥
+AreSteps row p (lines.Told session m w fault told a) q steps = ⊥
+AreSteps row p (lines.Look session m w a) q steps =
     (c : script.Coming) × script.Arrives session p.reading a c × (came : List Coming)
     × (c.added ≡ map arrived came)
-    × (out ≡ LowLook m w false false ∷ reverse (map (λ k. Arrives k) came))
-IsOutline p (lines.Gone session m) out = out ≡ LowLook m 0 true false ∷ []
-IsOutline p (lines.High session m) out = out ≡ HighLook m ∷ []
-IsOutline p (lines.Carry session back) out = out ≡ []
-IsOutline p (lines.Return session m back) out = out ≡ HighLook m ∷ []
-IsOutline p (lines.Done session m time) out =
-    out ≡ (if script.goes_on p.world then HighLook (m + time) ∷ HighLook m ∷ [] else HighLook m ∷ [])
+    × ((of_look : List Step) × AreLookSteps row q (LowLook m w false false) of_look
+    × (steps ≡ of_look ++ reverse (map (λ k. Arrives k) came)))
+AreSteps row p (lines.Gone session m) q steps = AreLookSteps row q (LowLook m 0 true false) steps
+AreSteps row p (lines.High session m) q steps = steps ≡ high_steps m None p q
+AreSteps row p (lines.Carry session back) q steps = steps ≡ carry_steps back p q
+AreSteps row p (lines.Return session m back) q steps = steps ≡ return_steps m (place p.world.returned back) p q
+AreSteps row p (lines.Done session m time) q steps =
+    (mid : Past) × (printed : List Event) × IsHighLook row p m None mid printed
+    × ((later : List Step) × AreDoneSteps row mid.world.high_hand mid (m + time) q later
+    × (steps ≡ later ++ high_steps m None p mid))
 
--- the session of the past p, which has this timed run, came to the past q by this line: the run goes on
--- by more steps, whose arrivals and looks are the line's
+-- the session of the past p, which has this timed run, came to the past q by this line: the run goes on by
+-- the line's steps
 abbrev pub RunGoesOn : SessionRow → Past → Line → List Step → Past → Type 0
 RunGoesOn row p line steps q =
-    (more : List Step) × (t : Point) × IsTimeline row q (more ++ steps) t × IsOutline p line (outline more)
+    (more : List Step) × (t : Point) × IsTimeline row q (more ++ steps) t × AreSteps row p line q more
 
 -- ---- the laws ----
 

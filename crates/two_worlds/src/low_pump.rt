@@ -5,9 +5,10 @@ ghost use Rattle.std.specs.Prelude.{◌≡◌, false};
 ghost use Rattle.low_process.specs.Looks.{is_down};
 
 use crate::applied::{Applied, Stop};
+use crate::printing::events_of;
 use arrayvec::ArrayVec;
 use pump_frame::{OutOfMemory, SessionRow};
-use script_reader::{LineHead, Event, Line};
+use script_reader::{EventHead, Line, LineHead};
 use std::alloc::Global;
 
 mod parts;
@@ -30,6 +31,7 @@ impl LowPump {
     ghost use Rattle.script_reader.specs.declared.event.Event.TheVariants.{End};
     ghost use Rattle.script_reader.specs.Lawful.{IsLawfulLine};
     ghost use Rattle.script_reader.specs.Heads.{line_with, CanHoldLine};
+    ghost use Rattle.two_worlds.specs.Printing.{lines_in};
     ghost use Rattle.script_reader.specs.Scripts.{IsLowEnd};
     ghost use Rattle.script_reader.specs.Tolds.{LowPast, fresh_low};
     ghost use Rattle.two_worlds.specs.LowPumps.{low_row_of, low_is_down, is_device, LowStandsFor, AppliesLow};
@@ -64,36 +66,27 @@ impl LowPump {
         ensures down { low_is_down self.new ≡ is_device result.stop }
         ensures row { low_row_of self.new ≡ low_row_of self.old }
     {
-        let mut events = ArrayVec::new();
-        let stop = self.apply_into(line, &mut events);
-        Applied { events, stop }
+        let mut heads = ArrayVec::new();
+        let stop = self.apply_head(&line.head(), line.bytes(), &mut heads);
+        Applied {
+            events: events_of(&heads),
+            stop,
+        }
     }
 
-    /// As `apply`, with what is printed in the caller's list, in the place of what that held: one list
-    /// serves a whole script.
-    pub fn apply_into(&mut self, line: &Line, events: &mut ArrayVec<Event, 4>) -> Option<Stop>
-        requires lawful { IsLawfulLine line.now }
-        requires up { low_is_down self.old ≡ false }
-        ensures applies { (p : LowPast) → LowStandsFor self.old p
-            → AppliesLow self.old self.new line.now p events.new.items result }
-        ensures down { low_is_down self.new ≡ is_device result }
-        ensures row { low_row_of self.new ≡ low_row_of self.old }
-    {
-        self.apply_head(&line.head(), line.bytes(), events)
-    }
-
-    /// As `apply_into`, for a line's head with the bytes that come with it.
+    /// As `apply`, for a line's head with the bytes that come with it. What is printed is all that the
+    /// caller's list of events holds after it: one list serves a whole script.
     pub fn apply_head(
         &mut self,
         line: &LineHead,
         bytes: &[u8],
-        events: &mut ArrayVec<Event, 4>,
+        events: &mut ArrayVec<EventHead, 4>,
     ) -> Option<Stop>
         requires lawful { IsLawfulLine (line_with bytes.now line.now) }
         requires room { CanHoldLine line.now bytes.now }
         requires up { low_is_down self.old ≡ false }
         ensures applies { (p : LowPast) → LowStandsFor self.old p
-            → AppliesLow self.old self.new (line_with bytes.now line.now) p events.new.items result }
+            → AppliesLow self.old self.new (line_with bytes.now line.now) p (lines_in events.new.items) result }
         ensures down { low_is_down self.new ≡ is_device result }
         ensures row { low_row_of self.new ≡ low_row_of self.old }
     {

@@ -1,161 +1,120 @@
-//! What a low look prints.
+//! The lines of output.
 
-ghost use Rattle.std.specs.Prelude.{◌≡◌, ◌+◌, ◌≤◌, [], ◌∷◌, ◌++◌, length, option_to_list};
-ghost use Rattle.low_process.specs.Looks.{row_of};
-ghost use Rattle.low_process.specs.Heads.{frame_of, look_with};
+ghost use Rattle.std.specs.Prelude.{◌≡◌, ◌+◌, ◌≤◌, [], ◌∷◌, ◌++◌, length, map};
+ghost use Rattle.low_process.specs.Heads.{look_with};
+ghost use Rattle.script_reader.specs.EventHeads.{event_of};
 ghost use Rattle.script_reader.specs.Lows.{printed_store, printed_feedback};
-ghost use Rattle.two_worlds.specs.Printing.{look_prints};
+ghost use Rattle.two_worlds.specs.Carrying.{printed_taken};
+ghost use Rattle.two_worlds.specs.Printing.{lines_in, look_prints};
 
 use arrayvec::ArrayVec;
-use low_process::{LookHead, LowLook, LowProcess, Reply};
-use pump_core::{Feedback, Seen};
-use script_reader::Event;
+use high_receiver::Taken;
+use low_process::LookHead;
+use pump_core::Feedback;
+use pump_frame::SessionRow;
+use script_reader::{Event, EventHead};
 
-/// The line of a look's feedback, if it has one.
-fn feedback_line(session: u32, moment: u64, feedback: Feedback) -> Option<Event>
-    ensures { option_to_list result ≡ printed_feedback session moment feedback }
+/// One more line.
+pub fn put(event: EventHead, out: &mut ArrayVec<EventHead, 4>)
+    requires { length out.old.items ≤ 3 }
+    ensures items { lines_in out.new.items ≡ lines_in out.old.items ++ event_of event ∷ [] }
+    ensures few { length out.new.items ≤ length out.old.items + 1 }
+{
+    out.push(event);
+}
+
+/// The line of a message that was stored, if one was.
+fn put_store(session: u32, moment: u64, stored: Option<u64>, out: &mut ArrayVec<EventHead, 4>)
+    requires { length out.old.items ≤ 3 }
+    ensures items { lines_in out.new.items ≡ lines_in out.old.items ++ printed_store session moment stored }
+    ensures few { length out.new.items ≤ length out.old.items + 1 }
+{
+    if let Some(number) = stored {
+        put(
+            EventHead::Stored {
+                session,
+                moment,
+                number,
+            },
+            out,
+        );
+    }
+}
+
+/// The line of a feedback, if it has one.
+fn put_feedback(session: u32, moment: u64, feedback: Feedback, out: &mut ArrayVec<EventHead, 4>)
+    requires { length out.old.items ≤ 3 }
+    ensures items { lines_in out.new.items ≡ lines_in out.old.items ++ printed_feedback session moment feedback }
+    ensures few { length out.new.items ≤ length out.old.items + 1 }
 {
     match feedback {
-        Feedback::Quiet => None,
-        Feedback::Full => Some(Event::Full { session, moment }),
-        Feedback::Passed(seen) => Some(Event::Passed {
-            session,
-            moment,
-            seen,
-        }),
-        Feedback::Released => Some(Event::Released { session, moment }),
-        Feedback::Repeat(seen) => Some(Event::Repeat {
-            session,
-            moment,
-            seen,
-        }),
+        Feedback::Quiet => {}
+        Feedback::Full => put(EventHead::Full { session, moment }, out),
+        Feedback::Passed(seen) => put(
+            EventHead::Passed {
+                session,
+                moment,
+                seen,
+            },
+            out,
+        ),
+        Feedback::Released => put(EventHead::Released { session, moment }, out),
+        Feedback::Repeat(seen) => put(
+            EventHead::Repeat {
+                session,
+                moment,
+                seen,
+            },
+            out,
+        ),
     }
 }
 
 /// What a low look prints, at most three lines: the message that was stored, the feedback, and the
 /// reply.
-pub fn print_look(session: u32, moment: u64, look: &LowLook, out: &mut ArrayVec<Event, 4>)
-    requires { length out.old.items ≤ 1 }
-    ensures { out.new.items ≡ out.old.items ++ look_prints session moment look.now }
-{
-    if let Some(number) = look.stored {
-        out.push(Event::Stored {
-            session,
-            moment,
-            number,
-        });
-    }
-    if let Some(line) = feedback_line(session, moment, look.feedback) {
-        out.push(line);
-    }
-    if let Some(reply) = look.reply {
-        out.push(Event::Low {
-            session,
-            moment,
-            reply,
-        });
-    }
-}
-
-// Each line is put into the list by a function of its own: a local of 1 KB is zeroed where its
-// function begins, whether it comes to be used or not.
-
-fn put_store(session: u32, moment: u64, stored: Option<u64>, out: &mut ArrayVec<Event, 4>)
-    requires { length out.old.items ≤ 3 }
-    ensures items { out.new.items ≡ out.old.items ++ printed_store session moment stored }
-    ensures few { length out.new.items ≤ length out.old.items + 1 }
-{
-    if let Some(number) = stored {
-        put_stored(session, moment, number, out);
-    }
-}
-
-fn put_stored(session: u32, moment: u64, number: u64, out: &mut ArrayVec<Event, 4>)
-    requires { length out.old.items ≤ 3 }
-    ensures { out.new.items ≡ out.old.items ++ Event.Stored session moment number ∷ [] }
-{
-    out.push(Event::Stored {
-        session,
-        moment,
-        number,
-    });
-}
-
-fn put_full(session: u32, moment: u64, out: &mut ArrayVec<Event, 4>)
-    requires { length out.old.items ≤ 3 }
-    ensures { out.new.items ≡ out.old.items ++ Event.Full session moment ∷ [] }
-{
-    out.push(Event::Full { session, moment });
-}
-
-fn put_passed(session: u32, moment: u64, seen: Seen, out: &mut ArrayVec<Event, 4>)
-    requires { length out.old.items ≤ 3 }
-    ensures { out.new.items ≡ out.old.items ++ Event.Passed session moment seen ∷ [] }
-{
-    out.push(Event::Passed {
-        session,
-        moment,
-        seen,
-    });
-}
-
-fn put_released(session: u32, moment: u64, out: &mut ArrayVec<Event, 4>)
-    requires { length out.old.items ≤ 3 }
-    ensures { out.new.items ≡ out.old.items ++ Event.Released session moment ∷ [] }
-{
-    out.push(Event::Released { session, moment });
-}
-
-fn put_repeat(session: u32, moment: u64, seen: Seen, out: &mut ArrayVec<Event, 4>)
-    requires { length out.old.items ≤ 3 }
-    ensures { out.new.items ≡ out.old.items ++ Event.Repeat session moment seen ∷ [] }
-{
-    out.push(Event::Repeat {
-        session,
-        moment,
-        seen,
-    });
-}
-
-fn put_feedback(session: u32, moment: u64, feedback: Feedback, out: &mut ArrayVec<Event, 4>)
-    requires { length out.old.items ≤ 3 }
-    ensures items { out.new.items ≡ out.old.items ++ printed_feedback session moment feedback }
-    ensures few { length out.new.items ≤ length out.old.items + 1 }
-{
-    match feedback {
-        Feedback::Quiet => {}
-        Feedback::Full => put_full(session, moment, out),
-        Feedback::Passed(seen) => put_passed(session, moment, seen, out),
-        Feedback::Released => put_released(session, moment, out),
-        Feedback::Repeat(seen) => put_repeat(session, moment, seen, out),
-    }
-}
-
-fn put_reply(session: u32, moment: u64, low: &LowProcess, reply: &Reply, out: &mut ArrayVec<Event, 4>)
-    requires { length out.old.items ≤ 3 }
-    ensures { out.new.items ≡ out.old.items ++ Event.Low session moment (frame_of (row_of low.now) reply.now) ∷ [] }
-{
-    out.push(Event::Low {
-        session,
-        moment,
-        reply: low.frame(reply),
-    });
-}
-
-/// What a low look prints of which was head.
-pub fn print_head(
-    session: u32,
+pub fn print_look(
+    row: &SessionRow,
     moment: u64,
-    low: &LowProcess,
     head: &LookHead,
-    out: &mut ArrayVec<Event, 4>,
+    out: &mut ArrayVec<EventHead, 4>,
 )
     requires { length out.old.items ≤ 1 }
-    ensures { out.new.items ≡ out.old.items ++ look_prints session moment (look_with (row_of low.now) head.now) }
+    ensures { lines_in out.new.items ≡ lines_in out.old.items ++ look_prints row.now.id moment (look_with row.now head.now) }
 {
+    let session = row.id;
     put_store(session, moment, head.stored, out);
     put_feedback(session, moment, head.feedback, out);
-    if let Some(reply) = &head.reply {
-        put_reply(session, moment, low, reply, out);
+    if let Some(reply) = head.reply {
+        put(
+            EventHead::Low {
+                session,
+                moment,
+                reply,
+            },
+            out,
+        );
     }
+}
+
+/// The line of a message that the receiver has, now or from before.
+pub fn put_taken(session: u32, number: u64, taken: Taken, out: &mut ArrayVec<EventHead, 4>)
+    requires { length out.old.items ≤ 3 }
+    ensures items { lines_in out.new.items ≡ lines_in out.old.items ++ printed_taken session number taken ∷ [] }
+    ensures few { length out.new.items ≤ length out.old.items + 1 }
+{
+    match taken {
+        Taken::Took => put(EventHead::Took { session, number }, out),
+        Taken::Repeat => put(EventHead::Again { session, number }, out),
+    }
+}
+
+/// The events of these heads.
+pub fn events_of(heads: &ArrayVec<EventHead, 4>) -> ArrayVec<Event, 4>
+    ensures { result.items ≡ lines_in heads.now.items }
+{
+    let mut events = ArrayVec::new();
+    for head in heads.as_slice() {
+        events.push(head.event());
+    }
+    events
 }

@@ -13,11 +13,12 @@ mod tests;
 
 use crate::applied::{Applied, Stop};
 use crate::not_open::NotOpen;
+use crate::printing::events_of;
 use arrayvec::ArrayVec;
 use disk_model::Disk;
 use parts::Parts;
 use pump_frame::SessionRow;
-use script_reader::{LineHead, Event, Line};
+use script_reader::{EventHead, Line, LineHead};
 use std::alloc::Global;
 
 /// A whole session: its processes, its passage, its receiver, over three disks.
@@ -38,6 +39,7 @@ impl<D: Disk> Pump<D> {
     ghost use Rattle.two_worlds.specs.Openings.{ComeBack};
     ghost use Rattle.script_reader.specs.Lawful.{IsLawfulLine};
     ghost use Rattle.script_reader.specs.Heads.{line_with, CanHoldLine};
+    ghost use Rattle.two_worlds.specs.Printing.{lines_in};
     ghost use Rattle.script_reader.specs.Past.{Past, fresh};
     ghost use Rattle.two_worlds.specs.Disks.{Opens, CrashesOpen, LeaveWorld};
     ghost use Rattle.two_worlds.specs.LowPumps.{is_device};
@@ -81,38 +83,27 @@ impl<D: Disk> Pump<D> {
         ensures down { is_down self.new ≡ is_device result.stop }
         ensures row { row_of self.new ≡ row_of self.old }
     {
-        let mut events = ArrayVec::new();
-        let stop = self.apply_into(line, &mut events);
-        Applied { events, stop }
+        let mut heads = ArrayVec::new();
+        let stop = self.apply_head(&line.head(), line.bytes(), &mut heads);
+        Applied {
+            events: events_of(&heads),
+            stop,
+        }
     }
 
-    /// As `apply`, with what is printed in the caller's list, in the place of what that held: one list
-    /// serves a whole script.
-    pub fn apply_into(&mut self, line: &Line, events: &mut ArrayVec<Event, 4>) -> Option<Stop>
-        requires lawful { IsLawfulLine line.now }
-        requires up { is_down self.old ≡ false }
-        ensures applies { (p : Past) → StandsFor D.told self.old p
-            → Applies D.told self.old self.new line.now p events.new.items result }
-        ensures serve { DisksGo D.told (row_of self.old) (disk_at roles.Low self.old) (disk_at roles.High self.old) (disk_at roles.Recv self.old)
-            (disk_at roles.Low self.new) (disk_at roles.High self.new) (disk_at roles.Recv self.new) result }
-        ensures down { is_down self.new ≡ is_device result }
-        ensures row { row_of self.new ≡ row_of self.old }
-    {
-        self.apply_head(&line.head(), line.bytes(), events)
-    }
-
-    /// As `apply_into`, for a line's head with the bytes that come with it.
+    /// As `apply`, for a line's head with the bytes that come with it. What is printed is all that the
+    /// caller's list of events holds after it: one list serves a whole script.
     pub fn apply_head(
         &mut self,
         line: &LineHead,
         bytes: &[u8],
-        events: &mut ArrayVec<Event, 4>,
+        events: &mut ArrayVec<EventHead, 4>,
     ) -> Option<Stop>
         requires lawful { IsLawfulLine (line_with bytes.now line.now) }
         requires room { CanHoldLine line.now bytes.now }
         requires up { is_down self.old ≡ false }
         ensures applies { (p : Past) → StandsFor D.told self.old p
-            → Applies D.told self.old self.new (line_with bytes.now line.now) p events.new.items result }
+            → Applies D.told self.old self.new (line_with bytes.now line.now) p (lines_in events.new.items) result }
         ensures serve { DisksGo D.told (row_of self.old) (disk_at roles.Low self.old) (disk_at roles.High self.old) (disk_at roles.Recv self.old)
             (disk_at roles.Low self.new) (disk_at roles.High self.new) (disk_at roles.Recv self.new) result }
         ensures down { is_down self.new ≡ is_device result }

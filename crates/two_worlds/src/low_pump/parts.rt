@@ -15,11 +15,11 @@ use crate::connection::Connection;
 use crate::printing::print_look;
 use arrayvec::ArrayVec;
 use disk_model::{PlainDisk, Role};
-use low_process::{Answer, Arrival, Ask, LowLook, LowProcess};
+use low_process::{Answer, Arrival, AskHead, LookHead, LowProcess};
 use pump_core::Seen;
 use pump_frame::{Item, OutOfMemory, Payload, SessionRow};
-use script_reader::{ArrivingHead, LineHead, Event, ToldFeedback};
-use stable_buffer::{LowStore, Register, format};
+use script_reader::{ArrivingHead, EventHead, LineHead, ToldFeedback};
+use stable_buffer::{LowStore, Register, disk_size, format};
 use std::alloc::Global;
 
 /// The low process of a session with its connection and its store.
@@ -31,14 +31,6 @@ pub struct LowParts {
     pub store: LowStore<PlainDisk>,
     /// The moment of the last line that had one.
     pub moment: u64,
-}
-
-/// How many bytes the low disk of a row has.
-fn disk_size(row: &SessionRow) -> u64
-    requires { IsLawfulRow row.now }
-    ensures { result ≡ low_size row.now }
-{
-    80 + u64::from(row.capacity) * (2 + u64::from(row.message))
 }
 
 /// A store with this count on an empty disk.
@@ -113,15 +105,17 @@ fn times_read(row: &SessionRow, told: ToldFeedback) -> Seen
 
 impl LowParts {
     ghost use Rattle.pump_core.specs.History.{Gone};
+    ghost use Rattle.low_process.specs.Looks.{row_of};
+    ghost use Rattle.low_process.specs.Heads.{ask_with, look_with};
     ghost use Rattle.script_reader.specs.declared.event.Event.TheVariants.{End};
     ghost use Rattle.script_reader.specs.declared.line.ToldFeedback.TheVariants.{Quiet};
     ghost use Rattle.script_reader.specs.Lawful.{IsLawfulArriving, IsLawfulFeedback, IsLawfulLine};
     ghost use Rattle.script_reader.specs.Heads.{arriving_with, line_with, CanHold, CanHoldLine};
     ghost use Rattle.script_reader.specs.Lows.{first_of};
     ghost use Rattle.script_reader.specs.Scripts.{IsLowEnd};
-    ghost use Rattle.script_reader.specs.Tolds.{LowPast, fresh_low, lost_low, is_timely_low, IsBarredLow, StepLow, IsToldAt};
+    ghost use Rattle.script_reader.specs.Tolds.{LowPast, fresh_low, lost_low, is_timely_low, IsRefusedAlone, StepLow, IsToldAt};
     ghost use Rattle.two_worlds.specs.LowParts.{PartsStand, StandsForSome, HasAsked, AnsweredBy, Ends, NeverBars, Crowds, IsJoinedTold, stop_of};
-    ghost use Rattle.two_worlds.specs.Printing.{look_prints};
+    ghost use Rattle.two_worlds.specs.Printing.{lines_in, look_prints};
 
     /// The parts before the first line, with `next` messages stored, of which the last is held or not.
     pub fn open(
@@ -136,7 +130,7 @@ impl LowParts {
         ensures stands { IfOk result (λ c. PartsStand c (fresh_low next held)) }
         ensures row { IfOk result (λ c. c.row ≡ row.now) }
     {
-        let disk = PlainDisk::new(alloc, disk_size(row))?;
+        let disk = PlainDisk::new(alloc, disk_size(row, Role::Low))?;
         let store = new_store(disk, row, next);
         let hand = hand_of(next, held);
         let connection = Connection::new(alloc)?;
@@ -181,33 +175,35 @@ impl LowParts {
     fn end_look(
         &mut self,
         moment: u64,
-        look: &LowLook,
-        out: &mut ArrayVec<Event, 4>,
+        head: &LookHead,
+        out: &mut ArrayVec<EventHead, 4>,
     ) -> Option<Stop>
         requires out { out.old.items ≡ [] }
         ensures rest { self.new ≡ record self.old { moment = moment } }
-        ensures events { out.new.items ≡ look_prints self.old.row.id moment look.now }
+        ensures events { lines_in out.new.items ≡ look_prints self.old.row.id moment (look_with self.old.row head.now) }
         ensures stop { result ≡ stop_of self.new }
     {
         self.moment = moment;
-        print_look(self.row.id, moment, look, out);
+        print_look(&self.row, moment, head, out);
         self.stop()
     }
 
     /// The rest of a look, which is answered by what was told.
-    fn answer(&mut self, ask: Ask, told: ToldFeedback) -> LowLook
-        requires asked { HasAsked self.old.process ask }
+    fn answer(&mut self, ask: AskHead, told: ToldFeedback, head: &mut LookHead)
+        requires asked { HasAsked self.old.process (ask_with (row_of self.old.process) self.old.process head.old ask) }
         requires told { IsLawfulFeedback told }
         requires row { IsLawfulRow self.old.row }
-        ensures answered { AnsweredBy self.old.row told self.old.process self.new.process ask result }
+        ensures answered { AnsweredBy self.old.row told self.old.process self.new.process
+            (ask_with (row_of self.old.process) self.old.process head.old ask) (look_with (row_of self.old.process) head.new) }
         ensures rest { self.new ≡ record self.old { process = self.new.process } }
+        ensures of_row { row_of self.new.process ≡ row_of self.old.process }
     {
         match ask {
-            Ask::Done(look) => look,
-            Ask::Forward(_) => self.process.finish(answer_to_offer(told)),
-            Ask::Average => {
+            AskHead::Done => {}
+            AskHead::Forward => self.process.finish_into(answer_to_offer(told), head),
+            AskHead::Average => {
                 let seen = times_read(&self.row, told);
-                self.process.finish(Answer::Average(seen))
+                self.process.finish_into(Answer::Average(seen), head);
             }
         }
     }
@@ -218,7 +214,7 @@ impl LowParts {
         moment: u64,
         word: u32,
         told: ToldFeedback,
-        out: &mut ArrayVec<Event, 4>,
+        out: &mut ArrayVec<EventHead, 4>,
     ) -> Option<Stop>
         requires stands { ∥ StandsForSome self.old ∥₁ }
         requires order { self.old.moment ≤ moment }
@@ -226,32 +222,36 @@ impl LowParts {
         requires told { IsLawfulFeedback told }
         requires out { out.old.items ≡ [] }
         ensures ends { Ends self.old self.new NeverBars (λ p is_fault q printed. IsToldAt self.old.row p
-            moment word told (first_of p.is_broken p.waits) is_fault q printed) out.new.items result }
+            moment word told (first_of p.is_broken p.waits) is_fault q printed) (lines_in out.new.items) result }
         ensures row { self.new.row ≡ self.old.row }
     {
         let arrival = self.connection.first();
-        let ask = self.process.begin(moment, word, arrival, &mut self.store);
-        let look = self.answer(ask, told);
-        self.connection.settle(look.taken);
-        self.end_look(moment, &look, out)
+        let mut head = LookHead::new();
+        let ask = self
+            .process
+            .begin_into(moment, word, arrival, &mut self.store, &mut head);
+        self.answer(ask, told, &mut head);
+        self.connection.settle(head.taken);
+        self.end_look(moment, &head, out)
     }
 
     /// The look of a connection that is lost: nothing waits on the new one.
-    fn look_gone(&mut self, moment: u64, out: &mut ArrayVec<Event, 4>) -> Option<Stop>
+    fn look_gone(&mut self, moment: u64, out: &mut ArrayVec<EventHead, 4>) -> Option<Stop>
         requires stands { ∥ StandsForSome self.old ∥₁ }
         requires order { self.old.moment ≤ moment }
         requires moment { moment ≤ 2 ^ 62 }
         requires unused { self.old.connection ≡ unused }
         requires out { out.old.items ≡ [] }
         ensures ends { Ends self.old self.new NeverBars (λ p is_fault q printed. IsToldAt self.old.row p
-            moment 0 Quiet Gone is_fault q printed) out.new.items result }
+            moment 0 Quiet Gone is_fault q printed) (lines_in out.new.items) result }
         ensures row { self.new.row ≡ self.old.row }
     {
+        let mut head = LookHead::new();
         let ask = self
             .process
-            .begin(moment, 0, Arrival::Gone, &mut self.store);
-        let look = self.answer(ask, ToldFeedback::Quiet);
-        self.end_look(moment, &look, out)
+            .begin_into(moment, 0, Arrival::Gone, &mut self.store, &mut head);
+        self.answer(ask, ToldFeedback::Quiet, &mut head);
+        self.end_look(moment, &head, out)
     }
 
     /// A `told` line: what comes joins what waits, a fault that is told arms the disk, and a look is
@@ -264,7 +264,7 @@ impl LowParts {
         told: ToldFeedback,
         arriving: &ArrivingHead,
         bytes: &[u8],
-        out: &mut ArrayVec<Event, 4>,
+        out: &mut ArrayVec<EventHead, 4>,
     ) -> Option<Stop>
         requires stands { ∥ StandsForSome self.old ∥₁ }
         requires order { self.old.moment ≤ moment }
@@ -274,7 +274,7 @@ impl LowParts {
         requires room { CanHold arriving.now bytes.now }
         requires out { out.old.items ≡ [] }
         ensures ends { Ends self.old self.new (Crowds self.old.row fault (arriving_with bytes.now arriving.now))
-            (IsJoinedTold self.old.row moment word fault told (arriving_with bytes.now arriving.now)) out.new.items result }
+            (IsJoinedTold self.old.row moment word fault told (arriving_with bytes.now arriving.now)) (lines_in out.new.items) result }
         ensures row { self.new.row ≡ self.old.row }
     {
         if !self.connection.join(self.row.id, arriving, bytes) {
@@ -285,13 +285,13 @@ impl LowParts {
     }
 
     /// A `gone` line.
-    fn gone(&mut self, moment: u64, out: &mut ArrayVec<Event, 4>) -> Option<Stop>
+    fn gone(&mut self, moment: u64, out: &mut ArrayVec<EventHead, 4>) -> Option<Stop>
         requires stands { ∥ StandsForSome self.old ∥₁ }
         requires order { self.old.moment ≤ moment }
         requires moment { moment ≤ 2 ^ 62 }
         requires out { out.old.items ≡ [] }
         ensures ends { Ends self.old self.new NeverBars (λ p is_fault q printed. IsToldAt self.old.row
-            (lost_low p) moment 0 Quiet Gone is_fault q printed) out.new.items result }
+            (lost_low p) moment 0 Quiet Gone is_fault q printed) (lines_in out.new.items) result }
         ensures row { self.new.row ≡ self.old.row }
     {
         self.connection.lose();
@@ -303,14 +303,14 @@ impl LowParts {
         &mut self,
         line: &LineHead,
         bytes: &[u8],
-        out: &mut ArrayVec<Event, 4>,
+        out: &mut ArrayVec<EventHead, 4>,
     ) -> Option<Stop>
         requires lawful { IsLawfulLine (line_with bytes.now line.now) }
         requires room { CanHoldLine line.now bytes.now }
         requires stands { ∥ StandsForSome self.old ∥₁ }
-        ensures ends { Ends self.old self.new (λ p. IsBarredLow self.old.row p (line_with bytes.now line.now))
+        ensures ends { Ends self.old self.new (λ p. IsRefusedAlone self.old.row p (line_with bytes.now line.now))
             (λ p is_fault q printed. (is_timely_low self.old.row p (line_with bytes.now line.now) ≡ true)
-            × StepLow self.old.row p (line_with bytes.now line.now) is_fault q printed) out.new.items result }
+            × StepLow self.old.row p (line_with bytes.now line.now) is_fault q printed) (lines_in out.new.items) result }
         ensures row { self.new.row ≡ self.old.row }
     {
         out.clear();

@@ -4,29 +4,30 @@ ghost use Rattle.std.specs.Prelude.{◌≡◌, ℕ, ◌+◌, ◌<◌, ◌≤◌,
 ghost use Rattle.disk_model.specs.declared.name.Role.TheVariants as roles;
 ghost use Rattle.script_reader.specs.Highs.{IsCarried, IsOverfull};
 ghost use Rattle.script_reader.specs.Breaks.{IsUntaken};
-ghost use Rattle.two_worlds.specs.Carrying.{printed_taken};
+ghost use Rattle.two_worlds.specs.Printing.{lines_in};
 ghost use Rattle.two_worlds.specs.Standing.{StandsForSome};
 ghost use Rattle.two_worlds.specs.Doing.{Does, DisksServe, LeavesAlone};
 
 use crate::applied::Stop;
+use crate::printing::put_taken;
 use crate::pump::parts::Parts;
 use arrayvec::ArrayVec;
 use disk_model::{Disk, Role};
-use high_receiver::{TakeFault, Taken};
-use script_reader::Event;
+use high_receiver::TakeFault;
+use script_reader::EventHead;
 
 impl<D: Disk> Parts<D> {
     /// The DATA that was sent so many packets before the last one comes to the receiver. What the
     /// receiver has taken, then or before, is returned. A message that does not fit on the receiver's
     /// disk is `Stop::Full`, and then nothing was done; `Stop::Device` leaves the receiver closed.
-    pub fn carry(&mut self, back: u64, out: &mut ArrayVec<Event, 4>) -> Result<(), Stop>
+    pub fn carry(&mut self, back: u64, out: &mut ArrayVec<EventHead, 4>) -> Result<(), Stop>
         requires stands { ∥ StandsForSome D.told self.old ∥₁ }
         requires back { back < length self.old.sent.items }
         requires out { length out.old.items ≤ 3 }
         ensures does { Does (λ p q printed. IsCarried self.old.row p back q printed)
             (λ role p q printed. (role ≡ roles.Recv) × IsUntaken p back q × (printed ≡ []))
             (λ p q printed end size_of_message size. (q ≡ p) × IsOverfull p.world back end size_of_message size × (printed ≡ []))
-            D.told self.old self.new out.old.items out.new.items result }
+            D.told self.old self.new (lines_in out.old.items) (lines_in out.new.items) result }
         ensures serve { DisksServe D.told self.old self.new result }
         ensures low { LeavesAlone roles.Low self.old self.new }
         ensures high { LeavesAlone roles.High self.old self.new }
@@ -42,7 +43,7 @@ impl<D: Disk> Parts<D> {
         match self.receiver.take(number, &item.payload) {
             Ok(taken) => {
                 self.returned.push_back(number);
-                out.push(event_of(self.row.id, number, taken));
+                put_taken(self.row.id, number, taken, out);
                 Ok(())
             }
             Err(TakeFault::Device { faults }) => Err(Stop::Device {
@@ -53,15 +54,5 @@ impl<D: Disk> Parts<D> {
             // No DATA is sent before the receiver has all the messages before it.
             Err(TakeFault::Ahead { .. }) => unreachable!(),
         }
-    }
-}
-
-// What is printed where a receiver has a message.
-fn event_of(session: u32, number: u64, taken: Taken) -> Event
-    ensures { result ≡ printed_taken session number taken }
-{
-    match taken {
-        Taken::Took => Event::Took { session, number },
-        Taken::Repeat => Event::Again { session, number },
     }
 }

@@ -9,72 +9,88 @@ ghost use Rattle.script_reader.specs.Highs.{IsHighLook, IsReturn, place};
 ghost use Rattle.script_reader.specs.Breaks.{IsUnremoved};
 ghost use Rattle.two_worlds.specs.Standing.{Stands, StandsForSome};
 ghost use Rattle.two_worlds.specs.Doing.{Does, DoesFrom, NeverBreaks, NeverOverfills, DisksServe, LeavesAlone};
-ghost use Rattle.two_worlds.specs.HighLooks.{ComesBack, LeadsWith, BreaksWith, most_lines, printed_look, packets_after};
+ghost use Rattle.two_worlds.specs.Printing.{lines_in};
+ghost use Rattle.two_worlds.specs.HighLooks.{ComesBack, LeadsWith, BreaksWith, frame_when, most_lines, printed_look, packets_after};
 
 use crate::applied::Stop;
+use crate::printing::put;
 use crate::pump::parts::Parts;
 use arrayvec::ArrayVec;
 use disk_model::{Disk, Role};
 use high_process::{HighFault, HighLook};
-use pump_frame::{Frame, Kind, Payload};
-use script_reader::Event;
+use pump_frame::Frame;
+use script_reader::EventHead;
+
+/// The frame, where it comes back.
+fn frame_back(comes_back: bool, frame: &Frame) -> Option<&Frame>
+    ensures { frame_of result ≡ frame_when comes_back frame.now }
+{
+    if comes_back { Some(frame) } else { None }
+}
 
 impl<D: Disk> Parts<D> {
     /// The removal and the sending of a look are printed, and the message that was sent joins the
     /// packets.
-    fn tell_high(&mut self, moment: u64, look: &HighLook, out: &mut ArrayVec<Event, 4>)
+    fn tell_high(&mut self, moment: u64, look: &HighLook, out: &mut ArrayVec<EventHead, 4>)
         requires out { length out.old.items + length (printed_look self.old.row.id moment look.now) ≤ 4 }
-        ensures out { out.new.items ≡ out.old.items ++ printed_look self.old.row.id moment look.now }
+        ensures out { lines_in out.new.items ≡ lines_in out.old.items ++ printed_look self.old.row.id moment look.now }
         ensures rest { self.new ≡ record self.old {
           sent = packets_after look.now.sent (high.hand_of self.old.high) self.old.sent;
         } }
     {
         if let Some(number) = look.removed {
-            out.push(Event::Removed {
-                session: self.row.id,
-                moment,
-                number,
-                time: look.published,
-            });
+            put(
+                EventHead::Removed {
+                    session: self.row.id,
+                    moment,
+                    number,
+                    time: look.published,
+                },
+                out,
+            );
         }
         if let Some(number) = look.sent {
             if let Some(item) = self.high.hand() {
                 self.sent.push_back(*item);
             }
-            out.push(Event::Sent {
-                session: self.row.id,
-                moment,
-                number,
-            });
+            put(
+                EventHead::Sent {
+                    session: self.row.id,
+                    moment,
+                    number,
+                },
+                out,
+            );
         }
     }
 
-    /// A high look at this moment, with the session's TAKEN that comes back or without one.
+    /// A high look at this moment, to which the TAKEN at hand comes back or nothing.
     fn look_with(
         &mut self,
         moment: u64,
-        frame: Option<&Frame>,
-        out: &mut ArrayVec<Event, 4>,
+        comes_back: bool,
+        out: &mut ArrayVec<EventHead, 4>,
     ) -> Result<(), Stop>
         requires stands { ∥ StandsForSome D.told self.old ∥₁ }
         requires order { self.old.moment ≤ moment }
         requires moment { moment ≤ 2 ^ 62 }
         requires back { (p : Past) → Stands D.told self.old p
-            → (back : Option ℕ) × ComesBack self.old.row.id p.world (frame_of frame) back }
-        requires out { length out.old.items + most_lines (frame_of frame) ≤ 4 }
+            → (back : Option ℕ) × ComesBack self.old.row.id p.world (frame_when comes_back self.old.taken) back }
+        requires out { length out.old.items + most_lines (frame_when comes_back self.old.taken) ≤ 4 }
         ensures does { (p : Past) → Stands D.told self.old p
-            → (back : Option ℕ) → ComesBack self.old.row.id p.world (frame_of frame.entry) back
+            → (back : Option ℕ) → ComesBack self.old.row.id p.world (frame_when comes_back self.old.taken) back
             → DoesFrom (LeadsWith self.old.row moment back) (BreaksWith moment back) NeverOverfills
-            D.told self.old self.new out.old.items out.new.items p result }
+            D.told self.old self.new (lines_in out.old.items) (lines_in out.new.items) p result }
         ensures serve { DisksServe D.told self.old self.new result }
         ensures low { LeavesAlone roles.Low self.old self.new }
-        ensures high { frame_of frame.entry ≡ None → LeavesAlone roles.High self.old self.new }
+        ensures high { frame_when comes_back self.old.taken ≡ None → LeavesAlone roles.High self.old self.new }
         ensures recv { LeavesAlone roles.Recv self.old self.new }
-        ensures out { length out.new.items ≤ length out.old.items + most_lines (frame_of frame.entry) }
+        ensures out { length out.new.items ≤ length out.old.items + most_lines (frame_when comes_back self.old.taken) }
         ensures row { self.new.row ≡ self.old.row }
         ensures moment { self.new.moment ≡ moment }
     {
         self.moment = moment;
+        let frame = frame_back(comes_back, &self.taken);
         match self
             .high
             .look(moment, frame, &mut self.high_store, &mut self.ends)
@@ -96,13 +112,13 @@ impl<D: Disk> Parts<D> {
 
     /// A high look to which nothing comes back, at this moment in microseconds, which is not below the
     /// last one and at most 2^62. No disk is called.
-    pub fn look_high(&mut self, moment: u64, out: &mut ArrayVec<Event, 4>) -> Result<(), Stop>
+    pub fn look_high(&mut self, moment: u64, out: &mut ArrayVec<EventHead, 4>) -> Result<(), Stop>
         requires stands { ∥ StandsForSome D.told self.old ∥₁ }
         requires order { self.old.moment ≤ moment }
         requires moment { moment ≤ 2 ^ 62 }
         requires out { length out.old.items ≤ 3 }
         ensures does { Does (λ p q printed. IsHighLook self.old.row p moment None q printed)
-            NeverBreaks NeverOverfills D.told self.old self.new out.old.items out.new.items result }
+            NeverBreaks NeverOverfills D.told self.old self.new (lines_in out.old.items) (lines_in out.new.items) result }
         ensures serve { DisksServe D.told self.old self.new result }
         ensures low { LeavesAlone roles.Low self.old self.new }
         ensures high { LeavesAlone roles.High self.old self.new }
@@ -111,7 +127,7 @@ impl<D: Disk> Parts<D> {
         ensures row { self.new.row ≡ self.old.row }
         ensures moment { self.new.moment ≡ moment }
     {
-        self.look_with(moment, None, out)
+        self.look_with(moment, false, out)
     }
 
     /// The number of the TAKEN that was sent so many packets before the last one.
@@ -129,7 +145,7 @@ impl<D: Disk> Parts<D> {
         &mut self,
         moment: u64,
         back: u64,
-        out: &mut ArrayVec<Event, 4>,
+        out: &mut ArrayVec<EventHead, 4>,
     ) -> Result<(), Stop>
         requires stands { ∥ StandsForSome D.told self.old ∥₁ }
         requires order { self.old.moment ≤ moment }
@@ -139,18 +155,13 @@ impl<D: Disk> Parts<D> {
         ensures does { Does (λ p q printed. IsReturn self.old.row p moment (place p.world.returned back) q printed)
             (λ role p q printed. (role ≡ roles.High)
             × IsUnremoved p moment (Some (place p.world.returned back)) q × (printed ≡ []))
-            NeverOverfills D.told self.old self.new out.old.items out.new.items result }
+            NeverOverfills D.told self.old self.new (lines_in out.old.items) (lines_in out.new.items) result }
         ensures serve { DisksServe D.told self.old self.new result }
         ensures low { LeavesAlone roles.Low self.old self.new }
         ensures recv { LeavesAlone roles.Recv self.old self.new }
         ensures row { self.new.row ≡ self.old.row }
     {
-        let frame = Frame {
-            kind: Kind::Taken,
-            session: self.row.id,
-            number: self.number_back(back),
-            payload: Payload::default(),
-        };
-        self.look_with(moment, Some(&frame), out)
+        self.taken.number = self.number_back(back);
+        self.look_with(moment, true, out)
     }
 }

@@ -7,6 +7,7 @@ ghost use Rattle.script_reader.specs.declared.line.Line.TheVariants as lines;
 ghost use Rattle.script_reader.specs.Heads.{arriving_with, line_with, CanHold, CanHoldLine};
 ghost use Rattle.script_reader.specs.Past.{Past};
 ghost use Rattle.script_reader.specs.Breaks.{BreaksOff};
+ghost use Rattle.two_worlds.specs.Printing.{lines_in};
 ghost use Rattle.two_worlds.specs.Standing.{Stands, StandsForSome};
 ghost use Rattle.two_worlds.specs.Doing.{Does, DisksServe, LeavesAlone};
 ghost use Rattle.two_worlds.specs.LineSteps.{goes_on_by, is_timely_by, CarriesBack, IsOverfullSent, Runs, Attempts, answer_of};
@@ -15,7 +16,7 @@ use crate::applied::Stop;
 use crate::pump::parts::Parts;
 use arrayvec::ArrayVec;
 use disk_model::Disk;
-use script_reader::{ArrivingHead, LineHead, Event};
+use script_reader::{ArrivingHead, LineHead, EventHead};
 
 /// The last moment of a script, 2^62.
 const LAST_MOMENT: u64 = 4_611_686_018_427_387_904;
@@ -78,7 +79,7 @@ impl<D: Disk> Parts<D> {
         word: u32,
         arriving: &ArrivingHead,
         bytes: &[u8],
-        out: &mut ArrayVec<Event, 4>,
+        out: &mut ArrayVec<EventHead, 4>,
     ) -> Result<(), Stop>
         requires stands { ∥ StandsForSome D.told self.old ∥₁ }
         requires lawful { IsLawfulArriving (arriving_with bytes.now arriving.now) }
@@ -87,7 +88,7 @@ impl<D: Disk> Parts<D> {
         requires moment { moment ≤ 2 ^ 62 }
         requires out { length out.old.items ≤ 0 }
         ensures runs { Runs D.told self.old self.new (lines.Look self.old.row.id moment word (arriving_with bytes.now arriving.now))
-            out.old.items out.new.items result }
+            (lines_in out.old.items) (lines_in out.new.items) result }
         ensures serve { DisksServe D.told self.old self.new result }
         ensures row { self.new.row ≡ self.old.row }
     {
@@ -98,13 +99,13 @@ impl<D: Disk> Parts<D> {
     }
 
     /// A `gone` line: the connection is lost, and the low process looks.
-    fn gone_line(&mut self, moment: u64, out: &mut ArrayVec<Event, 4>) -> Result<(), Stop>
+    fn gone_line(&mut self, moment: u64, out: &mut ArrayVec<EventHead, 4>) -> Result<(), Stop>
         requires stands { ∥ StandsForSome D.told self.old ∥₁ }
         requires order { self.old.moment ≤ moment }
         requires moment { moment ≤ 2 ^ 62 }
         requires out { length out.old.items ≤ 0 }
         ensures runs { Runs D.told self.old self.new (lines.Gone self.old.row.id moment)
-            out.old.items out.new.items result }
+            (lines_in out.old.items) (lines_in out.new.items) result }
         ensures serve { DisksServe D.told self.old self.new result }
         ensures row { self.new.row ≡ self.old.row }
     {
@@ -114,7 +115,7 @@ impl<D: Disk> Parts<D> {
 
     /// The message in the high hand, which was sent last, comes to the receiver, and its TAKEN comes
     /// back.
-    fn carry_back(&mut self, moment: u64, out: &mut ArrayVec<Event, 4>) -> Result<(), Stop>
+    fn carry_back(&mut self, moment: u64, out: &mut ArrayVec<EventHead, 4>) -> Result<(), Stop>
         requires stands { ∥ StandsForSome D.told self.old ∥₁ }
         requires order { self.old.moment ≤ moment }
         requires moment { moment ≤ 2 ^ 62 }
@@ -122,7 +123,7 @@ impl<D: Disk> Parts<D> {
         requires out { length out.old.items ≤ 1 }
         ensures does { Does (λ p q printed. CarriesBack self.old.row p moment q printed)
             (λ role p q printed. BreaksOff self.old.row p moment role q printed)
-            IsOverfullSent D.told self.old self.new out.old.items out.new.items result }
+            IsOverfullSent D.told self.old self.new (lines_in out.old.items) (lines_in out.new.items) result }
         ensures serve { DisksServe D.told self.old self.new result }
         ensures low { LeavesAlone roles.Low self.old self.new }
         ensures row { self.new.row ≡ self.old.row }
@@ -137,7 +138,7 @@ impl<D: Disk> Parts<D> {
         &mut self,
         moment: u64,
         time: u32,
-        out: &mut ArrayVec<Event, 4>,
+        out: &mut ArrayVec<EventHead, 4>,
     ) -> Result<(), Stop>
         requires stands { ∥ StandsForSome D.told self.old ∥₁ }
         requires order { self.old.moment ≤ moment }
@@ -145,7 +146,7 @@ impl<D: Disk> Parts<D> {
         requires back { goes_on_by self.old ≡ true → moment + time ≤ 2 ^ 62 }
         requires out { length out.old.items ≤ 0 }
         ensures runs { Runs D.told self.old self.new (lines.Done self.old.row.id moment time)
-            out.old.items out.new.items result }
+            (lines_in out.old.items) (lines_in out.new.items) result }
         ensures serve { DisksServe D.told self.old self.new result }
         ensures row { self.new.row ≡ self.old.row }
     {
@@ -161,14 +162,14 @@ impl<D: Disk> Parts<D> {
         &mut self,
         line: &LineHead,
         bytes: &[u8],
-        out: &mut ArrayVec<Event, 4>,
+        out: &mut ArrayVec<EventHead, 4>,
     ) -> Result<(), Stop>
         requires stands { ∥ StandsForSome D.told self.old ∥₁ }
         requires lawful { IsLawfulLine (line_with bytes.now line.now) }
         requires room { CanHoldLine line.now bytes.now }
         requires timely { is_timely_by self.old (line_with bytes.now line.now) ≡ true }
         requires out { length out.old.items ≤ 0 }
-        ensures runs { Runs D.told self.old self.new (line_with bytes.now line.now) out.old.items out.new.items result }
+        ensures runs { Runs D.told self.old self.new (line_with bytes.now line.now) (lines_in out.old.items) (lines_in out.new.items) result }
         ensures serve { DisksServe D.told self.old self.new result }
         ensures row { self.new.row ≡ self.old.row }
     {
@@ -195,13 +196,13 @@ impl<D: Disk> Parts<D> {
         &mut self,
         line: &LineHead,
         bytes: &[u8],
-        out: &mut ArrayVec<Event, 4>,
+        out: &mut ArrayVec<EventHead, 4>,
     ) -> Result<(), Stop>
         requires stands { ∥ StandsForSome D.told self.old ∥₁ }
         requires lawful { IsLawfulLine (line_with bytes.now line.now) }
         requires room { CanHoldLine line.now bytes.now }
         requires out { length out.old.items ≤ 0 }
-        ensures attempts { Attempts D.told self.old self.new (line_with bytes.now line.now) out.old.items out.new.items result }
+        ensures attempts { Attempts D.told self.old self.new (line_with bytes.now line.now) (lines_in out.old.items) (lines_in out.new.items) result }
         ensures serve { DisksServe D.told self.old self.new result }
         ensures row { self.new.row ≡ self.old.row }
     {
@@ -217,12 +218,12 @@ impl<D: Disk> Parts<D> {
         &mut self,
         line: &LineHead,
         bytes: &[u8],
-        out: &mut ArrayVec<Event, 4>,
+        out: &mut ArrayVec<EventHead, 4>,
     ) -> Option<Stop>
         requires stands { ∥ StandsForSome D.told self.old ∥₁ }
         requires lawful { IsLawfulLine (line_with bytes.now line.now) }
         requires room { CanHoldLine line.now bytes.now }
-        ensures attempts { Attempts D.told self.old self.new (line_with bytes.now line.now) [] out.new.items (answer_of result) }
+        ensures attempts { Attempts D.told self.old self.new (line_with bytes.now line.now) [] (lines_in out.new.items) (answer_of result) }
         ensures serve { DisksServe D.told self.old self.new (answer_of result) }
         ensures row { self.new.row ≡ self.old.row }
     {

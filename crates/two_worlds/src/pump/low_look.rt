@@ -3,7 +3,6 @@
 ghost use Rattle.std.specs.Prelude.{◌≡◌, ◌^◌, ◌≤◌, length};
 ghost use Rattle.disk_model.specs.declared.name.Role.TheVariants as roles;
 ghost use Rattle.pump_core.specs.History.{Gone};
-ghost use Rattle.low_process.specs.Looks.{row_of};
 ghost use Rattle.low_process.specs.Heads.{look_with};
 ghost use Rattle.script_reader.specs.Steps.{IsOfferedLook, IsLowLook};
 ghost use Rattle.script_reader.specs.Breaks.{IsLost};
@@ -11,14 +10,15 @@ ghost use Rattle.two_worlds.specs.Connections.{unused};
 ghost use Rattle.two_worlds.specs.Standing.{StandsForSome};
 ghost use Rattle.two_worlds.specs.Doing.{Does, NeverBreaks, NeverOverfills, DisksServe};
 ghost use Rattle.two_worlds.specs.LowLooks.{EndsLook};
+ghost use Rattle.two_worlds.specs.Printing.{lines_in};
 
 use crate::applied::Stop;
-use crate::printing::print_head;
+use crate::printing::print_look;
 use crate::pump::parts::Parts;
 use arrayvec::ArrayVec;
 use disk_model::{Disk, Role};
-use low_process::{Arrival, LookHead, NOTHING};
-use script_reader::Event;
+use low_process::{Arrival, LookHead};
+use script_reader::EventHead;
 
 impl<D: Disk> Parts<D> {
     /// The end of a low look: its lines are printed, and where the store failed the line stops.
@@ -26,13 +26,13 @@ impl<D: Disk> Parts<D> {
         &mut self,
         moment: u64,
         head: &LookHead,
-        out: &mut ArrayVec<Event, 4>,
+        out: &mut ArrayVec<EventHead, 4>,
     ) -> Result<(), Stop>
         requires out { length out.old.items ≤ 1 }
-        ensures ends { EndsLook D.told self.old self.new moment (look_with (row_of self.old.low) head.now) out.old.items out.new.items result }
+        ensures ends { EndsLook D.told self.old self.new moment (look_with self.old.row head.now) (lines_in out.old.items) (lines_in out.new.items) result }
     {
         self.moment = moment;
-        print_head(self.row.id, moment, &self.low, head, out);
+        print_look(&self.row, moment, head, out);
         if self.low.is_down() {
             return Err(Stop::Device {
                 role: Role::Low,
@@ -48,7 +48,7 @@ impl<D: Disk> Parts<D> {
         &mut self,
         moment: u64,
         word: u32,
-        out: &mut ArrayVec<Event, 4>,
+        out: &mut ArrayVec<EventHead, 4>,
     ) -> Result<(), Stop>
         requires stands { ∥ StandsForSome D.told self.old ∥₁ }
         requires order { self.old.moment ≤ moment }
@@ -56,12 +56,12 @@ impl<D: Disk> Parts<D> {
         requires out { length out.old.items ≤ 1 }
         ensures does { Does (λ p q printed. IsOfferedLook self.old.row p moment word q printed)
             (λ role p q printed. (role ≡ roles.Low) × IsLost self.old.row p moment word q printed)
-            NeverOverfills D.told self.old self.new out.old.items out.new.items result }
+            NeverOverfills D.told self.old self.new (lines_in out.old.items) (lines_in out.new.items) result }
         ensures serve { DisksServe D.told self.old self.new result }
         ensures row { self.new.row ≡ self.old.row }
     {
         let arrival = self.connection.first();
-        let mut head = NOTHING;
+        let mut head = LookHead::new();
         self.low.look_into(
             moment,
             word,
@@ -75,18 +75,18 @@ impl<D: Disk> Parts<D> {
     }
 
     /// The low look of a connection that is lost: nothing waits on the new one.
-    pub fn look_gone(&mut self, moment: u64, out: &mut ArrayVec<Event, 4>) -> Result<(), Stop>
+    pub fn look_gone(&mut self, moment: u64, out: &mut ArrayVec<EventHead, 4>) -> Result<(), Stop>
         requires stands { ∥ StandsForSome D.told self.old ∥₁ }
         requires unused { self.old.connection ≡ unused }
         requires order { self.old.moment ≤ moment }
         requires moment { moment ≤ 2 ^ 62 }
         requires out { length out.old.items ≤ 1 }
         ensures does { Does (λ p q printed. IsLowLook self.old.row p moment 0 Gone q printed)
-            NeverBreaks NeverOverfills D.told self.old self.new out.old.items out.new.items result }
+            NeverBreaks NeverOverfills D.told self.old self.new (lines_in out.old.items) (lines_in out.new.items) result }
         ensures serve { DisksServe D.told self.old self.new result }
         ensures row { self.new.row ≡ self.old.row }
     {
-        let mut head = NOTHING;
+        let mut head = LookHead::new();
         self.low.look_into(
             moment,
             0,

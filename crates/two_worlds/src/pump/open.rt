@@ -24,15 +24,12 @@ use high_process::HighProcess;
 use high_receiver::Receiver;
 use low_process::LowProcess;
 use passage::PlainEnds;
-use pump_frame::{Item, OutOfMemory, SessionRow};
-use stable_buffer::{HighStore, LowStore};
+use pump_frame::{Frame, Item, Kind, OutOfMemory, Payload, SessionRow};
+use stable_buffer::{HighStore, LowStore, RECEIVER_SIZE};
 use std::alloc::Global;
 
 /// How many packets are kept in each direction.
 const PACKETS: usize = 64;
-
-/// The size of the receiver's disk in bytes.
-const RECEIVER_SIZE: u64 = 16_777_216;
 
 // All memory that a pump takes.
 #[derive(Drop)]
@@ -89,6 +86,12 @@ impl<D: Disk> Parts<D> {
             receiver: Receiver::over(registers.recv, row, RECEIVER_SIZE),
             sent: memory.sent,
             returned: memory.returned,
+            taken: Frame {
+                kind: Kind::Taken,
+                session: row.id,
+                number: 0,
+                payload: Payload::default(),
+            },
             moment: 0,
         }
     }

@@ -6,7 +6,7 @@ use high_process::HighProcess;
 use high_receiver::Receiver;
 use low_process::LowProcess;
 use passage::PlainEnds;
-use pump_frame::{Item, SessionRow};
+use pump_frame::{Frame, Item, SessionRow};
 use stable_buffer::{HighStore, LowStore};
 
 /// A session's two processes with their stores, the passage between them, the receiver, and what is
@@ -25,6 +25,9 @@ pub struct Parts<D> {
     pub sent: HeapCircularBuffer<Item>,
     /// The numbers of the TAKEN that were sent last, at most 64.
     pub returned: HeapCircularBuffer<u64>,
+    /// The TAKEN that comes back, whose number is set each time: a frame has more than 1 KB, so one
+    /// serves the session.
+    pub taken: Frame,
     /// The moment of the last line that had one.
     pub moment: u64,
 }

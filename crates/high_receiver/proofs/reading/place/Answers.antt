@@ -32,7 +32,7 @@ loop-preserved g c =
     let end : c.value-end.result.1 ≡ r.second = ap (λ (v : ℕ × ℕ). v.1) c.value-end.ensures in
     let answers = read.answers in
     record {
-      ready = c.read_length.ensures.ready;
+      ready = read.ready;
       value = c.read_length.ensures.value ∙ kept.value;
       within = elim c.if-end-at.branch [
         | then-end-at w ↦ omega (arith, w.at-is, end)
@@ -47,8 +47,8 @@ loop-preserved g c =
             | then-end-at w ↦ absurd (omega (arith, w.if-end-at, end, next.0))
             | else-end-at w ↦ subst (λ k. RecordsFrom most (drop (c.loop.counter + 1) messages) k r.second disk) (sym w.at-is) next.1
           ];
-      moves = goes_on_same m Same r.disk c.loop.register.disk c.read_length.new.register.disk kept.moves c.read_length.ensures.moves;
+      moves = goes_on_same m Same r.disk c.loop.register.disk c.read_length.new.self.disk kept.moves c.read_length.ensures.moves;
       count = omega (arith, kept.count, answers.counts);
       room = λ plan. answers.room plan ∙ kept.room plan;
-      armed = λ plan. calm (m.armed c.loop.register.disk) (m.armed c.read_length.new.register.disk) (λ on. failed (answers.always plan on)) (answers.disarmed plan) ∙ kept.armed plan;
+      armed = λ plan. calm (m.armed c.loop.register.disk) (m.armed c.read_length.new.self.disk) (λ on. failed (answers.always plan on)) (answers.disarmed plan) ∙ kept.armed plan;
     }

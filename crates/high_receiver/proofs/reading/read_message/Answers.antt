@@ -16,7 +16,7 @@ returns-in_err-length-clause-answers g c =
     let is_err : IsErr c.from_residual-in_err-length.result = search (rules) in
     record {
       counts = omega (arith, p.counts, a.counts);
-      rose = λ e small. let rise = a.rose refl small in omega (arith, p.counts, rise);
+      rose = λ e. let rise = a.rose refl in omega (arith, p.counts, rise);
       never = λ plan off has.
           let told = m.plan_tells plan in
           let more = has.1 in
@@ -52,13 +52,13 @@ returns-in_err-read_beside-clause-answers g c =
     let is_err : IsErr c.from_residual-in_err-read_beside.result = search (rules) in
     record {
       counts = omega (arith, p.counts, b.counts, a.counts);
-      rose = λ e small. let rise = a.rose refl small in omega (arith, p.counts, b.counts, rise);
+      rose = λ e. let rise = a.rose refl in omega (arith, p.counts, b.counts, rise);
       never = λ plan off has.
           let told = m.plan_tells plan in
           let more = has.1 in
           let here = at_message c.args.most has.0 n at r.second disk more.0 (p.place told c.args.most has.0 (omega (arith, more.0), more.1)) in
           let first : m.reading c.place.new.register.disk ≡ disk = p.moves.reads told in
-          let same : m.reading c.read_length.new.register.disk ≡ disk = c.read_length.ensures.moves.reads told ∙ first in
+          let same : m.reading c.read_length.new.self.disk ≡ disk = c.read_length.ensures.moves.reads told ∙ first in
           let is : l ≡ length_at disk at = c.in_ok-length.ensures.length told ∙ ap (λ (d : List ℕ). length_at d at) first in
           let zeros : List ℕ = replicate 1026 0 in
           let size : length (take (2 + l) zeros) ≡ 2 + l = length-take-le (2 + l) zeros (omega (arith, is, here.size, here.fits, c.requires.short, length-replicate {A = ℕ} 1026 0)) in
@@ -79,10 +79,10 @@ returns-clause-found g c = λ told messages more.
     let p = c.in_ok-at.ensures in
     let here = at_message c.args.most messages n at r.second disk more.0 (p.place told c.args.most messages (omega (arith, more.0), more.1)) in
     let first : m.reading c.place.new.register.disk ≡ disk = p.moves.reads told in
-    let same : m.reading c.read_length.new.register.disk ≡ disk = c.read_length.ensures.moves.reads told ∙ first in
+    let same : m.reading c.read_length.new.self.disk ≡ disk = c.read_length.ensures.moves.reads told ∙ first in
     let is : l ≡ length_at disk at = c.in_ok-length.ensures.length told ∙ ap (λ (d : List ℕ). length_at d at) first in
     let zeros : List ℕ = replicate 1026 0 in
     let size : length (take (2 + l) zeros) ≡ 2 + l = length-take-le (2 + l) zeros (omega (arith, is, here.size, here.fits, c.requires.short, length-replicate {A = ℕ} 1026 0)) in
     is_found c.from_slice.result _ (slice_index_or messages n []) c.from_slice.ensures.some.1 c.from_slice.ensures.value
-    (found_bytes l (length (take (2 + l) zeros)) at c.read_beside.new.into _ (m.reading c.read_length.new.register.disk) disk (slice_index_or messages n []) size c.read_beside.ensures.size (c.in_ok-read_beside.ensures.bytes told) same (is ∙ here.size) here.bytes)
+    (found_bytes l (length (take (2 + l) zeros)) at c.read_beside.new.into _ (m.reading c.read_length.new.self.disk) disk (slice_index_or messages n []) size c.read_beside.ensures.size (c.in_ok-read_beside.ensures.bytes told) same (is ∙ here.size) here.bytes)
     (omega (arith, here.fits, c.requires.short))

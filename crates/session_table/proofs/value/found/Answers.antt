@@ -2,4 +2,4 @@ use Rattle.toml.proofs.Views.{table_get}
 use Rattle.session_table.proofs.value.found.Goals as goal
 
 pub returns : goal.returns
-returns c = rw (← c.key_name.ensures) (table_get c.get.result c.key_name.result.now c.args.document.now.entries c.get.ensures.value)
+returns c = rw (← c.key_name.ensures) (table_get c.get.result c.key_name.result.now c.args.members.now.entries c.get.ensures.value)

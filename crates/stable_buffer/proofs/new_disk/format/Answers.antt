@@ -1,4 +1,4 @@
-use Rattle.std.proofs.Common.{◌≡◌, ℕ, ◌-◌, List, ◌++◌, length, take, replicate, ◌∙◌, ap, arith, length-append}
+use Rattle.std.proofs.Common.{◌≡◌, ℕ, ◌-◌, ◌++◌, length, take, replicate, ◌∙◌, ap, arith, length-append}
 use Rattle.std.proofs.lemmas.List.{take_at, length-replicate}
 use Rattle.stable_buffer.specs.Format.{header_of, role_byte, second_of, size_of}
 use Rattle.stable_buffer.proofs.Fresh.{fresh_stands, holds_empty, header_length}

@@ -1,4 +1,4 @@
-use Rattle.std.proofs.Common.{◌≡◌, ℕ, ◌+◌, length, take, ◌∙◌, ap, subst}
+use Rattle.std.proofs.Common.{◌≡◌, ℕ, ◌+◌, length, refl, ◌∙◌, ap, subst}
 use Rattle.disk_model.specs.Disk.{Moves, Each, Torn, Holds}
 use Rattle.disk_model.proofs.Run.{weaker}
 use Rattle.stable_buffer.specs.Register.{MayTurnTo, Selects, SameOutside, value_of}
@@ -9,20 +9,19 @@ use Rattle.high_receiver.proofs.Appends.{StandsAt, torn_on, at_written, end_with
 use Rattle.high_receiver.proofs.Calls.{so_far, staged, at_settled, turned, stored, taken, stored_during}
 use Rattle.high_receiver.proofs.receiver.Receiver.write.Goals as goal
 
-pub returns-in_err-write_beside-clause-moves : goal.returns-in_err-write_beside-clause-moves
-returns-in_err-write_beside-clause-moves g c =
+pub returns-in_err-write_message-clause-moves : goal.returns-in_err-write_message-clause-moves
+returns-in_err-write_message-clause-moves g c =
     let m = g.D.Disk.told in
     let s = c.args.self.now in
     let row = s.row in
     let r = s.register in
     let message = c.args.payload.now in
     let short = c.requires.ready.short in
-    let bytes = take (2 + c.len-length.result) c.spell-record.result in
     let end : c.value-count.result.1 ≡ r.second = ap (λ (v : ℕ × ℕ). v.1) c.value-count.ensures in
-    let w = c.write_beside.new.register in
+    let w = c.write_message.new.self in
     let wrote : Moves m (StandsOn row) r.disk w.disk =
-    weaker m (Selects r.parity r.first r.second) (Torn c.value-count.result.1 (length bytes)) (StandsOn row) r.disk w.disk c.requires.ready.ready.each
-    (λ a b is torn. torn_on row r.parity r.first r.second (length bytes) a b is (subst (λ k. Torn k (length bytes) a b) end torn)) c.write_beside.ensures.moves in
+    weaker m (Selects r.parity r.first r.second) (Torn c.value-count.result.1 (2 + length message)) (StandsOn row) r.disk w.disk c.requires.ready.ready.each
+    (λ a b is torn. torn_on row r.parity r.first r.second (2 + length message) a b is (subst (λ k. Torn k (2 + length message) a b) end torn)) c.write_message.ensures.moves in
     so_far m row message r.disk w.disk wrote
 
 pub returns-in_err-stage-clause-moves : goal.returns-in_err-stage-clause-moves
@@ -33,12 +32,11 @@ returns-in_err-stage-clause-moves g c =
     let r = s.register in
     let message = c.args.payload.now in
     let short = c.requires.ready.short in
-    let bytes = take (2 + c.len-length.result) c.spell-record.result in
     let end : c.value-count.result.1 ≡ r.second = ap (λ (v : ℕ × ℕ). v.1) c.value-count.ensures in
-    let w = c.write_beside.new.register in
+    let w = c.write_message.new.self in
     let wrote : Moves m (StandsOn row) r.disk w.disk =
-    weaker m (Selects r.parity r.first r.second) (Torn c.value-count.result.1 (length bytes)) (StandsOn row) r.disk w.disk c.requires.ready.ready.each
-    (λ a b is torn. torn_on row r.parity r.first r.second (length bytes) a b is (subst (λ k. Torn k (length bytes) a b) end torn)) c.write_beside.ensures.moves in
+    weaker m (Selects r.parity r.first r.second) (Torn c.value-count.result.1 (2 + length message)) (StandsOn row) r.disk w.disk c.requires.ready.ready.each
+    (λ a b is torn. torn_on row r.parity r.first r.second (2 + length message) a b is (subst (λ k. Torn k (2 + length message) a b) end torn)) c.write_message.ensures.moves in
     let q = c.stage.new.self in
     let stood : Moves m (StandsOn row) r.disk q.disk = staged m row message r.disk w.disk q.disk wrote c.stage.ensures.moves in
     so_far m row message r.disk q.disk stood
@@ -51,25 +49,23 @@ returns-in_err-commit-clause-moves g c =
     let r = s.register in
     let message = c.args.payload.now in
     let short = c.requires.ready.short in
-    let bytes = take (2 + c.len-length.result) c.spell-record.result in
     let end : c.value-count.result.1 ≡ r.second = ap (λ (v : ℕ × ℕ). v.1) c.value-count.ensures in
-    let w = c.write_beside.new.register in
+    let w = c.write_message.new.self in
     let wrote : Moves m (StandsOn row) r.disk w.disk =
-    weaker m (Selects r.parity r.first r.second) (Torn c.value-count.result.1 (length bytes)) (StandsOn row) r.disk w.disk c.requires.ready.ready.each
-    (λ a b is torn. torn_on row r.parity r.first r.second (length bytes) a b is (subst (λ k. Torn k (length bytes) a b) end torn)) c.write_beside.ensures.moves in
+    weaker m (Selects r.parity r.first r.second) (Torn c.value-count.result.1 (2 + length message)) (StandsOn row) r.disk w.disk c.requires.ready.ready.each
+    (λ a b is torn. torn_on row r.parity r.first r.second (2 + length message) a b is (subst (λ k. Torn k (2 + length message) a b) end torn)) c.write_message.ensures.moves in
     let q = c.stage.new.self in
     let stood : Moves m (StandsOn row) r.disk q.disk = staged m row message r.disk w.disk q.disk wrote c.stage.ensures.moves in
     let was = c.in_ok-stage.ensures.staged in
     let size : c.len-length.result ≡ length message = c.len-length.ensures.value in
-    let is : bytes ≡ spelled message = ap (λ k. take (2 + k) c.spell-record.result) size ∙ c.spell-record.ensures in
     let count : c.value-count.result.0 ≡ r.first = ap (λ (v : ℕ × ℕ). v.0) c.value-count.ensures in
-    let same : (q.first, q.second) ≡ (r.first, r.second) = c.stage.ensures.value ∙ c.write_beside.ensures.value in
+    let same : (q.first, q.second) ≡ (r.first, r.second) = c.stage.ensures.value ∙ c.write_message.ensures.value in
     let next : (q.next_first, q.next_second) ≡ (r.first + 1, r.second + 2 + length message) =
     c.in_ok-stage.ensures.next ∙ (λ i. (count i + 1, end i + 2 + size i)) in
     let written : m.tells → StandsAt r.second message (m.reading w.disk) = λ told.
-    at_written r.second message bytes (m.reading r.disk) (m.reading w.disk) is
+    at_written r.second message (spelled message) (m.reading r.disk) (m.reading w.disk) refl
     (let stands = c.requires.ready.stands told in end_within row r.parity r.first r.second stands.0 (m.reading r.disk) (c.requires.ready.ready.each.reading told) stands.1)
-    (subst (λ k. Holds (m.reading r.disk) k bytes (m.reading w.disk)) end (c.in_ok-write_beside.ensures.written told)) in
+    (subst (λ k. Holds (m.reading r.disk) k (spelled message) (m.reading w.disk)) end (c.in_ok-write_message.ensures.written told)) in
     let has : Each m (StandsAt r.second message) q.disk =
     at_settled m row message r.second w.disk q.disk c.requires.ready.from written c.stage.ensures.moves c.in_ok-stage.ensures.settled in
     let selects : Each m (Selects q.parity r.first r.second) q.disk = subst (λ (f : ℕ × ℕ). Each m (Selects q.parity f.0 f.1) q.disk) same was.ready.each in
@@ -85,25 +81,23 @@ returns-clause-moves g c =
     let r = s.register in
     let message = c.args.payload.now in
     let short = c.requires.ready.short in
-    let bytes = take (2 + c.len-length.result) c.spell-record.result in
     let end : c.value-count.result.1 ≡ r.second = ap (λ (v : ℕ × ℕ). v.1) c.value-count.ensures in
-    let w = c.write_beside.new.register in
+    let w = c.write_message.new.self in
     let wrote : Moves m (StandsOn row) r.disk w.disk =
-    weaker m (Selects r.parity r.first r.second) (Torn c.value-count.result.1 (length bytes)) (StandsOn row) r.disk w.disk c.requires.ready.ready.each
-    (λ a b is torn. torn_on row r.parity r.first r.second (length bytes) a b is (subst (λ k. Torn k (length bytes) a b) end torn)) c.write_beside.ensures.moves in
+    weaker m (Selects r.parity r.first r.second) (Torn c.value-count.result.1 (2 + length message)) (StandsOn row) r.disk w.disk c.requires.ready.ready.each
+    (λ a b is torn. torn_on row r.parity r.first r.second (2 + length message) a b is (subst (λ k. Torn k (2 + length message) a b) end torn)) c.write_message.ensures.moves in
     let q = c.stage.new.self in
     let stood : Moves m (StandsOn row) r.disk q.disk = staged m row message r.disk w.disk q.disk wrote c.stage.ensures.moves in
     let was = c.in_ok-stage.ensures.staged in
     let size : c.len-length.result ≡ length message = c.len-length.ensures.value in
-    let is : bytes ≡ spelled message = ap (λ k. take (2 + k) c.spell-record.result) size ∙ c.spell-record.ensures in
     let count : c.value-count.result.0 ≡ r.first = ap (λ (v : ℕ × ℕ). v.0) c.value-count.ensures in
-    let same : (q.first, q.second) ≡ (r.first, r.second) = c.stage.ensures.value ∙ c.write_beside.ensures.value in
+    let same : (q.first, q.second) ≡ (r.first, r.second) = c.stage.ensures.value ∙ c.write_message.ensures.value in
     let next : (q.next_first, q.next_second) ≡ (r.first + 1, r.second + 2 + length message) =
     c.in_ok-stage.ensures.next ∙ (λ i. (count i + 1, end i + 2 + size i)) in
     let written : m.tells → StandsAt r.second message (m.reading w.disk) = λ told.
-    at_written r.second message bytes (m.reading r.disk) (m.reading w.disk) is
+    at_written r.second message (spelled message) (m.reading r.disk) (m.reading w.disk) refl
     (let stands = c.requires.ready.stands told in end_within row r.parity r.first r.second stands.0 (m.reading r.disk) (c.requires.ready.ready.each.reading told) stands.1)
-    (subst (λ k. Holds (m.reading r.disk) k bytes (m.reading w.disk)) end (c.in_ok-write_beside.ensures.written told)) in
+    (subst (λ k. Holds (m.reading r.disk) k (spelled message) (m.reading w.disk)) end (c.in_ok-write_message.ensures.written told)) in
     let has : Each m (StandsAt r.second message) q.disk =
     at_settled m row message r.second w.disk q.disk c.requires.ready.from written c.stage.ensures.moves c.in_ok-stage.ensures.settled in
     let selects : Each m (Selects q.parity r.first r.second) q.disk = subst (λ (f : ℕ × ℕ). Each m (Selects q.parity f.0 f.1) q.disk) same was.ready.each in
@@ -119,25 +113,23 @@ returns-clause-taken g c = λ told.
     let r = s.register in
     let message = c.args.payload.now in
     let short = c.requires.ready.short in
-    let bytes = take (2 + c.len-length.result) c.spell-record.result in
     let end : c.value-count.result.1 ≡ r.second = ap (λ (v : ℕ × ℕ). v.1) c.value-count.ensures in
-    let w = c.write_beside.new.register in
+    let w = c.write_message.new.self in
     let wrote : Moves m (StandsOn row) r.disk w.disk =
-    weaker m (Selects r.parity r.first r.second) (Torn c.value-count.result.1 (length bytes)) (StandsOn row) r.disk w.disk c.requires.ready.ready.each
-    (λ a b is torn. torn_on row r.parity r.first r.second (length bytes) a b is (subst (λ k. Torn k (length bytes) a b) end torn)) c.write_beside.ensures.moves in
+    weaker m (Selects r.parity r.first r.second) (Torn c.value-count.result.1 (2 + length message)) (StandsOn row) r.disk w.disk c.requires.ready.ready.each
+    (λ a b is torn. torn_on row r.parity r.first r.second (2 + length message) a b is (subst (λ k. Torn k (2 + length message) a b) end torn)) c.write_message.ensures.moves in
     let q = c.stage.new.self in
     let stood : Moves m (StandsOn row) r.disk q.disk = staged m row message r.disk w.disk q.disk wrote c.stage.ensures.moves in
     let was = c.in_ok-stage.ensures.staged in
     let size : c.len-length.result ≡ length message = c.len-length.ensures.value in
-    let is : bytes ≡ spelled message = ap (λ k. take (2 + k) c.spell-record.result) size ∙ c.spell-record.ensures in
     let count : c.value-count.result.0 ≡ r.first = ap (λ (v : ℕ × ℕ). v.0) c.value-count.ensures in
-    let same : (q.first, q.second) ≡ (r.first, r.second) = c.stage.ensures.value ∙ c.write_beside.ensures.value in
+    let same : (q.first, q.second) ≡ (r.first, r.second) = c.stage.ensures.value ∙ c.write_message.ensures.value in
     let next : (q.next_first, q.next_second) ≡ (r.first + 1, r.second + 2 + length message) =
     c.in_ok-stage.ensures.next ∙ (λ i. (count i + 1, end i + 2 + size i)) in
     let written : m.tells → StandsAt r.second message (m.reading w.disk) = λ told.
-    at_written r.second message bytes (m.reading r.disk) (m.reading w.disk) is
+    at_written r.second message (spelled message) (m.reading r.disk) (m.reading w.disk) refl
     (let stands = c.requires.ready.stands told in end_within row r.parity r.first r.second stands.0 (m.reading r.disk) (c.requires.ready.ready.each.reading told) stands.1)
-    (subst (λ k. Holds (m.reading r.disk) k bytes (m.reading w.disk)) end (c.in_ok-write_beside.ensures.written told)) in
+    (subst (λ k. Holds (m.reading r.disk) k (spelled message) (m.reading w.disk)) end (c.in_ok-write_message.ensures.written told)) in
     let has : Each m (StandsAt r.second message) q.disk =
     at_settled m row message r.second w.disk q.disk c.requires.ready.from written c.stage.ensures.moves c.in_ok-stage.ensures.settled in
     let selects : Each m (Selects q.parity r.first r.second) q.disk = subst (λ (f : ℕ × ℕ). Each m (Selects q.parity f.0 f.1) q.disk) same was.ready.each in
@@ -148,10 +140,10 @@ returns-clause-taken g c = λ told.
     taken m row message q.parity r.first r.second (m.reading r.disk) (m.reading q.disk) (m.reading n.disk) c.requires.fits short
     (selects.reading told) (stood.reads told) (has.reading told) outside value
 
-pub returns-in_err-write_beside-clause-during : goal.returns-in_err-write_beside-clause-during
-returns-in_err-write_beside-clause-during g c = λ messages stands.
+pub returns-in_err-write_message-clause-during : goal.returns-in_err-write_message-clause-during
+returns-in_err-write_message-clause-during g c = λ messages stands.
     let s = c.args.self.now in
-    stored_during g.D.Disk.told s.row c.args.payload.now messages s.register.disk c.write_beside.new.register.disk c.requires.ready.settled stands (returns-in_err-write_beside-clause-moves g c)
+    stored_during g.D.Disk.told s.row c.args.payload.now messages s.register.disk c.write_message.new.self.disk c.requires.ready.settled stands (returns-in_err-write_message-clause-moves g c)
 
 pub returns-in_err-stage-clause-during : goal.returns-in_err-stage-clause-during
 returns-in_err-stage-clause-during g c = λ messages stands.

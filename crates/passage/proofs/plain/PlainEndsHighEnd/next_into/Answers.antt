@@ -1,7 +1,7 @@
-use Rattle.std.proofs.Common.{rules, ◌≡◌, refl, sym, ap, ◌∙◌}
+use Rattle.std.proofs.Common.{◌≡◌, refl, sym, ap, ◌∙◌}
 use Rattle.std.specs.Prelude.{option_copied}
 use Rattle.pump_frame.specs.declared.frame.Item.{Item}
-use Rattle.passage.proofs.PlainSteps.{gives_copy, none_from}
+use Rattle.passage.proofs.PlainSteps.{gives_copy}
 use Rattle.passage.proofs.plain.PlainEndsHighEnd.next_into.Goals as goal
 
 pub returns-clause-step : goal.returns-clause-step

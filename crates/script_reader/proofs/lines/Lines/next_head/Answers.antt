@@ -40,8 +40,8 @@ returns-in-Ok-eq0-clause-reads g c =
     let fill = c.in-Ok-eq0.ensures in
     last_reads c.args.self.now c.fill.new.self c.last.new.self _ _ (lined_with c.turns.body c.last.result)
     (reads_more _ c.turns.self.held _ fill.fills.0 _ _ _ c.turns.invariant.4
-        (unready c.turns.self.held (rw (← c.held.ensures.held) (sym c.line_end.ensures ∙ c.in_default.is)) (rw (← c.held-in-turns.ensures.held) c.if-held-gt2400.false))
-        fill.fills.3 fill.fills.2)
+    (unready c.turns.self.held (rw (← c.held.ensures.held) (sym c.line_end.ensures ∙ c.in_default.is)) (rw (← c.held-in-turns.ensures.held) c.if-held-gt2400.false))
+    fill.fills.3 fill.fills.2)
     (λ none. (ap (lined_with c.turns.body) (c.last.ensures.end none).0, (c.last.ensures.end none).1))
     (λ some. (ap (lined_with c.turns.body) (c.last.ensures.bad some).0, (c.last.ensures.bad some).1))
 

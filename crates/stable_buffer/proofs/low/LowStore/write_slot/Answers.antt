@@ -1,4 +1,4 @@
-use Rattle.std.proofs.Common.{◌≡◌, ℕ, ◌+◌, length, take, ◌∙◌, ap, subst, arith}
+use Rattle.std.proofs.Common.{◌≡◌, ℕ, ◌+◌, length, ◌∙◌, ap, refl, subst, arith}
 use Rattle.std.proofs.lemmas.Result.{on_ok_weaker}
 use Rattle.disk_model.specs.Disk.{Torn, Holds}
 use Rattle.disk_model.proofs.Run.{weaker}
@@ -13,28 +13,22 @@ returns-clause-slot g c =
     let m = g.D.Disk.told in
     let message = c.args.payload.now in
     let number : c.value-number.result.0 ≡ s.register.first = ap (λ (v : ℕ × ℕ). v.0) c.value-number.ensures in
-    let bytes = take (2 + c.len.result) c.spell-slot.result in
-    let is : bytes ≡ spelled message = ap (λ k. take (2 + k) c.spell-slot.result) c.len.ensures.value ∙ c.spell-slot.ensures in
     let old = m.reading s.register.disk in
-    on_ok_weaker c.write_beside.result
-    (λ written told. let new = m.reading c.write_beside.new.self.disk in
-    slot_written s.row s.register.first c.value-number.result.0 message bytes old new
-    c.requires.ready.ranges.some number is c.requires.fits (let stands = c.requires.ready.stands told in stands.2.size)
-    (subst (λ p. Holds old p bytes new) c.place-at.ensures.place (written told)))
-    c.write_beside.ensures.written
+    on_ok_weaker c.write_message.result
+    (λ written told. let new = m.reading c.write_message.new.self.disk in
+    slot_written s.row s.register.first c.value-number.result.0 message (spelled message) old new
+    c.requires.ready.ranges.some number refl c.requires.fits (let stands = c.requires.ready.stands told in stands.2.size)
+    (subst (λ p. Holds old p (spelled message) new) c.place-at.ensures.place (written told)))
+    c.write_message.ensures.written
 
 pub returns-clause-moves : goal.returns-clause-moves
 returns-clause-moves g c =
     let s = c.args.self.now in
     let m = g.D.Disk.told in
     let r = s.register in
-    let message = c.args.payload.now in
-    let bytes = take (2 + c.len.result) c.spell-slot.result in
-    let n = length bytes in
+    let n = 2 + length c.args.payload.now in
     let place : c.place-at.result ≡ slot_of s.row r.first = c.place-at.ensures.place ∙ ap (λ (v : ℕ × ℕ). slot_of s.row v.0) c.value-number.ensures in
-    let is : bytes ≡ spelled message = ap (λ k. take (2 + k) c.spell-slot.result) c.len.ensures.value ∙ c.spell-slot.ensures in
-    let size : n ≡ 2 + length message = omega (arith, ap length is) in
-    weaker m (Selects r.parity r.first r.second) (Torn c.place-at.result n) (StandsOn s.row) r.disk c.write_beside.new.self.disk c.requires.ready.ready.each
-    (λ a b is' torn. slot_torn_stands_on s.row r.parity r.first r.second n a b c.requires.ready.ranges.some (omega (arith, size, c.requires.fits)) is'
+    weaker m (Selects r.parity r.first r.second) (Torn c.place-at.result n) (StandsOn s.row) r.disk c.write_message.new.self.disk c.requires.ready.ready.each
+    (λ a b is' torn. slot_torn_stands_on s.row r.parity r.first r.second n a b c.requires.ready.ranges.some (omega (arith, c.requires.fits)) is'
     (subst (λ p. Torn p n a b) place torn))
-    c.write_beside.ensures.moves
+    c.write_message.ensures.moves

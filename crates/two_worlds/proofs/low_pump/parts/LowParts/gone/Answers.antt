@@ -1,4 +1,5 @@
 use Rattle.two_worlds.proofs.ToldLines.{gone_stands, gone_ends}
+use Rattle.two_worlds.specs.Printing.{lines_in}
 use Rattle.two_worlds.proofs.low_pump.parts.LowParts.gone.Goals as goal
 
 pub look_gone-requires-clause-stands : goal.look_gone-requires-clause-stands
@@ -7,4 +8,4 @@ look_gone-requires-clause-stands c = gone_stands c.args.self.now c.lose.new.self
 pub returns-clause-ends : goal.returns-clause-ends
 returns-clause-ends c =
     gone_ends c.args.self.now c.lose.new.self c.lose.ensures
-    c.look_gone.new.self c.args.moment c.look_gone.new.out.items c.look_gone.result c.look_gone.ensures.ends
+    c.look_gone.new.self c.args.moment (lines_in c.look_gone.new.out.items) c.look_gone.result c.look_gone.ensures.ends

@@ -1,27 +1,38 @@
-use Rattle.std.proofs.Common.{refl}
+use Rattle.std.proofs.Common.{◌≡◌, ◌∙◌, refl, sym, ap, subst}
+use Rattle.low_process.specs.Looks.{row_of}
 use Rattle.pump_core.specs.History.{Gone}
 use Rattle.script_reader.specs.declared.line.ToldFeedback.TheVariants.{Quiet}
+use Rattle.low_process.specs.Heads.{ask_with, look_with}
+use Rattle.pump_frame.specs.declared.row.SessionRow.{SessionRow}
+use Rattle.two_worlds.specs.declared.low_pump.parts.LowParts.{LowParts}
+use Rattle.two_worlds.specs.Printing.{lines_in, look_prints}
+use Rattle.two_worlds.specs.LowParts.{AnsweredBy}
 use Rattle.two_worlds.proofs.LowPartsReady.{is_between, row_lawful, in_order, has_store}
 use Rattle.two_worlds.proofs.ToldEnds.{gone_ends}
 use Rattle.two_worlds.proofs.low_pump.parts.LowParts.look_gone.Goals as goal
 
-pub begin-ask-requires-clause-between : goal.begin-ask-requires-clause-between
-begin-ask-requires-clause-between c = is_between c.args.self.now c.requires.stands
+pub begin_into-ask-requires-clause-between : goal.begin_into-ask-requires-clause-between
+begin_into-ask-requires-clause-between c = is_between c.args.self.now c.requires.stands
 
-pub begin-ask-requires-clause-order : goal.begin-ask-requires-clause-order
-begin-ask-requires-clause-order c = in_order c.args.self.now c.requires.stands c.args.moment c.requires.order
+pub begin_into-ask-requires-clause-order : goal.begin_into-ask-requires-clause-order
+begin_into-ask-requires-clause-order c = in_order c.args.self.now c.requires.stands c.args.moment c.requires.order
 
-pub begin-ask-requires-clause-store : goal.begin-ask-requires-clause-store
-begin-ask-requires-clause-store c = has_store c.args.self.now c.requires.stands
+pub begin_into-ask-requires-clause-store : goal.begin_into-ask-requires-clause-store
+begin_into-ask-requires-clause-store c = has_store c.args.self.now c.requires.stands
 
-pub answer-look-requires-clause-row : goal.answer-look-requires-clause-row
-answer-look-requires-clause-row c = row_lawful c.args.self.now c.requires.stands
+pub answer-requires-clause-row : goal.answer-requires-clause-row
+answer-requires-clause-row c = row_lawful c.args.self.now c.requires.stands
 
 pub returns-clause-ends : goal.returns-clause-ends
-returns-clause-ends c =
-    let b = c.begin-ask.ensures in
-    let e = c.answer-look.new.self in
+returns-clause-ends c = λ p was.
+    let b = c.begin_into-ask.ensures in
+    let e = c.answer.new.self in
     let g = c.end_look.ensures in
-    gone_ends c.args.self.now e c.end_look.new.self c.begin-ask.new.self c.begin-ask.new.store c.args.moment 0 Quiet
-    Gone c.begin-ask.result c.answer-look.result b.begins b.hand b.store b.row b.last c.answer-look.ensures.answered c.answer-look.ensures.rest
-    e.connection g.rest c.end_look.new.out.items c.end_look.result g.events g.stop refl c.requires.unused refl
+    let mid = c.begin_into-ask.new.self in
+    let row = row_of c.args.self.now.process in
+    let answered = subst (λ (r : SessionRow). AnsweredBy c.args.self.now.row Quiet mid c.answer.new.self.process (ask_with r mid c.begin_into-ask.new.head c.begin_into-ask.result) (look_with r c.answer.new.head)) b.row c.answer.ensures.answered in
+    let kept = ap (λ (t : LowParts). t.row) c.answer.ensures.rest ∙ sym was.of_row in
+    let prints = subst (λ (r : SessionRow). lines_in c.end_look.new.out.items ≡ look_prints c.answer.new.self.row.id c.args.moment (look_with r c.answer.new.head)) kept g.events in
+    gone_ends c.args.self.now e c.end_look.new.self c.begin_into-ask.new.self c.begin_into-ask.new.store c.args.moment 0 Quiet
+    Gone (ask_with row mid c.begin_into-ask.new.head c.begin_into-ask.result) (look_with row c.answer.new.head) b.begins b.hand b.store b.row b.last answered c.answer.ensures.rest
+    e.connection g.rest (lines_in c.end_look.new.out.items) c.end_look.result prints g.stop refl c.requires.unused refl p was

@@ -11,6 +11,7 @@ use Rattle.two_worlds.proofs.Carries.{leads_by, breaks, overfull, returned}
 use Rattle.two_worlds.proofs.CarryServes.{answered_with, serves_ok, serves_device, serves_full}
 use Rattle.two_worlds.proofs.PartsReady.{recv_is_ready}
 use Rattle.two_worlds.proofs.Packets.{keep_last_some}
+use Rattle.two_worlds.specs.Printing.{lines_in}
 use Rattle.two_worlds.proofs.pump.parts.Parts.carry.Goals as goal
 
 pub take-requires-clause-ready : goal.take-requires-clause-ready
@@ -43,10 +44,9 @@ returns-in-Ok-clause-does g c =
     let at = sym c.nth_back.ensures ∙ ap option_copied c.in-Some.is in
     λ p stands.
     let w = answered_with m s c.requires.stands c.args.back item c.requires.back at c.take.new.self c.take.result (Ok c.in-Ok.taken) (c.in-Ok.is) c.take.ensures.at_once c.take.ensures.unchanged c.take.ensures.stores in
-    let r = leads_by m s p c.args.back item stands c.requires.back at c.take.new.self c.in-Ok.taken c.push_back.new.self c.args.out.now.items
+    let r = leads_by m s p c.args.back item stands c.requires.back at c.take.new.self c.in-Ok.taken c.push_back.new.self (lines_in c.args.out.now.items)
     (returned s.returned c.push_back.new.self item.number stands.packets.returned c.push_back.ensures.items) c.take.ensures.row c.take.ensures.size w in
-    let printed = c.push.ensures.items ∙ ap (λ e. c.args.out.now.items ++ e ∷ []) c.event_of.ensures in
-    (r.0, r.1, r.2, printed ∙ r.3, r.4, r.5)
+    (r.0, r.1, r.2, c.put_taken.ensures.items ∙ r.3, r.4, r.5)
 
 pub returns-in-Ok-clause-serve : goal.returns-in-Ok-clause-serve
 returns-in-Ok-clause-serve g c =
@@ -73,7 +73,7 @@ returns-in-Err-Device-clause-does g c =
     λ p stands.
     let w = answered_with m s c.requires.stands c.args.back item c.requires.back at c.take.new.self c.take.result (Err (Device c.in-Err-Device.faults)) (c.in-Err-Device.is ∙ ap (λ f. Err f) c.in-Err-Device.field-0-is) c.take.ensures.at_once c.take.ensures.unchanged c.take.ensures.stores in
     let b = breaks m s p c.args.back item stands c.requires.back at c.take.new.self c.in-Err-Device.faults w in
-    (b.0, [], (refl, b.1, refl), sym (append-nil c.args.out.now.items), b.2, b.3)
+    (b.0, [], (refl, b.1, refl), sym (append-nil (lines_in c.args.out.now.items)), b.2, b.3)
 
 pub returns-in-Err-Device-clause-serve : goal.returns-in-Err-Device-clause-serve
 returns-in-Err-Device-clause-serve g c =
@@ -93,7 +93,7 @@ returns-in-Err-LogFull-clause-does g c =
     λ p stands.
     let w = answered_with m s c.requires.stands c.args.back item c.requires.back at c.take.new.self c.take.result (Err (LogFull c.in-Err-LogFull.end c.in-Err-LogFull.length c.in-Err-LogFull.size)) (c.in-Err-LogFull.is ∙ ap (λ f. Err f) c.in-Err-LogFull.field-0-is) c.take.ensures.at_once c.take.ensures.unchanged c.take.ensures.stores in
     let o = overfull m s p c.args.back item stands c.requires.back at c.take.new.self c.in-Err-LogFull.end c.in-Err-LogFull.length c.in-Err-LogFull.size w in
-    (p, [], (refl, o.0, refl), sym (append-nil c.args.out.now.items), o.1, o.2)
+    (p, [], (refl, o.0, refl), sym (append-nil (lines_in c.args.out.now.items)), o.1, o.2)
 
 pub returns-in-Err-LogFull-clause-serve : goal.returns-in-Err-LogFull-clause-serve
 returns-in-Err-LogFull-clause-serve g c =

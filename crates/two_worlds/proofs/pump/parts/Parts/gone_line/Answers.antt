@@ -1,6 +1,7 @@
 use Rattle.std.proofs.Math.Logic.{∥∥₁_map}
 use Rattle.two_worlds.proofs.PartsConnected.{some_lost}
 use Rattle.two_worlds.proofs.LineRuns.{gone_runs}
+use Rattle.two_worlds.specs.Printing.{lines_in}
 use Rattle.two_worlds.proofs.pump.parts.Parts.gone_line.Goals as goal
 
 pub look_gone-requires-clause-stands : goal.look_gone-requires-clause-stands
@@ -8,4 +9,4 @@ look_gone-requires-clause-stands g c = ∥∥₁_map c.requires.stands (some_los
 
 pub returns-clause-runs : goal.returns-clause-runs
 returns-clause-runs g c =
-    gone_runs g.D.Disk.told c.args.self.now c.look_gone.new.self c.lose.new.self c.args.out.now.items c.look_gone.new.out.items c.look_gone.result c.args.moment c.lose.ensures c.look_gone.ensures.does
+    gone_runs g.D.Disk.told c.args.self.now c.look_gone.new.self c.lose.new.self (lines_in c.args.out.now.items) (lines_in c.look_gone.new.out.items) c.look_gone.result c.args.moment c.lose.ensures c.look_gone.ensures.does

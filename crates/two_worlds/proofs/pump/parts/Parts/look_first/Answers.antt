@@ -6,7 +6,7 @@ use Rattle.two_worlds.specs.Connections.{waits_of, is_broken_of, reading_of}
 use Rattle.low_process.specs.Looks.{arrival_of, row_of}
 use Rattle.pump_frame.specs.declared.row.SessionRow.{SessionRow}
 use Rattle.low_process.specs.Heads.{look_with}
-use Rattle.two_worlds.specs.Printing.{look_prints}
+use Rattle.two_worlds.specs.Printing.{lines_in, look_prints}
 use Rattle.two_worlds.specs.declared.pump.parts.Parts.{Parts}
 use Rattle.two_worlds.proofs.PartsReady.{low_has_store}
 use Rattle.two_worlds.proofs.PartsEnds.{low_between, low_order, low_seen, high_seen, ends_seen, low_fits_seen}
@@ -60,7 +60,7 @@ returns g c =
     let so = looked_as m s d now.self c.args.moment c.args.word a e.looks.0 l end.rest did in
     let stop = stops_as m d now.self c.end_look.result end.rest end.stop in
     record {
-      does = λ p stands. offered_does m s now.self c.args.moment c.args.word a l c.requires.order c.args.out.now.items now.out.items (subst (λ (r : SessionRow). now.out.items ≡ c.args.out.now.items ++ look_prints s.row.id c.args.moment (look_with r head)) e.row end.prints) p stands e.looks.0 c.end_look.result
+      does = λ p stands. offered_does m s now.self c.args.moment c.args.word a l c.requires.order (lines_in c.args.out.now.items) (lines_in now.out.items) (subst (λ (r : SessionRow). lines_in now.out.items ≡ lines_in c.args.out.now.items ++ look_prints s.row.id c.args.moment (look_with r head)) (sym stands.low_ready.row) end.prints) p stands e.looks.0 c.end_look.result
           (c.first-arrival.ensures.offered ∙ (λ i. first_of (stands.broken i) (stands.waits i))) so stop;
       serve = low_serves m s now.self c.args.moment c.args.word a e.looks.0 l so c.requires.stands c.end_look.result stop;
       row = row_as s d now.self end.rest refl;

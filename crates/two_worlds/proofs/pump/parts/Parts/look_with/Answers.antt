@@ -4,13 +4,16 @@ use Rattle.std.specs.Coded.{le_prop}
 use Rattle.high_process.specs.Tasks.{frame_of}
 use Rattle.high_process.specs.States.{task_at}
 use Rattle.high_process.specs.declared.values.HighFault.TheVariants.{Ahead, Behind, Device}
-use Rattle.two_worlds.specs.HighLooks.{printed_look}
+use Rattle.two_worlds.specs.HighLooks.{ComesBack, most_lines, printed_look}
 use Rattle.two_worlds.specs.Standing.{high_past_of}
 use Rattle.two_worlds.proofs.PartsReady.{high_is_ready, high_is_up, high_is_between, high_is_timely, high_counts}
 use Rattle.two_worlds.proofs.PartsEnds.{low_seen, high_seen, ends_seen, high_fits_seen}
 use Rattle.two_worlds.proofs.HighServes.{removes_behind, looked_serves, broken_serves, refused_serves, asks_no_device, comes_not_behind}
 use Rattle.two_worlds.proofs.HighLooking.{looks, led, lines_by}
 use Rattle.two_worlds.proofs.HighFailing.{fared, breaks, refused}
+use Rattle.std.proofs.lemmas.List.{length-map}
+use Rattle.script_reader.specs.EventHeads.{event_of}
+use Rattle.two_worlds.specs.Printing.{lines_in}
 use Rattle.two_worlds.proofs.pump.parts.Parts.look_with.Goals as goal
 
 pub look-requires-clause-between : goal.look-requires-clause-between
@@ -38,85 +41,88 @@ look-requires-clause-ends g c =
 pub tell_high-requires : goal.tell_high-requires
 tell_high-requires g c = record {
   out = ∥∥₁_elim c.requires.stands le_prop (λ s.
-      let few = lines_by c.args.self.now s.0 s.1 c.look.new.self c.look.new.ends c.args.moment (frame_of c.args.frame) c.in-Ok.look c.in-Ok.ensures.looks in
-      omega (arith, few, c.requires.out));
+      let few = lines_by c.args.self.now s.0 s.1 c.look.new.self c.look.new.ends c.args.moment (frame_of c.frame_back-frame.result) c.in-Ok.look c.in-Ok.ensures.looks in
+      omega (arith, few, c.requires.out, ap most_lines c.frame_back-frame.ensures));
 }
 
 pub returns-in-Ok-clause-does : goal.returns-in-Ok-clause-does
-returns-in-Ok-clause-does g c = λ p s back comes.
+returns-in-Ok-clause-does g c = λ p s back given.
     let m = g.D.Disk.told in
+    let comes = subst (λ f. ComesBack c.args.self.now.row.id p.world f back) (sym c.frame_back-frame.ensures) given in
     let d = c.args.self.now in
     let looked = c.in-Ok.ensures.looks s.ends.low s.ends.high (high_past_of d p) (s.ends.stand, s.ends.high_fits) s.high_ready.past in
     led m d p s c.args.moment c.requires.order c.look.new.self c.look.new.store c.look.new.ends back c.in-Ok.look
-    (looks m d p s c.args.moment c.requires.order c.look.new.self c.look.new.store c.look.new.ends c.in-Ok.look c.in-Ok.ensures.store c.in-Ok.ensures.count c.in-Ok.ensures.up c.look.ensures.between c.look.ensures.row c.look.ensures.shape (frame_of c.args.frame) back comes c.in-Ok.ensures.fares looked c.look.ensures.images)
-    c.args.out.now.items c.tell_high.new.out.items c.tell_high.ensures.out c.tell_high.new.self c.tell_high.ensures.rest
+    (looks m d p s c.args.moment c.requires.order c.look.new.self c.look.new.store c.look.new.ends c.in-Ok.look c.in-Ok.ensures.store c.in-Ok.ensures.count c.in-Ok.ensures.up c.look.ensures.between c.look.ensures.row c.look.ensures.shape (frame_of c.frame_back-frame.result) back comes c.in-Ok.ensures.fares looked c.look.ensures.images)
+    (lines_in c.args.out.now.items) (lines_in c.tell_high.new.out.items) c.tell_high.ensures.out c.tell_high.new.self c.tell_high.ensures.rest
 
 pub returns-in-Ok-clause-serve : goal.returns-in-Ok-clause-serve
 returns-in-Ok-clause-serve g c =
     let m = g.D.Disk.told in
     let d = c.args.self.now in
-    let frame = frame_of c.args.frame in
+    let frame = frame_of c.frame_back-frame.result in
     looked_serves m d c.args.moment c.look.new.self c.look.new.store c.look.new.ends c.in-Ok.look (task_at d.high frame) c.in-Ok.ensures.fares
-    (removes_behind m d c.look.new.self c.look.new.store frame c.requires.stands c.requires.back c.look.ensures.images) c.tell_high.new.self c.tell_high.ensures.rest
+    (removes_behind m d c.look.new.self c.look.new.store frame c.requires.stands (λ p s. (let b = c.requires.back p s in (b.0, subst (λ f. ComesBack c.args.self.now.row.id p.world f b.0) (sym c.frame_back-frame.ensures) b.1))) c.look.ensures.images) c.tell_high.new.self c.tell_high.ensures.rest
 
 pub returns-in-Ok-clause-out : goal.returns-in-Ok-clause-out
 returns-in-Ok-clause-out g c = ∥∥₁_elim c.requires.stands le_prop (λ s.
     let d = c.args.self.now in
-    let few = lines_by d s.0 s.1 c.look.new.self c.look.new.ends c.args.moment (frame_of c.args.frame) c.in-Ok.look c.in-Ok.ensures.looks in
-    omega (arith, few, ap length c.tell_high.ensures.out, length-append c.args.out.now.items (printed_look d.row.id c.args.moment c.in-Ok.look)))
+    let few = lines_by d s.0 s.1 c.look.new.self c.look.new.ends c.args.moment (frame_of c.frame_back-frame.result) c.in-Ok.look c.in-Ok.ensures.looks in
+    omega (arith, few, ap most_lines c.frame_back-frame.ensures, ap length c.tell_high.ensures.out, length-append (lines_in c.args.out.now.items) (printed_look d.row.id c.args.moment c.in-Ok.look), length-map c.args.out.now.items event_of, length-map c.tell_high.new.out.items event_of))
 
 pub returns-in-Err-Device-clause-does : goal.returns-in-Err-Device-clause-does
-returns-in-Err-Device-clause-does g c = λ p s back comes.
+returns-in-Err-Device-clause-does g c = λ p s back given.
     let m = g.D.Disk.told in
+    let comes = subst (λ f. ComesBack c.args.self.now.row.id p.world f back) (sym c.frame_back-frame.ensures) given in
     let d = c.args.self.now in
-    let task = task_at d.high (frame_of c.args.frame) in
+    let task = task_at d.high (frame_of c.frame_back-frame.result) in
     let fares = fared m task d.high c.look.new.self d.high_store c.look.new.store c.look.result (Device c.in-Err-Device.faults) (c.in-Err-Device.is ∙ ap (λ f. Err f) c.in-Err-Device.field-0-is) c.look.ensures.fares in
-    let b = breaks m d p s c.args.moment c.requires.order c.look.new.self c.look.new.store c.look.new.ends (frame_of c.args.frame) back c.in-Err-Device.faults comes fares c.look.ensures.images in
-    (b.end, [], b.breaks, sym (append-nil c.args.out.now.items), b.fails, b.fits)
+    let b = breaks m d p s c.args.moment c.requires.order c.look.new.self c.look.new.store c.look.new.ends (frame_of c.frame_back-frame.result) back c.in-Err-Device.faults comes fares c.look.ensures.images in
+    (b.end, [], b.breaks, sym (append-nil (lines_in c.args.out.now.items)), b.fails, b.fits)
 
 pub returns-in-Err-Device-clause-serve : goal.returns-in-Err-Device-clause-serve
 returns-in-Err-Device-clause-serve g c =
     let m = g.D.Disk.told in
     let d = c.args.self.now in
-    let frame = frame_of c.args.frame in
+    let frame = frame_of c.frame_back-frame.result in
     let task = task_at d.high frame in
     let fares = fared m task d.high c.look.new.self d.high_store c.look.new.store c.look.result (Device c.in-Err-Device.faults) (c.in-Err-Device.is ∙ ap (λ f. Err f) c.in-Err-Device.field-0-is) c.look.ensures.fares in
     record {
       low = inl (refl, refl);
-      high = broken_serves m d c.look.new.self c.look.new.store frame task c.in-Err-Device.faults fares (asks_no_device m d c.look.new.self c.look.new.store frame c.requires.stands c.requires.back c.in-Err-Device.faults);
+      high = broken_serves m d c.look.new.self c.look.new.store frame task c.in-Err-Device.faults fares (asks_no_device m d c.look.new.self c.look.new.store frame c.requires.stands (λ p s. (let b = c.requires.back p s in (b.0, subst (λ f. ComesBack c.args.self.now.row.id p.world f b.0) (sym c.frame_back-frame.ensures) b.1))) c.in-Err-Device.faults);
       recv = inl (refl, refl);
-      behind = removes_behind m d c.look.new.self c.look.new.store frame c.requires.stands c.requires.back c.look.ensures.images;
+      behind = removes_behind m d c.look.new.self c.look.new.store frame c.requires.stands (λ p s. (let b = c.requires.back p s in (b.0, subst (λ f. ComesBack c.args.self.now.row.id p.world f b.0) (sym c.frame_back-frame.ensures) b.1))) c.look.ensures.images;
     }
 
 pub returns-in-Err-Ahead-clause-does : goal.returns-in-Err-Ahead-clause-does
-returns-in-Err-Ahead-clause-does g c = λ p s back comes.
+returns-in-Err-Ahead-clause-does g c = λ p s back given.
     let m = g.D.Disk.told in
+    let comes = subst (λ f. ComesBack c.args.self.now.row.id p.world f back) (sym c.frame_back-frame.ensures) given in
     let d = c.args.self.now in
-    let task = task_at d.high (frame_of c.args.frame) in
+    let task = task_at d.high (frame_of c.frame_back-frame.result) in
     let fares = fared m task d.high c.look.new.self d.high_store c.look.new.store c.look.result (Ahead c.in-Err-Ahead.field-0-0 c.in-Err-Ahead.field-0-1) (c.in-Err-Ahead.is ∙ ap (λ f. Err f) c.in-Err-Ahead.field-0-is) c.look.ensures.fares in
     let same = subst (λ r. OnErr r (c.look.new.ends ≡ d.ends)) c.in-Err-Ahead.is c.look.ensures.refused in
-    let b = refused m d p s c.args.moment c.requires.order c.look.new.self c.look.new.store c.look.new.ends (frame_of c.args.frame) back c.in-Err-Ahead.field-0-0 c.in-Err-Ahead.field-0-1 comes fares same in
-    (b.end, [], b.leads, sym (append-nil c.args.out.now.items), b.stand, b.fits)
+    let b = refused m d p s c.args.moment c.requires.order c.look.new.self c.look.new.store c.look.new.ends (frame_of c.frame_back-frame.result) back c.in-Err-Ahead.field-0-0 c.in-Err-Ahead.field-0-1 comes fares same in
+    (b.end, [], b.leads, sym (append-nil (lines_in c.args.out.now.items)), b.stand, b.fits)
 
 pub returns-in-Err-Ahead-clause-serve : goal.returns-in-Err-Ahead-clause-serve
 returns-in-Err-Ahead-clause-serve g c =
     let m = g.D.Disk.told in
     let d = c.args.self.now in
-    let frame = frame_of c.args.frame in
+    let frame = frame_of c.frame_back-frame.result in
     let task = task_at d.high frame in
     let fares = fared m task d.high c.look.new.self d.high_store c.look.new.store c.look.result (Ahead c.in-Err-Ahead.field-0-0 c.in-Err-Ahead.field-0-1) (c.in-Err-Ahead.is ∙ ap (λ f. Err f) c.in-Err-Ahead.field-0-is) c.look.ensures.fares in
     record {
       low = inl (refl, refl);
       high = refused_serves m d c.look.new.self c.look.new.store frame task c.in-Err-Ahead.field-0-0 c.in-Err-Ahead.field-0-1 fares;
       recv = inl (refl, refl);
-      behind = removes_behind m d c.look.new.self c.look.new.store frame c.requires.stands c.requires.back c.look.ensures.images;
+      behind = removes_behind m d c.look.new.self c.look.new.store frame c.requires.stands (λ p s. (let b = c.requires.back p s in (b.0, subst (λ f. ComesBack c.args.self.now.row.id p.world f b.0) (sym c.frame_back-frame.ensures) b.1))) c.look.ensures.images;
     }
 
 pub unreachable-requires : goal.unreachable-requires
 unreachable-requires g c =
     let m = g.D.Disk.told in
     let d = c.args.self.now in
-    let frame = frame_of c.args.frame in
+    let frame = frame_of c.frame_back-frame.result in
     let task = task_at d.high frame in
     let fares = fared m task d.high c.look.new.self d.high_store c.look.new.store c.look.result (Behind c.in-Err-Behind.field-0-0 c.in-Err-Behind.field-0-1) (c.in-Err-Behind.is ∙ ap (λ f. Err f) c.in-Err-Behind.field-0-is) c.look.ensures.fares in
-    comes_not_behind m d c.look.new.self c.look.new.store frame c.requires.stands c.requires.back c.look.new.ends c.in-Err-Behind.field-0-0 c.in-Err-Behind.field-0-1 fares
+    comes_not_behind m d c.look.new.self c.look.new.store frame c.requires.stands (λ p s. (let b = c.requires.back p s in (b.0, subst (λ f. ComesBack c.args.self.now.row.id p.world f b.0) (sym c.frame_back-frame.ensures) b.1))) c.look.new.ends c.in-Err-Behind.field-0-0 c.in-Err-Behind.field-0-1 fares

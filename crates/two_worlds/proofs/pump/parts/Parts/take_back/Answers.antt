@@ -1,24 +1,34 @@
 use Rattle.std.proofs.Common.{◌≡◌, Some, [], refl}
+use Rattle.std.proofs.Math.Logic.{∥∥₁_map}
 use Rattle.disk_model.specs.declared.name.Role.TheVariants as roles
 use Rattle.script_reader.specs.Highs.{IsReturn, place}
 use Rattle.script_reader.specs.Breaks.{IsUnremoved}
 use Rattle.two_worlds.specs.Doing.{NeverOverfills}
 use Rattle.two_worlds.specs.HighLooks.{LeadsWith, BreaksWith}
 use Rattle.two_worlds.proofs.DoesMore.{does_more}
-use Rattle.two_worlds.proofs.HighReturning.{number_comes}
+use Rattle.two_worlds.proofs.HighReturning.{numbered, stands_numbered, comes_numbered}
+use Rattle.two_worlds.specs.Printing.{lines_in}
 use Rattle.two_worlds.proofs.pump.parts.Parts.take_back.Goals as goal
+
+pub look_with-requires-clause-stands : goal.look_with-requires-clause-stands
+look_with-requires-clause-stands g c = ∥∥₁_map c.requires.stands (λ s. (s.0, stands_numbered g.D.Disk.told c.args.self.now c.number_back-self.result s.0 s.1))
 
 pub look_with-requires-clause-back : goal.look_with-requires-clause-back
 look_with-requires-clause-back g c = λ p s.
-    (Some (place p.world.returned c.args.back), (refl, refl, number_comes g.D.Disk.told c.args.self.now p s c.args.back c.number_back.result c.requires.back c.number_back.ensures))
+    (Some (place p.world.returned c.args.back), comes_numbered g.D.Disk.told (numbered c.args.self.now c.number_back-self.result) p s c.args.back c.number_back-self.result c.requires.back c.number_back-self.ensures)
 
 pub returns-clause-does : goal.returns-clause-does
 returns-clause-does g c = λ p s.
     let m = g.D.Disk.told in
     let row = c.args.self.now.row in
     let k = place p.world.returned c.args.back in
-    does_more m c.args.self.now c.look_with.new.self c.args.out.now.items c.look_with.new.out.items p
+    let now = numbered c.args.self.now c.number_back-self.result in
+    let stands = stands_numbered m c.args.self.now c.number_back-self.result p s in
+    does_more m c.args.self.now now c.look_with.new.self (lines_in c.args.out.now.items) (lines_in c.look_with.new.out.items) p
     (LeadsWith row c.args.moment (Some k)) (λ p q printed. IsReturn row p c.args.moment (place p.world.returned c.args.back) q printed)
     (BreaksWith c.args.moment (Some k)) (λ role p q printed. (role ≡ roles.High) × IsUnremoved p c.args.moment (Some (place p.world.returned c.args.back)) q × (printed ≡ []))
-    NeverOverfills c.look_with.result (λ q printed h. h) (λ role q printed h. h)
-    (c.look_with.ensures.does p s (Some k) (refl, refl, number_comes m c.args.self.now p s c.args.back c.number_back.result c.requires.back c.number_back.ensures))
+    NeverOverfills c.look_with.result (λ q printed h. h) (λ role q printed h. h) (λ q f. record { low = f.low; high = f.high; recv = f.recv })
+    (c.look_with.ensures.does p stands (Some k) (comes_numbered m now p stands c.args.back c.number_back-self.result c.requires.back c.number_back-self.ensures))
+
+pub returns-clause-serve : goal.returns-clause-serve
+returns-clause-serve g c = let r = c.look_with.ensures.serve in record { low = r.low; high = r.high; recv = r.recv; behind = r.behind }

@@ -3,11 +3,14 @@ use Rattle.std.proofs.Common.{◌≡◌, ℕ, List, [], ◌∷◌, ◌++◌, opt
 use Rattle.pump_link.specs.Causes.{AppendsFront}
 use Rattle.script_reader.specs.declared.event.Event.{Event}
 use Rattle.script_reader.specs.declared.event.Event.TheVariants.{End}
+use Rattle.script_reader.specs.declared.event.EventHead.{EventHead}
+use Rattle.script_reader.specs.EventHeads.{event_of}
 use Rattle.script_reader.specs.Tolds.{LowPast}
 use Rattle.script_reader.specs.Scripts.{Begun, Whole, Alone, Ends, IsLowEnd}
 use Rattle.script_reader.specs.Transcript.{event_line, text}
 use Rattle.two_worlds.specs.LowPumps as low_pump
 use Rattle.two_worlds.specs.declared.low_pump.LowPump.{LowPump}
+use Rattle.two_worlds.specs.Printing.{lines_in}
 use Rattle.netpump.specs.declared.session.Session.{Session}
 use Rattle.netpump.specs.declared.session.Session.TheVariants as sessions
 use Rattle.netpump.specs.Sessions.{StandsFor}
@@ -27,7 +30,7 @@ alone_ends before id p next is ends running h = at running (subst (λ (s : Sessi
         (End id next None, subst (λ (e : Event). IsLowEnd s.row s.past e) same (subst (λ r. IsLowEnd r s.past (End (low_pump.low_row_of p).id next None)) h.is_of.1 low), refl)
 
 -- it was written after what was held, or a front of both was
-pub end_front : {T E : Type 0} (last : Option Event) (event : Event) (r : Result T E) (first second : List ℕ) (a b c : Option (List ℕ)) → last ≡ Some event
-    → Gathers first second a b (event_line event) → OnErr r (AppendsFront b c second) → OnErr r (AppendsFront a c (first ++ text (option_to_list last)))
-end_front last event r first second a b c is p q =
-    held_front r first second a b c _ _ (sym (text-one event) ∙ sym (ap (λ (o : Option Event). text (option_to_list o)) is)) p q
+pub end_front : {T E : Type 0} (last : Option EventHead) (head : EventHead) (r : Result T E) (first second : List ℕ) (a b c : Option (List ℕ)) → last ≡ Some head
+    → Gathers first second a b (event_line (event_of head)) → OnErr r (AppendsFront b c second) → OnErr r (AppendsFront a c (first ++ text (lines_in (option_to_list last))))
+end_front last head r first second a b c is p q =
+    held_front r first second a b c _ _ (sym (text-one (event_of head)) ∙ sym (ap (λ (o : Option EventHead). text (lines_in (option_to_list o))) is)) p q

@@ -1,12 +1,15 @@
 -- What is gathered before it is handed on.
-use Rattle.std.proofs.Common.{◌≡◌, ℕ, ◌+◌, ◌<◌, List, [], ◌∷◌, ◌++◌, Option, Result, Ok, Err, OnErr, length, take, drop, get_or, sym, ap, ◌∙◌, append_assoc, append-nil}
-use Rattle.std.proofs.lemmas.List.{take-append-drop, take_more}
+use Rattle.std.proofs.Common.{◌≡◌, ℕ, ◌+◌, ◌<◌, List, [], ◌∷◌, ◌++◌, Option, Result, Ok, Err, OnErr, length, take, drop, slice_index_or, sym, ap, ◌∙◌, append_assoc, append-nil}
+use Rattle.std.proofs.lemmas.List.{map-append, take-append-drop, take_more}
 use Rattle.std.proofs.lemmas.List.Concat.{flat_map-append}
 use Rattle.std.specs.Io.KnownBytes.{Appends}
 use Rattle.pump_link.specs.Causes.{AppendsFront}
 use Rattle.pump_link.proofs.Known.{Appends-none, Appends-then}
 use Rattle.script_reader.specs.declared.event.Event.{Event}
+use Rattle.script_reader.specs.declared.event.EventHead.{EventHead}
+use Rattle.script_reader.specs.EventHeads.{event_of}
 use Rattle.script_reader.specs.Transcript.{event_line, text}
+use Rattle.two_worlds.specs.Printing.{lines_in}
 use Rattle.netpump.specs.Outputs.{Gathers}
 
 pub text-more : (events more : List Event) → text (events ++ more) ≡ text events ++ text more
@@ -45,18 +48,26 @@ front_then first second a b c x y p q = (
 pub front_more : (a b : Option (List ℕ)) (x y : List ℕ) → AppendsFront a b x → AppendsFront a b (x ++ y)
 front_more a b x y p = (p.0, p.1 ++ y, ap (λ z. z ++ y) p.2 ∙ append_assoc p.0 p.1 y, p.3)
 
+-- the lines of these events
+abbrev text_of : List EventHead → List ℕ
+text_of heads = text (lines_in heads)
+
+text_of-more : (heads more : List EventHead) → text_of (heads ++ more) ≡ text_of heads ++ text_of more
+text_of-more heads more = ap text (map-append event_of heads more) ∙ text-more (lines_in heads) (lines_in more)
+
 -- one event more
-pub one_more : (held mid later : List ℕ) (a b c : Option (List ℕ)) (events : List Event) (i : ℕ) (event : Event) → i < length events → event ≡ get_or events i event
-    → Gathers held mid a b (text (take i events)) → Gathers mid later b c (event_line event) → Gathers held later a c (text (take (i + 1) events))
-one_more held mid later a b c events i event low is p q =
-    let e : text (take (i + 1) events) ≡ text (take i events) ++ event_line event =
-    ap text (take_more events i event low ∙ ap (λ z. take i events ++ z ∷ []) (sym is)) ∙ text-more (take i events) (event ∷ []) ∙ ap (λ z. text (take i events) ++ z) (text-one event) in
+pub one_more : (held mid later : List ℕ) (a b c : Option (List ℕ)) (heads : List EventHead) (i : ℕ) (none : EventHead) → i < length heads
+    → Gathers held mid a b (text_of (take i heads)) → Gathers mid later b c (event_line (event_of (slice_index_or heads i none))) → Gathers held later a c (text_of (take (i + 1) heads))
+one_more held mid later a b c heads i none low p q =
+    let head = slice_index_or heads i none in
+    let e : text_of (take (i + 1) heads) ≡ text_of (take i heads) ++ event_line (event_of head) =
+    ap text_of (take_more heads i none low) ∙ text_of-more (take i heads) (head ∷ []) ∙ ap (λ z. text_of (take i heads) ++ z) (text-one (event_of head)) in
     rw e (gathers_then held mid later a b c _ _ p q)
 
-pub cut_off_at : (held mid : List ℕ) (a b c : Option (List ℕ)) (events : List Event) (i : ℕ) → Gathers held mid a b (text (take i events)) → AppendsFront b c mid → AppendsFront a c (held ++ text events)
-cut_off_at held mid a b c events i p q =
-    let e : text events ≡ text (take i events) ++ text (drop i events) = ap text (sym (take-append-drop i events)) ∙ text-more (take i events) (drop i events) in
-    rw e (front_then held mid a b c (text (take i events)) (text (drop i events)) p (front_more b c mid (text (drop i events)) q))
+pub cut_off_at : (held mid : List ℕ) (a b c : Option (List ℕ)) (heads : List EventHead) (i : ℕ) → Gathers held mid a b (text (lines_in (take i heads))) → AppendsFront b c mid → AppendsFront a c (held ++ text (lines_in heads))
+cut_off_at held mid a b c heads i p q =
+    let e : text_of heads ≡ text_of (take i heads) ++ text_of (drop i heads) = ap text_of (sym (take-append-drop i heads)) ∙ text_of-more (take i heads) (drop i heads) in
+    rw e (front_then held mid a b c (text_of (take i heads)) (text_of (drop i heads)) p (front_more b c mid (text_of (drop i heads)) q))
 
 pub on_err : {T E : Type 0} (r : Result T E) (P : Type 0) → P → OnErr r P
 on_err (Ok x) P p = tt
@@ -68,3 +79,8 @@ held_front (Ok t) first second a b c x y e p q = tt
 held_front (Err t) first second a b c x y e p q =
     let all : first ++ y ≡ first ++ (x ++ []) = ap (λ z. first ++ z) (sym e ∙ sym (append-nil x)) in
     rw all (front_then first second a b c x [] p (front_more b c second [] q))
+
+-- y came behind what was held, and all of it could not be written
+pub front_behind : {T E : Type 0} (r : Result T E) (first second later y : List ℕ) (a b c : Option (List ℕ)) → Gathers first second a b [] → later ≡ second ++ y → OnErr r (AppendsFront b c later) → OnErr r (AppendsFront a c (first ++ y))
+front_behind (Ok t) first second later y a b c p e q = tt
+front_behind (Err t) first second later y a b c p e q = front_then first second a b c [] y p (rw e at q)

@@ -8,9 +8,9 @@ use Rattle.script_reader.specs.declared.event.Event.{Event}
 use Rattle.script_reader.specs.declared.fault.Fault.TheVariants as faults
 use Rattle.script_reader.specs.declared.line.Line.{Line}
 use Rattle.script_reader.specs.declared.line.Line.TheVariants as lines
-use Rattle.script_reader.specs.Steps.{is_timely, IsBarred, Step, Overfills}
+use Rattle.script_reader.specs.Steps.{is_timely, IsRefusedWhole, Step, Overfills}
 use Rattle.script_reader.specs.Past.{Past}
-use Rattle.script_reader.specs.Tolds.{LowPast, is_timely_low, IsBarredLow, StepLow}
+use Rattle.script_reader.specs.Tolds.{LowPast, is_timely_low, IsRefusedAlone, StepLow}
 use Rattle.script_reader.specs.Scripts.{Running, LowRunning, Begun, Whole, Alone, GoesOn, Leads, IsRefused}
 use Rattle.two_worlds.specs.declared.applied.Stop.{Stop}
 use Rattle.two_worlds.specs.declared.applied.Stop.TheVariants as stops
@@ -35,7 +35,7 @@ leads_from running (lines.Carry session back) after printed some h = h
 leads_from running (lines.Return session moment back) after printed some h = h
 leads_from running (lines.Done session moment time) after printed some h = h
 
-refused_whole : (s : Running) (line : Line) → line ≢ lines.Skip → IsBarred s.row s.past line → IsRefused (Some (Whole s)) line
+refused_whole : (s : Running) (line : Line) → line ≢ lines.Skip → IsRefusedWhole s.row s.past line → IsRefused (Some (Whole s)) line
 refused_whole s lines.Skip some h = absurd (some refl)
 refused_whole s (lines.Session row) some h = h
 refused_whole s (lines.LowSession row next held) some h = h
@@ -47,7 +47,7 @@ refused_whole s (lines.Carry session back) some h = h
 refused_whole s (lines.Return session moment back) some h = h
 refused_whole s (lines.Done session moment time) some h = h
 
-refused_alone : (s : LowRunning) (line : Line) → line ≢ lines.Skip → IsBarredLow s.row s.past line → IsRefused (Some (Alone s)) line
+refused_alone : (s : LowRunning) (line : Line) → line ≢ lines.Skip → IsRefusedAlone s.row s.past line → IsRefused (Some (Alone s)) line
 refused_alone s lines.Skip some h = absurd (some refl)
 refused_alone s (lines.Session row) some h = h
 refused_alone s (lines.LowSession row next held) some h = h
@@ -74,12 +74,13 @@ module _ (id : ℕ) (p t : _) (line : Line) (some : line ≢ lines.Skip) (printe
         record { up = down; room = room; is_of = (id_is, same ∙ row, h.1.2) },
       )
   whole_does (Some stops.Line) down fine h =
-      (refused_whole s line some (subst (λ (r : SessionRow). IsBarred r s.past line) row h.0), h.1)
+      (refused_whole s line some (subst (λ (r : SessionRow). IsRefusedWhole r s.past line) row h.0), h.1)
   whole_does (Some (stops.Device role count)) down fine h = absurd (fine role count refl)
-  whole_does (Some (stops.Full end length size)) down fine h = (
-    subst (λ (r : SessionRow). is_timely r s.past line ≡ true) row h.0,
-    (end, length, size, subst (λ (r : SessionRow). Overfills r s.past line printed end length size) row h.1, ap (λ (i : ℕ). faults.Full i end length size) id_is),
-  )
+  whole_does (Some (stops.Full end length size)) down fine h =
+      let timely : is_timely s.row s.past line ≡ true = subst (λ (r : SessionRow). is_timely r s.past line ≡ true) row h.0 in
+      let over : Overfills s.row s.past line h.1.0 printed end length size = subst (λ (r : SessionRow). Overfills r s.past line h.1.0 printed end length size) row h.1.1 in
+      let after : Option Begun = Some (Whole (record { row = s.row; past = h.1.0 })) in
+      (after, (timely, (h.1.0, end, length, size, over, ap (λ (i : ℕ). faults.Full i end length size) id_is, refl)))
 
 -- a line was given to the pump of a whole session
 pub whole_applies : (before : Session) (id : ℕ) (p t : _) (line : Line) (printed : List Event) (stop : Option Stop) → before ≡ sessions.Whole id p → line ≢ lines.Skip
@@ -112,11 +113,12 @@ module _ (id : ℕ) (p t : LowPump) (line : Line) (some : line ≢ lines.Skip) (
         record { up = down; room = tt; is_of = (id_is, same ∙ row, h.1.2) },
       )
   alone_does (Some stops.Line) down h =
-      (refused_alone s line some (subst (λ (r : SessionRow). IsBarredLow r s.past line) row h.0), h.1)
-  alone_does (Some (stops.Device roles.Low count)) down h = (
-    subst (λ (r : SessionRow). is_timely_low r s.past line ≡ true) row h.0,
-    (h.1.0, subst (λ (r : SessionRow). StepLow r s.past line true h.1.0 printed) row h.1.1, ap (λ (i : ℕ). faults.Device i roles.Low) id_is),
-  )
+      (refused_alone s line some (subst (λ (r : SessionRow). IsRefusedAlone r s.past line) row h.0), h.1)
+  alone_does (Some (stops.Device roles.Low count)) down h =
+      let timely : is_timely_low s.row s.past line ≡ true = subst (λ (r : SessionRow). is_timely_low r s.past line ≡ true) row h.0 in
+      let step : StepLow s.row s.past line true h.1.0 printed = subst (λ (r : SessionRow). StepLow r s.past line true h.1.0 printed) row h.1.1 in
+      let after : Option Begun = Some (Alone (record { row = s.row; past = h.1.0 })) in
+      (after, (timely, (h.1.0, step, ap (λ (i : ℕ). faults.Device i roles.Low) id_is, refl)))
   alone_does (Some (stops.Device roles.High count)) down h = absurd h
   alone_does (Some (stops.Device roles.Recv count)) down h = absurd h
   alone_does (Some (stops.Full end length size)) down h = absurd h

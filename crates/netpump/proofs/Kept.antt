@@ -1,20 +1,39 @@
--- What the laws of a script say of a transcript that is written.
-use Rattle.std.proofs.Common.{◌≡◌, List, [], ◌∷◌, ◌++◌, Option, None, Some, refl, sym, ap, ◌∙◌, subst, append_assoc, append-nil}
+-- What the laws say of lines that can all be applied, of their transcript, and of a line that stops them.
+use Rattle.std.proofs.Common.{◌≡◌, List, [], ◌∷◌, ◌++◌, Option, None, Some, inl, inr, refl, sym, ap, ◌∙◌, subst, append-nil}
 use Rattle.pump_core.specs.Replies.{Sent, LowReplies}
 use Rattle.script_reader.specs.declared.event.Event.{Event}
+use Rattle.script_reader.specs.declared.fault.Fault.{Fault}
 use Rattle.script_reader.specs.declared.line.Line.{Line}
-use Rattle.script_reader.specs.Scripts.{Begun, Whole, Alone, LeadTo, Ends}
-use Rattle.script_reader.specs.Readouts.{low_line, low_lines, row_of, history_of}
-use Rattle.script_reader.proofs.Replying as replying
-use Rattle.script_reader.proofs.Bounds as bounds
-use Rattle.script_reader.proofs.OneScript.{lead_one}
-use Rattle.netpump.specs.Replays.{KeepsLaws}
+use Rattle.script_reader.specs.Scripts.{Begun, Whole, Alone, LeadTo, Stops, Ends}
+use Rattle.script_reader.specs.Readouts.{low_lines, row_of, history_of, Sound}
+use Rattle.script_reader.proofs.LowFunction.{same_told_so_far}
+use Rattle.script_reader.proofs.Replying.{low-append}
+use Rattle.script_reader.proofs.Soundness.{sound_lead, sound_so, fronts_so}
+use Rattle.two_worlds.proofs.LowTimelines.{script_events}
+use Rattle.two_worlds.proofs.TimelineScripts.{script_runs}
+use Rattle.netpump.specs.Replays.{AreSound, IsTimed, KeepLaws}
 
-low-append : (xs ys : List Event) → low_lines (xs ++ ys) ≡ low_lines xs ++ low_lines ys
-low-append [] ys = refl
-low-append (x ∷ xs) ys = ap (λ l. low_line x ++ l) (low-append xs ys) ∙ sym (append_assoc (low_line x) (low_lines xs) (low_lines ys))
+each_sound : (lines : List Line) (running : Option Begun) (events : List Event) → LeadTo None lines running events → AreSound lines events
+each_sound lines running events leads = λ before line later is.
+    let f = fronts_so before line later running events (inl (subst (λ (ls : List Line). LeadTo None ls running events) is leads)) in
+    (f.0, f.1, f.2, f.3, f.4, sound_lead before f.0 f.1 f.3)
 
--- the end of a session is no `low` line
+timed_so : (lines : List Line) (running : Option Begun) (events : List Event) → LeadTo None lines running events → IsTimed running
+timed_so lines None events leads = tt
+timed_so lines (Some (Whole s)) events leads = script_runs None lines (Some (Whole s)) events leads tt
+timed_so lines (Some (Alone s)) events leads = script_events None lines (Some (Alone s)) events leads tt
+
+pub keep_laws : (lines : List Line) (running : Option Begun) (events : List Event) → LeadTo None lines running events → KeepLaws lines running events
+keep_laws lines running events leads = record {
+  sound = sound_lead lines running events leads;
+  each = each_sound lines running events leads;
+  timed = timed_so lines running events leads;
+  low = λ others after printed h side told. same_told_so_far lines others running after events printed leads h side told;
+}
+
+-- ---- the end of a session ----
+
+-- it is no `low` line
 end_is_not_low : (running : Option Begun) (last : List Event) → Ends running last → low_lines last ≡ []
 end_is_not_low None last h = ap low_lines h
 end_is_not_low (Some (Whole s)) last h = ap low_lines h
@@ -24,12 +43,27 @@ low_with_end : (running : Option Begun) (events last : List Event) → Ends runn
 low_with_end running events last h =
     low-append events last ∙ ap (λ l. low_lines events ++ l) (end_is_not_low running last h) ∙ append-nil (low_lines events)
 
--- the transcript of lines that can all be applied keeps them
-pub keeps_laws : (lines : List Line) (running : Option Begun) (events last : List Event) → LeadTo None lines running events → Ends running last → KeepsLaws lines (events ++ last)
-keeps_laws lines running events last leads ends = λ s body h.
-    let same : body ≡ events = (lead_one None lines (Some s) running body events h leads).printed in
-    let low : low_lines body ≡ low_lines (events ++ last) = ap low_lines same ∙ sym (low_with_end running events last ends) in
-    let replies : LowReplies (row_of s) (history_of s) (low_lines body) = replying.lead_so None lines (Some s) body [] h refl in (
-      subst (λ (l : List Sent). LowReplies (row_of s) (history_of s) l) low replies,
-      bounds.bounds s (bounds.lead_so None lines (Some s) body h tt),
-    )
+pub sound_end : (running : Option Begun) (events last : List Event) → Ends running last → Sound running events → Sound running (events ++ last)
+sound_end None events last ends sound = ap (λ xs. xs ++ last) sound ∙ ends
+sound_end (Some s) events last ends sound = record {
+  replies = subst (λ (l : List Sent). LowReplies (row_of s) (history_of s) l) (sym (low_with_end (Some s) events last ends)) sound.replies;
+  bounds = sound.bounds;
+}
+
+-- ---- a line that stops the script ----
+
+pub sound_stop : (lines : List Line) (running : Option Begun) (events : List Event) (line : Line) (after : Option Begun) (printed : List Event) (fault : Fault)
+    → LeadTo None lines running events → Stops running line after printed fault → Sound after (events ++ printed)
+sound_stop lines running events line after printed fault leads stops =
+    sound_so (lines ++ line ∷ []) after (events ++ printed) (inr (record {
+      before = lines;
+      line = line;
+      script_is = refl;
+      running = running;
+      first = events;
+      leads = leads;
+      last = printed;
+      fault = fault;
+      stops = stops;
+      printed_is = refl;
+    }))

@@ -2,11 +2,11 @@ pub mod Compared
 pub mod Finished
 pub mod Gathered
 pub mod Going
-pub mod Halts
 pub mod Kept
 pub mod OneStatus
 pub mod OneWord
 pub mod Rooms
 pub mod SoFar
 pub mod Stopping
+pub mod Stops
 pub mod Turns

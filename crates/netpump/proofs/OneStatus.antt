@@ -1,5 +1,5 @@
 -- A script that tells its bytes has one status.
-use Rattle.std.proofs.Common.{◌≡◌, inl, inr, ℕ, ◌+◌, ◌-◌, ◌^◌, List, [], Option, None, Some, length, refl, sym, ap, ◌∙◌, subst, arith}
+use Rattle.std.proofs.Common.{◌≡◌, inl, inr, ℕ, ◌+◌, ◌^◌, ◌<◌, List, [], Option, None, Some, length, refl, sym, ap, ◌∙◌, subst, arith}
 use Rattle.std.specs.Io.KnownBytes.{IsAtEnd}
 use Rattle.disk_model.specs.declared.name.Role.TheVariants as roles
 use Rattle.script_reader.specs.declared.line.Line.{Line}
@@ -7,13 +7,12 @@ use Rattle.script_reader.specs.declared.event.Event.{Event}
 use Rattle.script_reader.specs.declared.fault.Fault.{Fault}
 use Rattle.script_reader.specs.declared.fault.Fault.TheVariants.{Script, Device, Full}
 use Rattle.script_reader.specs.Faults.{IsFaultyNext}
-use Rattle.script_reader.specs.Lines.{AreLines}
-use Rattle.script_reader.specs.Scripts.{Begun, IsRefused, Halts}
-use Rattle.script_reader.proofs.Halting.{halts_leads, halts_one}
+use Rattle.script_reader.specs.Scripts.{Begun, IsRefused, Stops}
+use Rattle.script_reader.proofs.Stopping.{stops_leads, stops_one}
 use Rattle.script_reader.proofs.OneEnd.{refused_leads}
-use Rattle.netpump.specs.Replays.{IsSoFar, IsFaulty, IsHalting, IsDone, IsStopped, IsHalted, IsFailed, IsOverfilled}
+use Rattle.netpump.specs.Replays.{IsSoFar, Replayed, IsFaulty, fault_after, Stopping, IsDone, IsFaulted, IsStopped, IsFailed, IsOverfilled, Wrote}
 use Rattle.netpump.specs.Statuses.{IsEnd, EndsWith, status_of}
-use Rattle.netpump.proofs.Stopping.{halts_refused}
+use Rattle.netpump.proofs.Stopping.{stops_refused}
 use Rattle.netpump.proofs.Compared.{GoesOn, no_line, good_line, same_line, told_rest, compare}
 
 -- ---- one place ----
@@ -27,108 +26,108 @@ refused_goes rest running f g =
           refused_leads running g.line g.after g.printed (subst (λ (l : Line). IsRefused running l) (sym same) r.3) g.leads
     ]
 
-halting_goes : (rest : List ℕ) (running : Option Begun) (printed : List Event) (fault : Fault) → IsHalting (Some rest) running printed fault → GoesOn rest running → ⊥
-halting_goes rest running printed fault h g =
-    let same = same_line rest g.line h.0 g.left h.1 g.spelled h.2 in
-    halts_leads running g.line printed fault g.after g.printed (subst (λ (l : Line). Halts running l printed fault) (sym same) h.3) g.leads
+stopping_goes : (rest : List ℕ) (number : ℕ) (running : Option Begun) (fault : Fault) → Stopping (Some rest) number running fault → GoesOn rest running → ⊥
+stopping_goes rest number running fault h g =
+    let same = same_line rest g.line h.line g.left h.left g.spelled h.spelled in
+    stops_leads running g.line h.after h.printed fault g.after g.printed (subst (λ (l : Line). Stops running l h.after h.printed fault) (sym same) h.stops) g.leads
 
-refused_halts : (rest : List ℕ) (running : Option Begun) (printed : List Event) (fault : Fault) → IsFaultyNext rest running → IsHalting (Some rest) running printed fault → ⊥
-refused_halts rest running printed fault f h =
+refused_stopping : (rest : List ℕ) (number : ℕ) (running : Option Begun) (fault : Fault) → IsFaultyNext rest running → Stopping (Some rest) number running fault → ⊥
+refused_stopping rest number running fault f h =
     elim f [
-      | inl bad ↦ good_line rest h.0 h.1 h.2 bad
+      | inl bad ↦ good_line rest h.line h.left h.spelled bad
       | inr r ↦
-          let same = same_line rest h.0 r.0 h.1 r.1 h.2 r.2 in
-          halts_refused running h.0 printed fault h.3 (subst (λ (l : Line). IsRefused running l) (sym same) r.3)
+          let same = same_line rest h.line r.0 h.left r.1 h.spelled r.2 in
+          stops_refused running h.line h.after h.printed fault h.stops (subst (λ (l : Line). IsRefused running l) (sym same) r.3)
     ]
 
-halting_one : (rest : List ℕ) (running : Option Begun) (xs ys : List Event) (fault stop : Fault) → IsHalting (Some rest) running xs fault → IsHalting (Some rest) running ys stop → fault ≡ stop
-halting_one rest running xs ys fault stop h k =
-    let same = same_line rest h.0 k.0 h.1 k.1 h.2 k.2 in
-    (halts_one running h.0 xs ys fault stop h.3 (subst (λ (l : Line). Halts running l ys stop) (sym same) k.3)).1
+stopping_one : (rest : List ℕ) (number : ℕ) (running : Option Begun) (fault stop : Fault) → Stopping (Some rest) number running fault → Stopping (Some rest) number running stop → fault ≡ stop
+stopping_one rest number running fault stop h k =
+    let same = same_line rest h.line k.line h.left k.left h.spelled k.spelled in
+    let one = stops_one running h.line h.after k.after h.printed k.printed fault stop h.stops (subst (λ (l : Line). Stops running l k.after k.printed stop) (sym same) k.stops) in
+    one.fault_is
 
-nothing_faulty : (rest : List ℕ) (running : Option Begun) → rest ≡ [] → IsFaultyNext rest running → ⊥
-nothing_faulty rest running none f = elim f [ inl bad ↦ bad.some none | inr r ↦ no_line rest r.0 r.1 r.2 none ]
+nothing_faulty : (rest : List ℕ) (number : ℕ) (running : Option Begun) → rest ≡ [] → IsFaulty (Some rest) number running → ⊥
+nothing_faulty rest number running none (inl (inl bad)) = bad.some none
+nothing_faulty rest number running none (inl (inr r)) = no_line rest r.0 r.1 r.2 none
+nothing_faulty rest number running none (inr (last, some)) = some none
+
+faulty_stopping : (rest : List ℕ) (number : ℕ) (running : Option Begun) (fault : Fault) → IsFaulty (Some rest) number running → Stopping (Some rest) number running fault → ⊥
+faulty_stopping rest number running fault (inl f) h = refused_stopping rest number running fault f h
+faulty_stopping rest number running fault (inr (last, some)) h = let few = h.few in omega (arith, few, last)
 
 -- a script does not go on at its end
-end_goes : (rest : List ℕ) (number : ℕ) (running : Option Begun) (end : Option Fault) → IsEnd rest number running end → GoesOn rest running → ⊥
-end_goes rest number running None h g = no_line rest g.line g.left g.spelled h
-end_goes rest number running (Some fault) (inl h) g = refused_goes rest running h.0 g
-end_goes rest number running (Some fault) (inr h) g = halting_goes rest running h.0 fault h.1 g
+end_goes : (rest : List ℕ) (number : ℕ) (running : Option Begun) (end : Option Fault) → IsEnd rest number running end → number + 1 < 2 ^ 32 → GoesOn rest running → ⊥
+end_goes rest number running None h few g = no_line rest g.line g.left g.spelled h
+end_goes rest number running (Some fault) (inl (inl f, e)) few g = refused_goes rest running f g
+end_goes rest number running (Some fault) (inl (inr (last, some), e)) few g = omega (arith, few, last)
+end_goes rest number running (Some fault) (inr h) few g = stopping_goes rest number running fault h g
 
 -- and has one end at one place
 one_end : (rest : List ℕ) (number : ℕ) (running : Option Begun) (a b : Option Fault) → IsEnd rest number running a → IsEnd rest number running b → a ≡ b
 one_end rest number running None None h k = refl
-one_end rest number running None (Some y) h (inl k) = absurd (nothing_faulty rest running h k.0)
-one_end rest number running None (Some y) h (inr k) = absurd (no_line rest k.1.0 k.1.1 k.1.2 h)
-one_end rest number running (Some x) None (inl h) k = absurd (nothing_faulty rest running k h.0)
-one_end rest number running (Some x) None (inr h) k = absurd (no_line rest h.1.0 h.1.1 h.1.2 k)
+one_end rest number running None (Some y) h (inl k) = absurd (nothing_faulty rest number running h k.0)
+one_end rest number running None (Some y) h (inr k) = absurd (no_line rest k.line k.left k.spelled h)
+one_end rest number running (Some x) None (inl h) k = absurd (nothing_faulty rest number running k h.0)
+one_end rest number running (Some x) None (inr h) k = absurd (no_line rest h.line h.left h.spelled k)
 one_end rest number running (Some x) (Some y) (inl h) (inl k) = ap Some (h.1 ∙ sym k.1)
-one_end rest number running (Some x) (Some y) (inl h) (inr k) = absurd (refused_halts rest running k.0 y h.0 k.1)
-one_end rest number running (Some x) (Some y) (inr h) (inl k) = absurd (refused_halts rest running h.0 x k.0 h.1)
-one_end rest number running (Some x) (Some y) (inr h) (inr k) = ap Some (halting_one rest running h.0 k.0 x y h.1 k.1)
+one_end rest number running (Some x) (Some y) (inl h) (inr k) = absurd (faulty_stopping rest number running y h.0 k)
+one_end rest number running (Some x) (Some y) (inr h) (inl k) = absurd (faulty_stopping rest number running x k.0 h)
+one_end rest number running (Some x) (Some y) (inr h) (inr k) = ap Some (stopping_one rest number running x y h k)
 
 -- ---- one script ----
 
 module _ (bytes : List ℕ) (end : Option Fault) (e : EndsWith bytes end) where
-  ends_at : (lines : List Line) (events : List Event) (running : Option Begun) (rest : List ℕ) (other : Option Fault) → IsSoFar (Some bytes) (Some rest) lines events running
+  ends_at : (lines : List Line) (events : List Event) (running : Option Begun) (rest : List ℕ) (other : Option Fault) → IsSoFar (Some bytes) (Some rest) lines events running → length lines < 2 ^ 32
       → IsEnd rest (length lines) running other → end ≡ other
-  ends_at lines events running rest other s is =
+  ends_at lines events running rest other s few is =
+      let fewer = e.few in
       compare bytes e.rest rest e.lines lines None e.running running e.events events e.so_far.spelled e.so_far.leads s.spelled s.leads
       (λ same after number. one_end rest (length lines) running end other
       (subst (λ (n : ℕ). IsEnd rest n running end) number (subst (λ (b : Option Begun). IsEnd rest (length e.lines) b end) after (subst (λ (r : List ℕ). IsEnd r (length e.lines) e.running end) same e.is_end))) is)
-      (λ goes less. absurd (end_goes e.rest (length e.lines) e.running end e.is_end goes))
-      (λ goes less. absurd (end_goes rest (length lines) running other is goes))
+      (λ goes less. absurd (end_goes e.rest (length e.lines) e.running end e.is_end (omega (arith, less, few)) goes))
+      (λ goes less. absurd (end_goes rest (length lines) running other is (omega (arith, less, fewer)) goes))
 
-  -- a script of so many lines has not that many
-  too_many : (lines : List Line) (events : List Event) (running : Option Begun) (rest : List ℕ) → IsSoFar (Some bytes) (Some rest) lines events running → length lines ≡ 2 ^ 32 - 1 → ⊥
-  too_many lines events running rest s many =
-      let few = e.few in
-      compare bytes e.rest rest e.lines lines None e.running running e.events events e.so_far.spelled e.so_far.leads s.spelled s.leads
-      (λ same after number. omega (arith, few, many, number))
-      (λ goes less. end_goes e.rest (length e.lines) e.running end e.is_end goes)
-      (λ goes less. omega (arith, few, many, less))
+  -- what was replayed, whose rest is told
+  told_so_far : (r : Replayed (Some bytes)) → (rest : List ℕ) × (r.rest ≡ Some rest) × IsSoFar (Some bytes) (Some rest) r.lines r.events r.running
+  told_so_far r =
+      let told = told_rest bytes r.lines r.rest r.so_far.spelled in
+      (told.0, told.1, subst (λ (rest : Option (List ℕ)). IsSoFar (Some bytes) rest r.lines r.events r.running) told.1 r.so_far)
 
-  done_so : (old new : Option (List ℕ)) → IsDone (Some bytes) old new → end ≡ None
-  done_so old new d =
-      let told = told_rest bytes d.lines d.rest d.spelled in
-      let s : IsSoFar (Some bytes) (Some told.0) d.lines d.transcript.1 d.transcript.0 =
-      record { spelled = subst (λ (r : Option (List ℕ)). AreLines (Some bytes) d.lines r) told.1 d.spelled; leads = d.transcript.3 } in
-      ends_at d.lines d.transcript.1 d.transcript.0 told.0 None s (subst IsAtEnd told.1 d.ended)
+  done_so : (r : Replayed (Some bytes)) (output : List ℕ) → IsDone r output → end ≡ None
+  done_so r output d =
+      let told = told_so_far r in
+      ends_at r.lines r.events r.running told.0 None told.2 r.few (subst IsAtEnd told.1 d.ended)
 
-  told_so_far : (lines : List Line) (events : List Event) (running : Option Begun) (rest : Option (List ℕ)) → IsSoFar (Some bytes) rest lines events running
-      → (r : List ℕ) × (rest ≡ Some r) × IsSoFar (Some bytes) (Some r) lines events running
-  told_so_far lines events running rest s =
-      let told = told_rest bytes lines rest s.spelled in
-      (told.0, told.1, subst (λ (r : Option (List ℕ)). IsSoFar (Some bytes) r lines events running) told.1 s)
+  faulted_so : (left : Option (List ℕ)) (r : Replayed (Some bytes)) (output : List ℕ) → IsFaulted left r output → end ≡ Some (fault_after (length r.lines))
+  faulted_so left r output d =
+      let told = told_so_far r in
+      ends_at r.lines r.events r.running told.0 (Some (fault_after (length r.lines))) told.2 r.few
+      (inl (subst (λ (rest : Option (List ℕ)). IsFaulty rest (length r.lines) r.running) told.1 d.faulty, refl))
 
-  faulty_so : (lines : List Line) (events : List Event) (running : Option Begun) (r : List ℕ) → IsSoFar (Some bytes) (Some r) lines events running → IsFaulty (Some r) (length lines) running
-      → end ≡ Some (Script (length lines + 1))
-  faulty_so lines events running r s (inl (inl bad)) = ends_at lines events running r (Some (Script (length lines + 1))) s (inl (inl bad, refl))
-  faulty_so lines events running r s (inl (inr many)) = absurd (too_many lines events running r s many)
-  faulty_so lines events running r s (inr refused) = ends_at lines events running r (Some (Script (length lines + 1))) s (inl (inr refused, refl))
-
-  stopped_so : (left old new : Option (List ℕ)) → IsStopped (Some bytes) left old new → status_of end ≡ 5
-  stopped_so left old new (lines, events, running, rest, s, faulty, near, wrote) =
-      let told = told_so_far lines events running rest s in
-      ap status_of (faulty_so lines events running told.0 told.2 (subst (λ (r : Option (List ℕ)). IsFaulty r (length lines) running) told.1 faulty))
-
-  halted_so : (left old new : Option (List ℕ)) (fault : Fault) → IsHalted (Some bytes) left old new fault → status_of end ≡ status_of (Some fault)
-  halted_so left old new fault (lines, events, running, rest, printed, s, halting, near, wrote) =
-      let told = told_so_far lines events running rest s in
-      ap status_of (ends_at lines events running told.0 (Some fault) told.2 (inr (printed, subst (λ (r : Option (List ℕ)). IsHalting r running printed fault) told.1 halting)))
+  stopped_so : (left : Option (List ℕ)) (fault : Fault) (r : Replayed (Some bytes)) (output : List ℕ) → IsStopped left fault r output → end ≡ Some fault
+  stopped_so left fault r output d =
+      let told = told_so_far r in
+      ends_at r.lines r.events r.running told.0 (Some fault) told.2 r.few (inr (subst (λ (rest : Option (List ℕ)). Stopping rest (length r.lines) r.running fault) told.1 d.next))
 
 -- ---- the statuses ----
 
 module _ (all old new : Option (List ℕ)) (bytes : List ℕ) (end : Option Fault) (told : all ≡ Some bytes) (e : EndsWith bytes end) where
-  pub done_status : IsDone all old new → 0 ≡ status_of end
-  done_status d = sym (ap status_of (done_so bytes end e old new (subst (λ (a : Option (List ℕ)). IsDone a old new) told d)))
+  pub done_status : Wrote all old new (λ r output. IsDone r output) → 0 ≡ status_of end
+  done_status d =
+      let (r, output, is, wrote) = subst (λ (a : Option (List ℕ)). Wrote a old new (λ r output. IsDone r output)) told d in
+      sym (ap status_of (done_so bytes end e r output is))
 
-  pub stopped_status : (left : Option (List ℕ)) → IsStopped all left old new → 5 ≡ status_of end
-  stopped_status left d = sym (stopped_so bytes end e left old new (subst (λ (a : Option (List ℕ)). IsStopped a left old new) told d))
+  pub faulted_status : (left : Option (List ℕ)) → Wrote all old new (IsFaulted left) → 5 ≡ status_of end
+  faulted_status left d =
+      let (r, output, is, wrote) = subst (λ (a : Option (List ℕ)). Wrote a old new (IsFaulted left)) told d in
+      sym (ap status_of (faulted_so bytes end e left r output is))
 
-  pub failed_status : (left : Option (List ℕ)) → IsFailed all left old new → 7 ≡ status_of end
-  failed_status left (session, h) = sym (halted_so bytes end e left old new (Device session roles.Low) (subst (λ (a : Option (List ℕ)). IsHalted a left old new (Device session roles.Low)) told h))
+  pub failed_status : (left : Option (List ℕ)) → Wrote all old new (IsFailed left) → 7 ≡ status_of end
+  failed_status left d =
+      let (r, output, (session, is), wrote) = subst (λ (a : Option (List ℕ)). Wrote a old new (IsFailed left)) told d in
+      sym (ap status_of (stopped_so bytes end e left (Device session roles.Low) r output is))
 
-  pub overfilled_status : (left : Option (List ℕ)) → IsOverfilled all left old new → 10 ≡ status_of end
-  overfilled_status left (session, place, n, size, h) =
-      sym (halted_so bytes end e left old new (Full session place n size) (subst (λ (a : Option (List ℕ)). IsHalted a left old new (Full session place n size)) told h))
+  pub overfilled_status : (left : Option (List ℕ)) → Wrote all old new (IsOverfilled left) → 10 ≡ status_of end
+  overfilled_status left d =
+      let (r, output, (session, place, n, size, is), wrote) = subst (λ (a : Option (List ℕ)). Wrote a old new (IsOverfilled left)) told d in
+      sym (ap status_of (stopped_so bytes end e left (Full session place n size) r output is))

@@ -1,5 +1,5 @@
 -- A replay, line by line.
-use Rattle.std.proofs.Common.{◌≡◌, ℕ, ◌+◌, ◌-◌, ◌^◌, ◌<◌, ◌≤◌, inl, inr, min, List, [], ◌∷◌, ◌++◌, Option, None, Some, length, refl, sym, ap, ◌∙◌, subst, append_assoc, append-nil, arith, length-append}
+use Rattle.std.proofs.Common.{◌≡◌, ℕ, ◌+◌, ◌-◌, ◌^◌, ◌<◌, ◌≤◌, inl, inr, min, List, [], ◌∷◌, ◌++◌, Option, None, Some, IfSome, length, refl, sym, ap, ◌∙◌, subst, append_assoc, append-nil, arith, length-append}
 use Rattle.std.specs.Io.KnownBytes.{prepend_known, Consumes, Keeps, Appends, IsAtEnd}
 use Rattle.pump_frame.specs.Counts.{Rose}
 use Rattle.pump_link.specs.Causes.{AppendsFront}
@@ -9,18 +9,20 @@ use Rattle.script_reader.specs.declared.fault.Fault.{Fault}
 use Rattle.script_reader.specs.declared.fault.Fault.TheVariants.{Read, Script}
 use Rattle.script_reader.specs.declared.lines.Lined.TheVariants as lined
 use Rattle.script_reader.specs.Grammar.{IsLine}
-use Rattle.script_reader.specs.Lines.{Reading, to_come, AreLines, IsUnended, IsNext}
+use Rattle.script_reader.specs.Faults.{IsFaultyNext}
+use Rattle.script_reader.specs.Lines.{Reading, to_come, AreLines, IsUnended, IsBad, IsNext}
 use Rattle.script_reader.specs.Transcript.{text, fault_line}
 use Rattle.script_reader.specs.Scripts.{Begun, Whole, Alone, GoesOn, Leads, LeadTo, IsRefused, Ends}
 use Rattle.script_reader.proofs.Leading.{led}
 use Rattle.script_reader.proofs.LineEnds.{Keeps-then}
+use Rattle.script_reader.proofs.Soundness.{sound_lead}
 use Rattle.pump_link.proofs.Known.{Appends-none}
 use Rattle.netpump.specs.Outputs.{Gathers}
 use Rattle.netpump.specs.Runners.{Closes, EndsAs}
 use Rattle.netpump.specs.declared.replay.Ended.{Ended}
 use Rattle.netpump.specs.declared.replay.Ended.TheVariants as ended
-use Rattle.netpump.specs.Replays.{IsSoFar, IsFaulty, IsHalting, fault_after, IsNear, IsDone, IsUnread, IsStopped, IsHalted, IsCutOff}
-use Rattle.netpump.proofs.Kept.{keeps_laws}
+use Rattle.netpump.specs.Replays.{IsSoFar, Replayed, IsFaulty, Stopping, fault_after, IsNear, IsWithinLine, IsNearLast, IsDone, IsUnread, IsFaulted, IsStopped, IsOutput, IsCutOff, Wrote, WroteFront}
+use Rattle.netpump.proofs.Kept.{keep_laws, sound_end, sound_stop}
 use Rattle.netpump.proofs.Gathered.{text-more, gathers_then, appends_then, front_then, front_more}
 
 -- ---- the lines ----
@@ -115,124 +117,135 @@ unwritten held a b lines events None e h p =
     let nothing : [] ≡ p.0 ++ held = ap text (sym (silent lines events h)) ∙ p.2 in
     subst (λ z. Appends a b z) (no_front p.0 held nothing) p.1
 
-halted_text : (events printed : List Event) (fault : Fault) → text (events ++ printed) ++ fault_line fault ≡ text events ++ (text printed ++ fault_line fault)
-halted_text events printed fault = ap (λ t. t ++ fault_line fault) (text-more events printed) ∙ append_assoc (text events) (text printed) (fault_line fault)
+stopped_text : (events printed : List Event) (fault : Fault) → text (events ++ printed) ++ fault_line fault ≡ text events ++ (text printed ++ fault_line fault)
+stopped_text events printed fault = ap (λ t. t ++ fault_line fault) (text-more events printed) ∙ append_assoc (text events) (text printed) (fault_line fault)
 
 -- ---- the ends ----
 
+-- so far it was replayed
+abbrev pub replayed : (all rest : Option (List ℕ)) (lines : List Line) (events : List Event) (running : Option Begun) → IsSoFar all rest lines events running → length lines < 2 ^ 32 → Replayed all
+replayed all rest lines events running s few =
+    record { lines = lines; events = events; running = running; rest = rest; so_far = s; few = few; laws = keep_laws lines running events s.leads }
+
 module _ (all rest left old now new : Option (List ℕ)) (before after : ℕ) (lines : List Line) (events : List Event) (running : Option Begun)
-    (s : IsSoFar all rest lines events running) (held : List ℕ) (w : Gathers [] held old now (text events)) where
-  whole : (x : List ℕ) → Appends now new (held ++ x) → Appends old new (text events ++ x)
-  whole x a = appends_then [] held old now new (text events) x w a
+    (s : IsSoFar all rest lines events running) (few : length lines < 2 ^ 32) (held : List ℕ) (w : Gathers [] held old now (text events)) where
+  abbrev r : Replayed all
+  r = replayed all rest lines events running s few
 
-  front : (x : List ℕ) → AppendsFront now new (held ++ x) → AppendsFront old new (text events ++ x)
-  front x a = front_then [] held old now new (text events) x w a
+  -- with these bytes behind what was printed the output ends so, and was written
+  wrote : (End : Replayed all → List ℕ → Type 0) (x : List ℕ) → End r (text events ++ x) → Appends now new (held ++ x) → Wrote all old new End
+  wrote End x e a = (r, text events ++ x, e, appends_then [] held old now new (text events) x w a)
 
-  done : (last : List Event) → IsAtEnd rest → Ends running last → Appends now new (held ++ text last) → IsDone all old new
-  done last e ends a = record {
-    lines = lines;
-    printed = events ++ last;
-    rest = rest;
-    spelled = s.spelled;
+  wrote_front : (x : List ℕ) → IsNearLast rest left → IsOutput left before after r (text events ++ x) → AppendsFront now new (held ++ x) → WroteFront all old new (IsCutOff left before after)
+  wrote_front x near e a = (r, text events ++ x, (near, e), front_then [] held old now new (text events) x w a)
+
+  done : (last : List Event) → IsAtEnd rest → Ends running last → IsDone r (text events ++ text last)
+  done last e ends = record {
     ended = e;
+    printed = events ++ last;
     transcript = (running, events, last, s.leads, ends, refl);
-    kept = keeps_laws lines running events last s.leads ends;
-    written = rw (text-more events last) (whole (text last) a);
+    sound = sound_end running events last ends (sound_lead lines running events s.leads);
+    output_is = sym (text-more events last);
   }
 
-  done_front : (last : List Event) → IsAtEnd rest → Ends running last → AppendsFront now new (held ++ text last) → IsCutOff all left old new before after
-  done_front last e ends a = (lines, events, running, rest, text events ++ text last, s, inl e, inr (inl (e, last, ends, sym (text-more events last))), front (text last) a)
+  faulted : (number : ℕ) → IsNear rest left → IsFaulty rest (length lines) running → Script number ≡ fault_after (length lines) → IsFaulted left r (text events ++ fault_line (Script number))
+  faulted number near f e = record { faulty = f; taken = near; output_is = ap (λ x. text events ++ fault_line x) e }
 
-  faulty : (number : ℕ) → IsNear rest left → IsFaulty rest (length lines) running → Script number ≡ fault_after lines → Appends now new (held ++ fault_line (Script number)) → IsStopped all left old new
-  faulty number near f e a = (lines, events, running, rest, s, f, near, whole (fault_line (fault_after lines)) (subst (λ f. Appends now new (held ++ fault_line f)) e a))
+  unread : IsWithinLine rest left → Rose before after → IsUnread left before after r (text events ++ fault_line Read)
+  unread within rose = record { rose = rose; taken = within; output_is = refl }
 
-  faulty_front : (number : ℕ) → IsNear rest left → IsFaulty rest (length lines) running → Script number ≡ fault_after lines → AppendsFront now new (held ++ fault_line (Script number)) → IsCutOff all left old new before after
-  faulty_front number near f e a = (lines, events, running, rest, text events ++ fault_line (fault_after lines), s, inr (inl near), inr (inr (inl (f, refl))), front (fault_line (fault_after lines)) (subst (λ f. AppendsFront now new (held ++ fault_line f)) e a))
-
-  unread : IsNear rest left → Rose before after → Appends now new (held ++ fault_line Read) → IsUnread all left old new before after
-  unread near rose a = (lines, events, running, rest, s, rose, near, whole (fault_line Read) a)
-
-  unread_front : IsNear rest left → Rose before after → AppendsFront now new (held ++ fault_line Read) → IsCutOff all left old new before after
-  unread_front near rose a = (lines, events, running, rest, text events ++ fault_line Read, s, inr (inl near), inr (inr (inr (inl (rose, refl)))), front (fault_line Read) a)
+  stops : (fault : Fault) (next : Stopping rest (length lines) running fault) → IsNear rest left → IsStopped left fault r (text events ++ (text next.printed ++ fault_line fault))
+  stops fault next near = record {
+    next = next;
+    sound = sound_stop lines running events next.line next.after next.printed fault s.leads next.stops;
+    taken = near;
+    output_is = sym (stopped_text events next.printed fault);
+  }
 
   -- what is held could not be handed on
-  pub unshown : IsNear rest left → AppendsFront now new held → IsCutOff all left old new before after
-  unshown near a = (lines, events, running, rest, text events, s, inr (inl near), inl refl, rw append-nil at (front [] (front_more now new held [] a)))
+  pub unshown : IsNear rest left → AppendsFront now new held → WroteFront all old new (IsCutOff left before after)
+  unshown near a = wrote_front [] (inr (inl near)) (inl (append-nil (text events))) (front_more now new held [] a)
 
   -- what is written last was written or not
-  pub refused : (result : Ended) (number rose risen : ℕ) → IsNear rest left → IsFaulty rest (length lines) running → Script number ≡ fault_after lines
+  pub refused : (result : Ended) (number rose risen : ℕ) → IsNear rest left → IsFaulty rest (length lines) running → Script number ≡ fault_after (length lines)
       → Closes now new rose risen (held ++ fault_line (Script number)) (ended.Stopped (Script number)) result → EndsAs all left old new before after result
   refused result number rose risen near f e c =
       elim c [
-        | inl is ↦ rw is.0 (faulty number near f e is.1)
-        | inr is ↦ rw is.0 (faulty_front number near f e is.1)
+        | inl is ↦ rw is.0 (wrote (λ r output. IsFaulted left r output) (fault_line (Script number)) (faulted number near f e) is.1)
+        | inr is ↦ rw is.0 (wrote_front (fault_line (Script number)) (inr (inl near)) (inr (inr (inl (faulted number near f e)))) is.1)
       ]
 
-  pub failed : (result : Ended) (rose risen : ℕ) → IsNear rest left → Rose before after
+  pub failed : (result : Ended) (rose risen : ℕ) → IsWithinLine rest left → Rose before after
       → Closes now new rose risen (held ++ fault_line Read) (ended.Stopped Read) result → EndsAs all left old new before after result
-  failed result rose risen near because c =
+  failed result rose risen within because c =
       elim c [
-        | inl is ↦ rw is.0 (unread near because is.1)
-        | inr is ↦ rw is.0 (unread_front near because is.1)
+        | inl is ↦ rw is.0 (wrote (λ r output. IsUnread left before after r output) (fault_line Read) (unread within because) is.1)
+        | inr is ↦ rw is.0 (wrote_front (fault_line Read) (inr (inl (within.0, within.1, within.2))) (inr (inr (inr (inl (unread within because))))) is.1)
       ]
 
   pub finished : (result : Ended) (rose risen : ℕ) (last : List Event) → IsAtEnd rest → Ends running last
       → Closes now new rose risen (held ++ text last) ended.Done result → EndsAs all left old new before after result
   finished result rose risen last e ends c =
       elim c [
-        | inl is ↦ rw is.0 (done last e ends is.1)
-        | inr is ↦ rw is.0 (done_front last e ends is.1)
+        | inl is ↦ rw is.0 (wrote (λ r output. IsDone r output) (text last) (done last e ends) is.1)
+        | inr is ↦ rw is.0 (wrote_front (text last) (inl e) (inr (inl (done last e ends))) is.1)
       ]
 
   -- the next line stops the script
-  pub halted : (printed : List Event) (fault : Fault) → IsNear rest left → IsHalting rest running printed fault → Appends now new (held ++ (text printed ++ fault_line fault)) → IsHalted all left old new fault
-  halted printed fault near h a = (lines, events, running, rest, printed, s, h, near, rw (halted_text events printed fault) (whole (text printed ++ fault_line fault) a))
+  pub stopped : (fault : Fault) (next : Stopping rest (length lines) running fault) → IsNear rest left → Appends now new (held ++ (text next.printed ++ fault_line fault)) → Wrote all old new (λ r output. IsStopped left fault r output)
+  stopped fault next near a = wrote (λ r output. IsStopped left fault r output) (text next.printed ++ fault_line fault) (stops fault next near) a
 
-  pub halted_front : (printed : List Event) (fault : Fault) → IsNear rest left → IsHalting rest running printed fault → AppendsFront now new (held ++ (text printed ++ fault_line fault)) → IsCutOff all left old new before after
-  halted_front printed fault near h a = (
-    lines,
-    events,
-    running,
-    rest,
-    text events ++ (text printed ++ fault_line fault),
-    s,
-    inr (inl near),
-    inr (inr (inr (inr (printed, fault, h, sym (halted_text events printed fault))))),
-    front (text printed ++ fault_line fault) a,
-  )
+  pub stopped_front : (fault : Fault) (next : Stopping rest (length lines) running fault) → IsNear rest left → AppendsFront now new (held ++ (text next.printed ++ fault_line fault)) → WroteFront all old new (IsCutOff left before after)
+  stopped_front fault next near a = wrote_front (text next.printed ++ fault_line fault) (inr (inl near)) (inr (inr (inr (inr (fault, stops fault next near))))) a
 
 -- what a line prints could not be handed on
 pub unprinted : (all mid rest left old now new : Option (List ℕ)) (before after : ℕ) (lines : List Line) (events more : List Event) (running next : Option Begun) (line : Line) (bytes held : List ℕ)
-    → IsSoFar all mid lines events running → IsUnended bytes → IsLine line bytes → Consumes mid rest (bytes ++ 10 ∷ []) → Leads running line next more
-    → IsNear mid left → Gathers [] held old now (text events) → AppendsFront now new (held ++ text more) → IsCutOff all left old new before after
-unprinted all mid rest left old now new before after lines events more running next line bytes held s u i c step near w a = (
-  lines ++ line ∷ [],
-  events ++ more,
-  next,
-  rest,
-  text events ++ text more,
-  so_far_more all mid rest lines events more running next line bytes s u i c step,
-  inr (inr (line, mid, (bytes, rest, u, i, c, Keeps-same rest), near)),
-  inl (sym (text-more events more)),
-  front_then [] held old now new (text events) (text more) w a,
-)
+    → IsSoFar all mid lines events running → length lines + 1 < 2 ^ 32 → IsUnended bytes → IsLine line bytes → Consumes mid rest (bytes ++ 10 ∷ []) → Leads running line next more
+    → IsNear mid left → Gathers [] held old now (text events) → AppendsFront now new (held ++ text more) → WroteFront all old new (IsCutOff left before after)
+unprinted all mid rest left old now new before after lines events more running next line bytes held s few u i c step near w a =
+    let so_far = so_far_more all mid rest lines events more running next line bytes s u i c step in
+    let counted : length (lines ++ line ∷ []) < 2 ^ 32 = omega (arith, few, length-append lines (line ∷ [])) in (
+      replayed all rest (lines ++ line ∷ []) (events ++ more) next so_far counted,
+      text events ++ text more,
+      (inr (inr (line, mid, (bytes, rest, u, i, c, Keeps-same rest), near)), inl (sym (text-more events more))),
+      front_then [] held old now new (text events) (text more) w a,
+    )
 
 -- ---- the line after ----
 
--- a line that was read and can't be applied, and one that can't be read
+refused_next : (rest after : Option (List ℕ)) (line : Line) (running : Option Begun) → AreLines rest (line ∷ []) after → IsRefused running line → IfSome rest (λ bytes. IsFaultyNext bytes running)
+refused_next None after line running h e = tt
+refused_next (Some bytes) after line running h e = inr (line, after, h, e)
+
+bad_next : (rest : Option (List ℕ)) (running : Option Begun) → IfSome rest IsBad → IfSome rest (λ bytes. IsFaultyNext bytes running)
+bad_next None running h = tt
+bad_next (Some bytes) running h = inl h
+
+-- the line that was read
+pub next_line : (old new : Reading) (left rest : Option (List ℕ)) (line : Line) → IsNext old new left rest (lined.Line line) → AreLines (to_come old left) (line ∷ []) (to_come new rest)
+next_line old new left rest line n = (n.0, to_come new rest, n.1, n.2, n.3, Keeps-same (to_come new rest))
+
+-- one that can't be applied, and one that can't be read
 pub faulty_line : (old new : Reading) (left rest : Option (List ℕ)) (line : Line) (running : Option Begun) (number : ℕ) → IsNext old new left rest (lined.Line line) → IsRefused running line → IsFaulty (to_come old left) number running
-faulty_line old new left rest line running number n e = inr (line, to_come new rest, (n.0, to_come new rest, n.1, n.2, n.3, Keeps-same (to_come new rest)), e)
+faulty_line old new left rest line running number n e = inl (refused_next (to_come old left) (to_come new rest) line running (next_line old new left rest line n) e)
 
 pub faulty_bad : (old new : Reading) (left rest : Option (List ℕ)) (lines : List Line) (running : Option Begun) → IsNext old new left rest lined.Bad → length lines ≡ old.number → IsFaulty (to_come old left) (length lines) running
-faulty_bad old new left rest lines running n e = inl (elim n.1 [ inl bad ↦ inl bad | inr last ↦ inr (e ∙ last) ])
+faulty_bad old new left rest lines running n e = elim n.1 [ inl bad ↦ inl (bad_next (to_come old left) running bad) | inr last ↦ inr (e ∙ last.0, last.1) ]
 
-pub line_number : (old new : Reading) (left rest : Option (List ℕ)) (line : Line) (lines : List Line) (number : ℕ) → IsNext old new left rest (lined.Line line) → length lines ≡ old.number → number ≡ new.number → number < 2 ^ 32 → Script number ≡ fault_after lines
+pub line_number : (old new : Reading) (left rest : Option (List ℕ)) (line : Line) (lines : List Line) (number : ℕ) → IsNext old new left rest (lined.Line line) → length lines ≡ old.number → number ≡ new.number → number < 2 ^ 32 → Script number ≡ fault_after (length lines)
 line_number old new left rest line lines number n e same low =
     let is : number ≡ min (length lines + 1) (2 ^ 32 - 1) = omega (arith, n.4, e, same) in
     ap Script is
 
-pub bad_number : (old new : Reading) (left rest : Option (List ℕ)) (lines : List Line) (number : ℕ) → IsNext old new left rest lined.Bad → length lines ≡ old.number → number ≡ new.number → Script number ≡ fault_after lines
+pub bad_number : (old new : Reading) (left rest : Option (List ℕ)) (lines : List Line) (number : ℕ) → IsNext old new left rest lined.Bad → length lines ≡ old.number → number ≡ new.number → Script number ≡ fault_after (length lines)
 bad_number old new left rest lines number n e same = ap Script (same ∙ n.2 ∙ ap (λ k. min (k + 1) (2 ^ 32 - 1)) (sym e))
+
+-- a line that was read has a number below 2^32
+pub one_left : (old new : Reading) (left rest : Option (List ℕ)) (line : Line) (lines : List Line) → IsNext old new left rest (lined.Line line) → length lines ≡ old.number → new.number < 2 ^ 32 → length lines + 1 < 2 ^ 32
+one_left old new left rest line lines n e few = omega (arith, n.4, e, few)
+
+pub counted_more : (old new : Reading) (left rest : Option (List ℕ)) (line : Line) (lines : List Line) → IsNext old new left rest (lined.Line line) → length lines ≡ old.number → new.number < 2 ^ 32 → length (lines ++ line ∷ []) < 2 ^ 32
+counted_more old new left rest line lines n e few = omega (arith, n.4, e, few, length-append lines (line ∷ []))
 
 -- ---- how much was taken ----
 
@@ -252,8 +265,8 @@ near_now reading left few = (reading.held, near_held (to_come reading left) left
 pub near_bad : (old new : Reading) (left rest : Option (List ℕ)) → IsNext old new left rest lined.Bad → IsNear (to_come old left) rest
 near_bad old new left rest n = (new.held, near_held (to_come old left) rest new.held n.0, n.3)
 
-pub near_failed : (old new : Reading) (left rest : Option (List ℕ)) → IsNext old new left rest lined.Failed → IsNear (to_come new rest) rest
-near_failed old new left rest n = near_now new rest n.2
+pub within_failed : (old new : Reading) (left rest : Option (List ℕ)) → IsNext old new left rest lined.Failed → IsWithinLine (to_come new rest) rest
+within_failed old new left rest n = (new.held, near_held (to_come new rest) rest new.held (Keeps-same (to_come new rest)), n.2, n.3)
 
 pub near_next : (old new : Reading) (left rest : Option (List ℕ)) (line : Line) → IsNext old new left rest (lined.Line line) → IsNear (to_come old left) rest
 near_next old new left rest line n = (n.0 ++ 10 ∷ new.held, near_line (to_come old left) rest n.0 new.held n.3, omega (arith, n.5, length-append n.0 (10 ∷ new.held)))

@@ -41,7 +41,7 @@ adds_so running line session held later old new outcomes.Applied h = h
 adds_so running line session held later old new outcomes.Refused h = h
 adds_so running line session held later old new outcomes.Memory h = h
 adds_so running line session held later old new outcomes.Unwritten h = absurd h.1
-adds_so running line session held later old new (outcomes.Halted fault) h = h
+adds_so running line session held later old new (outcomes.Stopped fault) h = h
 
 pub gone_on : (t : Session) (running : Begun) (line : Line) (printed : List Event) (stop : Option Stop) (held later : List ℕ) (old new : Option (List ℕ)) (outcome : Outcome) (id : ℕ)
     → Applies running line t printed stop → Gathers held later old new (text printed) → id ≡ id_of t → outcome ≡ outcome_of id stop

@@ -1,23 +1,65 @@
 -- What the replay of a script writes, by how it ends, and how much of the script it has taken then. `all` and `left` are
 -- what the source had at the call and has after it, `old` and `new` what the sink had and has, each where it tells.
-use Rattle.std.specs.Prelude.{◌≡◌, ℕ, ◌+◌, ◌-◌, ◌^◌, ◌≤◌, min, ◌⊎◌, List, [], ◌∷◌, ◌++◌, length, Option, None, Some, IfSome, codes}
+use Rattle.std.specs.Prelude.{◌≡◌, ℕ, ◌+◌, ◌-◌, ◌^◌, ◌<◌, ◌≤◌, min, ◌⊎◌, List, [], ◌∷◌, ◌++◌, length, Option, None, Some, IfSome, codes}
 use Rattle.std.specs.Io.KnownBytes.{Consumes, Appends, IsAtEnd}
 use Rattle.pump_frame.specs.Counts.{Rose}
 use Rattle.pump_link.specs.Causes.{AppendsFront}
+use Rattle.pump_core.specs.Comings.{Timed}
+use Rattle.pump_core.specs.Timed.{Step, Point}
 use Rattle.script_reader.specs.declared.line.Line.{Line}
 use Rattle.script_reader.specs.declared.event.Event.{Event}
 use Rattle.script_reader.specs.declared.fault.Fault.{Fault}
-use Rattle.script_reader.specs.declared.fault.Fault.TheVariants.{Read, Script, Device, Full}
+use Rattle.script_reader.specs.declared.fault.Fault.TheVariants.{Words, Read, Script, Device, Full}
 use Rattle.disk_model.specs.declared.name.Role.TheVariants as roles
-use Rattle.pump_core.specs.Replies.{LowReplies}
-use Rattle.script_reader.specs.Lines.{AreLines, IsBad}
-use Rattle.script_reader.specs.Readouts.{row_of, history_of, low_lines, KeepsBounds}
+use Rattle.script_reader.specs.Faults.{IsFaultyNext}
+use Rattle.script_reader.specs.Lines.{AreLines, IsUnended, IsSome}
+use Rattle.script_reader.specs.Readouts.{low_lines, Sound}
+use Rattle.script_reader.specs.Scripts.{Begun, Whole, Alone, LeadTo, Stops, IsTranscript}
+use Rattle.script_reader.specs.Sides.{low_side_of, told_to_low}
 use Rattle.script_reader.specs.Transcript.{text, fault_line}
-use Rattle.script_reader.specs.Scripts.{Begun, LeadTo, IsRefused, Halts, Ends, IsTranscript}
+use Rattle.two_worlds.specs.Timelines.{IsTimeline}
+use Rattle.two_worlds.specs.LowTimelines.{IsLowTimeline}
+
+-- ---- the words ----
 
 -- the words of the command "replay"
 abbrev pub IsReplay : List (List ℕ) → Type 0
 IsReplay words = words ≡ codes "replay" ∷ []
+
+-- what is written where the words are no command: with status 2 the fault, with status 4 a front of it, and nothing else
+abbrev pub TellsWords : Option (List ℕ) → Option (List ℕ) → ℕ → Type 0
+TellsWords old new status =
+    ((status ≡ 2) × Appends old new (fault_line Words)) ⊎ ((status ≡ 4) × AppendsFront old new (fault_line Words))
+
+-- ---- what the laws say of lines that can all be applied ----
+
+-- before each of these lines, what was printed until then is sound
+abbrev pub AreSound : List Line → List Event → Type 0
+AreSound lines events = (before : List Line) (line : Line) (later : List Line) → lines ≡ before ++ line ∷ later
+    → (running : Option Begun) × (first : List Event) × (rest : List Event)
+    × LeadTo None before running first × (events ≡ first ++ rest) × Sound running first
+
+-- what the session has been through is a timed run, of which its looks were told; to a low side alone its arrivals came
+-- as they come on a connection
+abbrev pub IsTimed : Option Begun → Type 0
+IsTimed None = Unit {0}
+IsTimed (Some (Whole s)) = (steps : List Step) × (t : Point) × IsTimeline s.row s.past steps t
+IsTimed (Some (Alone s)) = (events : List Timed) × IsLowTimeline s.row s.past events
+
+-- whatever other lines can be applied: with the same low side, to which the same was told, they print the same `low` lines
+abbrev pub DecideLow : List Line → List Event → Type 0
+DecideLow lines events = (others : List Line) (after : Option Begun) (printed : List Event) → LeadTo None others after printed
+    → low_side_of lines ≡ low_side_of others → told_to_low events ≡ told_to_low printed → low_lines events ≡ low_lines printed
+
+-- At the end of these lines, and before each of them: the `low` lines are the replies of the low history, each with its
+-- moment; no more messages are live than there are places, no more are held than lie between the hands, the receiver's
+-- list is a front of the accepted one, and at most 64 arrivals wait. The low side is told of a timed run alone, and what
+-- it was told decides its `low` lines
+pub record KeepLaws (lines : List Line) (running : Option Begun) (events : List Event) : Type 0 where
+  pub sound : Sound running events
+  pub each : AreSound lines events
+  pub timed : IsTimed running
+  pub low : DecideLow lines events
 
 -- ---- the lines so far ----
 
@@ -26,85 +68,105 @@ pub record IsSoFar (all rest : Option (List ℕ)) (lines : List Line) (events : 
   pub spelled : AreLines all lines rest
   pub leads : LeadTo None lines running events
 
--- the next line is outside the grammar, can't be applied, or would have the number 2^32
+-- the lines of a script that were replayed, what they print, and the session and the rest that they leave
+pub record Replayed (all : Option (List ℕ)) : Type 0 where
+  pub lines : List Line
+  pub events : List Event
+  pub running : Option Begun
+  pub rest : Option (List ℕ)
+  pub so_far : IsSoFar all rest lines events running
+  pub few : length lines < 2 ^ 32
+  pub laws : KeepLaws lines running events
+
+-- after so many lines: the next one is outside the grammar or can't be applied, or would have the number 2^32
 abbrev pub IsFaulty : Option (List ℕ) → ℕ → Option Begun → Type 0
-IsFaulty rest number running = (IfSome rest IsBad ⊎ (number ≡ 2 ^ 32 - 1))
-    ⊎ ((line : Line) × (after : Option (List ℕ)) × AreLines rest (line ∷ []) after × IsRefused running line)
+IsFaulty rest number running = IfSome rest (λ bytes. IsFaultyNext bytes running) ⊎ ((number ≡ 2 ^ 32 - 1) × IfSome rest IsSome)
 
--- the next line can be applied, and stops the script with this fault after it printed this
-abbrev pub IsHalting : Option (List ℕ) → Option Begun → List Event → Fault → Type 0
-IsHalting rest running printed fault =
-    (line : Line) × (after : Option (List ℕ)) × AreLines rest (line ∷ []) after × Halts running line printed fault
+-- after so many lines: the next one can be applied, has a number below 2^32, and stops the script with this fault, after
+-- it has led to `after` and printed this
+pub record Stopping (rest : Option (List ℕ)) (number : ℕ) (running : Option Begun) (fault : Fault) : Type 0 where
+  pub few : number + 1 < 2 ^ 32
+  pub line : Line
+  pub left : Option (List ℕ)
+  pub spelled : AreLines rest (line ∷ []) left
+  pub after : Option Begun
+  pub printed : List Event
+  pub stops : Stops running line after printed fault
 
--- the fault of the line after these
-abbrev pub fault_after : List Line → Fault
-fault_after lines = Script (min (length lines + 1) (2 ^ 32 - 1))
+-- the fault of the line after so many
+abbrev pub fault_after : ℕ → Fault
+fault_after number = Script (min (number + 1) (2 ^ 32 - 1))
+
+-- ---- how much was taken ----
 
 -- at most 4,096 bytes of the rest were taken
 abbrev pub IsNear : Option (List ℕ) → Option (List ℕ) → Type 0
 IsNear rest left = (taken : List ℕ) × Consumes rest left taken × (length taken ≤ 4096)
 
--- ---- the ends of a replay ----
-
--- Whatever session these lines lead to: the `low` lines of what is printed are the replies of its low history, each
--- with its moment. No more messages are live than there are places, no more are held than lie between the hands, the
--- receiver's list is a front of the accepted one, and at most 64 arrivals wait; of a low side alone only the last is said
-abbrev pub KeepsLaws : List Line → List Event → Type 0
-KeepsLaws lines printed = (s : Begun) (body : List Event) → LeadTo None lines (Some s) body
-    → LowReplies (row_of s) (history_of s) (low_lines printed) × KeepsBounds s
-
--- the whole script was read and applied, and its transcript was written
-pub record IsDone (all old new : Option (List ℕ)) : Type 0 where
-  pub lines : List Line
-  pub printed : List Event
-  pub rest : Option (List ℕ)
-  pub spelled : AreLines all lines rest
-  pub ended : IsAtEnd rest
-  pub transcript : IsTranscript lines printed
-  pub kept : KeepsLaws lines printed
-  pub written : Appends old new (text printed)
-
--- a read failed after these lines: what they print was written, and the fault. At most 4,096 bytes were taken from the
--- line on that could not be read
-abbrev pub IsUnread : Option (List ℕ) → Option (List ℕ) → Option (List ℕ) → Option (List ℕ) → ℕ → ℕ → Type 0
-IsUnread all left old new before now = (lines : List Line) × (events : List Event) × (running : Option Begun) × (rest : Option (List ℕ))
-    × IsSoFar all rest lines events running × Rose before now × IsNear rest left × Appends old new (text events ++ fault_line Read)
-
--- the line after these is faulty: what they print was written, and the fault with the line's number. At most 4,096
--- bytes were taken from the faulty line on
-abbrev pub IsStopped : Option (List ℕ) → Option (List ℕ) → Option (List ℕ) → Option (List ℕ) → Type 0
-IsStopped all left old new = (lines : List Line) × (events : List Event) × (running : Option Begun) × (rest : Option (List ℕ))
-    × IsSoFar all rest lines events running × IsFaulty rest (length lines) running × IsNear rest left
-    × Appends old new (text events ++ fault_line (fault_after lines))
-
--- the line after these stops the script: what they print was written, what it prints up to its stop, and the fault. At
--- most 4,096 bytes were taken from that line on
-abbrev pub IsHalted : Option (List ℕ) → Option (List ℕ) → Option (List ℕ) → Option (List ℕ) → Fault → Type 0
-IsHalted all left old new fault = (lines : List Line) × (events : List Event) × (running : Option Begun) × (rest : Option (List ℕ)) × (printed : List Event)
-    × IsSoFar all rest lines events running × IsHalting rest running printed fault × IsNear rest left
-    × Appends old new (text (events ++ printed) ++ fault_line fault)
-
--- .. the device of its low disk fails in a store, as the line tells
-abbrev pub IsFailed : Option (List ℕ) → Option (List ℕ) → Option (List ℕ) → Option (List ℕ) → Type 0
-IsFailed all left old new = (session : ℕ) × IsHalted all left old new (Device session roles.Low)
-
--- .. a message does not fit on the receiver's disk
-abbrev pub IsOverfilled : Option (List ℕ) → Option (List ℕ) → Option (List ℕ) → Option (List ℕ) → Type 0
-IsOverfilled all left old new = (session end size_of_message size : ℕ) × IsHalted all left old new (Full session end size_of_message size)
-
--- what a replay that has come so far writes, or begins with
-abbrev pub IsOutput : Option (List ℕ) → List Line → List Event → Option Begun → ℕ → ℕ → List ℕ → Type 0
-IsOutput rest lines events running before now output = (output ≡ text events)
-    ⊎ ((IsAtEnd rest × (last : List Event) × Ends running last × (output ≡ text (events ++ last)))
-    ⊎ ((IsFaulty rest (length lines) running × (output ≡ text events ++ fault_line (fault_after lines)))
-    ⊎ ((Rose before now × (output ≡ text events ++ fault_line Read))
-    ⊎ ((printed : List Event) × (fault : Fault) × IsHalting rest running printed fault × (output ≡ text (events ++ printed) ++ fault_line fault)))))
+-- .. none of them a line end, so that no whole line that was taken is among them
+abbrev pub IsWithinLine : Option (List ℕ) → Option (List ℕ) → Type 0
+IsWithinLine rest left = (taken : List ℕ) × Consumes rest left taken × (length taken ≤ 4096) × IsUnended taken
 
 -- at most 4,096 bytes were taken from the line after these on, or from the last of these, or all lines were read
 abbrev pub IsNearLast : Option (List ℕ) → Option (List ℕ) → Type 0
 IsNearLast rest left = IsAtEnd rest ⊎ (IsNear rest left ⊎ ((line : Line) × (begin : Option (List ℕ)) × AreLines begin (line ∷ []) rest × IsNear begin left))
 
--- the output could not be written: a front of it was
-abbrev pub IsCutOff : Option (List ℕ) → Option (List ℕ) → Option (List ℕ) → Option (List ℕ) → ℕ → ℕ → Type 0
-IsCutOff all left old new before now = (lines : List Line) × (events : List Event) × (running : Option Begun) × (rest : Option (List ℕ)) × (output : List ℕ)
-    × IsSoFar all rest lines events running × IsNearLast rest left × IsOutput rest lines events running before now output × AppendsFront old new output
+-- ---- the ends of a replay ----
+
+-- the script is at its end: the output is its transcript
+pub record IsDone {all : Option (List ℕ)} (r : Replayed all) (output : List ℕ) : Type 0 where
+  pub ended : IsAtEnd r.rest
+  pub printed : List Event
+  pub transcript : IsTranscript r.lines printed
+  pub sound : Sound r.running printed
+  pub output_is : output ≡ text printed
+
+-- a read failed, and every whole line that was taken was replayed: the output is what they print, and the fault
+pub record IsUnread {all : Option (List ℕ)} (left : Option (List ℕ)) (before now : ℕ) (r : Replayed all) (output : List ℕ) : Type 0 where
+  pub rose : Rose before now
+  pub taken : IsWithinLine r.rest left
+  pub output_is : output ≡ text r.events ++ fault_line Read
+
+-- the next line is faulty: the output is what the lines before it print, and the fault with its number. At most 4,096
+-- bytes were taken from the faulty line on
+pub record IsFaulted {all : Option (List ℕ)} (left : Option (List ℕ)) (r : Replayed all) (output : List ℕ) : Type 0 where
+  pub faulty : IsFaulty r.rest (length r.lines) r.running
+  pub taken : IsNear r.rest left
+  pub output_is : output ≡ text r.events ++ fault_line (fault_after (length r.lines))
+
+-- the next line stops the script: the output is what the lines before it print, what it prints up to its stop, and the
+-- fault. All that is printed is sound. At most 4,096 bytes were taken from that line on
+pub record IsStopped {all : Option (List ℕ)} (left : Option (List ℕ)) (fault : Fault) (r : Replayed all) (output : List ℕ) : Type 0 where
+  pub next : Stopping r.rest (length r.lines) r.running fault
+  pub sound : Sound next.after (r.events ++ next.printed)
+  pub taken : IsNear r.rest left
+  pub output_is : output ≡ text (r.events ++ next.printed) ++ fault_line fault
+
+-- .. the device of its low disk fails in a store, as the line tells
+abbrev pub IsFailed : {all : Option (List ℕ)} → Option (List ℕ) → Replayed all → List ℕ → Type 0
+IsFailed left r output = (session : ℕ) × IsStopped left (Device session roles.Low) r output
+
+-- .. a message does not fit on the receiver's disk
+abbrev pub IsOverfilled : {all : Option (List ℕ)} → Option (List ℕ) → Replayed all → List ℕ → Type 0
+IsOverfilled left r output = (session end size_of_message size : ℕ) × IsStopped left (Full session end size_of_message size) r output
+
+-- the output is what a replay that has come so far writes, or begins with
+abbrev pub IsOutput : {all : Option (List ℕ)} → Option (List ℕ) → ℕ → ℕ → Replayed all → List ℕ → Type 0
+IsOutput left before now r output = (output ≡ text r.events)
+    ⊎ (IsDone r output
+    ⊎ (IsFaulted left r output
+    ⊎ (IsUnread left before now r output
+    ⊎ ((fault : Fault) × IsStopped left fault r output))))
+
+abbrev pub IsCutOff : {all : Option (List ℕ)} → Option (List ℕ) → ℕ → ℕ → Replayed all → List ℕ → Type 0
+IsCutOff left before now r output = IsNearLast r.rest left × IsOutput left before now r output
+
+-- ---- what was written ----
+
+-- a replay of the script has come so far that it ends so, and its output was written
+abbrev pub Wrote : (all old new : Option (List ℕ)) → (Replayed all → List ℕ → Type 0) → Type 0
+Wrote all old new End = (r : Replayed all) × (output : List ℕ) × End r output × Appends old new output
+
+-- .. a front of its output was
+abbrev pub WroteFront : (all old new : Option (List ℕ)) → (Replayed all → List ℕ → Type 0) → Type 0
+WroteFront all old new End = (r : Replayed all) × (output : List ℕ) × End r output × AppendsFront old new output

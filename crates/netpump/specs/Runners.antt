@@ -6,13 +6,13 @@ use Rattle.pump_link.specs.Causes.{AppendsFront}
 use Rattle.script_reader.specs.declared.event.Event.{Event}
 use Rattle.script_reader.specs.declared.fault.Fault.TheVariants as faults
 use Rattle.script_reader.specs.declared.line.Line.{Line}
-use Rattle.script_reader.specs.Scripts.{Begun, Leads, IsRefused, Halts}
+use Rattle.script_reader.specs.Scripts.{Begun, Leads, IsRefused, Stops}
 use Rattle.script_reader.specs.Transcript.{text}
 use Rattle.two_worlds.specs.declared.applied.Stop.{Stop}
 use Rattle.two_worlds.specs.declared.applied.Stop.TheVariants as stops
 use Rattle.netpump.specs.Sessions.{IsUp, StandsForRunning}
 use Rattle.netpump.specs.Outputs.{Gathers}
-use Rattle.netpump.specs.Replays.{IsDone, IsUnread, IsStopped, IsFailed, IsOverfilled, IsCutOff}
+use Rattle.netpump.specs.Replays.{IsDone, IsUnread, IsFaulted, IsFailed, IsOverfilled, IsCutOff, Wrote, WroteFront}
 use Rattle.netpump.specs.declared.session.Session.{Session}
 use Rattle.netpump.specs.declared.replay.Outcome.{Outcome}
 use Rattle.netpump.specs.declared.replay.Outcome.TheVariants as outcomes
@@ -28,15 +28,15 @@ AreUp (Some session) = IsUp session
 abbrev pub outcome_of : ℕ → Option Stop → Outcome
 outcome_of id None = outcomes.Applied
 outcome_of id (Some stops.Line) = outcomes.Refused
-outcome_of id (Some (stops.Device role count)) = outcomes.Halted (faults.Device id role)
-outcome_of id (Some (stops.Full end length size)) = outcomes.Halted (faults.Full id end length size)
+outcome_of id (Some (stops.Device role count)) = outcomes.Stopped (faults.Device id role)
+outcome_of id (Some (stops.Full end length size)) = outcomes.Stopped (faults.Full id end length size)
 
 -- a line that prints this leads on, can't be applied, stops the script, or a session could not begin for want of memory
 abbrev pub Goes : Option Begun → Line → Option Session → List Event → Outcome → Type 0
 Goes running line session printed outcomes.Applied =
     (after : Option Begun) × Leads running line after printed × StandsForRunning session after
 Goes running line session printed outcomes.Refused = IsRefused running line × (printed ≡ [])
-Goes running line session printed (outcomes.Halted fault) = Halts running line printed fault
+Goes running line session printed (outcomes.Stopped fault) = (after : Option Begun) × Stops running line after printed fault
 Goes running line session printed outcomes.Memory = (running ≡ None) × (printed ≡ [])
 Goes running line session printed outcomes.Unwritten = ⊥
 
@@ -52,7 +52,7 @@ Does running line session held later old new outcomes.Unwritten =
 Does running line session held later old new outcomes.Applied = Adds running line session held later old new outcomes.Applied
 Does running line session held later old new outcomes.Refused = Adds running line session held later old new outcomes.Refused
 Does running line session held later old new outcomes.Memory = Adds running line session held later old new outcomes.Memory
-Does running line session held later old new (outcomes.Halted fault) = Adds running line session held later old new (outcomes.Halted fault)
+Does running line session held later old new (outcomes.Stopped fault) = Adds running line session held later old new (outcomes.Stopped fault)
 
 -- these last bytes were written and the end is this one, or a front of them was and the sink's count rose
 abbrev pub Closes : Option (List ℕ) → Option (List ℕ) → ℕ → ℕ → List ℕ → Ended → Ended → Type 0
@@ -61,11 +61,11 @@ Closes old new before now bytes end result =
 
 -- how a replay ends
 abbrev pub EndsAs : Option (List ℕ) → Option (List ℕ) → Option (List ℕ) → Option (List ℕ) → ℕ → ℕ → Ended → Type 0
-EndsAs all left old new before now ended.Done = IsDone all old new
+EndsAs all left old new before now ended.Done = Wrote all old new IsDone
 EndsAs all left old new before now ended.Memory = Appends old new []
-EndsAs all left old new before now ended.Write = IsCutOff all left old new before now
+EndsAs all left old new before now ended.Write = WroteFront all old new (IsCutOff left before now)
 EndsAs all left old new before now (ended.Stopped faults.Words) = ⊥
-EndsAs all left old new before now (ended.Stopped faults.Read) = IsUnread all left old new before now
-EndsAs all left old new before now (ended.Stopped (faults.Script number)) = IsStopped all left old new
-EndsAs all left old new before now (ended.Stopped (faults.Device session role)) = IsFailed all left old new
-EndsAs all left old new before now (ended.Stopped (faults.Full session end size_of_message size)) = IsOverfilled all left old new
+EndsAs all left old new before now (ended.Stopped faults.Read) = Wrote all old new (IsUnread left before now)
+EndsAs all left old new before now (ended.Stopped (faults.Script number)) = Wrote all old new (IsFaulted left)
+EndsAs all left old new before now (ended.Stopped (faults.Device session role)) = Wrote all old new (IsFailed left)
+EndsAs all left old new before now (ended.Stopped (faults.Full session end size_of_message size)) = Wrote all old new (IsOverfilled left)

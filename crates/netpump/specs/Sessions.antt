@@ -5,7 +5,7 @@ use Rattle.disk_model.specs.declared.name.Role.TheVariants as roles
 use Rattle.script_reader.specs.declared.event.Event.{Event}
 use Rattle.script_reader.specs.declared.fault.Fault.TheVariants as faults
 use Rattle.script_reader.specs.declared.line.Line.{Line}
-use Rattle.script_reader.specs.Scripts.{Begun, Whole, Alone, Leads, IsRefused, Halts}
+use Rattle.script_reader.specs.Scripts.{Begun, Whole, Alone, Leads, IsRefused, Stops}
 use Rattle.two_worlds.specs.declared.applied.Stop.{Stop}
 use Rattle.two_worlds.specs.declared.applied.Stop.TheVariants as stops
 use Rattle.two_worlds.specs.Pumps as pump
@@ -62,6 +62,6 @@ Applies running line t printed None =
     (after : Option Begun) × Leads (Some running) line after printed × StandsForRunning (Some t) after
 Applies running line t printed (Some stops.Line) = IsRefused (Some running) line × (printed ≡ [])
 Applies running line t printed (Some (stops.Device role count)) =
-    Halts (Some running) line printed (faults.Device (id_of t) role)
+    (after : Option Begun) × Stops (Some running) line after printed (faults.Device (id_of t) role)
 Applies running line t printed (Some (stops.Full end length size)) =
-    Halts (Some running) line printed (faults.Full (id_of t) end length size)
+    (after : Option Begun) × Stops (Some running) line after printed (faults.Full (id_of t) end length size)

@@ -1,28 +1,26 @@
 -- The status of a script by its bytes alone, where it can be read and answered and memory is not wanting.
-use Rattle.std.specs.Prelude.{◌≡◌, ◌⊎◌, ℕ, ◌+◌, ◌-◌, ◌^◌, ◌<◌, List, [], length, Option, None, Some}
+use Rattle.std.specs.Prelude.{◌≡◌, ◌⊎◌, ℕ, ◌^◌, ◌<◌, List, [], length, Option, None, Some}
 use Rattle.script_reader.specs.declared.line.Line.{Line}
 use Rattle.script_reader.specs.declared.event.Event.{Event}
 use Rattle.script_reader.specs.declared.fault.Fault.{Fault}
 use Rattle.script_reader.specs.declared.fault.Fault.TheVariants.{Words, Read, Script, Device, Full}
-use Rattle.script_reader.specs.Faults.{IsFaultyNext}
 use Rattle.script_reader.specs.Scripts.{Begun}
-use Rattle.netpump.specs.Replays.{IsSoFar, IsHalting}
+use Rattle.netpump.specs.Replays.{IsSoFar, IsFaulty, fault_after, Stopping}
 
--- after so many lines, with no fault nothing is left; with one the next line is outside the grammar or can't be
--- applied, or it stops the script
+-- after so many lines, with no fault nothing is left; with one the next line is faulty, or it stops the script
 abbrev pub IsEnd : List ℕ → ℕ → Option Begun → Option Fault → Type 0
 IsEnd rest number running None = rest ≡ []
-IsEnd rest number running (Some fault) = (IsFaultyNext rest running × (fault ≡ Script (number + 1)))
-    ⊎ ((printed : List Event) × IsHalting (Some rest) running printed fault)
+IsEnd rest number running (Some fault) = (IsFaulty (Some rest) number running × (fault ≡ fault_after number))
+    ⊎ Stopping (Some rest) number running fault
 
--- the bytes begin with lines that can all be applied, and end so after them; the lines are fewer than 2^32 - 1
+-- the bytes begin with lines that can all be applied, fewer than 2^32, and end so after them
 pub record EndsWith (bytes : List ℕ) (end : Option Fault) : Type 0 where
   pub lines : List Line
   pub events : List Event
   pub running : Option Begun
   pub rest : List ℕ
   pub so_far : IsSoFar (Some bytes) (Some rest) lines events running
-  pub few : length lines < 2 ^ 32 - 1
+  pub few : length lines < 2 ^ 32
   pub is_end : IsEnd rest (length lines) running end
 
 -- the status of a script that ends so

@@ -1,10 +1,9 @@
 ghost use Rattle.std.specs.Prelude.{◌≡◌, ℕ, ◌≤◌, ◌↔◌, ◌⊎◌, List, [], Option, Some, map, string_bytes, IsTrue};
 ghost use Rattle.std.specs.Io.KnownBytes.{Appends};
 ghost use Rattle.pump_frame.specs.Counts.{Rose};
-ghost use Rattle.script_reader.specs.Transcript.{fault_line};
 ghost use Rattle.script_reader.specs.declared.fault.Fault.{Fault as Cause};
 ghost use Rattle.netpump.specs.Statuses.{EndsWith, status_of};
-ghost use Rattle.netpump.specs.Replays.{IsReplay, IsDone, IsUnread, IsStopped, IsFailed, IsOverfilled, IsCutOff};
+ghost use Rattle.netpump.specs.Replays.{IsReplay, TellsWords, IsDone, IsUnread, IsFaulted, IsFailed, IsOverfilled, IsCutOff, Wrote, WroteFront};
 
 use crate::output::Output;
 use crate::replay::{Ended, replay, stop};
@@ -44,18 +43,19 @@ pub fn batch<I: Source, O: Sink>(
     script: &mut I,
     out: &mut O,
 ) -> u8
-    ensures done { result ≡ 0 → IsDone (I.left script.old) (O.written out.old) (O.written out.new) }
-    ensures memory { result ≡ 1 → Appends (O.written out.old) (O.written out.new) [] }
-    ensures words { result ≡ 2 → Appends (O.written out.old) (O.written out.new) (fault_line Fault.Words) }
-    ensures unread { result ≡ 3 → IsUnread (I.left script.old) (I.left script.new) (O.written out.old) (O.written out.new) (I.faults script.old) (I.faults script.new) }
-    ensures unwritten { result ≡ 4 → Rose (O.faults out.old) (O.faults out.new) }
-    ensures cut_off { result ≡ 4 → IsReplay (map string_bytes words.now.items) → IsCutOff (I.left script.old) (I.left script.new) (O.written out.old) (O.written out.new) (I.faults script.old) (I.faults script.new) }
-    ensures stopped { result ≡ 5 → IsStopped (I.left script.old) (I.left script.new) (O.written out.old) (O.written out.new) }
-    ensures device { result ≡ 7 → IsFailed (I.left script.old) (I.left script.new) (O.written out.old) (O.written out.new) }
-    ensures full { result ≡ 10 → IsOverfilled (I.left script.old) (I.left script.new) (O.written out.old) (O.written out.new) }
-    // Status 2 comes exactly where the words are not the one word "replay", where it can be written.
+    // Words that are no command: nothing of the script is read, and the fault is all that is written.
+    ensures untouched { (IsReplay (map string_bytes words.now.items) → ⊥) → script.new ≡ script.old }
+    ensures words { (IsReplay (map string_bytes words.now.items) → ⊥) → TellsWords (O.written out.old) (O.written out.new) result }
     ensures replay { IsReplay (map string_bytes words.now.items) → (result ≡ 2 → ⊥) }
-    ensures no_replay { (IsReplay (map string_bytes words.now.items) → ⊥) → (result ≡ 2) ⊎ (result ≡ 4) }
+    // How a replay ends.
+    ensures done { result ≡ 0 → Wrote (I.left script.old) (O.written out.old) (O.written out.new) IsDone }
+    ensures memory { result ≡ 1 → Appends (O.written out.old) (O.written out.new) [] }
+    ensures unread { result ≡ 3 → Wrote (I.left script.old) (O.written out.old) (O.written out.new) (IsUnread (I.left script.new) (I.faults script.old) (I.faults script.new)) }
+    ensures unwritten { result ≡ 4 → Rose (O.faults out.old) (O.faults out.new) }
+    ensures cut_off { result ≡ 4 → IsReplay (map string_bytes words.now.items) → WroteFront (I.left script.old) (O.written out.old) (O.written out.new) (IsCutOff (I.left script.new) (I.faults script.old) (I.faults script.new)) }
+    ensures faulted { result ≡ 5 → Wrote (I.left script.old) (O.written out.old) (O.written out.new) (IsFaulted (I.left script.new)) }
+    ensures device { result ≡ 7 → Wrote (I.left script.old) (O.written out.old) (O.written out.new) (IsFailed (I.left script.new)) }
+    ensures full { result ≡ 10 → Wrote (I.left script.old) (O.written out.old) (O.written out.new) (IsOverfilled (I.left script.new)) }
     // A script that tells its bytes has the status of its end, unless memory, a read or a write failed.
     ensures only { IsReplay (map string_bytes words.now.items) → (bytes : List ℕ) (end : Option Cause) → I.left script.old ≡ Some bytes → EndsWith bytes end
         → (result ≡ status_of end) ⊎ ((result ≡ 1) ⊎ ((result ≡ 3) ⊎ (result ≡ 4))) }

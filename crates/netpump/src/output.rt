@@ -1,17 +1,21 @@
-ghost use Rattle.std.specs.Prelude.{◌≡◌, [], ◌++◌, OnOk, OnErr};
+ghost use Rattle.std.specs.Prelude.{◌≡◌, ◌+◌, ◌≤◌, [], ◌++◌, length, OnOk, OnErr};
 ghost use Rattle.std.specs.Io.KnownBytes.{Appends};
 ghost use Rattle.pump_link.specs.Causes.{HasCause, AppendsFront};
+ghost use Rattle.script_reader.specs.EventHeads.{event_of};
 ghost use Rattle.script_reader.specs.Transcript.{text, event_line, fault_line};
+ghost use Rattle.two_worlds.specs.Printing.{lines_in};
 ghost use Rattle.netpump.specs.Outputs.{held_of, Gathers};
 
 use arrayvec::ArrayVec;
 use pump_link::{Sink, WriteFault, write_all};
-use script_reader::{Event, Fault, print_event, print_fault};
+use script_reader::{EventHead, Fault, append_fault, append_head};
+
+/// The most bytes that a printed line can ask for.
+const LINE_ROOM: usize = 256;
 
 /// What is printed, held back until a large piece of it is there or somebody is to see it.
 #[derive(Drop)]
 pub struct Output {
-    line: ArrayVec<u8, 2400>,
     held: ArrayVec<u8, 8192>,
 }
 
@@ -20,7 +24,6 @@ impl Output {
         ensures { held_of result ≡ [] }
     {
         Output {
-            line: ArrayVec::new(),
             held: ArrayVec::new(),
         }
     }
@@ -31,40 +34,42 @@ impl Output {
         ensures empty { OnOk result (held_of self.new ≡ []) }
         ensures err { OnErr result (AppendsFront (O.written out.old) (O.written out.new) (held_of self.old)) }
         ensures cause { HasCause (O.faults out.old) (O.faults out.new) result }
-        ensures line { self.new.line ≡ self.old.line }
     {
         write_all(out, self.held.as_slice())?;
         self.held.clear();
         Ok(())
     }
 
-    /// Adds the line that was printed into the room of one.
-    fn add<O: Sink>(&mut self, out: &mut O) -> Result<(), WriteFault>
-        ensures ok { OnOk result (Gathers (held_of self.old) (held_of self.new) (O.written out.old) (O.written out.new) self.old.line.items) }
+    /// Hands on what is held where a line may not fit behind it.
+    fn make_room<O: Sink>(&mut self, out: &mut O) -> Result<(), WriteFault>
+        ensures ok { OnOk result (Gathers (held_of self.old) (held_of self.new) (O.written out.old) (O.written out.new) []) }
+        ensures room { OnOk result (length (held_of self.new) + 256 ≤ 8192) }
         ensures err { OnErr result (AppendsFront (O.written out.old) (O.written out.new) (held_of self.old)) }
         ensures cause { HasCause (O.faults out.old) (O.faults out.new) result }
     {
-        if self.held.remaining_capacity() < self.line.len() {
-            self.flush(out)?;
+        if self.held.remaining_capacity() < LINE_ROOM {
+            return self.flush(out);
         }
-        self.held
-            .try_extend_from_slice(self.line.as_slice())
-            .unwrap();
         Ok(())
     }
 
-    pub fn print<O: Sink>(&mut self, event: &Event, out: &mut O) -> Result<(), WriteFault>
-        ensures ok { OnOk result (Gathers (held_of self.old) (held_of self.new) (O.written out.old) (O.written out.new) (event_line event.now)) }
+    pub fn print<O: Sink>(&mut self, event: &EventHead, out: &mut O) -> Result<(), WriteFault>
+        ensures ok { OnOk result (Gathers (held_of self.old) (held_of self.new) (O.written out.old) (O.written out.new) (event_line (event_of event.now))) }
         ensures err { OnErr result (AppendsFront (O.written out.old) (O.written out.new) (held_of self.old)) }
         ensures cause { HasCause (O.faults out.old) (O.faults out.new) result }
     {
-        print_event(event, &mut self.line);
-        self.add(out)
+        self.make_room(out)?;
+        append_head(event, &mut self.held);
+        Ok(())
     }
 
-    pub fn print_all<O: Sink>(&mut self, events: &[Event], out: &mut O) -> Result<(), WriteFault>
-        ensures ok { OnOk result (Gathers (held_of self.old) (held_of self.new) (O.written out.old) (O.written out.new) (text events.now)) }
-        ensures err { OnErr result (AppendsFront (O.written out.old) (O.written out.new) (held_of self.old ++ text events.now)) }
+    pub fn print_all<O: Sink>(
+        &mut self,
+        events: &[EventHead],
+        out: &mut O,
+    ) -> Result<(), WriteFault>
+        ensures ok { OnOk result (Gathers (held_of self.old) (held_of self.new) (O.written out.old) (O.written out.new) (text (lines_in events.now))) }
+        ensures err { OnErr result (AppendsFront (O.written out.old) (O.written out.new) (held_of self.old ++ text (lines_in events.now))) }
         ensures cause { HasCause (O.faults out.old) (O.faults out.new) result }
     {
         for event in events {
@@ -79,8 +84,8 @@ impl Output {
         ensures err { OnErr result (AppendsFront (O.written out.old) (O.written out.new) (held_of self.old ++ fault_line fault.now)) }
         ensures cause { HasCause (O.faults out.old) (O.faults out.new) result }
     {
-        print_fault(fault, &mut self.line);
-        self.add(out)?;
+        self.make_room(out)?;
+        append_fault(fault, &mut self.held);
         self.flush(out)
     }
 }

@@ -8,6 +8,7 @@ ghost use Rattle.script_reader.specs.Lines.{IsReady};
 ghost use Rattle.script_reader.specs.Scripts.{Begun, Ends};
 ghost use Rattle.script_reader.specs.declared.event.Event.{Event as Printed};
 ghost use Rattle.script_reader.specs.Transcript.{text, fault_line};
+ghost use Rattle.two_worlds.specs.Printing.{lines_in};
 ghost use Rattle.netpump.specs.Sessions.{IsUp, StandsFor, StandsForRunning};
 ghost use Rattle.netpump.specs.Outputs.{held_of, Gathers};
 ghost use Rattle.netpump.specs.Runners.{AreUp, outcome_of, Goes, Does, Closes, EndsAs};
@@ -17,7 +18,7 @@ use crate::session::Session;
 use arrayvec::ArrayVec;
 use pump_frame::OutOfMemory;
 use pump_link::{Sink, Source, WriteFault};
-use script_reader::{LineHead, LinedHead, Body, Event, Fault, Line, Lines};
+use script_reader::{Body, EventHead, Fault, Line, LineHead, LinedHead, Lines};
 use std::alloc::Global;
 use two_worlds::Stop;
 
@@ -38,7 +39,7 @@ pub enum Outcome {
     Applied,
     Refused,
     /// It stops the script with this fault.
-    Halted(Fault),
+    Stopped(Fault),
     Memory,
     Unwritten,
 }
@@ -84,11 +85,11 @@ fn outcome_of(id: u32, stop: &Option<Stop>) -> Outcome
     match stop {
         None => Outcome::Applied,
         Some(Stop::Line) => Outcome::Refused,
-        Some(Stop::Device { role, .. }) => Outcome::Halted(Fault::Device {
+        Some(Stop::Device { role, .. }) => Outcome::Stopped(Fault::Device {
             session: id,
             role: *role,
         }),
-        Some(Stop::Full { end, length, size }) => Outcome::Halted(Fault::Full {
+        Some(Stop::Full { end, length, size }) => Outcome::Stopped(Fault::Full {
             session: id,
             end: *end,
             length: *length,
@@ -102,7 +103,7 @@ fn go_on<O: Sink>(
     session: &mut Session,
     line: &LineHead,
     body: &Body,
-    events: &mut ArrayVec<Event, 4>,
+    events: &mut ArrayVec<EventHead, 4>,
     output: &mut Output,
     out: &mut O,
 ) -> Outcome
@@ -128,7 +129,7 @@ fn turn<O: Sink>(
     session: &mut Option<Session>,
     line: &LineHead,
     body: &Body,
-    events: &mut ArrayVec<Event, 4>,
+    events: &mut ArrayVec<EventHead, 4>,
     output: &mut Output,
     out: &mut O,
 ) -> Outcome
@@ -163,8 +164,8 @@ fn show<O: Sink>(lines: &Lines, output: &mut Output, out: &mut O) -> Result<(), 
 }
 
 /// What the end of the script prints.
-fn last_of(session: &Option<Session>) -> Option<Event>
-    ensures { (running : Option Begun) → StandsForRunning session.now running → Ends running (option_to_list result) }
+fn last_of(session: &Option<Session>) -> Option<EventHead>
+    ensures { (running : Option Begun) → StandsForRunning session.now running → Ends running (lines_in (option_to_list result)) }
 {
     match session {
         None => None,
@@ -174,12 +175,12 @@ fn last_of(session: &Option<Session>) -> Option<Event>
 
 /// Hands on what is held, and what is printed last.
 fn write_last<O: Sink>(
-    last: &Option<Event>,
+    last: &Option<EventHead>,
     output: &mut Output,
     out: &mut O,
 ) -> Result<(), WriteFault>
-    ensures ok { OnOk result (Appends (O.written out.old) (O.written out.new) (held_of output.old ++ text (option_to_list last.now))) }
-    ensures err { OnErr result (AppendsFront (O.written out.old) (O.written out.new) (held_of output.old ++ text (option_to_list last.now))) }
+    ensures ok { OnOk result (Appends (O.written out.old) (O.written out.new) (held_of output.old ++ text (lines_in (option_to_list last.now)))) }
+    ensures err { OnErr result (AppendsFront (O.written out.old) (O.written out.new) (held_of output.old ++ text (lines_in (option_to_list last.now)))) }
     ensures cause { HasCause (O.faults out.old) (O.faults out.new) result }
 {
     match last {
@@ -246,7 +247,7 @@ pub fn replay<I: Source, O: Sink>(alloc: Global, script: &mut I, out: &mut O) ->
             ) {
                 Outcome::Applied => {}
                 Outcome::Refused => return refuse(lines.number(), &mut output, out),
-                Outcome::Halted(fault) => return stop(fault, &mut output, out),
+                Outcome::Stopped(fault) => return stop(fault, &mut output, out),
                 Outcome::Memory => return Ended::Memory,
                 Outcome::Unwritten => return Ended::Write,
             },

@@ -3,17 +3,19 @@
 ghost use Rattle.std.specs.Prelude.{◌≡◌, ◌≢◌, [], ◌∷◌, Some, IfOk};
 ghost use Rattle.pump_frame.specs.Rows.{IsLawfulRow};
 ghost use Rattle.script_reader.specs.Lawful.{IsLawfulLine};
+ghost use Rattle.script_reader.specs.EventHeads.{event_of};
 ghost use Rattle.script_reader.specs.Heads.{line_with, CanHoldLine};
 ghost use Rattle.script_reader.specs.Grammar.{IsCount};
 ghost use Rattle.script_reader.specs.Past.{fresh};
 ghost use Rattle.script_reader.specs.Tolds.{fresh_low};
 ghost use Rattle.script_reader.specs.Scripts.{Begun, Running, LowRunning, Whole, Alone, Ends};
+ghost use Rattle.two_worlds.specs.Printing.{lines_in};
 ghost use Rattle.netpump.specs.Sessions.{id_of, IsUp, StandsFor, Applies};
 
 use arrayvec::ArrayVec;
 use disk_model::{PlainDisk, Role};
 use pump_frame::{OutOfMemory, SessionRow};
-use script_reader::{LineHead, Body, Event, Line};
+use script_reader::{Body, EventHead, Line, LineHead};
 use stable_buffer::{RECEIVER_SIZE, disk_size};
 use std::alloc::Global;
 use two_worlds::{LowPump, Pump, Stop};
@@ -74,13 +76,13 @@ impl Session {
         &mut self,
         line: &LineHead,
         body: &Body,
-        events: &mut ArrayVec<Event, 4>,
+        events: &mut ArrayVec<EventHead, 4>,
     ) -> Option<Stop>
         requires lawful { IsLawfulLine (line_with body.now line.now) }
         requires room { CanHoldLine line.now body.now }
         requires some { line_with body.now line.now ≢ Line.Skip }
         requires up { IsUp self.old }
-        ensures applies { (running : Begun) → StandsFor self.old running → Applies running (line_with body.now line.now) self.new events.new.items result }
+        ensures applies { (running : Begun) → StandsFor self.old running → Applies running (line_with body.now line.now) self.new (lines_in events.new.items) result }
         ensures id { id_of self.new ≡ id_of self.old }
     {
         match self {
@@ -90,19 +92,19 @@ impl Session {
     }
 
     /// What the end of the script prints.
-    pub fn end(&self) -> Event
-        ensures { (running : Begun) → StandsFor self.now running → Ends (Some running) (result ∷ []) }
+    pub fn end(&self) -> EventHead
+        ensures { (running : Begun) → StandsFor self.now running → Ends (Some running) (event_of result ∷ []) }
     {
         match self {
             Session::Whole { id, pump } => {
                 let (accepted, removed, received) = pump.counts();
-                Event::End {
+                EventHead::End {
                     session: *id,
                     accepted,
                     high: Some((removed, received)),
                 }
             }
-            Session::Alone { id, pump } => Event::End {
+            Session::Alone { id, pump } => EventHead::End {
                 session: *id,
                 accepted: pump.next(),
                 high: None,

@@ -1,6 +1,5 @@
 ghost use Rattle.std.specs.Prelude.{◌≡◌};
 
-use arrayvec::ArrayVec;
 use pump_frame::raised;
 use pump_link::{ReadFault, Sink, Source, WriteFault};
 use std::io::{Read, Write};
@@ -46,8 +45,8 @@ impl<R: Read> Source for StdSource<R> {
 pub struct StdSink<W> {
     inner: W,
     faults: u64,
-    /// The end of the piece that was written last, from which `main` tells what was wrong.
-    last: ArrayVec<u8, 64>,
+    /// The last bytes that were written, from which `main` tells what was wrong; zeros before the first.
+    last: [u8; 64],
 }
 
 impl<W> StdSink<W> {
@@ -55,13 +54,13 @@ impl<W> StdSink<W> {
         StdSink {
             inner,
             faults: 0,
-            last: ArrayVec::new(),
+            last: [0; 64],
         }
     }
 
-    /// The end of the piece that was written last.
+    /// The last 64 bytes that were written, with zeros before the first.
     pub fn last(&self) -> &[u8] {
-        self.last.as_slice()
+        &self.last
     }
 
     fn keep_last(&mut self, piece: &[u8])
@@ -69,8 +68,8 @@ impl<W> StdSink<W> {
         ensures faults { self.new.faults ≡ self.old.faults }
     {
         let end = &piece[piece.len().saturating_sub(64)..];
-        self.last.clear();
-        self.last.try_extend_from_slice(end).unwrap();
+        self.last.rotate_left(end.len());
+        self.last[64 - end.len()..].copy_from_slice(end);
     }
 }
 
@@ -118,7 +117,8 @@ mod tests {
     fn a_writer_is_a_sink(rt: HostRuntime) -> Result<(), Fail> {
         let mut sink = StdSink::new(Vec::new(rt.alloc()));
         assert_eq!(rt; sink.write(b"abc").ok(), Some(3));
-        assert_eq!(rt; sink.last(), b"abc".as_slice());
+        assert_eq!(rt; sink.write(b"de").ok(), Some(2));
+        assert_eq!(rt; sink.last().ends_with(b"\0abcde"), true);
         assert_eq!(rt; sink.faults(), 0);
         Ok(())
     }

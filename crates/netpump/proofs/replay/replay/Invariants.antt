@@ -1,4 +1,4 @@
-use Rattle.std.proofs.Common.{◌≡◌, ◌^◌, ◌-◌, ◌≤◌, List, [], Option, length}
+use Rattle.std.proofs.Common.{◌≡◌, ◌^◌, ◌-◌, ◌<◌, ◌≤◌, List, [], Option, length}
 use Rattle.script_reader.specs.declared.line.Line.{Line}
 use Rattle.script_reader.specs.declared.event.Event.{Event}
 use Rattle.script_reader.specs.Lines.{to_come}
@@ -16,6 +16,7 @@ invariant-turns g l = (lines : List Line) × (events : List Event) × (running :
     × StandsForRunning l.session running
     × (length lines ≡ l.lines.number)
     × (length l.lines.held ≤ 4096)
+    × (length lines < 2 ^ 32)
     × (g.I.Source.faults l.fn.script ≤ g.I.Source.faults l.script)
     × (g.O.Sink.faults l.fn.out ≤ g.O.Sink.faults l.out)
 

@@ -8,7 +8,7 @@ loop-event-init g c = (gathers_none _ _, omega arith)
 pub loop-event-preserved : goal.loop-event-preserved
 loop-event-preserved g c =
     let i = c.loop-event.invariant in (
-      one_more _ _ _ _ _ _ c.args.events.now c.loop-event.event-index c.event-item.result c.loop-event-test.true c.event-item.is i.0 c.in_ok-print.ensures.ok,
+      one_more _ _ _ _ _ _ c.args.events.now c.loop-event.event-index _ c.loop-event-test.true i.0 c.in_ok-print.ensures.ok,
       omega (arith, i.1, c.print.ensures.cause.later),
     )
 

@@ -10,7 +10,7 @@ use Rattle.script_reader.specs.declared.fault.Fault.TheVariants.{Read, Script}
 use Rattle.script_reader.specs.declared.lines.Lined.TheVariants as lined
 use Rattle.script_reader.specs.Grammar.{IsLine}
 use Rattle.script_reader.specs.Faults.{IsFaultyNext}
-use Rattle.script_reader.specs.Lines.{Reading, to_come, AreLines, IsUnended, IsBad, IsNext}
+use Rattle.script_reader.specs.Lines.{LineReading, to_come, AreLines, IsUnended, IsBad, IsNext}
 use Rattle.script_reader.specs.Transcript.{text, fault_line}
 use Rattle.script_reader.specs.Scripts.{Begun, Whole, Alone, GoesOn, Leads, LeadTo, IsRefused, Ends}
 use Rattle.script_reader.proofs.Leading.{led}
@@ -222,29 +222,29 @@ bad_next None running h = tt
 bad_next (Some bytes) running h = inl h
 
 -- the line that was read
-pub next_line : (old new : Reading) (left rest : Option (List ℕ)) (line : Line) → IsNext old new left rest (lined.Line line) → AreLines (to_come old left) (line ∷ []) (to_come new rest)
+pub next_line : (old new : LineReading) (left rest : Option (List ℕ)) (line : Line) → IsNext old new left rest (lined.Line line) → AreLines (to_come old left) (line ∷ []) (to_come new rest)
 next_line old new left rest line n = (n.0, to_come new rest, n.1, n.2, n.3, Keeps-same (to_come new rest))
 
 -- one that can't be applied, and one that can't be read
-pub faulty_line : (old new : Reading) (left rest : Option (List ℕ)) (line : Line) (running : Option Begun) (number : ℕ) → IsNext old new left rest (lined.Line line) → IsRefused running line → IsFaulty (to_come old left) number running
+pub faulty_line : (old new : LineReading) (left rest : Option (List ℕ)) (line : Line) (running : Option Begun) (number : ℕ) → IsNext old new left rest (lined.Line line) → IsRefused running line → IsFaulty (to_come old left) number running
 faulty_line old new left rest line running number n e = inl (refused_next (to_come old left) (to_come new rest) line running (next_line old new left rest line n) e)
 
-pub faulty_bad : (old new : Reading) (left rest : Option (List ℕ)) (lines : List Line) (running : Option Begun) → IsNext old new left rest lined.Bad → length lines ≡ old.number → IsFaulty (to_come old left) (length lines) running
+pub faulty_bad : (old new : LineReading) (left rest : Option (List ℕ)) (lines : List Line) (running : Option Begun) → IsNext old new left rest lined.Bad → length lines ≡ old.number → IsFaulty (to_come old left) (length lines) running
 faulty_bad old new left rest lines running n e = elim n.1 [ inl bad ↦ inl (bad_next (to_come old left) running bad) | inr last ↦ inr (e ∙ last.0, last.1) ]
 
-pub line_number : (old new : Reading) (left rest : Option (List ℕ)) (line : Line) (lines : List Line) (number : ℕ) → IsNext old new left rest (lined.Line line) → length lines ≡ old.number → number ≡ new.number → number < 2 ^ 32 → Script number ≡ fault_after (length lines)
+pub line_number : (old new : LineReading) (left rest : Option (List ℕ)) (line : Line) (lines : List Line) (number : ℕ) → IsNext old new left rest (lined.Line line) → length lines ≡ old.number → number ≡ new.number → number < 2 ^ 32 → Script number ≡ fault_after (length lines)
 line_number old new left rest line lines number n e same low =
     let is : number ≡ min (length lines + 1) (2 ^ 32 - 1) = omega (arith, n.4, e, same) in
     ap Script is
 
-pub bad_number : (old new : Reading) (left rest : Option (List ℕ)) (lines : List Line) (number : ℕ) → IsNext old new left rest lined.Bad → length lines ≡ old.number → number ≡ new.number → Script number ≡ fault_after (length lines)
+pub bad_number : (old new : LineReading) (left rest : Option (List ℕ)) (lines : List Line) (number : ℕ) → IsNext old new left rest lined.Bad → length lines ≡ old.number → number ≡ new.number → Script number ≡ fault_after (length lines)
 bad_number old new left rest lines number n e same = ap Script (same ∙ n.2 ∙ ap (λ k. min (k + 1) (2 ^ 32 - 1)) (sym e))
 
 -- a line that was read has a number below 2^32
-pub one_left : (old new : Reading) (left rest : Option (List ℕ)) (line : Line) (lines : List Line) → IsNext old new left rest (lined.Line line) → length lines ≡ old.number → new.number < 2 ^ 32 → length lines + 1 < 2 ^ 32
+pub one_left : (old new : LineReading) (left rest : Option (List ℕ)) (line : Line) (lines : List Line) → IsNext old new left rest (lined.Line line) → length lines ≡ old.number → new.number < 2 ^ 32 → length lines + 1 < 2 ^ 32
 one_left old new left rest line lines n e few = omega (arith, n.4, e, few)
 
-pub counted_more : (old new : Reading) (left rest : Option (List ℕ)) (line : Line) (lines : List Line) → IsNext old new left rest (lined.Line line) → length lines ≡ old.number → new.number < 2 ^ 32 → length (lines ++ line ∷ []) < 2 ^ 32
+pub counted_more : (old new : LineReading) (left rest : Option (List ℕ)) (line : Line) (lines : List Line) → IsNext old new left rest (lined.Line line) → length lines ≡ old.number → new.number < 2 ^ 32 → length (lines ++ line ∷ []) < 2 ^ 32
 counted_more old new left rest line lines n e few = omega (arith, n.4, e, few, length-append lines (line ∷ []))
 
 -- ---- how much was taken ----
@@ -259,16 +259,16 @@ near_line None left bytes held k = tt
 near_line (Some xs) None bytes held k = absurd k
 near_line (Some xs) (Some ys) bytes held k = k ∙ append_assoc bytes (10 ∷ []) (held ++ ys) ∙ sym (append_assoc bytes (10 ∷ held) ys)
 
-pub near_now : (reading : Reading) (left : Option (List ℕ)) → length reading.held ≤ 4096 → IsNear (to_come reading left) left
+pub near_now : (reading : LineReading) (left : Option (List ℕ)) → length reading.held ≤ 4096 → IsNear (to_come reading left) left
 near_now reading left few = (reading.held, near_held (to_come reading left) left reading.held (Keeps-same (to_come reading left)), few)
 
-pub near_bad : (old new : Reading) (left rest : Option (List ℕ)) → IsNext old new left rest lined.Bad → IsNear (to_come old left) rest
+pub near_bad : (old new : LineReading) (left rest : Option (List ℕ)) → IsNext old new left rest lined.Bad → IsNear (to_come old left) rest
 near_bad old new left rest n = (new.held, near_held (to_come old left) rest new.held n.0, n.3)
 
-pub within_failed : (old new : Reading) (left rest : Option (List ℕ)) → IsNext old new left rest lined.Failed → IsWithinLine (to_come new rest) rest
+pub within_failed : (old new : LineReading) (left rest : Option (List ℕ)) → IsNext old new left rest lined.Failed → IsWithinLine (to_come new rest) rest
 within_failed old new left rest n = (new.held, near_held (to_come new rest) rest new.held (Keeps-same (to_come new rest)), n.2, n.3)
 
-pub near_next : (old new : Reading) (left rest : Option (List ℕ)) (line : Line) → IsNext old new left rest (lined.Line line) → IsNear (to_come old left) rest
+pub near_next : (old new : LineReading) (left rest : Option (List ℕ)) (line : Line) → IsNext old new left rest (lined.Line line) → IsNear (to_come old left) rest
 near_next old new left rest line n = (n.0 ++ 10 ∷ new.held, near_line (to_come old left) rest n.0 new.held n.3, omega (arith, n.5, length-append n.0 (10 ∷ new.held)))
 
 -- ---- the sink's count ----

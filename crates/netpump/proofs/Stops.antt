@@ -8,7 +8,7 @@ use Rattle.script_reader.specs.declared.event.Event.{Event}
 use Rattle.script_reader.specs.declared.fault.Fault.{Fault}
 use Rattle.script_reader.specs.declared.fault.Fault.TheVariants.{Words, Read, Script, Device, Full}
 use Rattle.script_reader.specs.declared.lines.Lined.TheVariants as lined
-use Rattle.script_reader.specs.Lines.{Reading, to_come, IsNext}
+use Rattle.script_reader.specs.Lines.{LineReading, to_come, IsNext}
 use Rattle.script_reader.specs.Scripts.{Begun, Whole, Alone, Stops}
 use Rattle.script_reader.specs.Transcript.{text, fault_line}
 use Rattle.netpump.specs.Outputs.{Gathers}
@@ -54,7 +54,7 @@ silent_front held a b printed e p =
     subst (λ (x : List ℕ). AppendsFront a b x) is p
 
 -- after these lines this one was read
-module _ (all left rest old now : Option (List ℕ)) (before after : ℕ) (from to : Reading) (line : Line) (n : IsNext from to left rest (lined.Line line))
+module _ (all left rest old now : Option (List ℕ)) (before after : ℕ) (from to : LineReading) (line : Line) (n : IsNext from to left rest (lined.Line line))
     (lines : List Line) (events : List Event) (running : Option Begun) (s : IsSoFar all (to_come from left) lines events running) (few : length lines + 1 < 2 ^ 32)
     (held : List ℕ) (w : Gathers [] held old now (text events)) where
   near : IsNear (to_come from left) rest
@@ -63,7 +63,7 @@ module _ (all left rest old now : Option (List ℕ)) (before after : ℕ) (from 
   counted : length lines < 2 ^ 32
   counted = omega (arith, few)
 
-  stopping : (end : Option Begun) (printed : List Event) (fault : Fault) → Stops running line end printed fault → Stopping (to_come from left) (length lines) running fault
+  abbrev stopping : (end : Option Begun) (printed : List Event) (fault : Fault) → Stops running line end printed fault → Stopping (to_come from left) (length lines) running fault
   stopping end printed fault h = record { few = few; line = line; left = to_come to rest; spelled = next_line from to left rest line n; after = end; printed = printed; stops = h }
 
   -- it stops the script

@@ -1,35 +1,35 @@
 -- What the laws say of lines that can all be applied, of their transcript, and of a line that stops them.
-use Rattle.std.proofs.Common.{◌≡◌, List, [], ◌∷◌, ◌++◌, Option, None, Some, inl, inr, refl, sym, ap, ◌∙◌, subst, append-nil}
+use Rattle.std.proofs.Common.{◌≡◌, List, [], ◌∷◌, ◌++◌, Option, None, Some, inr, refl, sym, ap, ◌∙◌, subst, append-nil}
 use Rattle.pump_core.specs.Replies.{Sent, LowReplies}
 use Rattle.script_reader.specs.declared.event.Event.{Event}
 use Rattle.script_reader.specs.declared.fault.Fault.{Fault}
 use Rattle.script_reader.specs.declared.line.Line.{Line}
-use Rattle.script_reader.specs.Scripts.{Begun, Whole, Alone, LeadTo, Stops, Ends}
+use Rattle.script_reader.specs.Scripts.{Begun, Whole, Alone, LeadTo, Stops, ComesTo, Ends}
 use Rattle.script_reader.specs.Readouts.{low_lines, row_of, history_of, Sound}
-use Rattle.script_reader.proofs.LowFunction.{same_told_so_far}
+use Rattle.script_reader.proofs.LowFunction.{same_told_so_far, same_full_so_far}
 use Rattle.script_reader.proofs.Replying.{low-append}
 use Rattle.script_reader.proofs.Soundness.{sound_lead, sound_so, fronts_so}
-use Rattle.two_worlds.proofs.LowTimelines.{script_events}
-use Rattle.two_worlds.proofs.TimelineScripts.{script_runs}
+use Rattle.two_worlds.proofs.Timeline.Alone.{script_events}
+use Rattle.two_worlds.proofs.Timeline.Scripts.{script_runs}
 use Rattle.netpump.specs.Replays.{AreSound, IsTimed, KeepLaws}
 
-each_sound : (lines : List Line) (running : Option Begun) (events : List Event) → LeadTo None lines running events → AreSound lines events
-each_sound lines running events leads = λ before line later is.
-    let f = fronts_so before line later running events (inl (subst (λ (ls : List Line). LeadTo None ls running events) is leads)) in
+each_sound : (lines : List Line) (after : Option Begun) (printed : List Event) → ComesTo lines after printed → AreSound lines printed
+each_sound lines after printed comes = λ before line later is.
+    let f = fronts_so before line later after printed (subst (λ (ls : List Line). ComesTo ls after printed) is comes) in
     (f.0, f.1, f.2, f.3, f.4, sound_lead before f.0 f.1 f.3)
 
-timed_so : (lines : List Line) (running : Option Begun) (events : List Event) → LeadTo None lines running events → IsTimed running
+pub keep_laws : (lines : List Line) (after : Option Begun) (printed : List Event) → ComesTo lines after printed → KeepLaws lines after printed
+keep_laws lines after printed comes = record {
+  sound = sound_so lines after printed comes;
+  each = each_sound lines after printed comes;
+  low = λ others other events h side told. same_told_so_far lines others after other printed events comes h side told;
+  by_moments = λ others other events h side own full averages. same_full_so_far lines others after other printed events comes h side own full averages;
+}
+
+pub timed_so : (lines : List Line) (running : Option Begun) (events : List Event) → LeadTo None lines running events → IsTimed running
 timed_so lines None events leads = tt
 timed_so lines (Some (Whole s)) events leads = script_runs None lines (Some (Whole s)) events leads tt
 timed_so lines (Some (Alone s)) events leads = script_events None lines (Some (Alone s)) events leads tt
-
-pub keep_laws : (lines : List Line) (running : Option Begun) (events : List Event) → LeadTo None lines running events → KeepLaws lines running events
-keep_laws lines running events leads = record {
-  sound = sound_lead lines running events leads;
-  each = each_sound lines running events leads;
-  timed = timed_so lines running events leads;
-  low = λ others after printed h side told. same_told_so_far lines others running after events printed leads h side told;
-}
 
 -- ---- the end of a session ----
 
@@ -52,10 +52,10 @@ sound_end (Some s) events last ends sound = record {
 
 -- ---- a line that stops the script ----
 
-pub sound_stop : (lines : List Line) (running : Option Begun) (events : List Event) (line : Line) (after : Option Begun) (printed : List Event) (fault : Fault)
-    → LeadTo None lines running events → Stops running line after printed fault → Sound after (events ++ printed)
-sound_stop lines running events line after printed fault leads stops =
-    sound_so (lines ++ line ∷ []) after (events ++ printed) (inr (record {
+pub laws_at_stop : (lines : List Line) (running : Option Begun) (events : List Event) (line : Line) (after : Option Begun) (printed : List Event) (fault : Fault)
+    → LeadTo None lines running events → Stops running line after printed fault → KeepLaws (lines ++ line ∷ []) after (events ++ printed)
+laws_at_stop lines running events line after printed fault leads stops =
+    keep_laws (lines ++ line ∷ []) after (events ++ printed) (inr (record {
       before = lines;
       line = line;
       script_is = refl;

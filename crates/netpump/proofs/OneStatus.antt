@@ -6,18 +6,18 @@ use Rattle.script_reader.specs.declared.line.Line.{Line}
 use Rattle.script_reader.specs.declared.event.Event.{Event}
 use Rattle.script_reader.specs.declared.fault.Fault.{Fault}
 use Rattle.script_reader.specs.declared.fault.Fault.TheVariants.{Script, Device, Full}
-use Rattle.script_reader.specs.Faults.{IsFaultyNext}
+use Rattle.script_reader.specs.Faults.{IsFaulty}
 use Rattle.script_reader.specs.Scripts.{Begun, IsRefused, Stops}
 use Rattle.script_reader.proofs.Stopping.{stops_leads, stops_one}
 use Rattle.script_reader.proofs.OneEnd.{refused_leads}
-use Rattle.netpump.specs.Replays.{IsSoFar, Replayed, IsFaulty, fault_after, Stopping, IsDone, IsFaulted, IsStopped, IsFailed, IsOverfilled, Wrote}
+use Rattle.netpump.specs.Replays.{IsSoFar, Replayed, IsFaultyAt, fault_after, Stopping, IsDone, IsFaulted, IsStopped, IsFailed, IsOverfilled, Wrote}
 use Rattle.netpump.specs.Statuses.{IsEnd, EndsWith, status_of}
 use Rattle.netpump.proofs.Stopping.{stops_refused}
 use Rattle.netpump.proofs.Compared.{GoesOn, no_line, good_line, same_line, told_rest, compare}
 
 -- ---- one place ----
 
-refused_goes : (rest : List ℕ) (running : Option Begun) → IsFaultyNext rest running → GoesOn rest running → ⊥
+refused_goes : (rest : List ℕ) (running : Option Begun) → IsFaulty (Some rest) running → GoesOn rest running → ⊥
 refused_goes rest running f g =
     elim f [
       | inl bad ↦ good_line rest g.line g.left g.spelled bad
@@ -31,7 +31,7 @@ stopping_goes rest number running fault h g =
     let same = same_line rest g.line h.line g.left h.left g.spelled h.spelled in
     stops_leads running g.line h.after h.printed fault g.after g.printed (subst (λ (l : Line). Stops running l h.after h.printed fault) (sym same) h.stops) g.leads
 
-refused_stopping : (rest : List ℕ) (number : ℕ) (running : Option Begun) (fault : Fault) → IsFaultyNext rest running → Stopping (Some rest) number running fault → ⊥
+refused_stopping : (rest : List ℕ) (number : ℕ) (running : Option Begun) (fault : Fault) → IsFaulty (Some rest) running → Stopping (Some rest) number running fault → ⊥
 refused_stopping rest number running fault f h =
     elim f [
       | inl bad ↦ good_line rest h.line h.left h.spelled bad
@@ -46,12 +46,12 @@ stopping_one rest number running fault stop h k =
     let one = stops_one running h.line h.after k.after h.printed k.printed fault stop h.stops (subst (λ (l : Line). Stops running l k.after k.printed stop) (sym same) k.stops) in
     one.fault_is
 
-nothing_faulty : (rest : List ℕ) (number : ℕ) (running : Option Begun) → rest ≡ [] → IsFaulty (Some rest) number running → ⊥
+nothing_faulty : (rest : List ℕ) (number : ℕ) (running : Option Begun) → rest ≡ [] → IsFaultyAt number (Some rest) running → ⊥
 nothing_faulty rest number running none (inl (inl bad)) = bad.some none
 nothing_faulty rest number running none (inl (inr r)) = no_line rest r.0 r.1 r.2 none
 nothing_faulty rest number running none (inr (last, some)) = some none
 
-faulty_stopping : (rest : List ℕ) (number : ℕ) (running : Option Begun) (fault : Fault) → IsFaulty (Some rest) number running → Stopping (Some rest) number running fault → ⊥
+faulty_stopping : (rest : List ℕ) (number : ℕ) (running : Option Begun) (fault : Fault) → IsFaultyAt number (Some rest) running → Stopping (Some rest) number running fault → ⊥
 faulty_stopping rest number running fault (inl f) h = refused_stopping rest number running fault f h
 faulty_stopping rest number running fault (inr (last, some)) h = let few = h.few in omega (arith, few, last)
 
@@ -102,7 +102,7 @@ module _ (bytes : List ℕ) (end : Option Fault) (e : EndsWith bytes end) where
   faulted_so left r output d =
       let told = told_so_far r in
       ends_at r.lines r.events r.running told.0 (Some (fault_after (length r.lines))) told.2 r.few
-      (inl (subst (λ (rest : Option (List ℕ)). IsFaulty rest (length r.lines) r.running) told.1 d.faulty, refl))
+      (inl (subst (λ (rest : Option (List ℕ)). IsFaultyAt (length r.lines) rest r.running) told.1 d.faulty, refl))
 
   stopped_so : (left : Option (List ℕ)) (fault : Fault) (r : Replayed (Some bytes)) (output : List ℕ) → IsStopped left fault r output → end ≡ Some fault
   stopped_so left fault r output d =

@@ -1,5 +1,5 @@
 -- A replay, line by line.
-use Rattle.std.proofs.Common.{◌≡◌, ℕ, ◌+◌, ◌-◌, ◌^◌, ◌<◌, ◌≤◌, inl, inr, min, List, [], ◌∷◌, ◌++◌, Option, None, Some, IfSome, length, refl, sym, ap, ◌∙◌, subst, append_assoc, append-nil, arith, length-append}
+use Rattle.std.proofs.Common.{◌≡◌, ℕ, ◌+◌, ◌-◌, ◌^◌, ◌<◌, ◌≤◌, inl, inr, min, List, [], ◌∷◌, ◌++◌, Option, None, Some, length, refl, sym, ap, ◌∙◌, subst, append_assoc, append-nil, arith, length-append}
 use Rattle.std.specs.Io.KnownBytes.{prepend_known, Consumes, Keeps, Appends, IsAtEnd}
 use Rattle.pump_frame.specs.Counts.{Rose}
 use Rattle.pump_link.specs.Causes.{AppendsFront}
@@ -9,8 +9,7 @@ use Rattle.script_reader.specs.declared.fault.Fault.{Fault}
 use Rattle.script_reader.specs.declared.fault.Fault.TheVariants.{Read, Script}
 use Rattle.script_reader.specs.declared.lines.Lined.TheVariants as lined
 use Rattle.script_reader.specs.Grammar.{IsLine}
-use Rattle.script_reader.specs.Faults.{IsFaultyNext}
-use Rattle.script_reader.specs.Lines.{LineReading, to_come, AreLines, IsUnended, IsBad, IsNext}
+use Rattle.script_reader.specs.Lines.{LineReading, to_come, AreLines, IsUnended, IsNext}
 use Rattle.script_reader.specs.Transcript.{text, fault_line}
 use Rattle.script_reader.specs.Scripts.{Begun, Whole, Alone, GoesOn, Leads, LeadTo, IsRefused, Ends}
 use Rattle.script_reader.proofs.Leading.{led}
@@ -21,8 +20,8 @@ use Rattle.netpump.specs.Outputs.{Gathers}
 use Rattle.netpump.specs.Runners.{Closes, EndsAs}
 use Rattle.netpump.specs.declared.replay.Ended.{Ended}
 use Rattle.netpump.specs.declared.replay.Ended.TheVariants as ended
-use Rattle.netpump.specs.Replays.{IsSoFar, Replayed, IsFaulty, Stopping, fault_after, IsNear, IsWithinLine, IsNearLast, IsDone, IsUnread, IsFaulted, IsStopped, IsOutput, IsCutOff, Wrote, WroteFront}
-use Rattle.netpump.proofs.Kept.{keep_laws, sound_end, sound_stop}
+use Rattle.netpump.specs.Replays.{IsSoFar, Replayed, IsFaultyAt, Stopping, fault_after, IsNear, IsWithinLine, IsNearLast, IsDone, IsUnread, IsFaulted, IsStopped, IsOutput, IsCutOff, Wrote, WroteFront}
+use Rattle.netpump.proofs.Kept.{keep_laws, timed_so, sound_end, laws_at_stop}
 use Rattle.netpump.proofs.Gathered.{text-more, gathers_then, appends_then, front_then, front_more}
 
 -- ---- the lines ----
@@ -125,7 +124,7 @@ stopped_text events printed fault = ap (λ t. t ++ fault_line fault) (text-more 
 -- so far it was replayed
 abbrev pub replayed : (all rest : Option (List ℕ)) (lines : List Line) (events : List Event) (running : Option Begun) → IsSoFar all rest lines events running → length lines < 2 ^ 32 → Replayed all
 replayed all rest lines events running s few =
-    record { lines = lines; events = events; running = running; rest = rest; so_far = s; few = few; laws = keep_laws lines running events s.leads }
+    record { lines = lines; events = events; running = running; rest = rest; so_far = s; few = few; laws = keep_laws lines running events (inl s.leads); timed = timed_so lines running events s.leads }
 
 module _ (all rest left old now new : Option (List ℕ)) (before after : ℕ) (lines : List Line) (events : List Event) (running : Option Begun)
     (s : IsSoFar all rest lines events running) (few : length lines < 2 ^ 32) (held : List ℕ) (w : Gathers [] held old now (text events)) where
@@ -148,7 +147,7 @@ module _ (all rest left old now new : Option (List ℕ)) (before after : ℕ) (l
     output_is = sym (text-more events last);
   }
 
-  faulted : (number : ℕ) → IsNear rest left → IsFaulty rest (length lines) running → Script number ≡ fault_after (length lines) → IsFaulted left r (text events ++ fault_line (Script number))
+  faulted : (number : ℕ) → IsNear rest left → IsFaultyAt (length lines) rest running → Script number ≡ fault_after (length lines) → IsFaulted left r (text events ++ fault_line (Script number))
   faulted number near f e = record { faulty = f; taken = near; output_is = ap (λ x. text events ++ fault_line x) e }
 
   unread : IsWithinLine rest left → Rose before after → IsUnread left before after r (text events ++ fault_line Read)
@@ -157,7 +156,7 @@ module _ (all rest left old now new : Option (List ℕ)) (before after : ℕ) (l
   stops : (fault : Fault) (next : Stopping rest (length lines) running fault) → IsNear rest left → IsStopped left fault r (text events ++ (text next.printed ++ fault_line fault))
   stops fault next near = record {
     next = next;
-    sound = sound_stop lines running events next.line next.after next.printed fault s.leads next.stops;
+    laws = laws_at_stop lines running events next.line next.after next.printed fault s.leads next.stops;
     taken = near;
     output_is = sym (stopped_text events next.printed fault);
   }
@@ -167,7 +166,7 @@ module _ (all rest left old now new : Option (List ℕ)) (before after : ℕ) (l
   unshown near a = wrote_front [] (inr (inl near)) (inl (append-nil (text events))) (front_more now new held [] a)
 
   -- what is written last was written or not
-  pub refused : (result : Ended) (number rose risen : ℕ) → IsNear rest left → IsFaulty rest (length lines) running → Script number ≡ fault_after (length lines)
+  pub refused : (result : Ended) (number rose risen : ℕ) → IsNear rest left → IsFaultyAt (length lines) rest running → Script number ≡ fault_after (length lines)
       → Closes now new rose risen (held ++ fault_line (Script number)) (ended.Stopped (Script number)) result → EndsAs all left old new before after result
   refused result number rose risen near f e c =
       elim c [
@@ -213,24 +212,16 @@ unprinted all mid rest left old now new before after lines events more running n
 
 -- ---- the line after ----
 
-refused_next : (rest after : Option (List ℕ)) (line : Line) (running : Option Begun) → AreLines rest (line ∷ []) after → IsRefused running line → IfSome rest (λ bytes. IsFaultyNext bytes running)
-refused_next None after line running h e = tt
-refused_next (Some bytes) after line running h e = inr (line, after, h, e)
-
-bad_next : (rest : Option (List ℕ)) (running : Option Begun) → IfSome rest IsBad → IfSome rest (λ bytes. IsFaultyNext bytes running)
-bad_next None running h = tt
-bad_next (Some bytes) running h = inl h
-
 -- the line that was read
 pub next_line : (old new : LineReading) (left rest : Option (List ℕ)) (line : Line) → IsNext old new left rest (lined.Line line) → AreLines (to_come old left) (line ∷ []) (to_come new rest)
 next_line old new left rest line n = (n.0, to_come new rest, n.1, n.2, n.3, Keeps-same (to_come new rest))
 
 -- one that can't be applied, and one that can't be read
-pub faulty_line : (old new : LineReading) (left rest : Option (List ℕ)) (line : Line) (running : Option Begun) (number : ℕ) → IsNext old new left rest (lined.Line line) → IsRefused running line → IsFaulty (to_come old left) number running
-faulty_line old new left rest line running number n e = inl (refused_next (to_come old left) (to_come new rest) line running (next_line old new left rest line n) e)
+pub faulty_line : (old new : LineReading) (left rest : Option (List ℕ)) (line : Line) (running : Option Begun) (number : ℕ) → IsNext old new left rest (lined.Line line) → IsRefused running line → IsFaultyAt number (to_come old left) running
+faulty_line old new left rest line running number n e = inl (inr (line, to_come new rest, next_line old new left rest line n, e))
 
-pub faulty_bad : (old new : LineReading) (left rest : Option (List ℕ)) (lines : List Line) (running : Option Begun) → IsNext old new left rest lined.Bad → length lines ≡ old.number → IsFaulty (to_come old left) (length lines) running
-faulty_bad old new left rest lines running n e = elim n.1 [ inl bad ↦ inl (bad_next (to_come old left) running bad) | inr last ↦ inr (e ∙ last.0, last.1) ]
+pub faulty_bad : (old new : LineReading) (left rest : Option (List ℕ)) (lines : List Line) (running : Option Begun) → IsNext old new left rest lined.Bad → length lines ≡ old.number → IsFaultyAt (length lines) (to_come old left) running
+faulty_bad old new left rest lines running n e = elim n.1 [ inl bad ↦ inl (inl bad) | inr last ↦ inr (e ∙ last.0, last.1) ]
 
 pub line_number : (old new : LineReading) (left rest : Option (List ℕ)) (line : Line) (lines : List Line) (number : ℕ) → IsNext old new left rest (lined.Line line) → length lines ≡ old.number → number ≡ new.number → number < 2 ^ 32 → Script number ≡ fault_after (length lines)
 line_number old new left rest line lines number n e same low =

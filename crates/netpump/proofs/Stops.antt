@@ -63,7 +63,7 @@ module _ (all left rest old now : Option (List ℕ)) (before after : ℕ) (from 
   counted : length lines < 2 ^ 32
   counted = omega (arith, few)
 
-  stopping : (end : Option Begun) (printed : List Event) (fault : Fault) → Stops running line end printed fault → Stopping (to_come from left) (length lines) running fault
+  abbrev stopping : (end : Option Begun) (printed : List Event) (fault : Fault) → Stops running line end printed fault → Stopping (to_come from left) (length lines) running fault
   stopping end printed fault h = record { few = few; line = line; left = to_come to rest; spelled = next_line from to left rest line n; after = end; printed = printed; stops = h }
 
   -- it stops the script

@@ -11,11 +11,11 @@ use Rattle.script_reader.specs.declared.event.Event.{Event}
 use Rattle.script_reader.specs.declared.fault.Fault.{Fault}
 use Rattle.script_reader.specs.declared.fault.Fault.TheVariants.{Words, Read, Script, Device, Full}
 use Rattle.disk_model.specs.declared.name.Role.TheVariants as roles
-use Rattle.script_reader.specs.Faults.{IsFaultyNext}
+use Rattle.script_reader.specs.Faults.{IsFaulty}
 use Rattle.script_reader.specs.Lines.{AreLines, IsUnended, IsSome}
 use Rattle.script_reader.specs.Readouts.{low_lines, Sound}
-use Rattle.script_reader.specs.Scripts.{Begun, Whole, Alone, LeadTo, Stops, IsTranscript}
-use Rattle.script_reader.specs.Sides.{low_side_of, told_to_low}
+use Rattle.script_reader.specs.Scripts.{Begun, Whole, Alone, LeadTo, Stops, ComesTo, IsTranscript}
+use Rattle.script_reader.specs.Sides.{low_side_of, told_to_low, full_moments, averages, HaveOwnMoments}
 use Rattle.script_reader.specs.Transcript.{text, fault_line}
 use Rattle.two_worlds.specs.Timelines.{IsTimeline}
 use Rattle.two_worlds.specs.LowTimelines.{IsLowTimeline}
@@ -31,13 +31,34 @@ abbrev pub TellsWords : Option (List ℕ) → Option (List ℕ) → ℕ → Type
 TellsWords old new status =
     ((status ≡ 2) × Appends old new (fault_line Words)) ⊎ ((status ≡ 4) × AppendsFront old new (fault_line Words))
 
--- ---- what the laws say of lines that can all be applied ----
+-- ---- what the laws say ----
 
 -- before each of these lines, what was printed until then is sound
 abbrev pub AreSound : List Line → List Event → Type 0
-AreSound lines events = (before : List Line) (line : Line) (later : List Line) → lines ≡ before ++ line ∷ later
+AreSound lines printed = (before : List Line) (line : Line) (later : List Line) → lines ≡ before ++ line ∷ later
     → (running : Option Begun) × (first : List Event) × (rest : List Event)
-    × LeadTo None before running first × (events ≡ first ++ rest) × Sound running first
+    × LeadTo None before running first × (printed ≡ first ++ rest) × Sound running first
+
+-- whatever other lines do: with the same low side, to which the same was told, they print the same `low` lines
+abbrev pub DecideLow : List Line → List Event → Type 0
+DecideLow lines printed = (others : List Line) (after : Option Begun) (events : List Event) → ComesTo others after events
+    → low_side_of lines ≡ low_side_of others → told_to_low printed ≡ told_to_low events → low_lines printed ≡ low_lines events
+
+-- .. and where no two of its looks have one moment, with the same moments of a full buffer and the same averages
+abbrev pub DecideLowByMoments : List Line → List Event → Type 0
+DecideLowByMoments lines printed = (others : List Line) (after : Option Begun) (events : List Event) → ComesTo others after events
+    → low_side_of lines ≡ low_side_of others → HaveOwnMoments (low_side_of lines)
+    → full_moments printed ≡ full_moments events → averages printed ≡ averages events → low_lines printed ≡ low_lines events
+
+-- What holds of these lines, which came to `after` and printed this, and the last of which may have stopped the script.
+-- At their end, and before each of them: the `low` lines are the replies of the low history, each with its moment; no more
+-- messages are live than there are places, no more are held than lie between the hands, the receiver's list is a front of
+-- the accepted one, and at most 64 arrivals wait. And what Low was told decides its `low` lines
+pub record KeepLaws (lines : List Line) (after : Option Begun) (printed : List Event) : Type 0 where
+  pub sound : Sound after printed
+  pub each : AreSound lines printed
+  pub low : DecideLow lines printed
+  pub by_moments : DecideLowByMoments lines printed
 
 -- what the session has been through is a timed run, of which its looks were told; to a low side alone its arrivals came
 -- as they come on a connection
@@ -45,21 +66,6 @@ abbrev pub IsTimed : Option Begun → Type 0
 IsTimed None = Unit {0}
 IsTimed (Some (Whole s)) = (steps : List Step) × (t : Point) × IsTimeline s.row s.past steps t
 IsTimed (Some (Alone s)) = (events : List Timed) × IsLowTimeline s.row s.past events
-
--- whatever other lines can be applied: with the same low side, to which the same was told, they print the same `low` lines
-abbrev pub DecideLow : List Line → List Event → Type 0
-DecideLow lines events = (others : List Line) (after : Option Begun) (printed : List Event) → LeadTo None others after printed
-    → low_side_of lines ≡ low_side_of others → told_to_low events ≡ told_to_low printed → low_lines events ≡ low_lines printed
-
--- At the end of these lines, and before each of them: the `low` lines are the replies of the low history, each with its
--- moment; no more messages are live than there are places, no more are held than lie between the hands, the receiver's
--- list is a front of the accepted one, and at most 64 arrivals wait. The low side is told of a timed run alone, and what
--- it was told decides its `low` lines
-pub record KeepLaws (lines : List Line) (running : Option Begun) (events : List Event) : Type 0 where
-  pub sound : Sound running events
-  pub each : AreSound lines events
-  pub timed : IsTimed running
-  pub low : DecideLow lines events
 
 -- ---- the lines so far ----
 
@@ -77,10 +83,11 @@ pub record Replayed (all : Option (List ℕ)) : Type 0 where
   pub so_far : IsSoFar all rest lines events running
   pub few : length lines < 2 ^ 32
   pub laws : KeepLaws lines running events
+  pub timed : IsTimed running
 
 -- after so many lines: the next one is outside the grammar or can't be applied, or would have the number 2^32
-abbrev pub IsFaulty : Option (List ℕ) → ℕ → Option Begun → Type 0
-IsFaulty rest number running = IfSome rest (λ bytes. IsFaultyNext bytes running) ⊎ ((number ≡ 2 ^ 32 - 1) × IfSome rest IsSome)
+abbrev pub IsFaultyAt : ℕ → Option (List ℕ) → Option Begun → Type 0
+IsFaultyAt number rest running = IsFaulty rest running ⊎ ((number ≡ 2 ^ 32 - 1) × IfSome rest IsSome)
 
 -- after so many lines: the next one can be applied, has a number below 2^32, and stops the script with this fault, after
 -- it has led to `after` and printed this
@@ -130,15 +137,15 @@ pub record IsUnread {all : Option (List ℕ)} (left : Option (List ℕ)) (before
 -- the next line is faulty: the output is what the lines before it print, and the fault with its number. At most 4,096
 -- bytes were taken from the faulty line on
 pub record IsFaulted {all : Option (List ℕ)} (left : Option (List ℕ)) (r : Replayed all) (output : List ℕ) : Type 0 where
-  pub faulty : IsFaulty r.rest (length r.lines) r.running
+  pub faulty : IsFaultyAt (length r.lines) r.rest r.running
   pub taken : IsNear r.rest left
   pub output_is : output ≡ text r.events ++ fault_line (fault_after (length r.lines))
 
 -- the next line stops the script: the output is what the lines before it print, what it prints up to its stop, and the
--- fault. All that is printed is sound. At most 4,096 bytes were taken from that line on
+-- fault, and the laws hold of all that is printed. At most 4,096 bytes were taken from that line on
 pub record IsStopped {all : Option (List ℕ)} (left : Option (List ℕ)) (fault : Fault) (r : Replayed all) (output : List ℕ) : Type 0 where
   pub next : Stopping r.rest (length r.lines) r.running fault
-  pub sound : Sound next.after (r.events ++ next.printed)
+  pub laws : KeepLaws (r.lines ++ next.line ∷ []) next.after (r.events ++ next.printed)
   pub taken : IsNear r.rest left
   pub output_is : output ≡ text (r.events ++ next.printed) ++ fault_line fault
 

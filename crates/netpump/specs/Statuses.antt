@@ -5,12 +5,12 @@ use Rattle.script_reader.specs.declared.event.Event.{Event}
 use Rattle.script_reader.specs.declared.fault.Fault.{Fault}
 use Rattle.script_reader.specs.declared.fault.Fault.TheVariants.{Words, Read, Script, Device, Full}
 use Rattle.script_reader.specs.Scripts.{Begun}
-use Rattle.netpump.specs.Replays.{IsSoFar, IsFaulty, fault_after, Stopping}
+use Rattle.netpump.specs.Replays.{IsSoFar, IsFaultyAt, fault_after, Stopping}
 
 -- after so many lines, with no fault nothing is left; with one the next line is faulty, or it stops the script
 abbrev pub IsEnd : List ℕ → ℕ → Option Begun → Option Fault → Type 0
 IsEnd rest number running None = rest ≡ []
-IsEnd rest number running (Some fault) = (IsFaulty (Some rest) number running × (fault ≡ fault_after number))
+IsEnd rest number running (Some fault) = (IsFaultyAt number (Some rest) running × (fault ≡ fault_after number))
     ⊎ Stopping (Some rest) number running fault
 
 -- the bytes begin with lines that can all be applied, fewer than 2^32, and end so after them

@@ -117,7 +117,8 @@ returns-in-Failed-clause-ends g c =
     let n = c.in-Failed.ensures.next in
     let i = c.turns.invariant in
     let w = shown (held_of c.turns.output) (held_of c.show.new.output) _ _ _ _ i.4 c.in-Ok.ensures.ok in
-    failed _ _ _ _ _ _ _ _ i.0 i.1 i.2 (so_far_kept _ _ _ i.0 i.1 i.2 i.3 n.0) i.8 (held_of c.show.new.output) w c.stop-in-Failed.result _ _
+    let s = so_far_kept _ _ _ i.0 i.1 i.2 i.3 n.0 in
+    failed _ _ _ _ _ _ _ _ i.0 i.1 i.2 s i.8 (held_of c.show.new.output) w c.stop-in-Failed.result _ _
     (within_failed c.turns.lines c.next_head.new.self _ _ n) (omega (arith, c.in-Failed.ensures.failed refl, i.9)) c.stop-in-Failed.ensures
 
 pub returns-in-Failed-clause-write : goal.returns-in-Failed-clause-write

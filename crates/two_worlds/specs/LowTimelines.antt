@@ -1,5 +1,5 @@
 -- What a script's low side alone has been through, as what came to it and the looks that it made.
-use Rattle.std.specs.Prelude.{◌≡◌, Bool, true, false, List, [], ◌∷◌, ◌++◌, map, reverse, Some, None}
+use Rattle.std.specs.Prelude.{◌≡◌, true, false, List, [], ◌∷◌, ◌++◌, map, reverse, Some, None}
 use Rattle.pump_frame.specs.declared.row.SessionRow.{SessionRow}
 use Rattle.pump_core.specs.declared.feedback.Feedback.{Feedback}
 use Rattle.pump_core.specs.Comings.{Coming, Timed, Comes, Looks, Side, HasSides, comings}

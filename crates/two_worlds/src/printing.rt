@@ -72,12 +72,7 @@ fn put_feedback(session: u32, moment: u64, feedback: Feedback, out: &mut ArrayVe
 
 /// What a low look prints, at most three lines: the message that was stored, the feedback, and the
 /// reply.
-pub fn print_look(
-    row: &SessionRow,
-    moment: u64,
-    head: &LookHead,
-    out: &mut ArrayVec<EventHead, 4>,
-)
+pub fn print_look(row: &SessionRow, moment: u64, head: &LookHead, out: &mut ArrayVec<EventHead, 4>)
     requires { length out.old.items ≤ 1 }
     ensures { lines_in out.new.items ≡ lines_in out.old.items ++ look_prints row.now.id moment (look_with row.now head.now) }
 {

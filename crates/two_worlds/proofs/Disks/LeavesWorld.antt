@@ -1,5 +1,5 @@
 -- What crashes leave of the disks of a pump stands for its world, with each unfinished call kept or lost.
-use Rattle.std.proofs.Common.{◌≡◌, ◌⊎◌, inl, inr, ℕ, ◌+◌, ◌^◌, ◌≤◌, ◌<◌, Bool, true, false, List, [], ◌∷◌, ◌++◌, length, Option, Some, None, refl, sym, ap, ◌∙◌, subst, arith, length-append}
+use Rattle.std.proofs.Common.{◌≡◌, ◌⊎◌, inl, inr, ℕ, ◌≤◌, ◌<◌, Bool, true, false, List, [], ◌∷◌, length, Option, Some, None, refl, ap, arith, length-append}
 use Rattle.std.specs.Prelude.{◌&&◌}
 use Rattle.disk_model.specs.Disk.{Meaning}
 use Rattle.disk_model.specs.declared.name.Role.{Role}
@@ -39,16 +39,20 @@ stands_left row w a b c lawful fits fa fb fc =
     let some : (high.0 && w.removing) ≡ true → w.removed < length (with_kept low.0 w.storing w.accepted) = λ e.
     let due = lawful.bounded.removal.cause (and_right high.0 w.removing e) in
     let less = lawful.delivered.due due in
-    omega (arith, less, prefix_length w.received lawful.delivered.prefix.0 w.accepted lawful.delivered.prefix.1, kept_longer low.0 w.storing w.accepted) in
-    (low.0, high.0, recv.0, record {
-      lawful = stays_lawful w (Crash (Some (low.0, high.0)) (Some recv.0)) _ lawful refl;
-      capacity = fits.capacity;
-      count = let l = shorter low.0 w.storing w.accepted in omega (arith, l, fits.count);
-      end = let l = ends_before recv.0 w.taking w.packet w.received in omega (arith, l, fits.end);
-      low_is = low_from row (high.0 && w.removing) w.removed (with_kept low.0 w.storing w.accepted) a some low.1;
-      high_is = high.1;
-      recv_is = recv.1;
-    })
+    omega (arith, less, prefix_length w.received lawful.delivered.prefix.0 w.accepted lawful.delivered.prefix.1, kept_longer low.0 w.storing w.accepted) in (
+      low.0,
+      high.0,
+      recv.0,
+      record {
+        lawful = stays_lawful w (Crash (Some (low.0, high.0)) (Some recv.0)) _ lawful refl;
+        capacity = fits.capacity;
+        count = let l = shorter low.0 w.storing w.accepted in omega (arith, l, fits.count);
+        end = let l = ends_before recv.0 w.taking w.packet w.received in omega (arith, l, fits.end);
+        low_is = low_from row (high.0 && w.removing) w.removed (with_kept low.0 w.storing w.accepted) a some low.1;
+        high_is = high.1;
+        recv_is = recv.1;
+      },
+    )
 
 leaves_world : {D : Type 0} (m : Meaning D) (row : SessionRow) (w : World) (low high recv : D) → IsLawful w → FitsRow row w → DisksFit m row low high recv w → LeaveWorld m row w low high recv
 leaves_world m row w low high recv lawful fits disks = record {

@@ -84,13 +84,16 @@ pump_is : {D : Type 0} {g : _} (s t : Pump D g) → t.parts ≡ s.parts → t �
 pump_is s t e = kept_is s t.parts (sym e) t.keeps
 
 pub applied : {D : Type 0} {g : _} (m : Meaning D) (s t : Pump D g) (line : ScriptLine) (p : Past) (printed : List Event) (stop : Option Stop) → AttemptsFrom m s.parts t.parts line [] printed p (answer_of stop) → Applies m s t line p printed stop
-applied m s t line p printed None a = (a.0, (
-  a.1.0,
-  subst (λ (l : List Event). Step (row_of s) p line a.1.0 l) (sym a.1.3) a.1.2,
-  a.1.4,
-  a.1.5,
-  λ steps point timeline. line_goes (row_of s) p line a.1.0 a.1.1 steps point a.0 a.1.2 timeline,
-))
+applied m s t line p printed None a = (
+  a.0,
+  (
+    a.1.0,
+    subst (λ (l : List Event). Step (row_of s) p line a.1.0 l) (sym a.1.3) a.1.2,
+    a.1.4,
+    a.1.5,
+    λ steps point timeline. line_goes (row_of s) p line a.1.0 a.1.1 steps point a.0 a.1.2 timeline,
+  ),
+)
 applied m s t line p printed (Some Line) a = (a.2, a.1, pump_is s t a.0)
 applied m s t line p printed (Some (Device role faults)) a = (a.0, (a.1.0, subst (λ (l : List Event). Breaks (row_of s) p line role a.1.0 l) (sym a.1.3) a.1.2, a.1.4, a.1.5))
 applied m s t line p printed (Some (Full end k size)) a =

@@ -151,8 +151,7 @@ module _ {D : Type 0} (m : Meaning D) (c d : Parts D) (moment time : ℕ) (out n
       let n = hand_is m e a.0 a.4 some in
       let b = does a.0 a.4 in
       let nothing : now ≡ mid = b.3 ∙ ap (λ l. mid ++ l) b.2.2 ∙ append-nil mid in
-      let look = subst (λ (x : Past). IsHighLook c.row p moment None x a.1) (sym b.2.0) a.2 in
-      (
+      let look = subst (λ (x : Past). IsHighLook c.row p moment None x a.1) (sym b.2.0) a.2 in (
         b.0,
         a.1,
         (look, (n.0, subst (λ (x : Past). x.world.high_hand ≡ Some n.0) (sym b.2.0) n.1), subst (λ (x : Past). IsOverfull x.world 0 end k size) (sym b.2.0) b.2.1),

@@ -1,10 +1,9 @@
 -- The messages of a world outlive a crash on its disks.
-use Rattle.std.proofs.Common.{◌≡◌, ◌⊎◌, inl, inr, ⊎_elim, ℕ, ◌+◌, ◌-◌, ◌<◌, ◌≤◌, Bool, true, false, List, [], ◌∷◌, ◌++◌, length, drop, Option, Some, None, refl, sym, ap, ◌∙◌, subst, arith, zero, suc, nat_lt, length-append, length-drop}
-use Rattle.std.specs.Prelude.{slice_get, slice_index_or, ◌&&◌}
+use Rattle.std.proofs.Common.{◌≡◌, ◌⊎◌, inl, inr, ⊎_elim, ℕ, ◌+◌, ◌-◌, ◌<◌, ◌≤◌, Bool, true, false, List, [], ◌∷◌, ◌++◌, length, drop, Option, Some, None, refl, ap, ◌∙◌, subst, arith, zero, suc, nat_lt, length-drop}
+use Rattle.std.specs.Prelude.{slice_get, slice_index_or}
 use Rattle.std.specs.List.{AllByRecursion}
 use Rattle.std.proofs.lemmas.Bool.Decides.{nat_tests}
 use Rattle.std.proofs.lemmas.Option.{slice_get_within, get_or_from_slice_get}
-use Rattle.pump_frame.specs.declared.frame.Frame.{Frame}
 use Rattle.pump_frame.specs.declared.payload.Payload.{Payload}
 use Rattle.pump_frame.specs.declared.row.SessionRow.{SessionRow}
 use Rattle.stable_buffer.specs.Register.{value_of}
@@ -20,7 +19,7 @@ use Rattle.pump_core.specs.Runs.{IsRun}
 use Rattle.pump_core.proofs.Laws.{stays_lawful}
 use Rattle.pump_core.proofs.Lists.{slice_get-append}
 use Rattle.two_worlds.specs.Disks.{crashed, StandFor, StandForLeft}
-use Rattle.two_worlds.specs.Laws.{Outlives, KeepMessages, IsAckBelow, AcksBelow, AckOutlives}
+use Rattle.two_worlds.specs.Laws.{Outlives, KeepMessages, AcksBelow, AckOutlives}
 use Rattle.two_worlds.proofs.Runs.Acknowledged.{run_acks}
 use Rattle.two_worlds.proofs.Carry.Packets.{get_drop}
 use Rattle.two_worlds.proofs.Runs.Worlds.{leads_lawfully}

@@ -1,5 +1,5 @@
 -- What comes to a low side alone, and its looks, line by line.
-use Rattle.std.proofs.Common.{◌≡◌, ℕ, ◌+◌, Bool, true, false, List, [], ◌∷◌, ◌++◌, map, drop, Option, Some, None, refl, sym, ap, ◌∙◌, subst, arith, append_assoc, append-nil}
+use Rattle.std.proofs.Common.{◌≡◌, ℕ, Bool, true, false, List, [], ◌∷◌, ◌++◌, map, Option, Some, None, refl, sym, ap, ◌∙◌, subst, arith, append_assoc, append-nil}
 use Rattle.std.specs.Prelude.{if◌then◌else◌, ◌&&◌, not, reverse}
 use Rattle.std.proofs.lemmas.List.{reverse-append}
 use Rattle.pump_frame.specs.declared.row.SessionRow.{SessionRow}
@@ -18,7 +18,7 @@ use Rattle.script_reader.specs.Tolds.{LowPast, fresh_low, joined_low, lost_low, 
 use Rattle.script_reader.specs.Scripts.{LowRunning, Begun, Whole, Alone, GoesLow, GoesOn, Leads, LeadTo}
 use Rattle.script_reader.proofs.Leading.{IsNew, led}
 use Rattle.two_worlds.specs.Timelines.{arrived, AreLeft}
-use Rattle.two_worlds.specs.LowTimelines.{side_of, IsLowTimeline, AreEvents, LowGoesOn}
+use Rattle.two_worlds.specs.LowTimelines.{side_of, IsLowTimeline, LowGoesOn}
 use Rattle.two_worlds.proofs.Timeline.Cuts.{Newest, newest_of}
 use Rattle.two_worlds.proofs.Timeline.Looks.{left_after, none_left}
 use Rattle.two_worlds.proofs.Timeline.Lows.{taken_after, counts, second}

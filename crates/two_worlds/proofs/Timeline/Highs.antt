@@ -1,11 +1,10 @@
 -- A high look of a script goes on with a timed run of its session.
-use Rattle.std.proofs.Common.{◌≡◌, ⊎_elim, ℕ, ◌≤◌, Bool, true, false, List, [], ◌∷◌, ◌++◌, length, Option, Some, None, refl, sym, ap, ◌∙◌, subst, arith, length-append}
+use Rattle.std.proofs.Common.{◌≡◌, ℕ, ◌≤◌, Bool, List, [], ◌∷◌, ◌++◌, length, Option, Some, None, refl, sym, ap, ◌∙◌, subst, arith, length-append}
 use Rattle.std.specs.Prelude.{nat_lt, option_to_list}
 use Rattle.std.proofs.lemmas.Bool.{lt-ltb, le-ltb}
 use Rattle.pump_frame.specs.declared.row.SessionRow.{SessionRow}
 use Rattle.pump_core.specs.declared.event.Event.TheVariants.{TakeUp, Send, RemoveBegin, RemoveEnd}
 use Rattle.pump_core.specs.World.{World}
-use Rattle.pump_core.specs.Events.{Happens, Run}
 use Rattle.pump_core.specs.History.{Arrival}
 use Rattle.pump_core.specs.Comings.{comings}
 use Rattle.pump_core.specs.HighLooks.{has_removed}
@@ -14,7 +13,7 @@ use Rattle.pump_core.specs.Timed.{Step, HighLook, Publish, Occurs, Point, high_l
 use Rattle.script_reader.specs.declared.event.Event.{Event}
 use Rattle.script_reader.specs.Past.{Past}
 use Rattle.script_reader.specs.Highs.{IsHighLook}
-use Rattle.two_worlds.specs.Timelines.{taken_in, AreLeft, IsAtRest, IsTimeline, only_if, come_back, high_steps}
+use Rattle.two_worlds.specs.Timelines.{taken_in, AreLeft, IsTimeline, only_if, come_back, high_steps}
 use Rattle.two_worlds.proofs.Timeline.Looks.{timeline, HasMore}
 use Rattle.two_worlds.proofs.Timeline.Stands.{at, Stands, Settled, returned}
 use Rattle.two_worlds.proofs.Timeline.Removals.{removed, publish_steps, removal_holds}

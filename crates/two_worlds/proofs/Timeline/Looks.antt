@@ -9,7 +9,6 @@ use Rattle.pump_core.specs.History.{Arrival, Gone, History, looked}
 use Rattle.pump_core.specs.Exchanges.{is_gone}
 use Rattle.pump_core.specs.Replies.{takes}
 use Rattle.pump_core.specs.Comings.{Coming, comings, is_nothing}
-use Rattle.pump_core.specs.World.{World}
 use Rattle.pump_core.specs.Sendings.{Sending}
 use Rattle.pump_core.specs.Timed.{Step, HighSide, Arrives, Point}
 use Rattle.pump_core.specs.Runs.{steps_in, IsRun}

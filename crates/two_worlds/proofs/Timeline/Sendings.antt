@@ -1,6 +1,6 @@
 -- A message that is taken up and sent in a high look.
-use Rattle.std.proofs.Common.{◌≡◌, ⊎_elim, ℕ, suc, ◌+◌, Bool, true, false, List, [], ◌∷◌, ◌++◌, length, Option, Some, None, refl, sym, ap, ◌∙◌, subst, arith}
-use Rattle.std.specs.Prelude.{if◌then◌else◌, ◌==◌, nat_lt}
+use Rattle.std.proofs.Common.{◌≡◌, ⊎_elim, ℕ, suc, ◌+◌, Bool, true, false, List, [], ◌∷◌, ◌++◌, length, Option, refl, sym, ap, ◌∙◌, subst, arith}
+use Rattle.std.specs.Prelude.{if◌then◌else◌, nat_lt}
 use Rattle.std.proofs.lemmas.Bool.{lt-ltb, le-ltb}
 use Rattle.pump_frame.specs.declared.row.SessionRow.{SessionRow}
 use Rattle.pump_core.specs.declared.event.Event.TheVariants.{TakeUp, Send}
@@ -39,8 +39,8 @@ module _ (row : SessionRow) (past : List Step) (t : Point) (m : ℕ) (times : Li
         rest = subst IsAtRest (sym k.1) r;
       })
       h where
-    add_one : (n : ℕ) → suc n ≡ n + 1
-    add_one n = omega arith
+        add_one : (n : ℕ) → suc n ≡ n + 1
+        add_one n = omega arith
 
   pub taking_up_keeps : (w v : World) → Perhaps w TakeUp [] v → v.removed ≡ w.removed
   taking_up_keeps w v h = ⊎_elim

@@ -8,7 +8,7 @@ use Rattle.script_reader.specs.declared.event.Event.{Event}
 use Rattle.script_reader.specs.declared.line.Line.{Line as ScriptLine}
 use Rattle.script_reader.specs.declared.line.Line.TheVariants as lines
 use Rattle.script_reader.specs.Past.{Past}
-use Rattle.script_reader.specs.Highs.{IsHighLook, IsCarried, IsReturn, IsOverfull, place}
+use Rattle.script_reader.specs.Highs.{IsCarried, IsReturn, IsOverfull, place}
 use Rattle.script_reader.specs.Steps.{is_timely, IsCrowded, IsRefusedWhole, Step, Overfills}
 use Rattle.script_reader.specs.Breaks.{Breaks}
 use Rattle.two_worlds.specs.declared.applied.Stop.{Stop}

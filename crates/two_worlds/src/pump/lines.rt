@@ -16,7 +16,7 @@ use crate::applied::Stop;
 use crate::pump::parts::Parts;
 use arrayvec::ArrayVec;
 use disk_model::Disk;
-use script_reader::{ArrivingHead, LineHead, EventHead};
+use script_reader::{ArrivingHead, EventHead, LineHead};
 
 /// The last moment of a script, 2^62.
 const LAST_MOMENT: u64 = 4_611_686_018_427_387_904;
@@ -37,7 +37,10 @@ impl<D: Disk> Parts<D> {
         ensures { result ≡ is_timely_by self.now (line_with _bytes.now line.now) }
     {
         match line {
-            LineHead::Skip | LineHead::Session(_) | LineHead::LowSession { .. } | LineHead::Told { .. } => false,
+            LineHead::Skip
+            | LineHead::Session(_)
+            | LineHead::LowSession { .. }
+            | LineHead::Told { .. } => false,
             LineHead::Look {
                 session,
                 moment,
@@ -174,9 +177,10 @@ impl<D: Disk> Parts<D> {
         ensures row { self.new.row ≡ self.old.row }
     {
         match line {
-            LineHead::Skip | LineHead::Session(_) | LineHead::LowSession { .. } | LineHead::Told { .. } => {
-                Err(Stop::Line)
-            }
+            LineHead::Skip
+            | LineHead::Session(_)
+            | LineHead::LowSession { .. }
+            | LineHead::Told { .. } => { Err(Stop::Line) }
             LineHead::Look {
                 moment,
                 word,

@@ -1,4 +1,4 @@
-use Rattle.std.proofs.Common.{◌<◌, ◌≡◌, ◌++◌, ◌∷◌, [], length, Ok, Err, sym, ap, ◌∙◌, subst, refl, append-nil}
+use Rattle.std.proofs.Common.{◌<◌, ◌≡◌, [], length, Ok, Err, sym, ap, ◌∙◌, subst, refl, append-nil}
 use Rattle.std.specs.Prelude.{option_copied}
 use Rattle.std.specs.Coded.{le_prop}
 use Rattle.std.proofs.Math.Logic.{∥∥₁_elim}

@@ -1,4 +1,4 @@
-use Rattle.std.proofs.Common.{◌≡◌, Some, [], refl}
+use Rattle.std.proofs.Common.{◌≡◌, Some, []}
 use Rattle.std.proofs.Math.Logic.{∥∥₁_map}
 use Rattle.disk_model.specs.declared.name.Role.TheVariants as roles
 use Rattle.script_reader.specs.Highs.{IsReturn, place}

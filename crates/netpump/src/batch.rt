@@ -25,8 +25,8 @@ fn is_replay(words: &Vec<String>) -> bool
 ///
 /// - 0: the script was read to its end, and its transcript was written.
 /// - 1: there was not enough memory; nothing was written.
-/// - 2: the words are no command, which is what the output says.
-/// - 3: the script could not be read; the transcript of the lines before was written.
+/// - 2: the words are no command, which is what the output says. The script was not read.
+/// - 3: the script could not be read; the transcript of all whole lines that were read was written.
 /// - 4: the output could not be written; a front of what is to be written was.
 /// - 5: a line is outside the grammar or can't be applied; the transcript of the lines before was
 ///   written.
@@ -35,7 +35,8 @@ fn is_replay(words: &Vec<String>) -> bool
 /// - 10: a line's message does not fit on the receiver's disk; the same was written.
 ///
 /// Of 0, 5, 7 and 10 it is the one whose cause is the first in the script, where it is none of the
-/// others. `docs/formats.md` has the script, the transcript and the last line at the statuses 2, 3,
+/// others. At 0, 3, 4, 5, 7 and 10 the laws of `script_reader` and `two_worlds` hold of what was
+/// printed, at each line and where one stopped (`Replayed`, `KeepLaws`). `docs/formats.md` has the script, the transcript and the last line at the statuses 2, 3,
 /// 5, 7 and 10.
 pub fn batch<I: Source, O: Sink>(
     alloc: Global,

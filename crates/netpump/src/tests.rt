@@ -390,23 +390,41 @@ fn stops_where_the_device_fails(rt: HostRuntime) -> Result<(), Fail> {
     Ok(())
 }
 
+/// Whether the command ends with this status and writes this, over a script that comes in pieces.
+fn ends(
+    alloc: Global,
+    word: &str,
+    parts: &[&str],
+    piece: usize,
+    read_fails: &[u64],
+    write_fails: &[u64],
+    wanted: (u8, &str),
+) -> Result<bool, AllocError>
+    requires { 0 < piece }
+{
+    let script = joined(alloc, parts)?;
+    let (status, written) = run(alloc, word, script, piece, read_fails, write_fails)?;
+    Ok(status == wanted.0 && written.as_slice() == wanted.1.as_bytes())
+}
+
 #[test]
 fn tells_failed_reads_and_writes(rt: HostRuntime) -> Result<(), Fail> {
     let alloc = rt.alloc();
-    let (status, written) = run(alloc, "replay now", joined(alloc, &[P, H])?, 64, &[], &[])?;
-    assert_eq!(rt; status, 2);
-    assert_eq!(rt; written.as_slice(), b"fault words\n".as_slice());
-    // The third read fails after the two lines and half of another one.
-    let script = joined(alloc, &[P, H, "look 1 20 00000000\n"])?;
-    let (status, written) = run(alloc, "replay", script, 50, &[2], &[])?;
-    assert_eq!(rt; status, 3);
-    assert_eq!(rt;
-        written.as_slice(),
-        b"low 1 10 welcome 0\nfault read\n".as_slice()
-    );
-    let (status, written) = run(alloc, "replay", joined(alloc, &[P, H])?, 64, &[], &[0])?;
-    assert_eq!(rt; status, 4);
-    assert_eq!(rt; written.as_slice(), b"".as_slice());
+    let words = (2, "fault words\n");
+    assert!(rt; ends(alloc, "replay now", &[P, H], 64, &[], &[], words)?);
+    // The third read fails after the two lines and half of another one; the second one after a piece
+    // with both lines, which are answered.
+    let unread = (3, "low 1 10 welcome 0\nfault read\n");
+    let script = [P, H, "look 1 20 00000000\n"];
+    assert!(rt; ends(alloc, "replay", &script, 50, &[2], &[], unread)?);
+    assert!(rt; ends(alloc, "replay", &script, 100, &[1], &[], unread)?);
+    assert!(rt; ends(alloc, "replay", &[P, H], 64, &[], &[0], (4, ""))?);
+    // Of a script that comes byte by byte each answer is written before the next byte is read, and
+    // by itself; else many are written at once.
+    let first = (4, "low 1 10 welcome 0\n");
+    assert!(rt; ends(alloc, "replay", &[P, H, STORE], 1, &[], &[1], first)?);
+    let all = (4, "low 1 10 welcome 0\nstored 1 100 0\npassed 1 100 0 20000\n");
+    assert!(rt; ends(alloc, "replay", &[P, H, STORE], 4096, &[], &[1], all)?);
     Ok(())
 }
 

@@ -201,7 +201,8 @@ fn a_store_that_fails_is_refused(rt: HostRuntime) -> Result<(), Fail> {
     for (call, wanted, stop, old, new) in [
         (1, refused, failed, 0, 0),
         (4, refused, failed, 0, 1),
-        (40, "low 1 10 welcome 0\nstored 1 100 0\n", None, 1, 1),
+        // A sixth call is not made.
+        (5, "low 1 10 welcome 0\nstored 1 100 0\n", None, 1, 1),
     ] {
         for (outcome, count) in [(Outcome::Old, old), (Outcome::New, new)] {
             let mut output = Vec::new(alloc);

@@ -167,26 +167,38 @@ fn opening_calls(alloc: Global) -> Result<u64, Fail>
     Err(Fail::new("never open"))
 }
 
-// A message is stored while this call of low's disk fails: what is printed, whether it stops, and how
-// many messages a crash leaves.
+// A message is stored while this call of low's disk fails: whether it stops, and the disk. The output
+// gets what is printed.
+fn store_while_failing(
+    alloc: Global,
+    fails: u64,
+    output: &mut Vec<u8>,
+) -> Result<(Option<Stop>, MemDisk), Fail> {
+    let Some(mut pump) = failing_pump(alloc, fails)? else {
+        return Err(Fail::new("not open"));
+    };
+    let store = [HELLO, "look 1 100 00000000 data 0 61"];
+    let stop = play(&mut pump, &store, output)?;
+    let (low, _, _) = pump.close();
+    Ok((stop, low))
+}
+
+// So, and how many messages a crash then leaves.
 fn store_and_crash(
     alloc: Global,
     fails: u64,
     outcome: Outcome,
     output: &mut Vec<u8>,
 ) -> Result<(Option<Stop>, u64), Fail> {
-    let Some(mut pump) = failing_pump(alloc, fails)? else {
-        return Err(Fail::new("not open"));
-    };
-    let store = [HELLO, "look 1 100 00000000 data 0 61"];
-    let stop = play(&mut pump, &store, output)?;
-    let (mut low, _, _) = pump.close();
+    let (stop, mut low) = store_while_failing(alloc, fails, output)?;
     low.crash(outcome);
     match Register::open(low) {
         Ok(register) => Ok((stop, register.value().0)),
         Err(_) => Err(Fail::new("no register")),
     }
 }
+
+const STORED: &str = "low 1 10 welcome 0\nstored 1 100 0\n";
 
 // A store makes five calls: the slot, the register's cell and its sync, and the selection and its sync.
 #[test]
@@ -201,8 +213,7 @@ fn a_store_that_fails_is_refused(rt: HostRuntime) -> Result<(), Fail> {
     for (call, wanted, stop, old, new) in [
         (1, refused, failed, 0, 0),
         (4, refused, failed, 0, 1),
-        // A sixth call is not made.
-        (5, "low 1 10 welcome 0\nstored 1 100 0\n", None, 1, 1),
+        (40, STORED, None, 1, 1),
     ] {
         for (outcome, count) in [(Outcome::Old, old), (Outcome::New, new)] {
             let mut output = Vec::new(alloc);
@@ -211,5 +222,10 @@ fn a_store_that_fails_is_refused(rt: HostRuntime) -> Result<(), Fail> {
             assert_eq!(rt; output.as_slice(), wanted.as_bytes());
         }
     }
+    // A sixth call is not made.
+    let mut output = Vec::new(alloc);
+    let (stop, _) = store_while_failing(alloc, opening + 5, &mut output)?;
+    assert_eq!(rt; stop, None);
+    assert_eq!(rt; output.as_slice(), STORED.as_bytes());
     Ok(())
 }

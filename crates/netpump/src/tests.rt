@@ -423,7 +423,10 @@ fn tells_failed_reads_and_writes(rt: HostRuntime) -> Result<(), Fail> {
     // by itself; else many are written at once.
     let first = (4, "low 1 10 welcome 0\n");
     assert!(rt; ends(alloc, "replay", &[P, H, STORE], 1, &[], &[1], first)?);
-    let all = (4, "low 1 10 welcome 0\nstored 1 100 0\npassed 1 100 0 20000\n");
+    let all = (
+        4,
+        "low 1 10 welcome 0\nstored 1 100 0\npassed 1 100 0 20000\n",
+    );
     assert!(rt; ends(alloc, "replay", &[P, H, STORE], 4096, &[], &[1], all)?);
     Ok(())
 }

@@ -98,7 +98,7 @@ module _ {D : Type 0} (m : Meaning D) (c d : Parts D) (moment word : ℕ) (a : A
     behind = behind;
   }
 
-  pub low_serves : (result : Result (Unit {0}) Stop) → result ≡ stop_of m d → DisksServe m c d result
+  pub low_serves : (result : Result (Unit {0}) Stop) → result ≡ stop_of m d.low d.low_store → DisksServe m c d result
   low_serves result stop =
       let faults = m.count (low_disk d.low_store) in
       let e : result ≡ stop_by is_fault faults = stop ∙ ap (λ (b : Bool). stop_by b faults) down_is in

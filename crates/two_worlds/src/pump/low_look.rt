@@ -7,7 +7,8 @@ ghost use Rattle.script_reader.specs.Steps.{IsOfferedLook, IsLowLook};
 ghost use Rattle.script_reader.specs.Breaks.{IsLost};
 ghost use Rattle.two_worlds.specs.Connections.{unused};
 ghost use Rattle.two_worlds.specs.Standing.{StandsForSome};
-ghost use Rattle.two_worlds.specs.Doing.{Does, NeverBreaks, NeverOverfills, DisksServe};
+ghost use Rattle.two_worlds.specs.Doing.{Does, NeverBreaks, NeverOverfills};
+ghost use Rattle.two_worlds.specs.Private.Serving.{DisksServe};
 ghost use Rattle.two_worlds.specs.Printing.{lines_in};
 
 use crate::applied::Stop;

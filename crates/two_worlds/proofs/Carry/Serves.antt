@@ -51,23 +51,23 @@ module _ {D : Type 0} (m : Meaning D) (c : Parts D) where
   -- the receiver's disk has what was removed
   pub recv_has : (p : Past) → Stands m c p → Each m (HasTaken p.world.removed) (recv_disk c.receiver)
   recv_has p s = each_weaker m (RecvFits c.row p.world) (HasTaken p.world.removed) (recv_disk c.receiver)
-      (λ disk fit. taken_by c.row p.world.removed p.world.received disk s.lawful.delivered.removed (recv_reading c.row p.world disk s.rest.packet fit)) s.disks.recv_disk
+      (λ disk fit. taken_by c.row p.world.removed p.world.received disk s.sound.lawful.delivered.removed (recv_reading c.row p.world disk s.sound.rest.packet fit)) s.disks.recv_disk
 
   -- .. and after a taking too
   pub recv_has_after : (p : Past) (message : List ℕ) (new : D) → Stands m c p → Moves m (MayTake (recv_row c.receiver) message) (recv_disk c.receiver) new → Each m (HasTaken p.world.removed) new
   recv_has_after p message new s moves =
       each_after m (RecvFits c.row p.world) (HasTaken p.world.removed) (MayTake (recv_row c.receiver) message) (recv_disk c.receiver) new s.disks.recv_disk
       (λ old now fit may.
-      let le = s.lawful.delivered.removed in
+      let le = s.sound.lawful.delivered.removed in
       let row = recv_row c.receiver in
-      let was : RecvStands row p.world.received old = subst (λ (r : SessionRow). RecvStands r p.world.received old) (sym s.recv_ready.row) (recv_reading c.row p.world old s.rest.packet fit) in
+      let was : RecvStands row p.world.received old = subst (λ (r : SessionRow). RecvStands r p.world.received old) (sym s.recv_ready.row) (recv_reading c.row p.world old s.sound.rest.packet fit) in
       ⊎_elim (λ stays. taken_by row p.world.removed p.world.received now le stays) (λ more. taken_more row p.world.removed p.world.received message now le more) (may.either p.world.received was))
       moves
 
   -- the high disk has what was removed
   pub high_has : (p : Past) → Stands m c p → Each m (λ disk. (value_of disk).0 ≡ p.world.removed) (high_disk c.high_store)
   high_has p s = each_weaker m (HighFits c.row p.world) (λ disk. (value_of disk).0 ≡ p.world.removed) (high_disk c.high_store)
-      (λ disk fit. ap (λ (v : ℕ × ℕ). v.0) (high_reading c.row p.world disk s.rest.removing fit).value) s.disks.high_disk
+      (λ disk fit. ap (λ (v : ℕ × ℕ). v.0) (high_reading c.row p.world disk s.sound.rest.removing fit).value) s.disks.high_disk
 
   -- the high disk is left alone
   pub behind_alone : (recv : D) → ∥ StandsForSome m c ∥₁ → ((p : Past) → Stands m c p → Each m (HasTaken p.world.removed) recv)

@@ -67,9 +67,9 @@ received_at row w disk none fit = ap (λ (v : ℕ × ℕ). v.0) (recv_reading ro
 module _ {D : Type 0} (m : Meaning D) (c : Parts D) (some : ∥ StandsForSome m c ∥₁) where
   still_behind : RemovesBehind m (disk_at roles.High c) (disk_at roles.High c) (disk_at roles.Recv c)
   still_behind = λ told b since d image. ∥∥₁_elim some le_prop (λ s.
-      let high = removed_at c.row s.0.world b s.1.rest.removing (s.1.disks.high_disk.images told b (m.only_now told (disk_at roles.High c) b since)) in
-      let recv = received_at c.row s.0.world d s.1.rest.packet (s.1.disks.recv_disk.images told d image) in
-      let le = s.1.lawful.delivered.removed in
+      let high = removed_at c.row s.0.world b s.1.sound.rest.removing (s.1.disks.high_disk.images told b (m.only_now told (disk_at roles.High c) b since)) in
+      let recv = received_at c.row s.0.world d s.1.sound.rest.packet (s.1.disks.recv_disk.images told d image) in
+      let le = s.1.sound.lawful.delivered.removed in
       omega (arith, high, recv, le))
 
   -- a line that can't be applied calls no disk

@@ -165,13 +165,13 @@ module _ {D : Type 0} (m : Meaning D) (c d : Parts D) (moment time : ℕ) (out n
     goes_by =
         let a = looks p s in
         let n = hand_is m e a.0 a.4 some in
-        goes_is m c p s ∙ goes_before c.row p moment a.0 a.1 n.0 s.rest.due a.2 n.1
+        goes_is m c p s ∙ goes_before c.row p moment a.0 a.1 n.0 s.sound.rest.due a.2 n.1
 
     pub has_packet : 0 < length e.sent.items
     has_packet =
         let a = looks p s in
         let n = hand_is m e a.0 a.4 some in
         let first = sent_after c.row p moment a.0 a.1 n.0 a.2 n.1 in
-        let le = a.4.sends in
+        let le = a.4.sound.sends in
         let all : 0 < length a.0.world.sent = omega (arith, first, le) in
         subst (λ (l : List Item). 0 < length l) (sym a.4.world.sent) (some_kept m e a.0 a.4 a.0.world.sent all)

@@ -82,11 +82,11 @@ module _ {D : Type 0} (m : Meaning D) (c d : Parts D) (moment word : ℕ) (a : A
   behind : RemovesBehind m (high_disk c.high_store) (high_disk c.high_store) (recv_disk c.receiver)
   behind told high left recv is = ∥∥₁_elim some le_prop (λ s.
       let p = s.0 in
-      let h = high_reading c.row p.world high s.1.rest.removing (s.1.disks.high_disk.images told high (m.only_now told (high_disk c.high_store) high left)) in
-      let r = recv_reading c.row p.world recv s.1.rest.packet (s.1.disks.recv_disk.images told recv is) in
+      let h = high_reading c.row p.world high s.1.sound.rest.removing (s.1.disks.high_disk.images told high (m.only_now told (high_disk c.high_store) high left)) in
+      let r = recv_reading c.row p.world recv s.1.sound.rest.packet (s.1.disks.recv_disk.images told recv is) in
       let e = ap (λ (t : ℕ × ℕ). t.0) h.value in
       let f = ap (λ (t : ℕ × ℕ). t.0) r.value in
-      let le = s.1.lawful.delivered.removed in
+      let le = s.1.sound.lawful.delivered.removed in
       omega (arith, e, f, le))
 
   abbrev d' : Parts D

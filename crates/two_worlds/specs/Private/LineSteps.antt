@@ -38,6 +38,10 @@ is_timely_by c (lines.Done session m t) =
     session == c.row.id && (nat_le c.moment m && (not (goes_on_by c) || nat_le (m + t) (2 ^ 62)))
 
 -- ---- what a line does ----
+-- Each says more of the line than the one before. `Does` says what any part of a line leads to. `LineDoes`
+-- says that of a step of this line. `Runs` adds what becomes of it where more than 64 arrivals would wait,
+-- and `Attempts` adds the test that comes first. A name that ends in From says it of one past that the parts
+-- stood for, and the name without From of each.
 
 -- it does not fit at the receiver, and nothing has changed
 abbrev pub IsOverfullSent : Past → Past → List Event → ℕ → ℕ → ℕ → Type 0

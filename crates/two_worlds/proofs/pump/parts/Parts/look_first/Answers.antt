@@ -59,7 +59,7 @@ returns g c =
     } in
     record {
       does = λ p stands. offered_does m s d c.args.moment c.args.word a l c.requires.order (lines_in c.args.out.now.items) printed (subst (λ (r : SessionRow). printed ≡ lines_in c.args.out.now.items ++ look_prints s.row.id c.args.moment (look_with r head)) (sym stands.low_ready.row) end.prints) p stands e.looks.0 c.end_look.result
-          (c.first-arrival.ensures.offered ∙ (λ i. first_of (stands.broken i) (stands.waits i))) did end.stop;
+          (c.first-arrival.ensures.offered ∙ (λ i. first_of (stands.arrivals.broken i) (stands.arrivals.waits i))) did end.stop;
       serve = low_serves m s d c.args.moment c.args.word a e.looks.0 l did c.requires.stands c.end_look.result end.stop;
       row = refl;
     }

@@ -8,8 +8,7 @@ use Rattle.stable_buffer.specs.Stands.{low_size}
 use Rattle.script_reader.specs.Highs.{receiver_size}
 use Rattle.two_worlds.specs.declared.applied.Stop.{Stop}
 use Rattle.two_worlds.specs.declared.applied.Stop.TheVariants.{Device}
-use Rattle.two_worlds.specs.Doing.{Serves}
-use Rattle.two_worlds.specs.Rooms.{IsFree, HasRoom, stops_at, DisksGo}
+use Rattle.two_worlds.specs.Rooms.{Serves, IsFree, HasRoom, stops_at, DisksGo}
 
 -- a disk with room that is not armed does not fail, and has room still
 never_fails : {D : Type 0} (m : Meaning D) (size : ℕ) (old new : D) (is_fault : Bool) → m.tells_plan → IsFree m size old → Serves m size old new is_fault → is_fault ≡ false

@@ -1,18 +1,15 @@
 -- What a part of a line does to the parts of a pump, by what it answers.
-use Rattle.std.specs.Prelude.{◌≡◌, ◌⊎◌, ℕ, ◌≤◌, Bool, true, false, List, ◌++◌, Result, Ok, Err}
-use Rattle.disk_model.specs.Disk.{Meaning, Answers, Leaves}
+use Rattle.std.specs.Prelude.{◌≡◌, ◌⊎◌, ℕ, true, List, ◌++◌, Result, Ok, Err}
+use Rattle.disk_model.specs.Disk.{Meaning, Leaves}
 use Rattle.disk_model.specs.declared.name.Role.{Role}
 use Rattle.disk_model.specs.declared.name.Role.TheVariants as roles
-use Rattle.stable_buffer.specs.Stands.{low_size}
-use Rattle.low_process.specs.Storing.{outcome}
 use Rattle.pump_core.specs.Lawful.{IsLawful}
 use Rattle.script_reader.specs.declared.event.Event.{Event}
 use Rattle.script_reader.specs.Past.{Past}
-use Rattle.script_reader.specs.Highs.{receiver_size}
 use Rattle.two_worlds.specs.declared.applied.Stop.{Stop}
 use Rattle.two_worlds.specs.declared.applied.Stop.TheVariants.{Line, Device, Full}
 use Rattle.two_worlds.specs.declared.pump.parts.Parts.{Parts}
-use Rattle.two_worlds.specs.Disks.{LowFits, HighFits, RecvFits, DisksFit, FitsRow, RemovesBehind}
+use Rattle.two_worlds.specs.Disks.{LowFits, HighFits, RecvFits, DisksFit, FitsRow}
 use Rattle.two_worlds.specs.Standing.{Stands, is_down, disk_at}
 
 -- the disk of this role failed: the parts are down, and the disks fit the world, in which the call is
@@ -53,35 +50,6 @@ NeverBreaks role p q printed = ⊥
 
 abbrev pub NeverOverfills : Past → Past → List Event → ℕ → ℕ → ℕ → Type 0
 NeverOverfills p q printed end size_of_message size = ⊥
-
--- ---- the disks' calls ----
-
-abbrev pub is_role : Role → Role → Bool
-is_role roles.Low roles.Low = true
-is_role roles.High roles.High = true
-is_role roles.Recv roles.Recv = true
-is_role _ _ = false
-
--- the disk of this role failed
-abbrev pub fails_at : Role → Result (Unit {0}) Stop → Bool
-fails_at role (Ok done) = false
-fails_at role (Err (Device other faults)) = is_role role other
-fails_at role (Err Line) = false
-fails_at role (Err (Full end size_of_message size)) = false
-
--- no call of the disk was made; or calls were made of which one failed or none, and they fit where its
--- room is not smaller than this
-abbrev pub Serves : {D : Type 0} → Meaning D → ℕ → D → D → Bool → Type 0
-Serves m least old new is_fault =
-    ((new ≡ old) × (is_fault ≡ false)) ⊎ Answers m (least ≤ m.room old) old new (outcome is_fault)
-
--- so each of the three disks, with room for all that its format needs; and no crash leaves more removed
--- than taken
-pub record DisksServe {D : Type 0} (m : Meaning D) (c d : Parts D) (result : Result (Unit {0}) Stop) : Type 0 where
-  pub low : Serves m (low_size c.row) (disk_at roles.Low c) (disk_at roles.Low d) (fails_at roles.Low result)
-  pub high : Serves m 80 (disk_at roles.High c) (disk_at roles.High d) (fails_at roles.High result)
-  pub recv : Serves m receiver_size (disk_at roles.Recv c) (disk_at roles.Recv d) (fails_at roles.Recv result)
-  pub behind : RemovesBehind m (disk_at roles.High c) (disk_at roles.High d) (disk_at roles.Recv d)
 
 -- the disk of this role is as it was. With this from each part of a line before its last one, what is
 -- said of the disks holds of the parts together

@@ -90,10 +90,6 @@ AnsweredBy row told p q Average l = Finishes p q (answers.Average (told_of_read 
 
 -- ---- how a line ends ----
 
--- the stop of a look after which the parts are these
-abbrev pub stop_of : LowParts → Option Stop
-stop_of c = if low.is_down c.process then Some (stops.Device roles.Low (disk_of c).faults) else None
-
 -- A part of a line of which `Does` says what it leads to, where the disk failed in it or not. Where
 -- `Bars` has it, it could not be done.
 module _ (Bars : Type 0) (Does : Bool → LowPast → List Event → Type 0) where

@@ -7,7 +7,7 @@ use Rattle.pump_frame.specs.declared.row.SessionRow.{SessionRow}
 use Rattle.stable_buffer.specs.Format.{FormatStands, second_of, size_of}
 use Rattle.stable_buffer.specs.Register.{IsReady, register_disk, register_value}
 use Rattle.stable_buffer.specs.declared.register.Register.{Register}
-use Rattle.two_worlds.specs.Doing.{Serves, is_role}
+use Rattle.two_worlds.specs.Rooms.{Serves, is_role}
 use Rattle.two_worlds.specs.declared.not_open.NotOpen.{NotOpen}
 
 -- calls of a disk were made, and none failed

@@ -5,3 +5,4 @@ pub mod Formatted
 pub mod HighLooks
 pub mod LineSteps
 pub mod LowLooks
+pub mod Serving

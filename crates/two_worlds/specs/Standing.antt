@@ -6,6 +6,7 @@ use Rattle.disk_model.specs.Disk.{Meaning}
 use Rattle.disk_model.specs.declared.name.Role.{Role}
 use Rattle.disk_model.specs.declared.name.Role.TheVariants as roles
 use Rattle.pump_frame.specs.Rows.{IsLawfulRow}
+use Rattle.pump_frame.specs.declared.row.SessionRow.{SessionRow}
 use Rattle.pump_frame.specs.declared.payload.Payload.{Payload}
 use Rattle.pump_frame.specs.declared.frame.Item.{Item}
 use Rattle.pump_frame.specs.declared.frame.Kind.TheVariants.{Taken}
@@ -91,8 +92,9 @@ pub record HoldsWorld (k : Kept) (w : World) : Type 0 where
 
 -- ---- the parts ----
 
--- the low process is up, and has its store
-pub record LowIsReady {D : Type 0} (m : Meaning D) (c : Parts D) : Type 0 where
+-- the low process is up, stands for this history, and has its store
+pub record LowIsReady {D : Type 0} (m : Meaning D) (c : Parts D) (p : Past) : Type 0 where
+  pub history : low.StandsFor c.low p.history
   pub store : IsStoreOf m c.low c.low_store
   pub up : low.is_down c.low ≡ false
   pub between : low.IsBetweenLooks c.low
@@ -141,23 +143,30 @@ pub record KeepsPackets {D : Type 0} (c : Parts D) : Type 0 where
   pub returned : c.returned.capacity ≡ 64
   pub taken : (c.taken.kind ≡ Taken) × (c.taken.session ≡ c.row.id)
 
--- the parts stand for what the session has been through
-pub record Stands {D : Type 0} (m : Meaning D) (c : Parts D) (p : Past) : Type 0 where
-  pub row : IsLawfulRow c.row
-  pub history : low.StandsFor c.low p.history
+-- what waits on the connection is kept, at most 64 arrivals, and how far its bytes were read
+pub record KeepsArrivals {D : Type 0} (c : Parts D) (p : Past) : Type 0 where
   pub waits : waits_of c.connection ≡ p.waits
   pub broken : is_broken_of c.connection ≡ p.is_broken
   pub reading : reading_of c.connection ≡ p.reading
   pub few : length p.waits ≤ 64
-  pub world : HoldsWorld (kept_of c) p.world
+
+-- what a session has been through is lawful, with no step half done
+pub record IsSound (row : SessionRow) (p : Past) : Type 0 where
   pub rest : IsAtRest p.world
   pub lawful : IsLawful p.world
   -- no accepted message is longer than the row's messages
-  pub fits : All (λ (x : Payload). length x ≤ c.row.message) p.world.accepted
+  pub fits : All (λ (x : Payload). length x ≤ row.message) p.world.accepted
   -- each sending since the opening sent a packet
   pub sends : length p.sends ≤ length p.world.sent
+
+-- the parts stand for what the session has been through
+pub record Stands {D : Type 0} (m : Meaning D) (c : Parts D) (p : Past) : Type 0 where
+  pub row : IsLawfulRow c.row
   pub moment : c.moment ≡ p.moment
-  pub low_ready : LowIsReady m c
+  pub sound : IsSound c.row p
+  pub world : HoldsWorld (kept_of c) p.world
+  pub arrivals : KeepsArrivals c p
+  pub low_ready : LowIsReady m c p
   pub high_ready : HighIsReady m c p
   pub recv_ready : RecvIsReady m c
   pub ends : EndsAreReady c p

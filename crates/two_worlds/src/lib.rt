@@ -5,6 +5,7 @@ mod applied;
 mod connection;
 pub mod laws;
 mod low_pump;
+mod low_side;
 mod not_open;
 mod printing;
 mod pump;

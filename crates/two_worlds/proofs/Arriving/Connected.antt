@@ -17,18 +17,11 @@ module _ {D : Type 0} (m : Meaning D) (c : Parts D) (k : Connected) where
       → Stands m c p → Stands m (record c { connection = k }) (record p { waits = waits; is_broken = is_broken; reading = reading })
   stands_with p waits is_broken reading w b r few s = record {
     row = s.row;
-    history = s.history;
-    waits = w;
-    broken = b;
-    reading = r;
-    few = few;
+    arrivals = record { waits = w; broken = b; reading = r; few = few };
     world = s.world;
-    rest = s.rest;
-    lawful = s.lawful;
-    fits = s.fits;
-    sends = s.sends;
+    sound = record { rest = s.sound.rest; lawful = s.sound.lawful; fits = s.sound.fits; sends = s.sound.sends };
     moment = s.moment;
-    low_ready = record { store = s.low_ready.store; up = s.low_ready.up; between = s.low_ready.between; row = s.low_ready.row; last = s.low_ready.last };
+    low_ready = record { history = s.low_ready.history; store = s.low_ready.store; up = s.low_ready.up; between = s.low_ready.between; row = s.low_ready.row; last = s.low_ready.last };
     high_ready = record {
       past = s.high_ready.past;
       store = s.high_ready.store;
@@ -56,8 +49,8 @@ module _ {D : Type 0} (m : Meaning D) (c : Parts D) (k : Connected) where
   pub stands_joined : (p : Past) (coming : Coming) → length (waits_of (connections.joined c.connection coming)) ≤ 64 → k ≡ connections.joined c.connection coming
       → Stands m c p → Stands m (record c { connection = k }) (joined p coming)
   stands_joined p coming few is s =
-      let same : waits_of c.connection ++ coming.added ≡ p.waits ++ coming.added = ap (λ (l : List Arrival). l ++ coming.added) s.waits in
-      stands_with p (p.waits ++ coming.added) p.is_broken coming.reading (ap waits_of is ∙ same) (ap is_broken_of is ∙ s.broken) (ap reading_of is)
+      let same : waits_of c.connection ++ coming.added ≡ p.waits ++ coming.added = ap (λ (l : List Arrival). l ++ coming.added) s.arrivals.waits in
+      stands_with p (p.waits ++ coming.added) p.is_broken coming.reading (ap waits_of is ∙ same) (ap is_broken_of is ∙ s.arrivals.broken) (ap reading_of is)
       (subst (λ (l : List Arrival). length l ≤ 64) same few) s
 
   -- the connection is lost
@@ -73,10 +66,10 @@ module _ {D : Type 0} (m : Meaning D) (c : Parts D) (k : Connected) where
 
 -- what comes with a line comes with it by the past too
 pub arrives_at : {D : Type 0} (m : Meaning D) (c : Parts D) (p : Past) (session : ℕ) (a : Arriving) (coming : Coming) → Stands m c p → Arrives session (reading_of c.connection) a coming → Arrives session p.reading a coming
-arrives_at m c p session a coming s h = subst (λ (r : Reading). Arrives session r a coming) s.reading h
+arrives_at m c p session a coming s h = subst (λ (r : Reading). Arrives session r a coming) s.arrivals.reading h
 
 pub few_at : {D : Type 0} (m : Meaning D) (c : Parts D) (p : Past) (coming : Coming) → Stands m c p → length (waits_of (connections.joined c.connection coming)) ≤ 64 → length (joined p coming).waits ≤ 64
-few_at m c p coming s few = subst (λ (l : List Arrival). length (l ++ coming.added) ≤ 64) s.waits few
+few_at m c p coming s few = subst (λ (l : List Arrival). length (l ++ coming.added) ≤ 64) s.arrivals.waits few
 
 pub many_at : {D : Type 0} (m : Meaning D) (c : Parts D) (p : Past) (coming : Coming) → Stands m c p → 64 < length (waits_of (connections.joined c.connection coming)) → 64 < length (joined p coming).waits
-many_at m c p coming s many = subst (λ (l : List Arrival). 64 < length (l ++ coming.added)) s.waits many
+many_at m c p coming s many = subst (λ (l : List Arrival). 64 < length (l ++ coming.added)) s.arrivals.waits many

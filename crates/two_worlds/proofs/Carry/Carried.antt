@@ -38,7 +38,7 @@ module _ {D : Type 0} (m : Meaning D) (c : Parts D) (p : Past) (back : ℕ) (pac
       (subst (λ (l : List Item). slice_get l (length l - 1 - back) ≡ Some packet) stands.world.sent (at_back c.sent.items back packet less at))
 
   message : IsMessage p.world.removed p.world.accepted packet
-  message = All-at (IsMessage p.world.removed p.world.accepted) p.world.sent (place p.world.sent back) packet stands.lawful.bounded.sent at_world
+  message = All-at (IsMessage p.world.removed p.world.accepted) p.world.sent (place p.world.sent back) packet stands.sound.lawful.bounded.sent at_world
 
   pub small : packet.number < 2 ^ 48
   small =
@@ -48,11 +48,11 @@ module _ {D : Type 0} (m : Meaning D) (c : Parts D) (p : Past) (back : ℕ) (pac
 
   pub short : length packet.payload ≤ (recv_row c.receiver).message
   short =
-      let le = All-at (λ (x : Payload). length x ≤ c.row.message) p.world.accepted packet.number packet.payload stands.fits message.payload in
+      let le = All-at (λ (x : Payload). length x ≤ c.row.message) p.world.accepted packet.number packet.payload stands.sound.fits message.payload in
       subst (λ (r : SessionRow). length packet.payload ≤ r.message) (sym stands.recv_ready.row) le
 
   below : packet.number ≤ length p.world.received
-  below = let n = message.number in let r = stands.lawful.delivered.removed in omega (arith, n, r)
+  below = let n = message.number in let r = stands.sound.lawful.delivered.removed in omega (arith, n, r)
 
   pub not_ahead : packet.number ≤ recv_count c.receiver
   not_ahead = omega (arith, below, stands.world.received)
@@ -89,13 +89,13 @@ module _ {D : Type 0} (m : Meaning D) (c : Parts D) (p : Past) (back : ℕ) (pac
       sym (ap (λ (b : Bool). cond b again (record p.world { packet = Some packet.payload })) test)
 
   pub carries_again : packet.number < recv_count c.receiver → Happens p.world (CarryData (place p.world.sent back)) again
-  carries_again lt = (packet, at_world, stands.rest.packet, below, is_again lt)
+  carries_again lt = (packet, at_world, stands.sound.rest.packet, below, is_again lt)
 
   pub takes_nothing : Perhaps again TakeBegin (TakeEnd ∷ []) again
-  takes_nothing = inr ((λ x h. (let some = h.1 in let none = stands.rest.packet in absurd (cc))), refl)
+  takes_nothing = inr ((λ x h. (let some = h.1 in let none = stands.sound.rest.packet in absurd (cc))), refl)
 
   pub lawful_again : packet.number < recv_count c.receiver → IsLawful again
-  lawful_again lt = runs_lawfully p.world (CarryData (place p.world.sent back) ∷ []) again stands.lawful (again, carries_again lt, refl)
+  lawful_again lt = runs_lawfully p.world (CarryData (place p.world.sent back) ∷ []) again stands.sound.lawful (again, carries_again lt, refl)
 
   returned_is : (returned : List ℕ) → returned ≡ keep_last 64 (c.returned.items ++ packet.number ∷ []) → returned ≡ keep_last 64 (p.world.returned ++ packet.number ∷ [])
   returned_is returned e = e ∙ ap (λ (l : List ℕ). keep_last 64 (l ++ packet.number ∷ [])) stands.world.returned ∙ keep_last_push p.world.returned packet.number
@@ -118,7 +118,7 @@ module _ {D : Type 0} (m : Meaning D) (c : Parts D) (p : Past) (back : ℕ) (pac
   }
 
   pub rest_again : IsAtRest again
-  rest_again = record { storing = stands.rest.storing; due = stands.rest.due; removing = stands.rest.removing; packet = stands.rest.packet; taking = stands.rest.taking }
+  rest_again = record { storing = stands.sound.rest.storing; due = stands.sound.rest.due; removing = stands.sound.rest.removing; packet = stands.sound.rest.packet; taking = stands.sound.rest.taking }
 
   -- ---- the receiver's next message ----
 
@@ -138,10 +138,10 @@ module _ {D : Type 0} (m : Meaning D) (c : Parts D) (p : Past) (back : ℕ) (pac
       sym (ap (λ (b : Bool). cond b again waits) test)
 
   pub carries_next : packet.number ≡ recv_count c.receiver → Happens p.world (CarryData (place p.world.sent back)) waits
-  carries_next e = (packet, at_world, stands.rest.packet, below, is_waiting e)
+  carries_next e = (packet, at_world, stands.sound.rest.packet, below, is_waiting e)
 
   begins_taking : Happens waits TakeBegin taking
-  begins_taking = (packet.payload, refl, stands.rest.taking, refl)
+  begins_taking = (packet.payload, refl, stands.sound.rest.taking, refl)
 
   pub runs_to_taking : packet.number ≡ recv_count c.receiver → Run p.world (CarryData (place p.world.sent back) ∷ TakeBegin ∷ []) taking
   runs_to_taking e = (waits, carries_next e, (taking, begins_taking, refl))
@@ -153,10 +153,10 @@ module _ {D : Type 0} (m : Meaning D) (c : Parts D) (p : Past) (back : ℕ) (pac
   takes_next = inl runs_to_taken
 
   pub lawful_taking : packet.number ≡ recv_count c.receiver → IsLawful taking
-  lawful_taking e = runs_lawfully p.world (CarryData (place p.world.sent back) ∷ TakeBegin ∷ []) taking stands.lawful (runs_to_taking e)
+  lawful_taking e = runs_lawfully p.world (CarryData (place p.world.sent back) ∷ TakeBegin ∷ []) taking stands.sound.lawful (runs_to_taking e)
 
   pub lawful_taken : packet.number ≡ recv_count c.receiver → IsLawful taken
-  lawful_taken e = runs_lawfully p.world (CarryData (place p.world.sent back) ∷ TakeBegin ∷ TakeEnd ∷ []) taken stands.lawful (waits, carries_next e, runs_to_taken)
+  lawful_taken e = runs_lawfully p.world (CarryData (place p.world.sent back) ∷ TakeBegin ∷ TakeEnd ∷ []) taken stands.sound.lawful (waits, carries_next e, runs_to_taken)
 
   pub holds_taken : (returned : List ℕ) (received end : ℕ) → packet.number ≡ recv_count c.receiver
       → returned ≡ keep_last 64 (c.returned.items ++ packet.number ∷ [])
@@ -179,4 +179,4 @@ module _ {D : Type 0} (m : Meaning D) (c : Parts D) (p : Past) (back : ℕ) (pac
   }
 
   pub rest_taken : IsAtRest taken
-  rest_taken = record { storing = stands.rest.storing; due = stands.rest.due; removing = stands.rest.removing; packet = refl; taking = refl }
+  rest_taken = record { storing = stands.sound.rest.storing; due = stands.sound.rest.due; removing = stands.sound.rest.removing; packet = refl; taking = refl }

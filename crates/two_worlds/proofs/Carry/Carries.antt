@@ -67,18 +67,21 @@ module _ {D : Type 0} (m : Meaning D) (c : Parts D) (p : Past) (back : ℕ) (pac
       → Stands m (record c { receiver = new; returned = returned }) (record p { world = u })
   stands_on returned u capacity holds rest lawful accepted sent ready row size disks = record {
     row = stands.row;
-    history = stands.history;
-    waits = stands.waits;
-    broken = stands.broken;
-    reading = stands.reading;
-    few = stands.few;
+    arrivals = record {
+      waits = stands.arrivals.waits;
+      broken = stands.arrivals.broken;
+      reading = stands.arrivals.reading;
+      few = stands.arrivals.few;
+    };
     world = holds;
-    rest = rest;
-    lawful = lawful;
-    fits = subst (All (λ (x : Payload). length x ≤ c.row.message)) (sym accepted) stands.fits;
+    sound = record {
+      rest = rest;
+      lawful = lawful;
+      fits = subst (All (λ (x : Payload). length x ≤ c.row.message)) (sym accepted) stands.sound.fits;
+      sends = subst (λ (l : List Item). length p.sends ≤ length l) (sym sent) stands.sound.sends;
+    };
     moment = stands.moment;
-    sends = subst (λ (l : List Item). length p.sends ≤ length l) (sym sent) stands.sends;
-    low_ready = record { store = stands.low_ready.store; up = stands.low_ready.up; between = stands.low_ready.between; row = stands.low_ready.row; last = stands.low_ready.last };
+    low_ready = record { history = stands.low_ready.history; store = stands.low_ready.store; up = stands.low_ready.up; between = stands.low_ready.between; row = stands.low_ready.row; last = stands.low_ready.last };
     high_ready = record { past = stands.high_ready.past; store = stands.high_ready.store; count = stands.high_ready.count; up = stands.high_ready.up; between = stands.high_ready.between; row = stands.high_ready.row; last = stands.high_ready.last };
     recv_ready = record { ready = ready; row = row; size = size };
     ends = record { low = stands.ends.low; high = stands.ends.high; stand = stands.ends.stand; shape = stands.ends.shape; times = stands.ends.times; low_fits = stands.ends.low_fits; high_fits = stands.ends.high_fits };
@@ -128,7 +131,7 @@ module _ {D : Type 0} (m : Meaning D) (c : Parts D) (p : Past) (back : ℕ) (pac
   row_is = stands.recv_ready.row
 
   was : (disk : List ℕ) → RecvFits c.row p.world disk → RecvStands (recv_row c.receiver) p.world.received disk
-  was disk fit = subst (λ (r : SessionRow). RecvStands r p.world.received disk) (sym row_is) (recv_reading c.row p.world disk stands.rest.packet fit)
+  was disk fit = subst (λ (r : SessionRow). RecvStands r p.world.received disk) (sym row_is) (recv_reading c.row p.world disk stands.sound.rest.packet fit)
 
   -- a crash at any moment of a taking leaves the messages from before, or this one too
   taking_fits : (d : Parts D) (q : Past) (result : Result Taken TakeFault) → Stores m packet.payload c.receiver new result

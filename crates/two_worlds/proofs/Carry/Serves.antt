@@ -27,7 +27,8 @@ use Rattle.script_reader.specs.Highs.{receiver_size}
 use Rattle.two_worlds.specs.declared.applied.Stop.TheVariants.{Device, Full}
 use Rattle.two_worlds.specs.declared.pump.parts.Parts.{Parts}
 use Rattle.two_worlds.specs.Disks.{RecvFits, HighFits, RemovesBehind}
-use Rattle.two_worlds.specs.Doing.{Serves, DisksServe}
+use Rattle.two_worlds.specs.Private.Serving.{DisksServe}
+use Rattle.two_worlds.specs.Rooms.{Serves}
 use Rattle.two_worlds.specs.Standing.{Stands, StandsForSome, disk_at}
 use Rattle.two_worlds.proofs.Carry.Answered.{AnsweredWith, answered, in_store, full, took, repeated}
 use Rattle.two_worlds.proofs.Carry.Carried.{not_ahead}
@@ -50,23 +51,23 @@ module _ {D : Type 0} (m : Meaning D) (c : Parts D) where
   -- the receiver's disk has what was removed
   pub recv_has : (p : Past) → Stands m c p → Each m (HasTaken p.world.removed) (recv_disk c.receiver)
   recv_has p s = each_weaker m (RecvFits c.row p.world) (HasTaken p.world.removed) (recv_disk c.receiver)
-      (λ disk fit. taken_by c.row p.world.removed p.world.received disk s.lawful.delivered.removed (recv_reading c.row p.world disk s.rest.packet fit)) s.disks.recv_disk
+      (λ disk fit. taken_by c.row p.world.removed p.world.received disk s.sound.lawful.delivered.removed (recv_reading c.row p.world disk s.sound.rest.packet fit)) s.disks.recv_disk
 
   -- .. and after a taking too
   pub recv_has_after : (p : Past) (message : List ℕ) (new : D) → Stands m c p → Moves m (MayTake (recv_row c.receiver) message) (recv_disk c.receiver) new → Each m (HasTaken p.world.removed) new
   recv_has_after p message new s moves =
       each_after m (RecvFits c.row p.world) (HasTaken p.world.removed) (MayTake (recv_row c.receiver) message) (recv_disk c.receiver) new s.disks.recv_disk
       (λ old now fit may.
-      let le = s.lawful.delivered.removed in
+      let le = s.sound.lawful.delivered.removed in
       let row = recv_row c.receiver in
-      let was : RecvStands row p.world.received old = subst (λ (r : SessionRow). RecvStands r p.world.received old) (sym s.recv_ready.row) (recv_reading c.row p.world old s.rest.packet fit) in
+      let was : RecvStands row p.world.received old = subst (λ (r : SessionRow). RecvStands r p.world.received old) (sym s.recv_ready.row) (recv_reading c.row p.world old s.sound.rest.packet fit) in
       ⊎_elim (λ stays. taken_by row p.world.removed p.world.received now le stays) (λ more. taken_more row p.world.removed p.world.received message now le more) (may.either p.world.received was))
       moves
 
   -- the high disk has what was removed
   pub high_has : (p : Past) → Stands m c p → Each m (λ disk. (value_of disk).0 ≡ p.world.removed) (high_disk c.high_store)
   high_has p s = each_weaker m (HighFits c.row p.world) (λ disk. (value_of disk).0 ≡ p.world.removed) (high_disk c.high_store)
-      (λ disk fit. ap (λ (v : ℕ × ℕ). v.0) (high_reading c.row p.world disk s.rest.removing fit).value) s.disks.high_disk
+      (λ disk fit. ap (λ (v : ℕ × ℕ). v.0) (high_reading c.row p.world disk s.sound.rest.removing fit).value) s.disks.high_disk
 
   -- the high disk is left alone
   pub behind_alone : (recv : D) → ∥ StandsForSome m c ∥₁ → ((p : Past) → Stands m c p → Each m (HasTaken p.world.removed) recv)
@@ -122,17 +123,17 @@ module _ {D : Type 0} (m : Meaning D) (c : Parts D) (some : ∥ StandsForSome m 
   serves_ok answers.Took returned w =
       let a = took m message n (recv_count c.receiver) (recv_end c.receiver) (recv_size c.receiver) c.receiver new w in
       record {
-        low = serves_alone m (low_size c.row) (disk_at roles.Low c);
-        high = serves_alone m 80 (disk_at roles.High c);
-        recv = store_serves m (recv_end c.receiver + 2 + length message ≤ m.room (recv_disk c.receiver)) receiver_size (recv_disk c.receiver) (recv_disk new) false (Ok answers.Took) (roomy a.1) (λ e. e) (λ e. e) (λ e. e) a.2.answers;
+        low_goes = serves_alone m (low_size c.row) (disk_at roles.Low c);
+        high_goes = serves_alone m 80 (disk_at roles.High c);
+        recv_goes = store_serves m (recv_end c.receiver + 2 + length message ≤ m.room (recv_disk c.receiver)) receiver_size (recv_disk c.receiver) (recv_disk new) false (Ok answers.Took) (roomy a.1) (λ e. e) (λ e. e) (λ e. e) a.2.answers;
         behind = behind_alone m c (recv_disk new) some (λ p s. recv_has_after m c p message (recv_disk new) s a.2.moves);
       }
   serves_ok answers.Repeat returned w =
       let a = repeated m message n (recv_count c.receiver) (recv_end c.receiver) (recv_size c.receiver) c.receiver new w in
       record {
-        low = serves_alone m (low_size c.row) (disk_at roles.Low c);
-        high = serves_alone m 80 (disk_at roles.High c);
-        recv = inl (ap (λ (r : Receiver D). recv_disk r) a.1, refl);
+        low_goes = serves_alone m (low_size c.row) (disk_at roles.Low c);
+        high_goes = serves_alone m 80 (disk_at roles.High c);
+        recv_goes = inl (ap (λ (r : Receiver D). recv_disk r) a.1, refl);
         behind = behind_alone m c (recv_disk new) some (unchanged a.1);
       }
 
@@ -140,9 +141,9 @@ module _ {D : Type 0} (m : Meaning D) (c : Parts D) (some : ∥ StandsForSome m 
   serves_device count w =
       let a = in_store m message n (recv_count c.receiver) (recv_end c.receiver) (recv_size c.receiver) c.receiver new count w in
       record {
-        low = serves_alone m (low_size c.row) (disk_at roles.Low c);
-        high = serves_alone m 80 (disk_at roles.High c);
-        recv = store_serves m (recv_end c.receiver + 2 + length message ≤ m.room (recv_disk c.receiver)) receiver_size (recv_disk c.receiver) (recv_disk new) true (Err (faults.Device count)) (roomy a.1) (λ e. e) (λ e. e) (λ e. e) a.2.answers;
+        low_goes = serves_alone m (low_size c.row) (disk_at roles.Low c);
+        high_goes = serves_alone m 80 (disk_at roles.High c);
+        recv_goes = store_serves m (recv_end c.receiver + 2 + length message ≤ m.room (recv_disk c.receiver)) receiver_size (recv_disk c.receiver) (recv_disk new) true (Err (faults.Device count)) (roomy a.1) (λ e. e) (λ e. e) (λ e. e) a.2.answers;
         behind = behind_alone m c (recv_disk new) some (λ p s. recv_has_after m c p message (recv_disk new) s a.2.moves);
       }
 
@@ -150,8 +151,8 @@ module _ {D : Type 0} (m : Meaning D) (c : Parts D) (some : ∥ StandsForSome m 
   serves_full end k size w =
       let a = full m message n (recv_count c.receiver) (recv_end c.receiver) (recv_size c.receiver) c.receiver new end k size w in
       record {
-        low = serves_alone m (low_size c.row) (disk_at roles.Low c);
-        high = serves_alone m 80 (disk_at roles.High c);
-        recv = inl (ap (λ (r : Receiver D). recv_disk r) a.same, refl);
+        low_goes = serves_alone m (low_size c.row) (disk_at roles.Low c);
+        high_goes = serves_alone m 80 (disk_at roles.High c);
+        recv_goes = inl (ap (λ (r : Receiver D). recv_disk r) a.same, refl);
         behind = behind_alone m c (recv_disk new) some (unchanged a.same);
       }

@@ -58,7 +58,7 @@ module _ {D : Type 0} (m : Meaning D) (c : Parts D) (p : Past) (stands : Stands 
 
   -- a high look
   high_reads : m.tells → HighStands c.row (high.removed_of c.high) (m.reading (high_disk c.high_store))
-  high_reads told = subst (λ n. HighStands c.row n (m.reading (high_disk c.high_store))) stands.world.removed (high_reading c.row p.world (m.reading (high_disk c.high_store)) stands.rest.removing (stands.disks.high_disk.reading told))
+  high_reads told = subst (λ n. HighStands c.row n (m.reading (high_disk c.high_store))) stands.world.removed (high_reading c.row p.world (m.reading (high_disk c.high_store)) stands.sound.rest.removing (stands.disks.high_disk.reading told))
 
   pub high_leaves : (Q : List ℕ → Type 0) (store : HighStore D) (frame : Option Frame) → LeavesCounted m c.high c.high_store store frame
       → ((x : List ℕ) → HighStands c.row (p.world.removed + 1) x → Q x) → Leaves m (high_disk c.high_store) (high_disk store) (λ x. HighFits c.row p.world x ⊎ Q x)
@@ -85,7 +85,7 @@ module _ {D : Type 0} (m : Meaning D) (c d : Parts D) (p : Past) (moment word : 
   free : (message : Payload) → message_in c.low a ≡ Some message → low.next_of c.low + 1 ≤ p.world.removed + (low_row c.low_store).capacity
   free message e =
       let none = hand_is_empty c.low a message (taking c.low a message e) in
-      let b = stands.lawful.bounded in
+      let b = stands.sound.lawful.bounded in
       let low : p.world.low_hand ≡ None = stands.world.low_hand ∙ ap number_of none in
       let has = (place p.world b low).place in
       let same : (low_row c.low_store).capacity ≡ c.row.capacity = ap (λ (r : SessionRow). r.capacity) store_row_is in
@@ -93,7 +93,7 @@ module _ {D : Type 0} (m : Meaning D) (c d : Parts D) (p : Past) (moment word : 
 
   low_reads : m.tells → LowStands (low_row c.low_store) (low.next_of c.low) p.world.removed (live_messages p.world) (m.reading (low_disk c.low_store))
   low_reads told = subst (λ (t : SessionRow × ℕ). LowStands t.0 t.1 p.world.removed (live_messages p.world) (m.reading (low_disk c.low_store))) (λ i. (sym store_row_is i, stands.world.accepted i))
-      (low_reading c.row p.world (m.reading (low_disk c.low_store)) stands.rest.storing (stands.disks.low_disk.reading told))
+      (low_reading c.row p.world (m.reading (low_disk c.low_store)) stands.sound.rest.storing (stands.disks.low_disk.reading told))
 
   module _ (Q : List ℕ → Type 0) where
     -- where it stores this message
@@ -128,7 +128,7 @@ module _ {D : Type 0} (m : Meaning D) (c d : Parts D) (p : Past) (moment word : 
   unfolding Stored
   grown_fits q grows = record {
     low = leaves_by (LowFits c.row q.world) (message_in c.low a) refl did.step.keeps
-        (λ message e x is. inl (grown c.row p.world q.world (message_in c.low a) message x stands.lawful.bounded.within.below grows e is));
+        (λ message e x is. inl (grown c.row p.world q.world (message_in c.low a) message x stands.sound.lawful.bounded.within.below grows e is));
     high = high_alone m c p stands (HighFits c.row q.world) (high_disk d.high_store) high_same;
     recv = recv_alone m c p stands (RecvFits c.row q.world) (recv_disk d.receiver) recv_same;
   }
@@ -187,18 +187,18 @@ module _ {D : Type 0} (m : Meaning D) (c e d : Parts D) (p mid q : Past) (stands
   high_before : disk_at roles.High e ≡ disk_at roles.High c → m.tells → (x : List ℕ) → HighFits e.row mid.world x → HighFits c.row p.world x
   high_before same told x fits =
       let was : HighFits e.row p.world (m.reading (disk_at roles.High e)) = subst (λ (t : SessionRow × D). HighFits t.0 p.world (m.reading t.1)) (λ i. (sym row i, sym same i)) (stands.disks.high_disk.reading told) in
-      subst (λ (r : SessionRow). HighFits r p.world x) row (high_onto e.row mid.world p.world (m.reading (disk_at roles.High e)) x stands_mid.rest.removing (stands_mid.disks.high_disk.reading told) was fits)
+      subst (λ (r : SessionRow). HighFits r p.world x) row (high_onto e.row mid.world p.world (m.reading (disk_at roles.High e)) x stands_mid.sound.rest.removing (stands_mid.disks.high_disk.reading told) was fits)
 
   recv_before : disk_at roles.Recv e ≡ disk_at roles.Recv c → m.tells → (x : List ℕ) → RecvFits e.row mid.world x → RecvFits c.row p.world x
   recv_before same told x fits =
       let was : RecvFits e.row p.world (m.reading (disk_at roles.Recv e)) = subst (λ (t : SessionRow × D). RecvFits t.0 p.world (m.reading t.1)) (λ i. (sym row i, sym same i)) (stands.disks.recv_disk.reading told) in
-      subst (λ (r : SessionRow). RecvFits r p.world x) row (recv_onto e.row mid.world p.world (m.reading (disk_at roles.Recv e)) x stands_mid.rest.packet (stands_mid.disks.recv_disk.reading told) was fits)
+      subst (λ (r : SessionRow). RecvFits r p.world x) row (recv_onto e.row mid.world p.world (m.reading (disk_at roles.Recv e)) x stands_mid.sound.rest.packet (stands_mid.disks.recv_disk.reading told) was fits)
 
   -- .. and after where it is left alone from then on
   recv_after : disk_at roles.Recv d ≡ disk_at roles.Recv e → d.row ≡ e.row → Reads m d q → m.tells → (x : List ℕ) → RecvFits c.row mid.world x → RecvFits c.row q.world x
   recv_after same row' reads told x fits =
       let is : RecvFits c.row q.world (m.reading (disk_at roles.Recv e)) = subst (λ (t : SessionRow × D). RecvFits t.0 q.world (m.reading t.1)) (λ i. ((row' ∙ row) i, same i)) (reads.recv told) in
-      recv_onto c.row mid.world q.world (m.reading (disk_at roles.Recv e)) x stands_mid.rest.packet (subst (λ (r : SessionRow). RecvFits r mid.world (m.reading (disk_at roles.Recv e))) row (stands_mid.disks.recv_disk.reading told)) is fits
+      recv_onto c.row mid.world q.world (m.reading (disk_at roles.Recv e)) x stands_mid.sound.rest.packet (subst (λ (r : SessionRow). RecvFits r mid.world (m.reading (disk_at roles.Recv e))) row (stands_mid.disks.recv_disk.reading told)) is fits
 
   -- the first part called no disk, and the second not the low one
   pub later_fits : disk_at roles.Low d ≡ disk_at roles.Low c → disk_at roles.High e ≡ disk_at roles.High c → disk_at roles.Recv e ≡ disk_at roles.Recv c → LeavesFit m e d mid q → LeavesFit m c d p q

@@ -73,8 +73,8 @@ same_received true o ps e = absurd (cc)
 pub fits_row : {D : Type 0} (m : Meaning D) (c : Parts D) (p : Past) → Stands m c p → FitsRow c.row p.world
 fits_row m c p s = record {
   capacity = s.world.capacity;
-  count = (let e = ap length (same_accepted p.world.storing p.world.accepted s.rest.storing) in let few = c.low.in_range in omega (arith, e, few, s.world.accepted));
-  end = (let e = ap log_end (same_received p.world.taking p.world.packet p.world.received s.rest.taking) in
+  count = (let e = ap length (same_accepted p.world.storing p.world.accepted s.sound.rest.storing) in let few = c.low.in_range in omega (arith, e, few, s.world.accepted));
+  end = (let e = ap log_end (same_received p.world.taking p.world.packet p.world.received s.sound.rest.taking) in
       let within = s.recv_ready.ready.within in
       omega (arith, e, within, s.world.end, s.recv_ready.size));
 }
@@ -82,5 +82,5 @@ fits_row m c p s = record {
 -- the parts stand for this, or came to this when a disk failed
 pub parts_leave : {D : Type 0} (m : Meaning D) (c : Parts D) (p : Past) → Stands m c p ⊎ ((role : Role) × (faults : ℕ) × Fails m c p role faults)
     → LeaveWorld m c.row p.world (disk_at roles.Low c) (disk_at roles.High c) (disk_at roles.Recv c)
-parts_leave m c p (inl s) = leaves_world m c.row p.world _ _ _ s.lawful (fits_row m c p s) s.disks
+parts_leave m c p (inl s) = leaves_world m c.row p.world _ _ _ s.sound.lawful (fits_row m c p s) s.disks
 parts_leave m c p (inr f) = leaves_world m c.row p.world _ _ _ f.2.lawful f.2.fits f.2.disks

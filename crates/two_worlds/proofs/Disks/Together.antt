@@ -1,6 +1,7 @@
 -- The calls of the disks over two parts of a line.
 use Rattle.std.proofs.Common.{◌≡◌, inl, inr, ℕ, ◌≤◌, Bool, false, List, length, None, Result, Ok, Err, refl, sym, ap, ◌∙◌, subst, arith, le_trans}
 use Rattle.std.specs.Coded.{le_prop}
+use Rattle.std.specs.Result.{result_err}
 use Rattle.std.proofs.Math.Logic.{∥∥₁_elim}
 use Rattle.pump_frame.specs.Counts.{Rose}
 use Rattle.disk_model.specs.Disk.{Meaning, Answers}
@@ -16,7 +17,9 @@ use Rattle.two_worlds.specs.declared.applied.Stop.TheVariants.{Line}
 use Rattle.two_worlds.specs.declared.pump.parts.Parts.{Parts}
 use Rattle.two_worlds.specs.Connections.{Connected}
 use Rattle.two_worlds.specs.Disks.{HighFits, RecvFits, RemovesBehind}
-use Rattle.two_worlds.specs.Doing.{Serves, DisksServe, LeavesAlone, fails_at}
+use Rattle.two_worlds.specs.Doing.{LeavesAlone}
+use Rattle.two_worlds.specs.Private.Serving.{DisksServe}
+use Rattle.two_worlds.specs.Rooms.{Serves, stops_at}
 use Rattle.two_worlds.specs.Standing.{StandsForSome, disk_at}
 use Rattle.two_worlds.proofs.Opening.Ready.{high_reading, recv_reading}
 
@@ -46,10 +49,10 @@ module _ {D : Type 0} (m : Meaning D) (least : ℕ) (old mid new : D) (is_fault 
 -- the first part left the high disk alone
 pub serve_then : {D : Type 0} (m : Meaning D) (c e d : Parts D) (result : Result (Unit {0}) Stop) → DisksServe m c e (Ok tt) → LeavesAlone roles.High c e → e.row ≡ c.row → DisksServe m e d result → DisksServe m c d result
 serve_then {D} m c e d result first same row second = record {
-  low = serves_then m (low_size c.row) (disk_at roles.Low c) (disk_at roles.Low e) (disk_at roles.Low d) (fails_at roles.Low result) first.low
-      (subst (λ (r : SessionRow). Serves m (low_size r) (disk_at roles.Low e) (disk_at roles.Low d) (fails_at roles.Low result)) row second.low);
-  high = serves_then m 80 (disk_at roles.High c) (disk_at roles.High e) (disk_at roles.High d) (fails_at roles.High result) first.high second.high;
-  recv = serves_then m receiver_size (disk_at roles.Recv c) (disk_at roles.Recv e) (disk_at roles.Recv d) (fails_at roles.Recv result) first.recv second.recv;
+  low_goes = serves_then m (low_size c.row) (disk_at roles.Low c) (disk_at roles.Low e) (disk_at roles.Low d) (stops_at roles.Low (result_err result)) first.low_goes
+      (subst (λ (r : SessionRow). Serves m (low_size r) (disk_at roles.Low e) (disk_at roles.Low d) (stops_at roles.Low (result_err result))) row second.low_goes);
+  high_goes = serves_then m 80 (disk_at roles.High c) (disk_at roles.High e) (disk_at roles.High d) (stops_at roles.High (result_err result)) first.high_goes second.high_goes;
+  recv_goes = serves_then m receiver_size (disk_at roles.Recv c) (disk_at roles.Recv e) (disk_at roles.Recv d) (stops_at roles.Recv (result_err result)) first.recv_goes second.recv_goes;
   behind = subst (λ (h : D). RemovesBehind m h (disk_at roles.High d) (disk_at roles.Recv d)) same second.behind;
 }
 
@@ -64,11 +67,11 @@ received_at row w disk none fit = ap (λ (v : ℕ × ℕ). v.0) (recv_reading ro
 module _ {D : Type 0} (m : Meaning D) (c : Parts D) (some : ∥ StandsForSome m c ∥₁) where
   still_behind : RemovesBehind m (disk_at roles.High c) (disk_at roles.High c) (disk_at roles.Recv c)
   still_behind = λ told b since d image. ∥∥₁_elim some le_prop (λ s.
-      let high = removed_at c.row s.0.world b s.1.rest.removing (s.1.disks.high_disk.images told b (m.only_now told (disk_at roles.High c) b since)) in
-      let recv = received_at c.row s.0.world d s.1.rest.packet (s.1.disks.recv_disk.images told d image) in
-      let le = s.1.lawful.delivered.removed in
+      let high = removed_at c.row s.0.world b s.1.sound.rest.removing (s.1.disks.high_disk.images told b (m.only_now told (disk_at roles.High c) b since)) in
+      let recv = received_at c.row s.0.world d s.1.sound.rest.packet (s.1.disks.recv_disk.images told d image) in
+      let le = s.1.sound.lawful.delivered.removed in
       omega (arith, high, recv, le))
 
   -- a line that can't be applied calls no disk
   pub serve_none : (k : Connected) → DisksServe m c (record c { connection = k }) (Err Line)
-  serve_none k = record { low = inl (refl, refl); high = inl (refl, refl); recv = inl (refl, refl); behind = still_behind }
+  serve_none k = record { low_goes = inl (refl, refl); high_goes = inl (refl, refl); recv_goes = inl (refl, refl); behind = still_behind }

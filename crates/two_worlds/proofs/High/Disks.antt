@@ -71,16 +71,16 @@ module _ {D : Type 0} (m : Meaning D) (c : Parts D) (p : Past) (stands : Stands 
   w = p.world
 
   was : Each m (HighStands c.row w.removed) (high_disk c.high_store)
-  was = each_more m (HighFits c.row w) (HighStands c.row w.removed) (high_disk c.high_store) (λ d. high_reading c.row w d stands.rest.removing) stands.disks.high_disk
+  was = each_more m (HighFits c.row w) (HighStands c.row w.removed) (high_disk c.high_store) (λ d. high_reading c.row w d stands.sound.rest.removing) stands.disks.high_disk
 
   -- it is done
   pub removed_disks : (look : HighLook) (k : ℕ) → TakesHand c p k → IsHighReady m store → Removing m c.high_store store (went look)
       → DisksFit m c.row (low_disk c.low_store) (high_disk store) (recv_disk c.receiver) (without_first w)
   removed_disks look k takes ready removing =
       let reads : m.tells → HighFits c.row (without_first w) (m.reading (high_disk store)) = λ told. inl ((removing.removed told).more c.row w.removed (was.reading told)) in
-      let less : w.removed < length w.accepted = (in_hand w takes.item.number stands.lawful.bounded (stands.world.high_hand ∙ ap number_of takes.hand)).1 in
+      let less : w.removed < length w.accepted = (in_hand w takes.item.number stands.sound.lawful.bounded (stands.world.high_hand ∙ ap number_of takes.hand)).1 in
       record {
-        low_disk = each_more m (LowFits c.row w) (LowFits c.row (without_first w)) (low_disk c.low_store) (λ d. low_forgets c.row w d stands.rest.storing less) stands.disks.low_disk;
+        low_disk = each_more m (LowFits c.row w) (LowFits c.row (without_first w)) (low_disk c.low_store) (λ d. low_forgets c.row w d stands.sound.rest.storing less) stands.disks.low_disk;
         high_disk = record {
           reading = reads;
           images = λ told d image. subst (HighFits c.row (without_first w)) (sym (ready.settled told d image)) (reads (m.images_tell told));
@@ -109,12 +109,12 @@ module _ {D : Type 0} (m : Meaning D) (c : Parts D) (p : Past) (stands : Stands 
   given_below None back session comes given = absurd given
   given_below (Some f) None session comes given = absurd comes
   given_below (Some f) (Some k) session comes given =
-      let below : f.number < length w.received = All-at (λ n. n < length w.received) w.returned k f.number stands.lawful.delivered.returned comes.2 in
+      let below : f.number < length w.received = All-at (λ n. n < length w.received) w.returned k f.number stands.sound.lawful.delivered.returned comes.2 in
       ⊎_elim (λ t. omega (arith, below, t.1)) (λ t. (let a = t.0 in let b = comes.0 in absurd (cc))) given.1
 
   high_below : (frame : Option Frame) (back : Option ℕ) (session : ℕ) (disk : List ℕ) → ComesBack c.row.id w frame back
       → StandsOrRemoved c.row session (high.removed_of c.high) frame disk → (value_of disk).0 ≤ length w.received
-  high_below frame back session disk comes (inl is) = omega (arith, ap (λ (v : ℕ × ℕ). v.0) is.value, stands.world.removed, stands.lawful.delivered.removed)
+  high_below frame back session disk comes (inl is) = omega (arith, ap (λ (v : ℕ × ℕ). v.0) is.value, stands.world.removed, stands.sound.lawful.delivered.removed)
   high_below frame back session disk comes (inr (given, is)) = omega (arith, given_below frame back session comes given, ap (λ (v : ℕ × ℕ). v.0) is.value)
 
   pub behind : (frame : Option Frame) (back : Option ℕ) → ComesBack c.row.id w frame back → LeavesCounted m c.high c.high_store store frame
@@ -122,5 +122,5 @@ module _ {D : Type 0} (m : Meaning D) (c : Parts D) (p : Past) (stands : Stands 
   behind frame back comes leaves = λ told b left d image.
       let reads : m.tells → HighStands c.row (high.removed_of c.high) (m.reading (high_disk c.high_store)) = λ t. subst (λ n. HighStands c.row n (m.reading (high_disk c.high_store))) stands.world.removed (was.reading t) in
       let low = high_below frame back (high.row_of c.high).id b comes (leaves c.row reads told b left) in
-      let high = recv_value c.row w d stands.rest.packet (stands.disks.recv_disk.images told d image) in
+      let high = recv_value c.row w d stands.sound.rest.packet (stands.disks.recv_disk.images told d image) in
       omega (arith, low, high)

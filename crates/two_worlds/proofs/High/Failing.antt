@@ -57,14 +57,14 @@ module _ {D : Type 0} (m : Meaning D) (c : Parts D) (p : Past) (stands : Stands 
     end = record p { world = with_begun p.world; moment = moment };
     breaks = (
       refl,
-      record { answered = with_due p.world; returns = takes.returns; begins = (refl, stands.rest.removing, refl); rest = refl },
+      record { answered = with_due p.world; returns = takes.returns; begins = (refl, stands.sound.rest.removing, refl); rest = refl },
       refl,
     );
     fails = record {
       down = ap (λ (b : Bool). (low.is_down c.low || b) || not (recv_is_open c.receiver)) fares.1 ∙ or_true (low.is_down c.low) (not (recv_is_open c.receiver));
       counted = same_count faults (m.count (high_disk store)) fares.0.fault;
-      lawful = runs_lawfully p.world (ReturnTaken k ∷ RemoveBegin ∷ []) (with_begun p.world) stands.lawful
-          (with_due p.world, takes.returns, (with_begun p.world, (refl, stands.rest.removing, refl), refl));
+      lawful = runs_lawfully p.world (ReturnTaken k ∷ RemoveBegin ∷ []) (with_begun p.world) stands.sound.lawful
+          (with_due p.world, takes.returns, (with_begun p.world, (refl, stands.sound.rest.removing, refl), refl));
       fits = (let f = fits_row m c p stands in record { capacity = f.capacity; count = f.count; end = f.end });
       disks = broken_disks m c p stands store (Device faults) fares.0;
     };
@@ -100,18 +100,17 @@ module _ {D : Type 0} (m : Meaning D) (c : Parts D) (p : Past) (stands : Stands 
   waits : Stands m (record c { moment = moment }) (record p { moment = moment })
   waits = record {
     row = stands.row;
-    history = stands.history;
-    waits = stands.waits;
-    broken = stands.broken;
-    reading = stands.reading;
-    few = stands.few;
+    arrivals = record {
+      waits = stands.arrivals.waits;
+      broken = stands.arrivals.broken;
+      reading = stands.arrivals.reading;
+      few = stands.arrivals.few;
+    };
     world = stands.world;
-    rest = stands.rest;
-    lawful = stands.lawful;
-    fits = stands.fits;
-    sends = stands.sends;
+    sound = record { rest = stands.sound.rest; lawful = stands.sound.lawful; fits = stands.sound.fits; sends = stands.sound.sends };
     moment = refl;
     low_ready = record {
+      history = stands.low_ready.history;
       store = stands.low_ready.store;
       up = stands.low_ready.up;
       between = stands.low_ready.between;

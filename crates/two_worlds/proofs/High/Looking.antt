@@ -122,7 +122,7 @@ module _ {D : Type 0} (m : Meaning D) (c : Parts D) (p : Past) (stands : Stands 
         let times : stands.ends.high.times ++ [] ≡ p.times = append-nil stands.ends.high.times ∙ stands.ends.times in
         let disks : DisksFit m c.row (low_disk c.low_store) (high_disk store) (recv_disk c.receiver) p.world =
         subst (λ (s : HighStore D). DisksFit m c.row (low_disk c.low_store) (high_disk s) (recv_disk c.receiver) p.world) (sym same) stands.disks in
-        let e = ended m c p stands moment order q store ends look.sent ready count up between row shape past.removed past.hand p.world p.times stands.world stands.rest stands.lawful stands.fits stands.sends disks
+        let e = ended m c p stands moment order q store ends look.sent ready count up between row shape past.removed past.hand p.world p.times stands.world stands.sound.rest stands.sound.lawful stands.sound.fits stands.sound.sends disks
         got (subst (λ (l : List ℕ). FetchedBy ends q stands.ends.low l (held_in c.ends) (high_past.wants past) got) times fetched) stood sent in
         record {
           end = e.end;
@@ -159,7 +159,7 @@ module _ {D : Type 0} (m : Meaning D) (c : Parts D) (p : Past) (stands : Stands 
       }
 
       at_rest : IsAtRest u
-      at_rest = record { storing = stands.rest.storing; due = refl; removing = refl; packet = stands.rest.packet; taking = stands.rest.taking }
+      at_rest = record { storing = stands.sound.rest.storing; due = refl; removing = refl; packet = stands.sound.rest.packet; taking = stands.sound.rest.taking }
 
       abbrev next : high_past.Past
       next = record past { removed = past.removed + 1; hand = None; times = p.times ++ option_to_list time }
@@ -173,9 +173,9 @@ module _ {D : Type 0} (m : Meaning D) (c : Parts D) (p : Past) (stands : Stands 
           let (got, takes, stood, sent) = subst (Seen c.row.resend false time look.sent) next_is seen in
           let fetched = fetched_by (shape_of c.ends) c.ends ends q stands.ends.low stands.ends.high time (high_past.wants next) next.removed got stands.ends.stand takes in
           let times : stands.ends.high.times ++ option_to_list time ≡ p.times ++ option_to_list time = ap (λ (l : List ℕ). l ++ option_to_list time) stands.ends.times in
-          let lawful = runs_lawfully p.world (ReturnTaken k ∷ RemoveBegin ∷ RemoveEnd ∷ []) u stands.lawful (with_due p.world, takes_hand.returns, removal m c p stands) in
+          let lawful = runs_lawfully p.world (ReturnTaken k ∷ RemoveBegin ∷ RemoveEnd ∷ []) u stands.sound.lawful (with_due p.world, takes_hand.returns, removal m c p stands) in
           let disks = removed_disks m c p stands store look k takes_hand ready removing in
-          let e = ended m c p stands moment order q store ends look.sent ready count up between row shape next.removed None u next.times kept at_rest lawful stands.fits stands.sends disks
+          let e = ended m c p stands moment order q store ends look.sent ready count up between row shape next.removed None u next.times kept at_rest lawful stands.sound.fits stands.sound.sends disks
           got (subst (λ (l : List ℕ). FetchedBy ends q stands.ends.low l (held_in c.ends) (high_past.wants next) got) times fetched) stood sent in
           let first = removed_line c.row.id moment (Some past.removed) time in
           record {

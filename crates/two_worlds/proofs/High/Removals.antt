@@ -118,7 +118,7 @@ module _ {D : Type 0} (m : Meaning D) (c : Parts D) (p : Past) (stands : Stands 
     returns_other : n < removed → Happens w (ReturnTaken k) w
     returns_other less =
         let no : (n == w.removed) ≡ false = ne_eqb n w.removed (λ e. omega (arith, e, less, stands.world.removed)) in
-        (n, at, stands.rest.removing, sym (answered_same w n (ap (λ b. b && holds w.high_hand n) no)))
+        (n, at, stands.sound.rest.removing, sym (answered_same w n (ap (λ b. b && holds w.high_hand n) no)))
 
     module _ (x : Item) (hand : high.hand_of c.high ≡ Some x) (same : n ≡ removed) where
       in_high : w.high_hand ≡ Some x.number
@@ -130,12 +130,12 @@ module _ {D : Type 0} (m : Meaning D) (c : Parts D) (p : Past) (stands : Stands 
       is_due : (n == w.removed && holds w.high_hand n) ≡ true
       is_due =
           let a : (n == w.removed) ≡ true = eq-eqb n w.removed n_is in
-          let number : x.number ≡ w.removed = (in_hand w x.number stands.lawful.bounded in_high).0 in
+          let number : x.number ≡ w.removed = (in_hand w x.number stands.sound.lawful.bounded in_high).0 in
           let b : holds w.high_hand n ≡ true = ap (λ o. holds o n) in_high ∙ eq-eqb x.number n (number ∙ sym n_is) in
           rw (a, b) refl
 
       takes_hand : TakesHand c p k
-      takes_hand = record { item = x; hand = hand; returns = (n, at, stands.rest.removing, sym (answered_due w n is_due)) }
+      takes_hand = record { item = x; hand = hand; returns = (n, at, stands.sound.rest.removing, sym (answered_due w n is_due)) }
 
     asks_number : Asks c p (Some k) (task_taken n removed (expected removed (high.hand_of c.high)))
     asks_number = by_tests n removed (high.hand_of c.high) (Asks c p (Some k))
@@ -162,7 +162,7 @@ module _ {D : Type 0} (m : Meaning D) (c : Parts D) (p : Past) (stands : Stands 
         look = record {
           answered = w;
           returns = returns;
-          removes = inr ((λ x e. (let due = e.0 in let off = stands.rest.due in absurd (cc))), refl);
+          removes = inr ((λ x e. (let due = e.0 in let off = stands.sound.rest.due in absurd (cc))), refl);
           time = None;
           is_time = rw none refl;
           times = sym (append-nil p.times);
@@ -174,7 +174,7 @@ module _ {D : Type 0} (m : Meaning D) (c : Parts D) (p : Past) (stands : Stands 
 
   -- the message in the hand is removed
   pub removal : Run (with_due w) (RemoveBegin ∷ RemoveEnd ∷ []) (without_first w)
-  removal = (with_begun w, (refl, stands.rest.removing, refl), (without_first w, (refl, refl), refl))
+  removal = (with_begun w, (refl, stands.sound.rest.removing, refl), (without_first w, (refl, refl), refl))
 
   -- the time that is published
   abbrev pub time_in : ℕ → Option ℕ

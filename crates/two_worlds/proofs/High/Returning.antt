@@ -25,18 +25,11 @@ numbered c n = record c { taken = record c.taken { number = n } }
 pub stands_numbered : {D : Type 0} (m : Meaning D) (c : Parts D) (n : ℕ) (p : Past) → Stands m c p → Stands m (numbered c n) p
 stands_numbered m c n p s = record {
   row = s.row;
-  history = s.history;
-  waits = s.waits;
-  broken = s.broken;
-  reading = s.reading;
-  few = s.few;
+  arrivals = record { waits = s.arrivals.waits; broken = s.arrivals.broken; reading = s.arrivals.reading; few = s.arrivals.few };
   world = s.world;
-  rest = s.rest;
-  lawful = s.lawful;
-  fits = s.fits;
-  sends = s.sends;
+  sound = record { rest = s.sound.rest; lawful = s.sound.lawful; fits = s.sound.fits; sends = s.sound.sends };
   moment = s.moment;
-  low_ready = record { store = s.low_ready.store; up = s.low_ready.up; between = s.low_ready.between; row = s.low_ready.row; last = s.low_ready.last };
+  low_ready = record { history = s.low_ready.history; store = s.low_ready.store; up = s.low_ready.up; between = s.low_ready.between; row = s.low_ready.row; last = s.low_ready.last };
   high_ready = record {
     past = s.high_ready.past;
     store = s.high_ready.store;

@@ -20,7 +20,8 @@ use Rattle.std.specs.Coded.{le_prop}
 use Rattle.two_worlds.proofs.High.Disks.{behind, failed, went}
 use Rattle.two_worlds.proofs.High.Removals.{Asks, asks}
 use Rattle.two_worlds.specs.Disks.{RemovesBehind}
-use Rattle.two_worlds.specs.Doing.{DisksServe, Serves}
+use Rattle.two_worlds.specs.Private.Serving.{DisksServe}
+use Rattle.two_worlds.specs.Rooms.{Serves}
 use Rattle.two_worlds.specs.Private.HighLooks.{ComesBack}
 use Rattle.two_worlds.specs.Standing.{Stands, StandsForSome}
 use Rattle.two_worlds.specs.declared.pump.parts.Parts.{Parts}
@@ -97,8 +98,8 @@ pub looked_serves : {D : Type 0} (m : Meaning D) (c : Parts D) (moment : ℕ) (q
     → (d : Parts D) → d ≡ looked_parts m c moment q store ends look.sent → DisksServe m c d (Ok tt)
 looked_serves {D} m c moment q store ends look task fares behind d is =
     subst (λ (e : Parts D). DisksServe m c e (Ok tt)) (sym is) (record {
-      low = inl (refl, refl);
-      high = serves m c.high q c.high_store store task look fares;
-      recv = inl (refl, refl);
+      low_goes = inl (refl, refl);
+      high_goes = serves m c.high q c.high_store store task look fares;
+      recv_goes = inl (refl, refl);
       behind = behind;
     })

@@ -95,18 +95,22 @@ module _ {D : Type 0} (m : Meaning D) (c : Parts D) (p : Past) (stands : Stands 
       removed_is = ap (λ (e : Past). e.world.removed) same;
       stand = subst (λ (e : Past). Stands m parts e) (sym same) (record {
         row = stands.row;
-        history = stands.history;
-        waits = stands.waits;
-        broken = stands.broken;
-        reading = stands.reading;
-        few = stands.few;
+        arrivals = record {
+          waits = stands.arrivals.waits;
+          broken = stands.arrivals.broken;
+          reading = stands.arrivals.reading;
+          few = stands.arrivals.few;
+        };
         world = subst (λ (t : Kept × World). HoldsWorld t.0 t.1) (λ i. (kept_same i, (same i).world)) s.holds;
-        rest = subst (λ (e : Past). IsAtRest e.world) same s.rest;
-        lawful = subst (λ (e : Past). IsLawful e.world) same s.lawful;
-        fits = fits;
-        sends = subst (λ (e : Past). length e.sends ≤ length e.world.sent) same (s.few few_sends);
+        sound = record {
+          rest = subst (λ (e : Past). IsAtRest e.world) same s.rest;
+          lawful = subst (λ (e : Past). IsLawful e.world) same s.lawful;
+          fits = fits;
+          sends = subst (λ (e : Past). length e.sends ≤ length e.world.sent) same (s.few few_sends);
+        };
         moment = refl;
         low_ready = record {
+          history = stands.low_ready.history;
           store = stands.low_ready.store;
           up = stands.low_ready.up;
           between = stands.low_ready.between;

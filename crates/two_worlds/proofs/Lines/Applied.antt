@@ -36,7 +36,7 @@ module _ {D : Type 0} (m : Meaning D) (d : Parts D) where
   pub keeps_standing : (q : Past) → Stands m d q → Keeps m d
   keeps_standing q s = record {
     row = s.row;
-    hold = record { world = q.world; lawful = s.lawful; disks = s.disks };
+    hold = record { world = q.world; lawful = s.sound.lawful; disks = s.disks };
     stands = λ up. (q, s);
   }
 

@@ -19,7 +19,7 @@ use Rattle.two_worlds.specs.declared.applied.Stop.TheVariants.{Line, Device, Ful
 use Rattle.two_worlds.specs.declared.pump.parts.Parts.{Parts}
 use Rattle.two_worlds.specs.Doing.{Does, LeavesFit, LeavesAlone, NeverBreaks, NeverOverfills}
 use Rattle.two_worlds.specs.Standing.{Stands, number_of}
-use Rattle.two_worlds.specs.Private.LineSteps.{goes_on_by, CarriesBack, IsOverfullSent, Runs}
+use Rattle.two_worlds.specs.Private.LineSteps.{goes_on_by, IsOverfullSent, Runs}
 use Rattle.two_worlds.proofs.Disks.Images.{Reads, stands_reads, fails_reads, both_fit, later_fits}
 use Rattle.two_worlds.proofs.High.HandFull.{goes_before, sent_after}
 use Rattle.two_worlds.proofs.Lines.Timely.{goes_is}
@@ -58,7 +58,7 @@ module _ {D : Type 0} (m : Meaning D) (c d : Parts D) (moment : ℕ) (out now : 
       NeverOverfills m e d mid now result
 
   abbrev pub CarryBackDoes : Result (Unit {0}) Stop → Type 0
-  CarryBackDoes result = Does (λ p q printed. CarriesBack c.row p moment q printed) (λ role p q printed. BreaksOff c.row p moment role q printed) IsOverfullSent m c d out now result
+  CarryBackDoes result = Does (λ p q printed. (n : ℕ) → GoesOn c.row (Some n) p moment q printed) (λ role p q printed. BreaksOff c.row p moment role q printed) IsOverfullSent m c d out now result
 
   -- the carry ends it
   pub carry_ends : (stop : Stop) → CarryDoes d now (Err stop) → CarryBackDoes (Err stop)
@@ -85,7 +85,7 @@ module _ {D : Type 0} (m : Meaning D) (c d : Parts D) (moment : ℕ) (out now : 
   carry_back e mid (Ok done) between carry back p s =
       let a = carry p s in
       let b = back a.0 a.4 in
-      (b.0, a.1 ++ b.1, (a.0, a.1, b.1, a.2, b.2, refl), b.3 ∙ ap (λ l. l ++ b.1) a.3 ∙ append_assoc out a.1 b.1, b.4, both e p a.0 b.0 between s a.4 (stands_reads m d b.0 b.4) a.5 b.5)
+      (b.0, a.1 ++ b.1, (λ n. (a.0, a.1, b.1, a.2, b.2, refl)), b.3 ∙ ap (λ l. l ++ b.1) a.3 ∙ append_assoc out a.1 b.1, b.4, both e p a.0 b.0 between s a.4 (stands_reads m d b.0 b.4) a.5 b.5)
   carry_back e mid (Err Line) between carry back p s = (let a = carry p s in back a.0 a.4)
   carry_back e mid (Err (Device role faults)) between carry back p s =
       let a = carry p s in
@@ -98,7 +98,7 @@ module _ {D : Type 0} (m : Meaning D) (c d : Parts D) (moment : ℕ) (out now : 
 
 -- the packet and its TAKEN, by this row
 abbrev pub BackFrom : {D : Type 0} → Meaning D → Parts D → ℕ → ℕ → List Event → SessionRow → Parts D → List Event → Result (Unit {0}) Stop → Type 0
-BackFrom m d moment time now row e mid result = Does (λ p q printed. CarriesBack row p (moment + time) q printed)
+BackFrom m d moment time now row e mid result = Does (λ p q printed. (n : ℕ) → GoesOn row (Some n) p (moment + time) q printed)
     (λ role p q printed. BreaksOff row p (moment + time) role q printed) IsOverfullSent m e d mid now result
 
 module _ {D : Type 0} (m : Meaning D) (c d : Parts D) (moment time : ℕ) (out now : List Event) where
@@ -109,9 +109,8 @@ module _ {D : Type 0} (m : Meaning D) (c d : Parts D) (moment time : ℕ) (out n
   stops None p e = (refl, refl)
   stops (Some n) p e = absurd (cc)
 
-  goes : (hand : Option ℕ) (n : ℕ) (p q : Past) (printed : List Event) → hand ≡ Some n → CarriesBack c.row p (moment + time) q printed → GoesOn c.row hand p (moment + time) q printed
-  goes None n p q printed e h = absurd (cc)
-  goes (Some k) n p q printed e h = h
+  goes : (hand : Option ℕ) (n : ℕ) (p q : Past) (printed : List Event) → hand ≡ Some n → GoesOn c.row (Some n) p (moment + time) q printed → GoesOn c.row hand p (moment + time) q printed
+  goes hand n p q printed e = subst (λ (o : Option ℕ). GoesOn c.row o p (moment + time) q printed) (sym e)
 
   -- the hand is empty
   pub done_here : HighDoes d now → is_some (high.hand_of d.high) ≡ false → Runs m c d (lines.Done c.row.id moment time) out now (Ok tt)
@@ -139,7 +138,7 @@ module _ {D : Type 0} (m : Meaning D) (c d : Parts D) (moment time : ℕ) (out n
       let a = looks p s in
       let n = hand_is m e a.0 a.4 some in
       let b = does a.0 a.4 in
-      (b.0, a.1 ++ b.1, (a.0, a.1, b.1, a.2, goes a.0.world.high_hand n.0 a.0 b.0 b.1 n.1 b.2, refl), b.3 ∙ ap (λ l. l ++ b.1) a.3 ∙ append_assoc out a.1 b.1, b.4, later e p a.0 b.0 before s a.4 b.5)
+      (b.0, a.1 ++ b.1, (a.0, a.1, b.1, a.2, goes a.0.world.high_hand n.0 a.0 b.0 b.1 n.1 (b.2 n.0), refl), b.3 ∙ ap (λ l. l ++ b.1) a.3 ∙ append_assoc out a.1 b.1, b.4, later e p a.0 b.0 before s a.4 b.5)
   done_on e mid (Err Line) before looks some does p s = (let a = looks p s in absurd (does a.0 a.4))
   done_on e mid (Err (Device role faults)) before looks some does p s =
       let a = looks p s in
@@ -166,13 +165,13 @@ module _ {D : Type 0} (m : Meaning D) (c d : Parts D) (moment time : ℕ) (out n
     goes_by =
         let a = looks p s in
         let n = hand_is m e a.0 a.4 some in
-        goes_is m c p s ∙ goes_before c.row p moment a.0 a.1 n.0 s.rest.due a.2 n.1
+        goes_is m c p s ∙ goes_before c.row p moment a.0 a.1 n.0 s.sound.rest.due a.2 n.1
 
     pub has_packet : 0 < length e.sent.items
     has_packet =
         let a = looks p s in
         let n = hand_is m e a.0 a.4 some in
         let first = sent_after c.row p moment a.0 a.1 n.0 a.2 n.1 in
-        let le = a.4.sends in
+        let le = a.4.sound.sends in
         let all : 0 < length a.0.world.sent = omega (arith, first, le) in
         subst (λ (l : List Item). 0 < length l) (sym a.4.world.sent) (some_kept m e a.0 a.4 a.0.world.sent all)

@@ -34,7 +34,7 @@ none_gone false = refl
 
 module _ {D : Type 0} (m : Meaning D) (c d : Parts D) (moment word : ℕ) (a : Arrival) (l : LowLook) (order : c.moment ≤ moment) (out now : List Event) (prints : now ≡ out ++ look_prints c.row.id moment l) (p : Past) (stands : Stands m c p) where
   -- the process is down exactly where the device failed
-  stops : (is_fault : Bool) (result : Result (Unit {0}) Stop) → Looked m c d moment word a is_fault l → result ≡ stop_of m d → result ≡ stop_by is_fault (m.count (low_disk d.low_store))
+  stops : (is_fault : Bool) (result : Result (Unit {0}) Stop) → Looked m c d moment word a is_fault l → result ≡ stop_of m d.low d.low_store → result ≡ stop_by is_fault (m.count (low_disk d.low_store))
   stops is_fault result did stop =
       stop ∙ ap (λ (b : Bool). stop_by b (m.count (low_disk d.low_store))) (did.step.falls ∙ ap (λ (b : Bool). b || is_fault) stands.low_ready.up)
 
@@ -62,7 +62,7 @@ module _ {D : Type 0} (m : Meaning D) (c d : Parts D) (moment word : ℕ) (a : A
         r.3,
       )
 
-  pub offered_does : (is_fault : Bool) (result : Result (Unit {0}) Stop) → a ≡ first_of p.is_broken p.waits → Looked m c d moment word a is_fault l → result ≡ stop_of m d
+  pub offered_does : (is_fault : Bool) (result : Result (Unit {0}) Stop) → a ≡ first_of p.is_broken p.waits → Looked m c d moment word a is_fault l → result ≡ stop_of m d.low d.low_store
       → DoesFrom (λ p q printed. IsOfferedLook c.row p moment word q printed) (λ role p q printed. (role ≡ roles.Low) × IsLost c.row p moment word q printed) NeverOverfills m c d out now p result
   offered_does true result first did stop =
       subst (DoesFrom (λ p q printed. IsOfferedLook c.row p moment word q printed) (λ role p q printed. (role ≡ roles.Low) × IsLost c.row p moment word q printed) NeverOverfills m c d out now p)
@@ -77,7 +77,7 @@ module _ {D : Type 0} (m : Meaning D) (c d : Parts D) (moment word : ℕ) (a : A
       let r = look_leads m c d p moment word a l did stands order in
       (r.0, look_prints c.row.id moment l, subst (λ (t : Arrival). IsLowLook c.row p moment word t r.0 (look_prints c.row.id moment l)) gone (l.feedback, r.1), prints, r.2, r.3)
 
-  pub gone_does : (is_fault : Bool) (result : Result (Unit {0}) Stop) → a ≡ Gone → Looked m c d moment word a is_fault l → result ≡ stop_of m d
+  pub gone_does : (is_fault : Bool) (result : Result (Unit {0}) Stop) → a ≡ Gone → Looked m c d moment word a is_fault l → result ≡ stop_of m d.low d.low_store
       → DoesFrom (λ p q printed. IsLowLook c.row p moment word Gone q printed) NeverBreaks NeverOverfills m c d out now p result
   gone_does true result gone did stop =
       let t = in_store (message_in c.low a) refl did.step.keeps in

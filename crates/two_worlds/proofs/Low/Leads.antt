@@ -77,7 +77,7 @@ module _ {D : Type 0} (m : Meaning D) (c d : Parts D) (p : Past) (moment word : 
   x = look_of moment word a false l.feedback
 
   abbrev at : StandsAt row s (last_of c.low) p.history
-  at = stands.history.stands
+  at = stands.low_ready.history.stands
 
   abbrev o : Opening
   o = p.history.life.opening
@@ -86,7 +86,7 @@ module _ {D : Type 0} (m : Meaning D) (c d : Parts D) (p : Past) (moment word : 
   later = let h = stands.low_ready.last in omega (arith, h, order)
 
   step : Stepped row s d.low x l
-  step = stepped c.low d.low p.history x l stands.history did.step.looks did.row did.last later
+  step = stepped c.low d.low p.history x l stands.low_ready.history did.step.looks did.row did.last later
 
   now : StandsAt row (after row s x) moment (looked p.history x)
   now = stands_after row s (last_of c.low) p.history x step.fits at later
@@ -142,12 +142,12 @@ module _ {D : Type 0} (m : Meaning D) (c d : Parts D) (p : Past) (moment word : 
 
   room : moves l.feedback ≡ true → nat_lt (length (held_in c.ends)) (c.row.capacity - 2) ≡ true
   room e =
-      let le : length p.world.held ≤ c.row.capacity - 2 = subst (λ (n : ℕ). length p.world.held ≤ n - 2) stands.world.capacity stands.lawful.bounded.order.room in
+      let le : length p.world.held ≤ c.row.capacity - 2 = subst (λ (n : ℕ). length p.world.held ≤ n - 2) stands.world.capacity stands.sound.lawful.bounded.order.room in
       let some_room : (length p.world.held == c.row.capacity - 2) ≡ false = ap (λ n. length p.world.held == n - 2) (sym capacity_is) ∙ hears_room (length p.world.held == row.capacity - 2) (pair row p) l.feedback head e in
       ap (λ n. nat_lt n (c.row.capacity - 2)) (sym held_length) ∙ room_is (length p.world.held) (c.row.capacity - 2) le some_room
 
   led : Led p.world (offers l.feedback ++ (stored_events (stores_at row s x) a ++ acks_of (sent x (reply_at row s x)))) (record (kept_of c) { low_hand = hand_by hand (moves l.feedback) (stores_at row s x) a; held = held_by hand (held_in c.ends) (moves l.feedback); accepted = (after row s x).next })
-  led = led_by p.world (kept_of c) stands.world stands.rest row s x passing refl room below sort
+  led = led_by p.world (kept_of c) stands.world stands.sound.rest row s x passing refl room below sort
 
   abbrev q : Past
   q = record {
@@ -200,10 +200,10 @@ module _ {D : Type 0} (m : Meaning D) (c d : Parts D) (p : Past) (moment word : 
       did.hand ∙ ap (λ (t : Option Item × Option ℕ). hand_stored t.0 a t.1) (λ i. (passed_is hand l.feedback empty i, step.stored i))
 
   waits_are : waits_of d.connection ≡ q.waits
-  waits_are = did.waits ∙ ap (λ (t : Bool × List Arrival). if t.0 then drop 1 t.1 else t.1) (λ i. (sym takes_same i, stands.waits i))
+  waits_are = did.waits ∙ ap (λ (t : Bool × List Arrival). if t.0 then drop 1 t.1 else t.1) (λ i. (sym takes_same i, stands.arrivals.waits i))
 
   broken_is : is_broken_of d.connection ≡ q.is_broken
-  broken_is = did.broken ∙ ap (λ (t : Bool × Bool). t.0 || (t.1 && is_bad a)) (λ i. (stands.broken i, sym takes_same i))
+  broken_is = did.broken ∙ ap (λ (t : Bool × Bool). t.0 || (t.1 && is_bad a)) (λ i. (stands.arrivals.broken i, sym takes_same i))
 
   grows : Grows p.world q.world (option_to_list (message_in c.low a))
   grows = subst (Grows p.world q.world) (stored_is c.low moment word a l.feedback) (look_grows l.feedback (stores_at row s x) a (sent x (reply_at row s x)) p.world led.end led.run)
@@ -214,7 +214,7 @@ module _ {D : Type 0} (m : Meaning D) (c d : Parts D) (p : Past) (moment word : 
   free : (message : Payload) → message_in c.low a ≡ Some message → length p.world.accepted + 1 ≤ p.world.removed + (low_row c.low_store).capacity
   free message e =
       let none = hand_is_empty c.low a message (taking c.low a message e) in
-      let b = stands.lawful.bounded in
+      let b = stands.sound.lawful.bounded in
       let low : p.world.low_hand ≡ None = stands.world.low_hand ∙ ap number_of none in
       let has = (place p.world b low).place in
       let same : (low_row c.low_store).capacity ≡ c.row.capacity = ap (λ (r : SessionRow). r.capacity) store_row_is in
@@ -223,7 +223,7 @@ module _ {D : Type 0} (m : Meaning D) (c d : Parts D) (p : Past) (moment word : 
   disks : DisksFit m c.row (low_disk d.low_store) (high_disk c.high_store) (recv_disk c.receiver) q.world
   disks = record {
     low_disk = subst (λ (r : SessionRow). Each m (LowFits r q.world) (low_disk d.low_store)) store_row_is
-        (low_after m c.low_store d.low_store p.world stands.rest.storing q.world (message_in c.low a) free stands.lawful.bounded.within.below did.step.keeps grows
+        (low_after m c.low_store d.low_store p.world stands.sound.rest.storing q.world (message_in c.low a) free stands.sound.lawful.bounded.within.below did.step.keeps grows
         (subst (λ (r : SessionRow). Each m (LowFits r p.world) (low_disk c.low_store)) (sym store_row_is) stands.disks.low_disk));
     high_disk = high_same m c.row p.world q.world (high_disk c.high_store) grows.removed grows.removing stands.disks.high_disk;
     recv_disk = recv_same m c.row p.world q.world (recv_disk c.receiver) grows.received grows.packet grows.taking stands.disks.recv_disk;
@@ -232,7 +232,7 @@ module _ {D : Type 0} (m : Meaning D) (c d : Parts D) (p : Past) (moment word : 
   fits : All (λ (t : Payload). length t ≤ c.row.message) q.world.accepted
   fits = subst (All (λ (t : Payload). length t ≤ c.row.message)) (sym grows.accepted)
       (one_more c.row.message p.world.accepted (message_in c.low a)
-      (λ message e. subst (λ (r : SessionRow). length message ≤ r.message) row_is (is_short c.low a message (taking c.low a message e))) stands.fits)
+      (λ message e. subst (λ (r : SessionRow). length message ≤ r.message) row_is (is_short c.low a message (taking c.low a message e))) stands.sound.fits)
 
   up : is_down d.low ≡ false
   up = did.step.falls ∙ ap (λ (b : Bool). b || false) stands.low_ready.up
@@ -243,19 +243,23 @@ module _ {D : Type 0} (m : Meaning D) (c d : Parts D) (p : Past) (moment word : 
   stands_then : Stands m d' q
   stands_then = record {
     row = stands.row;
-    history = did.step.looks.history p.history stands.history;
-    waits = waits_are;
-    broken = broken_is;
-    reading = did.reading ∙ stands.reading;
-    few = fewer (takes now.parts) p.waits stands.few;
+    arrivals = record {
+      waits = waits_are;
+      broken = broken_is;
+      reading = did.reading ∙ stands.arrivals.reading;
+      few = fewer (takes now.parts) p.waits stands.arrivals.few;
+    };
     world = subst (λ (t : Option Item × List Item × ℕ). HoldsWorld (record (kept_of c) { low_hand = t.0; held = t.1; accepted = t.2 }) led.end)
         (λ i. (sym hand_is i, sym passed.items i, sym (ap (λ (t : State). t.next) step.state) i)) led.holds;
-    rest = led.rest;
-    lawful = runs_lawfully p.world _ led.end stands.lawful led.run;
-    fits = fits;
-    sends = subst (λ (items : List Item). length p.sends ≤ length items) (sym grows.sent) stands.sends;
+    sound = record {
+      rest = led.rest;
+      lawful = runs_lawfully p.world _ led.end stands.sound.lawful led.run;
+      fits = fits;
+      sends = subst (λ (items : List Item). length p.sends ≤ length items) (sym grows.sent) stands.sound.sends;
+    };
     moment = refl;
     low_ready = record {
+      history = did.step.looks.history p.history stands.low_ready.history;
       store = did.store up;
       up = up;
       between = did.step.looks.asking;

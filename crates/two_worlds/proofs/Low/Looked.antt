@@ -1,5 +1,5 @@
 -- What the parts did in a low look.
-use Rattle.std.proofs.Common.{◌≡◌, ℕ, Bool, true, false, List, [], drop, Result, refl, sym, ap, ◌∙◌, subst}
+use Rattle.std.proofs.Common.{◌≡◌, ℕ, Bool, true, false, List, [], drop, refl, sym, ap, ◌∙◌}
 use Rattle.std.specs.Prelude.{if◌then◌else◌, ◌&&◌, ◌||◌}
 use Rattle.disk_model.specs.Disk.{Meaning}
 use Rattle.pump_core.specs.History.{Arrival, Gone}
@@ -9,10 +9,8 @@ use Rattle.low_process.specs.Looks.{row_of, last_of, hand_of, hand_after}
 use Rattle.low_process.specs.Ends.{StandsFitting, EndStep}
 use Rattle.low_process.specs.Whole.{HasStore, LookStep, LeavesStored}
 use Rattle.script_reader.specs.Lows.{is_bad}
-use Rattle.two_worlds.specs.declared.applied.Stop.{Stop}
 use Rattle.two_worlds.specs.declared.pump.parts.Parts.{Parts}
 use Rattle.two_worlds.specs.Connections.{Connected, unused, waits_of, is_broken_of, reading_of}
-use Rattle.two_worlds.specs.Private.LowLooks.{stop_of}
 
 -- what the parts did in a look
 pub record Looked {D : Type 0} (m : Meaning D) (c d : Parts D) (moment word : ℕ) (a : Arrival) (is_fault : Bool) (l : LowLook) : Type 0 where
@@ -29,17 +27,6 @@ pub record Looked {D : Type 0} (m : Meaning D) (c d : Parts D) (moment word : �
   pub broken : is_broken_of d.connection ≡ (is_broken_of c.connection || (l.taken && is_bad a))
   pub reading : reading_of d.connection ≡ reading_of c.connection
   pub rest : d ≡ record c { low = d.low; low_store = d.low_store; ends = d.ends; connection = d.connection; moment = moment }
-
--- ---- what the last part of a look leaves ----
-
-pub looked_as : {D : Type 0} (m : Meaning D) (c d e : Parts D) (moment word : ℕ) (a : Arrival) (is_fault : Bool) (l : LowLook) → e ≡ d → Looked m c d moment word a is_fault l → Looked m c e moment word a is_fault l
-looked_as m c d e moment word a is_fault l same did = subst (λ (t : Parts _). Looked m c t moment word a is_fault l) (sym same) did
-
-pub stops_as : {D : Type 0} (m : Meaning D) (d e : Parts D) (result : Result (Unit {0}) Stop) → e ≡ d → result ≡ stop_of m d → result ≡ stop_of m e
-stops_as m d e result same stop = stop ∙ ap (λ (t : Parts _). stop_of m t) (sym same)
-
-pub row_as : {D : Type 0} (c d e : Parts D) → e ≡ d → d.row ≡ c.row → e.row ≡ c.row
-row_as c d e same kept = ap (λ (t : Parts _). t.row) same ∙ kept
 
 -- ---- a connection that is lost ----
 

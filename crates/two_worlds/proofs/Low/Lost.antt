@@ -77,7 +77,7 @@ module _ {D : Type 0} (m : Meaning D) (c d : Parts D) (p : Past) (moment word : 
   s = state_of c.low
 
   abbrev at : StandsAt row s (last_of c.low) p.history
-  at = stands.history.stands
+  at = stands.low_ready.history.stands
 
   row_is : row ≡ c.row
   row_is = stands.low_ready.row
@@ -90,7 +90,7 @@ module _ {D : Type 0} (m : Meaning D) (c d : Parts D) (p : Past) (moment word : 
 
   step : Stepped row s d.low (look_of moment word (Came t.frame) true l.feedback) l
   step = subst (λ (u : Arrival). Stepped row s d.low (look_of moment word u true l.feedback) l) t.comes
-      (stepped c.low d.low p.history (look_of moment word a true l.feedback) l stands.history did.step.looks did.row did.last later)
+      (stepped c.low d.low p.history (look_of moment word a true l.feedback) l stands.low_ready.history did.step.looks did.row did.last later)
 
   says : Refuses row c.low moment word t.frame l.feedback
   says = refuses c.low a message t moment word l.feedback step.fits
@@ -129,7 +129,7 @@ module _ {D : Type 0} (m : Meaning D) (c d : Parts D) (p : Past) (moment word : 
   world_then = record p.world { storing = Some t.frame.payload }
 
   begins : Happens p.world (StoreBegin t.frame.payload) world_then
-  begins = (stands.rest.storing, stands.world.low_hand ∙ ap number_of (hand_is_empty c.low a message t), refl)
+  begins = (stands.sound.rest.storing, stands.world.low_hand ∙ ap number_of (hand_is_empty c.low a message t), refl)
 
   abbrev lost_past : Past
   lost_past = record p { history = looked p.history x; waits = drop 1 p.waits; world = world_then; moment = moment }
@@ -152,7 +152,7 @@ module _ {D : Type 0} (m : Meaning D) (c d : Parts D) (p : Past) (moment word : 
 
   free : length p.world.accepted + 1 ≤ p.world.removed + (low_row c.low_store).capacity
   free =
-      let b = stands.lawful.bounded in
+      let b = stands.sound.lawful.bounded in
       let low : p.world.low_hand ≡ None = stands.world.low_hand ∙ ap number_of (hand_is_empty c.low a message t) in
       let has = (place p.world b low).place in
       let same : (low_row c.low_store).capacity ≡ c.row.capacity = ap (λ (r : SessionRow). r.capacity) store_row_is in
@@ -160,7 +160,7 @@ module _ {D : Type 0} (m : Meaning D) (c d : Parts D) (p : Past) (moment word : 
 
   low_fits : Each m (LowFits c.row world_then) (low_disk d.low_store)
   low_fits = subst (λ (u : SessionRow × Payload). Each m (LowFits u.0 (record p.world { storing = Some u.1 })) (low_disk d.low_store)) (λ i. (store_row_is i, t.is_message i))
-      (low_failed m c.low_store d.low_store p.world stands.rest.storing message free
+      (low_failed m c.low_store d.low_store p.world stands.sound.rest.storing message free
       (subst (λ o. StoreStep m o c.low_store d.low_store true) is did.step.keeps)
       (subst (λ (r : SessionRow). Each m (LowFits r p.world) (low_disk c.low_store)) (sym store_row_is) stands.disks.low_disk))
 
@@ -174,7 +174,7 @@ module _ {D : Type 0} (m : Meaning D) (c d : Parts D) (p : Past) (moment word : 
   fails_then = record {
     down = rw down refl;
     counted = refl;
-    lawful = stays_lawful p.world (StoreBegin t.frame.payload) world_then stands.lawful begins;
+    lawful = stays_lawful p.world (StoreBegin t.frame.payload) world_then stands.sound.lawful begins;
     fits = record {
       capacity = stands.world.capacity;
       count =

@@ -1,6 +1,7 @@
 -- The calls that a low look makes of the disks.
 use Rattle.std.proofs.Common.{◌≡◌, inl, inr, ℕ, ◌≤◌, Bool, true, false, List, length, Option, Some, None, Result, Ok, Err, refl, sym, ap, ◌∙◌, subst, arith}
 use Rattle.std.specs.Prelude.{if◌then◌else◌, ◌||◌}
+use Rattle.std.specs.Result.{result_err}
 use Rattle.std.proofs.Math.Logic.{∥∥₁_elim}
 use Rattle.std.proofs.Props.{props}
 use Rattle.std.specs.Coded.{le_prop}
@@ -21,7 +22,8 @@ use Rattle.two_worlds.specs.declared.applied.Stop.{Stop}
 use Rattle.two_worlds.specs.declared.applied.Stop.TheVariants.{Device}
 use Rattle.two_worlds.specs.declared.pump.parts.Parts.{Parts}
 use Rattle.two_worlds.specs.Disks.{RemovesBehind}
-use Rattle.two_worlds.specs.Doing.{fails_at, Serves, DisksServe}
+use Rattle.two_worlds.specs.Private.Serving.{DisksServe}
+use Rattle.two_worlds.specs.Rooms.{Serves, stops_at}
 use Rattle.two_worlds.specs.Private.LowLooks.{stop_of}
 use Rattle.two_worlds.specs.Standing.{StandsForSome}
 use Rattle.two_worlds.proofs.Opening.Ends.{low_is_up}
@@ -33,15 +35,15 @@ use Rattle.two_worlds.proofs.Low.Wants.{taking, is_short}
 abbrev pub stop_by : Bool → ℕ → Result (Unit {0}) Stop
 stop_by is_fault faults = if is_fault then Err (Device roles.Low faults) else Ok tt
 
-low_fails : (b : Bool) (faults : ℕ) → fails_at roles.Low (stop_by b faults) ≡ b
+low_fails : (b : Bool) (faults : ℕ) → stops_at roles.Low (result_err (stop_by b faults)) ≡ b
 low_fails true faults = refl
 low_fails false faults = refl
 
-high_fine : (b : Bool) (faults : ℕ) → fails_at roles.High (stop_by b faults) ≡ false
+high_fine : (b : Bool) (faults : ℕ) → stops_at roles.High (result_err (stop_by b faults)) ≡ false
 high_fine true faults = refl
 high_fine false faults = refl
 
-recv_fine : (b : Bool) (faults : ℕ) → fails_at roles.Recv (stop_by b faults) ≡ false
+recv_fine : (b : Bool) (faults : ℕ) → stops_at roles.Recv (result_err (stop_by b faults)) ≡ false
 recv_fine true faults = refl
 recv_fine false faults = refl
 
@@ -80,11 +82,11 @@ module _ {D : Type 0} (m : Meaning D) (c d : Parts D) (moment word : ℕ) (a : A
   behind : RemovesBehind m (high_disk c.high_store) (high_disk c.high_store) (recv_disk c.receiver)
   behind told high left recv is = ∥∥₁_elim some le_prop (λ s.
       let p = s.0 in
-      let h = high_reading c.row p.world high s.1.rest.removing (s.1.disks.high_disk.images told high (m.only_now told (high_disk c.high_store) high left)) in
-      let r = recv_reading c.row p.world recv s.1.rest.packet (s.1.disks.recv_disk.images told recv is) in
+      let h = high_reading c.row p.world high s.1.sound.rest.removing (s.1.disks.high_disk.images told high (m.only_now told (high_disk c.high_store) high left)) in
+      let r = recv_reading c.row p.world recv s.1.sound.rest.packet (s.1.disks.recv_disk.images told recv is) in
       let e = ap (λ (t : ℕ × ℕ). t.0) h.value in
       let f = ap (λ (t : ℕ × ℕ). t.0) r.value in
-      let le = s.1.lawful.delivered.removed in
+      let le = s.1.sound.lawful.delivered.removed in
       omega (arith, e, f, le))
 
   abbrev d' : Parts D
@@ -92,13 +94,13 @@ module _ {D : Type 0} (m : Meaning D) (c d : Parts D) (moment word : ℕ) (a : A
 
   serve_then : (faults : ℕ) → DisksServe m c d' (stop_by is_fault faults)
   serve_then faults = record {
-    low = subst (λ (b : Bool). Serves m (low_size c.row) (low_disk c.low_store) (low_disk d.low_store) b) (sym (low_fails is_fault faults)) (by_message (message_in c.low a) refl did.step.keeps);
-    high = inl (refl, high_fine is_fault faults);
-    recv = inl (refl, recv_fine is_fault faults);
+    low_goes = subst (λ (b : Bool). Serves m (low_size c.row) (low_disk c.low_store) (low_disk d.low_store) b) (sym (low_fails is_fault faults)) (by_message (message_in c.low a) refl did.step.keeps);
+    high_goes = inl (refl, high_fine is_fault faults);
+    recv_goes = inl (refl, recv_fine is_fault faults);
     behind = behind;
   }
 
-  pub low_serves : (result : Result (Unit {0}) Stop) → result ≡ stop_of m d → DisksServe m c d result
+  pub low_serves : (result : Result (Unit {0}) Stop) → result ≡ stop_of m d.low d.low_store → DisksServe m c d result
   low_serves result stop =
       let faults = m.count (low_disk d.low_store) in
       let e : result ≡ stop_by is_fault faults = stop ∙ ap (λ (b : Bool). stop_by b faults) down_is in

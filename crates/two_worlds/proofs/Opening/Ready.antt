@@ -127,7 +127,7 @@ module _ {D : Type 0} (m : Meaning D) (c : Parts D) (some : ∥ StandsForSome m 
   high_stands : m.tells → HighStands c.row (high_count c.high_store) (m.reading (high_disk c.high_store))
   high_stands told = ∥∥₁_elim some (hlevel props) (λ s.
       subst (λ (n : ℕ). HighStands c.row n (m.reading (high_disk c.high_store))) (s.1.world.removed ∙ sym s.1.high_ready.count)
-      (high_reading c.row s.0.world (m.reading (high_disk c.high_store)) s.1.rest.removing (s.1.disks.high_disk.reading told)))
+      (high_reading c.row s.0.world (m.reading (high_disk c.high_store)) s.1.sound.rest.removing (s.1.disks.high_disk.reading told)))
 
   pub high_is_up : high.is_down c.high ≡ false
   high_is_up = ∥∥₁_elim some (hlevel props) (λ s. s.1.high_ready.up)

@@ -114,18 +114,22 @@ module _ {D : Type 0} (m : Meaning D) (c : Parts D) (n : IsNew m c) where
   pub starts : Stands m c (fresh c.row)
   starts = record {
     row = n.row;
-    history = n.history;
-    waits = ap (λ (t : Connected). waits_of t) n.connection;
-    broken = ap (λ (t : Connected). is_broken_of t) n.connection;
-    reading = ap (λ (t : Connected). reading_of t) n.connection;
-    few = omega arith;
+    arrivals = record {
+      waits = ap (λ (t : Connected). waits_of t) n.connection;
+      broken = ap (λ (t : Connected). is_broken_of t) n.connection;
+      reading = ap (λ (t : Connected). reading_of t) n.connection;
+      few = omega arith;
+    };
     world = holds;
-    rest = record { storing = refl; due = refl; removing = refl; packet = refl; taking = refl };
-    lawful = fresh_lawful c.row n.row;
-    fits = All-nil (λ (x : Payload). length x ≤ c.row.message);
-    sends = omega arith;
+    sound = record {
+      rest = record { storing = refl; due = refl; removing = refl; packet = refl; taking = refl };
+      lawful = fresh_lawful c.row n.row;
+      fits = All-nil (λ (x : Payload). length x ≤ c.row.message);
+      sends = omega arith;
+    };
     moment = n.moment;
     low_ready = record {
+      history = n.history;
       store = record { ready = n.low_ready; count = n.low_count_is ∙ sym n.next; row = n.store_row ∙ sym n.low_row_is };
       up = n.low_up;
       between = n.low_between;

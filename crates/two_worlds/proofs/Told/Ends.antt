@@ -1,5 +1,6 @@
 -- From what the parts of the code did in a look of a low side alone to how its line ends.
 use Rattle.std.proofs.Common.{◌≡◌, ℕ, Bool, true, false, List, drop, Option, refl, sym, ap, ◌∙◌, subst}
+use Rattle.std.specs.Result.{result_err}
 use Rattle.std.specs.Prelude.{if◌then◌else◌, ◌&&◌, ◌||◌}
 use Rattle.disk_model.specs.Plain.{Plain, plain_meaning}
 use Rattle.pump_frame.specs.declared.row.SessionRow.{SessionRow}
@@ -23,7 +24,8 @@ use Rattle.script_reader.specs.Lows.{first_of, is_bad}
 use Rattle.script_reader.specs.Tolds.{LowPast, told_of_read, IsToldAt}
 use Rattle.two_worlds.specs.Connections.{Connected, waits_of, is_broken_of, reading_of, unused, offered_by, settled}
 use Rattle.two_worlds.specs.Printing.{look_prints}
-use Rattle.two_worlds.specs.LowParts.{PartsStand, Finishes, AnsweredBy, answer_of, EndsBy, stop_of}
+use Rattle.two_worlds.specs.LowParts.{PartsStand, Finishes, AnsweredBy, answer_of, EndsBy}
+use Rattle.two_worlds.specs.Private.LowLooks.{stop_of}
 use Rattle.two_worlds.specs.declared.applied.Stop.{Stop}
 use Rattle.two_worlds.specs.declared.low_pump.parts.LowParts.{LowParts}
 use Rattle.two_worlds.proofs.Told.Feedback.{Hears}
@@ -93,7 +95,7 @@ module _ (c e d : LowParts) (mid : LowProcess) (new : LowStore Plain) (m w : ℕ
       (told_step c.row told c.process mid e.process c.store new m w a begun.0 l same now store ask begun.1 hand answered)
 
   module _ (k : Connected) (left : d ≡ record { row = e.row; connection = k; process = e.process; store = e.store; moment = m }) (events : List Event) (stop : Option Stop)
-      (prints : events ≡ look_prints e.row.id m l) (stops_so : stop ≡ stop_of d) where
+      (prints : events ≡ look_prints e.row.id m l) (stops_so : stop ≡ result_err (stop_of plain_meaning d.process d.store)) where
     row_is : e.row ≡ c.row
     row_is = ap (λ (t : LowParts). t.row) rest
 

@@ -1,8 +1,8 @@
 -- A look of the code that is answered by what a script tells is a look of its past.
 use Rattle.std.proofs.Common.{◌≡◌, ℕ, ◌≤◌, Bool, true, false, List, ◌∷◌, ◌++◌, drop, Option, Some, None, refl, sym, ap, ◌∙◌, subst, arith}
+use Rattle.std.specs.Result.{result_err}
 use Rattle.std.specs.Prelude.{if◌then◌else◌, not, ◌&&◌, ◌||◌}
 use Rattle.disk_model.specs.Plain.{Plain, plain_meaning}
-use Rattle.disk_model.specs.declared.name.Role.TheVariants as roles
 use Rattle.pump_frame.specs.declared.row.SessionRow.{SessionRow}
 use Rattle.pump_frame.specs.declared.frame.Frame.{Frame}
 use Rattle.pump_frame.specs.Rows.{IsLawfulRow}
@@ -25,11 +25,12 @@ use Rattle.script_reader.specs.Lows.{is_bad, printed_store, printed_feedback, pr
 use Rattle.script_reader.specs.Tolds.{LowPast, begins_store, told_feedback, IsToldLook, IsToldAt}
 use Rattle.two_worlds.specs.Connections.{waits_of, is_broken_of, reading_of}
 use Rattle.two_worlds.specs.Printing.{printed_reply, look_prints}
-use Rattle.two_worlds.specs.LowParts.{disk_of, PartsStand, EndsBy, stop_of}
+use Rattle.two_worlds.specs.LowParts.{disk_of, PartsStand, EndsBy}
+use Rattle.two_worlds.specs.Private.LowLooks.{stop_of}
 use Rattle.two_worlds.specs.declared.applied.Stop.{Stop}
-use Rattle.two_worlds.specs.declared.applied.Stop.TheVariants as stops
 use Rattle.two_worlds.specs.declared.low_pump.parts.LowParts.{LowParts}
 use Rattle.pump_core.proofs.CutsFit.{cuts_fit}
+use Rattle.two_worlds.proofs.Low.Serves.{stop_by}
 use Rattle.two_worlds.proofs.Low.Stepping.{lives_reply}
 use Rattle.two_worlds.proofs.Told.Feedback.{Hears, told_is}
 use Rattle.two_worlds.proofs.Told.Stores.{Serves, serves, begins_is}
@@ -166,10 +167,10 @@ module _ (c d : LowParts) (p : LowPast) (m w : ℕ) (a : Arrival) (told : ToldFe
   does : (b : Bool) → is_fault ≡ b → Does b q (look_prints c.row.id m l)
   does b e = subst (λ (fault : Bool). Does fault q (look_prints c.row.id m l)) e looks
 
-  by_fault : (b : Bool) → is_fault ≡ b → EndsBy ⊥ Does c d (look_prints c.row.id m l) (if b then Some (stops.Device roles.Low (disk_of d).faults) else None)
+  by_fault : (b : Bool) → is_fault ≡ b → EndsBy ⊥ Does c d (look_prints c.row.id m l) (result_err (stop_by b (disk_of d).faults))
   by_fault true e = ((q, does true e), falls ∙ e, refl)
   by_fault false e = (q, does false e, stands e)
 
-  pub look_ends : (events : List Event) (stop : Option Stop) → events ≡ look_prints c.row.id m l → stop ≡ stop_of d → EndsBy ⊥ Does c d events stop
+  pub look_ends : (events : List Event) (stop : Option Stop) → events ≡ look_prints c.row.id m l → stop ≡ result_err (stop_of plain_meaning d.process d.store) → EndsBy ⊥ Does c d events stop
   look_ends events stop prints_so stops_so =
       subst (λ (t : List Event × Option Stop). EndsBy ⊥ Does c d t.0 t.1) (λ i. (sym prints_so i, sym stops_so i)) (by_fault (is_down d.process) (sym falls))

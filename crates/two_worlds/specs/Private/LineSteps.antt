@@ -1,14 +1,13 @@
 -- What a line of a script does to the parts of a pump.
-use Rattle.std.specs.Prelude.{◌≡◌, ℕ, ◌+◌, ◌^◌, Bool, true, false, ◌&&◌, ◌||◌, not, ◌==◌, nat_lt, nat_le, List, [], ◌++◌, length, is_some, Option, None, Some, Result, Ok, Err}
+use Rattle.std.specs.Prelude.{◌≡◌, ℕ, ◌+◌, ◌^◌, Bool, true, false, ◌&&◌, ◌||◌, not, ◌==◌, nat_lt, nat_le, List, [], length, is_some, Option, None, Some, Result, Ok, Err}
 use Rattle.disk_model.specs.Disk.{Meaning}
-use Rattle.pump_frame.specs.declared.row.SessionRow.{SessionRow}
 use Rattle.high_process.specs.States as high
 use Rattle.passage.specs.Plain.{held_in}
 use Rattle.script_reader.specs.declared.event.Event.{Event}
 use Rattle.script_reader.specs.declared.line.Line.{Line as ScriptLine}
 use Rattle.script_reader.specs.declared.line.Line.TheVariants as lines
 use Rattle.script_reader.specs.Past.{Past}
-use Rattle.script_reader.specs.Highs.{IsCarried, IsReturn, IsOverfull, place}
+use Rattle.script_reader.specs.Highs.{IsOverfull}
 use Rattle.script_reader.specs.Steps.{is_timely, IsCrowded, IsRefusedWhole, Step, Overfills}
 use Rattle.script_reader.specs.Breaks.{Breaks}
 use Rattle.two_worlds.specs.declared.applied.Stop.{Stop}
@@ -39,14 +38,10 @@ is_timely_by c (lines.Done session m t) =
     session == c.row.id && (nat_le c.moment m && (not (goes_on_by c) || nat_le (m + t) (2 ^ 62)))
 
 -- ---- what a line does ----
-
--- the message in the high hand is carried, and its TAKEN comes back at m
-abbrev pub CarriesBack : SessionRow → Past → ℕ → Past → List Event → Type 0
-CarriesBack row p m q printed =
-    (mid : Past) × (first : List Event) × (second : List Event)
-    × IsCarried row p 0 mid first
-    × IsReturn row mid m (place mid.world.returned 0) q second
-    × (printed ≡ first ++ second)
+-- Each says more of the line than the one before. `Does` says what any part of a line leads to. `LineDoes`
+-- says that of a step of this line. `Runs` adds what becomes of it where more than 64 arrivals would wait,
+-- and `Attempts` adds the test that comes first. A name that ends in From says it of one past that the parts
+-- stood for, and the name without From of each.
 
 -- it does not fit at the receiver, and nothing has changed
 abbrev pub IsOverfullSent : Past → Past → List Event → ℕ → ℕ → ℕ → Type 0

@@ -12,7 +12,7 @@ ghost use Rattle.two_worlds.specs.LowParts.{armed_if, answer_of};
 
 use crate::applied::Stop;
 use crate::connection::Connection;
-use crate::printing::print_look;
+use crate::low_side::end_look;
 use arrayvec::ArrayVec;
 use disk_model::{PlainDisk, Role};
 use low_process::{Answer, Arrival, AskHead, LookHead, LowProcess};
@@ -114,8 +114,8 @@ impl LowParts {
     ghost use Rattle.script_reader.specs.Lows.{first_of};
     ghost use Rattle.script_reader.specs.Scripts.{IsLowEnd};
     ghost use Rattle.script_reader.specs.Tolds.{LowPast, fresh_low, lost_low, is_timely_low, IsRefusedAlone, StepLow, IsToldAt};
-    ghost use Rattle.two_worlds.specs.LowParts.{PartsStand, StandsForSome, HasAsked, AnsweredBy, Ends, NeverBars, Crowds, IsJoinedTold, stop_of};
-    ghost use Rattle.two_worlds.specs.Printing.{lines_in, look_prints};
+    ghost use Rattle.two_worlds.specs.LowParts.{PartsStand, StandsForSome, HasAsked, AnsweredBy, Ends, NeverBars, Crowds, IsJoinedTold};
+    ghost use Rattle.two_worlds.specs.Printing.{lines_in};
 
     /// The parts before the first line, with `next` messages stored, of which the last is held or not.
     pub fn open(
@@ -156,36 +156,6 @@ impl LowParts {
         ensures { result ≡ (session == self.now.row.id && nat_le self.now.moment moment) }
     {
         session == self.row.id && self.moment <= moment
-    }
-
-    /// Where the process is down, the fault of its disk.
-    fn stop(&self) -> Option<Stop>
-        ensures { result ≡ stop_of self.now }
-    {
-        if !self.process.is_down() {
-            return None;
-        }
-        Some(Stop::Device {
-            role: Role::Low,
-            faults: self.store.faults(),
-        })
-    }
-
-    /// The end of a look: what it prints, and whether the disk failed in it.
-    fn end_look(
-        &mut self,
-        moment: u64,
-        head: &LookHead,
-        out: &mut ArrayVec<EventHead, 4>,
-    ) -> Option<Stop>
-        requires out { out.old.items ≡ [] }
-        ensures rest { self.new ≡ record self.old { moment = moment } }
-        ensures events { lines_in out.new.items ≡ look_prints self.old.row.id moment (look_with self.old.row head.now) }
-        ensures stop { result ≡ stop_of self.new }
-    {
-        self.moment = moment;
-        print_look(&self.row, moment, head, out);
-        self.stop()
     }
 
     /// The rest of a look, which is answered by what was told.
@@ -232,7 +202,8 @@ impl LowParts {
             .begin_into(moment, word, arrival, &mut self.store, &mut head);
         self.answer(ask, told, &mut head);
         self.connection.settle(head.taken);
-        self.end_look(moment, &head, out)
+        self.moment = moment;
+        end_look(&self.row, &self.process, &self.store, moment, &head, out).err()
     }
 
     /// The look of a connection that is lost: nothing waits on the new one.
@@ -251,7 +222,8 @@ impl LowParts {
             .process
             .begin_into(moment, 0, Arrival::Gone, &mut self.store, &mut head);
         self.answer(ask, ToldFeedback::Quiet, &mut head);
-        self.end_look(moment, &head, out)
+        self.moment = moment;
+        end_look(&self.row, &self.process, &self.store, moment, &head, out).err()
     }
 
     /// A `told` line: what comes joins what waits, a fault that is told arms the disk, and a look is

@@ -6,7 +6,8 @@ ghost use Rattle.script_reader.specs.Highs.{IsCarried, IsOverfull};
 ghost use Rattle.script_reader.specs.Breaks.{IsUntaken};
 ghost use Rattle.two_worlds.specs.Printing.{lines_in};
 ghost use Rattle.two_worlds.specs.Standing.{StandsForSome};
-ghost use Rattle.two_worlds.specs.Doing.{Does, DisksServe, LeavesAlone};
+ghost use Rattle.two_worlds.specs.Doing.{Does, LeavesAlone};
+ghost use Rattle.two_worlds.specs.Private.Serving.{DisksServe};
 
 use crate::applied::Stop;
 use crate::printing::put_taken;

@@ -8,7 +8,8 @@ ghost use Rattle.script_reader.specs.Past.{Past};
 ghost use Rattle.script_reader.specs.Highs.{IsHighLook, IsReturn, place};
 ghost use Rattle.script_reader.specs.Breaks.{IsUnremoved};
 ghost use Rattle.two_worlds.specs.Standing.{Stands, StandsForSome};
-ghost use Rattle.two_worlds.specs.Doing.{Does, DoesFrom, NeverBreaks, NeverOverfills, DisksServe, LeavesAlone};
+ghost use Rattle.two_worlds.specs.Doing.{Does, DoesFrom, NeverBreaks, NeverOverfills, LeavesAlone};
+ghost use Rattle.two_worlds.specs.Private.Serving.{DisksServe};
 ghost use Rattle.two_worlds.specs.Printing.{lines_in};
 ghost use Rattle.two_worlds.specs.Private.HighLooks.{ComesBack, LeadsWith, BreaksWith, frame_when, most_lines, printed_look, packets_after};
 

@@ -1,16 +1,19 @@
 //! The lines of a script.
 
-ghost use Rattle.std.specs.Prelude.{◌≡◌, ℕ, ◌+◌, ◌^◌, ◌<◌, ◌≤◌, Bool, true, [], length};
+ghost use Rattle.std.specs.Prelude.{◌≡◌, ℕ, ◌+◌, ◌^◌, ◌<◌, ◌≤◌, Bool, true, [], length, Some};
 ghost use Rattle.disk_model.specs.declared.name.Role.TheVariants as roles;
 ghost use Rattle.script_reader.specs.Lawful.{IsLawfulLine, IsLawfulArriving};
 ghost use Rattle.script_reader.specs.declared.line.Line.TheVariants as lines;
 ghost use Rattle.script_reader.specs.Heads.{arriving_with, line_with, CanHold, CanHoldLine};
 ghost use Rattle.script_reader.specs.Past.{Past};
+ghost use Rattle.script_reader.specs.Steps.{GoesOn};
 ghost use Rattle.script_reader.specs.Breaks.{BreaksOff};
 ghost use Rattle.two_worlds.specs.Printing.{lines_in};
-ghost use Rattle.two_worlds.specs.Standing.{Stands, StandsForSome};
-ghost use Rattle.two_worlds.specs.Doing.{Does, DisksServe, LeavesAlone};
-ghost use Rattle.two_worlds.specs.Private.LineSteps.{goes_on_by, is_timely_by, CarriesBack, IsOverfullSent, Runs, Attempts, answer_of};
+ghost use Rattle.two_worlds.specs.Rooms.{DisksGo};
+ghost use Rattle.two_worlds.specs.Standing.{Stands, StandsForSome, disk_at};
+ghost use Rattle.two_worlds.specs.Doing.{Does, LeavesAlone};
+ghost use Rattle.two_worlds.specs.Private.Serving.{DisksServe};
+ghost use Rattle.two_worlds.specs.Private.LineSteps.{goes_on_by, is_timely_by, IsOverfullSent, Runs, Attempts, answer_of};
 
 use crate::applied::Stop;
 use crate::pump::parts::Parts;
@@ -124,7 +127,7 @@ impl<D: Disk> Parts<D> {
         requires moment { moment ≤ 2 ^ 62 }
         requires sent { 0 < length self.old.sent.items }
         requires out { length out.old.items ≤ 1 }
-        ensures does { Does (λ p q printed. CarriesBack self.old.row p moment q printed)
+        ensures does { Does (λ p q printed. (n : ℕ) → GoesOn self.old.row (Some n) p moment q printed)
             (λ role p q printed. BreaksOff self.old.row p moment role q printed)
             IsOverfullSent D.told self.old self.new (lines_in out.old.items) (lines_in out.new.items) result }
         ensures serve { DisksServe D.told self.old self.new result }
@@ -228,7 +231,8 @@ impl<D: Disk> Parts<D> {
         requires lawful { IsLawfulLine (line_with bytes.now line.now) }
         requires room { CanHoldLine line.now bytes.now }
         ensures attempts { Attempts D.told self.old self.new (line_with bytes.now line.now) [] (lines_in out.new.items) (answer_of result) }
-        ensures serve { DisksServe D.told self.old self.new (answer_of result) }
+        ensures serve { DisksGo D.told self.old.row (disk_at roles.Low self.old) (disk_at roles.High self.old) (disk_at roles.Recv self.old)
+            (disk_at roles.Low self.new) (disk_at roles.High self.new) (disk_at roles.Recv self.new) result }
         ensures row { self.new.row ≡ self.old.row }
     {
         out.clear();

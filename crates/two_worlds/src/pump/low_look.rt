@@ -3,45 +3,23 @@
 ghost use Rattle.std.specs.Prelude.{◌≡◌, ◌^◌, ◌≤◌, length};
 ghost use Rattle.disk_model.specs.declared.name.Role.TheVariants as roles;
 ghost use Rattle.pump_core.specs.History.{Gone};
-ghost use Rattle.low_process.specs.Heads.{look_with};
 ghost use Rattle.script_reader.specs.Steps.{IsOfferedLook, IsLowLook};
 ghost use Rattle.script_reader.specs.Breaks.{IsLost};
 ghost use Rattle.two_worlds.specs.Connections.{unused};
 ghost use Rattle.two_worlds.specs.Standing.{StandsForSome};
-ghost use Rattle.two_worlds.specs.Doing.{Does, NeverBreaks, NeverOverfills, DisksServe};
-ghost use Rattle.two_worlds.specs.Private.LowLooks.{EndsLook};
+ghost use Rattle.two_worlds.specs.Doing.{Does, NeverBreaks, NeverOverfills};
+ghost use Rattle.two_worlds.specs.Private.Serving.{DisksServe};
 ghost use Rattle.two_worlds.specs.Printing.{lines_in};
 
 use crate::applied::Stop;
-use crate::printing::print_look;
+use crate::low_side::end_look;
 use crate::pump::parts::Parts;
 use arrayvec::ArrayVec;
-use disk_model::{Disk, Role};
+use disk_model::Disk;
 use low_process::{Arrival, LookHead};
 use script_reader::EventHead;
 
 impl<D: Disk> Parts<D> {
-    /// The end of a low look: its lines are printed, and where the store failed the line stops.
-    fn end_look(
-        &mut self,
-        moment: u64,
-        head: &LookHead,
-        out: &mut ArrayVec<EventHead, 4>,
-    ) -> Result<(), Stop>
-        requires out { length out.old.items ≤ 1 }
-        ensures ends { EndsLook D.told self.old self.new moment (look_with self.old.row head.now) (lines_in out.old.items) (lines_in out.new.items) result }
-    {
-        self.moment = moment;
-        print_look(&self.row, moment, head, out);
-        if self.low.is_down() {
-            return Err(Stop::Device {
-                role: Role::Low,
-                faults: self.low_store.faults(),
-            });
-        }
-        Ok(())
-    }
-
     /// A low look with what waits first. `Stop::Device` comes where the low disk failed in the store
     /// of its message: the refusal is printed, and the low process is down.
     pub fn look_first(
@@ -71,7 +49,8 @@ impl<D: Disk> Parts<D> {
             &mut head,
         );
         self.connection.settle(head.taken);
-        self.end_look(moment, &head, out)
+        self.moment = moment;
+        end_look(&self.row, &self.low, &self.low_store, moment, &head, out)
     }
 
     /// The low look of a connection that is lost: nothing waits on the new one.
@@ -95,6 +74,7 @@ impl<D: Disk> Parts<D> {
             &mut self.ends,
             &mut head,
         );
-        self.end_look(moment, &head, out)
+        self.moment = moment;
+        end_look(&self.row, &self.low, &self.low_store, moment, &head, out)
     }
 }

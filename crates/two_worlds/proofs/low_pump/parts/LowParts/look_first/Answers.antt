@@ -1,4 +1,6 @@
-use Rattle.std.proofs.Common.{◌≡◌, ◌∙◌, sym, ap, subst}
+use Rattle.std.proofs.Common.{◌≡◌, List, ◌++◌, ◌∙◌, refl, sym, ap, subst}
+use Rattle.std.specs.Result.{result_err}
+use Rattle.script_reader.specs.declared.event.EventHead.{EventHead}
 use Rattle.low_process.specs.Heads.{ask_with, look_with}
 use Rattle.pump_frame.specs.declared.row.SessionRow.{SessionRow}
 use Rattle.two_worlds.specs.declared.low_pump.parts.LowParts.{LowParts}
@@ -24,12 +26,16 @@ answer-requires-clause-row c = row_lawful c.args.self.now c.requires.stands
 pub returns-clause-ends : goal.returns-clause-ends
 returns-clause-ends c = λ p was.
     let b = c.begin_into-ask.ensures in
+    let e = c.answer.new.self in
     let g = c.end_look.ensures in
     let mid = c.begin_into-ask.new.self in
     let row = row_of c.args.self.now.process in
     let answered = subst (λ (r : SessionRow). AnsweredBy c.args.self.now.row c.args.told mid c.answer.new.self.process (ask_with r mid c.begin_into-ask.new.head c.begin_into-ask.result) (look_with r c.answer.new.head)) b.row c.answer.ensures.answered in
     let kept = ap (λ (t : LowParts). t.row) c.answer.ensures.rest ∙ sym was.of_row in
-    let prints = subst (λ (r : SessionRow). lines_in c.end_look.new.out.items ≡ look_prints c.answer.new.self.row.id c.args.moment (look_with r c.answer.new.head)) kept g.events in
-    first_ends c.args.self.now c.answer.new.self c.end_look.new.self c.begin_into-ask.new.self c.begin_into-ask.new.store c.args.moment c.args.word c.args.told
+    let printed = lines_in c.end_look.new.out.items in
+    let from_none = g.prints ∙ ap (λ (l : List EventHead). lines_in l ++ look_prints e.row.id c.args.moment (look_with e.row c.answer.new.head)) c.requires.out in
+    let prints = subst (λ (r : SessionRow). printed ≡ look_prints e.row.id c.args.moment (look_with r c.answer.new.head)) kept from_none in
+    let stop = c.err.ensures.value ∙ ap result_err g.stop in
+    first_ends c.args.self.now e (record e { connection = c.settle.new.self; moment = c.args.moment }) c.begin_into-ask.new.self c.begin_into-ask.new.store c.args.moment c.args.word c.args.told
     (arrival_of c.first-arrival.result) (ask_with row mid c.begin_into-ask.new.head c.begin_into-ask.result) (look_with row c.answer.new.head) b.begins b.hand b.store b.row b.last answered c.answer.ensures.rest
-    c.settle.new.self g.rest (lines_in c.end_look.new.out.items) c.end_look.result prints g.stop c.first-arrival.ensures.offered c.settle.ensures p was
+    c.settle.new.self refl printed c.err.result prints stop c.first-arrival.ensures.offered c.settle.ensures p was

@@ -10,7 +10,7 @@ use Rattle.two_worlds.specs.Printing.{lines_in, look_prints}
 use Rattle.two_worlds.specs.declared.pump.parts.Parts.{Parts}
 use Rattle.two_worlds.proofs.Opening.Ready.{low_has_store}
 use Rattle.two_worlds.proofs.Opening.Ends.{low_between, low_order, low_seen, high_seen, ends_seen, low_fits_seen}
-use Rattle.two_worlds.proofs.Low.Looked.{Looked, looked_as, stops_as, row_as}
+use Rattle.two_worlds.proofs.Low.Looked.{Looked}
 use Rattle.two_worlds.proofs.Low.Serves.{low_serves}
 use Rattle.two_worlds.proofs.Low.Does.{offered_does}
 use Rattle.two_worlds.proofs.pump.parts.Parts.look_first.Goals as goal
@@ -40,8 +40,8 @@ returns g c =
     let l = look_with (row_of s.low) head in
     let e = c.look_into.ensures in
     let a = arrival_of c.first-arrival.result in
-    let end = c.end_look.ensures.ends in
-    let now = c.end_look.new in
+    let end = c.end_look.ensures in
+    let printed = lines_in c.end_look.new.out.items in
     let d : Parts _ = record s { low = n.self; low_store = n.store; ends = n.ends; connection = c.settle.new.self; moment = c.args.moment } in
     let did : Looked m s d c.args.moment c.args.word a e.looks.0 l = record {
       step = e.looks.1;
@@ -57,11 +57,9 @@ returns g c =
       reading = ap reading_of c.settle.ensures;
       rest = refl;
     } in
-    let so = looked_as m s d now.self c.args.moment c.args.word a e.looks.0 l end.rest did in
-    let stop = stops_as m d now.self c.end_look.result end.rest end.stop in
     record {
-      does = λ p stands. offered_does m s now.self c.args.moment c.args.word a l c.requires.order (lines_in c.args.out.now.items) (lines_in now.out.items) (subst (λ (r : SessionRow). lines_in now.out.items ≡ lines_in c.args.out.now.items ++ look_prints s.row.id c.args.moment (look_with r head)) (sym stands.low_ready.row) end.prints) p stands e.looks.0 c.end_look.result
-          (c.first-arrival.ensures.offered ∙ (λ i. first_of (stands.broken i) (stands.waits i))) so stop;
-      serve = low_serves m s now.self c.args.moment c.args.word a e.looks.0 l so c.requires.stands c.end_look.result stop;
-      row = row_as s d now.self end.rest refl;
+      does = λ p stands. offered_does m s d c.args.moment c.args.word a l c.requires.order (lines_in c.args.out.now.items) printed (subst (λ (r : SessionRow). printed ≡ lines_in c.args.out.now.items ++ look_prints s.row.id c.args.moment (look_with r head)) (sym stands.low_ready.row) end.prints) p stands e.looks.0 c.end_look.result
+          (c.first-arrival.ensures.offered ∙ (λ i. first_of (stands.arrivals.broken i) (stands.arrivals.waits i))) did end.stop;
+      serve = low_serves m s d c.args.moment c.args.word a e.looks.0 l did c.requires.stands c.end_look.result end.stop;
+      row = refl;
     }

@@ -7,7 +7,7 @@ use Rattle.two_worlds.specs.Printing.{lines_in, look_prints}
 use Rattle.two_worlds.specs.declared.pump.parts.Parts.{Parts}
 use Rattle.two_worlds.proofs.Opening.Ready.{low_has_store}
 use Rattle.two_worlds.proofs.Opening.Ends.{low_between, low_order, low_seen, high_seen, ends_seen, low_fits_seen}
-use Rattle.two_worlds.proofs.Low.Looked.{Looked, looked_as, stops_as, row_as, no_waits, no_bad}
+use Rattle.two_worlds.proofs.Low.Looked.{Looked, no_waits, no_bad}
 use Rattle.two_worlds.proofs.Low.Serves.{low_serves}
 use Rattle.two_worlds.proofs.Low.Does.{gone_does}
 use Rattle.two_worlds.proofs.pump.parts.Parts.look_gone.Goals as goal
@@ -36,8 +36,8 @@ returns g c =
     let head = c.look_into.new.head in
     let l = look_with (row_of s.low) head in
     let e = c.look_into.ensures in
-    let end = c.end_look.ensures.ends in
-    let now = c.end_look.new in
+    let end = c.end_look.ensures in
+    let printed = lines_in c.end_look.new.out.items in
     let d : Parts _ = record s { low = n.self; low_store = n.store; ends = n.ends; moment = c.args.moment } in
     let did : Looked m s d c.args.moment 0 Gone e.looks.0 l = record {
       step = e.looks.1;
@@ -53,11 +53,9 @@ returns g c =
       reading = refl;
       rest = refl;
     } in
-    let so = looked_as m s d now.self c.args.moment 0 Gone e.looks.0 l end.rest did in
-    let stop = stops_as m d now.self c.end_look.result end.rest end.stop in
     record {
-      does = λ p stands. gone_does m s now.self c.args.moment 0 Gone l c.requires.order (lines_in c.args.out.now.items) (lines_in now.out.items) (subst (λ (r : SessionRow). lines_in now.out.items ≡ lines_in c.args.out.now.items ++ look_prints s.row.id c.args.moment (look_with r head)) (sym stands.low_ready.row) end.prints) p stands e.looks.0 c.end_look.result
-          refl so stop;
-      serve = low_serves m s now.self c.args.moment 0 Gone e.looks.0 l so c.requires.stands c.end_look.result stop;
-      row = row_as s d now.self end.rest refl;
+      does = λ p stands. gone_does m s d c.args.moment 0 Gone l c.requires.order (lines_in c.args.out.now.items) printed (subst (λ (r : SessionRow). printed ≡ lines_in c.args.out.now.items ++ look_prints s.row.id c.args.moment (look_with r head)) (sym stands.low_ready.row) end.prints) p stands e.looks.0 c.end_look.result
+          refl did end.stop;
+      serve = low_serves m s d c.args.moment 0 Gone e.looks.0 l did c.requires.stands c.end_look.result end.stop;
+      row = refl;
     }

@@ -87,9 +87,9 @@ returns-in-Err-Device-clause-serve g c =
     let task = task_at d.high frame in
     let fares = fared m task d.high c.look.new.self d.high_store c.look.new.store c.look.result (Device c.in-Err-Device.faults) (c.in-Err-Device.is ∙ ap (λ f. Err f) c.in-Err-Device.field-0-is) c.look.ensures.fares in
     record {
-      low = inl (refl, refl);
-      high = broken_serves m d c.look.new.self c.look.new.store frame task c.in-Err-Device.faults fares (asks_no_device m d c.look.new.self c.look.new.store frame c.requires.stands (λ p s. (let b = c.requires.back p s in (b.0, subst (λ f. ComesBack c.args.self.now.row.id p.world f b.0) (sym c.frame_back-frame.ensures) b.1))) c.in-Err-Device.faults);
-      recv = inl (refl, refl);
+      low_goes = inl (refl, refl);
+      high_goes = broken_serves m d c.look.new.self c.look.new.store frame task c.in-Err-Device.faults fares (asks_no_device m d c.look.new.self c.look.new.store frame c.requires.stands (λ p s. (let b = c.requires.back p s in (b.0, subst (λ f. ComesBack c.args.self.now.row.id p.world f b.0) (sym c.frame_back-frame.ensures) b.1))) c.in-Err-Device.faults);
+      recv_goes = inl (refl, refl);
       behind = removes_behind m d c.look.new.self c.look.new.store frame c.requires.stands (λ p s. (let b = c.requires.back p s in (b.0, subst (λ f. ComesBack c.args.self.now.row.id p.world f b.0) (sym c.frame_back-frame.ensures) b.1))) c.look.ensures.images;
     }
 
@@ -112,9 +112,9 @@ returns-in-Err-Ahead-clause-serve g c =
     let task = task_at d.high frame in
     let fares = fared m task d.high c.look.new.self d.high_store c.look.new.store c.look.result (Ahead c.in-Err-Ahead.field-0-0 c.in-Err-Ahead.field-0-1) (c.in-Err-Ahead.is ∙ ap (λ f. Err f) c.in-Err-Ahead.field-0-is) c.look.ensures.fares in
     record {
-      low = inl (refl, refl);
-      high = refused_serves m d c.look.new.self c.look.new.store frame task c.in-Err-Ahead.field-0-0 c.in-Err-Ahead.field-0-1 fares;
-      recv = inl (refl, refl);
+      low_goes = inl (refl, refl);
+      high_goes = refused_serves m d c.look.new.self c.look.new.store frame task c.in-Err-Ahead.field-0-0 c.in-Err-Ahead.field-0-1 fares;
+      recv_goes = inl (refl, refl);
       behind = removes_behind m d c.look.new.self c.look.new.store frame c.requires.stands (λ p s. (let b = c.requires.back p s in (b.0, subst (λ f. ComesBack c.args.self.now.row.id p.world f b.0) (sym c.frame_back-frame.ensures) b.1))) c.look.ensures.images;
     }
 

@@ -31,4 +31,4 @@ returns-clause-does g c = λ p s.
     (c.look_with.ensures.does p stands (Some k) (comes_numbered m now p stands c.args.back c.number_back-self.result c.requires.back c.number_back-self.ensures))
 
 pub returns-clause-serve : goal.returns-clause-serve
-returns-clause-serve g c = let r = c.look_with.ensures.serve in record { low = r.low; high = r.high; recv = r.recv; behind = r.behind }
+returns-clause-serve g c = c.look_with.ensures.serve

@@ -8,7 +8,7 @@ use Rattle.script_reader.specs.declared.event.Event.{Event}
 use Rattle.script_reader.specs.declared.fault.Fault.TheVariants as faults
 use Rattle.script_reader.specs.declared.line.Line.{Line}
 use Rattle.script_reader.specs.declared.line.Line.TheVariants as lines
-use Rattle.script_reader.specs.Steps.{is_timely, IsRefusedWhole, Step, Overfills}
+use Rattle.script_reader.specs.Steps.{is_timely, IsRefusedWhole, LineStep, Overfills}
 use Rattle.script_reader.specs.Past.{Past}
 use Rattle.script_reader.specs.Tolds.{LowPast, is_timely_low, IsRefusedAlone, StepLow}
 use Rattle.script_reader.specs.Scripts.{Running, LowRunning, Begun, Whole, Alone, GoesOn, Leads, IsRefused}
@@ -20,7 +20,7 @@ use Rattle.two_worlds.specs.Rooms.{HasRoom, DisksGo}
 use Rattle.two_worlds.specs.declared.low_pump.LowPump.{LowPump}
 use Rattle.netpump.specs.declared.session.Session.{Session}
 use Rattle.netpump.specs.declared.session.Session.TheVariants as sessions
-use Rattle.netpump.specs.Sessions.{IsRoomy, StandsFor, Applies}
+use Rattle.netpump.specs.Sessions.{IsRoomy, StandsFor, SessionApplies}
 use Rattle.netpump.proofs.Rooms.{room_stays, no_device}
 
 pub leads_from : (running : Begun) (line : Line) (after : Option Begun) (printed : List Event) → line ≢ lines.Skip → GoesOn running line after printed → Leads (Some running) line after printed
@@ -64,10 +64,10 @@ refused_alone s (lines.Done session moment time) some h = h
 module _ (id : ℕ) (p t : _) (line : Line) (some : line ≢ lines.Skip) (printed : List Event) (s : Running) (id_is : id ≡ s.row.id) (row : pump.row_of p ≡ s.row) (same : pump.row_of t ≡ pump.row_of p)
     (room : IsRoomy (sessions.Whole id t)) where
   whole_does : (stop : Option Stop) → pump.is_down t ≡ low_pump.is_device stop → ((role : Role) (count : ℕ) → stop ≡ Some (stops.Device role count) → ⊥) → pump.Applies plain_meaning p t line s.past printed stop
-      → Applies (Whole s) line (sessions.Whole id t) printed stop
+      → SessionApplies (Whole s) line (sessions.Whole id t) printed stop
   whole_does None down fine h =
       let timely : is_timely s.row s.past line ≡ true = subst (λ (r : SessionRow). is_timely r s.past line ≡ true) row h.0 in
-      let step : Step s.row s.past line h.1.0 printed = subst (λ (r : SessionRow). Step r s.past line h.1.0 printed) row h.1.1 in
+      let step : LineStep s.row s.past line h.1.0 printed = subst (λ (r : SessionRow). LineStep r s.past line h.1.0 printed) row h.1.1 in
       let after : Option Begun = Some (Whole (record { row = s.row; past = h.1.0 })) in (
         after,
         leads_from (Whole s) line after printed some (timely, (h.1.0, step, refl)),
@@ -86,14 +86,14 @@ module _ (id : ℕ) (p t : _) (line : Line) (some : line ≢ lines.Skip) (printe
 pub whole_applies : (before : Session) (id : ℕ) (p t : _) (line : Line) (printed : List Event) (stop : Option Stop) → before ≡ sessions.Whole id p → line ≢ lines.Skip
     → ((q : Past) → pump.StandsFor plain_meaning p q → pump.Applies plain_meaning p t line q printed stop)
     → DisksGo plain_meaning (pump.row_of p) (pump.disk_at roles.Low p) (pump.disk_at roles.High p) (pump.disk_at roles.Recv p) (pump.disk_at roles.Low t) (pump.disk_at roles.High t) (pump.disk_at roles.Recv t) stop
-    → pump.is_down t ≡ low_pump.is_device stop → pump.row_of t ≡ pump.row_of p → (running : Begun) → StandsFor before running → Applies running line (sessions.Whole id t) printed stop
+    → pump.is_down t ≡ low_pump.is_device stop → pump.row_of t ≡ pump.row_of p → (running : Begun) → StandsFor before running → SessionApplies running line (sessions.Whole id t) printed stop
 whole_applies before id p t line printed stop is some applies goes down same running h = whole_runs running (subst (λ (s : Session). StandsFor s running) is h)
   where
     roomy : IsRoomy (sessions.Whole id p) → IsRoomy (sessions.Whole id t)
     roomy room = subst (λ (r : SessionRow). HasRoom plain_meaning r (pump.disk_at roles.Low t) (pump.disk_at roles.High t) (pump.disk_at roles.Recv t)) (sym same)
         (room_stays plain_meaning (pump.row_of p) _ _ _ _ _ _ stop tt room goes)
 
-    whole_runs : (running : Begun) → StandsFor (sessions.Whole id p) running → Applies running line (sessions.Whole id t) printed stop
+    whole_runs : (running : Begun) → StandsFor (sessions.Whole id p) running → SessionApplies running line (sessions.Whole id t) printed stop
     whole_runs (Whole s) h =
         whole_does id p t line some printed s h.is_of.0 h.is_of.1 same (roomy h.room) stop down (no_device plain_meaning (pump.row_of p) _ _ _ _ _ _ stop tt h.room goes) (applies s.past h.is_of.2)
     whole_runs (Alone s) h = absurd h.is_of
@@ -103,7 +103,7 @@ whole_applies before id p t line printed stop is some applies goes down same run
 module _ (id : ℕ) (p t : LowPump) (line : Line) (some : line ≢ lines.Skip) (printed : List Event) (s : LowRunning) (id_is : id ≡ s.row.id) (row : low_pump.low_row_of p ≡ s.row)
     (same : low_pump.low_row_of t ≡ low_pump.low_row_of p) where
   alone_does : (stop : Option Stop) → low_pump.low_is_down t ≡ low_pump.is_device stop → low_pump.AppliesLow p t line s.past printed stop
-      → Applies (Alone s) line (sessions.Alone id t) printed stop
+      → SessionApplies (Alone s) line (sessions.Alone id t) printed stop
   alone_does None down h =
       let timely : is_timely_low s.row s.past line ≡ true = subst (λ (r : SessionRow). is_timely_low r s.past line ≡ true) row h.0 in
       let step : StepLow s.row s.past line false h.1.0 printed = subst (λ (r : SessionRow). StepLow r s.past line false h.1.0 printed) row h.1.1 in
@@ -127,9 +127,9 @@ module _ (id : ℕ) (p t : LowPump) (line : Line) (some : line ≢ lines.Skip) (
 pub alone_applies : (before : Session) (id : ℕ) (p t : LowPump) (line : Line) (printed : List Event) (stop : Option Stop) → before ≡ sessions.Alone id p → line ≢ lines.Skip
     → ((q : LowPast) → low_pump.LowStandsFor p q → low_pump.AppliesLow p t line q printed stop)
     → low_pump.low_is_down t ≡ low_pump.is_device stop → low_pump.low_row_of t ≡ low_pump.low_row_of p
-    → (running : Begun) → StandsFor before running → Applies running line (sessions.Alone id t) printed stop
+    → (running : Begun) → StandsFor before running → SessionApplies running line (sessions.Alone id t) printed stop
 alone_applies before id p t line printed stop is some applies down same running h = alone_runs running (subst (λ (s : Session). StandsFor s running) is h)
   where
-    alone_runs : (running : Begun) → StandsFor (sessions.Alone id p) running → Applies running line (sessions.Alone id t) printed stop
+    alone_runs : (running : Begun) → StandsFor (sessions.Alone id p) running → SessionApplies running line (sessions.Alone id t) printed stop
     alone_runs (Whole s) h = absurd h.is_of
     alone_runs (Alone s) h = alone_does id p t line some printed s h.is_of.0 h.is_of.1 same stop down (applies s.past h.is_of.2)

@@ -10,7 +10,7 @@ use Rattle.script_reader.specs.Faults.{IsFaulty}
 use Rattle.script_reader.specs.Scripts.{Begun, IsRefused, Stops}
 use Rattle.script_reader.proofs.Stopping.{stops_leads, stops_one}
 use Rattle.script_reader.proofs.OneEnd.{refused_leads}
-use Rattle.netpump.specs.Replays.{IsSoFar, Replayed, IsFaultyAt, fault_after, Stopping, IsDone, IsFaulted, IsStopped, IsFailed, IsOverfilled, Wrote}
+use Rattle.netpump.specs.Replays.{IsSoFar, Replayed, IsFaultyAt, fault_after, Stopping, IsFinished, IsFaulted, IsStopped, IsFailed, IsOverfilled, Wrote}
 use Rattle.netpump.specs.Statuses.{IsEnd, EndsWith, status_of}
 use Rattle.netpump.proofs.Stopping.{stops_refused}
 use Rattle.netpump.proofs.Compared.{GoesOn, no_line, good_line, same_line, told_rest, compare}
@@ -93,7 +93,7 @@ module _ (bytes : List ℕ) (end : Option Fault) (e : EndsWith bytes end) where
       let told = told_rest bytes r.lines r.rest r.so_far.spelled in
       (told.0, told.1, subst (λ (rest : Option (List ℕ)). IsSoFar (Some bytes) rest r.lines r.events r.running) told.1 r.so_far)
 
-  done_so : (r : Replayed (Some bytes)) (output : List ℕ) → IsDone r output → end ≡ None
+  done_so : (r : Replayed (Some bytes)) (output : List ℕ) → IsFinished r output → end ≡ None
   done_so r output d =
       let told = told_so_far r in
       ends_at r.lines r.events r.running told.0 None told.2 r.few (subst IsAtEnd told.1 d.ended)
@@ -112,9 +112,9 @@ module _ (bytes : List ℕ) (end : Option Fault) (e : EndsWith bytes end) where
 -- ---- the statuses ----
 
 module _ (all old new : Option (List ℕ)) (bytes : List ℕ) (end : Option Fault) (told : all ≡ Some bytes) (e : EndsWith bytes end) where
-  pub done_status : Wrote all old new (λ r output. IsDone r output) → 0 ≡ status_of end
+  pub done_status : Wrote all old new (λ r output. IsFinished r output) → 0 ≡ status_of end
   done_status d =
-      let (r, output, is, wrote) = subst (λ (a : Option (List ℕ)). Wrote a old new (λ r output. IsDone r output)) told d in
+      let (r, output, is, wrote) = subst (λ (a : Option (List ℕ)). Wrote a old new (λ r output. IsFinished r output)) told d in
       sym (ap status_of (done_so bytes end e r output is))
 
   pub faulted_status : (left : Option (List ℕ)) → Wrote all old new (IsFaulted left) → 5 ≡ status_of end

@@ -9,7 +9,7 @@ use Rattle.script_reader.specs.declared.fault.Fault.{Fault}
 use Rattle.script_reader.specs.declared.fault.Fault.TheVariants.{Read, Script}
 use Rattle.script_reader.specs.declared.lines.Lined.TheVariants as lined
 use Rattle.script_reader.specs.Grammar.{IsLine}
-use Rattle.script_reader.specs.Lines.{LineReading, to_come, AreLines, IsUnended, IsNext}
+use Rattle.script_reader.specs.Lines.{LineReading, to_come, AreLines, IsUnended, IsNextLine}
 use Rattle.script_reader.specs.Transcript.{text, fault_line}
 use Rattle.script_reader.specs.Scripts.{Begun, Whole, Alone, GoesOn, Leads, LeadTo, IsRefused, Ends}
 use Rattle.script_reader.proofs.Leading.{led}
@@ -20,7 +20,7 @@ use Rattle.netpump.specs.Outputs.{Gathers}
 use Rattle.netpump.specs.Runners.{Closes, EndsAs}
 use Rattle.netpump.specs.declared.replay.Ended.{Ended}
 use Rattle.netpump.specs.declared.replay.Ended.TheVariants as ended
-use Rattle.netpump.specs.Replays.{IsSoFar, Replayed, IsFaultyAt, Stopping, fault_after, IsNear, IsWithinLine, IsNearLast, IsDone, IsUnread, IsFaulted, IsStopped, IsOutput, IsCutOff, Wrote, WroteFront}
+use Rattle.netpump.specs.Replays.{IsSoFar, Replayed, IsFaultyAt, Stopping, fault_after, IsNear, IsWithinLine, IsNearLast, IsFinished, IsUnread, IsFaulted, IsStopped, IsOutput, IsCutOff, Wrote, WroteFront}
 use Rattle.netpump.proofs.Kept.{keep_laws, timed_so, sound_end, laws_at_stop}
 use Rattle.netpump.proofs.Gathered.{text-more, gathers_then, appends_then, front_then, front_more}
 
@@ -138,7 +138,7 @@ module _ (all rest left old now new : Option (List ℕ)) (before after : ℕ) (l
   wrote_front : (x : List ℕ) → IsNearLast rest left → IsOutput left before after r (text events ++ x) → AppendsFront now new (held ++ x) → WroteFront all old new (IsCutOff left before after)
   wrote_front x near e a = (r, text events ++ x, (near, e), front_then [] held old now new (text events) x w a)
 
-  done : (last : List Event) → IsAtEnd rest → Ends running last → IsDone r (text events ++ text last)
+  done : (last : List Event) → IsAtEnd rest → Ends running last → IsFinished r (text events ++ text last)
   done last e ends = record {
     ended = e;
     printed = events ++ last;
@@ -186,7 +186,7 @@ module _ (all rest left old now new : Option (List ℕ)) (before after : ℕ) (l
       → Closes now new rose risen (held ++ text last) ended.Done result → EndsAs all left old new before after result
   finished result rose risen last e ends c =
       elim c [
-        | inl is ↦ rw is.0 (wrote (λ r output. IsDone r output) (text last) (done last e ends) is.1)
+        | inl is ↦ rw is.0 (wrote (λ r output. IsFinished r output) (text last) (done last e ends) is.1)
         | inr is ↦ rw is.0 (wrote_front (text last) (inl e) (inr (inl (done last e ends))) is.1)
       ]
 
@@ -213,29 +213,29 @@ unprinted all mid rest left old now new before after lines events more running n
 -- ---- the line after ----
 
 -- the line that was read
-pub next_line : (old new : LineReading) (left rest : Option (List ℕ)) (line : Line) → IsNext old new left rest (lined.Line line) → AreLines (to_come old left) (line ∷ []) (to_come new rest)
+pub next_line : (old new : LineReading) (left rest : Option (List ℕ)) (line : Line) → IsNextLine old new left rest (lined.Line line) → AreLines (to_come old left) (line ∷ []) (to_come new rest)
 next_line old new left rest line n = (n.0, to_come new rest, n.1, n.2, n.3, Keeps-same (to_come new rest))
 
 -- one that can't be applied, and one that can't be read
-pub faulty_line : (old new : LineReading) (left rest : Option (List ℕ)) (line : Line) (running : Option Begun) (number : ℕ) → IsNext old new left rest (lined.Line line) → IsRefused running line → IsFaultyAt number (to_come old left) running
+pub faulty_line : (old new : LineReading) (left rest : Option (List ℕ)) (line : Line) (running : Option Begun) (number : ℕ) → IsNextLine old new left rest (lined.Line line) → IsRefused running line → IsFaultyAt number (to_come old left) running
 faulty_line old new left rest line running number n e = inl (inr (line, to_come new rest, next_line old new left rest line n, e))
 
-pub faulty_bad : (old new : LineReading) (left rest : Option (List ℕ)) (lines : List Line) (running : Option Begun) → IsNext old new left rest lined.Bad → length lines ≡ old.number → IsFaultyAt (length lines) (to_come old left) running
+pub faulty_bad : (old new : LineReading) (left rest : Option (List ℕ)) (lines : List Line) (running : Option Begun) → IsNextLine old new left rest lined.Bad → length lines ≡ old.number → IsFaultyAt (length lines) (to_come old left) running
 faulty_bad old new left rest lines running n e = elim n.1 [ inl bad ↦ inl (inl bad) | inr last ↦ inr (e ∙ last.0, last.1) ]
 
-pub line_number : (old new : LineReading) (left rest : Option (List ℕ)) (line : Line) (lines : List Line) (number : ℕ) → IsNext old new left rest (lined.Line line) → length lines ≡ old.number → number ≡ new.number → number < 2 ^ 32 → Script number ≡ fault_after (length lines)
+pub line_number : (old new : LineReading) (left rest : Option (List ℕ)) (line : Line) (lines : List Line) (number : ℕ) → IsNextLine old new left rest (lined.Line line) → length lines ≡ old.number → number ≡ new.number → number < 2 ^ 32 → Script number ≡ fault_after (length lines)
 line_number old new left rest line lines number n e same low =
     let is : number ≡ min (length lines + 1) (2 ^ 32 - 1) = omega (arith, n.4, e, same) in
     ap Script is
 
-pub bad_number : (old new : LineReading) (left rest : Option (List ℕ)) (lines : List Line) (number : ℕ) → IsNext old new left rest lined.Bad → length lines ≡ old.number → number ≡ new.number → Script number ≡ fault_after (length lines)
+pub bad_number : (old new : LineReading) (left rest : Option (List ℕ)) (lines : List Line) (number : ℕ) → IsNextLine old new left rest lined.Bad → length lines ≡ old.number → number ≡ new.number → Script number ≡ fault_after (length lines)
 bad_number old new left rest lines number n e same = ap Script (same ∙ n.2 ∙ ap (λ k. min (k + 1) (2 ^ 32 - 1)) (sym e))
 
 -- a line that was read has a number below 2^32
-pub one_left : (old new : LineReading) (left rest : Option (List ℕ)) (line : Line) (lines : List Line) → IsNext old new left rest (lined.Line line) → length lines ≡ old.number → new.number < 2 ^ 32 → length lines + 1 < 2 ^ 32
+pub one_left : (old new : LineReading) (left rest : Option (List ℕ)) (line : Line) (lines : List Line) → IsNextLine old new left rest (lined.Line line) → length lines ≡ old.number → new.number < 2 ^ 32 → length lines + 1 < 2 ^ 32
 one_left old new left rest line lines n e few = omega (arith, n.4, e, few)
 
-pub counted_more : (old new : LineReading) (left rest : Option (List ℕ)) (line : Line) (lines : List Line) → IsNext old new left rest (lined.Line line) → length lines ≡ old.number → new.number < 2 ^ 32 → length (lines ++ line ∷ []) < 2 ^ 32
+pub counted_more : (old new : LineReading) (left rest : Option (List ℕ)) (line : Line) (lines : List Line) → IsNextLine old new left rest (lined.Line line) → length lines ≡ old.number → new.number < 2 ^ 32 → length (lines ++ line ∷ []) < 2 ^ 32
 counted_more old new left rest line lines n e few = omega (arith, n.4, e, few, length-append lines (line ∷ []))
 
 -- ---- how much was taken ----
@@ -253,13 +253,13 @@ near_line (Some xs) (Some ys) bytes held k = k ∙ append_assoc bytes (10 ∷ []
 pub near_now : (reading : LineReading) (left : Option (List ℕ)) → length reading.held ≤ 4096 → IsNear (to_come reading left) left
 near_now reading left few = (reading.held, near_held (to_come reading left) left reading.held (Keeps-same (to_come reading left)), few)
 
-pub near_bad : (old new : LineReading) (left rest : Option (List ℕ)) → IsNext old new left rest lined.Bad → IsNear (to_come old left) rest
+pub near_bad : (old new : LineReading) (left rest : Option (List ℕ)) → IsNextLine old new left rest lined.Bad → IsNear (to_come old left) rest
 near_bad old new left rest n = (new.held, near_held (to_come old left) rest new.held n.0, n.3)
 
-pub within_failed : (old new : LineReading) (left rest : Option (List ℕ)) → IsNext old new left rest lined.Failed → IsWithinLine (to_come new rest) rest
+pub within_failed : (old new : LineReading) (left rest : Option (List ℕ)) → IsNextLine old new left rest lined.Failed → IsWithinLine (to_come new rest) rest
 within_failed old new left rest n = (new.held, near_held (to_come new rest) rest new.held (Keeps-same (to_come new rest)), n.2, n.3)
 
-pub near_next : (old new : LineReading) (left rest : Option (List ℕ)) (line : Line) → IsNext old new left rest (lined.Line line) → IsNear (to_come old left) rest
+pub near_next : (old new : LineReading) (left rest : Option (List ℕ)) (line : Line) → IsNextLine old new left rest (lined.Line line) → IsNear (to_come old left) rest
 near_next old new left rest line n = (n.0 ++ 10 ∷ new.held, near_line (to_come old left) rest n.0 new.held n.3, omega (arith, n.5, length-append n.0 (10 ∷ new.held)))
 
 -- ---- the sink's count ----

@@ -7,7 +7,7 @@ use Rattle.script_reader.specs.declared.line.Line.TheVariants as lines
 use Rattle.script_reader.specs.declared.event.Event.{Event}
 use Rattle.script_reader.specs.declared.fault.Fault.{Fault}
 use Rattle.script_reader.specs.Past.{Past}
-use Rattle.script_reader.specs.Steps.{Coming, IsCrowded, IsRefusedWhole, Overfills}
+use Rattle.script_reader.specs.Steps.{LineComing, IsCrowded, IsRefusedWhole, Overfills}
 use Rattle.script_reader.specs.Tolds.{LowPast, joined_low, IsCrowdedLow, IsRefusedAlone, StepLow}
 use Rattle.script_reader.specs.Scripts.{Running, LowRunning, Begun, Whole, Alone, IsRefused, Stops}
 use Rattle.script_reader.proofs.One.{arrives_one}
@@ -30,7 +30,7 @@ crowded_stores s p (lines.Session row) q printed h k = h
 crowded_stores s p (lines.LowSession row next held) q printed h k = h
 crowded_stores s p (lines.Look session moment word arrival) q printed h k = h
 crowded_stores s p (lines.Told session moment word fault feedback arrival) q printed (c, comes, many) (d, comes', (few, look)) =
-    let same = ap (λ (t : Coming). length (joined_low p fault t).waits) (arrives_one session p.reading arrival c d comes comes') in
+    let same = ap (λ (t : LineComing). length (joined_low p fault t).waits) (arrives_one session p.reading arrival c d comes comes') in
     absurd (omega (arith, many, few, same))
 crowded_stores s p (lines.Gone session moment) q printed h k = h
 crowded_stores s p (lines.High session moment) q printed h k = h

@@ -8,11 +8,11 @@ use Rattle.script_reader.specs.declared.event.Event.{Event}
 use Rattle.script_reader.specs.declared.fault.Fault.{Fault}
 use Rattle.script_reader.specs.declared.fault.Fault.TheVariants.{Words, Read, Script, Device, Full}
 use Rattle.script_reader.specs.declared.lines.Lined.TheVariants as lined
-use Rattle.script_reader.specs.Lines.{LineReading, to_come, IsNext}
+use Rattle.script_reader.specs.Lines.{LineReading, to_come, IsNextLine}
 use Rattle.script_reader.specs.Scripts.{Begun, Whole, Alone, Stops}
 use Rattle.script_reader.specs.Transcript.{text, fault_line}
 use Rattle.netpump.specs.Outputs.{Gathers}
-use Rattle.netpump.specs.Runners.{Goes, Closes, EndsAs}
+use Rattle.netpump.specs.Runners.{TurnGoes, Closes, EndsAs}
 use Rattle.netpump.specs.declared.session.Session.{Session}
 use Rattle.netpump.specs.declared.replay.Outcome.{Outcome}
 use Rattle.netpump.specs.declared.replay.Outcome.TheVariants as outcomes
@@ -54,7 +54,7 @@ silent_front held a b printed e p =
     subst (λ (x : List ℕ). AppendsFront a b x) is p
 
 -- after these lines this one was read
-module _ (all left rest old now : Option (List ℕ)) (before after : ℕ) (from to : LineReading) (line : Line) (n : IsNext from to left rest (lined.Line line))
+module _ (all left rest old now : Option (List ℕ)) (before after : ℕ) (from to : LineReading) (line : Line) (n : IsNextLine from to left rest (lined.Line line))
     (lines : List Line) (events : List Event) (running : Option Begun) (s : IsSoFar all (to_come from left) lines events running) (few : length lines + 1 < 2 ^ 32)
     (held : List ℕ) (w : Gathers [] held old now (text events)) where
   near : IsNear (to_come from left) rest
@@ -79,7 +79,7 @@ module _ (all left rest old now : Option (List ℕ)) (before after : ℕ) (from 
       ]
 
   -- what it prints could not be written
-  pub cut_off : (new : Option (List ℕ)) (session : Option Session) (printed : List Event) (outcome : Outcome) → Goes running line session printed outcome
+  pub cut_off : (new : Option (List ℕ)) (session : Option Session) (printed : List Event) (outcome : Outcome) → TurnGoes running line session printed outcome
       → AppendsFront now new (held ++ text printed) → WroteFront all old new (IsCutOff rest before after)
   cut_off new session printed outcomes.Applied h p =
       unprinted all (to_come from left) (to_come to rest) rest old now new before after lines events printed running h.0 line n.0 held s few n.1 n.2 n.3 h.1 near w p

@@ -121,7 +121,7 @@ IsNearLast rest left = IsAtEnd rest ⊎ (IsNear rest left ⊎ ((line : Line) × 
 -- ---- the ends of a replay ----
 
 -- the script is at its end: the output is its transcript
-pub record IsDone {all : Option (List ℕ)} (r : Replayed all) (output : List ℕ) : Type 0 where
+pub record IsFinished {all : Option (List ℕ)} (r : Replayed all) (output : List ℕ) : Type 0 where
   pub ended : IsAtEnd r.rest
   pub printed : List Event
   pub transcript : IsTranscript r.lines printed
@@ -160,7 +160,7 @@ IsOverfilled left r output = (session end size_of_message size : ℕ) × IsStopp
 -- the output is what a replay that has come so far writes, or begins with
 abbrev pub IsOutput : {all : Option (List ℕ)} → Option (List ℕ) → ℕ → ℕ → Replayed all → List ℕ → Type 0
 IsOutput left before now r output = (output ≡ text r.events)
-    ⊎ (IsDone r output
+    ⊎ (IsFinished r output
     ⊎ (IsFaulted left r output
     ⊎ (IsUnread left before now r output
     ⊎ ((fault : Fault) × IsStopped left fault r output))))

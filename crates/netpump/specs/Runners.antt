@@ -12,7 +12,7 @@ use Rattle.two_worlds.specs.declared.applied.Stop.{Stop}
 use Rattle.two_worlds.specs.declared.applied.Stop.TheVariants as stops
 use Rattle.netpump.specs.Sessions.{IsUp, StandsForRunning}
 use Rattle.netpump.specs.Outputs.{Gathers}
-use Rattle.netpump.specs.Replays.{IsDone, IsUnread, IsFaulted, IsFailed, IsOverfilled, IsCutOff, Wrote, WroteFront}
+use Rattle.netpump.specs.Replays.{IsFinished, IsUnread, IsFaulted, IsFailed, IsOverfilled, IsCutOff, Wrote, WroteFront}
 use Rattle.netpump.specs.declared.session.Session.{Session}
 use Rattle.netpump.specs.declared.replay.Outcome.{Outcome}
 use Rattle.netpump.specs.declared.replay.Outcome.TheVariants as outcomes
@@ -32,27 +32,27 @@ outcome_of id (Some (stops.Device role count)) = outcomes.Stopped (faults.Device
 outcome_of id (Some (stops.Full end length size)) = outcomes.Stopped (faults.Full id end length size)
 
 -- a line that prints this leads on, can't be applied, stops the script, or a session could not begin for want of memory
-abbrev pub Goes : Option Begun → Line → Option Session → List Event → Outcome → Type 0
-Goes running line session printed outcomes.Applied =
+abbrev pub TurnGoes : Option Begun → Line → Option Session → List Event → Outcome → Type 0
+TurnGoes running line session printed outcomes.Applied =
     (after : Option Begun) × Leads running line after printed × StandsForRunning session after
-Goes running line session printed outcomes.Refused = IsRefused running line × (printed ≡ [])
-Goes running line session printed (outcomes.Stopped fault) = (after : Option Begun) × Stops running line after printed fault
-Goes running line session printed outcomes.Memory = (running ≡ None) × (printed ≡ [])
-Goes running line session printed outcomes.Unwritten = ⊥
+TurnGoes running line session printed outcomes.Refused = IsRefused running line × (printed ≡ [])
+TurnGoes running line session printed (outcomes.Stopped fault) = (after : Option Begun) × Stops running line after printed fault
+TurnGoes running line session printed outcomes.Memory = (running ≡ None) × (printed ≡ [])
+TurnGoes running line session printed outcomes.Unwritten = ⊥
 
 -- it goes so, and what it prints was added to what was held
 abbrev pub Adds : Option Begun → Line → Option Session → List ℕ → List ℕ → Option (List ℕ) → Option (List ℕ) → Outcome → Type 0
 Adds running line session held later old new outcome =
-    (printed : List Event) × Goes running line session printed outcome × Gathers held later old new (text printed)
+    (printed : List Event) × TurnGoes running line session printed outcome × Gathers held later old new (text printed)
 
 -- so, or what was held and what it prints could not be written
-abbrev pub Does : Option Begun → Line → Option Session → List ℕ → List ℕ → Option (List ℕ) → Option (List ℕ) → Outcome → Type 0
-Does running line session held later old new outcomes.Unwritten =
-    (printed : List Event) × (outcome : Outcome) × Goes running line session printed outcome × AppendsFront old new (held ++ text printed)
-Does running line session held later old new outcomes.Applied = Adds running line session held later old new outcomes.Applied
-Does running line session held later old new outcomes.Refused = Adds running line session held later old new outcomes.Refused
-Does running line session held later old new outcomes.Memory = Adds running line session held later old new outcomes.Memory
-Does running line session held later old new (outcomes.Stopped fault) = Adds running line session held later old new (outcomes.Stopped fault)
+abbrev pub TurnDoes : Option Begun → Line → Option Session → List ℕ → List ℕ → Option (List ℕ) → Option (List ℕ) → Outcome → Type 0
+TurnDoes running line session held later old new outcomes.Unwritten =
+    (printed : List Event) × (outcome : Outcome) × TurnGoes running line session printed outcome × AppendsFront old new (held ++ text printed)
+TurnDoes running line session held later old new outcomes.Applied = Adds running line session held later old new outcomes.Applied
+TurnDoes running line session held later old new outcomes.Refused = Adds running line session held later old new outcomes.Refused
+TurnDoes running line session held later old new outcomes.Memory = Adds running line session held later old new outcomes.Memory
+TurnDoes running line session held later old new (outcomes.Stopped fault) = Adds running line session held later old new (outcomes.Stopped fault)
 
 -- these last bytes were written and the end is this one, or a front of them was and the sink's count rose
 abbrev pub Closes : Option (List ℕ) → Option (List ℕ) → ℕ → ℕ → List ℕ → Ended → Ended → Type 0
@@ -61,7 +61,7 @@ Closes old new before now bytes end result =
 
 -- how a replay ends
 abbrev pub EndsAs : Option (List ℕ) → Option (List ℕ) → Option (List ℕ) → Option (List ℕ) → ℕ → ℕ → Ended → Type 0
-EndsAs all left old new before now ended.Done = Wrote all old new IsDone
+EndsAs all left old new before now ended.Done = Wrote all old new IsFinished
 EndsAs all left old new before now ended.Memory = Appends old new []
 EndsAs all left old new before now ended.Write = WroteFront all old new (IsCutOff left before now)
 EndsAs all left old new before now (ended.Stopped faults.Words) = ⊥

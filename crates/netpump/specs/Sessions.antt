@@ -57,11 +57,11 @@ StandsForRunning (Some session) None = ⊥
 
 -- a line was given to the running session and left it as t: it can be applied, and leads to what t stands
 -- for and prints this; or it can't be, and prints nothing; or it stops the script after it printed this
-abbrev pub Applies : Begun → Line → Session → List Event → Option Stop → Type 0
-Applies running line t printed None =
+abbrev pub SessionApplies : Begun → Line → Session → List Event → Option Stop → Type 0
+SessionApplies running line t printed None =
     (after : Option Begun) × Leads (Some running) line after printed × StandsForRunning (Some t) after
-Applies running line t printed (Some stops.Line) = IsRefused (Some running) line × (printed ≡ [])
-Applies running line t printed (Some (stops.Device role count)) =
+SessionApplies running line t printed (Some stops.Line) = IsRefused (Some running) line × (printed ≡ [])
+SessionApplies running line t printed (Some (stops.Device role count)) =
     (after : Option Begun) × Stops (Some running) line after printed (faults.Device (id_of t) role)
-Applies running line t printed (Some (stops.Full end length size)) =
+SessionApplies running line t printed (Some (stops.Full end length size)) =
     (after : Option Begun) × Stops (Some running) line after printed (faults.Full (id_of t) end length size)

@@ -3,7 +3,7 @@ ghost use Rattle.std.specs.Io.KnownBytes.{Appends};
 ghost use Rattle.pump_frame.specs.Counts.{Rose};
 ghost use Rattle.script_reader.specs.declared.fault.Fault.{Fault as Cause};
 ghost use Rattle.netpump.specs.Statuses.{EndsWith, status_of};
-ghost use Rattle.netpump.specs.Replays.{IsReplay, TellsWords, IsDone, IsUnread, IsFaulted, IsFailed, IsOverfilled, IsCutOff, Wrote, WroteFront};
+ghost use Rattle.netpump.specs.Replays.{IsReplay, TellsWords, IsFinished, IsUnread, IsFaulted, IsFailed, IsOverfilled, IsCutOff, Wrote, WroteFront};
 
 use crate::output::Output;
 use crate::replay::{Ended, replay, stop};
@@ -49,7 +49,7 @@ pub fn batch<I: Source, O: Sink>(
     ensures words { (IsReplay (map string_bytes words.now.items) → ⊥) → TellsWords (O.written out.old) (O.written out.new) result }
     ensures replay { IsReplay (map string_bytes words.now.items) → (result ≡ 2 → ⊥) }
     // How a replay ends.
-    ensures done { result ≡ 0 → Wrote (I.left script.old) (O.written out.old) (O.written out.new) IsDone }
+    ensures done { result ≡ 0 → Wrote (I.left script.old) (O.written out.old) (O.written out.new) IsFinished }
     ensures memory { result ≡ 1 → Appends (O.written out.old) (O.written out.new) [] }
     ensures unread { result ≡ 3 → Wrote (I.left script.old) (O.written out.old) (O.written out.new) (IsUnread (I.left script.new) (I.faults script.old) (I.faults script.new)) }
     ensures unwritten { result ≡ 4 → Rose (O.faults out.old) (O.faults out.new) }

@@ -11,7 +11,7 @@ ghost use Rattle.script_reader.specs.Transcript.{text, fault_line};
 ghost use Rattle.two_worlds.specs.Printing.{lines_in};
 ghost use Rattle.netpump.specs.Sessions.{IsUp, StandsFor, StandsForRunning};
 ghost use Rattle.netpump.specs.Outputs.{held_of, Gathers};
-ghost use Rattle.netpump.specs.Runners.{AreUp, outcome_of, Goes, Does, Closes, EndsAs};
+ghost use Rattle.netpump.specs.Runners.{AreUp, outcome_of, TurnGoes, TurnDoes, Closes, EndsAs};
 
 use crate::output::Output;
 use crate::session::Session;
@@ -61,7 +61,7 @@ fn keep(opened: Result<Session, OutOfMemory>, session: &mut Option<Session>) -> 
 fn begin(alloc: Global, session: &mut Option<Session>, line: &LineHead, body: &Body) -> Outcome
     requires lawful { IsLawfulLine (line_with body.now line.now) }
     requires some { line_with body.now line.now ≢ Line.Skip }
-    ensures { Goes None (line_with body.now line.now) session.new [] result }
+    ensures { TurnGoes None (line_with body.now line.now) session.new [] result }
 {
     // What begins a session has no body.
     let _bytes = body;
@@ -112,7 +112,7 @@ fn go_on<O: Sink>(
     requires some { line_with body.now line.now ≢ Line.Skip }
     requires up { IsUp session.old }
     ensures does { (running : Begun) → StandsFor session.old running
-        → Does (Some running) (line_with body.now line.now) (Some session.new) (held_of output.old) (held_of output.new) (O.written out.old) (O.written out.new) result }
+        → TurnDoes (Some running) (line_with body.now line.now) (Some session.new) (held_of output.old) (held_of output.new) (O.written out.old) (O.written out.new) result }
     ensures later { O.faults out.old ≤ O.faults out.new }
     ensures cause { result ≡ Outcome.Unwritten → Rose (O.faults out.old) (O.faults out.new) }
 {
@@ -137,7 +137,7 @@ fn turn<O: Sink>(
     requires room { CanHoldLine line.now body.now }
     requires up { AreUp session.old }
     ensures does { (running : Option Begun) → StandsForRunning session.old running
-        → Does running (line_with body.now line.now) session.new (held_of output.old) (held_of output.new) (O.written out.old) (O.written out.new) result }
+        → TurnDoes running (line_with body.now line.now) session.new (held_of output.old) (held_of output.new) (O.written out.old) (O.written out.new) result }
     ensures later { O.faults out.old ≤ O.faults out.new }
     ensures cause { result ≡ Outcome.Unwritten → Rose (O.faults out.old) (O.faults out.new) }
 {

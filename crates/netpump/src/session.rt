@@ -10,7 +10,7 @@ ghost use Rattle.script_reader.specs.Past.{fresh};
 ghost use Rattle.script_reader.specs.Tolds.{fresh_low};
 ghost use Rattle.script_reader.specs.Scripts.{Begun, Running, LowRunning, Whole, Alone, Ends};
 ghost use Rattle.two_worlds.specs.Printing.{lines_in};
-ghost use Rattle.netpump.specs.Sessions.{id_of, IsUp, StandsFor, Applies};
+ghost use Rattle.netpump.specs.Sessions.{id_of, IsUp, StandsFor, SessionApplies};
 
 use arrayvec::ArrayVec;
 use disk_model::{PlainDisk, Role};
@@ -82,7 +82,7 @@ impl Session {
         requires room { CanHoldLine line.now body.now }
         requires some { line_with body.now line.now ≢ Line.Skip }
         requires up { IsUp self.old }
-        ensures applies { (running : Begun) → StandsFor self.old running → Applies running (line_with body.now line.now) self.new (lines_in events.new.items) result }
+        ensures applies { (running : Begun) → StandsFor self.old running → SessionApplies running (line_with body.now line.now) self.new (lines_in events.new.items) result }
         ensures id { id_of self.new ≡ id_of self.old }
     {
         match self {

@@ -14,9 +14,9 @@ use Rattle.script_reader.specs.declared.event.Event.{Event}
 use Rattle.pump_core.specs.HighLooks.{Perhaps, Returns, IsSent}
 use Rattle.script_reader.specs.Past.{Past}
 use Rattle.script_reader.specs.Highs.{IsHighLook, is_ahead, IsReturnBy, IsReturn, IsCarried, place}
-use Rattle.script_reader.specs.Steps.{GoesOn, Step}
+use Rattle.script_reader.specs.Steps.{IsCarriedBack, LineStep}
 use Rattle.script_reader.specs.Tolds.{LowPast}
-use Rattle.script_reader.specs.Scripts.{Begun, Whole, Alone, GoesOn as GoesOnBegun, Leads, LeadTo}
+use Rattle.script_reader.specs.Scripts.{Begun, Whole, Alone, GoesOn, Leads, LeadTo}
 use Rattle.script_reader.specs.Readouts.{KeepsBounds}
 use Rattle.script_reader.proofs.Fresh.{fresh_lawful}
 use Rattle.script_reader.proofs.Leading.{IsNew, led}
@@ -100,11 +100,11 @@ return_lawful n s p m k q printed l h = return_by_lawful (is_ahead p.world k) n 
 carry_lawful : (n : ℕ) (s : SessionRow) (p : Past) (back : ℕ) (q : Past) (printed : List Event) → (Stays n) p.world → IsCarried s p back q printed → (Stays n) q.world
 carry_lawful n s p back q printed l c = perhaps_lawful n c.carried TakeBegin (TakeEnd ∷ []) q.world (stays_one n p.world (CarryData (place p.world.sent back)) c.carried l c.carries) c.takes
 
-goes_lawful : (n : ℕ) (s : SessionRow) (hand : Option ℕ) (p : Past) (m : ℕ) (q : Past) (printed : List Event) → (Stays n) p.world → GoesOn s hand p m q printed → (Stays n) q.world
+goes_lawful : (n : ℕ) (s : SessionRow) (hand : Option ℕ) (p : Past) (m : ℕ) (q : Past) (printed : List Event) → (Stays n) p.world → IsCarriedBack s hand p m q printed → (Stays n) q.world
 goes_lawful n s None p m q printed l (e, f) = subst (λ (t : Past). (Stays n) t.world) (sym e) l
 goes_lawful n s (Some k) p m q printed l (mid, first, second, c, h, e) = return_lawful n s mid m (place mid.world.returned 0) q second (carry_lawful n s p 0 mid first l c) h
 
-step_lawful : (n : ℕ) (s : SessionRow) (p : Past) (line : Line) (q : Past) (printed : List Event) → (Stays n) p.world → Step s p line q printed → (Stays n) q.world
+step_lawful : (n : ℕ) (s : SessionRow) (p : Past) (line : Line) (q : Past) (printed : List Event) → (Stays n) p.world → LineStep s p line q printed → (Stays n) q.world
 step_lawful n s p lines.Skip q printed l h = absurd h
 step_lawful n s p (lines.Session row) q printed l h = absurd h
 step_lawful n s p (lines.LowSession row next held) q printed l h = absurd h
@@ -127,7 +127,7 @@ begins_so (Whole s) new =
     subst (λ (p : Past). Stays s.row.capacity p.world × (length p.waits ≤ 64)) (sym new.1) (record { lawful = fresh_lawful s.row new.0; capacity = refl }, omega arith)
 begins_so (Alone s) new = subst (λ (p : LowPast). length p.waits ≤ 64) (sym new.2) (omega arith)
 
-goes_so : (s : Begun) (line : Line) (after : Option Begun) (printed : List Event) → GoesOnBegun s line after printed → Holds (Some s) → Holds after
+goes_so : (s : Begun) (line : Line) (after : Option Begun) (printed : List Event) → GoesOn s line after printed → Holds (Some s) → Holds after
 goes_so (Whole s) line after printed (timely, (q, step, e)) (l, few) =
     subst Holds (sym e) (step_lawful s.row.capacity s.row s.past line q printed l step, step_waits s.row s.past line q printed few step)
 goes_so (Alone s) line after printed (timely, (q, step, e)) few = subst Holds (sym e) (step_low_waits s.row s.past line false q printed step)

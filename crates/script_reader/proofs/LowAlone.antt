@@ -5,7 +5,7 @@ use Rattle.pump_frame.specs.declared.row.SessionRow.{SessionRow}
 use Rattle.script_reader.specs.declared.line.Line.{Line}
 use Rattle.script_reader.specs.declared.line.Line.TheVariants as lines
 use Rattle.script_reader.specs.declared.event.Event.{Event}
-use Rattle.script_reader.specs.Scripts.{LowRunning, Begun, Alone, GoesLow, Leads, LeadTo, IsTranscript}
+use Rattle.script_reader.specs.Scripts.{LowRunning, Begun, Alone, GoesAlone, Leads, LeadTo, IsTranscript}
 use Rattle.script_reader.specs.Sides.{is_lows, low_side_of}
 use Rattle.script_reader.proofs.OneScript.{transcript_one}
 
@@ -31,7 +31,7 @@ record StaysAlone (after : Option Begun) : Type 0 where
   session : LowRunning
   is : after ≡ Some (Alone session)
 
-goes_alone : (s : LowRunning) (line : Line) (after : Option Begun) (printed : List Event) → GoesLow s line after printed → StaysAlone after
+goes_alone : (s : LowRunning) (line : Line) (after : Option Begun) (printed : List Event) → GoesAlone s line after printed → StaysAlone after
 goes_alone s line after printed (timely, (q, step, e)) = record { session = _; is = e }
 
 stays_alone : (s : LowRunning) (line : Line) (after : Option Begun) (printed : List Event) → Leads (Some (Alone s)) line after printed → StaysAlone after

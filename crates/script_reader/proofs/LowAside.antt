@@ -9,7 +9,7 @@ use Rattle.script_reader.specs.declared.event.Event.{Event}
 use Rattle.script_reader.specs.declared.event.Event.TheVariants as prints
 use Rattle.script_reader.specs.Past.{Past}
 use Rattle.script_reader.specs.Highs.{printed_sending, IsRemoval, IsSending, IsHighLook, is_ahead, IsReturnBy, IsReturn, IsCarried, place}
-use Rattle.script_reader.specs.Steps.{GoesOn, IsDone, Step}
+use Rattle.script_reader.specs.Steps.{IsCarriedBack, IsDone, LineStep}
 use Rattle.script_reader.specs.Sides.{is_lows}
 use Rattle.script_reader.proofs.Telling.{said_to_low, said-append}
 use Rattle.script_reader.proofs.LowAlike.{half}
@@ -65,7 +65,7 @@ carry_aside s p back q printed r = record {
   said = ap said_to_low r.printed_is ∙ of_carry s.id r.packet.number (nat_lt r.packet.number (length p.world.received));
 }
 
-goes_aside : (s : SessionRow) (hand : Option ℕ) (p : Past) (m : ℕ) (q : Past) (printed : List Event) → GoesOn s hand p m q printed → Aside p q printed
+goes_aside : (s : SessionRow) (hand : Option ℕ) (p : Past) (m : ℕ) (q : Past) (printed : List Event) → IsCarriedBack s hand p m q printed → Aside p q printed
 goes_aside s None p m q printed (e, f) = record { half = sym (ap half e); said = ap said_to_low f }
 goes_aside s (Some n) p m q printed (mid, first, second, c, h, e) =
     both p mid q first second printed (carry_aside s p 0 mid first c) (return_aside s mid m (place mid.world.returned 0) q second h) e
@@ -74,7 +74,7 @@ done_aside : (s : SessionRow) (p : Past) (m t : ℕ) (q : Past) (printed : List 
 done_aside s p m t q printed (mid, first, second, h, g, e) =
     both p mid q first second printed (high_aside s p m None mid first h) (goes_aside s mid.world.high_hand mid (m + t) q second g) e
 
-pub step_aside : (s : SessionRow) (p : Past) (line : Line) (q : Past) (printed : List Event) → is_lows line ≡ false → Step s p line q printed → Aside p q printed
+pub step_aside : (s : SessionRow) (p : Past) (line : Line) (q : Past) (printed : List Event) → is_lows line ≡ false → LineStep s p line q printed → Aside p q printed
 step_aside s p lines.Skip q printed e h = absurd h
 step_aside s p (lines.Session row) q printed e h = absurd h
 step_aside s p (lines.LowSession row next held) q printed e h = absurd h

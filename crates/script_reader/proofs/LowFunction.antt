@@ -22,8 +22,8 @@ use Rattle.script_reader.specs.declared.event.Event.TheVariants.{End}
 use Rattle.script_reader.specs.Past.{Past}
 use Rattle.script_reader.specs.Lows.{first_of, IsLook}
 use Rattle.script_reader.specs.Tolds.{LowPast, IsToldLook, StepLow}
-use Rattle.script_reader.specs.Steps.{Coming, Arrives, joined, lost, Step, Overfills}
-use Rattle.script_reader.specs.Scripts.{Running, LowRunning, Begun, Whole, Alone, Goes, GoesOn, Leads, LeadTo, Stops, ComesTo, Ends, IsTranscript}
+use Rattle.script_reader.specs.Steps.{LineComing, Arrives, joined, lost, LineStep, Overfills}
+use Rattle.script_reader.specs.Scripts.{Running, LowRunning, Begun, Whole, Alone, GoesWhole, GoesOn, Leads, LeadTo, Stops, ComesTo, Ends, IsTranscript}
 use Rattle.script_reader.specs.Readouts.{low_lines}
 use Rattle.script_reader.specs.Sides.{is_lows, low_side_of, told_to_low, full_moments, averages, look_moment, HaveOwnMoments}
 use Rattle.script_reader.proofs.One.{arrives_one}
@@ -40,7 +40,7 @@ use Rattle.script_reader.proofs.Soundness.{replies_so}
 lost_alike : (p q : Past) → Alike (half p) (half q) → Alike (half (lost p)) (half (lost q))
 lost_alike p q a = record { history = a.history; waits = refl; broken = refl; reading = refl }
 
-joined_alike : (p q : Past) (c d : Coming) → c ≡ d → Alike (half p) (half q) → Alike (half (joined p c)) (half (joined q d))
+joined_alike : (p q : Past) (c d : LineComing) → c ≡ d → Alike (half p) (half q) → Alike (half (joined p c)) (half (joined q d))
 joined_alike p q c d e a = record {
   history = a.history;
   waits = λ i. a.waits i ++ (e i).added;
@@ -53,7 +53,7 @@ abbrev DecidedAt : Line → List Event → List Event → Type 0
 DecidedAt line xs ys = (m : ℕ) → look_moment line ≡ Some m → Decided m xs ys
 
 step_alike : (row : SessionRow) (p q : Past) (line : Line) (p' q' : Past) (xs ys : List Event)
-    → is_lows line ≡ true → Alike (half p) (half q) → Step row p line p' xs → Step row q line q' ys
+    → is_lows line ≡ true → Alike (half p) (half q) → LineStep row p line p' xs → LineStep row q line q' ys
     → DecidedAt line xs ys → Looked p' q' xs ys
 step_alike row p q (lines.Look session m w z) p' q' xs ys own alike (c, comes, (few, h)) (d, comes', (few', k)) decide =
     let same : c ≡ d = arrives_one session q.reading z c d (subst (λ r. Arrives session r z c) alike.reading comes) comes' in
@@ -99,7 +99,7 @@ record IsAside (running after : Option Begun) (printed : List Event) : Type 0 wh
 leads_aside : (running : Option Begun) (line : Line) (after : Option Begun) (printed : List Event) → is_lows line ≡ false → Leads running line after printed → IsAside running after printed
 leads_aside running line after printed own h = by running line own h
   where
-    goes : (s : Running) (line : Line) → is_lows line ≡ false → Goes s line after printed → IsAside (Some (Whole s)) after printed
+    goes : (s : Running) (line : Line) → is_lows line ≡ false → GoesWhole s line after printed → IsAside (Some (Whole s)) after printed
     goes s line own (timely, (q, step, e)) =
         let a = step_aside s.row s.past line q printed own step in
         record { same = ap (Whole' s.row) a.half ∙ sym (ap lows e); said = a.said }
@@ -127,7 +127,7 @@ leads_aside running line after printed own h = by running line own h
 
 -- a line is applied, and goes on or stops the script
 data Moves (running : Option Begun) (line : Line) (after : Option Begun) (printed : List Event) : Type 0 where
-  Goes' : Leads running line after printed → Moves running line after printed
+  GoesWhole' : Leads running line after printed → Moves running line after printed
   Stops' : (fault : Fault) → Stops running line after printed fault → Moves running line after printed
 
 -- low's own lines lead from here to there, with other lines between them, and this is said
@@ -146,7 +146,7 @@ low_leads : (running : Option Begun) (script : List Line) (after : Option Begun)
 low_leads running [] after printed h = (sym (ap lows h.0), ap said_to_low h.1)
 low_leads running (line ∷ script) after printed (mid, first, second, h, later, e) =
     elim (is_lows line) as (λ b. is_lows line ≡ b → LowLeads (lows running) (if b then line ∷ low_side_of script else low_side_of script) (lows after) (said_to_low printed)) [
-      | true ↦ λ own. (running, mid, first, said_to_low second, refl, own, Goes' h, low_leads mid script after second later, ap said_to_low e ∙ said-append first second)
+      | true ↦ λ own. (running, mid, first, said_to_low second, refl, own, GoesWhole' h, low_leads mid script after second later, ap said_to_low e ∙ said-append first second)
       | false ↦ λ own.
           let a = leads_aside running line mid first own h in
           let said : said_to_low printed ≡ said_to_low second = ap said_to_low e ∙ said-append first second ∙ ap (λ l. l ++ said_to_low second) a.said in
@@ -249,7 +249,7 @@ unsaid_step s (lines.Done session k t) q printed m h off = absurd h
 
 unsaid_moves : (r : Option Begun) (line : Line) (s : Option Begun) (printed : List Event) (m : ℕ) → is_lows line ≡ true
     → Moves r line s printed → ((k : ℕ) → look_moment line ≡ Some k → m ≢ k) → IsUnsaid m (said_to_low printed)
-unsaid_moves r line s printed m own (Goes' h) off = unsaid r line s printed m own h off
+unsaid_moves r line s printed m own (GoesWhole' h) off = unsaid r line s printed m own h off
 unsaid_moves None line s printed m own (Stops' fault h) off = absurd h
 unsaid_moves (Some (Whole t)) line s printed m own (Stops' fault (timely, (q, end, n, size, o, f, e))) off = absurd (own_fits t.row t.past line q printed end n size own o)
 unsaid_moves (Some (Alone t)) line s printed m own (Stops' fault (timely, (q, step, f, e))) off = unsaid_step t line q printed m step off
@@ -304,10 +304,10 @@ goes_of s (lines.Done session m t) after printed own h = absurd (cc)
 
 -- a line in two whole sessions
 whole_sessions : (s t : Running) (r' s' : Option Begun) (line : Line) (xs ys : List Event) → is_lows line ≡ true
-    → AlikeFor (lows (Some (Whole s))) (lows (Some (Whole t))) → Goes s line r' xs → Goes t line s' ys
+    → AlikeFor (lows (Some (Whole s))) (lows (Some (Whole t))) → GoesWhole s line r' xs → GoesWhole t line s' ys
     → DecidedAt line xs ys → Both (lows r') (lows s') xs ys
 whole_sessions s t r' s' line xs ys own (row, alike) (timely, (p', h, e)) (timely', (q', k, f)) decide =
-    let both = step_alike s.row s.past t.past line p' q' xs ys own alike h (subst (λ u. Step u t.past line q' ys) (sym row) k) decide in
+    let both = step_alike s.row s.past t.past line p' q' xs ys own alike h (subst (λ u. LineStep u t.past line q' ys) (sym row) k) decide in
     record {
       alike = subst (λ (u : Option Begun × Option Begun). AlikeFor (lows u.0) (lows u.1)) (λ i. (sym e i, sym f i)) (row, both.alike);
       said = both.said;
@@ -355,15 +355,15 @@ both_stop r s r' s' line xs ys fault stop same h k =
 
 line_alike : (r s r' s' : Option Begun) (line : Line) (xs ys : List Event) → is_lows line ≡ true
     → AlikeFor (lows r) (lows s) → Moves r line r' xs → Moves s line s' ys → DecidedAt line xs ys → Both (lows r') (lows s') xs ys
-line_alike r s r' s' line xs ys own alike (Goes' h) (Goes' k) decide = goes_alike r s r' s' line xs ys own alike h k decide
+line_alike r s r' s' line xs ys own alike (GoesWhole' h) (GoesWhole' k) decide = goes_alike r s r' s' line xs ys own alike h k decide
 line_alike r s r' s' line xs ys own alike (Stops' fault h) (Stops' stop k) decide =
     let t = stops_alone s line s' ys stop own k in
     both_stop r s r' s' line xs ys fault stop (same_alone r s t.0 alike t.1) h k
-line_alike r s r' s' line xs ys own alike (Goes' h) (Stops' stop k) decide =
+line_alike r s r' s' line xs ys own alike (GoesWhole' h) (Stops' stop k) decide =
     let t = stops_alone s line s' ys stop own k in
     let same = same_alone r s t.0 alike t.1 in
     absurd (stops_leads s line s' ys stop r' xs k (subst (λ (u : Option Begun). Leads u line r' xs) same h))
-line_alike r s r' s' line xs ys own alike (Stops' fault h) (Goes' k) decide =
+line_alike r s r' s' line xs ys own alike (Stops' fault h) (GoesWhole' k) decide =
     let t = stops_alone r line r' xs fault own h in
     let same = alone_same r s t.0 alike t.1 in
     absurd (stops_leads r line r' xs fault s' ys h (subst (λ (u : Option Begun). Leads u line s' ys) (sym same) k))

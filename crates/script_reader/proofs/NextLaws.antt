@@ -5,13 +5,13 @@ use Rattle.std.specs.Io.KnownBytes.{Keeps, IsAtEnd}
 use Rattle.script_reader.specs.declared.line.Line.{Line}
 use Rattle.script_reader.specs.declared.lines.Lined.{Lined}
 use Rattle.script_reader.specs.declared.lines.Lined.TheVariants as lined
-use Rattle.script_reader.specs.Lines.{LineReading, to_come, is_end, IsUnended, IsNext}
+use Rattle.script_reader.specs.Lines.{LineReading, to_come, is_end, IsUnended, IsNextLine}
 use Rattle.script_reader.specs.Fronts.{IsFirst}
 use Rattle.script_reader.proofs.LineEnds.{ended, ended_some, bad_line, line_come, bad_come, some_come, bad_last, end_come}
 
 line_next : (old now new : LineReading) (left rest : Option (List ℕ)) (line : Line) (len : ℕ)
     → Keeps (to_come old left) (to_come now rest) → now.number ≡ old.number → length now.held ≤ 4096 → position is_end now.held ≡ Some len
-    → IsFirst now new len (lined.Line line) → IsNext old new left rest (lined.Line line)
+    → IsFirst now new len (lined.Line line) → IsNextLine old new left rest (lined.Line line)
 line_next old now new left rest line len keeps same short at f =
     let p = ended now.held len at in
     let bytes = take len now.held in
@@ -27,7 +27,7 @@ line_next old now new left rest line len keeps same short at f =
 
 bad_next : (old now new : LineReading) (left rest : Option (List ℕ)) (len : ℕ)
     → Keeps (to_come old left) (to_come now rest) → now.number ≡ old.number → length now.held ≤ 4096 → position is_end now.held ≡ Some len
-    → IsFirst now new len lined.Bad → IsNext old new left rest lined.Bad
+    → IsFirst now new len lined.Bad → IsNextLine old new left rest lined.Bad
 bad_next old now new left rest len keeps same short at f =
     let p = ended now.held len at in
     rw (f.1) (
@@ -43,7 +43,7 @@ bad_next old now new left rest len keeps same short at f =
 -- the first line of what is held is the next
 pub first_next : (old now new : LineReading) (left rest : Option (List ℕ)) (len : ℕ) (result : Lined)
     → Keeps (to_come old left) (to_come now rest) → now.number ≡ old.number → length now.held ≤ 4096 → position is_end now.held ≡ Some len
-    → IsFirst now new len result → IsNext old new left rest result
+    → IsFirst now new len result → IsNextLine old new left rest result
 first_next old now new left rest len (lined.Line line) keeps same short at f = line_next old now new left rest line len keeps same short at f
 first_next old now new left rest len lined.Bad keeps same short at f = bad_next old now new left rest len keeps same short at f
 first_next old now new left rest len lined.End keeps same short at f = absurd f
@@ -56,7 +56,7 @@ is_empty (x ∷ xs) = inr (λ e. cc)
 pub last_next : (old now new : LineReading) (left rest : Option (List ℕ)) (result : Lined)
     → Keeps (to_come old left) (to_come now rest) → now.number ≡ old.number → IsAtEnd rest → IsUnended now.held → length now.held ≤ 4096
     → (now.held ≡ [] → (result ≡ lined.End) × (new ≡ now)) → (now.held ≢ [] → (result ≡ lined.Bad) × (new ≡ record { held = now.held; number = min (now.number + 1) (2 ^ 32 - 1) }))
-    → IsNext old new left rest result
+    → IsNextLine old new left rest result
 last_next old now new left rest result keeps same end unended short none some =
     elim (is_empty now.held) [
       | inl e ↦ rw ((none e).0, (none e).1) (keeps, end_come (to_come old left) rest now.held keeps end e, same)

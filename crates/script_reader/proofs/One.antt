@@ -22,7 +22,7 @@ use Rattle.pump_core.specs.Sendings.{sends_hand, sending_of}
 use Rattle.script_reader.specs.Past.{Past, high_of}
 use Rattle.script_reader.specs.Lows.{first_of, is_bad, feedback, offers, stored_events, acks_of, printed_store, printed_feedback, printed_replies, IsLook}
 use Rattle.script_reader.specs.Highs.{printed_removal, printed_sending, printed_carry, IsRemoval, IsSending, IsHighLook, is_ahead, IsReturnBy, IsReturn, IsCarried, place}
-use Rattle.script_reader.specs.Steps.{Coming, bad_of, came, IsRead, Arrives, joined, lost, look_of, IsLowLook, IsOfferedLook, GoesOn, Step}
+use Rattle.script_reader.specs.Steps.{LineComing, bad_of, came, IsRead, Arrives, joined, lost, look_of, IsLowLook, IsOfferedLook, IsCarriedBack, LineStep}
 use Rattle.script_reader.specs.declared.line.Arriving.{Arriving}
 use Rattle.script_reader.specs.declared.line.Arriving.TheVariants as arriving
 use Rattle.pump_frame.specs.declared.frame.Frame.{Frame}
@@ -163,7 +163,7 @@ look_one s p m w a q r xs ys (f, h) (g, k) =
     let e : f ≡ g = h.told ∙ ap (λ (b : List Part). feedback s p b a) c ∙ sym k.told in
     look_same s p (look_of m w a f) q r xs ys h (subst (λ (t : Feedback). IsLook s p (look_of m w a t) r ys) (sym e) k)
 
-goes_one : (s : SessionRow) (hand : Option ℕ) (p : Past) (m : ℕ) (q r : Past) (xs ys : List Event) → GoesOn s hand p m q xs → GoesOn s hand p m r ys → Same q r xs ys
+goes_one : (s : SessionRow) (hand : Option ℕ) (p : Past) (m : ℕ) (q r : Past) (xs ys : List Event) → IsCarriedBack s hand p m q xs → IsCarriedBack s hand p m r ys → Same q r xs ys
 goes_one s None p m q r xs ys h k = record { past = h.0 ∙ sym k.0; printed = h.1 ∙ sym k.1 }
 goes_one s (Some n) p m q r xs ys (mid, a, b, c, t, e) (mid', a', b', c', t', e') =
     let x = carry_one s p 0 mid mid' a a' c c' in
@@ -172,32 +172,32 @@ goes_one s (Some n) p m q r xs ys (mid, a, b, c, t, e) (mid', a', b', c', t', e'
 
 -- ---- what comes ----
 
-stream_one : (r : Reading) (bytes : List ℕ) (c d : Coming) → IsRead r bytes c → IsRead r bytes d → c ≡ d
+stream_one : (r : Reading) (bytes : List ℕ) (c d : LineComing) → IsRead r bytes c → IsRead r bytes d → c ≡ d
 stream_one (Within held) bytes c d (fs, h, e) (gs, k, f) =
     let same = streams_one (held ++ bytes) fs gs c.reading d.reading h k in
     let added : c.added ≡ d.added = e ∙ ap (λ (t : List Frame × Reading). came t.0 ++ bad_of t.1) (λ i. (same.0 i, same.1 i)) ∙ sym f in
     λ i. record { added = added i; reading = same.1 i }
 stream_one (Stopped at) bytes c d h k = h ∙ sym k
 
-pub arrives_one : (session : ℕ) (r : Reading) (a : Arriving) (c d : Coming) → Arrives session r a c → Arrives session r a d → c ≡ d
+pub arrives_one : (session : ℕ) (r : Reading) (a : Arriving) (c d : LineComing) → Arrives session r a c → Arrives session r a d → c ≡ d
 arrives_one session r arriving.Nothing c d h k = h ∙ sym k
 arrives_one session r (arriving.Hello l n) c d h k = h ∙ sym k
 arrives_one session r (arriving.Data n b) c d h k = h ∙ sym k
 arrives_one session r (arriving.Raw bytes) c d h k = stream_one r bytes.items c d h k
 
-pub step_one : (s : SessionRow) (p : Past) (line : Line) (q r : Past) (xs ys : List Event) → Step s p line q xs → Step s p line r ys → Same q r xs ys
+pub step_one : (s : SessionRow) (p : Past) (line : Line) (q r : Past) (xs ys : List Event) → LineStep s p line q xs → LineStep s p line r ys → Same q r xs ys
 step_one s p lines.Skip q r xs ys h k = absurd h
 step_one s p (lines.Session row) q r xs ys h k = absurd h
 step_one s p (lines.LowSession row next held) q r xs ys h k = absurd h
 step_one s p (lines.Told session m w fault told a) q r xs ys h k = absurd h
 step_one s p (lines.Look session m w a) q r xs ys (c, comes, (few, h)) (d, comes', (few', k)) =
     let same = arrives_one session p.reading a c d comes comes' in
-    look_one s (joined p c) m w (first_of p.is_broken (joined p c).waits) q r xs ys h (subst (λ (t : Coming). IsOfferedLook s (joined p t) m w r ys) (sym same) k)
+    look_one s (joined p c) m w (first_of p.is_broken (joined p c).waits) q r xs ys h (subst (λ (t : LineComing). IsOfferedLook s (joined p t) m w r ys) (sym same) k)
 step_one s p (lines.Gone session m) q r xs ys h k = look_one s (lost p) m 0 Gone q r xs ys h k
 step_one s p (lines.High session m) q r xs ys h k = high_one s p m None q r xs ys h k
 step_one s p (lines.Carry session back) q r xs ys h k = carry_one s p back q r xs ys h k
 step_one s p (lines.Return session m back) q r xs ys h k = return_one s p m (place p.world.returned back) q r xs ys h k
 step_one s p (lines.Done session m t) q r xs ys (mid, a, b, h, g, e) (mid', a', b', h', g', e') =
     let x = high_one s p m None mid mid' a a' h h' in
-    let y = goes_one s mid.world.high_hand mid (m + t) q r b b' g (subst (λ (u : Past). GoesOn s u.world.high_hand u (m + t) r b') (sym x.past) g') in
+    let y = goes_one s mid.world.high_hand mid (m + t) q r b b' g (subst (λ (u : Past). IsCarriedBack s u.world.high_hand u (m + t) r b') (sym x.past) g') in
     record { past = y.past; printed = e ∙ (λ i. x.printed i ++ y.printed i) ∙ sym e' }

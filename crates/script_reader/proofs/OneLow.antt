@@ -15,7 +15,7 @@ use Rattle.script_reader.specs.declared.line.ToldFeedback.{ToldFeedback}
 use Rattle.script_reader.specs.declared.line.ToldFeedback.TheVariants.{Quiet}
 use Rattle.script_reader.specs.declared.event.Event.{Event}
 use Rattle.script_reader.specs.Lows.{first_of, is_bad, printed_store, printed_feedback, printed_replies}
-use Rattle.script_reader.specs.Steps.{Coming}
+use Rattle.script_reader.specs.Steps.{LineComing}
 use Rattle.script_reader.specs.Tolds.{LowPast, told_feedback, begins_store, IsToldLook, IsToldAt, joined_low, lost_low, IsOfferedTold, StepLow}
 use Rattle.script_reader.proofs.One.{cancel, arrives_one}
 
@@ -64,7 +64,7 @@ pub step_low_one : (s : SessionRow) (p : LowPast) (line : Line) (is_fault : Bool
 step_low_one s p (lines.Told session m w fault told z) is_fault q r xs ys (c, comes, (few, h)) (d, comes', (few', k)) =
     let same = arrives_one session p.reading z c d comes comes' in
     told_at_one s (joined_low p fault c) m w told (first_of p.is_broken (joined_low p fault c).waits) is_fault q r xs ys h
-    (subst (λ (t : Coming). IsOfferedTold s (joined_low p fault t) m w told is_fault r ys) (sym same) (few', k)).1
+    (subst (λ (t : LineComing). IsOfferedTold s (joined_low p fault t) m w told is_fault r ys) (sym same) (few', k)).1
 step_low_one s p (lines.Gone session m) is_fault q r xs ys h k = told_at_one s (lost_low p) m 0 Quiet Gone is_fault q r xs ys h k
 step_low_one s p lines.Skip is_fault q r xs ys h k = absurd h
 step_low_one s p (lines.Session row) is_fault q r xs ys h k = absurd h
@@ -79,7 +79,7 @@ pub one_outcome : (s : SessionRow) (p : LowPast) (line : Line) (d e : Bool) (q r
 one_outcome s p (lines.Told session m w fault told z) d e q r xs ys (c, comes, (few, h)) (c', comes', (few', k)) =
     let same = arrives_one session p.reading z c c' comes comes' in
     outcome_at s (joined_low p fault c) m w told (first_of p.is_broken (joined_low p fault c).waits) d e q r xs ys h
-    (subst (λ (t : Coming). IsOfferedTold s (joined_low p fault t) m w told e r ys) (sym same) (few', k)).1
+    (subst (λ (t : LineComing). IsOfferedTold s (joined_low p fault t) m w told e r ys) (sym same) (few', k)).1
 one_outcome s p (lines.Gone session m) d e q r xs ys h k = outcome_at s (lost_low p) m 0 Quiet Gone d e q r xs ys h k
 one_outcome s p lines.Skip d e q r xs ys h k = absurd h
 one_outcome s p (lines.Session row) d e q r xs ys h k = absurd h

@@ -17,9 +17,9 @@ use Rattle.pump_core.specs.HighLooks.{has_removed}
 use Rattle.script_reader.specs.Past.{Past}
 use Rattle.script_reader.specs.Lows.{printed_store, printed_feedback, printed_replies, IsLook}
 use Rattle.script_reader.specs.Highs.{printed_sending, IsRemoval, IsSending, IsHighLook, is_ahead, IsReturnBy, IsReturn, IsCarried, place}
-use Rattle.script_reader.specs.Steps.{joined, lost, GoesOn, IsDone, Step}
+use Rattle.script_reader.specs.Steps.{joined, lost, IsCarriedBack, IsDone, LineStep}
 use Rattle.script_reader.specs.Tolds.{LowPast, IsToldLook, joined_low, lost_low, StepLow}
-use Rattle.script_reader.specs.Scripts.{Begun, Whole, Alone, GoesOn as GoesOnBegun, Leads, LeadTo}
+use Rattle.script_reader.specs.Scripts.{Begun, Whole, Alone, GoesOn, Leads, LeadTo}
 use Rattle.script_reader.specs.Readouts.{low_line, low_lines, row_of, history_of}
 use Rattle.script_reader.proofs.Leading.{IsNew, led}
 
@@ -97,7 +97,7 @@ carry_aside s p back q printed r = record {
   low = ap low_lines r.printed_is ∙ of_carry s.id r.packet.number (nat_lt r.packet.number (length p.world.received));
 }
 
-goes_aside : (s : SessionRow) (hand : Option ℕ) (p : Past) (m : ℕ) (q : Past) (printed : List Event) → GoesOn s hand p m q printed → Aside p q printed
+goes_aside : (s : SessionRow) (hand : Option ℕ) (p : Past) (m : ℕ) (q : Past) (printed : List Event) → IsCarriedBack s hand p m q printed → Aside p q printed
 goes_aside s None p m q printed (e, f) = record { history = ap (λ (t : Past). t.history) e; low = ap low_lines f }
 goes_aside s (Some n) p m q printed (mid, first, second, c, h, e) =
     both p mid q first second printed (carry_aside s p 0 mid first c) (return_aside s mid m (place mid.world.returned 0) q second h) e
@@ -125,7 +125,7 @@ look_grows : (s : SessionRow) (p : Past) (x : Look) (q : Past) (printed : List E
 look_grows s p x q printed i =
     new_grows s p.history x q.history i.replies i.new printed i.are_replies i.are_replies_with i.history (ap low_lines i.printed_is ∙ of_look s.id x.moment _ x.feedback i.new)
 
-step_grows : (s : SessionRow) (p : Past) (line : Line) (q : Past) (printed : List Event) → Step s p line q printed → Grows s p.history q.history printed
+step_grows : (s : SessionRow) (p : Past) (line : Line) (q : Past) (printed : List Event) → LineStep s p line q printed → Grows s p.history q.history printed
 step_grows s p lines.Skip q printed h = absurd h
 step_grows s p (lines.Session row) q printed h = absurd h
 step_grows s p (lines.LowSession row next held) q printed h = absurd h
@@ -174,7 +174,7 @@ begins_so s after printed rs new e f k =
     let none : rs ++ low_lines printed ≡ [] = (λ i. k i ++ low_lines (f i)) in
     subst (λ (t : Option Begun × List Sent). Replies t.0 t.1) (λ i. (sym e i, sym none i)) (new_replies s new)
 
-goes_so : (s : Begun) (line : Line) (after : Option Begun) (printed : List Event) (rs : List Sent) → GoesOnBegun s line after printed → Replies (Some s) rs → Replies after (rs ++ low_lines printed)
+goes_so : (s : Begun) (line : Line) (after : Option Begun) (printed : List Event) (rs : List Sent) → GoesOn s line after printed → Replies (Some s) rs → Replies after (rs ++ low_lines printed)
 goes_so (Whole s) line after printed rs (timely, (q, step, e)) k =
     subst (λ (t : Option Begun). Replies t (rs ++ low_lines printed)) (sym e) (step_grows s.row s.past line q printed step rs k)
 goes_so (Alone s) line after printed rs (timely, (q, step, e)) k =

@@ -13,7 +13,7 @@ use Rattle.script_reader.specs.declared.event.Event.{Event}
 use Rattle.script_reader.specs.Past.{Past}
 use Rattle.script_reader.specs.Tolds.{LowPast}
 use Rattle.script_reader.specs.Highs.{IsCarried, overfills, IsOverfull}
-use Rattle.script_reader.specs.Steps.{GoesOn as GoesOnCarried, Step, Overfills}
+use Rattle.script_reader.specs.Steps.{IsCarriedBack as GoesOnCarried, LineStep, Overfills}
 use Rattle.script_reader.specs.Scripts.{Begun, Whole, Alone, GoesOn, Leads, LeadTo, Stops, IsTranscript}
 use Rattle.script_reader.proofs.One.{high_one}
 use Rattle.script_reader.proofs.OneLow.{step_low_one, one_outcome}
@@ -31,7 +31,7 @@ overfull_goes : (s : SessionRow) (p : Past) (hand : Option ℕ) (k m end n size 
 overfull_goes s p None k m end n size q printed e o g = cc e
 overfull_goes s p (Some x) k m end n size q printed e o (mid, first, second, c, h, f) = overfull_carries s p 0 end n size mid first o c
 
-overfills_steps : (s : SessionRow) (p : Past) (line : Line) (r : Past) (first : List Event) (end n size : ℕ) (q : Past) (printed : List Event) → Overfills s p line r first end n size → Step s p line q printed → ⊥
+overfills_steps : (s : SessionRow) (p : Past) (line : Line) (r : Past) (first : List Event) (end n size : ℕ) (q : Past) (printed : List Event) → Overfills s p line r first end n size → LineStep s p line q printed → ⊥
 overfills_steps s p (lines.Carry session back) r first end n size q printed h k = overfull_carries s p back end n size q printed h.0 k
 overfills_steps s p (lines.Done session m t) r first end n size q printed (h, (number, hand), o) (mid, a, b, h', g, e) =
     let same = high_one s p m None r mid first a h h' in

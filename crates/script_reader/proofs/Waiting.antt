@@ -10,7 +10,7 @@ use Rattle.script_reader.specs.declared.event.Event.{Event}
 use Rattle.script_reader.specs.Past.{Past}
 use Rattle.script_reader.specs.Highs.{IsHighLook, is_ahead, IsReturnBy, IsReturn, place}
 use Rattle.script_reader.specs.Tolds.{LowPast, joined_low, StepLow}
-use Rattle.script_reader.specs.Steps.{joined, GoesOn, Step}
+use Rattle.script_reader.specs.Steps.{joined, IsCarriedBack, LineStep}
 
 abbrev waits_in : Past → List Arrival
 waits_in p = p.waits
@@ -25,7 +25,7 @@ return_by_waits false s p m n q printed h = high_waits s p m (Some n) q printed 
 return_waits : (s : SessionRow) (p : Past) (m n : ℕ) (q : Past) (printed : List Event) → IsReturn s p m n q printed → q.waits ≡ p.waits
 return_waits s p m n q printed h = return_by_waits (is_ahead p.world n) s p m n q printed h
 
-goes_waits : (s : SessionRow) (hand : Option ℕ) (p : Past) (m : ℕ) (q : Past) (printed : List Event) → GoesOn s hand p m q printed → q.waits ≡ p.waits
+goes_waits : (s : SessionRow) (hand : Option ℕ) (p : Past) (m : ℕ) (q : Past) (printed : List Event) → IsCarriedBack s hand p m q printed → q.waits ≡ p.waits
 goes_waits s None p m q printed h = ap waits_in h.0
 goes_waits s (Some n) p m q printed (mid, a, b, c, h, e) = return_waits s mid m (place mid.world.returned 0) q b h ∙ ap waits_in c.rest
 
@@ -34,7 +34,7 @@ dropped false xs h = h
 dropped true [] h = h
 dropped true (x ∷ xs) h = omega arith
 
-pub step_waits : (s : SessionRow) (p : Past) (line : Line) (q : Past) (printed : List Event) → length p.waits ≤ 64 → Step s p line q printed → length q.waits ≤ 64
+pub step_waits : (s : SessionRow) (p : Past) (line : Line) (q : Past) (printed : List Event) → length p.waits ≤ 64 → LineStep s p line q printed → length q.waits ≤ 64
 step_waits s p lines.Skip q printed h t = absurd t
 step_waits s p (lines.Session row) q printed h t = absurd t
 step_waits s p (lines.LowSession row next held) q printed h t = absurd t

@@ -21,7 +21,7 @@ use Rattle.pump_core.specs.HighLooks.{Returns}
 use Rattle.script_reader.specs.Past.{Past}
 use Rattle.script_reader.specs.Lows.{first_of}
 use Rattle.script_reader.specs.Highs.{IsHighLook, IsCarried, overfills, place}
-use Rattle.script_reader.specs.Steps.{Coming, Arrives, joined}
+use Rattle.script_reader.specs.Steps.{LineComing, Arrives, joined}
 
 -- the look x takes the next message, and the low disk fails in its store: it is refused, and from then
 -- on the life is as good as over
@@ -67,7 +67,7 @@ BreaksOff row mid m roles.High q printed =
 -- the last event unfinished, and this was printed
 abbrev pub Breaks : SessionRow → Past → Line → Role → Past → List Event → Type 0
 Breaks row p (lines.Look session m w a) roles.Low q printed =
-    (c : Coming) × Arrives session p.reading a c × (length (joined p c).waits ≤ 64) × IsLost row (joined p c) m w q printed
+    (c : LineComing) × Arrives session p.reading a c × (length (joined p c).waits ≤ 64) × IsLost row (joined p c) m w q printed
 Breaks row p (lines.Carry session back) roles.Recv q printed = IsUntaken p back q × (printed ≡ [])
 Breaks row p (lines.Return session m back) roles.High q printed =
     IsUnremoved p m (Some (place p.world.returned back)) q × (printed ≡ [])

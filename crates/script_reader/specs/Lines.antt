@@ -44,15 +44,15 @@ IsReady held = (IsUnended held → ⊥) ⊎ (2400 < length held)
 
 -- What the next line of a stream is, by what is to come before the call and after it. `length new.held` says how little
 -- of the source was taken ahead.
-abbrev pub IsNext : LineReading → LineReading → Option (List ℕ) → Option (List ℕ) → Lined → Type 0
-IsNext old new left rest (lined.Line line) = (bytes : List ℕ) × IsUnended bytes × IsLine line bytes
+abbrev pub IsNextLine : LineReading → LineReading → Option (List ℕ) → Option (List ℕ) → Lined → Type 0
+IsNextLine old new left rest (lined.Line line) = (bytes : List ℕ) × IsUnended bytes × IsLine line bytes
     × Consumes (to_come old left) (to_come new rest) (bytes ++ 10 ∷ []) × (new.number ≡ old.number + 1)
     × (length bytes + 1 + length new.held ≤ 4096)
-IsNext old new left rest lined.Bad = Keeps (to_come old left) (to_come new rest)
+IsNextLine old new left rest lined.Bad = Keeps (to_come old left) (to_come new rest)
     × (IfSome (to_come old left) IsBad ⊎ ((old.number ≡ 2 ^ 32 - 1) × IfSome (to_come old left) IsSome))
     × (new.number ≡ min (old.number + 1) (2 ^ 32 - 1)) × (length new.held ≤ 4096)
-IsNext old new left rest lined.End = Keeps (to_come old left) (to_come new rest) × IsAtEnd (to_come old left) × (new.number ≡ old.number)
-IsNext old new left rest lined.Failed = Keeps (to_come old left) (to_come new rest) × (new.number ≡ old.number) × (length new.held ≤ 4096)
+IsNextLine old new left rest lined.End = Keeps (to_come old left) (to_come new rest) × IsAtEnd (to_come old left) × (new.number ≡ old.number)
+IsNextLine old new left rest lined.Failed = Keeps (to_come old left) (to_come new rest) × (new.number ≡ old.number) × (length new.held ≤ 4096)
     × IsUnended new.held
 
 -- ---- how much a call reads ----

@@ -45,23 +45,23 @@ comes_again row count greeted _ = false
 
 -- an offer is told Full exactly where all places between the hands are taken; else the message is
 -- passed, with a read of High's times where its acknowledgement is owed
-abbrev pub told_of_offer : SessionRow → Past → List Part → Feedback
-told_of_offer row p before =
+abbrev pub offer_feedback : SessionRow → Past → List Part → Feedback
+offer_feedback row p before =
     if length p.world.held == row.capacity - 2 then Full
     else if is_owed before then Passed (pair row p)
     else Released
 
 -- a look without an offer reads High's times where it takes a repeated message
-abbrev pub told_of_arrival : SessionRow → Past → List Part → Arrival → Feedback
-told_of_arrival row p before a =
+abbrev pub arrival_feedback : SessionRow → Past → List Part → Arrival → Feedback
+arrival_feedback row p before a =
     if may_take p.history.life.opening before
     && comes_again row (count_after p.history.life.opening before) (greeted_after row before) a
     then Repeat (pair row p) else Quiet
 
 -- a look that begins with a message in the low hand offers it
 abbrev pub feedback_at : SessionRow → Past → List Part → Option ℕ → Arrival → Feedback
-feedback_at row p before (Some n) a = told_of_offer row p before
-feedback_at row p before None a = told_of_arrival row p before a
+feedback_at row p before (Some n) a = offer_feedback row p before
+feedback_at row p before None a = arrival_feedback row p before a
 
 -- the feedback of a look after the parts `before`: a look with Gone asks nothing
 abbrev pub feedback : SessionRow → Past → List Part → Arrival → Feedback

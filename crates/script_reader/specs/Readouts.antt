@@ -28,7 +28,7 @@ history_of (Alone s) = s.past.history
 
 -- no more is live than there are places, no more is held than lies between the hands, the receiver
 -- has a front of the accepted list, and at most 64 arrivals wait
-pub record IsWithin (s : Running) : Type 0 where
+pub record IsBounded (s : Running) : Type 0 where
   pub live : length s.past.world.accepted ≤ s.past.world.removed + s.row.capacity
   pub held : length s.past.world.held ≤ s.row.capacity - 2
   pub prefix : IsPrefixOf s.past.world.received s.past.world.accepted
@@ -36,7 +36,7 @@ pub record IsWithin (s : Running) : Type 0 where
 
 -- .. of a low side alone only what waits is known
 abbrev pub KeepsBounds : Begun → Type 0
-KeepsBounds (Whole s) = IsWithin s
+KeepsBounds (Whole s) = IsBounded s
 KeepsBounds (Alone s) = length s.past.waits ≤ 64
 
 -- what holds of the session that was led to, and of all that was printed on the way: the `low` lines are

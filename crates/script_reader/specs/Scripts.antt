@@ -12,7 +12,7 @@ use Rattle.script_reader.specs.declared.fault.Fault.TheVariants as faults
 use Rattle.script_reader.specs.declared.event.Event.{Event}
 use Rattle.script_reader.specs.declared.event.Event.TheVariants.{End}
 use Rattle.script_reader.specs.Past.{Past, fresh}
-use Rattle.script_reader.specs.Steps.{is_timely, Step, IsRefusedWhole, Overfills}
+use Rattle.script_reader.specs.Steps.{is_timely, LineStep, IsRefusedWhole, Overfills}
 use Rattle.script_reader.specs.Tolds.{LowPast, fresh_low, is_timely_low, StepLow, IsRefusedAlone}
 
 -- a whole session that a script has begun: its row, and what it has been through
@@ -31,35 +31,35 @@ pub data Begun : Type 0 where
   Alone : (s : LowRunning) → Begun
 
 -- a session line begins a lawful row's session
-abbrev pub Begins : SessionRow → Option Begun → Type 0
-Begins row running = IsLawfulRow row × (running ≡ Some (Whole (record { row = row; past = fresh row })))
+abbrev pub BeginsWhole : SessionRow → Option Begun → Type 0
+BeginsWhole row running = IsLawfulRow row × (running ≡ Some (Whole (record { row = row; past = fresh row })))
 
 -- so does the line of a low side alone
-abbrev pub BeginsLow : SessionRow → ℕ → Bool → Option Begun → Type 0
-BeginsLow row next held running =
+abbrev pub BeginsAlone : SessionRow → ℕ → Bool → Option Begun → Type 0
+BeginsAlone row next held running =
     IsLawfulRow row × (running ≡ Some (Alone (record { row = row; past = fresh_low next held })))
 
 -- a line of the session can be applied, and does what it does
-abbrev pub Goes : Running → Line → Option Begun → List Event → Type 0
-Goes s line running printed =
+abbrev pub GoesWhole : Running → Line → Option Begun → List Event → Type 0
+GoesWhole s line running printed =
     (is_timely s.row s.past line ≡ true)
-    × ((q : Past) × Step s.row s.past line q printed × (running ≡ Some (Whole (record { row = s.row; past = q }))))
+    × ((q : Past) × LineStep s.row s.past line q printed × (running ≡ Some (Whole (record { row = s.row; past = q }))))
 
-abbrev pub GoesLow : LowRunning → Line → Option Begun → List Event → Type 0
-GoesLow s line running printed =
+abbrev pub GoesAlone : LowRunning → Line → Option Begun → List Event → Type 0
+GoesAlone s line running printed =
     (is_timely_low s.row s.past line ≡ true)
     × ((q : LowPast) × StepLow s.row s.past line false q printed × (running ≡ Some (Alone (record { row = s.row; past = q }))))
 
 abbrev pub GoesOn : Begun → Line → Option Begun → List Event → Type 0
-GoesOn (Whole s) line running printed = Goes s line running printed
-GoesOn (Alone s) line running printed = GoesLow s line running printed
+GoesOn (Whole s) line running printed = GoesWhole s line running printed
+GoesOn (Alone s) line running printed = GoesAlone s line running printed
 
 -- the line can be applied, leads from `running` to `after`, and prints this: a skipped line does
 -- nothing, the first line that is not skipped begins the session, and all others are the session's
 abbrev pub Leads : Option Begun → Line → Option Begun → List Event → Type 0
 Leads running lines.Skip after printed = (after ≡ running) × (printed ≡ [])
-Leads None (lines.Session row) after printed = Begins row after × (printed ≡ [])
-Leads None (lines.LowSession row next held) after printed = BeginsLow row next held after × (printed ≡ [])
+Leads None (lines.Session row) after printed = BeginsWhole row after × (printed ≡ [])
+Leads None (lines.LowSession row next held) after printed = BeginsAlone row next held after × (printed ≡ [])
 Leads None line after printed = ⊥
 Leads (Some s) line after printed = GoesOn s line after printed
 

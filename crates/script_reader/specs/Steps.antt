@@ -30,11 +30,11 @@ data_frame session number payload = record { kind = kinds.Data; session = sessio
 
 -- what comes with a line: what is added to what waits, and what the reader of the connection then
 -- holds
-pub record Coming : Type 0 where
+pub record LineComing : Type 0 where
   pub added : List Arrival
   pub reading : Reading
 
-abbrev pub coming : List Arrival → Reading → Coming
+abbrev pub coming : List Arrival → Reading → LineComing
 coming added reading = record { added = added; reading = reading }
 
 -- a stream that meets bad bytes ends with one Bad
@@ -47,20 +47,20 @@ came frames = map (λ f. Came f) frames
 
 -- raw bytes go on from what the reader holds: with it they are a stream of frames and its end; after bad
 -- bytes no further byte is read
-abbrev pub IsRead : Reading → List ℕ → Coming → Type 0
+abbrev pub IsRead : Reading → List ℕ → LineComing → Type 0
 IsRead (Within held) bytes c =
     (frames : List Frame) × IsStream (held ++ bytes) frames c.reading × (c.added ≡ came frames ++ bad_of c.reading)
 IsRead (Stopped at) bytes c = c ≡ coming [] (Stopped at)
 
 -- this comes with a `look` line of the session
-abbrev pub Arrives : ℕ → Reading → Arriving → Coming → Type 0
+abbrev pub Arrives : ℕ → Reading → Arriving → LineComing → Type 0
 Arrives session r Nothing c = c ≡ coming [] r
 Arrives session r (Hello low high) c = c ≡ coming (Came (hello_frame session low high) ∷ []) r
 Arrives session r (Data number payload) c = c ≡ coming (Came (data_frame session number payload) ∷ []) r
 Arrives session r (Raw bytes) c = IsRead r bytes.items c
 
 -- the past with what comes added
-abbrev pub joined : Past → Coming → Past
+abbrev pub joined : Past → LineComing → Past
 joined p c = record p { waits = p.waits ++ c.added; reading = c.reading }
 
 -- the past after the connection is lost: nothing waits, and a new connection begins
@@ -96,7 +96,7 @@ is_timely row p (lines.Done session m t) =
 -- with what comes with the line, more than 64 arrivals would wait
 abbrev pub IsCrowded : Past → Line → Type 0
 IsCrowded p (lines.Look session m w a) =
-    (c : Coming) × Arrives session p.reading a c × (64 < length (joined p c).waits)
+    (c : LineComing) × Arrives session p.reading a c × (64 < length (joined p c).waits)
 IsCrowded p line = ⊥
 
 -- the line can't be applied
@@ -117,9 +117,9 @@ abbrev pub IsOfferedLook : SessionRow → Past → ℕ → ℕ → Past → List
 IsOfferedLook row p m w q printed = IsLowLook row p m w (first_of p.is_broken p.waits) q printed
 
 -- after the high look of `done`: a message in the hand is carried, and its TAKEN comes back at m
-abbrev pub GoesOn : SessionRow → Option ℕ → Past → ℕ → Past → List Event → Type 0
-GoesOn row None p m q printed = (q ≡ p) × (printed ≡ [])
-GoesOn row (Some n) p m q printed =
+abbrev pub IsCarriedBack : SessionRow → Option ℕ → Past → ℕ → Past → List Event → Type 0
+IsCarriedBack row None p m q printed = (q ≡ p) × (printed ≡ [])
+IsCarriedBack row (Some n) p m q printed =
     (mid : Past) × (first : List Event) × (second : List Event)
     × IsCarried row p 0 mid first
     × IsReturn row mid m (place mid.world.returned 0) q second
@@ -129,26 +129,26 @@ abbrev pub IsDone : SessionRow → Past → ℕ → ℕ → Past → List Event 
 IsDone row p m t q printed =
     (mid : Past) × (first : List Event) × (second : List Event)
     × IsHighLook row p m None mid first
-    × GoesOn row mid.world.high_hand mid (m + t) q second
+    × IsCarriedBack row mid.world.high_hand mid (m + t) q second
     × (printed ≡ first ++ second)
 
 -- the look of a `look` line, with which this comes: at most 64 arrivals wait before it
-abbrev pub IsJoinedLook : SessionRow → Past → ℕ → ℕ → Coming → Past → List Event → Type 0
+abbrev pub IsJoinedLook : SessionRow → Past → ℕ → ℕ → LineComing → Past → List Event → Type 0
 IsJoinedLook row p m w c q printed = (length (joined p c).waits ≤ 64) × IsOfferedLook row (joined p c) m w q printed
 
 -- the line leads from p to q, and prints this
-abbrev pub Step : SessionRow → Past → Line → Past → List Event → Type 0
-Step row p lines.Skip q printed = ⊥
-Step row p (lines.Session other) q printed = ⊥
-Step row p (lines.LowSession other next held) q printed = ⊥
-Step row p (lines.Told session m w fault told a) q printed = ⊥
-Step row p (lines.Look session m w a) q printed =
-    (c : Coming) × Arrives session p.reading a c × IsJoinedLook row p m w c q printed
-Step row p (lines.Gone session m) q printed = IsLowLook row (lost p) m 0 Gone q printed
-Step row p (lines.High session m) q printed = IsHighLook row p m None q printed
-Step row p (lines.Carry session back) q printed = IsCarried row p back q printed
-Step row p (lines.Return session m back) q printed = IsReturn row p m (place p.world.returned back) q printed
-Step row p (lines.Done session m t) q printed = IsDone row p m t q printed
+abbrev pub LineStep : SessionRow → Past → Line → Past → List Event → Type 0
+LineStep row p lines.Skip q printed = ⊥
+LineStep row p (lines.Session other) q printed = ⊥
+LineStep row p (lines.LowSession other next held) q printed = ⊥
+LineStep row p (lines.Told session m w fault told a) q printed = ⊥
+LineStep row p (lines.Look session m w a) q printed =
+    (c : LineComing) × Arrives session p.reading a c × IsJoinedLook row p m w c q printed
+LineStep row p (lines.Gone session m) q printed = IsLowLook row (lost p) m 0 Gone q printed
+LineStep row p (lines.High session m) q printed = IsHighLook row p m None q printed
+LineStep row p (lines.Carry session back) q printed = IsCarried row p back q printed
+LineStep row p (lines.Return session m back) q printed = IsReturn row p m (place p.world.returned back) q printed
+LineStep row p (lines.Done session m t) q printed = IsDone row p m t q printed
 
 -- the line could be applied, but a message does not fit at the receiver: it has come to q before that,
 -- and printed this; the message's record would begin at `end`

@@ -19,7 +19,7 @@ use Rattle.script_reader.specs.declared.line.Line.TheVariants as lines
 use Rattle.script_reader.specs.declared.line.ToldFeedback.{ToldFeedback}
 use Rattle.script_reader.specs.declared.line.ToldFeedback.TheVariants.{Quiet, Full, Pair}
 use Rattle.script_reader.specs.Lows.{first_of, is_bad, is_owed, comes_again, printed_store, printed_feedback, printed_replies}
-use Rattle.script_reader.specs.Steps.{Coming, Arrives}
+use Rattle.script_reader.specs.Steps.{LineComing, Arrives}
 
 -- what a low side alone has been through
 pub record LowPast : Type 0 where
@@ -136,7 +136,7 @@ IsToldAt row p m w told a is_fault q printed = (f : Feedback)
 -- ---- what comes before a look ----
 
 -- the past with what comes added; a fault that is told arms the disk
-abbrev pub joined_low : LowPast → Bool → Coming → LowPast
+abbrev pub joined_low : LowPast → Bool → LineComing → LowPast
 joined_low p fault c = record p { waits = p.waits ++ c.added; reading = c.reading; is_armed = p.is_armed || fault }
 
 -- the past after the connection is lost: nothing waits, and a new connection begins
@@ -159,7 +159,7 @@ is_timely_low row p _ = false
 -- with what comes with the line, more than 64 arrivals would wait
 abbrev pub IsCrowdedLow : LowPast → Line → Type 0
 IsCrowdedLow p (lines.Told session m w fault told a) =
-    (c : Coming) × Arrives session p.reading a c × (64 < length (joined_low p fault c).waits)
+    (c : LineComing) × Arrives session p.reading a c × (64 < length (joined_low p fault c).waits)
 IsCrowdedLow p line = ⊥
 
 -- the line can't be applied
@@ -169,6 +169,6 @@ IsRefusedAlone row p line = (is_timely_low row p line ≡ false) ⊎ IsCrowdedLo
 -- the line leads from p to q and prints this, and the disk fails in it or not
 abbrev pub StepLow : SessionRow → LowPast → Line → Bool → LowPast → List Event → Type 0
 StepLow row p (lines.Told session m w fault told a) is_fault q printed =
-    (c : Coming) × Arrives session p.reading a c × IsOfferedTold row (joined_low p fault c) m w told is_fault q printed
+    (c : LineComing) × Arrives session p.reading a c × IsOfferedTold row (joined_low p fault c) m w told is_fault q printed
 StepLow row p (lines.Gone session m) is_fault q printed = IsToldAt row (lost_low p) m 0 Quiet Gone is_fault q printed
 StepLow row p _ is_fault q printed = ⊥

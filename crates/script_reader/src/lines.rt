@@ -2,7 +2,7 @@ ghost use Rattle.std.specs.Prelude.{◌≡◌, ◌≢◌, ℕ, ◌+◌, ◌-◌,
 ghost use Rattle.std.specs.Io.KnownBytes.{Keeps, IsAtEnd};
 ghost use Rattle.pump_frame.specs.Counts.{Rose};
 ghost use Rattle.pump_link.specs.Causes.{HasCause};
-ghost use Rattle.script_reader.specs.Lines.{LineReading, to_come, is_end, IsNext, IsReady, ReadsOn};
+ghost use Rattle.script_reader.specs.Lines.{LineReading, to_come, is_end, IsNextLine, IsReady, ReadsOn};
 ghost use Rattle.script_reader.specs.Fronts.{IsFirst, Fills};
 ghost use Rattle.script_reader.specs.Heads.{lined_with, CanHoldNext};
 
@@ -131,7 +131,7 @@ impl Lines {
     /// as long as it is. After any answer but a line, what is still to come is as it was before; after
     /// `Failed` no whole line is held.
     pub fn next<I: Source>(&mut self, script: &mut I) -> Lined
-        ensures next { IsNext self.old self.new (I.left script.old) (I.left script.new) result }
+        ensures next { IsNextLine self.old self.new (I.left script.old) (I.left script.new) result }
         ensures reads { ReadsOn self.old self.new (I.gives script.old) (I.gives script.new) result }
         ensures failed { result ≡ Lined.Failed → Rose (I.faults script.old) (I.faults script.new) }
         ensures later { I.faults script.old ≤ I.faults script.new }
@@ -150,7 +150,7 @@ impl Lines {
     /// As `next`, with the bytes that come with the line in the room. It moves little, where a line
     /// with its bytes has more than 1 KB.
     pub fn next_head<I: Source>(&mut self, script: &mut I, body: &mut Body) -> LinedHead
-        ensures next { IsNext self.old self.new (I.left script.old) (I.left script.new) (lined_with body.new result) }
+        ensures next { IsNextLine self.old self.new (I.left script.old) (I.left script.new) (lined_with body.new result) }
         ensures reads { ReadsOn self.old self.new (I.gives script.old) (I.gives script.new) (lined_with body.new result) }
         ensures room { CanHoldNext result body.new }
         ensures failed { result ≡ LinedHead.Failed → Rose (I.faults script.old) (I.faults script.new) }

@@ -7,7 +7,7 @@ use Rattle.pump_core.specs.History.{Arrival}
 use Rattle.pump_core.specs.History.{Came}
 use Rattle.script_reader.specs.declared.line.Arriving.{Arriving}
 use Rattle.script_reader.specs.Lows.{first_of, is_bad}
-use Rattle.script_reader.specs.Steps.{Coming, coming, IsRead, Arrives}
+use Rattle.script_reader.specs.Steps.{LineComing, coming, IsRead, Arrives}
 use Rattle.low_process.specs.Looks.{IsLawful}
 
 -- what a connection holds
@@ -41,11 +41,11 @@ abbrev pub offered_by : Connected → Arrival
 offered_by c = first_of (is_broken_of c) (waits_of c)
 
 -- the connection with what comes added
-abbrev pub joined : Connected → Coming → Connected
+abbrev pub joined : Connected → LineComing → Connected
 joined c k = record c { waits = waits_of c ++ k.added; reading = k.reading }
 
 -- with this at most 64 arrivals wait, and it is added, or more would wait, and nothing has changed
-abbrev pub JoinsComing : Connected → Connected → Coming → Bool → Type 0
+abbrev pub JoinsComing : Connected → Connected → LineComing → Bool → Type 0
 JoinsComing c d k true = (length (waits_of (joined c k)) ≤ 64) × (d ≡ joined c k)
 JoinsComing c d k false = (64 < length (waits_of (joined c k))) × (d ≡ c)
 
@@ -55,11 +55,11 @@ JoinsFrame c d f fits = JoinsComing c d (coming (Came f ∷ []) (reading_of c)) 
 
 -- what raw bytes bring joins what waits
 abbrev pub JoinsRaw : Connected → Connected → List ℕ → Bool → Type 0
-JoinsRaw c d bytes fits = (k : Coming) × IsRead (reading_of c) bytes k × JoinsComing c d k fits
+JoinsRaw c d bytes fits = (k : LineComing) × IsRead (reading_of c) bytes k × JoinsComing c d k fits
 
 -- what comes with a line of the session joins what waits
 abbrev pub Joins : Connected → Connected → ℕ → Arriving → Bool → Type 0
-Joins c d session a fits = (k : Coming) × Arrives session (reading_of c) a k × JoinsComing c d k fits
+Joins c d session a fits = (k : LineComing) × Arrives session (reading_of c) a k × JoinsComing c d k fits
 
 -- the connection after a look that was offered what waits first, and took it or did not
 abbrev pub settled : Connected → Bool → Connected

@@ -21,7 +21,7 @@ use Rattle.script_reader.specs.declared.event.Event.{Event}
 use Rattle.script_reader.specs.declared.line.ToldFeedback.{ToldFeedback}
 use Rattle.script_reader.specs.declared.line.ToldFeedback.TheVariants.{Quiet, Full, Pair}
 use Rattle.script_reader.specs.declared.line.Arriving.{Arriving}
-use Rattle.script_reader.specs.Steps.{Coming, Arrives}
+use Rattle.script_reader.specs.Steps.{LineComing, Arrives}
 use Rattle.script_reader.specs.Tolds.{LowPast, told_of_read, joined_low, IsOfferedTold}
 use Rattle.two_worlds.specs.Connections.{waits_of, is_broken_of, reading_of}
 use Rattle.two_worlds.specs.declared.applied.Stop.{Stop}
@@ -113,9 +113,9 @@ NeverBars p = ⊥
 
 -- with what comes with a `told` line, more than 64 arrivals would wait
 abbrev pub Crowds : SessionRow → Bool → Arriving → LowPast → Type 0
-Crowds row fault a p = (k : Coming) × Arrives row.id p.reading a k × (64 < length (joined_low p fault k).waits)
+Crowds row fault a p = (k : LineComing) × Arrives row.id p.reading a k × (64 < length (joined_low p fault k).waits)
 
 -- the look of a `told` line
 abbrev pub IsJoinedTold : SessionRow → ℕ → ℕ → Bool → ToldFeedback → Arriving → LowPast → Bool → LowPast → List Event → Type 0
 IsJoinedTold row m w fault told a p is_fault q printed =
-    (k : Coming) × Arrives row.id p.reading a k × IsOfferedTold row (joined_low p fault k) m w told is_fault q printed
+    (k : LineComing) × Arrives row.id p.reading a k × IsOfferedTold row (joined_low p fault k) m w told is_fault q printed

@@ -8,7 +8,7 @@ use Rattle.script_reader.specs.declared.line.Line.TheVariants as lines
 use Rattle.script_reader.specs.declared.event.Event.{Event}
 use Rattle.script_reader.specs.Steps as script
 use Rattle.script_reader.specs.Tolds.{LowPast}
-use Rattle.script_reader.specs.Scripts.{LowRunning, Alone, GoesLow, LeadTo}
+use Rattle.script_reader.specs.Scripts.{LowRunning, Alone, GoesAlone, LeadTo}
 use Rattle.two_worlds.specs.Timelines.{arrived, AreLeft}
 
 -- the opening of the low side's one life, and what happened since, the newest first
@@ -25,7 +25,7 @@ pub record IsLowTimeline (row : SessionRow) (p : LowPast) (events : List Timed) 
 -- connection is lost, each with some feedback
 abbrev pub AreEvents : LowPast → Line → List Timed → Type 0
 AreEvents p (lines.Told session m w fault told a) events =
-    (c : script.Coming) × script.Arrives session p.reading a c × (came : List Coming)
+    (c : script.LineComing) × script.Arrives session p.reading a c × (came : List Coming)
     × (c.added ≡ map arrived came)
     × ((f : Feedback) × (events ≡ Looks m w false false f ∷ reverse (map (λ k. Comes k) came)))
 AreEvents p (lines.Gone session m) events = (f : Feedback) × (events ≡ Looks m 0 true false f ∷ [])
@@ -39,7 +39,7 @@ LowGoesOn row p line events q = (more : List Timed) × IsLowTimeline row q (more
 -- a line goes on with whatever happened to its low side
 abbrev pub LowLinesAreEvents : Type 0
 LowLinesAreEvents = (s : LowRunning) (line : Line) (q : LowPast) (printed : List Event) (events : List Timed)
-    → GoesLow s line (Some (Alone (record { row = s.row; past = q }))) printed
+    → GoesAlone s line (Some (Alone (record { row = s.row; past = q }))) printed
     → IsLowTimeline s.row s.past events → LowGoesOn s.row s.past line events q
 
 -- what came to a script's low side alone, and the looks that it made

@@ -6,7 +6,7 @@ use Rattle.pump_frame.specs.declared.row.SessionRow.{SessionRow}
 use Rattle.script_reader.specs.declared.event.Event.{Event}
 use Rattle.script_reader.specs.declared.line.Line.{Line as ScriptLine}
 use Rattle.script_reader.specs.Past.{Past}
-use Rattle.script_reader.specs.Steps.{is_timely, Step, IsRefusedWhole, Overfills}
+use Rattle.script_reader.specs.Steps.{is_timely, LineStep, IsRefusedWhole, Overfills}
 use Rattle.script_reader.specs.Breaks.{Breaks}
 use Rattle.two_worlds.specs.declared.applied.Stop.{Stop}
 use Rattle.two_worlds.specs.declared.applied.Stop.TheVariants.{Line, Device, Full}
@@ -53,7 +53,7 @@ GoesOnTimed row p line q = (steps : List TimedStep) (point : Point) → IsTimeli
 abbrev pub Applies : {D : Type 0} {g : _} → Meaning D → Pump D g → Pump D g → ScriptLine → Past → List Event → Option Stop → Type 0
 Applies m s t line p printed None =
     (is_timely (row_of s) p line ≡ true)
-    × ((q : Past) × Step (row_of s) p line q printed × StandsFor m t q
+    × ((q : Past) × LineStep (row_of s) p line q printed × StandsFor m t q
     × LeavesFit m s.parts t.parts p q × GoesOnTimed (row_of s) p line q)
 Applies m s t line p printed (Some Line) = IsRefusedWhole (row_of s) p line × (printed ≡ []) × (t ≡ s)
 Applies m s t line p printed (Some (Device role faults)) =

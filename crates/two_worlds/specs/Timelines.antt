@@ -17,7 +17,7 @@ use Rattle.script_reader.specs.declared.event.Event.{Event}
 use Rattle.script_reader.specs.Past.{Past}
 use Rattle.script_reader.specs.Highs.{IsHighLook, IsCarried, is_ahead, place}
 use Rattle.script_reader.specs.Steps as script
-use Rattle.script_reader.specs.Scripts.{Running, Whole as WholeSession, Goes, LeadTo}
+use Rattle.script_reader.specs.Scripts.{Running, Whole as WholeSession, GoesWhole, LeadTo}
 
 -- ---- what waits ----
 
@@ -122,7 +122,7 @@ AreSteps row p (lines.Session other) q steps = ⊥
 AreSteps row p (lines.LowSession other next held) q steps = ⊥
 AreSteps row p (lines.Told session m w fault told a) q steps = ⊥
 AreSteps row p (lines.Look session m w a) q steps =
-    (c : script.Coming) × script.Arrives session p.reading a c × (came : List Coming)
+    (c : script.LineComing) × script.Arrives session p.reading a c × (came : List Coming)
     × (c.added ≡ map arrived came)
     × ((of_look : List Step) × AreLookSteps row q (LowLook m w false false) of_look
     × (steps ≡ of_look ++ reverse (map (λ k. Arrives k) came)))
@@ -147,7 +147,7 @@ RunGoesOn row p line steps q =
 abbrev pub LinesAreSteps : Type 0
 LinesAreSteps = (s : Running) (line : Line) (q : Past) (printed : List Event) (steps : List Step)
     (t : Point)
-    → Goes s line (Some (WholeSession (record { row = s.row; past = q }))) printed
+    → GoesWhole s line (Some (WholeSession (record { row = s.row; past = q }))) printed
     → IsTimeline s.row s.past steps t → RunGoesOn s.row s.past line steps q
 
 -- what a script's session has been through is a timed run

@@ -9,7 +9,7 @@ use Rattle.pump_frame.specs.declared.frame.Kind.{Kind}
 use Rattle.pump_frame.specs.declared.frame.Kind.TheVariants as kinds
 use Rattle.pump_core.specs.History.{Arrival}
 use Rattle.pump_core.specs.Exchanges.{is_data}
-use Rattle.script_reader.specs.Steps.{Coming, came, bad_of, IsRead}
+use Rattle.script_reader.specs.Steps.{LineComing, came, bad_of, IsRead}
 use Rattle.two_worlds.specs.Connections.{AreLawful}
 
 pub all-append : (xs ys : List Arrival) → AreLawful xs → AreLawful ys → AreLawful (xs ++ ys)
@@ -37,7 +37,7 @@ bad_lawful : (r : Reading) → AreLawful (bad_of r)
 bad_lawful (Within held) = tt
 bad_lawful (Stopped at) = (tt, tt)
 
-pub read_lawful : (r : Reading) (bytes : List ℕ) (c : Coming) → IsRead r bytes c → AreLawful c.added
+pub read_lawful : (r : Reading) (bytes : List ℕ) (c : LineComing) → IsRead r bytes c → AreLawful c.added
 read_lawful (Within held) bytes c (fs, h, e) =
     subst AreLawful (sym e) (all-append (came fs) (bad_of c.reading) (frames_lawful fs (stream_lawful (held ++ bytes) fs c.reading h)) (bad_lawful c.reading))
-read_lawful (Stopped at) bytes c e = subst (λ (t : Coming). AreLawful t.added) (sym e) tt
+read_lawful (Stopped at) bytes c e = subst (λ (t : LineComing). AreLawful t.added) (sym e) tt

@@ -5,7 +5,7 @@ use Rattle.pump_frame.specs.Readings.{Reading, Within}
 use Rattle.pump_core.specs.History.{Arrival}
 use Rattle.script_reader.specs.declared.line.Arriving.{Arriving}
 use Rattle.script_reader.specs.Past.{Past}
-use Rattle.script_reader.specs.Steps.{Coming, Arrives, joined, lost}
+use Rattle.script_reader.specs.Steps.{LineComing, Arrives, joined, lost}
 use Rattle.two_worlds.specs.Connections as connections
 use Rattle.two_worlds.specs.Connections.{Connected, waits_of, is_broken_of, reading_of, unused}
 use Rattle.two_worlds.specs.declared.pump.parts.Parts.{Parts}
@@ -46,7 +46,7 @@ module _ {D : Type 0} (m : Meaning D) (c : Parts D) (k : Connected) where
   }
 
   -- what comes joins what waits
-  pub stands_joined : (p : Past) (coming : Coming) → length (waits_of (connections.joined c.connection coming)) ≤ 64 → k ≡ connections.joined c.connection coming
+  pub stands_joined : (p : Past) (coming : LineComing) → length (waits_of (connections.joined c.connection coming)) ≤ 64 → k ≡ connections.joined c.connection coming
       → Stands m c p → Stands m (record c { connection = k }) (joined p coming)
   stands_joined p coming few is s =
       let same : waits_of c.connection ++ coming.added ≡ p.waits ++ coming.added = ap (λ (l : List Arrival). l ++ coming.added) s.arrivals.waits in
@@ -57,7 +57,7 @@ module _ {D : Type 0} (m : Meaning D) (c : Parts D) (k : Connected) where
   pub stands_lost : k ≡ unused → (p : Past) → Stands m c p → Stands m (record c { connection = k }) (lost p)
   stands_lost is p s = stands_with p [] false (Within []) (ap waits_of is) (ap is_broken_of is) (ap reading_of is) (omega arith) s
 
-  pub some_joined : (coming : Coming) → length (waits_of (connections.joined c.connection coming)) ≤ 64 → k ≡ connections.joined c.connection coming
+  pub some_joined : (coming : LineComing) → length (waits_of (connections.joined c.connection coming)) ≤ 64 → k ≡ connections.joined c.connection coming
       → StandsForSome m c → StandsForSome m (record c { connection = k })
   some_joined coming few is s = (joined s.0 coming, stands_joined s.0 coming few is s.1)
 
@@ -65,11 +65,11 @@ module _ {D : Type 0} (m : Meaning D) (c : Parts D) (k : Connected) where
   some_lost is s = (lost s.0, stands_lost is s.0 s.1)
 
 -- what comes with a line comes with it by the past too
-pub arrives_at : {D : Type 0} (m : Meaning D) (c : Parts D) (p : Past) (session : ℕ) (a : Arriving) (coming : Coming) → Stands m c p → Arrives session (reading_of c.connection) a coming → Arrives session p.reading a coming
+pub arrives_at : {D : Type 0} (m : Meaning D) (c : Parts D) (p : Past) (session : ℕ) (a : Arriving) (coming : LineComing) → Stands m c p → Arrives session (reading_of c.connection) a coming → Arrives session p.reading a coming
 arrives_at m c p session a coming s h = subst (λ (r : Reading). Arrives session r a coming) s.arrivals.reading h
 
-pub few_at : {D : Type 0} (m : Meaning D) (c : Parts D) (p : Past) (coming : Coming) → Stands m c p → length (waits_of (connections.joined c.connection coming)) ≤ 64 → length (joined p coming).waits ≤ 64
+pub few_at : {D : Type 0} (m : Meaning D) (c : Parts D) (p : Past) (coming : LineComing) → Stands m c p → length (waits_of (connections.joined c.connection coming)) ≤ 64 → length (joined p coming).waits ≤ 64
 few_at m c p coming s few = subst (λ (l : List Arrival). length (l ++ coming.added) ≤ 64) s.arrivals.waits few
 
-pub many_at : {D : Type 0} (m : Meaning D) (c : Parts D) (p : Past) (coming : Coming) → Stands m c p → 64 < length (waits_of (connections.joined c.connection coming)) → 64 < length (joined p coming).waits
+pub many_at : {D : Type 0} (m : Meaning D) (c : Parts D) (p : Past) (coming : LineComing) → Stands m c p → 64 < length (waits_of (connections.joined c.connection coming)) → 64 < length (joined p coming).waits
 many_at m c p coming s many = subst (λ (l : List Arrival). 64 < length (l ++ coming.added)) s.arrivals.waits many

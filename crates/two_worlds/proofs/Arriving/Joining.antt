@@ -5,7 +5,7 @@ use Rattle.pump_frame.specs.Readings.{Reading, HasBegun}
 use Rattle.pump_core.specs.History.{Arrival}
 use Rattle.script_reader.specs.declared.line.Arriving.{Arriving}
 use Rattle.script_reader.specs.declared.line.Arriving.TheVariants as arriving
-use Rattle.script_reader.specs.Steps.{Coming, coming, IsRead, Arrives}
+use Rattle.script_reader.specs.Steps.{LineComing, coming, IsRead, Arrives}
 use Rattle.two_worlds.specs.declared.connection.Waiting.{Waiting}
 use Rattle.two_worlds.specs.Private.Arrivals.{arrival_of, arrivals_of, IsFed, Gathers}
 use Rattle.two_worlds.specs.Connections.{Connected, AreLawful, JoinsRaw, Joins}
@@ -18,7 +18,7 @@ holding ws broken r = record { waits = arrivals_of ws; is_broken = broken; readi
 
 pub joins_nothing : (ws : List Waiting) (broken : Bool) (r : Reading) (session : ℕ) (a : Arriving) (n : ℕ) → a ≡ arriving.Nothing → n ≡ length ws → n ≤ 64 → Joins (holding ws broken r) (holding ws broken r) session a true
 joins_nothing ws broken r session a n is e few =
-    let k : Coming = coming [] r in
+    let k : LineComing = coming [] r in
     let same : length (arrivals_of ws ++ []) ≡ n = ap length (append-nil (arrivals_of ws)) ∙ length-map ws arrival_of ∙ sym e in (
       k,
       subst (λ (t : Arriving). Arrives session r t k) (sym is) refl,

@@ -10,7 +10,7 @@ use Rattle.pump_frame.specs.Rows.{IsLawfulRow}
 use Rattle.script_reader.specs.declared.event.Event.{Event}
 use Rattle.script_reader.specs.declared.line.Line.{Line as ScriptLine}
 use Rattle.script_reader.specs.Past.{Past}
-use Rattle.script_reader.specs.Steps.{Step, Overfills}
+use Rattle.script_reader.specs.Steps.{LineStep, Overfills}
 use Rattle.script_reader.specs.Breaks.{Breaks}
 use Rattle.std.proofs.Props.{props}
 use Rattle.two_worlds.specs.declared.applied.Stop.{Stop}
@@ -88,7 +88,7 @@ applied m s t line p printed None a = (
   a.0,
   (
     a.1.0,
-    subst (λ (l : List Event). Step (row_of s) p line a.1.0 l) (sym a.1.3) a.1.2,
+    subst (λ (l : List Event). LineStep (row_of s) p line a.1.0 l) (sym a.1.3) a.1.2,
     a.1.4,
     a.1.5,
     λ steps point timeline. line_goes (row_of s) p line a.1.0 a.1.1 steps point a.0 a.1.2 timeline,

@@ -12,7 +12,7 @@ use Rattle.script_reader.specs.declared.event.Event.{Event}
 use Rattle.script_reader.specs.declared.line.Line.TheVariants as lines
 use Rattle.script_reader.specs.Past.{Past}
 use Rattle.script_reader.specs.Highs.{IsHighLook, IsCarried, IsReturn, IsOverfull, place}
-use Rattle.script_reader.specs.Steps.{GoesOn}
+use Rattle.script_reader.specs.Steps.{IsCarriedBack}
 use Rattle.script_reader.specs.Breaks.{IsUntaken, IsUnremoved, BreaksOff}
 use Rattle.two_worlds.specs.declared.applied.Stop.{Stop}
 use Rattle.two_worlds.specs.declared.applied.Stop.TheVariants.{Line, Device, Full}
@@ -58,7 +58,7 @@ module _ {D : Type 0} (m : Meaning D) (c d : Parts D) (moment : ℕ) (out now : 
       NeverOverfills m e d mid now result
 
   abbrev pub CarryBackDoes : Result (Unit {0}) Stop → Type 0
-  CarryBackDoes result = Does (λ p q printed. (n : ℕ) → GoesOn c.row (Some n) p moment q printed) (λ role p q printed. BreaksOff c.row p moment role q printed) IsOverfullSent m c d out now result
+  CarryBackDoes result = Does (λ p q printed. (n : ℕ) → IsCarriedBack c.row (Some n) p moment q printed) (λ role p q printed. BreaksOff c.row p moment role q printed) IsOverfullSent m c d out now result
 
   -- the carry ends it
   pub carry_ends : (stop : Stop) → CarryDoes d now (Err stop) → CarryBackDoes (Err stop)
@@ -98,19 +98,19 @@ module _ {D : Type 0} (m : Meaning D) (c d : Parts D) (moment : ℕ) (out now : 
 
 -- the packet and its TAKEN, by this row
 abbrev pub BackFrom : {D : Type 0} → Meaning D → Parts D → ℕ → ℕ → List Event → SessionRow → Parts D → List Event → Result (Unit {0}) Stop → Type 0
-BackFrom m d moment time now row e mid result = Does (λ p q printed. (n : ℕ) → GoesOn row (Some n) p (moment + time) q printed)
+BackFrom m d moment time now row e mid result = Does (λ p q printed. (n : ℕ) → IsCarriedBack row (Some n) p (moment + time) q printed)
     (λ role p q printed. BreaksOff row p (moment + time) role q printed) IsOverfullSent m e d mid now result
 
 module _ {D : Type 0} (m : Meaning D) (c d : Parts D) (moment time : ℕ) (out now : List Event) where
   abbrev pub HighDoes : Parts D → List Event → Type 0
   HighDoes e mid = Does (λ p q printed. IsHighLook c.row p moment None q printed) NeverBreaks NeverOverfills m c e out mid (Ok tt)
 
-  stops : (hand : Option ℕ) (p : Past) → hand ≡ None → GoesOn c.row hand p (moment + time) p []
+  stops : (hand : Option ℕ) (p : Past) → hand ≡ None → IsCarriedBack c.row hand p (moment + time) p []
   stops None p e = (refl, refl)
   stops (Some n) p e = absurd (cc)
 
-  goes : (hand : Option ℕ) (n : ℕ) (p q : Past) (printed : List Event) → hand ≡ Some n → GoesOn c.row (Some n) p (moment + time) q printed → GoesOn c.row hand p (moment + time) q printed
-  goes hand n p q printed e = subst (λ (o : Option ℕ). GoesOn c.row o p (moment + time) q printed) (sym e)
+  goes : (hand : Option ℕ) (n : ℕ) (p q : Past) (printed : List Event) → hand ≡ Some n → IsCarriedBack c.row (Some n) p (moment + time) q printed → IsCarriedBack c.row hand p (moment + time) q printed
+  goes hand n p q printed e = subst (λ (o : Option ℕ). IsCarriedBack c.row o p (moment + time) q printed) (sym e)
 
   -- the hand is empty
   pub done_here : HighDoes d now → is_some (high.hand_of d.high) ≡ false → Runs m c d (lines.Done c.row.id moment time) out now (Ok tt)

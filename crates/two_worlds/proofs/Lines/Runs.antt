@@ -10,7 +10,7 @@ use Rattle.script_reader.specs.declared.line.Line.{Line as ScriptLine}
 use Rattle.script_reader.specs.declared.line.Line.TheVariants as lines
 use Rattle.script_reader.specs.Past.{Past}
 use Rattle.script_reader.specs.Highs.{IsHighLook, IsCarried, IsReturn, IsOverfull, place}
-use Rattle.script_reader.specs.Steps.{joined, lost, IsOfferedLook, IsLowLook, Step, Overfills}
+use Rattle.script_reader.specs.Steps.{joined, lost, IsOfferedLook, IsLowLook, LineStep, Overfills}
 use Rattle.script_reader.specs.Breaks.{IsLost, IsUntaken, IsUnremoved, Breaks}
 use Rattle.two_worlds.specs.declared.applied.Stop.{Stop}
 use Rattle.two_worlds.specs.declared.applied.Stop.TheVariants.{Line, Device, Full}
@@ -23,7 +23,7 @@ use Rattle.two_worlds.proofs.Arriving.Connected.{stands_joined, stands_lost, arr
 -- what it does from p' is what the line does from p
 pub runs_from : {D : Type 0} (m : Meaning D) (c c' d : Parts D) (line : ScriptLine) (out now : List Event)
     (Leads : Past → Past → List Event → Type 0) (Cuts : Role → Past → Past → List Event → Type 0) (Over : Past → Past → List Event → ℕ → ℕ → ℕ → Type 0) (p from : Past) (result : Result (Unit {0}) Stop)
-    → ((q : Past) (printed : List Event) → Leads from q printed → Step c.row p line q printed)
+    → ((q : Past) (printed : List Event) → Leads from q printed → LineStep c.row p line q printed)
     → ((role : Role) (q : Past) (printed : List Event) → Cuts role from q printed → Breaks c.row p line role q printed)
     → ((q : Past) (printed : List Event) (end k size : ℕ) → Over from q printed end k size → Overfills c.row p line q printed end k size)
     → ((q : Past) → LeavesFit m c' d from q → LeavesFit m c d p q)

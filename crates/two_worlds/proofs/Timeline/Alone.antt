@@ -15,7 +15,7 @@ use Rattle.script_reader.specs.declared.line.ToldFeedback.{ToldFeedback}
 use Rattle.script_reader.specs.declared.event.Event.{Event}
 use Rattle.script_reader.specs.Lows.{first_of}
 use Rattle.script_reader.specs.Tolds.{LowPast, fresh_low, joined_low, lost_low, IsToldLook, StepLow}
-use Rattle.script_reader.specs.Scripts.{LowRunning, Begun, Whole, Alone, GoesLow, GoesOn, Leads, LeadTo}
+use Rattle.script_reader.specs.Scripts.{LowRunning, Begun, Whole, Alone, GoesAlone, GoesOn, Leads, LeadTo}
 use Rattle.script_reader.proofs.Leading.{IsNew, led}
 use Rattle.two_worlds.specs.Timelines.{arrived, AreLeft}
 use Rattle.two_worlds.specs.LowTimelines.{side_of, IsLowTimeline, LowGoesOn}
@@ -184,7 +184,7 @@ low_in other (Some (Whole s)) = other
 low_in other (Some (Alone s)) = s
 
 pub low_line_is_events : (s : LowRunning) (line : Line) (q : LowPast) (printed : List Event) (events : List Timed)
-    → GoesLow s line (Some (Alone (record { row = s.row; past = q }))) printed → IsLowTimeline s.row s.past events → LowGoesOn s.row s.past line events q
+    → GoesAlone s line (Some (Alone (record { row = s.row; past = q }))) printed → IsLowTimeline s.row s.past events → LowGoesOn s.row s.past line events q
 low_line_is_events s line q printed events (timely, (q', step, e)) i =
     let same : record { row = s.row; past = q } ≡ record { row = s.row; past = q' } = ap (low_in s) e in
     subst (λ (x : LowPast). LowGoesOn s.row s.past line events x) (sym (ap (λ (r : LowRunning). r.past) same)) (low_line_goes s.row s.past line q' printed events step i)

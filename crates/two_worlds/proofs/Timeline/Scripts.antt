@@ -24,8 +24,8 @@ use Rattle.script_reader.specs.Past.{Past, fresh}
 use Rattle.script_reader.specs.Highs.{IsHighLook, IsReturn, IsReturnBy, is_ahead, place}
 use Rattle.script_reader.specs.Lows.{IsLook}
 use Rattle.script_reader.specs.Steps as coming
-use Rattle.script_reader.specs.Steps.{bad_of, came, IsRead, Arrives as ArrivesWith, joined, lost, goes_on, is_timely, GoesOn as CarriesOn, Step as LineStep}
-use Rattle.script_reader.specs.Scripts.{Running, Begun, Whole as WholeSession, Alone, Goes, GoesOn as GoesOnBegun, Leads, LeadTo}
+use Rattle.script_reader.specs.Steps.{bad_of, came, IsRead, Arrives as ArrivesWith, joined, lost, goes_on, is_timely, IsCarriedBack as CarriesOn, LineStep}
+use Rattle.script_reader.specs.Scripts.{Running, Begun, Whole as WholeSession, Alone, GoesWhole, GoesOn as GoesOn, Leads, LeadTo}
 use Rattle.script_reader.proofs.Fresh.{row_capacity}
 use Rattle.script_reader.proofs.Leading.{IsNew, led}
 use Rattle.two_worlds.specs.Timelines.{arrived, IsTimeline, high_steps, return_steps, carry_steps, AreLookSteps, AreDoneSteps, AreSteps, RunGoesOn}
@@ -70,14 +70,14 @@ frames_came [] (Within held) = ([], refl)
 frames_came [] (Stopped at) = (Broken ∷ [], refl)
 frames_came (f ∷ frames) r = let k = frames_came frames r in (Whole f ∷ k.0, ap (λ l. arrived (Whole f) ∷ l) k.1)
 
-read_came : (r : Reading) (bytes : List ℕ) (c : coming.Coming) → IsRead r bytes c → Came c.added
+read_came : (r : Reading) (bytes : List ℕ) (c : coming.LineComing) → IsRead r bytes c → Came c.added
 read_came (Within held) bytes c (frames, stream, e) = subst Came (sym e) (frames_came frames c.reading)
-read_came (Stopped at) bytes c e = ([], ap (λ (d : coming.Coming). d.added) e)
+read_came (Stopped at) bytes c e = ([], ap (λ (d : coming.LineComing). d.added) e)
 
-pub arrives_came : (session : ℕ) (r : Reading) (a : Arriving) (c : coming.Coming) → ArrivesWith session r a c → Came c.added
-arrives_came session r arriving.Nothing c e = ([], ap (λ (d : coming.Coming). d.added) e)
-arrives_came session r (arriving.Hello l n) c e = (Whole _ ∷ [], ap (λ (d : coming.Coming). d.added) e)
-arrives_came session r (arriving.Data n b) c e = (Whole _ ∷ [], ap (λ (d : coming.Coming). d.added) e)
+pub arrives_came : (session : ℕ) (r : Reading) (a : Arriving) (c : coming.LineComing) → ArrivesWith session r a c → Came c.added
+arrives_came session r arriving.Nothing c e = ([], ap (λ (d : coming.LineComing). d.added) e)
+arrives_came session r (arriving.Hello l n) c e = (Whole _ ∷ [], ap (λ (d : coming.LineComing). d.added) e)
+arrives_came session r (arriving.Data n b) c e = (Whole _ ∷ [], ap (λ (d : coming.LineComing). d.added) e)
 arrives_came session r (arriving.Raw bytes) c h = read_came r bytes.items c h
 
 -- what the reader holds plays no part
@@ -85,7 +85,7 @@ elsewhere : (row : SessionRow) (p : Past) (steps : List Step) (t : Point) (r : R
 elsewhere row p steps t r i = record { run = i.run; world = i.world; rest = i.rest; high = i.high; waits = i.waits; low_moment = i.low_moment; high_moment = i.high_moment }
 
 -- the past with what comes added
-joins : (row : SessionRow) (p : Past) (steps : List Step) (t : Point) (c : coming.Coming) (k : Came c.added)
+joins : (row : SessionRow) (p : Past) (steps : List Step) (t : Point) (c : coming.LineComing) (k : Came c.added)
     → IsTimeline row p steps t → HasMore row (joined p c) steps (reverse (map (λ x. Arrives x) k.0))
 joins row p steps t c k i =
     let more : List Step = reverse (map (λ x. Arrives x) k.0) in
@@ -204,12 +204,12 @@ HasRun None = Unit {0}
 HasRun (Some (WholeSession s)) = (steps : List Step) × (t : Point) × IsTimeline s.row s.past steps t
 HasRun (Some (Alone s)) = Unit {0}
 
-goes_run : (s : Running) (line : Line) (after : Option Begun) (printed : List Event) → Goes s line after printed → HasRun (Some (WholeSession s)) → HasRun after
+goes_run : (s : Running) (line : Line) (after : Option Begun) (printed : List Event) → GoesWhole s line after printed → HasRun (Some (WholeSession s)) → HasRun after
 goes_run s line after printed (timely, (q, step, e)) (steps, t, i) =
     let (more, u, k, out) = line_goes s.row s.past line q printed steps t timely step i in
     subst HasRun (sym e) (more ++ steps, u, k)
 
-goes_on_run : (s : Begun) (line : Line) (after : Option Begun) (printed : List Event) → GoesOnBegun s line after printed → HasRun (Some s) → HasRun after
+goes_on_run : (s : Begun) (line : Line) (after : Option Begun) (printed : List Event) → GoesOn s line after printed → HasRun (Some s) → HasRun after
 goes_on_run (WholeSession s) line after printed h k = goes_run s line after printed h k
 goes_on_run (Alone s) line after printed (timely, (q, step, e)) k = subst HasRun (sym e) tt
 
@@ -241,7 +241,7 @@ same_session s u e = ap (λ o. session_in s o) e
 
 -- the same of a line that leads from a session that runs
 pub line_is_steps : (s : Running) (line : Line) (q : Past) (printed : List Event) (steps : List Step) (t : Point)
-    → Goes s line (Some (WholeSession (record { row = s.row; past = q }))) printed → IsTimeline s.row s.past steps t → RunGoesOn s.row s.past line steps q
+    → GoesWhole s line (Some (WholeSession (record { row = s.row; past = q }))) printed → IsTimeline s.row s.past steps t → RunGoesOn s.row s.past line steps q
 line_is_steps s line q printed steps t (timely, (q', step, e)) i =
     let same : record { row = s.row; past = q } ≡ record { row = s.row; past = q' } = same_session _ _ e in
     subst (λ (x : Past). RunGoesOn s.row s.past line steps x) (sym (ap (λ (r : Running). r.past) same)) (line_goes s.row s.past line q' printed steps t timely step i)

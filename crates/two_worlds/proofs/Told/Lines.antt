@@ -21,7 +21,7 @@ use Rattle.script_reader.specs.declared.line.Line.TheVariants as lines
 use Rattle.script_reader.specs.declared.line.ToldFeedback.{ToldFeedback}
 use Rattle.script_reader.specs.declared.line.ToldFeedback.TheVariants.{Quiet}
 use Rattle.script_reader.specs.Lows.{first_of}
-use Rattle.script_reader.specs.Steps.{Coming, Arrives}
+use Rattle.script_reader.specs.Steps.{LineComing, Arrives}
 use Rattle.script_reader.specs.Tolds.{LowPast, IsToldAt, joined_low, lost_low, is_timely_low, IsRefusedAlone, StepLow}
 use Rattle.two_worlds.specs.Connections.{Connected, waits_of, is_broken_of, reading_of, unused, joined, Joins}
 use Rattle.two_worlds.specs.LowParts.{PartsStand, StandsForSome, armed_if, EndsBy, Crowds, IsJoinedTold}
@@ -101,7 +101,7 @@ still_of true p store of = record {
 abbrev pub with_comings : LowParts → Connected → LowStore Plain → LowParts
 with_comings c k store = record { row = c.row; connection = k; process = c.process; store = store; moment = c.moment }
 
-pub joins_stand : (c : LowParts) (p : LowPast) (fault : Bool) (come : Coming) → PartsStand c p → PartsStand (with_comings c (joined c.connection come) (armed_if fault c.store)) (joined_low p fault come)
+pub joins_stand : (c : LowParts) (p : LowPast) (fault : Bool) (come : LineComing) → PartsStand c p → PartsStand (with_comings c (joined c.connection come) (armed_if fault c.store)) (joined_low p fault come)
 joins_stand c p fault come was = record {
   row = was.row;
   history = was.history;

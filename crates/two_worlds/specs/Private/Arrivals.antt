@@ -5,7 +5,7 @@ use Rattle.pump_frame.specs.Readings.{Reading, Within, Stopped}
 use Rattle.pump_frame.specs.Streams.{Reads}
 use Rattle.pump_core.specs.History.{Arrival}
 use Rattle.pump_core.specs.History.{Came, Bad}
-use Rattle.script_reader.specs.Steps.{Coming, bad_of, came}
+use Rattle.script_reader.specs.Steps.{LineComing, bad_of, came}
 use Rattle.two_worlds.specs.declared.connection.Waiting.{Waiting}
 use Rattle.two_worlds.specs.declared.connection.Waiting.TheVariants.{Frame as WaitingFrame, Bad as WaitingBad}
 
@@ -28,7 +28,7 @@ newly_bad (Within held) r = bad_of r
 newly_bad (Stopped at) r = []
 
 -- this came of bytes, fed one after the other
-abbrev pub IsFed : Reading → List ℕ → Coming → Type 0
+abbrev pub IsFed : Reading → List ℕ → LineComing → Type 0
 IsFed r bytes c =
     (frames : List Frame) × Reads r bytes frames c.reading
     × (c.added ≡ came frames ++ newly_bad r c.reading)

@@ -8,7 +8,7 @@ use Rattle.script_reader.specs.declared.line.Line.{Line as ScriptLine}
 use Rattle.script_reader.specs.declared.line.Line.TheVariants as lines
 use Rattle.script_reader.specs.Past.{Past}
 use Rattle.script_reader.specs.Highs.{IsOverfull}
-use Rattle.script_reader.specs.Steps.{is_timely, IsCrowded, IsRefusedWhole, Step, Overfills}
+use Rattle.script_reader.specs.Steps.{is_timely, IsCrowded, IsRefusedWhole, LineStep, Overfills}
 use Rattle.script_reader.specs.Breaks.{Breaks}
 use Rattle.two_worlds.specs.declared.applied.Stop.{Stop}
 use Rattle.two_worlds.specs.declared.applied.Stop.TheVariants.{Line, Device, Full}
@@ -51,7 +51,7 @@ IsOverfullSent p q printed end size_of_message size =
 -- the line was carried out, or the device of a disk cut it short, or a message did not fit
 abbrev pub LineDoes : {D : Type 0} → Meaning D → Parts D → Parts D → ScriptLine → List Event → List Event → Past → Result (Unit {0}) Stop → Type 0
 LineDoes m c d line out now p result =
-    DoesFrom (λ p q printed. Step c.row p line q printed)
+    DoesFrom (λ p q printed. LineStep c.row p line q printed)
     (λ role p q printed. Breaks c.row p line role q printed)
     (λ p q printed end size_of_message size. Overfills c.row p line q printed end size_of_message size)
     m c d out now p result

@@ -6,7 +6,7 @@ ghost use Rattle.script_reader.specs.Lawful.{IsLawfulLine, IsLawfulArriving};
 ghost use Rattle.script_reader.specs.declared.line.Line.TheVariants as lines;
 ghost use Rattle.script_reader.specs.Heads.{arriving_with, line_with, CanHold, CanHoldLine};
 ghost use Rattle.script_reader.specs.Past.{Past};
-ghost use Rattle.script_reader.specs.Steps.{GoesOn};
+ghost use Rattle.script_reader.specs.Steps.{IsCarriedBack};
 ghost use Rattle.script_reader.specs.Breaks.{BreaksOff};
 ghost use Rattle.two_worlds.specs.Printing.{lines_in};
 ghost use Rattle.two_worlds.specs.Rooms.{DisksGo};
@@ -127,7 +127,7 @@ impl<D: Disk> Parts<D> {
         requires moment { moment ≤ 2 ^ 62 }
         requires sent { 0 < length self.old.sent.items }
         requires out { length out.old.items ≤ 1 }
-        ensures does { Does (λ p q printed. (n : ℕ) → GoesOn self.old.row (Some n) p moment q printed)
+        ensures does { Does (λ p q printed. (n : ℕ) → IsCarriedBack self.old.row (Some n) p moment q printed)
             (λ role p q printed. BreaksOff self.old.row p moment role q printed)
             IsOverfullSent D.told self.old self.new (lines_in out.old.items) (lines_in out.new.items) result }
         ensures serve { DisksServe D.told self.old self.new result }

@@ -8,7 +8,7 @@ use Rattle.high_process.specs.declared.values.Task.{Task}
 use Rattle.high_process.specs.declared.values.Task.TheVariants.{Refuse, Remove, Keep}
 use Rattle.high_process.specs.declared.process.HighProcess.{HighProcess}
 use Rattle.pump_core.specs.Sendings.{expected}
-use Rattle.high_process.specs.Past.{Past, begun, next_time, published_in, taken_up, finished, wants}
+use Rattle.high_process.specs.Past.{ProcessPast, begun, next_time, published_in, taken_up, finished, wants}
 use Rattle.high_process.specs.Ends.{Takes, told_time, FitsEnd, StandsFitting}
 use Rattle.high_process.specs.Looks.{Stands, Looked}
 use Rattle.high_process.proofs.Looking.{expected_near}
@@ -22,23 +22,23 @@ told_floor None h = refl
 told_floor (Some x) h = refl
 
 -- the end fits the past
-record Fit (h : High) (t : Past) : Type 0 where
+record Fit (h : High) (t : ProcessPast) : Type 0 where
   pub count : length h.times ≡ length t.times
   pub floor : h.floor ≤ expected t.removed t.hand
 
-fit_from : (p : HighProcess) (t : Past) (h : High) → Stands p t → FitsEnd p h → Fit h t
+fit_from : (p : HighProcess) (t : ProcessPast) (h : High) → Stands p t → FitsEnd p h → Fit h t
 fit_from p t h stands fits = record {
   count = fits.count ∙ stands.holds.count;
   floor = subst (λ (c : ℕ × Option Item). h.floor ≤ expected c.0 c.1) (λ i. (stands.holds.removed i, stands.holds.hand i)) fits.floor;
 }
 
-fits_from : (q : HighProcess) (t : Past) (h : High) → Stands q t → Fit h t → FitsEnd q h
+fits_from : (q : HighProcess) (t : ProcessPast) (h : High) → Stands q t → Fit h t → FitsEnd q h
 fits_from q t h stands fit = record {
   count = fit.count ∙ sym stands.holds.count;
   floor = subst (λ (c : ℕ × Option Item). h.floor ≤ expected c.0 c.1) (λ i. (sym stands.holds.removed i, sym stands.holds.hand i)) fit.floor;
 }
 
-fit_begun : (task : Task) (t : Past) (m : ℕ) (h : High) → Fit h t → Fit (told_time (published_in task t m) h) (begun task t m)
+fit_begun : (task : Task) (t : ProcessPast) (m : ℕ) (h : High) → Fit h t → Fit (told_time (published_in task t m) h) (begun task t m)
 fit_begun Remove t m h fit = record {
   count = told_count (next_time t m) h t.times fit.count;
   floor = omega (arith, fit.floor, told_floor (next_time t m) h, expected_near t.removed t.hand);
@@ -46,16 +46,16 @@ fit_begun Remove t m h fit = record {
 fit_begun Keep t m h fit = fit
 fit_begun (Refuse e) t m h fit = fit
 
-takes_fits : (s : Shape) (exact : Bool) (after : Low → High → Type 0) (l : Low) (h : High) (q : HighProcess) (b : Bool) (t : Past) (got : Option Item)
+takes_fits : (s : Shape) (exact : Bool) (after : Low → High → Type 0) (l : Low) (h : High) (q : HighProcess) (b : Bool) (t : ProcessPast) (got : Option Item)
     → Fit h t → ((k : High) → Fit k (taken_up t got) → FitsEnd q k) → Takes s exact after l h b t.removed got → Takes s exact (StandsFitting after q) l h b t.removed got
 takes_fits s exact after l h q true t (Some x) fit ends (is, stands) = (is, (stands, ends (takes h x t.removed) (record { count = fit.count; floor = omega arith })))
 takes_fits s exact after l h q true t None fit ends (is, stands) = (is, (stands, ends (sought h (length h.taken)) (record { count = fit.count; floor = fit.floor })))
 takes_fits s exact after l h q false t got fit ends (none, stands) = (none, (stands, ends h (subst (λ g. Fit h (taken_up t g)) (sym none) fit)))
 
-pub looked_fitting : (s : Shape) (exact : Bool) (after : Low → High → Type 0) (l : Low) (h : High) (p q : HighProcess) (t : Past) (m : ℕ) (task : Task) (a : Bool) (look : HighLook)
+pub looked_fitting : (s : Shape) (exact : Bool) (after : Low → High → Type 0) (l : Low) (h : High) (p q : HighProcess) (t : ProcessPast) (m : ℕ) (task : Task) (a : Bool) (look : HighLook)
     → Stands p t → FitsEnd p h → Looked s exact after l h p q t m task a look → Looked s exact (StandsFitting after q) l h p q t m task a look
 looked_fitting s exact after l h p q t m task a look stands fits seen =
-    let u : Past = begun task t m in
+    let u : ProcessPast = begun task t m in
     record {
       got = seen.got;
       ends = takes_fits s exact after l (told_time (published_in task t m) h) q (wants u) u seen.got (fit_begun task t m h (fit_from p t h stands fits))
@@ -70,9 +70,9 @@ takes_some s exact after l h true n None (is, stands) = (l, (sought h (length h.
 takes_some s exact after l h false n got (none, stands) = (l, (h, stands))
 
 -- there is something that the end and the process stand for after a look
-pub looked_some : (s : Shape) (exact : Bool) (after : Low → High → Type 0) (l : Low) (h : High) (p q : HighProcess) (t : Past) (m : ℕ) (task : Task) (a : Bool) (look : HighLook)
-    → Looked s exact after l h p q t m task a look → (l' : Low) × ((h' : High) × ((t' : Past) × (after l' h' × Stands q t')))
+pub looked_some : (s : Shape) (exact : Bool) (after : Low → High → Type 0) (l : Low) (h : High) (p q : HighProcess) (t : ProcessPast) (m : ℕ) (task : Task) (a : Bool) (look : HighLook)
+    → Looked s exact after l h p q t m task a look → (l' : Low) × ((h' : High) × ((t' : ProcessPast) × (after l' h' × Stands q t')))
 looked_some s exact after l h p q t m task a look seen =
-    let u : Past = begun task t m in
+    let u : ProcessPast = begun task t m in
     let e = takes_some s exact after l (told_time (published_in task t m) h) (wants u) u.removed seen.got seen.ends in
     (e.0, (e.1.0, (finished p.row.resend a (taken_up u seen.got) m, (e.1.1, seen.stands))))

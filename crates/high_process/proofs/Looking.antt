@@ -24,12 +24,12 @@ use Rattle.stable_buffer.specs.High.{high_disk}
 use Rattle.pump_frame.specs.declared.row.SessionRow.{SessionRow as Row}
 use Rattle.pump_core.specs.Sendings.{Sending, last_sending, first_sending, or_else, time_since, is_due, expected}
 use Rattle.high_process.specs.Tasks.{task_taken, task_in, task_of}
-use Rattle.high_process.specs.Past.{Past, next_time, begun, removed_in, published_in, wants, taken_up, is_sent, finished, sent_in}
+use Rattle.high_process.specs.Past.{ProcessPast, next_time, begun, removed_in, published_in, wants, taken_up, is_sent, finished, sent_in}
 use Rattle.high_process.specs.States.{State, state_of, hand_in, hand_of, first_sent, last_sent}
 use Rattle.high_process.specs.Steps.{time_of, counted, wants_of, sends_of, before, with_item, sent_at, after, StepBegins, StepFinishes}
 use Rattle.high_process.specs.Storing.{GivenBack, Removing, Fares, IsAfter, StandsOrRemoved}
 use Rattle.high_process.specs.Ends.{IsTime, Takes, told_time}
-use Rattle.high_process.specs.Looks.{HoldsSends, Holds, Stands, Begins, Finishes, Asked, Looked}
+use Rattle.high_process.specs.Looks.{HoldsSends, Holds, Stands, LookBegins, Finishes, Asked, Looked}
 
 -- ---- sendings ----
 
@@ -67,7 +67,7 @@ sent_now removed m sent sends h =
 
 -- ---- the first half ----
 
-time_is : (s : State) (t : Past) (m : ℕ) → Holds s t → time_of s.published s.sent m ≡ next_time t m
+time_is : (s : State) (t : ProcessPast) (m : ℕ) → Holds s t → time_of s.published s.sent m ≡ next_time t m
 time_is s t m h =
     let first : first_sent s.sent ≡ first_sending t.removed t.sends = sym h.sends.first ∙ ap (λ n. first_sending n t.sends) h.removed in
     ap (λ (c : ℕ × Option ℕ). if nat_lt c.0 (2 ^ 32 - 1) then time_since c.1 m else None) (λ i. (h.count i, first i))
@@ -76,10 +76,10 @@ counted_is : (o : Option ℕ) (times : List ℕ) (n : ℕ) → n ≡ length time
 counted_is None times n e = e ∙ ap length (sym (append-nil times))
 counted_is (Some x) times n e = omega (arith, e, length-append times (x ∷ []))
 
-wants_is : (s : State) (t : Past) → Holds s t → wants_of s.removed s.hand ≡ wants t
+wants_is : (s : State) (t : ProcessPast) → Holds s t → wants_of s.removed s.hand ≡ wants t
 wants_is s t h = ap (λ (c : ℕ × Option Item). not (is_some c.1) && nat_lt c.0 (2 ^ 48)) (λ i. (h.removed i, h.hand i))
 
-removed_holds : (s : State) (t : Past) (m : ℕ) (a : Bool) → Holds s t → Holds (before Remove s m a) (begun Remove t m)
+removed_holds : (s : State) (t : ProcessPast) (m : ℕ) (a : Bool) → Holds s t → Holds (before Remove s m a) (begun Remove t m)
 removed_holds s t m a h = record {
   removed = ap (λ n. n + 1) h.removed;
   hand = refl;
@@ -87,19 +87,19 @@ removed_holds s t m a h = record {
   sends = next_unsent s.removed s.sent t.sends h.sends;
 }
 
-kept_holds : (s : State) (t : Past) (m : ℕ) (a : Bool) → Holds s t → Holds (before Keep s m a) t
+kept_holds : (s : State) (t : ProcessPast) (m : ℕ) (a : Bool) → Holds s t → Holds (before Keep s m a) t
 kept_holds s t m a h = record { removed = h.removed; hand = h.hand; count = h.count; sends = h.sends }
 
-record Begun (q : State) (t : Past) (m : ℕ) (removed time : Option ℕ) (a : Bool) (ask : HighAsk) : Type 0 where
+record Begun (q : State) (t : ProcessPast) (m : ℕ) (removed time : Option ℕ) (a : Bool) (ask : HighAsk) : Type 0 where
   asking : q.asking ≡ Some (record { removed = removed; published = time; attaches = a; wants = wants t })
   holds : Holds q t
   last : q.last ≡ m
   is : ask ≡ record { publish = time; wants = wants t; removed = t.removed }
 
-asking_is : (s : State) (t : Past) (removed time time' : Option ℕ) (a : Bool) → Holds s t → time ≡ time' → Some (record { removed = removed; published = time; attaches = a; wants = wants_of s.removed s.hand }) ≡ (let x : Option Asking = Some (record { removed = removed; published = time'; attaches = a; wants = wants t }) in x)
+asking_is : (s : State) (t : ProcessPast) (removed time time' : Option ℕ) (a : Bool) → Holds s t → time ≡ time' → Some (record { removed = removed; published = time; attaches = a; wants = wants_of s.removed s.hand }) ≡ (let x : Option Asking = Some (record { removed = removed; published = time'; attaches = a; wants = wants t }) in x)
 asking_is s t removed time time' a h e = λ i. Some (record { removed = removed; published = e i; attaches = a; wants = wants_is s t h i })
 
-begun_from : (s q : State) (t : Past) (m : ℕ) (task : Task) (a : Bool) (ask : HighAsk) → Holds s t → StepBegins s q m task a ask → Begun q (begun task t m) m (removed_in task t) (published_in task t m) a ask
+begun_from : (s q : State) (t : ProcessPast) (m : ℕ) (task : Task) (a : Bool) (ask : HighAsk) → Holds s t → StepBegins s q m task a ask → Begun q (begun task t m) m (removed_in task t) (published_in task t m) a ask
 begun_from s q t m (Refuse e) a ask h step = absurd step
 begun_from s q t m Keep a ask h (is, asked) =
     let k = kept_holds s t m a h in
@@ -112,7 +112,7 @@ begun_from s q t m Keep a ask h (is, asked) =
 begun_from s q t m Remove a ask h (is, asked) =
     let k = removed_holds s t m a h in
     let b : State = before Remove s m a in
-    let u : Past = begun Remove t m in
+    let u : ProcessPast = begun Remove t m in
     let time = time_is s t m h in
     record {
       asking = ap (λ (r : State). r.asking) is ∙ (λ i. Some (record { removed = Some (h.removed i); published = time i; attaches = a; wants = wants_is b u k i }));
@@ -121,14 +121,14 @@ begun_from s q t m Remove a ask h (is, asked) =
       is = asked ∙ (λ i. record { publish = time i; wants = wants_is b u k i; removed = k.removed i });
     }
 
-pub begins_from : (p q : HighProcess) (m : ℕ) (task : Task) (a : Bool) (ask : HighAsk) → StepBegins (state_of p) (state_of q) m task a ask → Begins p q m task a ask
+pub begins_from : (p q : HighProcess) (m : ℕ) (task : Task) (a : Bool) (ask : HighAsk) → StepBegins (state_of p) (state_of q) m task a ask → LookBegins p q m task a ask
 begins_from p q m task a ask step = λ t stands.
     let b = begun_from (state_of p) (state_of q) t m task a ask stands.holds step in
     (record { asking = b.asking; holds = b.holds; last = b.last }, b.is)
 
 -- ---- the second half ----
 
-item_holds : (s : State) (t : Past) (item : Option Item) → Holds s t → Holds (with_item s item) (taken_up t item)
+item_holds : (s : State) (t : ProcessPast) (item : Option Item) → Holds s t → Holds (with_item s item) (taken_up t item)
 item_holds s t None h = h
 item_holds s t (Some x) h = record { removed = h.removed; hand = λ i. Some (record { number = h.removed i; payload = x.payload }); count = h.count; sends = h.sends }
 
@@ -136,17 +136,17 @@ item_last : (s : State) (item : Option Item) → (with_item s item).last ≡ s.l
 item_last s None = refl
 item_last s (Some x) = refl
 
-sends_is : (resend : ℕ) (s : State) (t : Past) (a : Bool) (n m : ℕ) → n ≡ m → Holds s t → sends_of resend s a n ≡ is_sent resend a t m
+sends_is : (resend : ℕ) (s : State) (t : ProcessPast) (a : Bool) (n m : ℕ) → n ≡ m → Holds s t → sends_of resend s a n ≡ is_sent resend a t m
 sends_is resend s t a n m last h =
     let late : last_sent s.sent ≡ last_sending t.removed t.sends = sym h.sends.last ∙ ap (λ n. last_sending n t.sends) h.removed in
     ap (λ (c : Option Item × (Option ℕ × ℕ)). is_some c.0 && (a || is_due resend c.1.0 c.1.1)) (λ i. (h.hand i, (late i, last i)))
 
-sends_after : (b : Bool) (s : State) (t : Past) (m : ℕ) → s.last ≡ m → Holds s t
+sends_after : (b : Bool) (s : State) (t : ProcessPast) (m : ℕ) → s.last ≡ m → Holds s t
     → HoldsSends s.removed (if b then sent_at s.sent s.last else s.sent) (if b then record { number = t.removed; moment = m } ∷ t.sends else t.sends)
 sends_after false s t m last h = h.sends
 sends_after true s t m last h = subst (λ (c : ℕ × ℕ). HoldsSends s.removed (sent_at s.sent s.last) (record { number = c.0; moment = c.1 } ∷ t.sends)) (λ i. (h.removed i, last i)) (sent_now s.removed s.last s.sent t.sends h.sends)
 
-after_holds : (resend : ℕ) (a : Bool) (s : State) (t : Past) (m : ℕ) → s.last ≡ m → Holds s t → Holds (after resend a s) (finished resend a t m)
+after_holds : (resend : ℕ) (a : Bool) (s : State) (t : ProcessPast) (m : ℕ) → s.last ≡ m → Holds s t → Holds (after resend a s) (finished resend a t m)
 after_holds resend a s t m last h = record {
   removed = h.removed;
   hand = h.hand;
@@ -155,7 +155,7 @@ after_holds resend a s t m last h = record {
       (sends_is resend s t a s.last m last h) (sends_after (sends_of resend s a s.last) s t m last h);
 }
 
-taken_removed : (t : Past) (item : Option Item) → (taken_up t item).removed ≡ t.removed
+taken_removed : (t : ProcessPast) (item : Option Item) → (taken_up t item).removed ≡ t.removed
 taken_removed t None = refl
 taken_removed t (Some x) = refl
 
@@ -163,7 +163,7 @@ pub finishes_from : (p q : HighProcess) (item : Option Item) (look : HighLook) �
 finishes_from p q item look step = λ t m removed time a asks.
     let s = state_of p in
     let r : State = with_item s item in
-    let u : Past = taken_up t item in
+    let u : ProcessPast = taken_up t item in
     let d = step (record { removed = removed; published = time; attaches = a; wants = wants t }) asks.asking in
     let h : Holds r u = item_holds s t item asks.holds in
     let last : r.last ≡ m = item_last s item ∙ asks.last in
@@ -323,9 +323,9 @@ small_publish p q m (Refuse e) a ask step = absurd step
 
 -- ---- what `begin` ensures, by its steps ----
 
-pub begins_all : (p q : HighProcess) (m : ℕ) (task task' : Task) (a a' : Bool) (r : Result HighAsk HighFault) → task ≡ task' → a ≡ a' → IfOk r (λ ask. StepBegins (state_of p) (state_of q) m task a ask) → IfOk r (λ ask. Begins p q m task' a' ask)
+pub begins_all : (p q : HighProcess) (m : ℕ) (task task' : Task) (a a' : Bool) (r : Result HighAsk HighFault) → task ≡ task' → a ≡ a' → IfOk r (λ ask. StepBegins (state_of p) (state_of q) m task a ask) → IfOk r (λ ask. LookBegins p q m task' a' ask)
 begins_all p q m task task' a a' (Err e) same same' h = tt
-begins_all p q m task task' a a' (Ok ask) same same' h = subst (λ (t : Task × Bool). Begins p q m t.0 t.1 ask) (λ i. (same i, same' i)) (begins_from p q m task a ask h)
+begins_all p q m task task' a a' (Ok ask) same same' h = subst (λ (t : Task × Bool). LookBegins p q m t.0 t.1 ask) (λ i. (same i, same' i)) (begins_from p q m task a ask h)
 
 wanted_keep : (removed : ℕ) (hand : Option Item) → wants_of removed hand ≡ true → removed ≡ expected removed hand
 wanted_keep removed None e = refl
@@ -396,8 +396,8 @@ module _ {D : Type 0} (m : Meaning D) (row : Row) (session removed : ℕ) (hand 
   images T p q r Keep is f = same_images f.1
   images T p q r Remove is f = removed_images (removal session removed hand frame (sym is)).given f.0.moves
 
-pub looked : (s : Shape) (exact : Bool) (after' : Low → High → Type 0) (l : Low) (h : High) (p q q' : HighProcess) (t : Past) (m : ℕ) (task : Task) (a : Bool) (ask : HighAsk) (item : Option Item) (look : HighLook)
-    → q.row.resend ≡ p.row.resend → Begins p q m task a ask → Finishes q q' item look → Takes s exact after' l (told_time ask.publish h) ask.wants ask.removed item → Stands p t
+pub looked : (s : Shape) (exact : Bool) (after' : Low → High → Type 0) (l : Low) (h : High) (p q q' : HighProcess) (t : ProcessPast) (m : ℕ) (task : Task) (a : Bool) (ask : HighAsk) (item : Option Item) (look : HighLook)
+    → q.row.resend ≡ p.row.resend → LookBegins p q m task a ask → Finishes q q' item look → Takes s exact after' l (told_time ask.publish h) ask.wants ask.removed item → Stands p t
     → Looked s exact after' l h p q' t m task a look
 looked s exact after' l h p q q' t m task a ask item look same begins finishes takes holds =
     let b = begins t holds in

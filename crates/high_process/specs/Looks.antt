@@ -9,7 +9,7 @@ use Rattle.high_process.specs.declared.values.Sent.{Sent}
 use Rattle.high_process.specs.declared.values.Task.{Task}
 use Rattle.high_process.specs.declared.process.HighProcess.{HighProcess}
 use Rattle.pump_core.specs.Sendings.{Sending, last_sending, first_sending, expected}
-use Rattle.high_process.specs.Past.{Past, begun, removed_in, published_in, wants, taken_up, finished, sent_in}
+use Rattle.high_process.specs.Past.{ProcessPast, begun, removed_in, published_in, wants, taken_up, finished, sent_in}
 use Rattle.high_process.specs.States.{State, state_of, removed_of, hand_of, first_sent, last_sent}
 use Rattle.high_process.specs.Ends.{IsTime, told_time, Takes}
 
@@ -24,33 +24,33 @@ pub record HoldsSends (removed : ℕ) (sent : Option Sent) (sends : List Sending
   pub later : (n : ℕ) → removed + 1 ≤ n → last_sending n sends ≡ None
 
 -- the state is what this past leaves
-pub record Holds (s : State) (t : Past) : Type 0 where
+pub record Holds (s : State) (t : ProcessPast) : Type 0 where
   pub removed : s.removed ≡ t.removed
   pub hand : s.hand ≡ t.hand
   pub count : s.published ≡ length t.times
   pub sends : HoldsSends s.removed s.sent t.sends
 
 -- between two looks: the process stands for this past
-pub record Stands (p : HighProcess) (t : Past) : Type 0 where
+pub record Stands (p : HighProcess) (t : ProcessPast) : Type 0 where
   pub asking : p.asking ≡ None
   pub holds : Holds (state_of p) t
   pub last : p.last ≡ t.moment
 
 -- within a look at m, which removed and published this: it stands for the past after the first half
-pub record AsksFor (p : HighProcess) (t : Past) (m : ℕ) (removed published : Option ℕ) (attaches : Bool) : Type 0 where
+pub record AsksFor (p : HighProcess) (t : ProcessPast) (m : ℕ) (removed published : Option ℕ) (attaches : Bool) : Type 0 where
   pub asking : p.asking ≡ Some (record { removed = removed; published = published; attaches = attaches; wants = wants t })
   pub holds : Holds (state_of p) t
   pub last : p.last ≡ m
 
 -- the first half of a look: it asks for what its past wants, once that past has the removal
-abbrev pub Begins : HighProcess → HighProcess → ℕ → Task → Bool → HighAsk → Type 0
-Begins p q m task attaches ask = (t : Past) → Stands p t →
+abbrev pub LookBegins : HighProcess → HighProcess → ℕ → Task → Bool → HighAsk → Type 0
+LookBegins p q m task attaches ask = (t : ProcessPast) → Stands p t →
     AsksFor q (begun task t m) m (removed_in task t) (published_in task t m) attaches
     × (ask ≡ record { publish = published_in task t m; wants = wants (begun task t m); removed = (begun task t m).removed })
 
 -- the second half: the past has the message that came, and the sending
 abbrev pub Finishes : HighProcess → HighProcess → Option Item → HighLook → Type 0
-Finishes p q item look = (t : Past) (m : ℕ) (removed published : Option ℕ) (attaches : Bool) → AsksFor p t m removed published attaches →
+Finishes p q item look = (t : ProcessPast) (m : ℕ) (removed published : Option ℕ) (attaches : Bool) → AsksFor p t m removed published attaches →
     Stands q (finished p.row.resend attaches (taken_up t item) m)
     × (look ≡ record { removed = removed; published = published; sent = sent_in p.row.resend attaches (taken_up t item) m })
 
@@ -73,7 +73,7 @@ pub record Asked (p q : HighProcess) (ask : HighAsk) : Type 0 where
 
 -- a look: what the process and its end stood for, they stand for after it with its steps. `after` is
 -- what the end stands for then
-pub record Looked (s : Shape) (exact : Bool) (after : Low → High → Type 0) (l : Low) (h : High) (p q : HighProcess) (t : Past) (m : ℕ) (task : Task) (attaches : Bool) (look : HighLook) : Type 0 where
+pub record Looked (s : Shape) (exact : Bool) (after : Low → High → Type 0) (l : Low) (h : High) (p q : HighProcess) (t : ProcessPast) (m : ℕ) (task : Task) (attaches : Bool) (look : HighLook) : Type 0 where
   pub got : Option Item
   pub ends : Takes s exact after l (told_time (published_in task t m) h) (wants (begun task t m)) (begun task t m).removed got
   pub stands : Stands q (finished p.row.resend attaches (taken_up (begun task t m) got) m)

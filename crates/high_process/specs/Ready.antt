@@ -5,7 +5,7 @@ use Rattle.stable_buffer.specs.High.{IsHighReady, high_count}
 use Rattle.stable_buffer.specs.declared.high.HighStore.{HighStore}
 use Rattle.pump_core.specs.Passage.{Low, High}
 use Rattle.high_process.specs.declared.process.HighProcess.{HighProcess}
-use Rattle.high_process.specs.Past.{Past}
+use Rattle.high_process.specs.Past.{ProcessPast}
 use Rattle.high_process.specs.States.{removed_of, is_down, IsBetweenLooks}
 use Rattle.high_process.specs.Ends.{StandsFitting}
 use Rattle.high_process.specs.Looks.{Stands}
@@ -16,7 +16,7 @@ pub record Ready {D : Type 0} (m : Meaning D) (p : HighProcess) (store : HighSto
   pub up : is_down p ≡ false
   pub ready : IsHighReady m store
   pub count : high_count store ≡ removed_of p
-  pub t : Past
+  pub t : ProcessPast
   pub past : Stands p t
   pub l : Low
   pub h : High

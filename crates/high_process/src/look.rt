@@ -2,11 +2,11 @@ ghost use Rattle.std.specs.Prelude.{◌≡◌, ℕ, ◌^◌, ◌<◌, ◌≤◌,
 ghost use Rattle.stable_buffer.specs.High.{IsHighReady, high_count};
 ghost use Rattle.pump_core.specs.Passage.{Low, High};
 ghost use Rattle.high_process.specs.Tasks.{frame_of};
-ghost use Rattle.high_process.specs.Past.{Past};
+ghost use Rattle.high_process.specs.Past.{ProcessPast};
 ghost use Rattle.high_process.specs.States.{row_of, removed_of, last_of, is_down, task_at, attaches_at, IsBetweenLooks};
 ghost use Rattle.high_process.specs.Storing.{Fares, IsAfter, LeavesCounted};
 ghost use Rattle.high_process.specs.Ends.{StandsFitting};
-ghost use Rattle.high_process.specs.Looks.{Stands, Begins, Asked, Looked};
+ghost use Rattle.high_process.specs.Looks.{Stands, LookBegins, Asked, Looked};
 
 use crate::HighProcess;
 use crate::values::{HighAsk, HighFault, HighLook};
@@ -37,7 +37,7 @@ impl HighProcess {
 
         ensures fares { Fares D.told (task_at self.old (frame_of frame.entry))
             self.old self.new store.old store.new result }
-        ensures begins { IfOk result (λ ask. Begins self.old self.new moment
+        ensures begins { IfOk result (λ ask. LookBegins self.old self.new moment
             (task_at self.old (frame_of frame.entry)) (attaches_at self.old (frame_of frame.entry)) ask) }
         ensures asked { IfOk result (λ ask. Asked self.old self.new ask) }
         ensures images { LeavesCounted D.told self.old store.old store.new (frame_of frame.entry) }
@@ -76,7 +76,7 @@ impl HighProcess {
 
         ensures fares { Fares D.told (task_at self.old (frame_of frame.entry))
             self.old self.new store.old store.new result }
-        ensures looks { IfOk result (λ look. (l : Low) (h : High) (t : Past)
+        ensures looks { IfOk result (λ look. (l : Low) (h : High) (t : ProcessPast)
             → StandsFitting (H.stands ends.old) self.old l h → Stands self.old t
             → Looked (H.shape ends.old) H.exact (StandsFitting (H.stands ends.new) self.new)
             l h self.old self.new t moment

@@ -12,7 +12,7 @@ use Rattle.low_process.specs.declared.values.LowLook.{LowLook}
 use Rattle.pump_core.specs.Exchanges.{Part, IsCut}
 use Rattle.pump_core.specs.Replies.{Sent, sent, LowReplies, takes, stores}
 use Rattle.pump_core.specs.Standing.{State, StandsAt}
-use Rattle.low_process.specs.Looks.{state_of, look_of, StandsFor, Asks, AsksFor, Looks, Begins}
+use Rattle.low_process.specs.Looks.{state_of, look_of, StandsFor, Asks, AsksFor, Looks, LookBegins}
 use Rattle.low_process.specs.Steps.{Stepped, StepBegins}
 use Rattle.pump_core.proofs.Standings.{stands_after, replies_after, newest_after}
 
@@ -42,7 +42,7 @@ asks_for p q h m w a d k row state asking now word order asks stands = record {
   word = word;
 }
 
-pub begun : (p q : LowProcess) (m w : ℕ) (a : Arrival) (d : Bool) (r : Ask) → StepBegins p q m w a d r → q.row ≡ p.row → q.last ≡ m → q.word ≡ w → p.last ≤ m → Begins p q m w a d r
+pub begun : (p q : LowProcess) (m w : ℕ) (a : Arrival) (d : Bool) (r : Ask) → StepBegins p q m w a d r → q.row ≡ p.row → q.last ≡ m → q.word ≡ w → p.last ≤ m → LookBegins p q m w a d r
 begun p q m w a d (Done l) step row now word order =
     let x = look_of m w a d l.feedback in (
       step.0,

@@ -163,12 +163,12 @@ abbrev pub AsksTheAverage : LowProcess → Type 0
 AsksTheAverage p = (n : ℕ) × (p.asking ≡ AsksAverage n)
 
 -- the look is made without a question, or the process asks
-abbrev pub Begins : LowProcess → LowProcess → ℕ → ℕ → Arrival → Bool → Ask → Type 0
-Begins p q m w a d (Done l) =
+abbrev pub LookBegins : LowProcess → LowProcess → ℕ → ℕ → Arrival → Bool → Ask → Type 0
+LookBegins p q m w a d (Done l) =
     (l.feedback ≡ Quiet) × Looks (StandsFor p) q p.row (look_of m w a d l.feedback) l
-Begins p q m w a d (Forward item) =
+LookBegins p q m w a d (Forward item) =
     AsksToForward q × ((h : History) → StandsFor p h → AsksFor q h m w a d)
-Begins p q m w a d Average =
+LookBegins p q m w a d Average =
     AsksTheAverage q × ((h : History) → StandsFor p h → AsksFor q h m w a d)
 
 -- ---- the message in the hand ----

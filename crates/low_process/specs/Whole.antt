@@ -13,7 +13,7 @@ use Rattle.low_process.specs.declared.process.LowProcess.{LowProcess}
 use Rattle.low_process.specs.declared.values.LowLook.{LowLook}
 use Rattle.low_process.specs.declared.values.Ask.{Ask}
 use Rattle.low_process.specs.declared.values.Ask.TheVariants.{Done, Forward, Average}
-use Rattle.low_process.specs.Looks.{row_of, next_of, is_down, look_of, StandsFor, Begins, Looks}
+use Rattle.low_process.specs.Looks.{row_of, next_of, is_down, look_of, StandsFor, LookBegins, Looks}
 use Rattle.low_process.specs.Storing.{message_in, StoreStep, counted}
 
 -- the store is open, was made with the process's row, and has just the messages that the process
@@ -45,7 +45,7 @@ reply_in Average = None
 -- the first half of a look, in which the device failed or not
 pub record BeginStep {D : Type 0} (m : Meaning D) (p q : LowProcess) (old new : LowStore D)
     (moment word : ℕ) (a : Arrival) (is_fault : Bool) (ask : Ask) : Type 0 where
-  pub begins : Begins p q moment word a is_fault ask
+  pub begins : LookBegins p q moment word a is_fault ask
   pub keeps : StoreStep m (message_in p a) old new is_fault
   pub count : next_of q ≡ counted (message_in p a) is_fault (next_of p)
   pub falls : FallsBy is_fault p q

@@ -102,7 +102,7 @@ pub record LowIsReady {D : Type 0} (m : Meaning D) (c : Parts D) (p : Past) : Ty
   pub last : low.last_of c.low ≤ c.moment
 
 -- what the high process has been through, by what the session has
-abbrev pub high_past_of : {D : Type 0} → Parts D → Past → high_past.Past
+abbrev pub high_past_of : {D : Type 0} → Parts D → Past → high_past.ProcessPast
 high_past_of c p = record {
   removed = high.removed_of c.high;
   hand = high.hand_of c.high;

@@ -68,7 +68,7 @@ none_asked c None e = refl
 none_asked c (Some f) e = absurd (cc)
 
 pub lines_by : {D : Type 0} {m : Meaning D} (c : Parts D) (p : Past) (stands : Stands m c p) (q : HighProcess) (ends : PlainEnds) (moment : ℕ) (frame : Option Frame) (look : HighLook)
-    → ((l : Low) (h : High) (t : high_past.Past) → StandsFitting (EndsStand c.ends) c.high l h → HighStandsFor c.high t
+    → ((l : Low) (h : High) (t : high_past.ProcessPast) → StandsFitting (EndsStand c.ends) c.high l h → HighStandsFor c.high t
     → Looked (shape_of c.ends) true (StandsFitting (EndsStand ends) q) l h c.high q t moment (high.task_at c.high frame) (high.attaches_at c.high frame) look)
     → length (printed_look c.row.id moment look) ≤ most_lines frame
 lines_by c p stands q ends moment frame look looked =
@@ -102,11 +102,11 @@ module _ {D : Type 0} (m : Meaning D) (c : Parts D) (p : Past) (stands : Stands 
   led back look l out now told d is =
       (l.end, l.printed, l.leads, told ∙ ap (λ (more : List Event). out ++ more) (sym l.printed_is), subst (λ (e : Parts D). Stands m e l.end) (sym is) l.stand, subst (λ (e : Parts D). LeavesFit m c e p l.end) (sym is) l.fits)
 
-  abbrev past : high_past.Past
+  abbrev past : high_past.ProcessPast
   past = high_past_of c p
 
   -- what was seen of the process and the end, from the past after the first part on
-  abbrev Seen : ℕ → Bool → Option ℕ → Option ℕ → high_past.Past → Type 0
+  abbrev Seen : ℕ → Bool → Option ℕ → Option ℕ → high_past.ProcessPast → Type 0
   Seen resend attaches time sent u =
       (got : _) × Takes (shape_of c.ends) true (StandsFitting (EndsStand ends) q) stands.ends.low (told_time time stands.ends.high) (high_past.wants u) u.removed got
       × HighStandsFor q (high_past.finished resend attaches (high_past.taken_up u got) moment)
@@ -161,7 +161,7 @@ module _ {D : Type 0} (m : Meaning D) (c : Parts D) (p : Past) (stands : Stands 
       at_rest : IsAtRest u
       at_rest = record { storing = stands.sound.rest.storing; due = refl; removing = refl; packet = stands.sound.rest.packet; taking = stands.sound.rest.taking }
 
-      abbrev next : high_past.Past
+      abbrev next : high_past.ProcessPast
       next = record past { removed = past.removed + 1; hand = None; times = p.times ++ option_to_list time }
 
       next_is : high_past.begun Remove past moment ≡ next

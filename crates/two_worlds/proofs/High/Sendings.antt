@@ -35,7 +35,7 @@ Fetched false held got after = (got ≡ None) × (after ≡ held)
 -- ---- the second part ----
 
 -- what the high process has been through, by what is kept
-abbrev pub past_of : Kept → Past → List ℕ → ℕ → high.Past
+abbrev pub past_of : Kept → Past → List ℕ → ℕ → high.ProcessPast
 past_of k p times moment = record { removed = k.removed; hand = k.high_hand; sends = p.sends; times = times; moment = moment }
 
 abbrev numbers_of : List Item → List ℕ

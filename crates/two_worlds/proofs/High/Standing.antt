@@ -54,7 +54,7 @@ module _ {D : Type 0} (m : Meaning D) (c : Parts D) (p : Past) (stands : Stands 
   abbrev k : Kept
   k = record (kept_of c) { removed = removed; high_hand = hand }
 
-  abbrev past : high_past.Past
+  abbrev past : high_past.ProcessPast
   past = past_of k mid times (high.last_of c.high)
 
   abbrev parts : Parts D

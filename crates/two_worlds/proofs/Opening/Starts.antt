@@ -137,7 +137,7 @@ module _ {D : Type 0} (m : Meaning D) (c : Parts D) (n : IsNew m c) where
       last = omega (arith, n.low_last);
     };
     high_ready = record {
-      past = subst (λ (t : high_past.Past). HighStandsFor c.high t)
+      past = subst (λ (t : high_past.ProcessPast). HighStandsFor c.high t)
           (λ i. record { removed = sym n.removed i; hand = sym n.high_hand i; sends = []; times = []; moment = sym n.high_last i }) n.past;
       store = n.high_ready;
       count = n.high_count_is ∙ sym n.removed;

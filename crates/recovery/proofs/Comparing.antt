@@ -55,8 +55,7 @@ module _ {D : Type 0} (m : Meaning D) where
     goes_on new so_far calls gives = elim (cases_lt removed n) [
       | inl later ↦ (calls_on (recv_disk start) (recv_disk receiver) new false (so_far later).0 calls, (so_far later).1)
       | inr now ↦
-          let e : n ≡ removed = omega (arith, le, now) in
-          (
+          let e : n ≡ removed = omega (arith, le, now) in (
             subst (λ (r : Receiver D). Calls m (recv_disk r) new false) (first e).1 calls,
             (λ plan. subst (λ k. GivesSlot m (low_row before) k (low_disk before)) e (subst (λ (s : LowStore D). GivesSlot m (low_row s) n (low_disk s)) (first e).0 (gives plan))),
           )

@@ -49,7 +49,6 @@ bad_later row disk n (suc k) l some is short =
     let no : nat_lt row.message (length_at disk (slot_of row n)) ≡ false = grind (arith, is, short) in
     let e : k ≡ suc k - 1 = omega arith in rw (no) (ap (λ j. bad_slot row disk (n + 1) j) e)
 
-
 -- ---- the hands and the passage together ----
 
 slots_cons : (row : SessionRow) (b : ℕ) (m : List ℕ) (ms : List (List ℕ)) (disk : List ℕ) → InSlot row b m disk → InSlots row (b + 1) ms disk → InSlots row b (m ∷ ms) disk
@@ -113,10 +112,10 @@ module _ (row : SessionRow) (b e : ℕ) (told : Type 0) (disk : List ℕ) (befor
         let size = length_numbered (b + 1) ms in
         let at : b + 1 + length ms ≡ last.number = omega (arith, is, last_is) in
         let end : numbered (b + 1) (ms ++ last.payload ∷ []) ≡ numbered (b + 1) ms ++ last ∷ [] =
-            numbered_snoc (b + 1) ms last.payload ∙ (λ i. numbered (b + 1) ms ++ record { number = at i; payload = last.payload } ∷ []) in
+        numbered_snoc (b + 1) ms last.payload ∙ (λ i. numbered (b + 1) ms ++ record { number = at i; payload = last.payload } ∷ []) in
         let back : numbered b (first.payload ∷ (ms ++ last.payload ∷ [])) ≡ head ∷ (numbered (b + 1) ms ++ last ∷ []) = ap (λ (l : List Item). head ∷ l) end in
         let there : take (row.capacity - 2) (numbered (b + 1) ms ++ last ∷ []) ≡ numbered (b + 1) ms =
-            take_at (numbered (b + 1) ms) (last ∷ []) (row.capacity - 2) (omega (arith, size, is)) in
+        take_at (numbered (b + 1) ms) (last ∷ []) (row.capacity - 2) (omega (arith, size, is)) in
         record {
           messages = first.payload ∷ (ms ++ last.payload ∷ []);
           count = omega (arith, length-append ms (last.payload ∷ []), is, whole, wide);

@@ -21,7 +21,7 @@ small_is row role size bytes mark disk is small some read value =
     let one : nat_le 80 (length disk) ≡ false = grind (arith, is, small) in
     let two : nat_lt (length disk) 4 ≡ false = grind (arith, is, some) in
     let same : word_at (take 80 disk) 0 ≡ bytes = word_at-agree (take 80 disk) 0 mark 0
-        (λ i lt. get_or-take 80 disk (0 + i) 0 (omega arith) ∙ sym (get_or-take 4 disk (0 + i) 0 (omega arith)) ∙ ap (λ (l : List ℕ). get_or l (0 + i) 0) (sym read)) ∙ sym value in
+    (λ i lt. get_or-take 80 disk (0 + i) 0 (omega arith) ∙ sym (get_or-take 4 disk (0 + i) 0 (omega arith)) ∙ ap (λ (l : List ℕ). get_or l (0 + i) 0) (sym read)) ∙ sym value in
     rw (one, two) (λ i. Some (NotABuffer (sym is i) (same i)))
 
 pub front_is : (row : SessionRow) (letter : ℕ) (area disk now : List ℕ) → area ≡ take 80 (drop 0 now) → now ≡ disk → HasHeader row letter (take 32 area) → HasHeader row letter (take 32 disk)

@@ -23,11 +23,7 @@ fn are_equal(one: &Payload, other: &Payload) -> bool
 }
 
 // Whether message n is the same on both disks.
-fn is_same<D: Disk>(
-    low: &mut LowStore<D>,
-    n: u64,
-    receiver: &mut Receiver<D>,
-) -> Result<bool, Why>
+fn is_same<D: Disk>(low: &mut LowStore<D>, n: u64, receiver: &mut Receiver<D>) -> Result<bool, Why>
     requires low { IsLowReady D.told low.old }
     requires receiver { IsRecvReady D.told receiver.old }
     requires live { (n < low_count low.old) × (low_count low.old ≤ n + (low_row low.old).capacity) }

@@ -10,8 +10,8 @@ ghost use Rattle.recovery.specs.Deals.{numbered, passing, InHands, Fills, InSlot
 ghost use Rattle.recovery.specs.declared.why.Why.TheVariants.{Device};
 
 use crate::Why;
-use disk_model::Disk;
 use crate::pass::Takes;
+use disk_model::Disk;
 use passage::{Forwarded, LowSide};
 use pump_frame::{Item, Payload, SessionRow};
 use stable_buffer::LowStore;

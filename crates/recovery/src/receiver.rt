@@ -15,11 +15,7 @@ use high_receiver::Receiver;
 use pump_frame::SessionRow;
 
 /// Opens a receiver over its disk, which may be filled to `size` bytes.
-pub fn open_receiver<D: Disk>(
-    disk: D,
-    row: &SessionRow,
-    size: u64,
-) -> Result<Receiver<D>, (D, Why)>
+pub fn open_receiver<D: Disk>(disk: D, row: &SessionRow, size: u64) -> Result<Receiver<D>, (D, Why)>
     requires lawful { IsLawfulRow row.now }
 
     ensures ready { IfOk result (λ r. IsRecvReady D.told r) }

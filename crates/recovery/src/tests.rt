@@ -43,9 +43,12 @@ fn front(letter: u8, first: u8, second: u8) -> [u8; 80] {
 fn low(accepted: u8) -> [u8; 110] {
     let mut bytes = [0; 110];
     bytes[..80].copy_from_slice(&front(b'L', accepted, 0));
-    bytes[80..83].copy_from_slice(&[0, 1, b'a']);
-    bytes[90..93].copy_from_slice(&[0, 1, b'b']);
-    bytes[100..103].copy_from_slice(&[0, 1, b'c']);
+    bytes[81] = 1;
+    bytes[82] = b'a';
+    bytes[91] = 1;
+    bytes[92] = b'b';
+    bytes[101] = 1;
+    bytes[102] = b'c';
     bytes
 }
 
@@ -59,6 +62,11 @@ fn receiver() -> [u8; 86] {
     bytes[..80].copy_from_slice(&front(b'R', 2, 86));
     bytes[80..86].copy_from_slice(&[0, 1, b'a', 0, 1, b'b']);
     bytes
+}
+
+// The first n bytes, where there are so many.
+fn first(bytes: &[u8], n: usize) -> &[u8] {
+    if n <= bytes.len() { &bytes[..n] } else { bytes }
 }
 
 fn disk(alloc: Global, bytes: &[u8]) -> Result<PlainDisk, Fail> {
@@ -139,10 +147,19 @@ fn sizes_and_counts_refuse_in_order(rt: HostRuntime) -> Result<(), Fail> {
     let alloc = rt.alloc();
     let whole = low(3);
     let small = |size, bytes| Some((Role::Low, Why::NotABuffer { size, bytes }));
-    assert_eq!(rt; refusal(alloc, &whole[..3], &high(0))?, small(3, 0));
-    assert_eq!(rt; refusal(alloc, &whole[..79], &high(0))?, small(79, 0x4E50_4431));
-    assert_eq!(rt; refusal(alloc, &whole[..109], &high(0))?, Some((Role::Low, shape(6, 109, 110))));
-    assert_eq!(rt; refusal(alloc, &whole, &whole)?, Some((Role::High, shape(1, 76, 72))));
+    assert_eq!(rt; refusal(alloc, first(&whole, 3), &high(0))?, small(3, 0));
+    assert_eq!(rt;
+        refusal(alloc, first(&whole, 79), &high(0))?,
+        small(79, 0x4E50_4431)
+    );
+    assert_eq!(rt;
+        refusal(alloc, first(&whole, 109), &high(0))?,
+        Some((Role::Low, shape(6, 109, 110)))
+    );
+    assert_eq!(rt;
+        refusal(alloc, &whole, &whole)?,
+        Some((Role::High, shape(1, 76, 72)))
+    );
     let pair = |removed, accepted| Some((Role::High, Why::Mismatch { removed, accepted }));
     assert_eq!(rt; refusal(alloc, &low(1), &high(3))?, pair(3, 1));
     assert_eq!(rt; refusal(alloc, &low(4), &high(0))?, pair(0, 4));
@@ -165,7 +182,10 @@ fn full_disks_are_dealt_out_and_agree(rt: HostRuntime) -> Result<(), Fail> {
         return Err(Fail::new("not opened"));
     };
     assert_eq!(rt; (opened.next, opened.removed), (3, 0));
-    assert_eq!(rt; (number(&opened.high_hand), number(&opened.low_hand)), (Some(0), Some(2)));
+    assert_eq!(rt;
+        (number(&opened.high_hand), number(&opened.low_hand)),
+        (Some(0), Some(2))
+    );
     assert_eq!(rt; ends.held(), 1);
     let Ok(mut taker) = open_receiver(disk(rt.alloc(), &receiver())?, &row, 86) else {
         return Err(Fail::new("no receiver"));
@@ -202,10 +222,13 @@ fn a_receiver_goes_with_its_relay_alone(rt: HostRuntime) -> Result<(), Fail> {
     };
     let apart = Why::Apart { count: 2, bound: 3 };
     assert_eq!(rt; comparison(alloc, 1, &whole)?, Ok(()));
-    assert_eq!(rt; comparison(alloc, 1, &other)?, Err(Why::Differs { number: 1 }));
+    assert_eq!(rt;
+        comparison(alloc, 1, &other)?,
+        Err(Why::Differs { number: 1 })
+    );
     assert_eq!(rt; comparison(alloc, 2, &other)?, Ok(()));
     assert_eq!(rt; comparison(alloc, 3, &whole)?, Err(apart));
-    assert_eq!(rt; comparison(alloc, 1, &whole[..85])?, Err(log));
+    assert_eq!(rt; comparison(alloc, 1, first(&whole, 85))?, Err(log));
     Ok(())
 }
 
@@ -220,7 +243,10 @@ fn a_disk_that_fails_says_so_and_nothing_else(rt: HostRuntime) -> Result<(), Fai
     match open_pump(low, high, &row, &mut ends) {
         Ok(_) => Err(Fail::new("opened")),
         Err(refused) => {
-            assert_eq!(rt; (refused.role, refused.why), (Role::High, Why::Device { faults: 1 }));
+            assert_eq!(rt;
+                (refused.role, refused.why),
+                (Role::High, Why::Device { faults: 1 })
+            );
             Ok(())
         }
     }

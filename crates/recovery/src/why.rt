@@ -13,11 +13,7 @@ pub enum Why {
     NotABuffer { size: u64, bytes: u32 },
     /// It is the disk of another role, version or row. The fields are numbered from 1: role,
     /// version, session, capacity, message, size.
-    WrongShape {
-        field: u32,
-        found: u64,
-        wanted: u64,
-    },
+    WrongShape { field: u32, found: u64, wanted: u64 },
     /// Its two numbers are those of no disk of its role.
     BadRegister { first: u64, second: u64 },
     /// More messages are removed than were accepted, or more are live than have a place.

@@ -54,7 +54,7 @@ loop-n-preserved g c =
             let here : c.loop-n.n ≡ n = omega (arith, late, to) in
             let d = m.reading low.register.disk in
             let s' : RecvStands c.loop-n.receiver.row ms (m.reading c.loop-n.receiver.register.disk) =
-                subst (λ (w : SessionRow). RecvStands w ms (m.reading c.loop-n.receiver.register.disk)) (sym i.receiver_is.2) (subst (λ (z : List ℕ). RecvStands receiver.row ms z) (sym (i.moves_receiver.reads told)) s) in
+            subst (λ (w : SessionRow). RecvStands w ms (m.reading c.loop-n.receiver.register.disk)) (sym i.receiver_is.2) (subst (λ (z : List ℕ). RecvStands receiver.row ms z) (sym (i.moves_receiver.reads told)) s) in
             let has = c.in-Ok-true.ensures.same c.in-Ok-true.field-0-test told ms s' in
             subst (λ k. InSlot low.row k (get_or ms k []) d) here
             (subst (λ (w : SessionRow). InSlot w c.loop-n.n (get_or ms c.loop-n.n []) d) i.low_is.1 (subst (λ (z : List ℕ). InSlot c.loop-n.low.row c.loop-n.n (get_or ms c.loop-n.n []) z) (i.moves_low.reads told) has))
@@ -70,8 +70,7 @@ loop-n-preserved g c =
 pub returns-clause-fine : goal.returns-clause-fine
 returns-clause-fine g c =
     let i = c.loop-n.invariant in
-    let count = c.count-taken.ensures in
-    (
+    let count = c.count-taken.ensures in (
       omega (arith, count, c.if-taken-removed.false),
       omega (arith, count, c.accepted-next.ensures, c.if-taken-next.false),
       (λ told ms s n from to. i.same told ms s n from (omega (arith, to, count, c.loop-n-test.false))),

@@ -18,18 +18,18 @@ pub returns-then-length-len-clause-calls_receiver : goal.returns-then-length-len
 returns-then-length-len-clause-calls_receiver g c = inr (
   refl,
   (λ plan go.
-  let row = c.args.low.now.row in
-  let e = c.in-Ok.ensures.length (g.D.Disk.told.plan_tells plan) in
-  let short : c.in-Ok.length ≤ row.message = omega (arith, e, go.1) in
-  omega (arith, c.in-Ok.ensures.fits short, c.len.ensures.value, c.if-length-len.true)),
+      let row = c.args.low.now.row in
+      let e = c.in-Ok.ensures.length (g.D.Disk.told.plan_tells plan) in
+      let short : c.in-Ok.length ≤ row.message = omega (arith, e, go.1) in
+      omega (arith, c.in-Ok.ensures.fits short, c.len.ensures.value, c.if-length-len.true)),
 )
 
 pub returns-in-Err-clause-calls_receiver : goal.returns-in-Err-clause-calls_receiver
 returns-in-Err-clause-calls_receiver g c = inr (
   refl,
   (λ plan go.
-  let s = c.requires.low.stands (g.D.Disk.told.plan_tells plan) in
-  absurd (false≢true (c.in-Err.ensures.answers.never plan go.0 (omega (arith, s.2.size))))),
+      let s = c.requires.low.stands (g.D.Disk.told.plan_tells plan) in
+      absurd (false≢true (c.in-Err.ensures.answers.never plan go.0 (omega (arith, s.2.size))))),
 )
 
 pub returns-in-Err-message-clause-calls_receiver : goal.returns-in-Err-message-clause-calls_receiver
@@ -70,7 +70,7 @@ returns-clause-other g c = λ is told ms s has.
       | inr le ↦ le
     ] in
     let e : c.slot.new.into ≡ c.message.new.into =
-        slot_one row c.requires.low.ranges.short c.args.n _ _ (m.reading c.args.low.now.register.disk) (c.in-Ok.ensures.stands short told) has ∙ sym (c.in_default.ensures.message told ms s) in
+    slot_one row c.requires.low.ranges.short c.args.n _ _ (m.reading c.args.low.now.register.disk) (c.in-Ok.ensures.stands short told) has ∙ sym (c.in_default.ensures.message told ms s) in
     c.are_equal.ensures.unequal is e
 
 pub returns-clause-calls_receiver : goal.returns-clause-calls_receiver
@@ -98,8 +98,7 @@ returns-clause-called g c = λ is.
     let short : l ≤ row.message = elim (cases_lt row.message l) [
       | inl long ↦ absurd (omega (arith, ap length (c.in-Ok.ensures.left long ∙ c.default-stored.ensures), c.len.ensures.value, c.if-length-len.false, long))
       | inr le ↦ le
-    ] in
-    (
+    ] in (
       calls_ok m _ _ _ _ c.in_default.ensures.answers false refl,
       (λ plan. (
         not_armed _ (c.in-Ok.ensures.answers.always plan),

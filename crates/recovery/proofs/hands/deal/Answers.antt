@@ -21,9 +21,9 @@ returns-in_err-fill-clause-exact g c =
     let why = c.in_err-fill.field-0.0 in
     let some : 0 < e - b = omega (arith, c.accepted-next.ensures, c.if-removed-next.false, c.requires.between.0) in
     let fact : is_device why ≡ false → m.tells → bad_slot row d b (e - b) ≡ Some why = λ nd told.
-        let reach : c.min.result ≤ b + 1 + (e - b - 1) = omega (arith, some, c.min.ensures, c.accepted-next.ensures) in
-        c.in_ok-first.ensures.fine told (e - b) some
-        ∙ subst (λ (z : List ℕ). bad_slot row z (b + 1) (e - b - 1) ≡ Some why) (c.read_live.ensures.moves.reads told) (c.in_err-fill.ensures.exact nd told (e - b - 1) reach) in
+    let reach : c.min.result ≤ b + 1 + (e - b - 1) = omega (arith, some, c.min.ensures, c.accepted-next.ensures) in
+    c.in_ok-first.ensures.fine told (e - b) some
+    ∙ subst (λ (z : List ℕ). bad_slot row z (b + 1) (e - b - 1) ≡ Some why) (c.read_live.ensures.moves.reads told) (c.in_err-fill.ensures.exact nd told (e - b - 1) reach) in
     let r = err_from_is_err_and c.from_residual-in_err-fill.result c.from_residual-in_err-fill.ensures.1 in
     rw (r.1, r.2) fact
 
@@ -52,8 +52,8 @@ returns-then-next-last-clause-dealt g c =
     let (ms, count, slots, fills) = c.in_ok-fill.ensures.forwarded in
     let to : c.min.result ≡ e = omega (arith, c.min.ensures, c.accepted-next.ensures, c.if-next-last.true) in
     let dealt = some_dealt row b e m.tells d (g.L.LowSide.stands c.args.ends.now) (g.L.LowSide.stands c.fill.new.ends) c.in_ok-first.first c.in_ok-first.ensures.number c.in_ok-first.ensures.stands
-        ms (λ told. subst (λ (z : List ℕ). InSlots row (b + 1) ms z) (c.read_live.ensures.moves.reads told) (slots told)) fills
-        (omega (arith, count, to)) (omega (arith, c.accepted-next.ensures, c.if-next-last.true)) in
+    ms (λ told. subst (λ (z : List ℕ). InSlots row (b + 1) ms z) (c.read_live.ensures.moves.reads told) (slots told)) fills
+    (omega (arith, count, to)) (omega (arith, c.accepted-next.ensures, c.if-next-last.true)) in
     (dealt.messages, dealt.count, dealt.slots, dealt.hands, dealt.fills)
 
 pub returns-in_err-held-clause-exact : goal.returns-in_err-held-clause-exact
@@ -70,12 +70,12 @@ returns-in_err-held-clause-exact g c =
     let reach : c.min.result ≤ b + 1 + (e - b - 1) = omega (arith, some, to, c.accepted-next.ensures, c.if-next-last.false) in
     let one : 0 < b + 1 + (e - b - 1) - c.min.result = omega (arith, some, to, c.accepted-next.ensures, c.if-next-last.false) in
     let fact : is_device why ≡ false → m.tells → bad_slot row d b (e - b) ≡ Some why = λ nd told.
-        let first = c.read_live.ensures.moves.reads told in
-        let second = c.fill.ensures.moves.reads told ∙ first in
-        c.in_ok-first.ensures.fine told (e - b) some
-        ∙ subst (λ (z : List ℕ). bad_slot row z (b + 1) (e - b - 1) ≡ bad_slot row z c.min.result (b + 1 + (e - b - 1) - c.min.result)) first (c.in_ok-fill.ensures.fine told (e - b - 1) reach)
-        ∙ ap (λ n. bad_slot row d n (b + 1 + (e - b - 1) - c.min.result)) to
-        ∙ subst (λ (z : List ℕ). bad_slot row z last (b + 1 + (e - b - 1) - c.min.result) ≡ Some why) second (c.in_err-held.ensures.exact nd told (b + 1 + (e - b - 1) - c.min.result) one) in
+    let first = c.read_live.ensures.moves.reads told in
+    let second = c.fill.ensures.moves.reads told ∙ first in
+    c.in_ok-first.ensures.fine told (e - b) some
+    ∙ subst (λ (z : List ℕ). bad_slot row z (b + 1) (e - b - 1) ≡ bad_slot row z c.min.result (b + 1 + (e - b - 1) - c.min.result)) first (c.in_ok-fill.ensures.fine told (e - b - 1) reach)
+    ∙ ap (λ n. bad_slot row d n (b + 1 + (e - b - 1) - c.min.result)) to
+    ∙ subst (λ (z : List ℕ). bad_slot row z last (b + 1 + (e - b - 1) - c.min.result) ≡ Some why) second (c.in_err-held.ensures.exact nd told (b + 1 + (e - b - 1) - c.min.result) one) in
     let r = err_from_is_err_and c.from_residual-in_err-held.result c.from_residual-in_err-held.ensures.1 in
     rw (r.1, r.2) fact
 
@@ -113,9 +113,9 @@ returns-clause-dealt g c =
     let to : c.min.result ≡ last = omega (arith, c.min.ensures, c.accepted-next.ensures, c.if-next-last.false) in
     let wide : 3 ≤ row.capacity = (row_capacity row (subst IsLawfulRow c.requires.row c.requires.ready.lawful)).0 in
     let dealt = all_dealt row b e m.tells d (g.L.LowSide.stands c.args.ends.now) (g.L.LowSide.stands c.fill.new.ends) c.in_ok-first.first c.in_ok-first.ensures.number c.in_ok-first.ensures.stands
-        ms (λ told. subst (λ (z : List ℕ). InSlots row (b + 1) ms z) (c.read_live.ensures.moves.reads told) (slots told)) fills
-        c.in_ok-held.held c.in_ok-held.ensures.number (λ told. subst (λ (z : List ℕ). InSlot row last c.in_ok-held.held.payload z) (c.fill.ensures.moves.reads told ∙ c.read_live.ensures.moves.reads told) (c.in_ok-held.ensures.stands told))
-        wide (omega (arith, count, to)) (omega (arith, c.accepted-next.ensures, c.requires.between.1, c.if-next-last.false, wide)) in
+    ms (λ told. subst (λ (z : List ℕ). InSlots row (b + 1) ms z) (c.read_live.ensures.moves.reads told) (slots told)) fills
+    c.in_ok-held.held c.in_ok-held.ensures.number (λ told. subst (λ (z : List ℕ). InSlot row last c.in_ok-held.held.payload z) (c.fill.ensures.moves.reads told ∙ c.read_live.ensures.moves.reads told) (c.in_ok-held.ensures.stands told))
+    wide (omega (arith, count, to)) (omega (arith, c.accepted-next.ensures, c.requires.between.1, c.if-next-last.false, wide)) in
     (dealt.messages, dealt.count, dealt.slots, dealt.hands, dealt.fills)
 
 pub returns-clause-moves : goal.returns-clause-moves

@@ -35,8 +35,7 @@ pub offer-requires-clause-stands : goal.offer-requires-clause-stands
 offer-requires-clause-stands g c =
     let i = c.loop-n.invariant in
     let f = c.requires.fresh in
-    let at : c.args.from + length i.messages ≡ c.in_ok-item.item.number = i.length' ∙ sym c.in_ok-item.ensures.number in
-    (
+    let at : c.args.from + length i.messages ≡ c.in_ok-item.item.number = i.length' ∙ sym c.in_ok-item.ensures.number in (
       record f.0 { forwarded = numbered c.args.from i.messages },
       f.1,
       i.fills f.0 f.1 f.2 f.3,
@@ -67,7 +66,7 @@ loop-n-preserved g c =
     let calls = c.read_live.ensures.calls in
     let at : from + length ms ≡ x.number = i.length' ∙ sym c.in_ok-item.ensures.number in
     let same : numbered from ms ++ x ∷ [] ≡ numbered from (ms ++ x.payload ∷ []) =
-        (λ j. numbered from ms ++ record { number = sym at j; payload = x.payload } ∷ []) ∙ sym (numbered_snoc from ms x.payload) in
+    (λ j. numbered from ms ++ record { number = sym at j; payload = x.payload } ∷ []) ∙ sym (numbered_snoc from ms x.payload) in
     record {
       from = omega (arith, i.from);
       to = omega (arith, c.loop-n-test.true);

@@ -43,19 +43,18 @@ returns-in-Ok-deal-clause-dealt g c =
     let row = c.args.row.now in
     let r = c.removed-removed.result in
     let (ms, count, slots, hands, fills) = c.in-Ok-deal.ensures.dealt in
-    let next : c.accepted-next.result ≡ low.register.first = c.accepted-next.ensures in
-    (
+    let next : c.accepted-next.result ≡ low.register.first = c.accepted-next.ensures in (
       ms,
       (λ told.
-      let s = c.in-Ok.ensures.stands told in
-      record {
-        header = s.header;
-        size = s.size;
-        value = s.value ∙ (λ i. (sym next i, 0));
-        kept = omega (arith, c.if-next-removed.false, c.if-removed-next.false);
-        count = omega (arith, count, next);
-        slots = subst (λ (z : List ℕ). InSlots row r ms z) (c.in-Ok.ensures.same.reads told) (slots told);
-      }),
+          let s = c.in-Ok.ensures.stands told in
+          record {
+            header = s.header;
+            size = s.size;
+            value = s.value ∙ (λ i. (sym next i, 0));
+            kept = omega (arith, c.if-next-removed.false, c.if-removed-next.false);
+            count = omega (arith, count, next);
+            slots = subst (λ (z : List ℕ). InSlots row r ms z) (c.in-Ok.ensures.same.reads told) (slots told);
+          }),
       omega (arith, count, next),
       omega (arith, c.if-next-removed.false, c.if-removed-next.false),
       hands,

@@ -16,5 +16,5 @@ over-requires-clause-stands g c = λ told.
     let same = c.in-Ok.ensures.same.reads told in
     let is : is_log row.message v.0 (log_of v.1 d) ≡ true = (λ i. is_log row.message v.0 (log_of v.1 (sym same i))) ∙ sym (c.in-Ok-true.ensures.answer told) ∙ c.in-Ok-true.field-0-test in
     let (ms, count, stands) = recv_from row v.0 v.1 d (m.reading c.fill_log.new.register.disk) (c.fill_log.ensures.moves.reads told ∙ same) (c.in-Ok.ensures.header told) (c.value-first.ensures ∙ c.in-Ok.ensures.value told) c.if-second-lt80.false
-        (omega (arith, c.if-second-length.false, c.in-Ok.ensures.size told)) is in
+    (omega (arith, c.if-second-length.false, c.in-Ok.ensures.size told)) is in
     (ms, stands)

@@ -25,10 +25,10 @@ returns-then-length-most-clause-answer g c = λ told.
     let is : l ≡ length_at d c.loop.at = c.in_ok-length.ensures.length told ∙ ap (λ (z : List ℕ). length_at z c.loop.at) (i.moves.reads told) in
     let within = c.requires.within told in
     let no : is_log c.args.most left (drop (c.loop.at - 80) (log_of c.args.end d)) ≡ false =
-        elim c.then-length-most.branch [
-          | then-length-most-via-then-length-most w ↦ too_long c.args.end d c.requires.from within c.args.most left c.loop.at l some i.above room is (omega (arith, w.if-length-most))
-          | then-length-most-via-else-length-most+then-end-at w ↦ no_message c.args.end d c.requires.from within c.args.most left c.loop.at l some i.above room is (omega (arith, w.if-end-at))
-        ] in
+    elim c.then-length-most.branch [
+      | then-length-most-via-then-length-most w ↦ too_long c.args.end d c.requires.from within c.args.most left c.loop.at l some i.above room is (omega (arith, w.if-length-most))
+      | then-length-most-via-else-length-most+then-end-at w ↦ no_message c.args.end d c.requires.from within c.args.most left c.loop.at l some i.above room is (omega (arith, w.if-end-at))
+    ] in
     sym (sym (i.rest told) ∙ no)
 
 pub loop-preserved : goal.loop-preserved

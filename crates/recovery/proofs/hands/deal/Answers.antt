@@ -1,0 +1,124 @@
+use Rattle.std.proofs.Common.{◌≡◌, ℕ, ◌+◌, ◌-◌, ◌<◌, ◌≤◌, List, length, false, Some, None, refl, sym, ◌∙◌, ap, subst, arith}
+use Rattle.std.proofs.lemmas.Result.{err_from_is_err_and}
+use Rattle.disk_model.specs.Disk.{Same}
+use Rattle.disk_model.proofs.Run.{goes_on_same}
+use Rattle.stable_buffer.specs.Stands.{InSlot}
+use Rattle.recovery.specs.Calls.{is_device}
+use Rattle.recovery.specs.Refusals.{bad_slot}
+use Rattle.recovery.specs.Deals.{InSlots}
+use Rattle.pump_frame.specs.Rows.{IsLawfulRow}
+use Rattle.recovery.proofs.Rows.{row_capacity}
+use Rattle.recovery.proofs.Dealing.{some_dealt, all_dealt}
+use Rattle.recovery.proofs.hands.deal.Goals as goal
+
+pub returns-in_err-fill-clause-exact : goal.returns-in_err-fill-clause-exact
+returns-in_err-fill-clause-exact g c =
+    let m = g.D.Disk.told in
+    let row = c.args.row.now in
+    let d = m.reading c.args.low.now.register.disk in
+    let e = c.args.low.now.register.first in
+    let b = c.args.removed in
+    let why = c.in_err-fill.field-0.0 in
+    let some : 0 < e - b = omega (arith, c.accepted-next.ensures, c.if-removed-next.false, c.requires.between.0) in
+    let fact : is_device why ≡ false → m.tells → bad_slot row d b (e - b) ≡ Some why = λ nd told.
+    let reach : c.min.result ≤ b + 1 + (e - b - 1) = omega (arith, some, c.min.ensures, c.accepted-next.ensures) in
+    c.in_ok-first.ensures.fine told (e - b) some
+    ∙ subst (λ (z : List ℕ). bad_slot row z (b + 1) (e - b - 1) ≡ Some why) (c.read_live.ensures.moves.reads told) (c.in_err-fill.ensures.exact nd told (e - b - 1) reach) in
+    let r = err_from_is_err_and c.from_residual-in_err-fill.result c.from_residual-in_err-fill.ensures.1 in
+    rw (r.1, r.2) fact
+
+pub returns-then-next-last-clause-fine : goal.returns-then-next-last-clause-fine
+returns-then-next-last-clause-fine g c = λ told.
+    let m = g.D.Disk.told in
+    let row = c.args.row.now in
+    let d = m.reading c.args.low.now.register.disk in
+    let e = c.args.low.now.register.first in
+    let b = c.args.removed in
+    let some : 0 < e - b = omega (arith, c.accepted-next.ensures, c.if-removed-next.false, c.requires.between.0) in
+    let to : c.min.result ≡ e = omega (arith, c.min.ensures, c.accepted-next.ensures, c.if-next-last.true) in
+    let reach : c.min.result ≤ b + 1 + (e - b - 1) = omega (arith, some, to) in
+    let none : b + 1 + (e - b - 1) - c.min.result ≡ 0 = omega (arith, some, to) in
+    c.in_ok-first.ensures.fine told (e - b) some
+    ∙ subst (λ (z : List ℕ). bad_slot row z (b + 1) (e - b - 1) ≡ bad_slot row z c.min.result (b + 1 + (e - b - 1) - c.min.result)) (c.read_live.ensures.moves.reads told) (c.in_ok-fill.ensures.fine told (e - b - 1) reach)
+    ∙ ap (λ k. bad_slot row d c.min.result k) none
+
+pub returns-then-next-last-clause-dealt : goal.returns-then-next-last-clause-dealt
+returns-then-next-last-clause-dealt g c =
+    let m = g.D.Disk.told in
+    let row = c.args.row.now in
+    let d = m.reading c.args.low.now.register.disk in
+    let e = c.args.low.now.register.first in
+    let b = c.args.removed in
+    let (ms, count, slots, fills) = c.in_ok-fill.ensures.forwarded in
+    let to : c.min.result ≡ e = omega (arith, c.min.ensures, c.accepted-next.ensures, c.if-next-last.true) in
+    let dealt = some_dealt row b e m.tells d (g.L.LowSide.stands c.args.ends.now) (g.L.LowSide.stands c.fill.new.ends) c.in_ok-first.first c.in_ok-first.ensures.number c.in_ok-first.ensures.stands
+    ms (λ told. subst (λ (z : List ℕ). InSlots row (b + 1) ms z) (c.read_live.ensures.moves.reads told) (slots told)) fills
+    (omega (arith, count, to)) (omega (arith, c.accepted-next.ensures, c.if-next-last.true)) in
+    (dealt.messages, dealt.count, dealt.slots, dealt.hands, dealt.fills)
+
+pub returns-in_err-held-clause-exact : goal.returns-in_err-held-clause-exact
+returns-in_err-held-clause-exact g c =
+    let m = g.D.Disk.told in
+    let row = c.args.row.now in
+    let d = m.reading c.args.low.now.register.disk in
+    let e = c.args.low.now.register.first in
+    let b = c.args.removed in
+    let last = b + row.capacity - 1 in
+    let why = c.in_err-held.field-0.0 in
+    let some : 0 < e - b = omega (arith, c.accepted-next.ensures, c.if-removed-next.false, c.requires.between.0) in
+    let to : c.min.result ≡ last = omega (arith, c.min.ensures, c.accepted-next.ensures, c.if-next-last.false) in
+    let reach : c.min.result ≤ b + 1 + (e - b - 1) = omega (arith, some, to, c.accepted-next.ensures, c.if-next-last.false) in
+    let one : 0 < b + 1 + (e - b - 1) - c.min.result = omega (arith, some, to, c.accepted-next.ensures, c.if-next-last.false) in
+    let fact : is_device why ≡ false → m.tells → bad_slot row d b (e - b) ≡ Some why = λ nd told.
+    let first = c.read_live.ensures.moves.reads told in
+    let second = c.fill.ensures.moves.reads told ∙ first in
+    c.in_ok-first.ensures.fine told (e - b) some
+    ∙ subst (λ (z : List ℕ). bad_slot row z (b + 1) (e - b - 1) ≡ bad_slot row z c.min.result (b + 1 + (e - b - 1) - c.min.result)) first (c.in_ok-fill.ensures.fine told (e - b - 1) reach)
+    ∙ ap (λ n. bad_slot row d n (b + 1 + (e - b - 1) - c.min.result)) to
+    ∙ subst (λ (z : List ℕ). bad_slot row z last (b + 1 + (e - b - 1) - c.min.result) ≡ Some why) second (c.in_err-held.ensures.exact nd told (b + 1 + (e - b - 1) - c.min.result) one) in
+    let r = err_from_is_err_and c.from_residual-in_err-held.result c.from_residual-in_err-held.ensures.1 in
+    rw (r.1, r.2) fact
+
+pub returns-clause-fine : goal.returns-clause-fine
+returns-clause-fine g c = λ told.
+    let m = g.D.Disk.told in
+    let row = c.args.row.now in
+    let d = m.reading c.args.low.now.register.disk in
+    let e = c.args.low.now.register.first in
+    let b = c.args.removed in
+    let last = b + row.capacity - 1 in
+    let k = b + 1 + (e - b - 1) - c.min.result in
+    let some : 0 < e - b = omega (arith, c.accepted-next.ensures, c.if-removed-next.false, c.requires.between.0) in
+    let to : c.min.result ≡ last = omega (arith, c.min.ensures, c.accepted-next.ensures, c.if-next-last.false) in
+    let reach : c.min.result ≤ b + 1 + (e - b - 1) = omega (arith, some, to, c.accepted-next.ensures, c.if-next-last.false) in
+    let one : 0 < k = omega (arith, some, to, c.accepted-next.ensures, c.if-next-last.false) in
+    let none : k - 1 ≡ 0 = omega (arith, some, to, c.accepted-next.ensures, c.requires.between.1, c.if-next-last.false) in
+    let first = c.read_live.ensures.moves.reads told in
+    let second = c.fill.ensures.moves.reads told ∙ first in
+    c.in_ok-first.ensures.fine told (e - b) some
+    ∙ subst (λ (z : List ℕ). bad_slot row z (b + 1) (e - b - 1) ≡ bad_slot row z c.min.result k) first (c.in_ok-fill.ensures.fine told (e - b - 1) reach)
+    ∙ ap (λ n. bad_slot row d n k) to
+    ∙ subst (λ (z : List ℕ). bad_slot row z last k ≡ bad_slot row z (last + 1) (k - 1)) second (c.in_ok-held.ensures.fine told k one)
+    ∙ ap (λ j. bad_slot row d (last + 1) j) none
+
+pub returns-clause-dealt : goal.returns-clause-dealt
+returns-clause-dealt g c =
+    let m = g.D.Disk.told in
+    let row = c.args.row.now in
+    let d = m.reading c.args.low.now.register.disk in
+    let e = c.args.low.now.register.first in
+    let b = c.args.removed in
+    let last = b + row.capacity - 1 in
+    let (ms, count, slots, fills) = c.in_ok-fill.ensures.forwarded in
+    let to : c.min.result ≡ last = omega (arith, c.min.ensures, c.accepted-next.ensures, c.if-next-last.false) in
+    let wide : 3 ≤ row.capacity = (row_capacity row (subst IsLawfulRow c.requires.row c.requires.ready.lawful)).0 in
+    let dealt = all_dealt row b e m.tells d (g.L.LowSide.stands c.args.ends.now) (g.L.LowSide.stands c.fill.new.ends) c.in_ok-first.first c.in_ok-first.ensures.number c.in_ok-first.ensures.stands
+    ms (λ told. subst (λ (z : List ℕ). InSlots row (b + 1) ms z) (c.read_live.ensures.moves.reads told) (slots told)) fills
+    c.in_ok-held.held c.in_ok-held.ensures.number (λ told. subst (λ (z : List ℕ). InSlot row last c.in_ok-held.held.payload z) (c.fill.ensures.moves.reads told ∙ c.read_live.ensures.moves.reads told) (c.in_ok-held.ensures.stands told))
+    wide (omega (arith, count, to)) (omega (arith, c.accepted-next.ensures, c.requires.between.1, c.if-next-last.false, wide)) in
+    (dealt.messages, dealt.count, dealt.slots, dealt.hands, dealt.fills)
+
+pub returns-clause-moves : goal.returns-clause-moves
+returns-clause-moves g c =
+    let m = g.D.Disk.told in
+    goes_on_same m Same _ _ _ (goes_on_same m Same _ _ _ c.read_live.ensures.moves c.fill.ensures.moves) c.read_live-2.ensures.moves

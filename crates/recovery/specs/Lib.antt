@@ -1,0 +1,5 @@
+pub mod Agreement
+pub mod Calls
+pub mod Deals
+pub mod Faults
+pub mod Refusals

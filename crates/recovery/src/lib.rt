@@ -1,0 +1,22 @@
+//! What the three disks of a session stand for when it begins, and why they are refused: the first
+//! cause in the order of `docs/formats.md`, "Disks". No disk is mended: each comes back as it was.
+#![tactic(auto)]
+
+mod compare;
+mod hands;
+mod kept;
+mod pass;
+mod pump;
+mod receiver;
+mod records;
+mod sentence;
+mod shape;
+mod why;
+
+pub use compare::agree;
+pub use pump::{NotOpened, Opened, open_pump};
+pub use receiver::open_receiver;
+pub use why::Why;
+
+#[cfg(test)]
+mod tests;

@@ -1,17 +1,17 @@
 -- What stands for something isn't refused.
-use Rattle.std.proofs.Common.{rules, ◌≡◌, ◌⊎◌, inl, inr, ℕ, zero, suc, ◌+◌, ◌-◌, ◌^◌, ◌<◌, ◌≤◌, ◌==◌, ◌&&◌, nat_le, nat_lt, if◌then◌else◌, true, false, Bool, List, [], ◌∷◌, ◌++◌, length, get_or, take, drop, Option, Some, None, refl, sym, ◌∙◌, ap, subst, arith, length-drop}
-use Rattle.std.proofs.lemmas.List.{get_or-drop, get_or-take, length-take-le, get_or_append_left}
+use Rattle.std.proofs.Common.{◌≡◌, ℕ, zero, suc, ◌+◌, ◌^◌, ◌<◌, ◌≤◌, ◌==◌, ◌&&◌, nat_le, nat_lt, if◌then◌else◌, true, false, Bool, List, [], ◌∷◌, ◌++◌, length, get_or, take, drop, Option, Some, None, refl, sym, ◌∙◌, ap, subst, arith}
+use Rattle.std.proofs.lemmas.List.{get_or-drop, get_or-take}
 use Rattle.byteorder.specs.Endian.{big_bytes}
 use Rattle.stable_buffer.specs.Numbers.{length_at}
 use Rattle.stable_buffer.specs.Register.{value_of}
-use Rattle.stable_buffer.specs.Stands.{HasHeader, InSlot, LowStands, HighStands, spelled, slot_of, low_size}
+use Rattle.stable_buffer.specs.Stands.{HasHeader, InSlot, LowStands, HighStands, slot_of}
 use Rattle.stable_buffer.specs.Format.{role_byte}
-use Rattle.stable_buffer.specs.Log.{RecvStands, Records, is_log, log_of}
+use Rattle.stable_buffer.specs.Log.{RecvStands, is_log, log_of}
 use Rattle.pump_frame.specs.declared.row.SessionRow.{SessionRow}
 use Rattle.disk_model.specs.declared.name.Role.{Role}
 use Rattle.disk_model.specs.declared.name.Role.TheVariants.{Low, High, Recv}
 use Rattle.stable_buffer.proofs.Logs.{finds}
-use Rattle.recovery.specs.Refusals.{word_at, fields, wanted, other_field, other_size, refused_front, refused_shape, or_else, refused_count, refused_disk, refused_log, refused_receiver, bad_slot}
+use Rattle.recovery.specs.Refusals.{word_at, fields, other_field, other_size, refused_shape, or_else, refused_count, refused_disk, refused_log, refused_receiver, bad_slot}
 use Rattle.recovery.specs.declared.why.Why.{Why}
 use Rattle.recovery.proofs.Words.{word_at-agree, word_at-spelled}
 use Rattle.recovery.proofs.Slots.{slot_length}

@@ -2,6 +2,8 @@ pub mod Accepts
 pub mod Calls
 pub mod Comparing
 pub mod Dealing
+pub mod Image
+pub mod Refill
 pub mod Rows
 pub mod Shapes
 pub mod Slots

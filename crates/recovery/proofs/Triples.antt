@@ -1,20 +1,15 @@
 -- Disks of one world, each with an unfinished call kept or not.
-use Rattle.std.proofs.Common.{rules, ◌≡◌, ◌⊎◌, inl, inr, ℕ, zero, suc, ◌+◌, ◌-◌, ◌^◌, ◌<◌, ◌≤◌, ◌==◌, ◌&&◌, nat_le, nat_lt, if◌then◌else◌, true, false, Bool, List, [], ◌∷◌, ◌++◌, length, get_or, slice_get, take, drop, Option, Some, None, refl, sym, ◌∙◌, ap, subst, arith, length-drop, length-append}
+use Rattle.std.proofs.Common.{◌≡◌, inl, inr, ℕ, ◌+◌, ◌-◌, ◌^◌, ◌<◌, ◌≤◌, ◌&&◌, nat_le, if◌then◌else◌, true, false, Bool, List, [], ◌∷◌, ◌++◌, length, get_or, slice_get, drop, Option, Some, None, refl, sym, ◌∙◌, ap, subst, arith, length-drop, length-append}
 use Rattle.std.proofs.lemmas.Bool.{cases_lt}
 use Rattle.std.proofs.lemmas.List.{get_or-drop, get_or_append_left, get_or_at}
 use Rattle.std.proofs.lemmas.Option.{slice_get_within, get_or_from_slice_get}
-use Rattle.pump_core.specs.World.{World}
-use Rattle.pump_core.specs.Lawful.{IsLawful, StoresWithPlace, HasPlace, IsPrefixOf, IsNext}
+use Rattle.pump_core.specs.Lawful.{StoresWithPlace, IsPrefixOf, IsNext}
 use Rattle.stable_buffer.specs.Register.{value_of}
-use Rattle.stable_buffer.specs.Stands.{InSlot, LowStands, HighStands}
-use Rattle.stable_buffer.specs.Log.{RecvStands}
+use Rattle.stable_buffer.specs.Stands.{InSlot}
 use Rattle.pump_frame.specs.declared.row.SessionRow.{SessionRow}
-use Rattle.disk_model.specs.declared.name.Role.{Role}
-use Rattle.disk_model.specs.declared.name.Role.TheVariants.{Low, High, Recv}
-use Rattle.recovery.specs.declared.why.Why.{Why}
-use Rattle.recovery.specs.Refusals.{refused_disk, refused_pair, refused_pump, refused_receiver, bad_slot, told_of, or_else}
-use Rattle.recovery.specs.Agreement.{Agree}
-use Rattle.recovery.specs.Joint.{kept_with, taking_of, accepted_if, removed_if, received_if, Stand, IsRow, Opens, EachTripleOpens}
+use Rattle.disk_model.specs.declared.name.Role.TheVariants.{Low, High}
+use Rattle.recovery.specs.Refusals.{refused_disk, refused_pair, refused_pump, bad_slot, told_of, or_else}
+use Rattle.recovery.specs.Joint.{kept_with, taking_of, accepted_if, removed_if, received_if, EachTripleOpens}
 use Rattle.recovery.proofs.Accepts.{FitsRow, low_none, high_none, recv_none, slots_none}
 
 -- ---- a list with an unfinished message kept or not ----
@@ -108,10 +103,10 @@ each_triple row w size stored removed taken low high recv lawful r s =
     let reached : R ≤ length w.accepted = front.length' in
     let size_of : length (drop w.removed acc) ≡ E - w.removed = length-drop w.removed acc in
     let in_slot : (n : ℕ) → w.removed ≤ n → n < E → InSlot row n (get_or acc n []) low = λ n from to.
-        let j = n - w.removed in
-        let e : w.removed + j ≡ n = omega (arith, from) in
-        subst (λ (m : List ℕ). InSlot row n m low) (get_or-drop w.removed acc j [] ∙ ap (λ k. get_or acc k []) e)
-        (subst (λ k. InSlot row k (get_or (drop w.removed acc) j []) low) e (s.low_stands.slots j (omega (arith, size_of, from, to)))) in
+    let j = n - w.removed in
+    let e : w.removed + j ≡ n = omega (arith, from) in
+    subst (λ (m : List ℕ). InSlot row n m low) (get_or-drop w.removed acc j [] ∙ ap (λ k. get_or acc k []) e)
+    (subst (λ k. InSlot row k (get_or (drop w.removed acc) j []) low) e (s.low_stands.slots j (omega (arith, size_of, from, to)))) in
     let c = r.capacity in
     let m = r.message in
     let up = order.0 in

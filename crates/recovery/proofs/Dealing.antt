@@ -1,13 +1,12 @@
 -- One message more is dealt out.
-use Rattle.std.proofs.Common.{rules, nat_lt, true, false, ◌≡◌, ◌⊎◌, inl, inr, ℕ, zero, suc, ◌+◌, ◌-◌, ◌<◌, ◌≤◌, List, [], ◌∷◌, ◌++◌, length, take, drop, get_or, slice_get, Option, Some, None, refl, sym, ◌∙◌, ap, subst, arith, length-append, length-drop}
+use Rattle.std.proofs.Common.{nat_lt, true, false, ◌≡◌, inl, inr, ℕ, zero, suc, ◌+◌, ◌-◌, ◌<◌, ◌≤◌, List, [], ◌∷◌, ◌++◌, length, take, get_or, slice_get, Option, Some, None, refl, sym, ◌∙◌, ap, subst, arith, length-append}
 use Rattle.std.proofs.lemmas.Bool.{cases_lt}
 use Rattle.std.proofs.lemmas.List.{take_all, take_at, get_or_append_left, get_or_at}
-use Rattle.pump_core.specs.Passage.{Low, High, ComesNext, forwards}
+use Rattle.pump_core.specs.Passage.{Low, High, ComesNext}
 use Rattle.pump_frame.specs.declared.frame.Item.{Item}
 use Rattle.stable_buffer.specs.Numbers.{length_at}
 use Rattle.stable_buffer.specs.Stands.{InSlot, slot_of}
 use Rattle.recovery.specs.Refusals.{bad_slot}
-use Rattle.recovery.specs.declared.why.Why.{Why}
 use Rattle.recovery.specs.declared.why.Why.TheVariants.{BadSlot}
 use Rattle.pump_frame.specs.declared.row.SessionRow.{SessionRow}
 use Rattle.recovery.specs.Deals.{numbered, passing, InHands, Fills, InSlots}
@@ -55,7 +54,7 @@ slots_cons : (row : SessionRow) (b : ℕ) (m : List ℕ) (ms : List (List ℕ)) 
 slots_cons row b m ms disk has all zero lt = let e : b ≡ b + 0 = omega arith in subst (λ k. InSlot row k m disk) e has
 slots_cons row b m ms disk has all (suc i) lt = let e : b + 1 + i ≡ b + suc i = omega arith in subst (λ k. InSlot row k (get_or ms i []) disk) e (all i (omega (arith, lt)))
 
-get_beyond : (xs : List Item) (k : ℕ) → length xs ≤ k → slice_get xs k ≡ None
+pub get_beyond : (xs : List Item) (k : ℕ) → length xs ≤ k → slice_get xs k ≡ None
 get_beyond [] k le = refl
 get_beyond (y ∷ xs) zero le = absurd (omega (arith, le))
 get_beyond (y ∷ xs) (suc k) le = get_beyond xs k (omega (arith, le))

@@ -1,5 +1,5 @@
 -- What a lawful row's numbers are.
-use Rattle.std.proofs.Common.{◌≡◌, ◌≤◌, ◌&&◌, nat_le, if◌then◌else◌, Bool, true, false, Option, None, Some, refl, arith}
+use Rattle.std.proofs.Common.{◌≡◌, ◌≤◌, nat_le, if◌then◌else◌, Bool, true, false, Option, None, Some, refl, arith}
 use Rattle.std.proofs.lemmas.Bool.{and_parts}
 use Rattle.std.proofs.lemmas.Bool.Decides.{nat_tests}
 use Rattle.pump_frame.specs.Rows.{is_within, IsLawfulRow}

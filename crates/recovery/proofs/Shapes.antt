@@ -1,16 +1,14 @@
 -- The first bytes of a disk.
-use Rattle.std.proofs.Common.{rules, ◌≡◌, ℕ, zero, suc, ◌+◌, ◌-◌, ◌^◌, ◌<◌, ◌≤◌, ◌==◌, ◌&&◌, nat_le, nat_lt, if◌then◌else◌, true, false, Bool, List, [], ◌∷◌, ◌++◌, length, get_or, take, drop, Option, Some, None, refl, sym, ◌∙◌, ap, subst, arith}
-use Rattle.std.proofs.lemmas.List.{get_or-drop, get_or-take, take-take}
-use Rattle.byteorder.specs.Endian.{big_bytes}
+use Rattle.std.proofs.Common.{◌≡◌, ℕ, ◌+◌, ◌<◌, ◌≤◌, nat_le, nat_lt, if◌then◌else◌, true, false, Bool, List, [], length, get_or, take, drop, Option, Some, None, sym, ◌∙◌, ap, subst, arith}
+use Rattle.std.proofs.lemmas.List.{get_or-take, take-take}
 use Rattle.stable_buffer.specs.Register.{value_of}
 use Rattle.stable_buffer.specs.Stands.{HasHeader, LowStands, low_size}
-use Rattle.stable_buffer.specs.Format.{role_byte}
 use Rattle.pump_frame.specs.declared.row.SessionRow.{SessionRow}
 use Rattle.disk_model.specs.declared.name.Role.{Role}
-use Rattle.disk_model.specs.declared.name.Role.TheVariants.{Low, High, Recv}
+use Rattle.disk_model.specs.declared.name.Role.TheVariants.{Low}
 use Rattle.stable_buffer.specs.Log.{RecvStands, is_log, log_of}
 use Rattle.stable_buffer.proofs.Logs.{found}
-use Rattle.recovery.specs.Refusals.{word_at, fields, wanted, other_field, other_size, refused_front, refused_shape, or_else, HasFields}
+use Rattle.recovery.specs.Refusals.{word_at, other_size, refused_shape, or_else}
 use Rattle.recovery.specs.declared.why.Why.{Why}
 use Rattle.recovery.proofs.Words.{word_at-agree}
 use Rattle.recovery.specs.declared.why.Why.TheVariants.{NotABuffer}

@@ -1,5 +1,5 @@
 -- A walk over the records of a log.
-use Rattle.std.proofs.Common.{◌≡◌, ℕ, zero, suc, ◌+◌, ◌-◌, ◌<◌, ◌≤◌, ◌==◌, ◌&&◌, nat_le, nat_eq, true, false, Bool, List, length, get_or, take, drop, refl, sym, ◌∙◌, ap, subst, arith, length-drop}
+use Rattle.std.proofs.Common.{◌≡◌, ℕ, zero, suc, ◌+◌, ◌-◌, ◌<◌, ◌≤◌, ◌&&◌, nat_le, nat_eq, true, false, Bool, List, length, get_or, drop, refl, sym, ◌∙◌, ap, arith, length-drop}
 use Rattle.std.proofs.lemmas.List.{get_or-drop, get_or-take, length-take-le, drop-drop}
 use Rattle.stable_buffer.specs.Numbers.{length_at}
 use Rattle.stable_buffer.specs.Log.{is_log, log_of}

@@ -5,6 +5,7 @@
 mod compare;
 mod hands;
 mod kept;
+mod law;
 mod pass;
 mod pump;
 mod receiver;
@@ -14,6 +15,7 @@ mod shape;
 mod why;
 
 pub use compare::agree;
+pub use law::{each_triple_opens, openings_refill, removed_images, stored_images, taken_images};
 pub use pump::{NotOpened, Opened, open_pump};
 pub use receiver::open_receiver;
 pub use why::Why;

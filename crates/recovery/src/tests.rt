@@ -251,3 +251,15 @@ fn a_disk_that_fails_says_so_and_nothing_else(rt: HostRuntime) -> Result<(), Fai
         }
     }
 }
+
+#[test]
+fn a_refusal_says_what_was_found(rt: HostRuntime) -> Result<(), Fail> {
+    let why = shape(4, 5, 3);
+    let text = format!(in rt.alloc(); "{why}")?;
+    assert_eq!(rt;
+        text.as_str(),
+        "the disk was made with the capacity 5, and the row wants 3; use the row that it was made with, or empty it and format it for this one"
+    );
+    assert_eq!(rt; (why.number(), why.values()), (3, (5, 3)));
+    Ok(())
+}

@@ -1,7 +1,7 @@
-use Rattle.std.proofs.Common.{◌≡◌, ℕ, ◌+◌, ◌-◌, ◌<◌, ◌≤◌, List, [], ◌∷◌, ◌++◌, length, refl, sym, ◌∙◌, ap, subst, arith, length-append}
+use Rattle.std.proofs.Common.{◌≡◌, ℕ, ◌+◌, ◌-◌, List, [], ◌∷◌, ◌++◌, length, refl, sym, ◌∙◌, ap, subst, arith, length-append}
 use Rattle.disk_model.specs.Disk.{Same}
 use Rattle.disk_model.proofs.Run.{started, goes_on_same}
-use Rattle.pump_core.specs.Passage.{Low, High, Shape, ComesNext}
+use Rattle.pump_core.specs.Passage.{Low, Shape, ComesNext}
 use Rattle.pump_frame.specs.declared.frame.Item.{Item}
 use Rattle.stable_buffer.specs.Stands.{InSlot}
 use Rattle.recovery.specs.Refusals.{bad_slot}

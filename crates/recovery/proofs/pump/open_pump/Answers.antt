@@ -1,7 +1,6 @@
-use Rattle.std.proofs.Common.{◌≡◌, ◌⊎◌, inl, inr, ◌∙◌, ℕ, List, ◌+◌, ◌≤◌, false, refl, sym, ap, subst, arith}
+use Rattle.std.proofs.Common.{◌≡◌, inl, inr, ◌∙◌, ℕ, List, false, refl, sym, subst, arith}
 use Rattle.disk_model.specs.Disk.{Moves, Same}
 use Rattle.disk_model.proofs.Run.{goes_on_same}
-use Rattle.pump_frame.specs.declared.row.SessionRow.{SessionRow}
 use Rattle.recovery.specs.Calls.{Calls}
 use Rattle.recovery.specs.Deals.{InSlots}
 use Rattle.recovery.proofs.Calls.{gone_on, stopped}

@@ -1,6 +1,6 @@
-use Rattle.std.proofs.Common.{◌≡◌, ◌∙◌, ℕ, List, ◌+◌, ◌≤◌, true, length, refl, sym, ap, subst, arith}
+use Rattle.std.proofs.Common.{◌≡◌, ◌∙◌, true, sym, arith}
 use Rattle.disk_model.proofs.Run.{settled_same}
-use Rattle.stable_buffer.specs.Log.{RecvStands, is_log, log_of}
+use Rattle.stable_buffer.specs.Log.{is_log, log_of}
 use Rattle.recovery.proofs.Shapes.{recv_from}
 use Rattle.recovery.proofs.receiver.open_receiver.Goals as goal
 

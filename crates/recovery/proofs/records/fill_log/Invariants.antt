@@ -1,4 +1,4 @@
-use Rattle.std.proofs.Common.{◌≡◌, ◌-◌, ◌≤◌, ℕ, false, drop}
+use Rattle.std.proofs.Common.{◌≡◌, ◌-◌, ◌≤◌, false, drop}
 use Rattle.disk_model.specs.Disk.{Moves, Same}
 use Rattle.stable_buffer.specs.Register.{IsReady, register_value}
 use Rattle.stable_buffer.specs.Log.{is_log, log_of}

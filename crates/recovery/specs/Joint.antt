@@ -1,0 +1,56 @@
+-- The three disks of a session as a crash may leave them, and the world that they come from.
+use Rattle.std.specs.Prelude.{◌≡◌, ℕ, ◌+◌, ◌^◌, ◌<◌, ◌≤◌, Bool, true, false, if◌then◌else◌, ◌&&◌, List, [], ◌∷◌, ◌++◌, length, drop, Option, Some, None}
+use Rattle.pump_core.specs.World.{World}
+use Rattle.pump_core.specs.Lawful.{IsLawful}
+use Rattle.stable_buffer.specs.Stands.{LowStands, HighStands}
+use Rattle.stable_buffer.specs.Log.{RecvStands}
+use Rattle.pump_frame.specs.declared.row.SessionRow.{SessionRow}
+use Rattle.stable_buffer.specs.Register.{value_of}
+use Rattle.recovery.specs.Refusals.{refused_pump, refused_receiver}
+use Rattle.recovery.specs.Agreement.{Agree}
+
+-- an unfinished message is kept or not
+abbrev pub kept_with : Bool → Option (List ℕ) → List (List ℕ) → List (List ℕ)
+kept_with true (Some p) ps = ps ++ p ∷ []
+kept_with true None ps = ps
+kept_with false x ps = ps
+
+-- the message whose taking is unfinished
+abbrev pub taking_of : World → Option (List ℕ)
+taking_of w = if w.taking then w.packet else None
+
+-- what low's disk, high's and the receiver's may be found to have
+abbrev pub accepted_if : World → Bool → List (List ℕ)
+accepted_if w kept = kept_with kept w.storing w.accepted
+
+abbrev pub removed_if : World → Bool → ℕ
+removed_if w kept = if kept && w.removing then w.removed + 1 else w.removed
+
+abbrev pub received_if : World → Bool → List (List ℕ)
+received_if w kept = kept_with kept (taking_of w) w.received
+
+-- the disks stand for the world with each unfinished call kept or not
+pub record Stand (row : SessionRow) (w : World) (stored removed taken : Bool) (low high recv : List ℕ) : Type 0 where
+  pub low_stands : LowStands row (length (accepted_if w stored)) w.removed (drop w.removed (accepted_if w stored)) low
+  pub high_stands : HighStands row (removed_if w removed) high
+  pub recv_stands : RecvStands row (received_if w taken) recv
+
+-- the row is the world's, its counts are in range, and the receiver's records end within the given size
+pub record IsRow (row : SessionRow) (w : World) (size : ℕ) (recv : List ℕ) : Type 0 where
+  pub capacity : row.capacity ≡ w.capacity
+  pub message : row.message ≤ 1024
+  pub session : row.id < 2 ^ 32
+  pub count : length (accepted_if w true) ≤ 2 ^ 48
+  pub room : (value_of recv).1 ≤ size
+
+-- nothing is refused, and the counts are those of the world
+pub record Opens (row : SessionRow) (size E B R : ℕ) (received : List (List ℕ)) (low high recv : List ℕ) : Type 0 where
+  pub pump : refused_pump row low high ≡ None
+  pub receiver : refused_receiver row size recv ≡ None
+  pub order : (B ≤ R) × (R ≤ E)
+  pub agree : Agree row B R received low
+
+-- Disks of one lawful world, each with its unfinished call kept or not, are refused for nothing and agree.
+abbrev pub EachTripleOpens : Type 0
+EachTripleOpens = (row : SessionRow) (w : World) (size : ℕ) (stored removed taken : Bool) (low high recv : List ℕ) → IsLawful w → IsRow row w size recv → Stand row w stored removed taken low high recv
+    → Opens row size (length (accepted_if w stored)) (removed_if w removed) (length (received_if w taken)) (received_if w taken) low high recv

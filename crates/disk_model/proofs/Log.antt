@@ -1,7 +1,7 @@
 -- One more entry of a record.
 use Rattle.std.proofs.Common.{◌≡◌, inl, inr, ⊎_elim, ℕ, ◌+◌, ◌≤◌, List, ◌∷◌, length, sym, ap, subst, arith}
 use Rattle.disk_model.specs.Contents.{Held}
-use Rattle.disk_model.specs.Disk.{Moves, Same, Torn, Holds}
+use Rattle.disk_model.specs.Disk.{Moves, Same, Torn, IsWritten}
 use Rattle.disk_model.specs.Mem.{Memory, mem_meaning, mem_reading}
 use Rattle.disk_model.specs.Record.{replay, IsImage, WasImage}
 use Rattle.disk_model.specs.RecordLaws.{replay_image}
@@ -48,9 +48,9 @@ moves_missed old new at bytes start pushed =
     (λ c is. is)
 
 pub holds_written : (old new : Memory) (at : ℕ) (bytes : List ℕ) → new.start ≡ old.start → new.log ≡ Write at bytes ∷ old.log → at ≤ length (mem_reading old) → at + length bytes ≤ old.start.room
-    → Holds (mem_reading old) at bytes (mem_reading new)
+    → IsWritten (mem_reading old) at bytes (mem_reading new)
 holds_written old new at bytes start pushed within ends =
-    subst (λ (l : List ℕ). Holds (mem_reading old) at bytes l) (sym (reading_pushed old new (Write at bytes) start pushed)) (written_holds old.start.room (mem_reading old) at bytes within ends)
+    subst (λ (l : List ℕ). IsWritten (mem_reading old) at bytes l) (sym (reading_pushed old new (Write at bytes) start pushed)) (written_holds old.start.room (mem_reading old) at bytes within ends)
 
 -- a sync is kept
 pub moves_synced : (old new : Memory) → new.start ≡ old.start → new.log ≡ Sync ∷ old.log → Moves mem_meaning Same old new

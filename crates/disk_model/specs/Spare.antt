@@ -8,7 +8,7 @@ use Rattle.disk_model.specs.Record.{replay}
 use Rattle.disk_model.specs.declared.record.Entry.{Entry}
 
 -- an empty buffer that takes this many bytes
-pub record HasRoom (room : ℕ) (buffer : Vec ℕ Global) : Type 0 where
+pub record HasSpare (room : ℕ) (buffer : Vec ℕ Global) : Type 0 where
   pub empty : buffer.items ≡ []
   pub takes : room ≤ vec_capacity buffer
 
@@ -17,6 +17,6 @@ pub record IsKept (start current made : Held) (log : VecDeque Entry Global) (spa
   pub replayed : current.bytes ≡ replay start log.items
   pub current_room : current.room ≡ start.room
   pub made_room : made.room ≡ start.room
-  pub spare_room : All (HasRoom start.room) spare.items
+  pub spare_room : All (HasSpare start.room) spare.items
   pub spare_count : left ≤ vec_len spare
   pub log_room : deque_len log + left ≤ deque_capacity log

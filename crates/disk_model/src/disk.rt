@@ -1,5 +1,5 @@
 ghost use Rattle.std.specs.Prelude.{◌≡◌, ℕ, ◌+◌, ◌≤◌, length, take, drop, OnOk, IfOk, OnErr, ⊤};
-ghost use Rattle.disk_model.specs.Disk.{Meaning, Moves, Same, Torn, Holds, Settled, KeepsImages, Answers, FailsPast};
+ghost use Rattle.disk_model.specs.Disk.{Meaning, Moves, Same, Torn, IsWritten, Settled, KeepsImages, Answers, FailsPast};
 
 /// A call of a disk failed; its count rose, or stands at its greatest value.
 #[derive(Clone, Copy, Debug, PartialEq, Eq)]
@@ -38,7 +38,7 @@ pub trait Disk {
     fn write_at(&mut self, at: u64, bytes: &[u8]) -> Result<(), DiskFault>
         requires { told.tells → at ≤ length (told.reading self.old) }
         ensures written { OnOk result (told.tells
-            → Holds (told.reading self.old) at bytes.now (told.reading self.new)) }
+            → IsWritten (told.reading self.old) at bytes.now (told.reading self.new)) }
         ensures moves { Moves told (Torn at (length bytes.now)) self.old self.new }
         ensures answers { Answers told (at + length bytes.now ≤ told.room self.old)
             self.old self.new result }

@@ -1,6 +1,6 @@
 ghost use Rattle.std.specs.Prelude.{◌≡◌, ◌+◌, ◌-◌, ◌<◌, ◌≤◌, ◌↔◌, true, false, [], ◌∷◌, length, ⊤, take, drop, Contains, IsTrue, IfOk, IsOk, IsErr, OnOk, OnErr, is_ok, if◌then◌else◌};
 ghost use Rattle.pump_frame.specs.Counts.{raised};
-ghost use Rattle.disk_model.specs.Disk.{Moves, Same, Torn, Holds, Settled, KeepsImages, Answers, FailsPast};
+ghost use Rattle.disk_model.specs.Disk.{Moves, Same, Torn, IsWritten, Settled, KeepsImages, Answers, FailsPast};
 ghost use Rattle.disk_model.specs.Mem.{Memory, mem_meaning, mem_reading, takes, Called, Logs, LogsNothing};
 ghost use Rattle.disk_model.specs.Record.{crashed};
 ghost use Rattle.disk_model.specs.declared.record.Entry.TheVariants.{Write, Missed, Sync};
@@ -209,7 +209,7 @@ impl Disk for MemDisk {
 
     fn write_at(&mut self, at: u64, bytes: &[u8]) -> Result<(), DiskFault>
         requires { at ≤ length (mem_reading self.old) }
-        ensures written { OnOk result (Holds (mem_reading self.old) at bytes.now
+        ensures written { OnOk result (IsWritten (mem_reading self.old) at bytes.now
             (mem_reading self.new)) }
         ensures moves { Moves mem_meaning (Torn at (length bytes.now)) self.old self.new }
         ensures answers { Answers mem_meaning (at + length bytes.now ≤ self.old.start.room)

@@ -1,6 +1,6 @@
 ghost use Rattle.std.specs.Prelude.{◌≡◌, ◌+◌, ◌≤◌, true, false, [], length, max, take, drop, vec_len, vec_capacity, IfOk, IsErr, IsTrue, OnOk, OnErr, ⊤};
 ghost use Rattle.pump_frame.specs.Counts.{CountsFailure};
-ghost use Rattle.disk_model.specs.Disk.{Moves, Same, Torn, Holds, Settled, KeepsImages, Answers, FailsPast};
+ghost use Rattle.disk_model.specs.Disk.{Moves, Same, Torn, IsWritten, Settled, KeepsImages, Answers, FailsPast};
 ghost use Rattle.disk_model.specs.Plain.{Plain, plain_meaning};
 
 use crate::contents::write_over;
@@ -41,7 +41,7 @@ impl Model for PlainDisk {
 fn put(bytes: &mut Vec<u8>, at: usize, new: &[u8])
     requires starts { at ≤ vec_len bytes.old }
     requires ends { at + length new.now ≤ vec_capacity bytes.old }
-    ensures holds { Holds bytes.old.items at new.now bytes.new.items }
+    ensures holds { IsWritten bytes.old.items at new.now bytes.new.items }
     ensures length { vec_len bytes.new ≤ max (vec_len bytes.old) (at + length new.now) }
     ensures capacity { vec_capacity bytes.old ≤ vec_capacity bytes.new }
 {
@@ -129,7 +129,7 @@ impl Disk for PlainDisk {
 
     fn write_at(&mut self, at: u64, bytes: &[u8]) -> Result<(), DiskFault>
         requires { at ≤ length self.old.bytes }
-        ensures written { OnOk result (Holds self.old.bytes at bytes.now self.new.bytes) }
+        ensures written { OnOk result (IsWritten self.old.bytes at bytes.now self.new.bytes) }
         ensures moves { Moves plain_meaning (Torn at (length bytes.now)) self.old self.new }
         ensures answers { Answers plain_meaning (at + length bytes.now ≤ self.old.room)
             self.old self.new result }

@@ -1,7 +1,7 @@
 // The memory of a record, made beforehand.
 ghost use Rattle.std.specs.Prelude.{◌≡◌, ◌+◌, ◌≤◌, ◌<◌, ◌∷◌, [], length, All, IfOk, vec_len, vec_capacity};
 ghost use Rattle.std.specs.VecDeque.{deque_len, deque_capacity};
-ghost use Rattle.disk_model.specs.Spare.{HasRoom};
+ghost use Rattle.disk_model.specs.Spare.{HasSpare};
 
 use crate::record::{Entry, Piece};
 use pump_frame::OutOfMemory;
@@ -10,7 +10,7 @@ use std::collections::VecDeque;
 
 pub fn spare_buffers(alloc: Global, room: usize, count: u32) -> Result<Vec<Vec<u8>>, OutOfMemory>
     ensures count { IfOk result (λ spare. vec_len spare ≡ count) }
-    ensures room { IfOk result (λ spare. All (HasRoom room) spare.items) }
+    ensures room { IfOk result (λ spare. All (HasSpare room) spare.items) }
 {
     let mut spare = Vec::new(alloc);
     for _ in 0..count {
@@ -33,11 +33,11 @@ fn filled(mut buffer: Vec<u8>, bytes: &[u8]) -> Piece
 // A copy of the bytes, in one of the buffers.
 pub fn next_piece(spare: &mut Vec<Vec<u8>>, room: usize, bytes: &[u8]) -> Piece
     requires some { 0 < vec_len spare.old }
-    requires buffers { All (HasRoom room) spare.old.items }
+    requires buffers { All (HasSpare room) spare.old.items }
     requires fits { length bytes.now ≤ room }
     ensures piece { result ≡ bytes.now }
     ensures count { vec_len spare.new + 1 ≡ vec_len spare.old }
-    ensures buffers { All (HasRoom room) spare.new.items }
+    ensures buffers { All (HasSpare room) spare.new.items }
 {
     match spare.pop() {
         Some(buffer) => filled(buffer, bytes),

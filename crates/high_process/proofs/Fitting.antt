@@ -9,8 +9,8 @@ use Rattle.high_process.specs.declared.values.Task.TheVariants.{Refuse, Remove, 
 use Rattle.high_process.specs.declared.process.HighProcess.{HighProcess}
 use Rattle.pump_core.specs.Sendings.{expected}
 use Rattle.high_process.specs.Past.{ProcessPast, begun, next_time, published_in, taken_up, finished, wants}
-use Rattle.high_process.specs.Ends.{Takes, told_time, FitsEnd, StandsFitting}
-use Rattle.high_process.specs.Looks.{Stands, Looked}
+use Rattle.high_process.specs.Ends.{TakesUp, told_time, FitsEnd, StandsFitting}
+use Rattle.high_process.specs.Looks.{StandsFor, Looked}
 use Rattle.high_process.proofs.Looking.{expected_near}
 
 told_count : (o : Option ℕ) (h : High) (times : List ℕ) → length h.times ≡ length times → length (told_time o h).times ≡ length (times ++ option_to_list o)
@@ -26,13 +26,13 @@ record Fit (h : High) (t : ProcessPast) : Type 0 where
   pub count : length h.times ≡ length t.times
   pub floor : h.floor ≤ expected t.removed t.hand
 
-fit_from : (p : HighProcess) (t : ProcessPast) (h : High) → Stands p t → FitsEnd p h → Fit h t
+fit_from : (p : HighProcess) (t : ProcessPast) (h : High) → StandsFor p t → FitsEnd p h → Fit h t
 fit_from p t h stands fits = record {
   count = fits.count ∙ stands.holds.count;
   floor = subst (λ (c : ℕ × Option Item). h.floor ≤ expected c.0 c.1) (λ i. (stands.holds.removed i, stands.holds.hand i)) fits.floor;
 }
 
-fits_from : (q : HighProcess) (t : ProcessPast) (h : High) → Stands q t → Fit h t → FitsEnd q h
+fits_from : (q : HighProcess) (t : ProcessPast) (h : High) → StandsFor q t → Fit h t → FitsEnd q h
 fits_from q t h stands fit = record {
   count = fit.count ∙ sym stands.holds.count;
   floor = subst (λ (c : ℕ × Option Item). h.floor ≤ expected c.0 c.1) (λ i. (sym stands.holds.removed i, sym stands.holds.hand i)) fit.floor;
@@ -47,13 +47,13 @@ fit_begun Keep t m h fit = fit
 fit_begun (Refuse e) t m h fit = fit
 
 takes_fits : (s : Shape) (exact : Bool) (after : Low → High → Type 0) (l : Low) (h : High) (q : HighProcess) (b : Bool) (t : ProcessPast) (got : Option Item)
-    → Fit h t → ((k : High) → Fit k (taken_up t got) → FitsEnd q k) → Takes s exact after l h b t.removed got → Takes s exact (StandsFitting after q) l h b t.removed got
+    → Fit h t → ((k : High) → Fit k (taken_up t got) → FitsEnd q k) → TakesUp s exact after l h b t.removed got → TakesUp s exact (StandsFitting after q) l h b t.removed got
 takes_fits s exact after l h q true t (Some x) fit ends (is, stands) = (is, (stands, ends (takes h x t.removed) (record { count = fit.count; floor = omega arith })))
 takes_fits s exact after l h q true t None fit ends (is, stands) = (is, (stands, ends (sought h (length h.taken)) (record { count = fit.count; floor = fit.floor })))
 takes_fits s exact after l h q false t got fit ends (none, stands) = (none, (stands, ends h (subst (λ g. Fit h (taken_up t g)) (sym none) fit)))
 
 pub looked_fitting : (s : Shape) (exact : Bool) (after : Low → High → Type 0) (l : Low) (h : High) (p q : HighProcess) (t : ProcessPast) (m : ℕ) (task : Task) (a : Bool) (look : HighLook)
-    → Stands p t → FitsEnd p h → Looked s exact after l h p q t m task a look → Looked s exact (StandsFitting after q) l h p q t m task a look
+    → StandsFor p t → FitsEnd p h → Looked s exact after l h p q t m task a look → Looked s exact (StandsFitting after q) l h p q t m task a look
 looked_fitting s exact after l h p q t m task a look stands fits seen =
     let u : ProcessPast = begun task t m in
     record {
@@ -64,14 +64,14 @@ looked_fitting s exact after l h p q t m task a look stands fits seen =
       is = seen.is;
     }
 
-takes_some : (s : Shape) (exact : Bool) (after : Low → High → Type 0) (l : Low) (h : High) (b : Bool) (n : ℕ) (got : Option Item) → Takes s exact after l h b n got → (l' : Low) × ((h' : High) × after l' h')
+takes_some : (s : Shape) (exact : Bool) (after : Low → High → Type 0) (l : Low) (h : High) (b : Bool) (n : ℕ) (got : Option Item) → TakesUp s exact after l h b n got → (l' : Low) × ((h' : High) × after l' h')
 takes_some s exact after l h true n (Some x) (is, stands) = (l, (takes h x n, stands))
 takes_some s exact after l h true n None (is, stands) = (l, (sought h (length h.taken), stands))
 takes_some s exact after l h false n got (none, stands) = (l, (h, stands))
 
 -- there is something that the end and the process stand for after a look
 pub looked_some : (s : Shape) (exact : Bool) (after : Low → High → Type 0) (l : Low) (h : High) (p q : HighProcess) (t : ProcessPast) (m : ℕ) (task : Task) (a : Bool) (look : HighLook)
-    → Looked s exact after l h p q t m task a look → (l' : Low) × ((h' : High) × ((t' : ProcessPast) × (after l' h' × Stands q t')))
+    → Looked s exact after l h p q t m task a look → (l' : Low) × ((h' : High) × ((t' : ProcessPast) × (after l' h' × StandsFor q t')))
 looked_some s exact after l h p q t m task a look seen =
     let u : ProcessPast = begun task t m in
     let e = takes_some s exact after l (told_time (published_in task t m) h) (wants u) u.removed seen.got seen.ends in

@@ -28,8 +28,8 @@ use Rattle.high_process.specs.Past.{ProcessPast, next_time, begun, removed_in, p
 use Rattle.high_process.specs.States.{State, state_of, hand_in, hand_of, first_sent, last_sent}
 use Rattle.high_process.specs.Steps.{time_of, counted, wants_of, sends_of, before, with_item, sent_at, after, StepBegins, StepFinishes}
 use Rattle.high_process.specs.Storing.{GivenBack, Removing, Fares, IsAfter, StandsOrRemoved}
-use Rattle.high_process.specs.Ends.{IsTime, Takes, told_time}
-use Rattle.high_process.specs.Looks.{HoldsSends, Holds, Stands, LookBegins, Finishes, Asked, Looked}
+use Rattle.high_process.specs.Ends.{IsTime, TakesUp, told_time}
+use Rattle.high_process.specs.Looks.{HoldsSends, Holds, StandsFor, LookBegins, Finishes, Asked, Looked}
 
 -- ---- sendings ----
 
@@ -397,14 +397,14 @@ module _ {D : Type 0} (m : Meaning D) (row : Row) (session removed : ℕ) (hand 
   images T p q r Remove is f = removed_images (removal session removed hand frame (sym is)).given f.0.moves
 
 pub looked : (s : Shape) (exact : Bool) (after' : Low → High → Type 0) (l : Low) (h : High) (p q q' : HighProcess) (t : ProcessPast) (m : ℕ) (task : Task) (a : Bool) (ask : HighAsk) (item : Option Item) (look : HighLook)
-    → q.row.resend ≡ p.row.resend → LookBegins p q m task a ask → Finishes q q' item look → Takes s exact after' l (told_time ask.publish h) ask.wants ask.removed item → Stands p t
+    → q.row.resend ≡ p.row.resend → LookBegins p q m task a ask → Finishes q q' item look → TakesUp s exact after' l (told_time ask.publish h) ask.wants ask.removed item → StandsFor p t
     → Looked s exact after' l h p q' t m task a look
 looked s exact after' l h p q q' t m task a ask item look same begins finishes takes holds =
     let b = begins t holds in
     let f = finishes (begun task t m) m (removed_in task t) (published_in task t m) a b.0 in
     record {
       got = item;
-      ends = subst (λ (r : HighAsk). Takes s exact after' l (told_time r.publish h) r.wants r.removed item) b.1 takes;
-      stands = subst (λ n. Stands q' (finished n a (taken_up (begun task t m) item) m)) same f.0;
+      ends = subst (λ (r : HighAsk). TakesUp s exact after' l (told_time r.publish h) r.wants r.removed item) b.1 takes;
+      stands = subst (λ n. StandsFor q' (finished n a (taken_up (begun task t m) item) m)) same f.0;
       is = subst (λ n. look ≡ record { removed = removed_in task t; published = published_in task t m; sent = sent_in n a (taken_up (begun task t m) item) m }) same f.1;
     }

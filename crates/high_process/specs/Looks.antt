@@ -11,7 +11,7 @@ use Rattle.high_process.specs.declared.process.HighProcess.{HighProcess}
 use Rattle.pump_core.specs.Sendings.{Sending, last_sending, first_sending, expected}
 use Rattle.high_process.specs.Past.{ProcessPast, begun, removed_in, published_in, wants, taken_up, finished, sent_in}
 use Rattle.high_process.specs.States.{State, state_of, removed_of, hand_of, first_sent, last_sent}
-use Rattle.high_process.specs.Ends.{IsTime, told_time, Takes}
+use Rattle.high_process.specs.Ends.{IsTime, told_time, TakesUp}
 
 -- the message in the hand of an opening is the next one
 abbrev pub IsHand : ℕ → Option Item → Type 0
@@ -31,7 +31,7 @@ pub record Holds (s : State) (t : ProcessPast) : Type 0 where
   pub sends : HoldsSends s.removed s.sent t.sends
 
 -- between two looks: the process stands for this past
-pub record Stands (p : HighProcess) (t : ProcessPast) : Type 0 where
+pub record StandsFor (p : HighProcess) (t : ProcessPast) : Type 0 where
   pub asking : p.asking ≡ None
   pub holds : Holds (state_of p) t
   pub last : p.last ≡ t.moment
@@ -44,14 +44,14 @@ pub record AsksFor (p : HighProcess) (t : ProcessPast) (m : ℕ) (removed publis
 
 -- the first half of a look: it asks for what its past wants, once that past has the removal
 abbrev pub LookBegins : HighProcess → HighProcess → ℕ → Task → Bool → HighAsk → Type 0
-LookBegins p q m task attaches ask = (t : ProcessPast) → Stands p t →
+LookBegins p q m task attaches ask = (t : ProcessPast) → StandsFor p t →
     AsksFor q (begun task t m) m (removed_in task t) (published_in task t m) attaches
     × (ask ≡ record { publish = published_in task t m; wants = wants (begun task t m); removed = (begun task t m).removed })
 
 -- the second half: the past has the message that came, and the sending
 abbrev pub Finishes : HighProcess → HighProcess → Option Item → HighLook → Type 0
 Finishes p q item look = (t : ProcessPast) (m : ℕ) (removed published : Option ℕ) (attaches : Bool) → AsksFor p t m removed published attaches →
-    Stands q (finished p.row.resend attaches (taken_up t item) m)
+    StandsFor q (finished p.row.resend attaches (taken_up t item) m)
     × (look ≡ record { removed = removed; published = published; sent = sent_in p.row.resend attaches (taken_up t item) m })
 
 -- the process asks for just what `ask` wants
@@ -75,6 +75,6 @@ pub record Asked (p q : HighProcess) (ask : HighAsk) : Type 0 where
 -- what the end stands for then
 pub record Looked (s : Shape) (exact : Bool) (after : Low → High → Type 0) (l : Low) (h : High) (p q : HighProcess) (t : ProcessPast) (m : ℕ) (task : Task) (attaches : Bool) (look : HighLook) : Type 0 where
   pub got : Option Item
-  pub ends : Takes s exact after l (told_time (published_in task t m) h) (wants (begun task t m)) (begun task t m).removed got
-  pub stands : Stands q (finished p.row.resend attaches (taken_up (begun task t m) got) m)
+  pub ends : TakesUp s exact after l (told_time (published_in task t m) h) (wants (begun task t m)) (begun task t m).removed got
+  pub stands : StandsFor q (finished p.row.resend attaches (taken_up (begun task t m) got) m)
   pub is : look ≡ record { removed = removed_in task t; published = published_in task t m; sent = sent_in p.row.resend attaches (taken_up (begun task t m) got) m }

@@ -8,7 +8,7 @@ use Rattle.high_process.specs.declared.process.HighProcess.{HighProcess}
 use Rattle.high_process.specs.Past.{ProcessPast}
 use Rattle.high_process.specs.States.{removed_of, is_down, IsBetweenLooks}
 use Rattle.high_process.specs.Ends.{StandsFitting}
-use Rattle.high_process.specs.Looks.{Stands}
+use Rattle.high_process.specs.Looks.{StandsFor}
 
 -- the process, its store and its end are in step
 pub record Ready {D : Type 0} (m : Meaning D) (p : HighProcess) (store : HighStore D) (stands : Low → High → Type 0) : Type 0 where
@@ -17,7 +17,7 @@ pub record Ready {D : Type 0} (m : Meaning D) (p : HighProcess) (store : HighSto
   pub ready : IsHighReady m store
   pub count : high_count store ≡ removed_of p
   pub t : ProcessPast
-  pub past : Stands p t
+  pub past : StandsFor p t
   pub l : Low
   pub h : High
   pub fitting : StandsFitting stands p l h

@@ -10,7 +10,7 @@ use Rattle.high_process.specs.declared.values.HighLook.{HighLook}
 use Rattle.pump_core.specs.Sendings.{time_since, is_due}
 use Rattle.pump_core.specs.Passage.{Shape, Low, High}
 use Rattle.high_process.specs.States.{State, first_sent, last_sent}
-use Rattle.high_process.specs.Ends.{told_time, Takes}
+use Rattle.high_process.specs.Ends.{told_time, TakesUp}
 
 -- the time that a removal publishes
 abbrev pub time_of : ℕ → Option Sent → ℕ → Option ℕ
@@ -83,4 +83,4 @@ StepFinishes resend s q item look = (a : Asking) → s.asking ≡ Some a →
 pub record Fills (s : Shape) (exact : Bool) (stands after : Low → High → Type 0) (p q : State) (ask : HighAsk) : Type 0 where
   pub got : Option Item
   pub filled : q ≡ with_item p got
-  pub takes : (l : Low) (h : High) → stands l h → Takes s exact after l (told_time ask.publish h) ask.wants ask.removed got
+  pub takes : (l : Low) (h : High) → stands l h → TakesUp s exact after l (told_time ask.publish h) ask.wants ask.removed got

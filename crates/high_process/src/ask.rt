@@ -2,7 +2,7 @@
 ghost use Rattle.std.specs.Prelude.{◌≡◌, ◌≤◌, true, false, length, IfSome};
 ghost use Rattle.pump_core.specs.Passage.{Low, High};
 ghost use Rattle.high_process.specs.States.{hand_in};
-ghost use Rattle.high_process.specs.Ends.{IsTime, told_time, Takes};
+ghost use Rattle.high_process.specs.Ends.{IsTime, told_time, TakesUp};
 
 use crate::values::HighAsk;
 use passage::HighEnd;
@@ -20,7 +20,7 @@ fn tell<H: HighEnd>(time: Option<u32>, ends: &mut H)
     }
 }
 
-// Takes up the next message over what stands in `into`, if it is wanted and there is one.
+// TakesUp up the next message over what stands in `into`, if it is wanted and there is one.
 fn take_up<H: HighEnd>(wants: bool, removed: u64, ends: &mut H, into: &mut Item) -> bool
     requires { (l : Low) × (h : High) × H.stands ends.old l h × (wants ≡ true → h.floor ≤ removed) }
     ensures shape { H.shape ends.new ≡ H.shape ends.old }
@@ -28,7 +28,7 @@ fn take_up<H: HighEnd>(wants: bool, removed: u64, ends: &mut H, into: &mut Item)
     ensures none { wants ≡ false → result ≡ false }
     ensures kept { result ≡ false → into.new ≡ into.old }
     ensures takes { (l : Low) (h : High) → H.stands ends.old l h
-        → Takes (H.shape ends.old) H.exact (H.stands ends.new) l h wants removed (hand_in result into.new) }
+        → TakesUp (H.shape ends.old) H.exact (H.stands ends.new) l h wants removed (hand_in result into.new) }
 {
     if !wants {
         return false;
@@ -47,7 +47,7 @@ pub fn fetch<H: HighEnd>(ask: &HighAsk, ends: &mut H, into: &mut Item) -> bool
     ensures none { ask.now.wants ≡ false → result ≡ false }
     ensures kept { result ≡ false → into.new ≡ into.old }
     ensures takes { (l : Low) (h : High) → H.stands ends.old l h
-        → Takes (H.shape ends.old) H.exact (H.stands ends.new)
+        → TakesUp (H.shape ends.old) H.exact (H.stands ends.new)
         l (told_time ask.now.publish h) ask.now.wants ask.now.removed (hand_in result into.new) }
 {
     tell(ask.publish, ends);

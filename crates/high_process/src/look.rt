@@ -6,7 +6,7 @@ ghost use Rattle.high_process.specs.Past.{ProcessPast};
 ghost use Rattle.high_process.specs.States.{row_of, removed_of, last_of, is_down, task_at, attaches_at, IsBetweenLooks};
 ghost use Rattle.high_process.specs.Storing.{Fares, IsAfter, LeavesCounted};
 ghost use Rattle.high_process.specs.Ends.{StandsFitting};
-ghost use Rattle.high_process.specs.Looks.{Stands, LookBegins, Asked, Looked};
+ghost use Rattle.high_process.specs.Looks.{StandsFor, LookBegins, Asked, Looked};
 
 use crate::HighProcess;
 use crate::values::{HighAsk, HighFault, HighLook};
@@ -77,7 +77,7 @@ impl HighProcess {
         ensures fares { Fares D.told (task_at self.old (frame_of frame.entry))
             self.old self.new store.old store.new result }
         ensures looks { IfOk result (λ look. (l : Low) (h : High) (t : ProcessPast)
-            → StandsFitting (H.stands ends.old) self.old l h → Stands self.old t
+            → StandsFitting (H.stands ends.old) self.old l h → StandsFor self.old t
             → Looked (H.shape ends.old) H.exact (StandsFitting (H.stands ends.new) self.new)
             l h self.old self.new t moment
             (task_at self.old (frame_of frame.entry)) (attaches_at self.old (frame_of frame.entry)) look) }

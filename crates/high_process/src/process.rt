@@ -40,7 +40,7 @@ impl HighProcess {
     ghost use Rattle.high_process.specs.Tasks.{frame_of};
     ghost use Rattle.high_process.specs.Past.{fresh};
     ghost use Rattle.high_process.specs.States.{state_of, row_of, removed_of, hand_of, published_of, last_of, is_down, task_at, attaches_at, IsBetweenLooks};
-    ghost use Rattle.high_process.specs.Looks.{IsHand, Stands, Finishes, AsksJust, TakesItem};
+    ghost use Rattle.high_process.specs.Looks.{IsHand, StandsFor, Finishes, AsksJust, TakesItem};
     ghost use Rattle.high_process.specs.Ends.{IsTime};
     ghost use Rattle.high_process.specs.Storing.{Fares, Removing, IsAfter};
     ghost use Rattle.high_process.specs.Steps.{time_of, without_hand, wants_of, asks, ask_of, with_item, sends_of, StepBegins, StepFinishes, Fills};
@@ -50,7 +50,7 @@ impl HighProcess {
     pub fn open(row: &SessionRow, removed: u64, hand: Option<Item>) -> HighProcess
         requires removed { removed ≤ 2 ^ 48 }
         requires hand { IsHand removed hand }
-        ensures stands { Stands result (fresh removed hand) }
+        ensures stands { StandsFor result (fresh removed hand) }
         ensures between { IsBetweenLooks result }
         ensures row { row_of result ≡ row.now }
         ensures removed { removed_of result ≡ removed }

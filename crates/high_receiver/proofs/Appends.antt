@@ -2,7 +2,7 @@
 use Rattle.std.proofs.Common.{◌≡◌, inl, inr, ℕ, zero, suc, ◌+◌, ◌-◌, ◌<◌, ◌≤◌, ◌^◌, List, [], ◌∷◌, ◌++◌, length, take, drop, refl, sym, ◌∙◌, ap, subst, arith, length-append, length-drop}
 use Rattle.std.proofs.lemmas.List.{take-take, drop-drop, drop-take, length-take-le, take_all}
 use Rattle.byteorder.specs.Numbers.{big_number-reads_back}
-use Rattle.disk_model.specs.Disk.{Torn, Holds}
+use Rattle.disk_model.specs.Disk.{Torn, IsWritten}
 use Rattle.pump_frame.specs.declared.row.SessionRow.{SessionRow}
 use Rattle.stable_buffer.specs.Numbers.{length_at}
 use Rattle.stable_buffer.specs.Register.{value_of, SameOutside, KeepsValue, MayTurnTo, Selects}
@@ -157,9 +157,9 @@ turn_takes row parity first second message old new fits short selects has turn =
 }
 
 -- a record is written
-pub at_written : (at : ℕ) (message bytes old new : List ℕ) → bytes ≡ spelled message → at ≤ length old → Holds old at bytes new → StandsAt at message new
+pub at_written : (at : ℕ) (message bytes old new : List ℕ) → bytes ≡ spelled message → at ≤ length old → IsWritten old at bytes new → StandsAt at message new
 at_written at message bytes old new is within holds =
-    let holds' : Holds old at (spelled message) new = subst (λ (b : List ℕ). Holds old at b new) is holds in
+    let holds' : IsWritten old at (spelled message) new = subst (λ (b : List ℕ). IsWritten old at b new) is holds in
     let count = spelled_length message in
     record {
       within = omega (arith, ap length holds', length-append (take at old ++ spelled message) (drop (at + length (spelled message)) old), length-append (take at old) (spelled message), length-take-le at old within, count);

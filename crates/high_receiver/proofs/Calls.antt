@@ -6,7 +6,7 @@ use Rattle.pump_frame.specs.declared.row.SessionRow.{SessionRow}
 use Rattle.stable_buffer.specs.Log.{RecvStands}
 use Rattle.stable_buffer.specs.Register.{SameOutside, value_of, KeepsValue, MayTurnTo, Selects}
 use Rattle.stable_buffer.proofs.Cells.{value-selects}
-use Rattle.high_receiver.specs.Steps.{StandsOn, MayTake, Takes, StandsOrTakes}
+use Rattle.high_receiver.specs.Steps.{StandsOn, MayTake, TakesMessage, StandsOrTakes}
 use Rattle.high_receiver.proofs.Appends.{StandsAt, register_on, register_takes, at_stays, turn_takes}
 
 module _ {D : Type 0} (m : Meaning D) (row : SessionRow) (message : List ℕ) where
@@ -44,7 +44,7 @@ module _ {D : Type 0} (m : Meaning D) (row : SessionRow) (message : List ℕ) wh
 
   -- the reading once all is written
   pub taken : (parity first second : ℕ) (old mid new : List ℕ) → length message ≤ row.message → row.message ≤ 1024 → Selects parity first second mid → StandsOn row old mid → StandsAt second message mid
-      → SameOutside mid new → value_of new ≡ (first + 1, second + 2 + length message) → Takes row message old new
+      → SameOutside mid new → value_of new ≡ (first + 1, second + 2 + length message) → TakesMessage row message old new
   taken parity first second old mid new fits short selects on has outside value = record {
     more = λ messages stands. register_takes row messages first second message mid new fits short (value-selects parity first second mid selects) outside value has (on.same messages stands);
   }

@@ -5,7 +5,7 @@ use Rattle.pump_frame.specs.declared.row.SessionRow.{SessionRow}
 use Rattle.disk_model.specs.Disk.{Meaning, Moves, Settled, Leaves, Answers}
 use Rattle.stable_buffer.specs.Register.{IsReady}
 use Rattle.stable_buffer.specs.Log.{RecvStands}
-use Rattle.high_receiver.specs.Steps.{MayTake, Takes, StandsOrTakes}
+use Rattle.high_receiver.specs.Steps.{MayTake, TakesMessage, StandsOrTakes}
 use Rattle.high_receiver.specs.declared.receiver.Receiver.{Receiver}
 use Rattle.high_receiver.specs.declared.values.Taken.{Taken}
 use Rattle.high_receiver.specs.declared.values.Taken.TheVariants.{Took, Repeat}
@@ -76,7 +76,7 @@ pub record Stores {D : Type 0} (m : Meaning D) (message : List ℕ) (old new : R
   pub moves : Moves m (MayTake (recv_row old) message) (recv_disk old) (recv_disk new)
   pub during : (messages : List (List ℕ)) → RecvStands (recv_row old) messages (m.reading (recv_disk old))
       → Leaves m (recv_disk old) (recv_disk new) (StandsOrTakes (recv_row old) messages message)
-  pub taken : OnOk result (m.tells → Takes (recv_row old) message (m.reading (recv_disk old)) (m.reading (recv_disk new)))
+  pub taken : OnOk result (m.tells → TakesMessage (recv_row old) message (m.reading (recv_disk old)) (m.reading (recv_disk new)))
   pub closed : OnErr result (recv_is_open new ≡ false)
   pub answers : Answers m (recv_end old + 2 + length message ≤ m.room (recv_disk old)) (recv_disk old) (recv_disk new) result
   pub device : IfErr result (λ e. e ≡ Device (m.count (recv_disk new)))

@@ -13,7 +13,7 @@ pub record MayTake (row : SessionRow) (message : List ℕ) (old new : List ℕ) 
       → RecvStands row messages new ⊎ RecvStands row (messages ++ message ∷ []) new
 
 -- it stands for one message more
-pub record Takes (row : SessionRow) (message : List ℕ) (old new : List ℕ) : Type 0 where
+pub record TakesMessage (row : SessionRow) (message : List ℕ) (old new : List ℕ) : Type 0 where
   pub more : (messages : List (List ℕ)) → RecvStands row messages old
       → RecvStands row (messages ++ message ∷ []) new
 

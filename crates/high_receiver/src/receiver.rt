@@ -21,7 +21,7 @@ pub struct Receiver<D> {
 
 impl<D: Disk> Receiver<D> {
     ghost use Rattle.stable_buffer.specs.Register.{IsReady, register_disk, register_value};
-    ghost use Rattle.high_receiver.specs.Steps.{MayTake, Takes, StandsOrTakes};
+    ghost use Rattle.high_receiver.specs.Steps.{MayTake, TakesMessage, StandsOrTakes};
     ghost use Rattle.high_receiver.specs.Receiving.{IsRecvReady, StandsForSome, Stores, answer_at_once, is_device, recv_disk, recv_count, recv_end, recv_row, recv_size, recv_is_open};
 
     /// A receiver over a register, whose disk stands for a list of at most 2^48 messages, and has
@@ -119,7 +119,7 @@ impl<D: Disk> Receiver<D> {
             → RecvStands (recv_row self.old) messages (D.told.reading (recv_disk self.old))
             → Leaves D.told (recv_disk self.old) (recv_disk self.new)
             (StandsOrTakes (recv_row self.old) messages payload.now) }
-        ensures taken { OnOk result (D.told.tells → Takes (recv_row self.old) payload.now
+        ensures taken { OnOk result (D.told.tells → TakesMessage (recv_row self.old) payload.now
             (D.told.reading (recv_disk self.old)) (D.told.reading (recv_disk self.new))) }
 
         ensures answers { Answers D.told
@@ -157,7 +157,7 @@ impl<D: Disk> Receiver<D> {
         }
     }
 
-    /// Takes a message where it is the next one. A number below the count is a repeat, one above it
+    /// TakesMessage a message where it is the next one. A number below the count is a repeat, one above it
     /// is ahead, and a message that would end past the size makes the log full: these change nothing.
     /// After `Device` the disk must be opened again.
     pub fn take(&mut self, number: u64, payload: &Payload) -> Result<Taken, TakeFault>

@@ -124,15 +124,15 @@ pub record AsksFor (p : LowProcess) (h : History) (m w : ℕ) (arrival : Arrival
   pub word : p.word ≡ w
 
 -- the answer is one to this question, and its average is at most 10^9
-abbrev pub Answers : Asking → Answer → Type 0
-Answers AsksForward ToldFull = Unit {0}
-Answers AsksForward (ToldPassed s) = s.average ≤ 10 ^ 9
-Answers (AsksAverage n) (ToldAverage s) = s.average ≤ 10 ^ 9
-Answers _ _ = ⊥
+abbrev pub IsAnswerTo : Asking → Answer → Type 0
+IsAnswerTo AsksForward ToldFull = Unit {0}
+IsAnswerTo AsksForward (ToldPassed s) = s.average ≤ 10 ^ 9
+IsAnswerTo (AsksAverage n) (ToldAverage s) = s.average ≤ 10 ^ 9
+IsAnswerTo _ _ = ⊥
 
 -- .. to the open question
 abbrev pub AnswersTo : LowProcess → Answer → Type 0
-AnswersTo p answer = Answers p.asking answer
+AnswersTo p answer = IsAnswerTo p.asking answer
 
 -- the feedback is what was told; what passes is released where no acknowledgement is owed
 abbrev pub Tells : Bool → Answer → Feedback → Type 0

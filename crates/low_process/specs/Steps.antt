@@ -4,7 +4,7 @@ use Rattle.pump_frame.specs.declared.row.SessionRow.{SessionRow}
 use Rattle.pump_core.specs.declared.feedback.Feedback.TheVariants.{Quiet}
 use Rattle.pump_core.specs.History.{Arrival, Look}
 use Rattle.pump_core.specs.Standing.{State}
-use Rattle.pump_core.specs.Step.{Fits, after, reply_at, takes_at, stores_at}
+use Rattle.pump_core.specs.Step.{FeedbackFits, after, reply_at, takes_at, stores_at}
 use Rattle.low_process.specs.declared.values.Asking.TheVariants.{Nothing as AsksNothing, Forward as AsksForward, Average as AsksAverage}
 use Rattle.low_process.specs.declared.values.LowLook.{LowLook}
 use Rattle.low_process.specs.declared.values.Ask.{Ask}
@@ -15,7 +15,7 @@ use Rattle.low_process.specs.Looks.{state_of, look_of, Asks}
 -- the look leads from this state to that process
 pub record Stepped (row : SessionRow) (s : State) (q : LowProcess) (x : Look) (l : LowLook)
     : Type 0 where
-  pub fits : Fits row s x
+  pub fits : FeedbackFits row s x
   pub state : state_of q ≡ after row s x
   pub reply : l.reply ≡ reply_at row s x
   pub taken : l.taken ≡ takes_at s x

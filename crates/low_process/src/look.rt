@@ -5,7 +5,7 @@ ghost use Rattle.pump_core.specs.ReplyFrames.{IsLawfulReply};
 ghost use Rattle.pump_core.specs.History.{Arrival as Offered};
 ghost use Rattle.pump_core.specs.Passage.{Low, High, ComesNext};
 ghost use Rattle.low_process.specs.declared.values.Asking.TheVariants.{Forward as AsksForward};
-ghost use Rattle.low_process.specs.Looks.{Answers, IsBetweenLooks, AsksToForward, AsksFor, IsLawful, Looks, HandBegins, arrival_of, look_of, row_of, next_of, last_of, is_down, owes, hand_of, hand_after, hand_passed};
+ghost use Rattle.low_process.specs.Looks.{IsAnswerTo, IsBetweenLooks, AsksToForward, AsksFor, IsLawful, Looks, HandBegins, arrival_of, look_of, row_of, next_of, last_of, is_down, owes, hand_of, hand_after, hand_passed};
 ghost use Rattle.low_process.specs.Heads.{look_with, ask_with};
 ghost use Rattle.low_process.specs.Ends.{OfferStep, EndStep, FitsEnd, StandsFitting};
 ghost use Rattle.low_process.specs.Whole.{HasStore, BeginStep, LookStep, KeepsAcknowledged, LeavesStored, reply_in};
@@ -32,7 +32,7 @@ fn offer<L: LowEnd>(item: Item, is_owed: bool, ends: &mut L) -> Answer
     requires number { item.number < 2 ^ 48 }
     ensures shape { L.shape ends.new ≡ L.shape ends.old }
     ensures place { L.place ends.new ≡ L.place ends.old }
-    ensures fits { Answers AsksForward result }
+    ensures fits { IsAnswerTo AsksForward result }
     ensures step { (l : Low) (h : High) → L.stands ends.old l h → ComesNext l.forwarded item.number
         → OfferStep (L.shape ends.old) L.exact (L.stands ends.new) l h item is_owed result }
 {

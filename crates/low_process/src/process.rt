@@ -59,7 +59,7 @@ impl LowProcess {
     ghost use Rattle.low_process.specs.declared.values.Asking.TheVariants.{Forward as AsksForward};
     ghost use Rattle.pump_core.specs.Replies.{Sent, LowReplies};
     ghost use Rattle.pump_core.specs.ReplyFrames.{frame_of, IsLawfulReply};
-    ghost use Rattle.low_process.specs.Looks.{state_of, look_of, arrival_of, opening_of, IsLawful, IsHand, StandsFor, Asks, AsksFor, Answers, AnswersTo, Tells, Looks, HandBegins, IsBetweenLooks, row_of, next_of, last_of, is_down, is_idle, owes, hand_of, hand_passed};
+    ghost use Rattle.low_process.specs.Looks.{state_of, look_of, arrival_of, opening_of, IsLawful, IsHand, StandsFor, Asks, AsksFor, IsAnswerTo, AnswersTo, Tells, Looks, HandBegins, IsBetweenLooks, row_of, next_of, last_of, is_down, is_idle, owes, hand_of, hand_passed};
     ghost use Rattle.low_process.specs.Steps.{Stepped, StepBegins};
     ghost use Rattle.low_process.specs.Storing.{message_in, wants};
     ghost use Rattle.low_process.specs.Ends.{number_offered};
@@ -391,7 +391,7 @@ impl LowProcess {
 
     // The part of a look after the passage has answered.
     fn step_on(&mut self, answer: Answer, head: &mut LookHead)
-        requires { Answers self.old.asking answer }
+        requires { IsAnswerTo self.old.asking answer }
         ensures step { (arrival : Offered) (is_fault : Bool) →
             Asks self.old.row (state_of self.old) arrival self.old.asking →
             Stepped self.old.row (state_of self.old) self.new

@@ -5,8 +5,8 @@ use Rattle.script_reader.specs.declared.event.Event.{Event}
 use Rattle.script_reader.specs.declared.event.Event.TheVariants.{End}
 use Rattle.script_reader.specs.declared.event.EventHead.{EventHead}
 use Rattle.script_reader.specs.EventHeads.{event_of}
-use Rattle.script_reader.specs.Tolds.{LowPast}
-use Rattle.script_reader.specs.Scripts.{Begun, Whole, Alone, Ends, IsLowEnd}
+use Rattle.script_reader.specs.Alone.{PastAlone}
+use Rattle.script_reader.specs.Scripts.{Begun, Whole, Alone, Ends, IsEndAlone}
 use Rattle.script_reader.specs.Transcript.{event_line, text}
 use Rattle.two_worlds.specs.LowPumps as low_pump
 use Rattle.two_worlds.specs.declared.low_pump.LowPump.{LowPump}
@@ -18,7 +18,7 @@ use Rattle.netpump.specs.Outputs.{Gathers}
 use Rattle.netpump.proofs.Gathered.{text-one, held_front}
 
 pub alone_ends : (before : Session) (id : ℕ) (p : LowPump) (next : ℕ) → before ≡ sessions.Alone id p
-    → ((q : LowPast) → low_pump.LowStandsFor p q → IsLowEnd (low_pump.low_row_of p) q (End (low_pump.low_row_of p).id next None))
+    → ((q : PastAlone) → low_pump.LowStandsFor p q → IsEndAlone (low_pump.low_row_of p) q (End (low_pump.low_row_of p).id next None))
     → (running : Begun) → StandsFor before running → Ends (Some running) (End id next None ∷ [])
 alone_ends before id p next is ends running h = at running (subst (λ (s : Session). StandsFor s running) is h)
   where
@@ -27,7 +27,7 @@ alone_ends before id p next is ends running h = at running (subst (λ (s : Sessi
     at (Alone s) h =
         let low = ends s.past h.is_of.2 in
         let same : End (low_pump.low_row_of p).id next None ≡ End id next None = ap (λ (i : ℕ). End i next None) (ap (λ r. r.id) h.is_of.1 ∙ sym h.is_of.0) in
-        (End id next None, subst (λ (e : Event). IsLowEnd s.row s.past e) same (subst (λ r. IsLowEnd r s.past (End (low_pump.low_row_of p).id next None)) h.is_of.1 low), refl)
+        (End id next None, subst (λ (e : Event). IsEndAlone s.row s.past e) same (subst (λ r. IsEndAlone r s.past (End (low_pump.low_row_of p).id next None)) h.is_of.1 low), refl)
 
 -- it was written after what was held, or a front of both was
 pub end_front : {T E : Type 0} (last : Option EventHead) (head : EventHead) (r : Result T E) (first second : List ℕ) (a b c : Option (List ℕ)) → last ≡ Some head

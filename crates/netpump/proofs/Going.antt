@@ -10,8 +10,8 @@ use Rattle.script_reader.specs.declared.line.Line.{Line}
 use Rattle.script_reader.specs.declared.line.Line.TheVariants as lines
 use Rattle.script_reader.specs.Steps.{is_timely, IsRefusedWhole, LineStep, Overfills}
 use Rattle.script_reader.specs.Past.{Past}
-use Rattle.script_reader.specs.Tolds.{LowPast, is_timely_low, IsRefusedAlone, StepLow}
-use Rattle.script_reader.specs.Scripts.{Running, LowRunning, Begun, Whole, Alone, GoesOn, Leads, IsRefused}
+use Rattle.script_reader.specs.Alone.{PastAlone, is_timely_alone, IsRefusedAlone, StepAlone}
+use Rattle.script_reader.specs.Scripts.{Running, RunningAlone, Begun, Whole, Alone, GoesOn, Leads, IsRefused}
 use Rattle.two_worlds.specs.declared.applied.Stop.{Stop}
 use Rattle.two_worlds.specs.declared.applied.Stop.TheVariants as stops
 use Rattle.two_worlds.specs.Pumps as pump
@@ -47,7 +47,7 @@ refused_whole s (lines.Carry session back) some h = h
 refused_whole s (lines.Return session moment back) some h = h
 refused_whole s (lines.Done session moment time) some h = h
 
-refused_alone : (s : LowRunning) (line : Line) → line ≢ lines.Skip → IsRefusedAlone s.row s.past line → IsRefused (Some (Alone s)) line
+refused_alone : (s : RunningAlone) (line : Line) → line ≢ lines.Skip → IsRefusedAlone s.row s.past line → IsRefused (Some (Alone s)) line
 refused_alone s lines.Skip some h = absurd (some refl)
 refused_alone s (lines.Session row) some h = h
 refused_alone s (lines.LowSession row next held) some h = h
@@ -100,13 +100,13 @@ whole_applies before id p t line printed stop is some applies goes down same run
 
 -- ---- a low side alone ----
 
-module _ (id : ℕ) (p t : LowPump) (line : Line) (some : line ≢ lines.Skip) (printed : List Event) (s : LowRunning) (id_is : id ≡ s.row.id) (row : low_pump.low_row_of p ≡ s.row)
+module _ (id : ℕ) (p t : LowPump) (line : Line) (some : line ≢ lines.Skip) (printed : List Event) (s : RunningAlone) (id_is : id ≡ s.row.id) (row : low_pump.low_row_of p ≡ s.row)
     (same : low_pump.low_row_of t ≡ low_pump.low_row_of p) where
-  alone_does : (stop : Option Stop) → low_pump.low_is_down t ≡ low_pump.is_device stop → low_pump.AppliesLow p t line s.past printed stop
+  alone_does : (stop : Option Stop) → low_pump.low_is_down t ≡ low_pump.is_device stop → low_pump.AppliesAlone p t line s.past printed stop
       → SessionApplies (Alone s) line (sessions.Alone id t) printed stop
   alone_does None down h =
-      let timely : is_timely_low s.row s.past line ≡ true = subst (λ (r : SessionRow). is_timely_low r s.past line ≡ true) row h.0 in
-      let step : StepLow s.row s.past line false h.1.0 printed = subst (λ (r : SessionRow). StepLow r s.past line false h.1.0 printed) row h.1.1 in
+      let timely : is_timely_alone s.row s.past line ≡ true = subst (λ (r : SessionRow). is_timely_alone r s.past line ≡ true) row h.0 in
+      let step : StepAlone s.row s.past line false h.1.0 printed = subst (λ (r : SessionRow). StepAlone r s.past line false h.1.0 printed) row h.1.1 in
       let after : Option Begun = Some (Alone (record { row = s.row; past = h.1.0 })) in (
         after,
         leads_from (Alone s) line after printed some (timely, (h.1.0, step, refl)),
@@ -115,8 +115,8 @@ module _ (id : ℕ) (p t : LowPump) (line : Line) (some : line ≢ lines.Skip) (
   alone_does (Some stops.Line) down h =
       (refused_alone s line some (subst (λ (r : SessionRow). IsRefusedAlone r s.past line) row h.0), h.1)
   alone_does (Some (stops.Device roles.Low count)) down h =
-      let timely : is_timely_low s.row s.past line ≡ true = subst (λ (r : SessionRow). is_timely_low r s.past line ≡ true) row h.0 in
-      let step : StepLow s.row s.past line true h.1.0 printed = subst (λ (r : SessionRow). StepLow r s.past line true h.1.0 printed) row h.1.1 in
+      let timely : is_timely_alone s.row s.past line ≡ true = subst (λ (r : SessionRow). is_timely_alone r s.past line ≡ true) row h.0 in
+      let step : StepAlone s.row s.past line true h.1.0 printed = subst (λ (r : SessionRow). StepAlone r s.past line true h.1.0 printed) row h.1.1 in
       let after : Option Begun = Some (Alone (record { row = s.row; past = h.1.0 })) in
       (after, (timely, (h.1.0, step, ap (λ (i : ℕ). faults.Device i roles.Low) id_is, refl)))
   alone_does (Some (stops.Device roles.High count)) down h = absurd h
@@ -125,7 +125,7 @@ module _ (id : ℕ) (p t : LowPump) (line : Line) (some : line ≢ lines.Skip) (
 
 -- a line was given to the pump of a low side alone
 pub alone_applies : (before : Session) (id : ℕ) (p t : LowPump) (line : Line) (printed : List Event) (stop : Option Stop) → before ≡ sessions.Alone id p → line ≢ lines.Skip
-    → ((q : LowPast) → low_pump.LowStandsFor p q → low_pump.AppliesLow p t line q printed stop)
+    → ((q : PastAlone) → low_pump.LowStandsFor p q → low_pump.AppliesAlone p t line q printed stop)
     → low_pump.low_is_down t ≡ low_pump.is_device stop → low_pump.low_row_of t ≡ low_pump.low_row_of p
     → (running : Begun) → StandsFor before running → SessionApplies running line (sessions.Alone id t) printed stop
 alone_applies before id p t line printed stop is some applies down same running h = alone_runs running (subst (λ (s : Session). StandsFor s running) is h)

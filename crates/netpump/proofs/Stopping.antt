@@ -8,8 +8,8 @@ use Rattle.script_reader.specs.declared.event.Event.{Event}
 use Rattle.script_reader.specs.declared.fault.Fault.{Fault}
 use Rattle.script_reader.specs.Past.{Past}
 use Rattle.script_reader.specs.Steps.{LineComing, IsCrowded, IsRefusedWhole, Overfills}
-use Rattle.script_reader.specs.Tolds.{LowPast, joined_low, IsCrowdedLow, IsRefusedAlone, StepLow}
-use Rattle.script_reader.specs.Scripts.{Running, LowRunning, Begun, Whole, Alone, IsRefused, Stops}
+use Rattle.script_reader.specs.Alone.{PastAlone, joined_alone, IsCrowdedAlone, IsRefusedAlone, StepAlone}
+use Rattle.script_reader.specs.Scripts.{Running, RunningAlone, Begun, Whole, Alone, IsRefused, Stops}
 use Rattle.script_reader.proofs.One.{arrives_one}
 
 crowded_overfills : (s : SessionRow) (p : Past) (line : Line) (q : Past) (printed : List Event) (end n size : ℕ) → IsCrowded p line → Overfills s p line q printed end n size → ⊥
@@ -24,13 +24,13 @@ crowded_overfills s p (lines.Carry session back) q printed end n size h k = h
 crowded_overfills s p (lines.Return session moment back) q printed end n size h k = k
 crowded_overfills s p (lines.Done session moment time) q printed end n size h k = h
 
-crowded_stores : (s : SessionRow) (p : LowPast) (line : Line) (q : LowPast) (printed : List Event) → IsCrowdedLow p line → StepLow s p line true q printed → ⊥
+crowded_stores : (s : SessionRow) (p : PastAlone) (line : Line) (q : PastAlone) (printed : List Event) → IsCrowdedAlone p line → StepAlone s p line true q printed → ⊥
 crowded_stores s p lines.Skip q printed h k = h
 crowded_stores s p (lines.Session row) q printed h k = h
 crowded_stores s p (lines.LowSession row next held) q printed h k = h
 crowded_stores s p (lines.Look session moment word arrival) q printed h k = h
 crowded_stores s p (lines.Told session moment word fault feedback arrival) q printed (c, comes, many) (d, comes', (few, look)) =
-    let same = ap (λ (t : LineComing). length (joined_low p fault t).waits) (arrives_one session p.reading arrival c d comes comes') in
+    let same = ap (λ (t : LineComing). length (joined_alone p fault t).waits) (arrives_one session p.reading arrival c d comes comes') in
     absurd (omega (arith, many, few, same))
 crowded_stores s p (lines.Gone session moment) q printed h k = h
 crowded_stores s p (lines.High session moment) q printed h k = h
@@ -50,7 +50,7 @@ whole_refuses s (lines.Carry session back) h = h
 whole_refuses s (lines.Return session moment back) h = h
 whole_refuses s (lines.Done session moment time) h = h
 
-alone_refuses : (s : LowRunning) (line : Line) → IsRefused (Some (Alone s)) line → IsRefusedAlone s.row s.past line
+alone_refuses : (s : RunningAlone) (line : Line) → IsRefused (Some (Alone s)) line → IsRefusedAlone s.row s.past line
 alone_refuses s lines.Skip h = absurd h
 alone_refuses s (lines.Session row) h = h
 alone_refuses s (lines.LowSession row next held) h = h

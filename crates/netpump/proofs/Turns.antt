@@ -10,7 +10,7 @@ use Rattle.script_reader.specs.declared.line.Line.{Line}
 use Rattle.script_reader.specs.declared.line.Line.TheVariants as lines
 use Rattle.script_reader.specs.Transcript.{text}
 use Rattle.script_reader.specs.Past.{fresh}
-use Rattle.script_reader.specs.Tolds.{fresh_low}
+use Rattle.script_reader.specs.Alone.{fresh_alone}
 use Rattle.script_reader.specs.Scripts.{Begun, Whole, Alone, Leads}
 use Rattle.two_worlds.specs.declared.applied.Stop.{Stop}
 use Rattle.two_worlds.specs.declared.applied.Stop.TheVariants as stops
@@ -86,9 +86,9 @@ begins line row bad is same none =
     subst (λ (l : Line). Leads None l (Some (Whole (record { row = row; past = fresh row }))) []) (sym is) ((sym same ∙ none, refl), refl)
 
 pub begins_alone : (line : Line) (row : SessionRow) (next : ℕ) (held : Bool) (bad : Option RowKey) → line ≡ lines.LowSession row next held → bad ≡ first_bad row → bad ≡ None
-    → Leads None line (Some (Alone (record { row = row; past = fresh_low next held }))) []
+    → Leads None line (Some (Alone (record { row = row; past = fresh_alone next held }))) []
 begins_alone line row next held bad is same none =
-    subst (λ (l : Line). Leads None l (Some (Alone (record { row = row; past = fresh_low next held }))) []) (sym is) ((sym same ∙ none, refl), refl)
+    subst (λ (l : Line). Leads None l (Some (Alone (record { row = row; past = fresh_alone next held }))) []) (sym is) ((sym same ∙ none, refl), refl)
 
 pub skips : (session : Option Session) (running : Option Begun) (line : Line) (held : List ℕ) (a : Option (List ℕ)) → line ≡ lines.Skip → StandsForRunning session running
     → TurnDoes running line session held held a a outcomes.Applied

@@ -18,7 +18,7 @@ use Rattle.script_reader.specs.Scripts.{Begun, Whole, Alone, LeadTo, Stops, Come
 use Rattle.script_reader.specs.Sides.{low_side_of, told_to_low, full_moments, averages, HaveOwnMoments}
 use Rattle.script_reader.specs.Transcript.{text, fault_line}
 use Rattle.two_worlds.specs.Timelines.{IsTimeline}
-use Rattle.two_worlds.specs.LowTimelines.{IsLowTimeline}
+use Rattle.two_worlds.specs.TimelinesAlone.{IsTimelineAlone}
 
 -- ---- the words ----
 
@@ -65,7 +65,7 @@ pub record KeepLaws (lines : List Line) (after : Option Begun) (printed : List E
 abbrev pub IsTimed : Option Begun → Type 0
 IsTimed None = Unit {0}
 IsTimed (Some (Whole s)) = (steps : List Step) × (t : Point) × IsTimeline s.row s.past steps t
-IsTimed (Some (Alone s)) = (events : List Timed) × IsLowTimeline s.row s.past events
+IsTimed (Some (Alone s)) = (events : List Timed) × IsTimelineAlone s.row s.past events
 
 -- ---- the lines so far ----
 

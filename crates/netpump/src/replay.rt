@@ -4,7 +4,7 @@ ghost use Rattle.pump_frame.specs.Counts.{Rose};
 ghost use Rattle.pump_link.specs.Causes.{HasCause, AppendsFront};
 ghost use Rattle.script_reader.specs.Lawful.{IsLawfulLine};
 ghost use Rattle.script_reader.specs.Heads.{line_with, CanHoldLine};
-ghost use Rattle.script_reader.specs.Lines.{IsReady};
+ghost use Rattle.script_reader.specs.Lines.{LineIsReady};
 ghost use Rattle.script_reader.specs.Scripts.{Begun, Ends};
 ghost use Rattle.script_reader.specs.declared.event.Event.{Event as Printed};
 ghost use Rattle.script_reader.specs.Transcript.{text, fault_line};
@@ -152,7 +152,7 @@ fn turn<O: Sink>(
 
 /// Hands on what is held where the next line is not there yet, so that nobody waits for it.
 fn show<O: Sink>(lines: &Lines, output: &mut Output, out: &mut O) -> Result<(), WriteFault>
-    ensures shown { OnOk result ((IsReady lines.now.held → ⊥) → held_of output.new ≡ []) }
+    ensures shown { OnOk result ((LineIsReady lines.now.held → ⊥) → held_of output.new ≡ []) }
     ensures ok { OnOk result (Gathers (held_of output.old) (held_of output.new) (O.written out.old) (O.written out.new) []) }
     ensures err { OnErr result (AppendsFront (O.written out.old) (O.written out.new) (held_of output.old)) }
     ensures cause { HasCause (O.faults out.old) (O.faults out.new) result }

@@ -7,8 +7,8 @@ ghost use Rattle.script_reader.specs.EventHeads.{event_of};
 ghost use Rattle.script_reader.specs.Heads.{line_with, CanHoldLine};
 ghost use Rattle.script_reader.specs.Grammar.{IsCount};
 ghost use Rattle.script_reader.specs.Past.{fresh};
-ghost use Rattle.script_reader.specs.Tolds.{fresh_low};
-ghost use Rattle.script_reader.specs.Scripts.{Begun, Running, LowRunning, Whole, Alone, Ends};
+ghost use Rattle.script_reader.specs.Alone.{fresh_alone};
+ghost use Rattle.script_reader.specs.Scripts.{Begun, Running, RunningAlone, Whole, Alone, Ends};
 ghost use Rattle.two_worlds.specs.Printing.{lines_in};
 ghost use Rattle.netpump.specs.Sessions.{id_of, IsUp, StandsFor, SessionApplies};
 
@@ -55,7 +55,7 @@ impl Session {
     ) -> Result<Session, OutOfMemory>
         requires lawful { IsLawfulRow row.now }
         requires count { IsCount next held }
-        ensures { IfOk result (λ session. StandsFor session (Alone (record { row = row.now; past = fresh_low next held }))) }
+        ensures { IfOk result (λ session. StandsFor session (Alone (record { row = row.now; past = fresh_alone next held }))) }
     {
         let pump = LowPump::open(alloc, row, next, held)?;
         Ok(Session::Alone { id: row.id, pump })

@@ -12,7 +12,7 @@ use Rattle.pump_core.specs.History.{Look, Opening, Life}
 use Rattle.pump_core.specs.Exchanges.{is_gone, is_repeat, is_next, is_passed, due, Wait, Waiting, Over, Part, Holding, Release, Empty, Leaving, Answer, Repeated, Offering, Dropped, Delivery, Loss, wait_on, part_on, looks_of, is_finished, count_after, greeted_after, is_left, is_release, IsHeld, IsQuiet, ends, IsWait, IsFull, IsAnswered, IsFrame, IsStore, IsPart, Follows, AreParts, IsCut}
 use Rattle.pump_core.specs.Phases.{Idle, Passing}
 use Rattle.pump_core.specs.Replies.{number_in, takes, stores, wait_takes}
-use Rattle.pump_core.specs.Step.{is_quiet, fits_passing, Fits, takes_idle, takes_at, stores_idle, stores_at}
+use Rattle.pump_core.specs.Step.{is_quiet, fits_passing, FeedbackFits, takes_idle, takes_at, stores_idle, stores_at}
 use Rattle.pump_core.specs.Standing.{State, end_of}
 use Rattle.pump_core.proofs.Runs.{not_repeat}
 
@@ -249,14 +249,14 @@ module _ (row : SessionRow) (o : Opening) (x : Look) where
   idle : (n : ℕ) (g : Bool) (before : List Part) → Newest row (record { next = n; greeted = g; phase = Idle }) x (begun row n g x x.arrival ∷ before)
   idle n g before = record { taken = idle_takes row n g x x.arrival before; stored = idle_stores row n g x x.arrival before refl }
 
-  held : (n : ℕ) (g : Bool) (older : List Look) (before : List Part) → Fits row (record { next = n; greeted = g; phase = Passing None }) x → Newest row (record { next = n; greeted = g; phase = Passing None }) x ((if is_released x.feedback then Release older x else Holding x older) ∷ before)
+  held : (n : ℕ) (g : Bool) (older : List Look) (before : List Part) → FeedbackFits row (record { next = n; greeted = g; phase = Passing None }) x → Newest row (record { next = n; greeted = g; phase = Passing None }) x ((if is_released x.feedback then Release older x else Holding x older) ∷ before)
   held n g older before fit = record { taken = held_takes x older before fit; stored = held_stores x older (is_released x.feedback) before }
 
-  opens : (n : ℕ) (b : Bool) → Fits row (record { next = n; greeted = false; phase = if b then Passing None else Idle }) x → Newest row (record { next = n; greeted = false; phase = if b then Passing None else Idle }) x ((if b then begun_held x else begun row n false x x.arrival) ∷ [])
+  opens : (n : ℕ) (b : Bool) → FeedbackFits row (record { next = n; greeted = false; phase = if b then Passing None else Idle }) x → Newest row (record { next = n; greeted = false; phase = if b then Passing None else Idle }) x ((if b then begun_held x else begun row n false x x.arrival) ∷ [])
   opens n true fit = held n false [] [] fit
   opens n false fit = idle n false []
 
-  newest : (parts : List Part) → Fits row (end_of row o parts) x → Newest row (end_of row o parts) x (grow row o parts x)
+  newest : (parts : List Part) → FeedbackFits row (end_of row o parts) x → Newest row (end_of row o parts) x (grow row o parts x)
   newest [] fit = opens o.count o.is_held fit
   newest (Holding y ys ∷ before) fit = held (count_after o before) (greeted_after row (Holding y ys ∷ before)) (y ∷ ys) before fit
   newest (Release ys last ∷ before) fit = idle (count_after o before) (greeted_after row (Release ys last ∷ before)) (Release ys last ∷ before)
@@ -272,7 +272,7 @@ module _ (row : SessionRow) (o : Opening) (x : Look) where
   newest (Loss first rest ∷ before) fit = record { taken = refl; stored = refl }
 
   -- .. in any cut of the looks with the new one
-  pub newest_of_cut : (parts parts' : List Part) → AreParts row o parts → AreParts row o parts' → looks_of parts' ≡ x ∷ looks_of parts → Fits row (end_of row o parts) x → Newest row (end_of row o parts) x parts'
+  pub newest_of_cut : (parts parts' : List Part) → AreParts row o parts → AreParts row o parts' → looks_of parts' ≡ x ∷ looks_of parts → FeedbackFits row (end_of row o parts) x → Newest row (end_of row o parts) x parts'
   newest_of_cut parts parts' h h' e fit =
       let same : grow row o parts x ≡ parts' = sym (ap (λ c. grow row o c x) (is_the_cut row o parts h)) ∙ sym (ap (cut_of row o) e) ∙ is_the_cut row o parts' h' in
       subst (Newest row (end_of row o parts) x) same (newest parts fit)

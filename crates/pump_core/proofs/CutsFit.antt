@@ -12,7 +12,7 @@ use Rattle.pump_core.specs.History.{Nothing, Came, Bad, Gone}
 use Rattle.pump_core.specs.History.{Look, Opening}
 use Rattle.pump_core.specs.Exchanges.{is_gone, is_repeat, is_next, is_passed, has_average, due, ends, Waiting, Over, Part, Holding, Release, Empty, Leaving, Answer, Repeated, Offering, Dropped, Delivery, Loss, looks_of, is_finished, count_after, greeted_after, is_left, IsWait, IsPart, AreParts}
 use Rattle.pump_core.specs.Replies.{number_in}
-use Rattle.pump_core.specs.Step.{is_quiet, fits_passing, fits_idle, fits_in, Fits}
+use Rattle.pump_core.specs.Step.{is_quiet, fits_passing, fits_idle, fits_in, FeedbackFits}
 use Rattle.pump_core.specs.Standing.{end_of}
 use Rattle.pump_core.proofs.Runs.{next_phase}
 use Rattle.pump_core.proofs.Cuts.{is_released, begun, begun_held, following, grow, cut_of, is_the_cut}
@@ -66,7 +66,7 @@ module _ (row : SessionRow) (o : Opening) (x : Look) where
   follows_fits n g false h = begun_fits n g x.arrival h
 
   following_fits : (parts : List Part) → AllByRecursion (λ q. is_finished q ≡ true) parts
-      → AreParts row o (following row o parts x) → Fits row (end_of row o parts) x
+      → AreParts row o (following row o parts x) → FeedbackFits row (end_of row o parts) x
   following_fits parts f h =
       let n = count_after o parts in
       let g = greeted_after row parts in
@@ -84,7 +84,7 @@ module _ (row : SessionRow) (o : Opening) (x : Look) where
   offered_fits m n g false true first full h = passed_fits n x.feedback h.2.passed
   offered_fits m n g false false first full h = ap (fits_passing (Some n)) h.1.0.full
 
-  grown_fits : (parts : List Part) → AreParts row o parts → AreParts row o (grow row o parts x) → Fits row (end_of row o parts) x
+  grown_fits : (parts : List Part) → AreParts row o parts → AreParts row o (grow row o parts x) → FeedbackFits row (end_of row o parts) x
   grown_fits [] h k = following_fits [] tt k
   grown_fits (Holding y ys ∷ before) h k = kept_fits (count_after o before) (greeted_after row before) (is_released x.feedback) (y ∷ ys) k.0.part
   grown_fits (Release ys last ∷ before) h k = following_fits (Release ys last ∷ before) (refl, h.2) k
@@ -100,7 +100,7 @@ module _ (row : SessionRow) (o : Opening) (x : Look) where
   grown_fits (Loss first rest ∷ before) h k = ap is_quiet k.0.part.1.0
 
   -- the looks of one cut are those of another and one more
-  pub cuts_fit : (parts parts' : List Part) → AreParts row o parts → AreParts row o parts' → looks_of parts' ≡ x ∷ looks_of parts → Fits row (end_of row o parts) x
+  pub cuts_fit : (parts parts' : List Part) → AreParts row o parts → AreParts row o parts' → looks_of parts' ≡ x ∷ looks_of parts → FeedbackFits row (end_of row o parts) x
   cuts_fit parts parts' h h' e =
       let same : grow row o parts x ≡ parts' = sym (ap (λ c. grow row o c x) (is_the_cut row o parts h)) ∙ sym (ap (cut_of row o) e) ∙ is_the_cut row o parts' h' in
       grown_fits parts h (subst (AreParts row o) (sym same) h')

@@ -13,7 +13,7 @@ use Rattle.pump_core.specs.Phases.{Idle, Passing}
 use Rattle.pump_core.specs.History.{Look, Opening}
 use Rattle.pump_core.specs.Exchanges.{is_gone, is_repeat, is_next, is_passed, has_average, due, Wait, Waiting, Over, Part, Holding, Release, Empty, Leaving, Answer, Repeated, Offering, Dropped, Delivery, Loss, wait_on, part_on, looks_of, is_finished, count_after, greeted_after, is_left, is_release, IsHeld, IsQuiet, ends, IsWait, IsAnswered, IsFrame, IsPart, AreParts}
 use Rattle.pump_core.specs.Replies.{number_in}
-use Rattle.pump_core.specs.Step.{is_quiet, fits_passing, fits_idle, fits_in, Fits}
+use Rattle.pump_core.specs.Step.{is_quiet, fits_passing, fits_idle, fits_in, FeedbackFits}
 use Rattle.pump_core.specs.Standing.{end_of}
 use Rattle.pump_core.proofs.Runs.{next_phase}
 
@@ -101,7 +101,7 @@ module _ (row : SessionRow) (o : Opening) where
       (held_or_released x fit)
 
   -- a look after finished parts
-  begins : (before : List Part) (x : Look) → AreParts row o before → AllFinished before → Fits row (end_of row o before) x → Grown row o before x
+  begins : (before : List Part) (x : Look) → AreParts row o before → AllFinished before → FeedbackFits row (end_of row o before) x → Grown row o before x
   begins before x h f fit =
       let n = count_after o before in
       let g = greeted_after row before in
@@ -129,7 +129,7 @@ module _ (row : SessionRow) (o : Opening) where
             ] refl
       ] refl
 
-  pub grown : (parts : List Part) (x : Look) → AreParts row o parts → Fits row (end_of row o parts) x → Grown row o parts x
+  pub grown : (parts : List Part) (x : Look) → AreParts row o parts → FeedbackFits row (end_of row o parts) x → Grown row o parts x
   grown [] x h fit = begins [] x h tt fit
   grown (Holding newest older ∷ before) x h fit = ⊎_elim
       (λ (held : IsHeld x). record { parts = Holding x (newest ∷ older) ∷ before; are_parts = (record { part = (held, h.0.part); release = h.0.release }, h.1, h.2); looks = refl })

@@ -8,7 +8,7 @@ use Rattle.pump_core.specs.declared.event.Event.TheVariants.{StoreBegin, StoreEn
 use Rattle.pump_core.specs.declared.event.Hostile.{Hostile}
 use Rattle.pump_core.specs.declared.event.Hostile.TheVariants.{Core, Forge}
 use Rattle.pump_core.specs.World.{World, empty, opened, last_taken, Agree}
-use Rattle.pump_core.specs.Events.{pump_crashed, Happens, Run, HappensForged, RunForged, Begins, Empty, Opened}
+use Rattle.pump_core.specs.Events.{pump_crashed, Happens, Run, HappensForged, RunForged, BeginsRun, Empty, Opened}
 use Rattle.pump_core.specs.Lawful.{IsMessage, IsBounded, IsDelivered, IsLawful}
 use Rattle.pump_core.proofs.Bounded as bounded
 use Rattle.pump_core.proofs.Delivered as delivered
@@ -88,12 +88,12 @@ opened_is_bounded capacity removed received later low high a =
     (All-nil (IsMessage removed (received ++ later)))
     (All-nil (λ n. n < length (received ++ later)))
 
-pub begins_bounded : (w : World) → Begins w → IsBounded w
+pub begins_bounded : (w : World) → BeginsRun w → IsBounded w
 begins_bounded _ (Empty capacity low high) = empty_is_bounded capacity low high
 begins_bounded _ (Opened capacity removed received later low high a) =
     opened_is_bounded capacity removed received later low high a
 
-pub begins_lawful : (w : World) → Begins w → IsLawful w
+pub begins_lawful : (w : World) → BeginsRun w → IsLawful w
 begins_lawful _ (Empty capacity low high) = record { bounded = empty_is_bounded capacity low high; delivered = delivered.empties capacity }
 begins_lawful _ (Opened capacity removed received later low high a) = record {
   bounded = opened_is_bounded capacity removed received later low high a;

@@ -4,15 +4,15 @@ use Rattle.pump_frame.specs.declared.row.SessionRow.{SessionRow}
 use Rattle.pump_core.specs.History.{Look, History, looked}
 use Rattle.pump_core.specs.Exchanges.{Part, looks_of, IsCut}
 use Rattle.pump_core.specs.Replies.{Sent, sent, replies_of, LowReplies}
-use Rattle.pump_core.specs.Step.{after, reply_at, Fits}
+use Rattle.pump_core.specs.Step.{after, reply_at, FeedbackFits}
 use Rattle.pump_core.specs.Standing.{State, StandsAt}
 use Rattle.pump_core.proofs.Runs.{run, run_replies, ran}
 use Rattle.pump_core.proofs.Grows.{Grown, grown}
 use Rattle.pump_core.proofs.Cuts.{Newest, newest_of_cut}
 
-module _ (row : SessionRow) (s : State) (last : ℕ) (h : History) (x : Look) (fits : Fits row s x) (stands : StandsAt row s last h) where
+module _ (row : SessionRow) (s : State) (last : ℕ) (h : History) (x : Look) (fits : FeedbackFits row s x) (stands : StandsAt row s last h) where
   longer : Grown row h.life.opening stands.parts x
-  longer = grown row h.life.opening stands.parts x stands.cut.are_parts (subst (λ (t : State). Fits row t x) stands.state fits)
+  longer = grown row h.life.opening stands.parts x stands.cut.are_parts (subst (λ (t : State). FeedbackFits row t x) stands.state fits)
 
   cut : IsCut row (looked h x).life longer.parts
   cut = record { are_parts = longer.are_parts; looks = ap (λ l. x ∷ l) stands.cut.looks ∙ sym longer.looks }
@@ -45,4 +45,4 @@ module _ (row : SessionRow) (s : State) (last : ℕ) (h : History) (x : Look) (f
   pub newest_after : (parts : List Part) → IsCut row (looked h x).life parts → Newest row s x parts
   newest_after parts c =
       subst (λ (t : State). Newest row t x parts) (sym stands.state)
-      (newest_of_cut row h.life.opening x stands.parts parts stands.cut.are_parts c.are_parts (sym c.looks ∙ ap (λ l. x ∷ l) stands.cut.looks) (subst (λ (t : State). Fits row t x) stands.state fits))
+      (newest_of_cut row h.life.opening x stands.parts parts stands.cut.are_parts c.are_parts (sym c.looks ∙ ap (λ l. x ∷ l) stands.cut.looks) (subst (λ (t : State). FeedbackFits row t x) stands.state fits))

@@ -121,11 +121,11 @@ Run w [] v = v ≡ w
 Run w (e ∷ es) v = (next : World) × Happens w e next × Run next es v
 
 -- a world begins empty, or opens on disks that agree
-pub data Begins : World → Type 0 where
-  Empty : (capacity : ℕ) → least_capacity ≤ capacity → capacity ≤ greatest_capacity → Begins (empty capacity)
+pub data BeginsRun : World → Type 0 where
+  Empty : (capacity : ℕ) → least_capacity ≤ capacity → capacity ≤ greatest_capacity → BeginsRun (empty capacity)
   Opened : (capacity removed : ℕ) (received later : List Payload)
       → least_capacity ≤ capacity → capacity ≤ greatest_capacity → Agree capacity removed received later
-      → Begins (opened capacity removed received later)
+      → BeginsRun (opened capacity removed received later)
 
 -- ---- forged answers ----
 
@@ -141,6 +141,6 @@ RunForged w (e ∷ es) v = (next : World) × HappensForged w e next × RunForged
 -- ---- what a step answers ----
 
 -- yes where the event could happen, and then it has; no where it could not, and nothing has changed
-abbrev pub Answers : World → Event → Bool → World → Type 0
-Answers w e true v = Happens w e v
-Answers w e false v = ((x : World) → Happens w e x → ⊥) × (v ≡ w)
+abbrev pub StepAnswers : World → Event → Bool → World → Type 0
+StepAnswers w e true v = Happens w e v
+StepAnswers w e false v = ((x : World) → Happens w e x → ⊥) × (v ≡ w)

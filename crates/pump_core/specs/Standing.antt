@@ -44,8 +44,8 @@ abbrev pub end_of : SessionRow → Opening → List Part → State
 end_of row o parts = record { next = count_after o parts; greeted = greeted_after row parts; phase = phase_after row o parts }
 
 -- the life can be cut
-abbrev pub Keeps : SessionRow → Life → Type 0
-Keeps row life = (parts : List Part) × IsCut row life parts
+abbrev pub HasCut : SessionRow → Life → Type 0
+HasCut row life = (parts : List Part) × IsCut row life parts
 
 -- the moment of the newest look, and 0 before one
 abbrev pub last_moment : List Look → ℕ
@@ -59,7 +59,7 @@ AreOrdered (x ∷ past) = (last_moment past ≤ x.moment) × AreOrdered past
 
 -- the state and the last moment are those at the end of this history, each life of which can be cut
 pub record StandsAt (row : SessionRow) (s : State) (last : ℕ) (h : History) : Type 0 where
-  pub earlier : AllByRecursion (Keeps row) h.earlier
+  pub earlier : AllByRecursion (HasCut row) h.earlier
   pub parts : List Part
   pub cut : IsCut row h.life parts
   pub state : s ≡ end_of row h.life.opening parts
@@ -68,4 +68,4 @@ pub record StandsAt (row : SessionRow) (s : State) (last : ℕ) (h : History) : 
 
 -- each life of the history can be cut
 abbrev pub KeepsExchanges : SessionRow → History → Type 0
-KeepsExchanges row h = AllByRecursion (Keeps row) (h.life ∷ h.earlier)
+KeepsExchanges row h = AllByRecursion (HasCut row) (h.life ∷ h.earlier)

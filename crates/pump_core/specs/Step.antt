@@ -105,8 +105,8 @@ fits_in row s x (Passing owed) = if is_gone x.arrival then is_quiet x.feedback e
 fits_in row s x Idle = fits_idle row s x.arrival x.feedback
 
 -- the look has a feedback that it may have
-abbrev pub Fits : SessionRow → State → Look → Type 0
-Fits row s x = fits_in row s x s.phase ≡ true
+abbrev pub FeedbackFits : SessionRow → State → Look → Type 0
+FeedbackFits row s x = fits_in row s x s.phase ≡ true
 
 -- whether a look in Idle takes its arrival
 abbrev pub takes_idle : Arrival → Bool

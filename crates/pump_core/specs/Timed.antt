@@ -11,7 +11,7 @@ use Rattle.pump_core.specs.declared.event.Event.TheVariants.{StoreBegin, StoreEn
 use Rattle.pump_core.specs.History.{Opening}
 use Rattle.pump_core.specs.Comings.{Coming, Timed, Comes, Looks, Side}
 use Rattle.pump_core.specs.World.{World, live}
-use Rattle.pump_core.specs.Events.{Happens, Begins}
+use Rattle.pump_core.specs.Events.{Happens, BeginsRun}
 use Rattle.pump_core.specs.Sendings.{Sending, removal_time, sending_of}
 
 -- ---- steps and points ----
@@ -188,20 +188,20 @@ looks_next t e = record {
 }
 
 -- the step leads from the point t to the point u
-abbrev pub Moves : SessionRow → Point → Step → Point → Type 0
-Moves row t (Arrives c) u = u ≡ record t { life = happened t (Comes c) }
-Moves row t (LowLook m w gone d) u =
+abbrev pub StepsTo : SessionRow → Point → Step → Point → Type 0
+StepsTo row t (Arrives c) u = u ≡ record t { life = happened t (Comes c) }
+StepsTo row t (LowLook m w gone d) u =
     (t.looked ≤ m) × (u ≡ record t { looked = m; life = looks_next t (Looks m w gone d Quiet) })
-Moves row t (HighLook m) u =
+StepsTo row t (HighLook m) u =
     (t.high.moment ≤ m) × IsPublished t.high × (u ≡ record t { high = high_looking t.high m })
-Moves row t Offer u = u ≡ standing t Offer (offered t.world)
-Moves row t Read u = u ≡ standing t Read (with_read (seen row t.high.times))
-Moves row t Publish u =
+StepsTo row t Offer u = u ≡ standing t Offer (offered t.world)
+StepsTo row t Read u = u ≡ standing t Read (with_read (seen row t.high.times))
+StepsTo row t Publish u =
     (time : ℕ) × (t.high.unpublished ≡ Some time) × (u ≡ record t { high = high_published t.high time })
-Moves row t (Occurs e) u =
+StepsTo row t (Occurs e) u =
     (v : World) × Happens t.world e v × HasItsLook t.high e × (u ≡ after_event t e v)
 
 -- these steps, the newest first, lead from a beginning to this point
 abbrev pub LeadsTo : SessionRow → List Step → Point → Type 0
-LeadsTo row [] t = (w : World) × Begins w × (w.capacity ≡ row.capacity) × (t ≡ opens w)
-LeadsTo row (s ∷ past) u = (t : Point) × LeadsTo row past t × Moves row t s u
+LeadsTo row [] t = (w : World) × BeginsRun w × (w.capacity ≡ row.capacity) × (t ≡ opens w)
+LeadsTo row (s ∷ past) u = (t : Point) × LeadsTo row past t × StepsTo row t s u

@@ -66,7 +66,7 @@ fn at<T: Copy>(list: &[T], place: u64) -> Option<T>
 impl World {
     ghost use Rattle.pump_frame.specs.Rows.{least_capacity, greatest_capacity};
     ghost use Rattle.pump_core.specs.World.{empty};
-    ghost use Rattle.pump_core.specs.Events.{Answers, pump_crashed, receiver_crashed};
+    ghost use Rattle.pump_core.specs.Events.{StepAnswers, pump_crashed, receiver_crashed};
     ghost use Rattle.pump_core.specs.View.{IsRefill};
 
     /// A world with nothing in it, for a pump with this many places, `LEAST_CAPACITY` to
@@ -97,7 +97,7 @@ impl World {
     }
 
     fn store_begin(&mut self, payload: Payload) -> bool
-        ensures { Answers self.old (Event.StoreBegin payload) result self.new }
+        ensures { StepAnswers self.old (Event.StoreBegin payload) result self.new }
     {
         if self.storing.is_some() || self.low_hand.is_some() {
             return false;
@@ -107,7 +107,7 @@ impl World {
     }
 
     fn store_end(&mut self) -> Result<bool, OutOfMemory>
-        ensures did { IfOk result (λ did. Answers self.old Event.StoreEnd did self.new) }
+        ensures did { IfOk result (λ did. StepAnswers self.old Event.StoreEnd did self.new) }
         ensures memory { OnErr result (self.new ≡ self.old) }
     {
         let Some(payload) = self.storing else {
@@ -121,7 +121,7 @@ impl World {
     }
 
     fn forward(&mut self) -> Result<bool, OutOfMemory>
-        ensures did { IfOk result (λ did. Answers self.old Event.Forward did self.new) }
+        ensures did { IfOk result (λ did. StepAnswers self.old Event.Forward did self.new) }
         ensures memory { OnErr result (self.new ≡ self.old) }
     {
         let Some(number) = self.low_hand else {
@@ -136,7 +136,7 @@ impl World {
     }
 
     fn take_up(&mut self) -> bool
-        ensures { Answers self.old Event.TakeUp result self.new }
+        ensures { StepAnswers self.old Event.TakeUp result self.new }
     {
         if self.high_hand.is_some() {
             return false;
@@ -149,7 +149,7 @@ impl World {
     }
 
     fn send(&mut self) -> Result<bool, OutOfMemory>
-        ensures did { IfOk result (λ did. Answers self.old Event.Send did self.new) }
+        ensures did { IfOk result (λ did. StepAnswers self.old Event.Send did self.new) }
         ensures memory { OnErr result (self.new ≡ self.old) }
     {
         let Some(number) = self.high_hand else {
@@ -167,7 +167,7 @@ impl World {
 
     #[tactic(auto, using(crate::proofs::Stepping::carried_here))]
     fn carry(&mut self, which: u64) -> Result<bool, OutOfMemory>
-        ensures did { IfOk result (λ did. Answers self.old (Event.CarryData which) did self.new) }
+        ensures did { IfOk result (λ did. StepAnswers self.old (Event.CarryData which) did self.new) }
         ensures memory { OnErr result (self.new ≡ self.old) }
     {
         let Some(packet) = at(&self.sent, which) else {
@@ -186,7 +186,7 @@ impl World {
     }
 
     fn take_begin(&mut self) -> bool
-        ensures { Answers self.old Event.TakeBegin result self.new }
+        ensures { StepAnswers self.old Event.TakeBegin result self.new }
     {
         if self.packet.is_none() || self.taking {
             return false;
@@ -196,7 +196,7 @@ impl World {
     }
 
     fn take_end(&mut self) -> Result<bool, OutOfMemory>
-        ensures did { IfOk result (λ did. Answers self.old Event.TakeEnd did self.new) }
+        ensures did { IfOk result (λ did. StepAnswers self.old Event.TakeEnd did self.new) }
         ensures memory { OnErr result (self.new ≡ self.old) }
     {
         let Some(payload) = self.packet else {
@@ -215,7 +215,7 @@ impl World {
     }
 
     fn return_taken(&mut self, which: u64) -> bool
-        ensures { Answers self.old (Event.ReturnTaken which) result self.new }
+        ensures { StepAnswers self.old (Event.ReturnTaken which) result self.new }
     {
         let Some(number) = at(&self.returned, which) else {
             return false;
@@ -230,7 +230,7 @@ impl World {
     }
 
     fn remove_begin(&mut self) -> bool
-        ensures { Answers self.old Event.RemoveBegin result self.new }
+        ensures { StepAnswers self.old Event.RemoveBegin result self.new }
     {
         if !self.due || self.removing {
             return false;
@@ -240,7 +240,7 @@ impl World {
     }
 
     fn remove_end(&mut self) -> bool
-        ensures { Answers self.old Event.RemoveEnd result self.new }
+        ensures { StepAnswers self.old Event.RemoveEnd result self.new }
     {
         if !self.removing {
             return false;
@@ -253,7 +253,7 @@ impl World {
     }
 
     fn acknowledge(&mut self, number: u64) -> Result<bool, OutOfMemory>
-        ensures did { IfOk result (λ did. Answers self.old (Event.Acknowledge number) did self.new) }
+        ensures did { IfOk result (λ did. StepAnswers self.old (Event.Acknowledge number) did self.new) }
         ensures memory { OnErr result (self.new ≡ self.old) }
     {
         if number >= self.accepted.len() as u64
@@ -343,7 +343,7 @@ impl World {
     /// the one after it; false exactly where it can't, and then nothing has changed. Nor has anything
     /// changed after the error, which comes only for want of memory.
     pub fn step(&mut self, event: &Event) -> Result<bool, OutOfMemory>
-        ensures did { IfOk result (λ did. Answers self.old event.now did self.new) }
+        ensures did { IfOk result (λ did. StepAnswers self.old event.now did self.new) }
         ensures memory { OnErr result (self.new ≡ self.old) }
     {
         match *event {

@@ -15,7 +15,7 @@ use Rattle.pump_frame.proofs.Forms.{IsNumber, number_of_form, payload_of_form}
 use Rattle.pump_frame.proofs.Steps.{run-append, live_run}
 use Rattle.std.proofs.lemmas.List.{append_cancel_left}
 use Rattle.byteorder.specs.Numbers.{big_number-reads_back}
-use Rattle.pump_frame.specs.Spellings.{Begins, IsPartial}
+use Rattle.pump_frame.specs.Spellings.{BeginsSpelling, IsPartial}
 use Rattle.pump_frame.proofs.Living.{completes}
 use Rattle.pump_frame.proofs.Reading.{read_frame, kind_back, payload_short}
 use Rattle.pump_frame.proofs.Writing.{run_spelling}
@@ -42,7 +42,7 @@ pub whole_run : (f : Frame) (w : List ℕ) → IsLawful f → spelling f ≡ w �
 whole_run f w lawful e = let P : List ℕ → Type 0 = λ x. run x FirstMark ≡ Some End in subst P e (run_spelling f lawful)
 
 -- what does not lead on begins no frame
-pub begins_nothing : (w : List ℕ) → run w FirstMark ≡ None → Begins w → ⊥
+pub begins_nothing : (w : List ℕ) → run w FirstMark ≡ None → BeginsSpelling w → ⊥
 begins_nothing w none (f, more, lawful, e) =
     let leads = whole_run f (w ++ more) lawful e in
     let stops : run (w ++ more) FirstMark ≡ None = run-append w more FirstMark ∙ ap (λ (o : Option Place). option_and_then (λ q. run more q) o) none in

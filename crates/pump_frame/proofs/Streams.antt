@@ -3,7 +3,7 @@ use Rattle.std.proofs.Common.{◌≡◌, ℕ, ◌<◌, ◌⊎◌, List, [], ◌�
 use Rattle.std.proofs.lemmas.List.{append_assoc, append-nil}
 use Rattle.std.specs.List.{AllByRecursion, concat}
 use Rattle.pump_frame.specs.Frames.{IsLawful}
-use Rattle.pump_frame.specs.Spellings.{spelling, header_of, Begins, IsPartial}
+use Rattle.pump_frame.specs.Spellings.{spelling, header_of, BeginsSpelling, IsPartial}
 use Rattle.pump_frame.specs.Readings.{Reading, Within, Stopped}
 use Rattle.pump_frame.specs.Streams.{spellings, IsStream, Feeds, frames_of, Reads, ReadsPieces}
 use Rattle.pump_frame.specs.Places.{run, AreBytes, IsFrameOf, IsWhole}
@@ -19,10 +19,10 @@ use Rattle.pump_frame.proofs.Exact.{apart, same_frame, partial_from, push_bytes,
 pub nothing_partial : IsPartial []
 nothing_partial = partial_from [] FirstMark (λ i. omega arith) refl (λ e. cc)
 
-pub begins_partial : (w : List ℕ) → IsPartial w → Begins w
+pub begins_partial : (w : List ℕ) → IsPartial w → BeginsSpelling w
 begins_partial w (f, b, rest, lawful, e) = (f, b ∷ rest, lawful, e)
 
-pub begins_whole : (w : List ℕ) (f : Frame) → IsLawful f → spelling f ≡ w → Begins w
+pub begins_whole : (w : List ℕ) (f : Frame) → IsLawful f → spelling f ≡ w → BeginsSpelling w
 begins_whole w f lawful e = (f, [], lawful, e ∙ sym (append-nil w))
 
 -- one answer to a byte

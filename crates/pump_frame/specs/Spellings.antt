@@ -27,8 +27,8 @@ unfoldable pub spelling : Frame → List ℕ
 spelling f = header_of f.kind f.session f.number (length f.payload) ++ f.payload
 
 -- a lawful frame begins with these bytes
-abbrev pub Begins : List ℕ → Type 0
-Begins bytes = (f : Frame) × (rest : List ℕ) × IsLawful f × (spelling f ≡ bytes ++ rest)
+abbrev pub BeginsSpelling : List ℕ → Type 0
+BeginsSpelling bytes = (f : Frame) × (rest : List ℕ) × IsLawful f × (spelling f ≡ bytes ++ rest)
 
 -- a lawful frame begins with these bytes, and has more
 abbrev pub IsPartial : List ℕ → Type 0

@@ -6,7 +6,7 @@ use Rattle.pump_frame.specs.declared.reader.Fed.{Fed}
 use Rattle.pump_frame.specs.declared.reader.Fed.TheVariants.{More, Whole, Bad}
 use Rattle.pump_frame.specs.Readings.{Reading, Within, Stopped}
 use Rattle.pump_frame.specs.Frames.{IsLawful}
-use Rattle.pump_frame.specs.Spellings.{spelling, Begins, IsPartial}
+use Rattle.pump_frame.specs.Spellings.{spelling, BeginsSpelling, IsPartial}
 
 abbrev pub spellings : List Frame → List ℕ
 spellings frames = flat_map spelling frames
@@ -18,7 +18,7 @@ IsStream bytes frames (Within rest) = AllByRecursion IsLawful frames × IsPartia
     × (bytes ≡ spellings frames ++ rest)
 IsStream bytes frames (Stopped at) = AllByRecursion IsLawful frames
     × (front : List ℕ) × (byte : ℕ) × (more : List ℕ) × IsPartial front
-    × (Begins (front ++ byte ∷ []) → ⊥) × (at ≡ length front)
+    × (BeginsSpelling (front ++ byte ∷ []) → ⊥) × (at ≡ length front)
     × (bytes ≡ spellings frames ++ (front ++ byte ∷ more))
 
 -- what a reader answers to one more byte, and what it is after it
@@ -28,7 +28,7 @@ Feeds (Within held) byte More new =
 Feeds (Within held) byte (Whole f) new =
     IsLawful f × (spelling f ≡ held ++ byte ∷ []) × (new ≡ Within [])
 Feeds (Within held) byte (Bad at) new =
-    (Begins (held ++ byte ∷ []) → ⊥) × (at ≡ length held) × (new ≡ Stopped at)
+    (BeginsSpelling (held ++ byte ∷ []) → ⊥) × (at ≡ length held) × (new ≡ Stopped at)
 Feeds (Stopped at) byte fed new = (fed ≡ Bad at) × (new ≡ Stopped at)
 
 -- the frame of an answer, if it has one

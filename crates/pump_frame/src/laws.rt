@@ -3,7 +3,7 @@ ghost use Rattle.std.specs.List.{AllByRecursion, concat};
 ghost use Rattle.pump_frame.specs.Frames.{IsLawful, greeting};
 ghost use Rattle.pump_frame.specs.Names.{IsName};
 ghost use Rattle.pump_frame.specs.Readings.{Reading, Within};
-ghost use Rattle.pump_frame.specs.Spellings.{spelling, Begins, IsPartial};
+ghost use Rattle.pump_frame.specs.Spellings.{spelling, BeginsSpelling, IsPartial};
 ghost use Rattle.pump_frame.specs.Streams.{Feeds, IsStream, ReadsPieces};
 ghost use Rattle.pump_frame.specs.declared.frame.Frame.{Frame};
 ghost use Rattle.pump_frame.specs.declared.reader.Fed.{Fed};
@@ -47,5 +47,5 @@ pub fn answers_are_exact()
         Feeds (Within held) byte fed new →
         (fed ≡ Fed.Whole f) ↔ (IsLawful f × (spelling f ≡ held ++ byte ∷ [])) }
     ensures bad { (held : List ℕ) (byte : ℕ) (fed : Fed) (new : Reading) →
-        Feeds (Within held) byte fed new → (fed ≡ Fed.Bad (length held)) ↔ (Begins (held ++ byte ∷ []) → ⊥) }
+        Feeds (Within held) byte fed new → (fed ≡ Fed.Bad (length held)) ↔ (BeginsSpelling (held ++ byte ∷ []) → ⊥) }
 {}

@@ -3,7 +3,7 @@ use Rattle.std.proofs.Common.{◌≡◌, ℕ, ◌+◌, ◌-◌, ◌≤◌, ◌<�
 use Rattle.std.proofs.lemmas.Bool.Decides.{nat_tests}
 use Rattle.std.proofs.lemmas.List.{take_at, drop_at, length-take-le}
 use Rattle.pump_link.specs.Doors.{MemoryDoor}
-use Rattle.pump_link.specs.Ports.{PortsStep, Listened, NoDoor, Connected, NoConnection, BackToPorts, ShutDoor, MemoryPorts, Kept, keep, leave, with_back, AnswersFrom, GivesPorts, DidPorts, kept_after, last_port}
+use Rattle.pump_link.specs.Ports.{PortsStep, Listened, NoDoor, Connected, NoConnection, BackToPorts, ShutDoor, MemoryPorts, KeptLinks, keep, leave, with_back, AnswersFrom, GivesPorts, DidPorts, kept_after, last_port}
 use Rattle.pump_link.specs.Tells.{Draws, Grows}
 
 -- an insert behind the front
@@ -17,7 +17,7 @@ pub insert_rest : {A : Type 0} (b : ℕ) (xs : List A) (x : A) → b ≤ length 
 insert_rest b xs x le = ap (drop (b + 1)) (sym (append_assoc (take b xs) (x ∷ []) (drop b xs))) ∙ drop_at (take b xs ++ x ∷ []) (drop b xs) (b + 1) (long b xs x le)
 
 module _ {L : Type 0} where
-  kept_snoc : (kept : Kept L) (log : List (PortsStep L (MemoryDoor L))) (x : PortsStep L (MemoryDoor L)) → kept_after kept (log ++ x ∷ []) ≡ kept_after (kept_after kept log) (x ∷ [])
+  kept_snoc : (kept : KeptLinks L) (log : List (PortsStep L (MemoryDoor L))) (x : PortsStep L (MemoryDoor L)) → kept_after kept (log ++ x ∷ []) ≡ kept_after (kept_after kept log) (x ∷ [])
   kept_snoc kept [] x = refl
   kept_snoc kept (BackToPorts link ∷ rest) x = kept_snoc (keep kept (Some link)) rest x
   kept_snoc kept (ShutDoor door ∷ rest) x = kept_snoc (keep kept door.back) rest x
@@ -52,14 +52,14 @@ module _ {L : Type 0} where
   pub same_answers : (old new : MemoryPorts L) (link : Option L) → new ≡ with_back old link → Draws (GivesPorts old) (GivesPorts new) []
   same_answers old new link e = record { told = λ rest t. carried _ _ _ _ _ _ rest (ap (λ p. p.coming) e) (ap (λ p. p.calls) e) (ap (λ p. p.fails) e) t }
 
-  pub leave_none : (kept : Kept L) → leave kept None ≡ kept
+  pub leave_none : (kept : KeptLinks L) → leave kept None ≡ kept
   leave_none kept = let same : kept.places + 0 ≡ kept.places = omega arith in λ i. record { links = kept.links; places = same i }
 
   -- a place that there is, and none
-  pub kept_one : (kept : Kept L) (link : L) → 0 < kept.places → keep kept (Some link) ≡ record { links = kept.links ++ link ∷ []; places = kept.places - 1 }
+  pub kept_one : (kept : KeptLinks L) (link : L) → 0 < kept.places → keep kept (Some link) ≡ record { links = kept.links ++ link ∷ []; places = kept.places - 1 }
   kept_one kept link some = let e : nat_lt 0 kept.places ≡ true = grind (arith, nat_tests) in rw e refl
 
-  pub kept_none : (kept : Kept L) (link : L) → kept.places ≡ 0 → keep kept (Some link) ≡ kept
+  pub kept_none : (kept : KeptLinks L) (link : L) → kept.places ≡ 0 → keep kept (Some link) ≡ kept
   kept_none kept link none = let e : nat_lt 0 kept.places ≡ false = grind (arith, nat_tests) in rw e refl
 
   pub same_fields : (a b : MemoryPorts L) → a.coming ≡ b.coming → a.kept ≡ b.kept → a.connected ≡ b.connected → a.calls ≡ b.calls → a.fails ≡ b.fails → a.faults ≡ b.faults → a ≡ b

@@ -29,24 +29,24 @@ first_of [] = None
 first_of (link ∷ rest) = Some link
 
 -- the links that came back and were kept, and the places for more
-pub record Kept (L : Type 0) : Type 0 where
+pub record KeptLinks (L : Type 0) : Type 0 where
   pub links : List L
   pub places : ℕ
 
 -- a link that comes back is kept where there is a place, else dropped
-abbrev pub keep : {L : Type 0} → Kept L → Option L → Kept L
+abbrev pub keep : {L : Type 0} → KeptLinks L → Option L → KeptLinks L
 keep kept None = kept
 keep kept (Some link) = if nat_lt 0 kept.places then record { links = kept.links ++ link ∷ []; places = kept.places - 1 } else kept
 
 -- a link that is handed out leaves its place
-abbrev pub leave : {L : Type 0} → Kept L → Option L → Kept L
+abbrev pub leave : {L : Type 0} → KeptLinks L → Option L → KeptLinks L
 leave kept link = record { links = kept.links; places = kept.places + length (option_list link) }
 
 -- what a contract sees of ports in memory: the links to come, those given back, the port of the last connect that gave a link,
 -- the calls made, the numbers of those that fail, and the failed calls so far
 pub record MemoryPorts (L : Type 0) : Type 0 where
   pub coming : List L
-  pub kept : Kept L
+  pub kept : KeptLinks L
   pub connected : Option ℕ
   pub calls : ℕ
   pub fails : List ℕ
@@ -81,7 +81,7 @@ abbrev pub GivesPorts : {L : Type 0} → MemoryPorts L → List (PortsStep L (Me
 GivesPorts ports = AnswersFrom ports.coming ports.calls ports.fails
 
 -- what is kept after these steps: a door that opens takes its link out, and a shut one gives back the link that it has
-abbrev pub kept_after : {L : Type 0} → Kept L → List (PortsStep L (MemoryDoor L)) → Kept L
+abbrev pub kept_after : {L : Type 0} → KeptLinks L → List (PortsStep L (MemoryDoor L)) → KeptLinks L
 kept_after kept [] = kept
 kept_after kept (Listened port door ∷ rest) = kept_after (leave kept door.waiting) rest
 kept_after kept (NoDoor port ∷ rest) = kept_after kept rest

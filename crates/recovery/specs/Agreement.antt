@@ -6,15 +6,15 @@ use Rattle.recovery.specs.declared.why.Why.{Why}
 use Rattle.recovery.specs.declared.why.Why.TheVariants.{Device, NotABuffer, WrongShape, BadRegister, Mismatch, BadSlot, Apart, Differs, NotEmpty}
 
 -- the receiver's messages from `removed` to before `count` stand in low's slots
-abbrev pub Agree : SessionRow → ℕ → ℕ → List (List ℕ) → List ℕ → Type 0
-Agree row removed count messages low = (n : ℕ) → removed ≤ n → n < count → InSlot row n (slice_index_or messages n []) low
+abbrev pub SlotsAgree : SessionRow → ℕ → ℕ → List (List ℕ) → List ℕ → Type 0
+SlotsAgree row removed count messages low = (n : ℕ) → removed ≤ n → n < count → InSlot row n (slice_index_or messages n []) low
 
 -- The receiver has fewer than are removed, or more than are accepted; or the least of its messages that stands otherwise in low's slot is this.
 abbrev pub Disagrees : SessionRow → ℕ → ℕ → ℕ → List (List ℕ) → List ℕ → Why → Type 0
 Disagrees row removed count accepted messages low (Apart found bound) =
     (found ≡ count) × (((count < removed) × (bound ≡ removed)) ⊎ ((removed ≤ count) × (accepted < count) × (bound ≡ accepted)))
 Disagrees row removed count accepted messages low (Differs n) =
-    (removed ≤ count) × (count ≤ accepted) × (removed ≤ n) × (n < count) × Agree row removed n messages low
+    (removed ≤ count) × (count ≤ accepted) × (removed ≤ n) × (n < count) × SlotsAgree row removed n messages low
     × (InSlot row n (slice_index_or messages n []) low → ⊥)
 Disagrees row removed count accepted messages low (Device faults) = ⊥
 Disagrees row removed count accepted messages low (NotABuffer size bytes) = ⊥

@@ -7,7 +7,7 @@ use Rattle.stable_buffer.specs.Log.{RecvStands}
 use Rattle.pump_frame.specs.declared.row.SessionRow.{SessionRow}
 use Rattle.stable_buffer.specs.Register.{value_of}
 use Rattle.recovery.specs.Refusals.{refused_pump, refused_receiver}
-use Rattle.recovery.specs.Agreement.{Agree}
+use Rattle.recovery.specs.Agreement.{SlotsAgree}
 
 -- an unfinished message is kept or not
 abbrev pub kept_with : Bool → Option (List ℕ) → List (List ℕ) → List (List ℕ)
@@ -48,7 +48,7 @@ pub record Opens (row : SessionRow) (size E B R : ℕ) (received : List (List �
   pub pump : refused_pump row low high ≡ None
   pub receiver : refused_receiver row size recv ≡ None
   pub order : (B ≤ R) × (R ≤ E)
-  pub agree : Agree row B R received low
+  pub agree : SlotsAgree row B R received low
 
 -- Disks of one lawful world, each with its unfinished call kept or not, are refused for nothing and agree.
 abbrev pub EachTripleOpens : Type 0

@@ -5,7 +5,7 @@ ghost use Rattle.stable_buffer.specs.Low.{IsLowReady, low_disk, low_row, low_cou
 ghost use Rattle.stable_buffer.specs.Stands.{InSlot};
 ghost use Rattle.stable_buffer.specs.Log.{RecvStands};
 ghost use Rattle.high_receiver.specs.Receiving.{IsRecvReady, recv_disk, recv_row, recv_size, recv_count, recv_end, recv_is_open};
-ghost use Rattle.recovery.specs.Agreement.{Agree, Disagrees};
+ghost use Rattle.recovery.specs.Agreement.{SlotsAgree, Disagrees};
 ghost use Rattle.recovery.specs.Calls.{Calls, CallsReceiver, GivesSlot, is_device};
 ghost use Rattle.recovery.specs.declared.why.Why.TheVariants.{Device};
 
@@ -93,7 +93,7 @@ pub fn agree<D: Disk>(
     ensures fine { OnOk result ((removed ≤ recv_count receiver.old) × (recv_count receiver.old ≤ low_count low.old)
         × (D.told.tells → (messages : List (List ℕ))
         → RecvStands (recv_row receiver.old) messages (D.told.reading (recv_disk receiver.old))
-        → Agree (low_row low.old) removed (recv_count receiver.old) messages (D.told.reading (low_disk low.old)))) }
+        → SlotsAgree (low_row low.old) removed (recv_count receiver.old) messages (D.told.reading (low_disk low.old)))) }
     ensures exact { IfErr result (λ why. is_device why ≡ false → D.told.tells → (messages : List (List ℕ))
         → RecvStands (recv_row receiver.old) messages (D.told.reading (recv_disk receiver.old))
         → Disagrees (low_row low.old) removed (recv_count receiver.old) (low_count low.old) messages

@@ -15,7 +15,7 @@ use Rattle.pump_core.specs.HighLooks.{Perhaps, Returns, IsSent}
 use Rattle.script_reader.specs.Past.{Past}
 use Rattle.script_reader.specs.Highs.{IsHighLook, is_ahead, IsReturnBy, IsReturn, IsCarried, place}
 use Rattle.script_reader.specs.Steps.{IsCarriedBack, LineStep}
-use Rattle.script_reader.specs.Tolds.{LowPast}
+use Rattle.script_reader.specs.Alone.{PastAlone}
 use Rattle.script_reader.specs.Scripts.{Begun, Whole, Alone, GoesOn, Leads, LeadTo}
 use Rattle.script_reader.specs.Readouts.{KeepsBounds}
 use Rattle.script_reader.proofs.Fresh.{fresh_lawful}
@@ -125,7 +125,7 @@ Holds (Some (Alone s)) = length s.past.waits ≤ 64
 begins_so : (s : Begun) → IsNew s → Holds (Some s)
 begins_so (Whole s) new =
     subst (λ (p : Past). Stays s.row.capacity p.world × (length p.waits ≤ 64)) (sym new.1) (record { lawful = fresh_lawful s.row new.0; capacity = refl }, omega arith)
-begins_so (Alone s) new = subst (λ (p : LowPast). length p.waits ≤ 64) (sym new.2) (omega arith)
+begins_so (Alone s) new = subst (λ (p : PastAlone). length p.waits ≤ 64) (sym new.2) (omega arith)
 
 goes_so : (s : Begun) (line : Line) (after : Option Begun) (printed : List Event) → GoesOn s line after printed → Holds (Some s) → Holds after
 goes_so (Whole s) line after printed (timely, (q, step, e)) (l, few) =

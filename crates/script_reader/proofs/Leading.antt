@@ -5,13 +5,13 @@ use Rattle.script_reader.specs.declared.line.Line.{Line}
 use Rattle.script_reader.specs.declared.line.Line.TheVariants as lines
 use Rattle.script_reader.specs.declared.event.Event.{Event}
 use Rattle.script_reader.specs.Past.{fresh}
-use Rattle.script_reader.specs.Tolds.{fresh_low}
+use Rattle.script_reader.specs.Alone.{fresh_alone}
 use Rattle.script_reader.specs.Scripts.{Begun, Whole, Alone, GoesOn, Leads}
 
 -- before its first line, of a lawful row
 abbrev pub IsNew : Begun → Type 0
 IsNew (Whole s) = IsLawfulRow s.row × (s.past ≡ fresh s.row)
-IsNew (Alone s) = (next : ℕ) × (held : Bool) × (s.past ≡ fresh_low next held)
+IsNew (Alone s) = (next : ℕ) × (held : Bool) × (s.past ≡ fresh_alone next held)
 
 pub led : {P : Type 0} (running : Option Begun) (line : Line) (after : Option Begun) (printed : List Event) → Leads running line after printed
     → (line ≡ lines.Skip → after ≡ running → printed ≡ [] → P)
@@ -22,7 +22,7 @@ led (Some s) lines.Skip after printed h skips begins goes = skips refl h.0 h.1
 led None (lines.Session row) after printed h skips begins goes =
     begins (Whole (record { row = row; past = fresh row })) refl (h.0.0, refl) h.0.1 h.1
 led None (lines.LowSession row next held) after printed h skips begins goes =
-    begins (Alone (record { row = row; past = fresh_low next held })) refl (next, held, refl) h.0.1 h.1
+    begins (Alone (record { row = row; past = fresh_alone next held })) refl (next, held, refl) h.0.1 h.1
 led None (lines.Look session m w z) after printed h skips begins goes = absurd h
 led None (lines.Told session m w fault told z) after printed h skips begins goes = absurd h
 led None (lines.Gone session m) after printed h skips begins goes = absurd h

@@ -12,7 +12,7 @@ use Rattle.std.specs.Io.KnownBytes.{prepend_known, Consumes, Keeps, IsAtEnd}
 use Rattle.memchr.specs.Find.{IsFirstByte, is_byte}
 use Rattle.script_reader.specs.declared.line.Line.{Line}
 use Rattle.script_reader.specs.Grammar.{IsLine}
-use Rattle.script_reader.specs.Lines.{is_end, IsSome, IsUnended, IsBad, IsReady}
+use Rattle.script_reader.specs.Lines.{is_end, IsSome, IsUnended, IsBad, LineIsReady}
 
 none_test : (b : Bool) (x : ℕ) → cond b (Some x) None ≡ None → b ≡ false
 none_test true x e = cc
@@ -167,21 +167,21 @@ line_come (Some xs) (Some ys) held bytes rest k e =
     sym k ∙ ap (λ z. z ++ ys) e ∙ append_assoc bytes (10 ∷ rest) ys ∙ sym (append_assoc bytes (10 ∷ []) (rest ++ ys))
 
 -- bytes without a line end that may begin a line are not ready
-pub unready : (held : List ℕ) → position is_end held ≡ None → length held ≤ 2400 → IsReady held → ⊥
+pub unready : (held : List ℕ) → position is_end held ≡ None → length held ≤ 2400 → LineIsReady held → ⊥
 unready held none short ready =
     elim ready [
       | inl ends ↦ ends (not_ended held none)
       | inr long ↦ absurd (omega arith)
     ]
 
-pub ready_here : (held : List ℕ) (o : Option ℕ) → o ≡ position is_end held → is_some o ≡ true → IsReady held
+pub ready_here : (held : List ℕ) (o : Option ℕ) → o ≡ position is_end held → is_some o ≡ true → LineIsReady held
 ready_here held None e h = cc
 ready_here held (Some i) e h =
     let p = ended held i (sym e) in
     inl (λ unended. ten_not 10 (rw (get_or_at (take i held) 10 (drop (i + 1) held) 0 i (length-take-le i held (omega (arith, p.2)))) at (rw p.1 at (All-get_or (λ b. is_end b ≡ false) held i 0 p.2 unended))) refl)
 
 pub ready_by_length : (held : List ℕ) (o : Option ℕ) → o ≡ position is_end held → is_some o ≡ false
-    → (IsTrue (ltb 2400 (length held)) → IsReady held) × (IsReady held → IsTrue (ltb 2400 (length held)))
+    → (IsTrue (ltb 2400 (length held)) → LineIsReady held) × (LineIsReady held → IsTrue (ltb 2400 (length held)))
 ready_by_length held None e h = (
   λ long. inr (ltb-true _ _ long),
   λ ready. elim ready [

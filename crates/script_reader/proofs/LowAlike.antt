@@ -7,7 +7,7 @@ use Rattle.pump_core.specs.declared.feedback.Feedback.{Feedback}
 use Rattle.pump_core.specs.History.{Arrival, Look, Opening, History, looked}
 use Rattle.pump_core.specs.Exchanges.{Part, IsCut}
 use Rattle.pump_core.specs.Replies.{takes}
-use Rattle.pump_core.specs.Step.{after, takes_at, Fits}
+use Rattle.pump_core.specs.Step.{after, takes_at, FeedbackFits}
 use Rattle.pump_core.specs.Standing.{State, end_of}
 use Rattle.pump_core.specs.Pairs.{uncounted, SameLook, SameLooks, SameUpToCounts}
 use Rattle.pump_core.proofs.Runs.{run, ran}
@@ -58,7 +58,7 @@ same_state row h k parts others same cut cut' =
 
 -- what a look says of the state before it
 record Stands (row : SessionRow) (p : Past) (x : Look) (s : State) (after : List Part) : Type 0 where
-  fits : Fits row s x
+  fits : FeedbackFits row s x
   taken : takes after ≡ takes_at s x
 
 stands : (row : SessionRow) (p : Past) (x : Look) (q : Past) (printed : List Event) (i : IsLook row p x q printed)
@@ -87,7 +87,7 @@ after_looks row p q m w a f g p' q' xs ys alike i k decide =
     let one : s ≡ t = same_state row p.history q.history i.before k.before alike.history i.cut k.cut in
     let px : said_to_low xs ≡ said_by m f = ap said_to_low i.printed_is ∙ said_of_look row.id m _ f i.new in
     let py : said_to_low ys ≡ said_by m g = ap said_to_low k.printed_is ∙ said_of_look row.id m _ g k.new in
-    let told = decide (looks_one_kind row s m w a f g si.fits (subst (λ (u : State). Fits row u y) (sym one) sk.fits)) px py in
+    let told = decide (looks_one_kind row s m w a f g si.fits (subst (λ (u : State). FeedbackFits row u y) (sym one) sk.fits)) px py in
     let taken : takes i.after ≡ takes k.after = si.taken ∙ looks_take s m w a f g ∙ ap (λ (u : State). takes_at u y) one ∙ sym sk.taken in
     let look : SameLook x y = record { moment = refl; word = refl; arrival = refl; outcome = refl; feedback = told } in
     let history : SameUpToCounts (looked p.history x) (looked q.history y) =

@@ -5,7 +5,7 @@ use Rattle.pump_frame.specs.declared.row.SessionRow.{SessionRow}
 use Rattle.script_reader.specs.declared.line.Line.{Line}
 use Rattle.script_reader.specs.declared.line.Line.TheVariants as lines
 use Rattle.script_reader.specs.declared.event.Event.{Event}
-use Rattle.script_reader.specs.Scripts.{LowRunning, Begun, Alone, GoesAlone, Leads, LeadTo, IsTranscript}
+use Rattle.script_reader.specs.Scripts.{RunningAlone, Begun, Alone, GoesAlone, Leads, LeadTo, IsTranscript}
 use Rattle.script_reader.specs.Sides.{is_lows, low_side_of}
 use Rattle.script_reader.proofs.OneScript.{transcript_one}
 
@@ -14,7 +14,7 @@ record Nothing (running after : Option Begun) (printed : List Event) : Type 0 wh
   same : after ≡ running
   silent : printed ≡ []
 
-left_alone : (s : LowRunning) (line : Line) (after : Option Begun) (printed : List Event) → is_lows line ≡ false → Leads (Some (Alone s)) line after printed → Nothing (Some (Alone s)) after printed
+left_alone : (s : RunningAlone) (line : Line) (after : Option Begun) (printed : List Event) → is_lows line ≡ false → Leads (Some (Alone s)) line after printed → Nothing (Some (Alone s)) after printed
 left_alone s lines.Skip after printed own h = record { same = h.0; silent = h.1 }
 left_alone s (lines.Session row) after printed own h = absurd (cc)
 left_alone s (lines.LowSession row next held) after printed own h = absurd (cc)
@@ -28,13 +28,13 @@ left_alone s (lines.Done session m t) after printed own h = absurd (h.1.1)
 
 -- it stays a low side alone
 record StaysAlone (after : Option Begun) : Type 0 where
-  session : LowRunning
+  session : RunningAlone
   is : after ≡ Some (Alone session)
 
-goes_alone : (s : LowRunning) (line : Line) (after : Option Begun) (printed : List Event) → GoesAlone s line after printed → StaysAlone after
+goes_alone : (s : RunningAlone) (line : Line) (after : Option Begun) (printed : List Event) → GoesAlone s line after printed → StaysAlone after
 goes_alone s line after printed (timely, (q, step, e)) = record { session = _; is = e }
 
-stays_alone : (s : LowRunning) (line : Line) (after : Option Begun) (printed : List Event) → Leads (Some (Alone s)) line after printed → StaysAlone after
+stays_alone : (s : RunningAlone) (line : Line) (after : Option Begun) (printed : List Event) → Leads (Some (Alone s)) line after printed → StaysAlone after
 stays_alone s lines.Skip after printed h = record { session = s; is = h.0 }
 stays_alone s (lines.Session row) after printed h = goes_alone s (lines.Session row) after printed h
 stays_alone s (lines.LowSession row next held) after printed h = goes_alone s (lines.LowSession row next held) after printed h
@@ -46,7 +46,7 @@ stays_alone s (lines.Carry session back) after printed h = goes_alone s (lines.C
 stays_alone s (lines.Return session m back) after printed h = goes_alone s (lines.Return session m back) after printed h
 stays_alone s (lines.Done session m t) after printed h = goes_alone s (lines.Done session m t) after printed h
 
-alone_leads : (s : LowRunning) (script : List Line) (after : Option Begun) (printed : List Event)
+alone_leads : (s : RunningAlone) (script : List Line) (after : Option Begun) (printed : List Event)
     → LeadTo (Some (Alone s)) script after printed → LeadTo (Some (Alone s)) (low_side_of script) after printed
 alone_leads s [] after printed h = h
 alone_leads s (line ∷ script) after printed (mid, first, second, h, later, e) =

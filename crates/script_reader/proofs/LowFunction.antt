@@ -21,9 +21,9 @@ use Rattle.script_reader.specs.declared.event.Event.{Event}
 use Rattle.script_reader.specs.declared.event.Event.TheVariants.{End}
 use Rattle.script_reader.specs.Past.{Past}
 use Rattle.script_reader.specs.Lows.{first_of, IsLook}
-use Rattle.script_reader.specs.Tolds.{LowPast, IsToldLook, StepLow}
+use Rattle.script_reader.specs.Alone.{PastAlone, IsToldLook, StepAlone}
 use Rattle.script_reader.specs.Steps.{LineComing, Arrives, joined, lost, LineStep, Overfills}
-use Rattle.script_reader.specs.Scripts.{Running, LowRunning, Begun, Whole, Alone, GoesWhole, GoesOn, Leads, LeadTo, Stops, ComesTo, Ends, IsTranscript}
+use Rattle.script_reader.specs.Scripts.{Running, RunningAlone, Begun, Whole, Alone, GoesWhole, GoesOn, Leads, LeadTo, Stops, ComesTo, Ends, IsTranscript}
 use Rattle.script_reader.specs.Readouts.{low_lines}
 use Rattle.script_reader.specs.Sides.{is_lows, low_side_of, told_to_low, full_moments, averages, look_moment, HaveOwnMoments}
 use Rattle.script_reader.proofs.One.{arrives_one}
@@ -77,7 +77,7 @@ step_alike row p q (lines.Done session m t) p' q' xs ys own alike h k decide = a
 data Lows : Type 0 where
   Nobody : Lows
   Whole' : (row : SessionRow) (half : Half) → Lows
-  Alone' : (s : LowRunning) → Lows
+  Alone' : (s : RunningAlone) → Lows
 
 abbrev lows : Option Begun → Lows
 lows None = Nobody
@@ -196,7 +196,7 @@ unsaid_none m printed e = subst (λ l. IsUnsaid m (said_to_low l)) (sym e) tt
 unsaid_look : (row : SessionRow) (p : Past) (x : Look) (q : Past) (printed : List Event) (m : ℕ) → IsLook row p x q printed → m ≢ x.moment → IsUnsaid m (said_to_low printed)
 unsaid_look row p x q printed m i off = unsaid_so m x.moment x.feedback printed (ap said_to_low i.printed_is ∙ said_of_look row.id x.moment _ x.feedback i.new) off
 
-unsaid_told : (row : SessionRow) (p : LowPast) (told : ToldFeedback) (x : Look) (q : LowPast) (printed : List Event) (m : ℕ) → IsToldLook row p told x q printed → m ≢ x.moment → IsUnsaid m (said_to_low printed)
+unsaid_told : (row : SessionRow) (p : PastAlone) (told : ToldFeedback) (x : Look) (q : PastAlone) (printed : List Event) (m : ℕ) → IsToldLook row p told x q printed → m ≢ x.moment → IsUnsaid m (said_to_low printed)
 unsaid_told row p told x q printed m i off = unsaid_so m x.moment x.feedback printed (ap said_to_low i.printed_is ∙ said_of_look row.id x.moment _ x.feedback i.new) off
 
 unsaid : (r : Option Begun) (line : Line) (s : Option Begun) (printed : List Event) (m : ℕ) → is_lows line ≡ true
@@ -235,7 +235,7 @@ own_fits row p (lines.Return session m back) q printed end n size own h = absurd
 own_fits row p (lines.Carry session back) q printed end n size own h = absurd (cc)
 own_fits row p (lines.Done session m t) q printed end n size own h = absurd (cc)
 
-unsaid_step : (s : LowRunning) (line : Line) (q : LowPast) (printed : List Event) (m : ℕ) → StepLow s.row s.past line true q printed → ((k : ℕ) → look_moment line ≡ Some k → m ≢ k) → IsUnsaid m (said_to_low printed)
+unsaid_step : (s : RunningAlone) (line : Line) (q : PastAlone) (printed : List Event) (m : ℕ) → StepAlone s.row s.past line true q printed → ((k : ℕ) → look_moment line ≡ Some k → m ≢ k) → IsUnsaid m (said_to_low printed)
 unsaid_step s (lines.Told session k w fault told z) q printed m (c, comes, (few, (f, i))) off = unsaid_told s.row _ told _ q printed m i (off k refl)
 unsaid_step s (lines.Gone session k) q printed m (f, i) off = unsaid_told s.row _ _ _ q printed m i (off k refl)
 unsaid_step s lines.Skip q printed m h off = absurd h
@@ -328,19 +328,19 @@ goes_alike (Some (Whole s)) (Some (Alone t)) r' s' line xs ys own alike h k deci
 goes_alike (Some (Alone s)) (Some (Whole t)) r' s' line xs ys own alike h k decide = absurd alike
 
 -- a line of low's own that stops a script is one of a low side alone
-stops_alone : (s : Option Begun) (line : Line) (after : Option Begun) (printed : List Event) (fault : Fault) → is_lows line ≡ true → Stops s line after printed fault → (t : LowRunning) × (s ≡ Some (Alone t))
+stops_alone : (s : Option Begun) (line : Line) (after : Option Begun) (printed : List Event) (fault : Fault) → is_lows line ≡ true → Stops s line after printed fault → (t : RunningAlone) × (s ≡ Some (Alone t))
 stops_alone None line after printed fault own h = absurd h
 stops_alone (Some (Whole s)) line after printed fault own (timely, (q, end, n, size, o, f, e)) = absurd (own_fits s.row s.past line q printed end n size own o)
 stops_alone (Some (Alone t)) line after printed fault own h = (t, refl)
 
-same_alone : (r s : Option Begun) (t : LowRunning) → AlikeFor (lows r) (lows s) → s ≡ Some (Alone t) → r ≡ s
+same_alone : (r s : Option Begun) (t : RunningAlone) → AlikeFor (lows r) (lows s) → s ≡ Some (Alone t) → r ≡ s
 same_alone (Some (Alone a)) (Some (Alone b)) t alike e = ap (λ u. Some (Alone u)) alike
 same_alone None (Some (Alone b)) t alike e = absurd alike
 same_alone (Some (Whole a)) (Some (Alone b)) t alike e = absurd alike
 same_alone r None t alike e = absurd (cc)
 same_alone r (Some (Whole b)) t alike e = absurd (cc)
 
-alone_same : (r s : Option Begun) (t : LowRunning) → AlikeFor (lows r) (lows s) → r ≡ Some (Alone t) → r ≡ s
+alone_same : (r s : Option Begun) (t : RunningAlone) → AlikeFor (lows r) (lows s) → r ≡ Some (Alone t) → r ≡ s
 alone_same (Some (Alone a)) (Some (Alone b)) t alike e = ap (λ u. Some (Alone u)) alike
 alone_same (Some (Alone a)) None t alike e = absurd alike
 alone_same (Some (Alone a)) (Some (Whole b)) t alike e = absurd alike
@@ -399,7 +399,7 @@ replies_alike (Some (Whole s)) (Some (Whole t)) xs ys (row, alike) h k =
     same_lives s.row (p.life ∷ p.earlier) (q.life ∷ q.earlier) xs ys alike.history h (subst (λ u. LowReplies u t.past.history ys) (sym row) k)
 replies_alike (Some (Alone s)) (Some (Alone t)) xs ys alike h k =
     let p = s.past.history in
-    one_list_of_lives s.row (p.life ∷ p.earlier) xs ys h (subst (λ (u : LowRunning). LowReplies u.row u.past.history ys) (sym alike) k)
+    one_list_of_lives s.row (p.life ∷ p.earlier) xs ys h (subst (λ (u : RunningAlone). LowReplies u.row u.past.history ys) (sym alike) k)
 replies_alike None (Some (Whole t)) xs ys alike h k = absurd alike
 replies_alike None (Some (Alone t)) xs ys alike h k = absurd alike
 replies_alike (Some (Whole s)) None xs ys alike h k = absurd alike
@@ -438,7 +438,7 @@ overfills_aside s p (lines.Gone session m) q printed end n size h = absurd h
 overfills_aside s p (lines.High session m) q printed end n size h = absurd h
 overfills_aside s p (lines.Return session m back) q printed end n size h = absurd h
 
-step_own : (s : LowRunning) (line : Line) (q : LowPast) (printed : List Event) → is_lows line ≡ false → StepLow s.row s.past line true q printed → ⊥
+step_own : (s : RunningAlone) (line : Line) (q : PastAlone) (printed : List Event) → is_lows line ≡ false → StepAlone s.row s.past line true q printed → ⊥
 step_own s (lines.Told session m w fault told z) q printed own h = absurd (cc)
 step_own s (lines.Gone session m) q printed own h = absurd (cc)
 step_own s lines.Skip q printed own h = h

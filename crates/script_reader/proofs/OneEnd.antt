@@ -6,7 +6,7 @@ use Rattle.script_reader.specs.declared.line.Line.{Line}
 use Rattle.script_reader.specs.declared.line.Line.TheVariants as lines
 use Rattle.script_reader.specs.Grammar.{IsLine}
 use Rattle.script_reader.specs.Lines.{AreLines, IsUnended}
-use Rattle.script_reader.specs.Scripts.{Running, LowRunning, Begun, Whole, Alone, GoesWhole, GoesAlone, Leads, LeadTo, IsRefused, IsTranscript}
+use Rattle.script_reader.specs.Scripts.{Running, RunningAlone, Begun, Whole, Alone, GoesWhole, GoesAlone, Leads, LeadTo, IsRefused, IsTranscript}
 use Rattle.script_reader.specs.Faults.{IsFaulty}
 use Rattle.script_reader.proofs.LineEnds.{one_front}
 use Rattle.script_reader.proofs.LineLaws.{one_line}
@@ -14,7 +14,7 @@ use Rattle.script_reader.proofs.OneReading.{taken, not_nothing}
 use Rattle.pump_frame.specs.declared.row.SessionRow.{SessionRow}
 use Rattle.script_reader.specs.Past.{Past}
 use Rattle.script_reader.specs.Steps.{LineComing, joined, IsCrowded, IsRefusedWhole, LineStep}
-use Rattle.script_reader.specs.Tolds.{LowPast, joined_low, IsCrowdedLow, IsRefusedAlone, StepLow}
+use Rattle.script_reader.specs.Alone.{PastAlone, joined_alone, IsCrowdedAlone, IsRefusedAlone, StepAlone}
 use Rattle.script_reader.proofs.One.{arrives_one}
 use Rattle.script_reader.proofs.OneScript.{leads_one}
 
@@ -39,9 +39,9 @@ refused_goes : (s : Running) (line : Line) (mid : Option Begun) (printed : List 
 refused_goes s line mid printed h (timely, (q, step, e)) =
     elim h [ inl late ↦ both_ways _ late timely | inr crowded ↦ crowded_steps s.row s.past line q printed crowded step ]
 
-crowded_low : (s : SessionRow) (p : LowPast) (line : Line) (q : LowPast) (printed : List Event) → IsCrowdedLow p line → StepLow s p line false q printed → ⊥
+crowded_low : (s : SessionRow) (p : PastAlone) (line : Line) (q : PastAlone) (printed : List Event) → IsCrowdedAlone p line → StepAlone s p line false q printed → ⊥
 crowded_low s p (lines.Told session m w fault told z) q printed (c, comes, many) (d, comes', (few, look)) =
-    let same = ap (λ (t : LineComing). length (joined_low p fault t).waits) (arrives_one session p.reading z c d comes comes') in
+    let same = ap (λ (t : LineComing). length (joined_alone p fault t).waits) (arrives_one session p.reading z c d comes comes') in
     absurd (omega (arith, many, few, same))
 crowded_low s p lines.Skip q printed h k = h
 crowded_low s p (lines.Session row) q printed h k = h
@@ -53,7 +53,7 @@ crowded_low s p (lines.Carry session back) q printed h k = h
 crowded_low s p (lines.Return session m back) q printed h k = h
 crowded_low s p (lines.Done session m t) q printed h k = h
 
-refused_low : (s : LowRunning) (line : Line) (mid : Option Begun) (printed : List Event) → IsRefusedAlone s.row s.past line → GoesAlone s line mid printed → ⊥
+refused_low : (s : RunningAlone) (line : Line) (mid : Option Begun) (printed : List Event) → IsRefusedAlone s.row s.past line → GoesAlone s line mid printed → ⊥
 refused_low s line mid printed h (timely, (q, step, e)) =
     elim h [ inl late ↦ both_ways _ late timely | inr crowded ↦ crowded_low s.row s.past line q printed crowded step ]
 

@@ -16,16 +16,16 @@ use Rattle.script_reader.specs.declared.line.ToldFeedback.TheVariants.{Quiet}
 use Rattle.script_reader.specs.declared.event.Event.{Event}
 use Rattle.script_reader.specs.Lows.{first_of, is_bad, printed_store, printed_feedback, printed_replies}
 use Rattle.script_reader.specs.Steps.{LineComing}
-use Rattle.script_reader.specs.Tolds.{LowPast, told_feedback, begins_store, IsToldLook, IsToldAt, joined_low, lost_low, IsOfferedTold, StepLow}
+use Rattle.script_reader.specs.Alone.{PastAlone, told_feedback, begins_store, IsToldLook, IsToldAt, joined_alone, lost_alone, IsOfferedTold, StepAlone}
 use Rattle.script_reader.proofs.One.{cancel, arrives_one}
 
-pub record SameLow (q r : LowPast) (xs ys : List Event) : Type 0 where
+pub record SameLow (q r : PastAlone) (xs ys : List Event) : Type 0 where
   pub past : q ≡ r
   pub printed : xs ≡ ys
 
 -- ---- a look ----
 
-told_same : (s : SessionRow) (p : LowPast) (told : ToldFeedback) (x : Look) (q r : LowPast) (xs ys : List Event) → IsToldLook s p told x q xs → IsToldLook s p told x r ys → SameLow q r xs ys
+told_same : (s : SessionRow) (p : PastAlone) (told : ToldFeedback) (x : Look) (q r : PastAlone) (xs ys : List Event) → IsToldLook s p told x q xs → IsToldLook s p told x r ys → SameLow q r xs ys
 told_same s p told x q r xs ys h k =
     let h' = looked p.history x in
     let b = one_cut s p.history.life h.before k.before h.cut k.cut in
@@ -44,7 +44,7 @@ told_same s p told x q r xs ys h k =
       printed = h.printed_is ∙ (λ i. printed_store s.id x.moment (stores (c i)) ++ (printed_feedback s.id x.moment x.feedback ++ printed_replies s.id (n i))) ∙ sym k.printed_is;
     }
 
-told_at_one : (s : SessionRow) (p : LowPast) (m w : ℕ) (told : ToldFeedback) (a : Arrival) (is_fault : Bool) (q r : LowPast) (xs ys : List Event)
+told_at_one : (s : SessionRow) (p : PastAlone) (m w : ℕ) (told : ToldFeedback) (a : Arrival) (is_fault : Bool) (q r : PastAlone) (xs ys : List Event)
     → IsToldAt s p m w told a is_fault q xs → IsToldAt s p m w told a is_fault r ys → SameLow q r xs ys
 told_at_one s p m w told a is_fault q r xs ys (f, h) (g, k) =
     let c = one_cut s p.history.life h.before k.before h.cut k.cut in
@@ -52,7 +52,7 @@ told_at_one s p m w told a is_fault q r xs ys (f, h) (g, k) =
     told_same s p told _ q r xs ys h (subst (λ (t : Feedback). IsToldLook s p told (record { moment = m; word = w; arrival = a; is_fault = is_fault; feedback = t }) r ys) (sym e) k)
 
 -- whether the disk fails in it is settled
-outcome_at : (s : SessionRow) (p : LowPast) (m w : ℕ) (told : ToldFeedback) (a : Arrival) (d e : Bool) (q r : LowPast) (xs ys : List Event)
+outcome_at : (s : SessionRow) (p : PastAlone) (m w : ℕ) (told : ToldFeedback) (a : Arrival) (d e : Bool) (q r : PastAlone) (xs ys : List Event)
     → IsToldAt s p m w told a d q xs → IsToldAt s p m w told a e r ys → d ≡ e
 outcome_at s p m w told a d e q r xs ys (f, h) (g, k) =
     let c = one_cut s p.history.life h.before k.before h.cut k.cut in
@@ -60,12 +60,12 @@ outcome_at s p m w told a d e q r xs ys (f, h) (g, k) =
 
 -- ---- lines ----
 
-pub step_low_one : (s : SessionRow) (p : LowPast) (line : Line) (is_fault : Bool) (q r : LowPast) (xs ys : List Event) → StepLow s p line is_fault q xs → StepLow s p line is_fault r ys → SameLow q r xs ys
+pub step_low_one : (s : SessionRow) (p : PastAlone) (line : Line) (is_fault : Bool) (q r : PastAlone) (xs ys : List Event) → StepAlone s p line is_fault q xs → StepAlone s p line is_fault r ys → SameLow q r xs ys
 step_low_one s p (lines.Told session m w fault told z) is_fault q r xs ys (c, comes, (few, h)) (d, comes', (few', k)) =
     let same = arrives_one session p.reading z c d comes comes' in
-    told_at_one s (joined_low p fault c) m w told (first_of p.is_broken (joined_low p fault c).waits) is_fault q r xs ys h
-    (subst (λ (t : LineComing). IsOfferedTold s (joined_low p fault t) m w told is_fault r ys) (sym same) (few', k)).1
-step_low_one s p (lines.Gone session m) is_fault q r xs ys h k = told_at_one s (lost_low p) m 0 Quiet Gone is_fault q r xs ys h k
+    told_at_one s (joined_alone p fault c) m w told (first_of p.is_broken (joined_alone p fault c).waits) is_fault q r xs ys h
+    (subst (λ (t : LineComing). IsOfferedTold s (joined_alone p fault t) m w told is_fault r ys) (sym same) (few', k)).1
+step_low_one s p (lines.Gone session m) is_fault q r xs ys h k = told_at_one s (lost_alone p) m 0 Quiet Gone is_fault q r xs ys h k
 step_low_one s p lines.Skip is_fault q r xs ys h k = absurd h
 step_low_one s p (lines.Session row) is_fault q r xs ys h k = absurd h
 step_low_one s p (lines.LowSession row next held) is_fault q r xs ys h k = absurd h
@@ -75,12 +75,12 @@ step_low_one s p (lines.Carry session back) is_fault q r xs ys h k = absurd h
 step_low_one s p (lines.Return session m back) is_fault q r xs ys h k = absurd h
 step_low_one s p (lines.Done session m t) is_fault q r xs ys h k = absurd h
 
-pub one_outcome : (s : SessionRow) (p : LowPast) (line : Line) (d e : Bool) (q r : LowPast) (xs ys : List Event) → StepLow s p line d q xs → StepLow s p line e r ys → d ≡ e
+pub one_outcome : (s : SessionRow) (p : PastAlone) (line : Line) (d e : Bool) (q r : PastAlone) (xs ys : List Event) → StepAlone s p line d q xs → StepAlone s p line e r ys → d ≡ e
 one_outcome s p (lines.Told session m w fault told z) d e q r xs ys (c, comes, (few, h)) (c', comes', (few', k)) =
     let same = arrives_one session p.reading z c c' comes comes' in
-    outcome_at s (joined_low p fault c) m w told (first_of p.is_broken (joined_low p fault c).waits) d e q r xs ys h
-    (subst (λ (t : LineComing). IsOfferedTold s (joined_low p fault t) m w told e r ys) (sym same) (few', k)).1
-one_outcome s p (lines.Gone session m) d e q r xs ys h k = outcome_at s (lost_low p) m 0 Quiet Gone d e q r xs ys h k
+    outcome_at s (joined_alone p fault c) m w told (first_of p.is_broken (joined_alone p fault c).waits) d e q r xs ys h
+    (subst (λ (t : LineComing). IsOfferedTold s (joined_alone p fault t) m w told e r ys) (sym same) (few', k)).1
+one_outcome s p (lines.Gone session m) d e q r xs ys h k = outcome_at s (lost_alone p) m 0 Quiet Gone d e q r xs ys h k
 one_outcome s p lines.Skip d e q r xs ys h k = absurd h
 one_outcome s p (lines.Session row) d e q r xs ys h k = absurd h
 one_outcome s p (lines.LowSession row next held) d e q r xs ys h k = absurd h

@@ -7,8 +7,8 @@ use Rattle.script_reader.specs.declared.line.Line.TheVariants as lines
 use Rattle.script_reader.specs.declared.event.Event.{Event}
 use Rattle.script_reader.specs.declared.event.Event.TheVariants.{End}
 use Rattle.script_reader.specs.Past.{Past}
-use Rattle.script_reader.specs.Tolds.{LowPast}
-use Rattle.script_reader.specs.Scripts.{Running, LowRunning, Begun, Whole, Alone, GoesWhole, GoesAlone, GoesOn, Leads, LeadTo, Ends, IsTranscript}
+use Rattle.script_reader.specs.Alone.{PastAlone}
+use Rattle.script_reader.specs.Scripts.{Running, RunningAlone, Begun, Whole, Alone, GoesWhole, GoesAlone, GoesOn, Leads, LeadTo, Ends, IsTranscript}
 use Rattle.script_reader.proofs.One.{step_one}
 use Rattle.script_reader.proofs.OneLow.{step_low_one}
 
@@ -21,10 +21,10 @@ goes_one s line a b xs ys (timely, (q, h, e)) (timely', (r, k, f)) =
     let x = step_one s.row s.past line q r xs ys h k in
     record { after = e ∙ ap (λ (t : Past). Some (Whole (record { row = s.row; past = t }))) x.past ∙ sym f; printed = x.printed }
 
-goes_low_one : (s : LowRunning) (line : Line) (a b : Option Begun) (xs ys : List Event) → GoesAlone s line a xs → GoesAlone s line b ys → Alike a b xs ys
+goes_low_one : (s : RunningAlone) (line : Line) (a b : Option Begun) (xs ys : List Event) → GoesAlone s line a xs → GoesAlone s line b ys → Alike a b xs ys
 goes_low_one s line a b xs ys (timely, (q, h, e)) (timely', (r, k, f)) =
     let x = step_low_one s.row s.past line false q r xs ys h k in
-    record { after = e ∙ ap (λ (t : LowPast). Some (Alone (record { row = s.row; past = t }))) x.past ∙ sym f; printed = x.printed }
+    record { after = e ∙ ap (λ (t : PastAlone). Some (Alone (record { row = s.row; past = t }))) x.past ∙ sym f; printed = x.printed }
 
 goes_on_one : (s : Begun) (line : Line) (a b : Option Begun) (xs ys : List Event) → GoesOn s line a xs → GoesOn s line b ys → Alike a b xs ys
 goes_on_one (Whole s) line a b xs ys h k = goes_one s line a b xs ys h k

@@ -4,12 +4,12 @@ use Rattle.std.specs.List.{position}
 use Rattle.pump_link.specs.Tells.{Draws}
 use Rattle.script_reader.specs.declared.lines.Lined.{Lined}
 use Rattle.script_reader.specs.declared.lines.Lined.TheVariants as lined
-use Rattle.script_reader.specs.Lines.{LineReading, is_end, IsSome, IsReady, AreNeeded, with_pieces, ReadsTo, LeavesHeld, ReadsOn}
+use Rattle.script_reader.specs.Lines.{LineReading, is_end, IsSome, LineIsReady, AreNeeded, with_pieces, ReadsTo, LeavesHeld, ReadsOn}
 use Rattle.script_reader.specs.Fronts.{IsFirst}
 use Rattle.script_reader.proofs.LineEnds.{ended, ended_some}
 use Rattle.script_reader.proofs.NextLaws.{is_empty}
 
-needed_more : (held : List ℕ) (pieces : List (List ℕ)) (piece : List ℕ) → AreNeeded held pieces → (IsReady (with_pieces held pieces) → ⊥) → AreNeeded held (pieces ++ piece ∷ [])
+needed_more : (held : List ℕ) (pieces : List (List ℕ)) (piece : List ℕ) → AreNeeded held pieces → (LineIsReady (with_pieces held pieces) → ⊥) → AreNeeded held (pieces ++ piece ∷ [])
 needed_more held [] piece n not_ready = (not_ready, tt)
 needed_more held (p ∷ pieces) piece n not_ready = (n.0, needed_more (held ++ p) pieces piece n.1 not_ready)
 
@@ -18,11 +18,11 @@ pieces_more held [] piece = refl
 pieces_more held (p ∷ pieces) piece = pieces_more (held ++ p) pieces piece
 
 -- a piece more was needed
-pub reads_more : (held all more piece : List ℕ) (p q r : List (List ℕ) → Type 0) → ReadsTo held p q all → (IsReady all → ⊥) → Draws q r (piece ∷ []) → more ≡ all ++ piece → ReadsTo held p r more
+pub reads_more : (held all more piece : List ℕ) (p q r : List (List ℕ) → Type 0) → ReadsTo held p q all → (LineIsReady all → ⊥) → Draws q r (piece ∷ []) → more ≡ all ++ piece → ReadsTo held p r more
 reads_more held all more piece p q r e not_ready d is = record {
   pieces = e.pieces ++ piece ∷ [];
   gave = record { told = λ rest t. subst p (sym (append_assoc e.pieces (piece ∷ []) rest)) (e.gave.told (piece ∷ rest) (d.told rest t)) };
-  needed = needed_more held e.pieces piece e.needed (λ ready. not_ready (subst IsReady (sym e.all_is) ready));
+  needed = needed_more held e.pieces piece e.needed (λ ready. not_ready (subst LineIsReady (sym e.all_is) ready));
   all_is = is ∙ ap (λ xs. xs ++ piece) e.all_is ∙ sym (pieces_more held e.pieces piece);
 }
 

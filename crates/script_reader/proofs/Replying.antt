@@ -18,7 +18,7 @@ use Rattle.script_reader.specs.Past.{Past}
 use Rattle.script_reader.specs.Lows.{printed_store, printed_feedback, printed_replies, IsLook}
 use Rattle.script_reader.specs.Highs.{printed_sending, IsRemoval, IsSending, IsHighLook, is_ahead, IsReturnBy, IsReturn, IsCarried, place}
 use Rattle.script_reader.specs.Steps.{joined, lost, IsCarriedBack, IsDone, LineStep}
-use Rattle.script_reader.specs.Tolds.{LowPast, IsToldLook, joined_low, lost_low, StepLow}
+use Rattle.script_reader.specs.Alone.{PastAlone, IsToldLook, joined_alone, lost_alone, StepAlone}
 use Rattle.script_reader.specs.Scripts.{Begun, Whole, Alone, GoesOn, Leads, LeadTo}
 use Rattle.script_reader.specs.Readouts.{low_line, low_lines, row_of, history_of}
 use Rattle.script_reader.proofs.Leading.{IsNew, led}
@@ -137,13 +137,13 @@ step_grows s p (lines.Carry session back) q printed h = aside_grows s p q printe
 step_grows s p (lines.Return session m back) q printed h = aside_grows s p q printed (return_aside s p m (place p.world.returned back) q printed h)
 step_grows s p (lines.Done session m t) q printed h = aside_grows s p q printed (done_aside s p m t q printed h)
 
-told_grows : (s : SessionRow) (p : LowPast) (told : ToldFeedback) (x : Look) (q : LowPast) (printed : List Event) → IsToldLook s p told x q printed → Grows s p.history q.history printed
+told_grows : (s : SessionRow) (p : PastAlone) (told : ToldFeedback) (x : Look) (q : PastAlone) (printed : List Event) → IsToldLook s p told x q printed → Grows s p.history q.history printed
 told_grows s p told x q printed i =
     new_grows s p.history x q.history i.replies i.new printed i.are_replies i.are_replies_with i.history (ap low_lines i.printed_is ∙ of_look s.id x.moment _ x.feedback i.new)
 
-pub step_low_grows : (s : SessionRow) (p : LowPast) (line : Line) (is_fault : Bool) (q : LowPast) (printed : List Event) → StepLow s p line is_fault q printed → Grows s p.history q.history printed
-step_low_grows s p (lines.Told session m w fault told z) is_fault q printed (c, comes, (few, (f, i))) = told_grows s (joined_low p fault c) told _ q printed i
-step_low_grows s p (lines.Gone session m) is_fault q printed (f, i) = told_grows s (lost_low p) Silent _ q printed i
+pub step_low_grows : (s : SessionRow) (p : PastAlone) (line : Line) (is_fault : Bool) (q : PastAlone) (printed : List Event) → StepAlone s p line is_fault q printed → Grows s p.history q.history printed
+step_low_grows s p (lines.Told session m w fault told z) is_fault q printed (c, comes, (few, (f, i))) = told_grows s (joined_alone p fault c) told _ q printed i
+step_low_grows s p (lines.Gone session m) is_fault q printed (f, i) = told_grows s (lost_alone p) Silent _ q printed i
 step_low_grows s p lines.Skip is_fault q printed h = absurd h
 step_low_grows s p (lines.Session row) is_fault q printed h = absurd h
 step_low_grows s p (lines.LowSession row next held) is_fault q printed h = absurd h
@@ -163,7 +163,7 @@ opened_replies row o = ([], [], refl, ([], record { are_parts = tt; looks = refl
 
 new_replies : (s : Begun) → IsNew s → Replies (Some s) []
 new_replies (Whole s) new = subst (λ (p : Past). LowReplies s.row p.history []) (sym new.1) (opened_replies s.row (record { count = 0; is_held = false }))
-new_replies (Alone s) (next, held, e) = subst (λ (p : LowPast). LowReplies s.row p.history []) (sym e) (opened_replies s.row (record { count = next; is_held = held }))
+new_replies (Alone s) (next, held, e) = subst (λ (p : PastAlone). LowReplies s.row p.history []) (sym e) (opened_replies s.row (record { count = next; is_held = held }))
 
 stays_so : (running after : Option Begun) (printed : List Event) (rs : List Sent) → after ≡ running → printed ≡ [] → Replies running rs → Replies after (rs ++ low_lines printed)
 stays_so running after printed rs e f k =

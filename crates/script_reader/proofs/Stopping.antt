@@ -11,7 +11,7 @@ use Rattle.script_reader.specs.declared.fault.Fault.{Fault}
 use Rattle.script_reader.specs.declared.fault.Fault.TheVariants as faults
 use Rattle.script_reader.specs.declared.event.Event.{Event}
 use Rattle.script_reader.specs.Past.{Past}
-use Rattle.script_reader.specs.Tolds.{LowPast}
+use Rattle.script_reader.specs.Alone.{PastAlone}
 use Rattle.script_reader.specs.Highs.{IsCarried, overfills, IsOverfull}
 use Rattle.script_reader.specs.Steps.{IsCarriedBack as GoesOnCarried, LineStep, Overfills}
 use Rattle.script_reader.specs.Scripts.{Begun, Whole, Alone, GoesOn, Leads, LeadTo, Stops, IsTranscript}
@@ -99,7 +99,7 @@ stops_one (Some (Whole s)) line after other xs ys fault stop (timely, (q, end, n
     record { past = e ∙ ap (λ (p : Past). Some (Whole (record { row = s.row; past = p }))) same.0 ∙ sym e'; printed = same.1; fault_is = f ∙ same.2 ∙ sym f' }
 stops_one (Some (Alone s)) line after other xs ys fault stop (timely, (q, h, f, e)) (timely', (r, k, f', e')) =
     let same = step_low_one s.row s.past line true q r xs ys h k in
-    record { past = e ∙ ap (λ (p : LowPast). Some (Alone (record { row = s.row; past = p }))) same.past ∙ sym e'; printed = same.printed; fault_is = f ∙ sym f' }
+    record { past = e ∙ ap (λ (p : PastAlone). Some (Alone (record { row = s.row; past = p }))) same.past ∙ sym e'; printed = same.printed; fault_is = f ∙ sym f' }
 
 -- ---- in a script ----
 

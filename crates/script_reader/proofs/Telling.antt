@@ -14,7 +14,7 @@ use Rattle.pump_core.specs.Phases.{Idle, Passing, Waiting as Waits, Down}
 use Rattle.pump_core.specs.Exchanges.{is_gone, is_repeat, has_average, is_passed}
 use Rattle.pump_core.specs.Replies.{Sent}
 use Rattle.pump_core.specs.Standing.{State}
-use Rattle.pump_core.specs.Step.{is_quiet, fits_passing, fits_idle, fits_in, Fits, takes_in, takes_at}
+use Rattle.pump_core.specs.Step.{is_quiet, fits_passing, fits_idle, fits_in, FeedbackFits, takes_in, takes_at}
 use Rattle.pump_core.specs.Pairs.{uncounted}
 use Rattle.script_reader.specs.declared.event.Event.{Event}
 use Rattle.script_reader.specs.Lows.{printed_store, printed_feedback, printed_replies}
@@ -286,7 +286,7 @@ one_told Released (Passed t) m later more k e = absurd (cc)
 
 -- two looks in one state that are offered the same have feedback of one kind
 pub looks_one_kind : (row : SessionRow) (s : State) (m w : ℕ) (a : Arrival) (f g : Feedback)
-    → Fits row s (look_of m w a f) → Fits row s (look_of m w a g) → OneKind f g
+    → FeedbackFits row s (look_of m w a f) → FeedbackFits row s (look_of m w a g) → OneKind f g
 looks_one_kind row s m w a f g e h = by_phase row s m w a f g s.phase e h
 
 same_head : (a b : ℕ) (later more : List ℕ) → a ∷ later ≡ b ∷ more → a ≡ b

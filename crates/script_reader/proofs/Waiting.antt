@@ -9,7 +9,7 @@ use Rattle.script_reader.specs.declared.line.Line.TheVariants as lines
 use Rattle.script_reader.specs.declared.event.Event.{Event}
 use Rattle.script_reader.specs.Past.{Past}
 use Rattle.script_reader.specs.Highs.{IsHighLook, is_ahead, IsReturnBy, IsReturn, place}
-use Rattle.script_reader.specs.Tolds.{LowPast, joined_low, StepLow}
+use Rattle.script_reader.specs.Alone.{PastAlone, joined_alone, StepAlone}
 use Rattle.script_reader.specs.Steps.{joined, IsCarriedBack, LineStep}
 
 abbrev waits_in : Past → List Arrival
@@ -46,8 +46,8 @@ step_waits s p (lines.Carry session back) q printed h t = rw t.rest h
 step_waits s p (lines.Return session m back) q printed h t = rw (return_waits s p m (place p.world.returned back) q printed t) h
 step_waits s p (lines.Done session m t) q printed h (mid, a, b, k, g, e) = rw (goes_waits s mid.world.high_hand mid (m + t) q b g ∙ high_waits s p m None mid a k) h
 
-pub step_low_waits : (s : SessionRow) (p : LowPast) (line : Line) (is_fault : Bool) (q : LowPast) (printed : List Event) → StepLow s p line is_fault q printed → length q.waits ≤ 64
-step_low_waits s p (lines.Told session m w fault told a) is_fault q printed (c, comes, (few, (f, i))) = rw i.waits (dropped (takes i.after) (joined_low p fault c).waits few)
+pub step_low_waits : (s : SessionRow) (p : PastAlone) (line : Line) (is_fault : Bool) (q : PastAlone) (printed : List Event) → StepAlone s p line is_fault q printed → length q.waits ≤ 64
+step_low_waits s p (lines.Told session m w fault told a) is_fault q printed (c, comes, (few, (f, i))) = rw i.waits (dropped (takes i.after) (joined_alone p fault c).waits few)
 step_low_waits s p (lines.Gone session m) is_fault q printed (f, i) = rw i.waits (dropped (takes i.after) [] (omega arith))
 step_low_waits s p lines.Skip is_fault q printed h = absurd h
 step_low_waits s p (lines.Session row) is_fault q printed h = absurd h

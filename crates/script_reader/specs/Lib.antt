@@ -1,3 +1,4 @@
+pub mod Alone
 pub mod Breaks
 pub mod DigitValues
 pub mod EventHeads
@@ -16,5 +17,4 @@ pub mod Readouts
 pub mod Scripts
 pub mod Sides
 pub mod Steps
-pub mod Tolds
 pub mod Transcript

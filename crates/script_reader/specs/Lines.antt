@@ -39,8 +39,8 @@ pub record IsBad (all : List ℕ) : Type 0 where
   pub bad : (line : Line) (bytes rest : List ℕ) → BeginsWith all bytes rest line → ⊥
 
 -- a line end stands in the bytes held, or they are too long for a line
-abbrev pub IsReady : List ℕ → Type 0
-IsReady held = (IsUnended held → ⊥) ⊎ (2400 < length held)
+abbrev pub LineIsReady : List ℕ → Type 0
+LineIsReady held = (IsUnended held → ⊥) ⊎ (2400 < length held)
 
 -- What the next line of a stream is, by what is to come before the call and after it. `length new.held` says how little
 -- of the source was taken ahead.
@@ -60,7 +60,7 @@ IsNextLine old new left rest lined.Failed = Keeps (to_come old left) (to_come ne
 -- pieces are read one after another, each only where what is held before it is not ready
 abbrev pub AreNeeded : List ℕ → List (List ℕ) → Type 0
 AreNeeded held [] = Unit {0}
-AreNeeded held (piece ∷ later) = (IsReady held → ⊥) × AreNeeded (held ++ piece) later
+AreNeeded held (piece ∷ later) = (LineIsReady held → ⊥) × AreNeeded (held ++ piece) later
 
 -- what is held with these pieces behind it
 abbrev pub with_pieces : List ℕ → List (List ℕ) → List ℕ
@@ -80,7 +80,7 @@ abbrev pub LeavesHeld : Lined → List ℕ → List ℕ → Type 0
 LeavesHeld (lined.Line line) all held = (bytes : List ℕ) × IsUnended bytes × IsLine line bytes × (all ≡ bytes ++ 10 ∷ held)
 LeavesHeld lined.Bad all held = (held ≡ all) × IsSome all
 LeavesHeld lined.End all held = (held ≡ all) × (all ≡ [])
-LeavesHeld lined.Failed all held = (held ≡ all) × (IsReady all → ⊥)
+LeavesHeld lined.Failed all held = (held ≡ all) × (LineIsReady all → ⊥)
 
 -- a call reads no more than it needs, and loses nothing of it
 abbrev pub ReadsOn : LineReading → LineReading → (List (List ℕ) → Type 0) → (List (List ℕ) → Type 0) → Lined → Type 0

@@ -13,7 +13,7 @@ use Rattle.script_reader.specs.declared.event.Event.{Event}
 use Rattle.script_reader.specs.declared.event.Event.TheVariants.{End}
 use Rattle.script_reader.specs.Past.{Past, fresh}
 use Rattle.script_reader.specs.Steps.{is_timely, LineStep, IsRefusedWhole, Overfills}
-use Rattle.script_reader.specs.Tolds.{LowPast, fresh_low, is_timely_low, StepLow, IsRefusedAlone}
+use Rattle.script_reader.specs.Alone.{PastAlone, fresh_alone, is_timely_alone, StepAlone, IsRefusedAlone}
 
 -- a whole session that a script has begun: its row, and what it has been through
 pub record Running : Type 0 where
@@ -21,14 +21,14 @@ pub record Running : Type 0 where
   pub past : Past
 
 -- so a low side alone
-pub record LowRunning : Type 0 where
+pub record RunningAlone : Type 0 where
   pub row : SessionRow
-  pub past : LowPast
+  pub past : PastAlone
 
 -- the session that a script has begun
 pub data Begun : Type 0 where
   Whole : (s : Running) → Begun
-  Alone : (s : LowRunning) → Begun
+  Alone : (s : RunningAlone) → Begun
 
 -- a session line begins a lawful row's session
 abbrev pub BeginsWhole : SessionRow → Option Begun → Type 0
@@ -37,7 +37,7 @@ BeginsWhole row running = IsLawfulRow row × (running ≡ Some (Whole (record { 
 -- so does the line of a low side alone
 abbrev pub BeginsAlone : SessionRow → ℕ → Bool → Option Begun → Type 0
 BeginsAlone row next held running =
-    IsLawfulRow row × (running ≡ Some (Alone (record { row = row; past = fresh_low next held })))
+    IsLawfulRow row × (running ≡ Some (Alone (record { row = row; past = fresh_alone next held })))
 
 -- a line of the session can be applied, and does what it does
 abbrev pub GoesWhole : Running → Line → Option Begun → List Event → Type 0
@@ -45,10 +45,10 @@ GoesWhole s line running printed =
     (is_timely s.row s.past line ≡ true)
     × ((q : Past) × LineStep s.row s.past line q printed × (running ≡ Some (Whole (record { row = s.row; past = q }))))
 
-abbrev pub GoesAlone : LowRunning → Line → Option Begun → List Event → Type 0
+abbrev pub GoesAlone : RunningAlone → Line → Option Begun → List Event → Type 0
 GoesAlone s line running printed =
-    (is_timely_low s.row s.past line ≡ true)
-    × ((q : LowPast) × StepLow s.row s.past line false q printed × (running ≡ Some (Alone (record { row = s.row; past = q }))))
+    (is_timely_alone s.row s.past line ≡ true)
+    × ((q : PastAlone) × StepAlone s.row s.past line false q printed × (running ≡ Some (Alone (record { row = s.row; past = q }))))
 
 abbrev pub GoesOn : Begun → Line → Option Begun → List Event → Type 0
 GoesOn (Whole s) line running printed = GoesWhole s line running printed
@@ -82,8 +82,8 @@ Stops (Some (Whole s)) line after printed fault =
     × ((q : Past) × (end size_of_message size : ℕ) × Overfills s.row s.past line q printed end size_of_message size
     × (fault ≡ faults.Full s.row.id end size_of_message size) × (after ≡ Some (Whole (record { row = s.row; past = q }))))
 Stops (Some (Alone s)) line after printed fault =
-    (is_timely_low s.row s.past line ≡ true)
-    × ((q : LowPast) × StepLow s.row s.past line true q printed
+    (is_timely_alone s.row s.past line ≡ true)
+    × ((q : PastAlone) × StepAlone s.row s.past line true q printed
     × (fault ≡ faults.Device s.row.id roles.Low) × (after ≡ Some (Alone (record { row = s.row; past = q }))))
 
 -- these lines lead from `running` to `after`, and print this
@@ -98,15 +98,15 @@ abbrev pub end_of : SessionRow → Past → Event
 end_of row p = End row.id (length p.world.accepted) (Some (p.world.removed, length p.world.received))
 
 -- how many messages a low side alone has stored
-abbrev pub IsLowEnd : SessionRow → LowPast → Event → Type 0
-IsLowEnd row p event = (parts : List Part) × IsCut row p.history.life parts
+abbrev pub IsEndAlone : SessionRow → PastAlone → Event → Type 0
+IsEndAlone row p event = (parts : List Part) × IsCut row p.history.life parts
     × (event ≡ End row.id (count_after p.history.life.opening parts) None)
 
 -- what the end of a script prints
 abbrev pub Ends : Option Begun → List Event → Type 0
 Ends None printed = printed ≡ []
 Ends (Some (Whole s)) printed = printed ≡ end_of s.row s.past ∷ []
-Ends (Some (Alone s)) printed = (event : Event) × IsLowEnd s.row s.past event × (printed ≡ event ∷ [])
+Ends (Some (Alone s)) printed = (event : Event) × IsEndAlone s.row s.past event × (printed ≡ event ∷ [])
 
 -- the transcript of a whole script, whose lines can all be applied, and none of which stops it
 abbrev pub IsTranscript : List Line → List Event → Type 0

@@ -2,7 +2,7 @@ ghost use Rattle.std.specs.Prelude.{◌≡◌, ◌≢◌, ℕ, ◌+◌, ◌-◌,
 ghost use Rattle.std.specs.Io.KnownBytes.{Keeps, IsAtEnd};
 ghost use Rattle.pump_frame.specs.Counts.{Rose};
 ghost use Rattle.pump_link.specs.Causes.{HasCause};
-ghost use Rattle.script_reader.specs.Lines.{LineReading, to_come, is_end, IsNextLine, IsReady, ReadsOn};
+ghost use Rattle.script_reader.specs.Lines.{LineReading, to_come, is_end, IsNextLine, LineIsReady, ReadsOn};
 ghost use Rattle.script_reader.specs.Fronts.{IsFirst, Fills};
 ghost use Rattle.script_reader.specs.Heads.{lined_with, CanHoldNext};
 
@@ -121,7 +121,7 @@ impl Lines {
     /// Whether a whole line is held, or bytes that no line can begin with: then `next` does not ask
     /// the source.
     pub fn is_ready(&self) -> bool
-        ensures { IsTrue result ↔ IsReady self.now.held }
+        ensures { IsTrue result ↔ LineIsReady self.now.held }
     {
         let held = self.held();
         line_end(held).is_some() || held.len() > 2400
@@ -136,7 +136,7 @@ impl Lines {
         ensures failed { result ≡ Lined.Failed → Rose (I.faults script.old) (I.faults script.new) }
         ensures later { I.faults script.old ≤ I.faults script.new }
         ensures few { result ≢ Lined.Failed → result ≢ Lined.End → self.new.number < 2 ^ 32 }
-        ensures unasked { IsReady self.old.held → script.new ≡ script.old }
+        ensures unasked { LineIsReady self.old.held → script.new ≡ script.old }
     {
         let mut body = Body::new();
         match self.next_head(script, &mut body) {
@@ -156,7 +156,7 @@ impl Lines {
         ensures failed { result ≡ LinedHead.Failed → Rose (I.faults script.old) (I.faults script.new) }
         ensures later { I.faults script.old ≤ I.faults script.new }
         ensures few { result ≢ LinedHead.Failed → result ≢ LinedHead.End → self.new.number < 2 ^ 32 }
-        ensures unasked { IsReady self.old.held → script.new ≡ script.old }
+        ensures unasked { LineIsReady self.old.held → script.new ≡ script.old }
     {
         'turns: loop {
             if let Some(len) = line_end(self.held()) {

@@ -2,7 +2,7 @@
 use Rattle.std.proofs.Common.{◌≡◌, ◌⊎◌, inl, inr, ℕ, zero, suc, ◌+◌, ◌-◌, ◌*◌, ◌%◌, ◌^◌, ◌<◌, ◌≤◌, List, [], ◌∷◌, ◌++◌, length, get_or, take, drop, refl, sym, ◌∙◌, ap, subst, arith, length-append}
 use Rattle.std.proofs.lemmas.List.{get_or-drop, get_or-take, get_or_append_left, get_or-append-add, length-take-le, take-take, drop-drop}
 use Rattle.byteorder.specs.Endian.{big_bytes}
-use Rattle.disk_model.specs.Disk.{Torn, Holds}
+use Rattle.disk_model.specs.Disk.{Torn, IsWritten}
 use Rattle.stable_buffer.specs.Numbers.{number_at}
 use Rattle.stable_buffer.specs.Register.{cell_at, place_of, value_of, SameOutside, KeepsValue, MayTurnTo, Selects, HoldsNext}
 use Rattle.stable_buffer.proofs.Numbers.{number_at-agree, number_at-written}
@@ -41,7 +41,7 @@ module _ (at n : ℕ) (old new : List ℕ) (torn : Torn at n old new) where
   }
 
 -- what is written stands there
-holds_inside : (old : List ℕ) (at : ℕ) (bytes new : List ℕ) → at ≤ length old → Holds old at bytes new → (k : ℕ) → k < length bytes → get_or new (at + k) 0 ≡ get_or bytes k 0
+holds_inside : (old : List ℕ) (at : ℕ) (bytes new : List ℕ) → at ≤ length old → IsWritten old at bytes new → (k : ℕ) → k < length bytes → get_or new (at + k) 0 ≡ get_or bytes k 0
 holds_inside old at bytes new within holds k lt =
     let rest = drop (at + length bytes) old in
     let size : length (take at old) ≡ at = length-take-le at old within in
@@ -52,7 +52,7 @@ holds_inside old at bytes new within holds k lt =
     ∙ subst (λ j. get_or (take at old ++ bytes) (j + k) 0 ≡ get_or bytes k 0) size there
 
 -- two numbers of which each has its bytes
-cell_of_bytes : (a b : List ℕ) (old : List ℕ) (at : ℕ) (new : List ℕ) → length a ≡ 8 → length b ≡ 8 → at ≤ length old → Holds old at (a ++ b) new
+cell_of_bytes : (a b : List ℕ) (old : List ℕ) (at : ℕ) (new : List ℕ) → length a ≡ 8 → length b ≡ 8 → at ≤ length old → IsWritten old at (a ++ b) new
     → ((i : ℕ) → i < 8 → get_or new (at + i) 0 ≡ get_or a i 0) × ((i : ℕ) → i < 8 → get_or new (at + 8 + i) 0 ≡ get_or b i 0)
 cell_of_bytes a b old at new a_size b_size within holds = (
   λ i lt. holds_inside old at (a ++ b) new within holds i (omega (arith, length-append a b)) ∙ get_or_append_left a b 0 i (omega arith),
@@ -64,7 +64,7 @@ cell_of_bytes a b old at new a_size b_size within holds = (
 )
 
 -- one number after the other, as they are written
-pub cell_written : (x y : ℕ) (old : List ℕ) (at : ℕ) (new : List ℕ) → x < 2 ^ 64 → y < 2 ^ 64 → at ≤ length old → Holds old at (big_bytes 8 x ++ big_bytes 8 y) new → cell_at new at ≡ (x, y)
+pub cell_written : (x y : ℕ) (old : List ℕ) (at : ℕ) (new : List ℕ) → x < 2 ^ 64 → y < 2 ^ 64 → at ≤ length old → IsWritten old at (big_bytes 8 x ++ big_bytes 8 y) new → cell_at new at ≡ (x, y)
 cell_written x y old at new x_fits y_fits within holds =
     let both = cell_of_bytes (big_bytes 8 x) (big_bytes 8 y) old at new refl refl within holds in
     let first : number_at new at ≡ x = number_at-written new at x x_fits both.0 in
@@ -125,7 +125,7 @@ committing parity first second x y old new le was next torn = record {
 }
 
 -- the selector is written
-pub committed : (parity first second x y : ℕ) (old new : List ℕ) → parity ≤ 1 → Selects parity first second old → HoldsNext parity x y old → Holds old 32 ((1 - parity) ∷ []) new → Torn 32 1 old new
+pub committed : (parity first second x y : ℕ) (old new : List ℕ) → parity ≤ 1 → Selects parity first second old → HoldsNext parity x y old → IsWritten old 32 ((1 - parity) ∷ []) new → Torn 32 1 old new
     → Selects (1 - parity) x y new
 committed parity first second x y old new le was next holds torn = record {
   size = omega (arith, was.size, torn.no_shorter);

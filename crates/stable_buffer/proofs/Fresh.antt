@@ -1,7 +1,7 @@
 -- What the first bytes of a new disk stand for.
 use Rattle.std.proofs.Common.{◌≡◌, ℕ, ◌+◌, ◌%◌, ◌^◌, ◌<◌, ◌≤◌, List, [], ◌++◌, length, get_or, take, replicate, refl, sym, ◌∙◌, ap, subst, arith}
 use Rattle.std.proofs.lemmas.List.{take-take, get_or-take, drop_all, append-nil}
-use Rattle.disk_model.specs.Disk.{Holds}
+use Rattle.disk_model.specs.Disk.{IsWritten}
 use Rattle.byteorder.specs.Endian.{big_bytes}
 use Rattle.byteorder.specs.Numbers.{big_number-reads_back}
 use Rattle.stable_buffer.specs.Numbers.{number_at}
@@ -70,6 +70,6 @@ fresh_stands row Recv count disk le none is size = record {
 }
 
 -- what is written to an empty disk is all that it has
-pub holds_empty : (old bytes new : List ℕ) → old ≡ [] → Holds old 0 bytes new → new ≡ bytes
+pub holds_empty : (old bytes new : List ℕ) → old ≡ [] → IsWritten old 0 bytes new → new ≡ bytes
 holds_empty old bytes new empty holds =
     holds ∙ ap (λ (l : List ℕ). bytes ++ l) (drop_all (0 + length bytes) old (omega (arith, ap length empty))) ∙ append-nil bytes

@@ -3,7 +3,7 @@ use Rattle.std.proofs.Common.{◌≡◌, ◌≢◌, ◌⊎◌, inl, inr, ℕ, su
 use Rattle.std.proofs.Math.Nat.{mul-le-mul_left, div-add-mod}
 use Rattle.std.proofs.lemmas.Bool.{cases_lt}
 use Rattle.std.proofs.lemmas.List.{take-take, drop-drop, drop-take, get_or_append_left, get_or_at, take_at, drop_at, length-take-le}
-use Rattle.disk_model.specs.Disk.{Torn, Holds}
+use Rattle.disk_model.specs.Disk.{Torn, IsWritten}
 use Rattle.stable_buffer.specs.Register.{cell_at, place_of, selected, value_of, SameOutside, KeepsValue, MayTurnTo, Selects}
 use Rattle.stable_buffer.specs.Stands.{HasHeader, spelled, slot_of, low_size, InSlot, LowStands, HighStands, StandsOn, MayGain, MayRemove, Removes}
 use Rattle.pump_frame.specs.declared.row.SessionRow.{SessionRow}
@@ -155,7 +155,7 @@ pub on_gains : (row : SessionRow) (message old new : List ℕ) → StandsOn row 
 on_gains row message old new on = record { either = λ E b messages free stands. inl (on.same E b messages free stands) }
 
 -- what is written is what stands there
-pub holds_range : (old : List ℕ) (at : ℕ) (bytes new : List ℕ) → at ≤ length old → Holds old at bytes new → take (length bytes) (drop at new) ≡ bytes
+pub holds_range : (old : List ℕ) (at : ℕ) (bytes new : List ℕ) → at ≤ length old → IsWritten old at bytes new → take (length bytes) (drop at new) ≡ bytes
 holds_range old at bytes new within holds =
     let rest = drop (at + length bytes) old in
     let split : new ≡ take at old ++ (bytes ++ rest) = holds ∙ append_assoc (take at old) bytes rest in
@@ -168,11 +168,11 @@ slot_within_low row n some = omega (arith, inside (2 + row.message) (n % row.cap
 
 -- a message is written into its slot
 pub slot_written : (row : SessionRow) (E n : ℕ) (message bytes old new : List ℕ) → 1 ≤ row.capacity → n ≡ E → bytes ≡ spelled message → length message ≤ row.message → length old ≡ low_size row
-    → Holds old (slot_of row n) bytes new → InSlot row E message new
+    → IsWritten old (slot_of row n) bytes new → InSlot row E message new
 slot_written row E n message bytes old new some number is fits size holds = record {
   fits = fits;
   bytes =
-      let holds' : Holds old (slot_of row E) (spelled message) new = subst (λ (b : List ℕ). Holds old (slot_of row E) b new) is (subst (λ k. Holds old (slot_of row k) bytes new) number holds) in
+      let holds' : IsWritten old (slot_of row E) (spelled message) new = subst (λ (b : List ℕ). IsWritten old (slot_of row E) b new) is (subst (λ k. IsWritten old (slot_of row k) bytes new) number holds) in
       let count : length (spelled message) ≡ 2 + length message = omega arith in
       subst (λ (n : ℕ). take n (drop (slot_of row E) new) ≡ spelled message) count
       (holds_range old (slot_of row E) (spelled message) new (omega (arith, size, slot_within_low row E some)) holds');

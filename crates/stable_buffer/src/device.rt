@@ -1,6 +1,6 @@
 // A call of a disk that failed.
 ghost use Rattle.std.specs.Prelude.{◌≡◌, ◌≤◌, ◌+◌, length, IfErr, OnOk, ⊤};
-ghost use Rattle.disk_model.specs.Disk.{Moves, Same, Torn, Holds, Settled, Answers};
+ghost use Rattle.disk_model.specs.Disk.{Moves, Same, Torn, IsWritten, Settled, Answers};
 
 use disk_model::Disk;
 
@@ -13,7 +13,7 @@ pub struct Device {
 pub(crate) fn write<D: Disk>(disk: &mut D, at: u64, bytes: &[u8]) -> Result<(), Device>
     requires { D.told.tells → at ≤ length (D.told.reading disk.old) }
     ensures written { OnOk result (D.told.tells
-        → Holds (D.told.reading disk.old) at bytes.now (D.told.reading disk.new)) }
+        → IsWritten (D.told.reading disk.old) at bytes.now (D.told.reading disk.new)) }
     ensures moves { Moves D.told (Torn at (length bytes.now)) disk.old disk.new }
     ensures answers { Answers D.told (at + length bytes.now ≤ D.told.room disk.old)
         disk.old disk.new result }
@@ -44,7 +44,7 @@ pub(crate) fn sync<D: Disk>(disk: &mut D) -> Result<(), Device>
 pub(crate) fn write_and_sync<D: Disk>(disk: &mut D, at: u64, bytes: &[u8]) -> Result<(), Device>
     requires { D.told.tells → at ≤ length (D.told.reading disk.old) }
     ensures written { OnOk result (D.told.tells
-        → Holds (D.told.reading disk.old) at bytes.now (D.told.reading disk.new)) }
+        → IsWritten (D.told.reading disk.old) at bytes.now (D.told.reading disk.new)) }
     ensures settled { OnOk result (Settled D.told disk.new) }
     ensures moves { Moves D.told (Torn at (length bytes.now)) disk.old disk.new }
     ensures answers { Answers D.told (at + length bytes.now ≤ D.told.room disk.old)

@@ -1,5 +1,5 @@
 ghost use Rattle.std.specs.Prelude.{◌≡◌, ◌⊎◌, ◌+◌, ◌^◌, ◌<◌, ◌≤◌, false, length, take, drop, IfOk, OnOk, OnErr, IfErr};
-ghost use Rattle.disk_model.specs.Disk.{Moves, Same, Torn, Holds, Settled, Leaves, Answers};
+ghost use Rattle.disk_model.specs.Disk.{Moves, Same, Torn, IsWritten, Settled, Leaves, Answers};
 ghost use Rattle.byteorder.specs.Endian.{big_bytes};
 ghost use Rattle.stable_buffer.specs.Numbers.{length_at};
 ghost use Rattle.stable_buffer.specs.Stands.{spelled};
@@ -166,7 +166,7 @@ impl<D: Disk> Register<D> {
 
         ensures ready { OnOk result (IsReady D.told self.new) }
         ensures value { register_value self.new ≡ register_value self.old }
-        ensures written { OnOk result (D.told.tells → Holds (D.told.reading (register_disk self.old))
+        ensures written { OnOk result (D.told.tells → IsWritten (D.told.reading (register_disk self.old))
             at bytes.now (D.told.reading (register_disk self.new))) }
         ensures moves { Moves D.told (Torn at (length bytes.now))
             (register_disk self.old) (register_disk self.new) }
@@ -191,7 +191,7 @@ impl<D: Disk> Register<D> {
 
         ensures ready { OnOk result (IsReady D.told self.new) }
         ensures value { register_value self.new ≡ register_value self.old }
-        ensures written { OnOk result (D.told.tells → Holds (D.told.reading (register_disk self.old))
+        ensures written { OnOk result (D.told.tells → IsWritten (D.told.reading (register_disk self.old))
             at (spelled message.now) (D.told.reading (register_disk self.new))) }
         ensures moves { Moves D.told (Torn at (2 + length message.now))
             (register_disk self.old) (register_disk self.new) }

@@ -14,7 +14,7 @@ use Rattle.pump_core.specs.History.{History}
 use Rattle.pump_core.specs.Replies.{Sent, LowReplies}
 use Rattle.pump_core.specs.Thinned.{IsThinned}
 use Rattle.pump_core.specs.World.{World}
-use Rattle.pump_core.specs.Events.{Begins, Happens, Run, RunForged}
+use Rattle.pump_core.specs.Events.{BeginsRun, Happens, Run, RunForged}
 use Rattle.pump_core.specs.Lawful.{IsBounded, IsLawful, IsPrefixOf}
 use Rattle.pump_core.specs.Timed.{Step, Point}
 use Rattle.pump_core.specs.Runs.{IsRun}
@@ -30,12 +30,12 @@ EventsAreCertain = (w u v : World) (event : Event) → Happens w event u → Hap
 -- from a world that begins, all events lead to lawful worlds
 abbrev pub EveryWorldIsLawful : Type 0
 EveryWorldIsLawful = (start end : World) (events : List Event)
-    → Begins start → Run start events end → IsLawful end
+    → BeginsRun start → Run start events end → IsLawful end
 
 -- from a world that begins, all events and forged TAKEN lead to bounded worlds
 abbrev pub ForgedWorldsAreBounded : Type 0
 ForgedWorldsAreBounded = (start end : World) (events : List Hostile)
-    → Begins start → RunForged start events end → IsBounded end
+    → BeginsRun start → RunForged start events end → IsBounded end
 
 -- ---- timed runs ----
 

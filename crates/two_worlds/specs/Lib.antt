@@ -6,7 +6,6 @@ pub mod Keeping
 pub mod Laws
 pub mod LowParts
 pub mod LowPumps
-pub mod LowTimelines
 pub mod Openings
 pub mod Printing
 pub mod Private
@@ -14,3 +13,4 @@ pub mod Pumps
 pub mod Rooms
 pub mod Standing
 pub mod Timelines
+pub mod TimelinesAlone

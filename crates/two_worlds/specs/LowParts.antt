@@ -22,7 +22,7 @@ use Rattle.script_reader.specs.declared.line.ToldFeedback.{ToldFeedback}
 use Rattle.script_reader.specs.declared.line.ToldFeedback.TheVariants.{Quiet, Full, Pair}
 use Rattle.script_reader.specs.declared.line.Arriving.{Arriving}
 use Rattle.script_reader.specs.Steps.{LineComing, Arrives}
-use Rattle.script_reader.specs.Tolds.{LowPast, told_of_read, joined_low, IsOfferedTold}
+use Rattle.script_reader.specs.Alone.{PastAlone, told_of_read, joined_alone, IsOfferedTold}
 use Rattle.two_worlds.specs.Connections.{waits_of, is_broken_of, reading_of}
 use Rattle.two_worlds.specs.declared.applied.Stop.{Stop}
 use Rattle.two_worlds.specs.declared.applied.Stop.TheVariants as stops
@@ -33,7 +33,7 @@ abbrev pub disk_of : LowParts → Plain
 disk_of c = low_disk c.store
 
 -- the parts stand for what the low side has been through
-pub record PartsStand (c : LowParts) (p : LowPast) : Type 0 where
+pub record PartsStand (c : LowParts) (p : PastAlone) : Type 0 where
   pub row : IsLawfulRow c.row
   pub history : low.StandsFor c.process p.history
   pub waits : waits_of c.connection ≡ p.waits
@@ -49,7 +49,7 @@ pub record PartsStand (c : LowParts) (p : LowPast) : Type 0 where
   pub room : low_size c.row ≤ (disk_of c).room
 
 abbrev pub StandsForSome : LowParts → Type 0
-StandsForSome c = (p : LowPast) × PartsStand c p
+StandsForSome c = (p : PastAlone) × PartsStand c p
 
 -- the store with a disk of which the next call fails
 abbrev pub armed : LowStore Plain → LowStore Plain
@@ -92,30 +92,30 @@ AnsweredBy row told p q Average l = Finishes p q (answers.Average (told_of_read 
 
 -- A part of a line of which `Does` says what it leads to, where the disk failed in it or not. Where
 -- `Bars` has it, it could not be done.
-module _ (Bars : Type 0) (Does : Bool → LowPast → List Event → Type 0) where
+module _ (Bars : Type 0) (Does : Bool → PastAlone → List Event → Type 0) where
   abbrev pub EndsBy : LowParts → LowParts → List Event → Option Stop → Type 0
-  EndsBy c d printed None = (q : LowPast) × Does false q printed × PartsStand d q
+  EndsBy c d printed None = (q : PastAlone) × Does false q printed × PartsStand d q
   EndsBy c d printed (Some stops.Line) = Bars × (printed ≡ []) × (d ≡ c)
   EndsBy c d printed (Some (stops.Device roles.Low faults)) =
-      ((q : LowPast) × Does true q printed) × (low.is_down d.process ≡ true) × (faults ≡ (disk_of d).faults)
+      ((q : PastAlone) × Does true q printed) × (low.is_down d.process ≡ true) × (faults ≡ (disk_of d).faults)
   EndsBy c d printed (Some (stops.Device roles.High faults)) = ⊥
   EndsBy c d printed (Some (stops.Device roles.Recv faults)) = ⊥
   EndsBy c d printed (Some (stops.Full end size_of_message size)) = ⊥
 
 -- so for every past that the parts stood for
-abbrev pub Ends : LowParts → LowParts → (LowPast → Type 0) → (LowPast → Bool → LowPast → List Event → Type 0) → List Event → Option Stop → Type 0
+abbrev pub Ends : LowParts → LowParts → (PastAlone → Type 0) → (PastAlone → Bool → PastAlone → List Event → Type 0) → List Event → Option Stop → Type 0
 Ends c d Bars Does printed stop =
-    (p : LowPast) → PartsStand c p → EndsBy (Bars p) (Does p) c d printed stop
+    (p : PastAlone) → PartsStand c p → EndsBy (Bars p) (Does p) c d printed stop
 
 -- it is always done
-abbrev pub NeverBars : LowPast → Type 0
+abbrev pub NeverBars : PastAlone → Type 0
 NeverBars p = ⊥
 
 -- with what comes with a `told` line, more than 64 arrivals would wait
-abbrev pub Crowds : SessionRow → Bool → Arriving → LowPast → Type 0
-Crowds row fault a p = (k : LineComing) × Arrives row.id p.reading a k × (64 < length (joined_low p fault k).waits)
+abbrev pub Crowds : SessionRow → Bool → Arriving → PastAlone → Type 0
+Crowds row fault a p = (k : LineComing) × Arrives row.id p.reading a k × (64 < length (joined_alone p fault k).waits)
 
 -- the look of a `told` line
-abbrev pub IsJoinedTold : SessionRow → ℕ → ℕ → Bool → ToldFeedback → Arriving → LowPast → Bool → LowPast → List Event → Type 0
+abbrev pub IsJoinedTold : SessionRow → ℕ → ℕ → Bool → ToldFeedback → Arriving → PastAlone → Bool → PastAlone → List Event → Type 0
 IsJoinedTold row m w fault told a p is_fault q printed =
-    (k : LineComing) × Arrives row.id p.reading a k × IsOfferedTold row (joined_low p fault k) m w told is_fault q printed
+    (k : LineComing) × Arrives row.id p.reading a k × IsOfferedTold row (joined_alone p fault k) m w told is_fault q printed

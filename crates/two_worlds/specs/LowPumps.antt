@@ -5,7 +5,7 @@ use Rattle.pump_frame.specs.declared.row.SessionRow.{SessionRow}
 use Rattle.low_process.specs.Looks.{is_down}
 use Rattle.script_reader.specs.declared.event.Event.{Event}
 use Rattle.script_reader.specs.declared.line.Line.{Line}
-use Rattle.script_reader.specs.Tolds.{LowPast, is_timely_low, StepLow, IsRefusedAlone}
+use Rattle.script_reader.specs.Alone.{PastAlone, is_timely_alone, StepAlone, IsRefusedAlone}
 use Rattle.two_worlds.specs.LowParts.{PartsStand, disk_of}
 use Rattle.two_worlds.specs.declared.applied.Stop.{Stop}
 use Rattle.two_worlds.specs.declared.applied.Stop.TheVariants as stops
@@ -16,7 +16,7 @@ abbrev pub low_row_of : LowPump → SessionRow
 low_row_of pump = pump.parts.row
 
 -- the pump stands for this past
-abbrev pub LowStandsFor : LowPump → LowPast → Type 0
+abbrev pub LowStandsFor : LowPump → PastAlone → Type 0
 LowStandsFor pump p = PartsStand pump.parts p
 
 -- a call of the pump's disk failed
@@ -30,19 +30,19 @@ low_faults_of pump = (disk_of pump.parts).faults
 -- A line was given to `old`, which stood for p, and left it as `new`: the line can be applied, and leads
 -- to what `new` stands for and prints this; or it can't be, and nothing is printed or changed; or it can
 -- be, and the disk failed in it.
-abbrev pub AppliesLow : LowPump → LowPump → Line → LowPast → List Event → Option Stop → Type 0
-AppliesLow old new line p printed None =
-    (is_timely_low (low_row_of old) p line ≡ true)
-    × ((q : LowPast) × StepLow (low_row_of old) p line false q printed × LowStandsFor new q)
-AppliesLow old new line p printed (Some stops.Line) =
+abbrev pub AppliesAlone : LowPump → LowPump → Line → PastAlone → List Event → Option Stop → Type 0
+AppliesAlone old new line p printed None =
+    (is_timely_alone (low_row_of old) p line ≡ true)
+    × ((q : PastAlone) × StepAlone (low_row_of old) p line false q printed × LowStandsFor new q)
+AppliesAlone old new line p printed (Some stops.Line) =
     IsRefusedAlone (low_row_of old) p line × (printed ≡ []) × (new ≡ old)
-AppliesLow old new line p printed (Some (stops.Device roles.Low faults)) =
-    (is_timely_low (low_row_of old) p line ≡ true)
-    × ((q : LowPast) × StepLow (low_row_of old) p line true q printed)
+AppliesAlone old new line p printed (Some (stops.Device roles.Low faults)) =
+    (is_timely_alone (low_row_of old) p line ≡ true)
+    × ((q : PastAlone) × StepAlone (low_row_of old) p line true q printed)
     × (low_is_down new ≡ true) × (faults ≡ low_faults_of new)
-AppliesLow old new line p printed (Some (stops.Device roles.High faults)) = ⊥
-AppliesLow old new line p printed (Some (stops.Device roles.Recv faults)) = ⊥
-AppliesLow old new line p printed (Some (stops.Full end size_of_message size)) = ⊥
+AppliesAlone old new line p printed (Some (stops.Device roles.High faults)) = ⊥
+AppliesAlone old new line p printed (Some (stops.Device roles.Recv faults)) = ⊥
+AppliesAlone old new line p printed (Some (stops.Full end size_of_message size)) = ⊥
 
 -- a device stopped the line
 abbrev pub is_device : Option Stop → Bool

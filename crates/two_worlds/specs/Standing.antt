@@ -22,7 +22,7 @@ use Rattle.low_process.specs.Ends as low_ends
 use Rattle.low_process.specs.Whole.{IsStoreOf}
 use Rattle.high_process.specs.States as high
 use Rattle.high_process.specs.Past as high_past
-use Rattle.high_process.specs.Looks.{Stands as HighStandsFor}
+use Rattle.high_process.specs.Looks.{StandsFor as HighStandsFor}
 use Rattle.high_process.specs.Ends as high_ends
 use Rattle.script_reader.specs.Past.{Past}
 use Rattle.script_reader.specs.Highs.{log_end, receiver_size}

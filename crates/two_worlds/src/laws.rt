@@ -3,7 +3,7 @@
 
 ghost use Rattle.two_worlds.specs.Laws.{EventsAreCertain, EveryWorldIsLawful, ForgedWorldsAreBounded, TimedWorldsAreLawful, RunsHaveReplies, PairsAgree, AcknowledgedIsAccepted, ThinnedHistoriesAgree, AcceptedOutlives, AcknowledgedOutlives};
 ghost use Rattle.two_worlds.specs.Timelines.{LinesAreSteps, ScriptsAreTimedRuns};
-ghost use Rattle.two_worlds.specs.LowTimelines.{LowLinesAreEvents, LowScriptsAreTimed};
+ghost use Rattle.two_worlds.specs.TimelinesAlone.{LowLinesAreEvents, LowScriptsAreTimed};
 
 /// An event leads to one world at most, so that what a step makes of a world is settled.
 pub fn events_are_certain()

@@ -32,9 +32,9 @@ impl LowPump {
     ghost use Rattle.script_reader.specs.Lawful.{IsLawfulLine};
     ghost use Rattle.script_reader.specs.Heads.{line_with, CanHoldLine};
     ghost use Rattle.two_worlds.specs.Printing.{lines_in};
-    ghost use Rattle.script_reader.specs.Scripts.{IsLowEnd};
-    ghost use Rattle.script_reader.specs.Tolds.{LowPast, fresh_low};
-    ghost use Rattle.two_worlds.specs.LowPumps.{low_row_of, low_is_down, is_device, LowStandsFor, AppliesLow};
+    ghost use Rattle.script_reader.specs.Scripts.{IsEndAlone};
+    ghost use Rattle.script_reader.specs.Alone.{PastAlone, fresh_alone};
+    ghost use Rattle.two_worlds.specs.LowPumps.{low_row_of, low_is_down, is_device, LowStandsFor, AppliesAlone};
 
     /// The low side of a lawful row before its first line, with `next` messages stored, at most 2^48.
     /// Where it is held, the last one, without bytes, is in the low hand; then `next` is at least 1.
@@ -47,7 +47,7 @@ impl LowPump {
         requires lawful { IsLawfulRow row.now }
         requires next { next ≤ 2 ^ 48 }
         requires held { held ≡ true → 1 ≤ next }
-        ensures fresh { IfOk result (λ pump. LowStandsFor pump (fresh_low next held)) }
+        ensures fresh { IfOk result (λ pump. LowStandsFor pump (fresh_alone next held)) }
         ensures row { IfOk result (λ pump. low_row_of pump ≡ row.now) }
         ensures up { IfOk result (λ pump. low_is_down pump ≡ false) }
     {
@@ -61,8 +61,8 @@ impl LowPump {
     pub fn apply(&mut self, line: &Line) -> Applied
         requires lawful { IsLawfulLine line.now }
         requires up { low_is_down self.old ≡ false }
-        ensures applies { (p : LowPast) → LowStandsFor self.old p
-            → AppliesLow self.old self.new line.now p result.events.items result.stop }
+        ensures applies { (p : PastAlone) → LowStandsFor self.old p
+            → AppliesAlone self.old self.new line.now p result.events.items result.stop }
         ensures down { low_is_down self.new ≡ is_device result.stop }
         ensures row { low_row_of self.new ≡ low_row_of self.old }
     {
@@ -85,8 +85,8 @@ impl LowPump {
         requires lawful { IsLawfulLine (line_with bytes.now line.now) }
         requires room { CanHoldLine line.now bytes.now }
         requires up { low_is_down self.old ≡ false }
-        ensures applies { (p : LowPast) → LowStandsFor self.old p
-            → AppliesLow self.old self.new (line_with bytes.now line.now) p (lines_in events.new.items) result }
+        ensures applies { (p : PastAlone) → LowStandsFor self.old p
+            → AppliesAlone self.old self.new (line_with bytes.now line.now) p (lines_in events.new.items) result }
         ensures down { low_is_down self.new ≡ is_device result }
         ensures row { low_row_of self.new ≡ low_row_of self.old }
     {
@@ -95,8 +95,8 @@ impl LowPump {
 
     /// How many messages are stored.
     pub fn next(&self) -> u64
-        ensures { (p : LowPast) → LowStandsFor self.now p
-            → IsLowEnd (low_row_of self.now) p (End (low_row_of self.now).id result None) }
+        ensures { (p : PastAlone) → LowStandsFor self.now p
+            → IsEndAlone (low_row_of self.now) p (End (low_row_of self.now).id result None) }
     {
         self.parts.next()
     }

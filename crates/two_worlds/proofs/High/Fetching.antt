@@ -6,7 +6,7 @@ use Rattle.pump_frame.specs.declared.frame.Item.{Item}
 use Rattle.pump_core.specs.Passage.{Shape, Low, High, takes, sought}
 use Rattle.passage.specs.declared.plain.PlainEnds.{PlainEnds}
 use Rattle.passage.specs.Plain.{held_in, StandsFor}
-use Rattle.high_process.specs.Ends.{Takes, told_time, FitsEnd, StandsFitting}
+use Rattle.high_process.specs.Ends.{TakesUp, told_time, FitsEnd, StandsFitting}
 use Rattle.high_process.specs.declared.process.HighProcess.{HighProcess}
 use Rattle.two_worlds.proofs.High.Sendings.{Fetched}
 
@@ -27,7 +27,7 @@ pub record FetchedBy (ends : PlainEnds) (q : HighProcess) (l : Low) (times : Lis
   pub fetched : Fetched b held got (held_in ends)
 
 pub fetched_by : (s : Shape) (old ends : PlainEnds) (q : HighProcess) (l : Low) (h : High) (o : Option ℕ) (b : Bool) (removed : ℕ) (got : Option Item)
-    → StandsFor old l h → Takes s true (StandsFitting (StandsFor ends) q) l (told_time o h) b removed got
+    → StandsFor old l h → TakesUp s true (StandsFitting (StandsFor ends) q) l (told_time o h) b removed got
     → FetchedBy ends q l (h.times ++ option_to_list o) (held_in old) b got
 fetched_by s old ends q l h o true removed (Some x) stood (is, both) =
     record {

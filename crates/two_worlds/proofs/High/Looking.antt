@@ -16,8 +16,8 @@ use Rattle.passage.specs.declared.plain.PlainEnds.{PlainEnds}
 use Rattle.passage.specs.Plain.{shape_of, held_in, StandsFor as EndsStand}
 use Rattle.high_process.specs.States as high
 use Rattle.high_process.specs.Past as high_past
-use Rattle.high_process.specs.Ends.{Takes, told_time, StandsFitting}
-use Rattle.high_process.specs.Looks.{Stands as HighStandsFor, Looked}
+use Rattle.high_process.specs.Ends.{TakesUp, told_time, StandsFitting}
+use Rattle.high_process.specs.Looks.{StandsFor as HighStandsFor, Looked}
 use Rattle.high_process.specs.Storing.{Removing, Fares, LeavesCounted}
 use Rattle.high_process.specs.declared.process.HighProcess.{HighProcess}
 use Rattle.high_process.specs.declared.values.HighLook.{HighLook}
@@ -108,7 +108,7 @@ module _ {D : Type 0} (m : Meaning D) (c : Parts D) (p : Past) (stands : Stands 
   -- what was seen of the process and the end, from the past after the first part on
   abbrev Seen : ℕ → Bool → Option ℕ → Option ℕ → high_past.ProcessPast → Type 0
   Seen resend attaches time sent u =
-      (got : _) × Takes (shape_of c.ends) true (StandsFitting (EndsStand ends) q) stands.ends.low (told_time time stands.ends.high) (high_past.wants u) u.removed got
+      (got : _) × TakesUp (shape_of c.ends) true (StandsFitting (EndsStand ends) q) stands.ends.low (told_time time stands.ends.high) (high_past.wants u) u.removed got
       × HighStandsFor q (high_past.finished resend attaches (high_past.taken_up u got) moment)
       × (sent ≡ high_past.sent_in resend attaches (high_past.taken_up u got) moment)
 

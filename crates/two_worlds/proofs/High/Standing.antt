@@ -16,7 +16,7 @@ use Rattle.passage.specs.declared.plain.PlainEnds.{PlainEnds}
 use Rattle.passage.specs.Plain.{shape_of, held_in}
 use Rattle.high_process.specs.States as high
 use Rattle.high_process.specs.Past as high_past
-use Rattle.high_process.specs.Looks.{Stands as HighStandsFor}
+use Rattle.high_process.specs.Looks.{StandsFor as HighStandsFor}
 use Rattle.high_process.specs.declared.process.HighProcess.{HighProcess}
 use Rattle.script_reader.specs.declared.event.Event.{Event}
 use Rattle.script_reader.specs.Past.{Past}

@@ -18,7 +18,7 @@ use Rattle.pump_core.specs.Phases as phases
 use Rattle.pump_core.specs.History.{Arrival, Look, Opening, looked}
 use Rattle.pump_core.specs.Exchanges.{is_gone, has_average, count_after, greeted_after}
 use Rattle.pump_core.specs.Replies.{sent, takes, stores}
-use Rattle.pump_core.specs.Step.{Fits, after, reply_at, stores_at, takes_at}
+use Rattle.pump_core.specs.Step.{FeedbackFits, after, reply_at, stores_at, takes_at}
 use Rattle.pump_core.specs.Standing.{State, StandsAt, phase_after, end_of}
 use Rattle.pump_core.proofs.Bounded.{place}
 use Rattle.pump_core.proofs.Laws.{runs_lawfully}
@@ -132,7 +132,7 @@ module _ {D : Type 0} (m : Meaning D) (c d : Parts D) (p : Past) (moment word : 
       let ph = phase_after row o at.parts in
       let passes : is_passing ph ≡ is_some p.world.low_hand =
       sym (ap (λ (t : State). is_passing t.phase) at.state) ∙ passing ∙ sym (full_number hand) ∙ ap is_some (sym stands.world.low_hand) in
-      let h = told_in row (end_of row o at.parts) ph p.world.low_hand moment word a false l.feedback (pair row p) (length p.world.held == row.capacity - 2) passes head (subst (λ (t : State). Fits row t x) at.state step.fits) in
+      let h = told_in row (end_of row o at.parts) ph p.world.low_hand moment word a false l.feedback (pair row p) (length p.world.held == row.capacity - 2) passes head (subst (λ (t : State). FeedbackFits row t x) at.state step.fits) in
       let again = comes_again row (count_after o at.parts) (greeted_after row at.parts) a in
       h ∙ ap (λ (t : Bool × Bool). told_by (is_gone a) p.world.low_hand t.0 again (length p.world.held == row.capacity - 2) t.1 (pair row p)) (λ i. (sym (may_take_is row o at.parts) i, sym (owed_is row o at.parts) i))
       ∙ ap (λ f. if is_gone a then Quiet else f) (feedback_is row p at.parts a p.world.low_hand)

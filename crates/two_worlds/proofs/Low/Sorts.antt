@@ -15,7 +15,7 @@ use Rattle.pump_core.specs.History.{Look, Opening}
 use Rattle.pump_core.specs.Exchanges.{is_gone, is_hello, is_data, permits_frame, is_fit, is_repeat, is_next, has_average, Waiting, Over, Part, Holding, Release, Empty, Leaving, Answer, Repeated, Offering, Dropped, Delivery, Loss, IsFrame, AreParts, count_after}
 use Rattle.pump_core.specs.Replies.{sent, welcome, refusal, answer_to, number_in}
 use Rattle.low_process.specs.Looks.{look_of}
-use Rattle.pump_core.specs.Step.{Fits, is_quiet, is_full as hears_full, fits_passing, after, reply_at, stores_at}
+use Rattle.pump_core.specs.Step.{FeedbackFits, is_quiet, is_full as hears_full, fits_passing, after, reply_at, stores_at}
 use Rattle.pump_core.specs.Standing.{State, phase_after}
 use Rattle.pump_core.specs.declared.event.Event.TheVariants.{Acknowledge}
 use Rattle.script_reader.specs.Lows.{acks_of}
@@ -105,7 +105,7 @@ next_number row n g f h =
     let first = and_parts (is_fit row g f && f.number == n) (nat_lt n (2 ^ 48)) h in
     eqb-true f.number n (and_parts (is_fit row g f) (f.number == n) first.0).1
 
-sort_came : (row : SessionRow) (n : ℕ) (g : Bool) (m w : ℕ) (f : Frame) (b : Feedback) → Fits row (at n g Idle) (look_of m w (Came f) false b) → Sort row (at n g Idle) (look_of m w (Came f) false b)
+sort_came : (row : SessionRow) (n : ℕ) (g : Bool) (m w : ℕ) (f : Frame) (b : Feedback) → FeedbackFits row (at n g Idle) (look_of m w (Came f) false b) → Sort row (at n g Idle) (look_of m w (Came f) false b)
 sort_came row n g m w f b fit =
     let x = look_of m w (Came f) false b in
     elim (is_repeat row n g f) as (λ r. is_repeat row n g f ≡ r → (if r then has_average b else is_quiet b) ≡ true → Sort row (at n g Idle) x) [
@@ -116,7 +116,7 @@ sort_came row n g m w f b fit =
       ] refl
     ] refl fit
 
-sort_in : (row : SessionRow) (n : ℕ) (g : Bool) (ph : Phase) (m w : ℕ) (a : Arrival) (b : Feedback) → Fits row (at n g ph) (look_of m w a false b) → Sort row (at n g ph) (look_of m w a false b)
+sort_in : (row : SessionRow) (n : ℕ) (g : Bool) (ph : Phase) (m w : ℕ) (a : Arrival) (b : Feedback) → FeedbackFits row (at n g ph) (look_of m w a false b) → Sort row (at n g ph) (look_of m w a false b)
 sort_in row n g Down m w a b fit = IsSame (record { still = still_quiet b fit; stores = refl; acks = refl; next = refl })
 sort_in row n g (Waits k t) m w a b fit =
     let x = look_of m w a false b in
@@ -141,7 +141,7 @@ sort_in row n g Idle m w Bad b fit = IsSame (record { still = still_quiet b fit;
 sort_in row n g Idle m w Gone b fit = IsSame (record { still = still_quiet b fit; stores = refl; acks = refl; next = refl })
 sort_in row n g Idle m w (Came f) b fit = sort_came row n g m w f b fit
 
-pub sort_of : (row : SessionRow) (s : State) (m w : ℕ) (a : Arrival) (b : Feedback) → Fits row s (look_of m w a false b) → Sort row s (look_of m w a false b)
+pub sort_of : (row : SessionRow) (s : State) (m w : ℕ) (a : Arrival) (b : Feedback) → FeedbackFits row s (look_of m w a false b) → Sort row s (look_of m w a false b)
 sort_of row s m w a b fit = sort_in row s.next s.greeted s.phase m w a b fit
 
 -- what waits for its acknowledgement is stored
@@ -196,7 +196,7 @@ passing_average owed Full e h = absurd (cc)
 passing_average owed (Passed t) e h = absurd (cc)
 passing_average owed Released e h = absurd (cc)
 
-repeats_in : (row : SessionRow) (n : ℕ) (g : Bool) (ph : Phase) (m w : ℕ) (a : Arrival) (b : Feedback) → Fits row (at n g ph) (look_of m w a false b) → has_average b ≡ true → is_passing ph ≡ false
+repeats_in : (row : SessionRow) (n : ℕ) (g : Bool) (ph : Phase) (m w : ℕ) (a : Arrival) (b : Feedback) → FeedbackFits row (at n g ph) (look_of m w a false b) → has_average b ≡ true → is_passing ph ≡ false
 repeats_in row n g Idle m w a b fit h = refl
 repeats_in row n g Down m w a b fit h = refl
 repeats_in row n g (Waits k t) m w a b fit h = refl
@@ -206,5 +206,5 @@ repeats_in row n g (Passing owed) m w a b fit h =
       | false ↦ λ k. passing_average owed b k h
     ] fit)
 
-pub repeats : (row : SessionRow) (s : State) (m w : ℕ) (a : Arrival) (b : Feedback) → Fits row s (look_of m w a false b) → has_average b ≡ true → is_passing s.phase ≡ false
+pub repeats : (row : SessionRow) (s : State) (m w : ℕ) (a : Arrival) (b : Feedback) → FeedbackFits row s (look_of m w a false b) → has_average b ≡ true → is_passing s.phase ≡ false
 repeats row s m w a b fit h = repeats_in row s.next s.greeted s.phase m w a b fit h

@@ -6,8 +6,8 @@ use Rattle.pump_frame.specs.declared.row.SessionRow.{SessionRow}
 use Rattle.pump_frame.specs.declared.frame.Frame.{Frame}
 use Rattle.pump_core.specs.History.{Look, Life, History, looked}
 use Rattle.pump_core.specs.Replies.{Sent, sent, replies_of, LivesReplies}
-use Rattle.pump_core.specs.Step.{Fits, after, reply_at, stores_at, takes_at}
-use Rattle.pump_core.specs.Standing.{State, Keeps, StandsAt, end_of}
+use Rattle.pump_core.specs.Step.{FeedbackFits, after, reply_at, stores_at, takes_at}
+use Rattle.pump_core.specs.Standing.{State, HasCut, StandsAt, end_of}
 use Rattle.pump_core.proofs.Cuts.{one_cut}
 use Rattle.pump_core.proofs.Runs.{one_list_of_lives}
 use Rattle.pump_core.proofs.Standings.{stands_after, replies_after, newest_after}
@@ -17,7 +17,7 @@ use Rattle.low_process.specs.Looks.{row_of, last_of, state_of, StandsFor, Looks}
 use Rattle.pump_core.proofs.CutsFit.{cuts_fit}
 
 -- a history that can be cut has replies
-pub lives_reply : (row : SessionRow) (lives : List Life) → AllByRecursion (Keeps row) lives → (rs : List Sent) × LivesReplies row lives rs
+pub lives_reply : (row : SessionRow) (lives : List Life) → AllByRecursion (HasCut row) lives → (rs : List Sent) × LivesReplies row lives rs
 lives_reply row [] all = ([], refl)
 lives_reply row (life ∷ earlier) all =
     let older = lives_reply row earlier all.1 in
@@ -26,7 +26,7 @@ lives_reply row (life ∷ earlier) all =
 
 -- the look leads from this state to that process
 pub record Stepped (row : SessionRow) (s : State) (q : LowProcess) (x : Look) (l : LowLook) : Type 0 where
-  pub fits : Fits row s x
+  pub fits : FeedbackFits row s x
   pub state : state_of q ≡ after row s x
   pub reply : l.reply ≡ reply_at row s x
   pub taken : l.taken ≡ takes_at s x
@@ -56,8 +56,8 @@ module _ (p q : LowProcess) (h : History) (x : Look) (l : LowLook) (stood : Stan
   now : StandsAt row (state_of q) (last_of q) (looked h x)
   now = subst (λ (r : SessionRow). StandsAt r (state_of q) (last_of q) (looked h x)) same (looks.history h stood).stands
 
-  fits : Fits row s x
-  fits = subst (λ (t : State). Fits row t x) (sym at.state)
+  fits : FeedbackFits row s x
+  fits = subst (λ (t : State). FeedbackFits row t x) (sym at.state)
       (cuts_fit row h.life.opening x at.parts now.parts at.cut.are_parts now.cut.are_parts (sym now.cut.looks ∙ ap (λ l. x ∷ l) at.cut.looks))
 
   abbrev then : StandsAt row (after row s x) x.moment (looked h x)

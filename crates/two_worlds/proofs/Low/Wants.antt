@@ -11,7 +11,7 @@ use Rattle.pump_core.specs.History.{Arrival}
 use Rattle.pump_core.specs.History.{Nothing, Came, Bad, Gone}
 use Rattle.pump_core.specs.Exchanges.{is_data, is_fit, is_repeat, is_next, has_average}
 use Rattle.pump_core.specs.Replies.{refusal}
-use Rattle.pump_core.specs.Step.{Fits, is_quiet, reply_at, stores_at}
+use Rattle.pump_core.specs.Step.{FeedbackFits, is_quiet, reply_at, stores_at}
 use Rattle.pump_core.proofs.Runs.{not_repeat}
 use Rattle.low_process.specs.declared.values.Phase.{Phase}
 use Rattle.low_process.specs.declared.values.Phase.TheVariants.{Idle, Passing, Waiting as Waits, Down}
@@ -81,7 +81,7 @@ pub record Refuses (row : SessionRow) (p : LowProcess) (m w : ℕ) (f : Frame) (
 
 abbrev Says : SessionRow → ℕ → Bool → phases.Phase → ℕ → ℕ → Frame → Feedback → Type 0
 Says row n g ph m w f b =
-    Fits row (at n g ph) (look_of m w (Came f) true b)
+    FeedbackFits row (at n g ph) (look_of m w (Came f) true b)
     → (is_quiet b ≡ true)
     × (stores_at row (at n g ph) (look_of m w (Came f) true b) ≡ None)
     × (reply_at row (at n g ph) (look_of m w (Came f) true b) ≡ Some (refusal row 5 0))
@@ -122,7 +122,7 @@ module _ (p : LowProcess) (a : Arrival) (message : List ℕ) (t : Taking p a mes
       subst (λ (k : List ℕ). length k ≤ row.message) (sym t.is_message)
       (leb-true (length f.payload) row.message (and_parts (is_data f.kind && (state_of p).greeted && f.session == row.id) (nat_le (length f.payload) row.message) fit).1)
 
-  pub refuses : (m w : ℕ) (b : Feedback) → Fits (row_of p) (state_of p) (look_of m w (Came t.frame) true b) → Refuses (row_of p) p m w t.frame b
+  pub refuses : (m w : ℕ) (b : Feedback) → FeedbackFits (row_of p) (state_of p) (look_of m w (Came t.frame) true b) → Refuses (row_of p) p m w t.frame b
   refuses m w b fit =
       let r = says_in p.row p.next p.greeted p.phase p.hand.number m w t.frame b t.wanted fit in
       record { quiet = r.0; stored = r.1; reply = r.2 }

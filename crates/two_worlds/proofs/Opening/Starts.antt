@@ -21,7 +21,7 @@ use Rattle.passage.specs.Plain.{shape_of, StandsFor as EndsStand}
 use Rattle.low_process.specs.Looks as low
 use Rattle.high_process.specs.States as high
 use Rattle.high_process.specs.Past as high_past
-use Rattle.high_process.specs.Looks.{Stands as HighStandsFor}
+use Rattle.high_process.specs.Looks.{StandsFor as HighStandsFor}
 use Rattle.script_reader.specs.Past.{fresh}
 use Rattle.script_reader.specs.Highs.{receiver_size}
 use Rattle.two_worlds.specs.declared.pump.parts.Parts.{Parts}

@@ -15,7 +15,7 @@ use Rattle.pump_core.specs.declared.event.Event.TheVariants.{StoreBegin, StoreEn
 use Rattle.pump_core.specs.World.{World}
 use Rattle.pump_core.specs.Events.{holds, with_kept, pump_crashed, receiver_crashed, Happens}
 use Rattle.pump_core.proofs.Lists.{length-push}
-use Rattle.pump_core.specs.Timed.{Step, Arrives, LowLook, HighLook, Offer, Read, Publish, Occurs, LowLife, Point, stands, after_event, LeadsTo, Moves}
+use Rattle.pump_core.specs.Timed.{Step, Arrives, LowLook, HighLook, Offer, Read, Publish, Occurs, LowLife, Point, stands, after_event, LeadsTo, StepsTo}
 use Rattle.pump_core.specs.Runs.{acknowledged_in, steps_in, StandInPlace, AllInPlace, IsRun}
 use Rattle.two_worlds.specs.Laws.{IsAckBelow, AcksBelow}
 
@@ -126,7 +126,7 @@ after t (Crash (Some p) r) v h a b = (tt, (a, b))
 back : (u t : Point) → u ≡ t → Accepted t → Accepted u
 back u t e h = subst Accepted (sym e) h
 
-moves : (row : SessionRow) (t : Point) (s : Step) (u : Point) → Accepted t → Moves row t s u
+moves : (row : SessionRow) (t : Point) (s : Step) (u : Point) → Accepted t → StepsTo row t s u
     → Accepted u
 moves row t (Arrives c) u a m = back u _ m a
 moves row t (LowLook w x y z) u a m = back u _ m.1 ((tt, a.0), a.1)

@@ -6,7 +6,7 @@ use Rattle.pump_core.specs.declared.event.Event.{Event}
 use Rattle.pump_core.specs.declared.event.Event.TheVariants.{StoreBegin, StoreEnd, Forward, TakeUp, Send, CarryData, TakeBegin, TakeEnd, ReturnTaken, RemoveBegin, RemoveEnd, Acknowledge, Crash}
 use Rattle.pump_core.specs.Lawful.{IsLawful}
 use Rattle.pump_core.proofs.Laws.{begins_lawful, stays_lawful}
-use Rattle.pump_core.specs.Timed.{Step, Arrives, LowLook, HighLook, Offer, Read, Publish, Occurs, Point, after_event, LeadsTo, Moves}
+use Rattle.pump_core.specs.Timed.{Step, Arrives, LowLook, HighLook, Offer, Read, Publish, Occurs, Point, after_event, LeadsTo, StepsTo}
 
 -- the world after an event is that to which it leads
 pub world_after : (t : Point) (e : Event) (v : World) → (after_event t e v).world ≡ v
@@ -32,7 +32,7 @@ abbrev world : Point → World
 world t = t.world
 
 moves_lawfully : (row : SessionRow) (t : Point) (s : Step) (u : Point) → IsLawful t.world
-    → Moves row t s u → IsLawful u.world
+    → StepsTo row t s u → IsLawful u.world
 moves_lawfully row t (Arrives c) u l m = onto u t (ap world m) l
 moves_lawfully row t (LowLook a b c d) u l m = onto u t (ap world m.1) l
 moves_lawfully row t (HighLook a) u l m = onto u t (ap world m.2) l

@@ -6,7 +6,7 @@ use Rattle.pump_core.specs.World.{World}
 use Rattle.pump_core.specs.declared.event.Event.{Event}
 use Rattle.pump_core.specs.declared.event.Event.TheVariants.{StoreBegin, StoreEnd, Forward, TakeUp, Send, CarryData, TakeBegin, TakeEnd, ReturnTaken, RemoveBegin, RemoveEnd, Acknowledge, Crash}
 use Rattle.pump_core.specs.Events.{Happens, Run, holds, pump_crashed, receiver_crashed}
-use Rattle.pump_core.specs.Timed.{Step, Arrives, LowLook, HighLook, Offer, Read, Publish, Occurs, Point, LeadsTo, Moves}
+use Rattle.pump_core.specs.Timed.{Step, Arrives, LowLook, HighLook, Offer, Read, Publish, Occurs, Point, LeadsTo, StepsTo}
 use Rattle.two_worlds.specs.Timelines.{IsAtRest}
 use Rattle.two_worlds.proofs.Runs.Worlds.{world_after}
 use Rattle.two_worlds.proofs.Timeline.Deeds.{Deed, Rests, Stores, FindsFull, Releases, Passes, Reads, Acknowledges, events_by}
@@ -48,7 +48,7 @@ keeps w (Crash (Some p) r) v h = ap places h ∙ receiver_keeps (pump_crashed w 
 abbrev places_at : Point → ℕ
 places_at t = t.world.capacity
 
-moves_keep : (row : SessionRow) (t : Point) (s : Step) (u : Point) → Moves row t s u → u.world.capacity ≡ t.world.capacity
+moves_keep : (row : SessionRow) (t : Point) (s : Step) (u : Point) → StepsTo row t s u → u.world.capacity ≡ t.world.capacity
 moves_keep row t (Arrives c) u m = ap places_at m
 moves_keep row t (LowLook a b c d) u m = ap places_at m.1
 moves_keep row t (HighLook a) u m = ap places_at m.2

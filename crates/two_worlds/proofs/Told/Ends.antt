@@ -21,7 +21,7 @@ use Rattle.script_reader.specs.declared.event.Event.{Event}
 use Rattle.script_reader.specs.declared.line.ToldFeedback.{ToldFeedback}
 use Rattle.script_reader.specs.declared.line.ToldFeedback.TheVariants.{Quiet, Full, Pair}
 use Rattle.script_reader.specs.Lows.{first_of, is_bad}
-use Rattle.script_reader.specs.Tolds.{LowPast, told_of_read, IsToldAt}
+use Rattle.script_reader.specs.Alone.{PastAlone, told_of_read, IsToldAt}
 use Rattle.two_worlds.specs.Connections.{Connected, waits_of, is_broken_of, reading_of, unused, offered_by, settled}
 use Rattle.two_worlds.specs.Printing.{look_prints}
 use Rattle.two_worlds.specs.LowParts.{PartsStand, Finishes, AnsweredBy, answer_of, EndsBy}
@@ -111,11 +111,11 @@ module _ (c e d : LowParts) (mid : LowProcess) (new : LowStore Plain) (m w : ℕ
     row_then : d.row ≡ c.row
     row_then = ap (λ (t : LowParts). t.row) left ∙ row_is
 
-    ended : Settles c d m a l → (p : LowPast) → PartsStand c p → EndsBy ⊥ (λ fault q printed. IsToldAt c.row p m w told a fault q printed) c d events stop
+    ended : Settles c d m a l → (p : PastAlone) → PartsStand c p → EndsBy ⊥ (λ fault q printed. IsToldAt c.row p m w told a fault q printed) c d events stop
     ended settles p was = look_ends c d p m w a told begun.0 l was step_then settles events stop prints_then stops_so
 
     -- a look with what waits first
-    pub first_ends : a ≡ offered_by c.connection → k ≡ settled e.connection l.taken → (p : LowPast) → PartsStand c p
+    pub first_ends : a ≡ offered_by c.connection → k ≡ settled e.connection l.taken → (p : PastAlone) → PartsStand c p
         → EndsBy ⊥ (λ fault q printed. IsToldAt c.row p m w told (first_of p.is_broken p.waits) fault q printed) c d events stop
     first_ends first settle p was =
         let k' : d.connection ≡ settled c.connection l.taken = ap (λ (t : LowParts). t.connection) left ∙ settle ∙ ap (λ (t : Connected). settled t l.taken) connection_is in
@@ -130,7 +130,7 @@ module _ (c e d : LowParts) (mid : LowProcess) (new : LowStore Plain) (m w : ℕ
         }) p was)
 
     -- the look of a connection that is lost
-    pub gone_ends : a ≡ Gone → c.connection ≡ unused → k ≡ e.connection → (p : LowPast) → PartsStand c p
+    pub gone_ends : a ≡ Gone → c.connection ≡ unused → k ≡ e.connection → (p : PastAlone) → PartsStand c p
         → EndsBy ⊥ (λ fault q printed. IsToldAt c.row p m w told Gone fault q printed) c d events stop
     gone_ends gone none stays p was =
         let same : d.connection ≡ c.connection = ap (λ (t : LowParts). t.connection) left ∙ stays ∙ connection_is in

@@ -11,12 +11,12 @@ use Rattle.pump_core.specs.History.{Arrival}
 use Rattle.pump_core.specs.History.{Nothing, Came, Bad, Gone}
 use Rattle.pump_core.specs.History.{Look, Opening}
 use Rattle.pump_core.specs.Exchanges.{is_gone, is_repeat, has_average, Waiting, Over, Part, Holding, Release, Empty, Leaving, Answer, Repeated, Offering, Dropped, Delivery, Loss, count_after, greeted_after}
-use Rattle.pump_core.specs.Step.{is_quiet, fits_passing, fits_idle, fits_in, Fits}
+use Rattle.pump_core.specs.Step.{is_quiet, fits_passing, fits_idle, fits_in, FeedbackFits}
 use Rattle.pump_core.specs.Standing.{State, phase_after, end_of}
 use Rattle.script_reader.specs.declared.line.ToldFeedback.{ToldFeedback}
 use Rattle.script_reader.specs.declared.line.ToldFeedback.TheVariants.{Quiet, Full, Pair}
 use Rattle.script_reader.specs.Lows.{comes_again}
-use Rattle.script_reader.specs.Tolds.{has_message, told_of_offer, told_of_read, told_feedback}
+use Rattle.script_reader.specs.Alone.{has_message, told_of_offer, told_of_read, told_feedback}
 use Rattle.pump_core.proofs.MayTake.{is_idle, may_take_is}
 use Rattle.two_worlds.proofs.Low.Told.{is_passing, owes, owed_is, quiet_is}
 
@@ -101,7 +101,7 @@ phase_told row told s x (Passing owed) fit h =
     ] fit
 
 -- the feedback that fits and comes of what was told is that of the past
-pub told_is : (row : SessionRow) (o : Opening) (before : List Part) (told : ToldFeedback) (x : Look) → Fits row (end_of row o before) x → Hears row told x.feedback
+pub told_is : (row : SessionRow) (o : Opening) (before : List Part) (told : ToldFeedback) (x : Look) → FeedbackFits row (end_of row o before) x → Hears row told x.feedback
     → x.feedback ≡ told_feedback row o before told x.arrival
 told_is row o before told x fit h =
     let again = comes_again row (count_after o before) (greeted_after row before) x.arrival in

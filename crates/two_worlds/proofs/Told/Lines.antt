@@ -22,7 +22,7 @@ use Rattle.script_reader.specs.declared.line.ToldFeedback.{ToldFeedback}
 use Rattle.script_reader.specs.declared.line.ToldFeedback.TheVariants.{Quiet}
 use Rattle.script_reader.specs.Lows.{first_of}
 use Rattle.script_reader.specs.Steps.{LineComing, Arrives}
-use Rattle.script_reader.specs.Tolds.{LowPast, IsToldAt, joined_low, lost_low, is_timely_low, IsRefusedAlone, StepLow}
+use Rattle.script_reader.specs.Alone.{PastAlone, IsToldAt, joined_alone, lost_alone, is_timely_alone, IsRefusedAlone, StepAlone}
 use Rattle.two_worlds.specs.Connections.{Connected, waits_of, is_broken_of, reading_of, unused, joined, Joins}
 use Rattle.two_worlds.specs.LowParts.{PartsStand, StandsForSome, armed_if, EndsBy, Crowds, IsJoinedTold}
 use Rattle.two_worlds.specs.declared.applied.Stop.{Stop}
@@ -32,8 +32,8 @@ use Rattle.two_worlds.specs.declared.low_pump.parts.LowParts.{LowParts}
 -- ---- how a line ends, by a part of it ----
 
 -- what could not fail to be done led on from parts before
-pub ends_after : (Bars : Type 0) (Does More : Bool → LowPast → List Event → Type 0) (c e d : LowParts) (events : List Event) (stop : Option Stop)
-    → ((fault : Bool) (q : LowPast) (printed : List Event) → Does fault q printed → More fault q printed)
+pub ends_after : (Bars : Type 0) (Does More : Bool → PastAlone → List Event → Type 0) (c e d : LowParts) (events : List Event) (stop : Option Stop)
+    → ((fault : Bool) (q : PastAlone) (printed : List Event) → Does fault q printed → More fault q printed)
     → EndsBy ⊥ Does e d events stop → EndsBy Bars More c d events stop
 ends_after Bars Does More c e d events None f h = (h.0, f false h.0 events h.1, h.2)
 ends_after Bars Does More c e d events (Some stops.Line) f h = absurd h.0
@@ -42,8 +42,8 @@ ends_after Bars Does More c e d events (Some (stops.Device roles.High faults)) f
 ends_after Bars Does More c e d events (Some (stops.Device roles.Recv faults)) f h = absurd h
 ends_after Bars Does More c e d events (Some (stops.Full end size_of_message size)) f h = absurd h
 
-pub ends_as : (Bars Bars' : Type 0) (Does More : Bool → LowPast → List Event → Type 0) (c d : LowParts) (events : List Event) (stop : Option Stop)
-    → (Bars → Bars') → ((fault : Bool) (q : LowPast) (printed : List Event) → Does fault q printed → More fault q printed)
+pub ends_as : (Bars Bars' : Type 0) (Does More : Bool → PastAlone → List Event → Type 0) (c d : LowParts) (events : List Event) (stop : Option Stop)
+    → (Bars → Bars') → ((fault : Bool) (q : PastAlone) (printed : List Event) → Does fault q printed → More fault q printed)
     → EndsBy Bars Does c d events stop → EndsBy Bars' More c d events stop
 ends_as Bars Bars' Does More c d events None b f h = (h.0, f false h.0 events h.1, h.2)
 ends_as Bars Bars' Does More c d events (Some stops.Line) b f h = (b h.0, h.1, h.2)
@@ -53,7 +53,7 @@ ends_as Bars Bars' Does More c d events (Some (stops.Device roles.Recv faults)) 
 ends_as Bars Bars' Does More c d events (Some (stops.Full end size_of_message size)) b f h = absurd h
 
 -- nothing was done
-pub ends_barred : (Bars : Type 0) (Does : Bool → LowPast → List Event → Type 0) (c d : LowParts) (events : List Event) (stop : Option Stop)
+pub ends_barred : (Bars : Type 0) (Does : Bool → PastAlone → List Event → Type 0) (c d : LowParts) (events : List Event) (stop : Option Stop)
     → Bars → d ≡ c → events ≡ [] → stop ≡ Some stops.Line → EndsBy Bars Does c d events stop
 ends_barred Bars Does c d events stop bars same none is =
     subst (λ (s : Option Stop). EndsBy Bars Does c d events s) (sym is) (bars, none, same)
@@ -101,7 +101,7 @@ still_of true p store of = record {
 abbrev pub with_comings : LowParts → Connected → LowStore Plain → LowParts
 with_comings c k store = record { row = c.row; connection = k; process = c.process; store = store; moment = c.moment }
 
-pub joins_stand : (c : LowParts) (p : LowPast) (fault : Bool) (come : LineComing) → PartsStand c p → PartsStand (with_comings c (joined c.connection come) (armed_if fault c.store)) (joined_low p fault come)
+pub joins_stand : (c : LowParts) (p : PastAlone) (fault : Bool) (come : LineComing) → PartsStand c p → PartsStand (with_comings c (joined c.connection come) (armed_if fault c.store)) (joined_alone p fault come)
 joins_stand c p fault come was = record {
   row = was.row;
   history = was.history;
@@ -117,7 +117,7 @@ joins_stand c p fault come was = record {
   room = subst (λ (n : ℕ). low_size c.row ≤ n) (room_is fault c.store) was.room;
 }
 
-pub lost_stands : (c : LowParts) (p : LowPast) (k : Connected) → k ≡ unused → PartsStand c p → PartsStand (with_comings c k c.store) (lost_low p)
+pub lost_stands : (c : LowParts) (p : PastAlone) (k : Connected) → k ≡ unused → PartsStand c p → PartsStand (with_comings c k c.store) (lost_alone p)
 lost_stands c p k none was = record {
   row = was.row;
   history = was.history;
@@ -143,19 +143,19 @@ module _ (c : LowParts) (k : Connected) (store : LowStore Plain) (fault : Bool) 
   mid_is : with_comings c (joined c.connection joins.0) (armed_if fault c.store) ≡ mid
   mid_is = ap (λ (t : Connected × LowStore Plain). with_comings c t.0 t.1) (λ i. (sym joins.2.1 i, sym arms i))
 
-  stands_with : (p : LowPast) → PartsStand c p → PartsStand mid (joined_low p fault joins.0)
-  stands_with p was = subst (λ (t : LowParts). PartsStand t (joined_low p fault joins.0)) mid_is (joins_stand c p fault joins.0 was)
+  stands_with : (p : PastAlone) → PartsStand c p → PartsStand mid (joined_alone p fault joins.0)
+  stands_with p was = subst (λ (t : LowParts). PartsStand t (joined_alone p fault joins.0)) mid_is (joins_stand c p fault joins.0 was)
 
   pub told_stands : ∥ StandsForSome c ∥₁ → ∥ StandsForSome mid ∥₁
-  told_stands some = ∥∥₁_elim some (hlevel props) (λ s. ∣ (joined_low s.0 fault joins.0, stands_with s.0 s.1) ∣₁)
+  told_stands some = ∥∥₁_elim some (hlevel props) (λ s. ∣ (joined_alone s.0 fault joins.0, stands_with s.0 s.1) ∣₁)
 
   pub told_ends : (d : LowParts) (m w : ℕ) (told : ToldFeedback) (events : List Event) (stop : Option Stop)
-      → ((p : LowPast) → PartsStand mid p
+      → ((p : PastAlone) → PartsStand mid p
       → EndsBy ⊥ (λ is_fault q printed. IsToldAt c.row p m w told (first_of p.is_broken p.waits) is_fault q printed) mid d events stop)
-      → (p : LowPast) → PartsStand c p → EndsBy (Crowds c.row fault a p) (IsJoinedTold c.row m w fault told a p) c d events stop
+      → (p : PastAlone) → PartsStand c p → EndsBy (Crowds c.row fault a p) (IsJoinedTold c.row m w fault told a p) c d events stop
   told_ends d m w told events stop looks p was =
       let come = joins.0 in
-      let p' = joined_low p fault come in
+      let p' = joined_alone p fault come in
       ends_after (Crowds c.row fault a p) (λ is_fault q printed. IsToldAt c.row p' m w told (first_of p'.is_broken p'.waits) is_fault q printed) (IsJoinedTold c.row m w fault told a p)
       c mid d events stop
       (λ is_fault q printed look. (
@@ -167,19 +167,19 @@ module _ (c : LowParts) (k : Connected) (store : LowStore Plain) (fault : Bool) 
 -- a `gone` line
 module _ (c : LowParts) (k : Connected) (none : k ≡ unused) where
   pub gone_stands : ∥ StandsForSome c ∥₁ → ∥ StandsForSome (with_comings c k c.store) ∥₁
-  gone_stands some = ∥∥₁_elim some (hlevel props) (λ s. ∣ (lost_low s.0, lost_stands c s.0 k none s.1) ∣₁)
+  gone_stands some = ∥∥₁_elim some (hlevel props) (λ s. ∣ (lost_alone s.0, lost_stands c s.0 k none s.1) ∣₁)
 
   pub gone_ends : (d : LowParts) (m : ℕ) (events : List Event) (stop : Option Stop)
-      → ((p : LowPast) → PartsStand (with_comings c k c.store) p
+      → ((p : PastAlone) → PartsStand (with_comings c k c.store) p
       → EndsBy ⊥ (λ is_fault q printed. IsToldAt c.row p m 0 Quiet Gone is_fault q printed) (with_comings c k c.store) d events stop)
-      → (p : LowPast) → PartsStand c p → EndsBy ⊥ (λ is_fault q printed. IsToldAt c.row (lost_low p) m 0 Quiet Gone is_fault q printed) c d events stop
+      → (p : PastAlone) → PartsStand c p → EndsBy ⊥ (λ is_fault q printed. IsToldAt c.row (lost_alone p) m 0 Quiet Gone is_fault q printed) c d events stop
   gone_ends d m events stop looks p was =
-      ends_after ⊥ (λ is_fault q printed. IsToldAt c.row (lost_low p) m 0 Quiet Gone is_fault q printed) (λ is_fault q printed. IsToldAt c.row (lost_low p) m 0 Quiet Gone is_fault q printed)
-      c (with_comings c k c.store) d events stop (λ is_fault q printed look. look) (looks (lost_low p) (lost_stands c p k none was))
+      ends_after ⊥ (λ is_fault q printed. IsToldAt c.row (lost_alone p) m 0 Quiet Gone is_fault q printed) (λ is_fault q printed. IsToldAt c.row (lost_alone p) m 0 Quiet Gone is_fault q printed)
+      c (with_comings c k c.store) d events stop (λ is_fault q printed look. look) (looks (lost_alone p) (lost_stands c p k none was))
 
 -- ---- which lines can be applied ----
 
-module _ (c : LowParts) (p : LowPast) (was : PartsStand c p) where
+module _ (c : LowParts) (p : PastAlone) (was : PartsStand c p) where
   timely_is : (session m : ℕ) → (session == c.row.id && nat_le c.moment m) ≡ (session == c.row.id && nat_le p.moment m)
   timely_is session m = ap (λ (n : ℕ). session == c.row.id && nat_le n m) was.moment
 
@@ -192,10 +192,10 @@ module _ (c : LowParts) (p : LowPast) (was : PartsStand c p) where
     told_line = lines.Told session m w fault told a
 
     pub applies_told : EndsBy (Crowds c.row fault a p) (IsJoinedTold c.row m w fault told a p) c d events stop
-        → EndsBy (IsRefusedAlone c.row p told_line) (λ is_fault q printed. (is_timely_low c.row p told_line ≡ true) × StepLow c.row p told_line is_fault q printed) c d events stop
+        → EndsBy (IsRefusedAlone c.row p told_line) (λ is_fault q printed. (is_timely_alone c.row p told_line ≡ true) × StepAlone c.row p told_line is_fault q printed) c d events stop
     applies_told h =
         ends_as (Crowds c.row fault a p) (IsRefusedAlone c.row p told_line) (IsJoinedTold c.row m w fault told a p)
-        (λ is_fault q printed. (is_timely_low c.row p told_line ≡ true) × StepLow c.row p told_line is_fault q printed) c d events stop
+        (λ is_fault q printed. (is_timely_alone c.row p told_line ≡ true) × StepAlone c.row p told_line is_fault q printed) c d events stop
         (λ crowds. inr (crowds.0, subst (λ (n : ℕ). Arrives n p.reading a crowds.0) (names session m timely) crowds.1, crowds.2))
         (λ is_fault q printed look. (sym (timely_is session m) ∙ timely, (look.0, subst (λ (n : ℕ). Arrives n p.reading a look.0) (names session m timely) look.1, look.2))) h
 
@@ -203,9 +203,9 @@ module _ (c : LowParts) (p : LowPast) (was : PartsStand c p) where
     abbrev gone_line : Line
     gone_line = lines.Gone session m
 
-    pub applies_gone : EndsBy ⊥ (λ is_fault q printed. IsToldAt c.row (lost_low p) m 0 Quiet Gone is_fault q printed) c d events stop
-        → EndsBy (IsRefusedAlone c.row p gone_line) (λ is_fault q printed. (is_timely_low c.row p gone_line ≡ true) × StepLow c.row p gone_line is_fault q printed) c d events stop
+    pub applies_gone : EndsBy ⊥ (λ is_fault q printed. IsToldAt c.row (lost_alone p) m 0 Quiet Gone is_fault q printed) c d events stop
+        → EndsBy (IsRefusedAlone c.row p gone_line) (λ is_fault q printed. (is_timely_alone c.row p gone_line ≡ true) × StepAlone c.row p gone_line is_fault q printed) c d events stop
     applies_gone h =
-        ends_after (IsRefusedAlone c.row p gone_line) (λ is_fault q printed. IsToldAt c.row (lost_low p) m 0 Quiet Gone is_fault q printed)
-        (λ is_fault q printed. (is_timely_low c.row p gone_line ≡ true) × StepLow c.row p gone_line is_fault q printed) c c d events stop
+        ends_after (IsRefusedAlone c.row p gone_line) (λ is_fault q printed. IsToldAt c.row (lost_alone p) m 0 Quiet Gone is_fault q printed)
+        (λ is_fault q printed. (is_timely_alone c.row p gone_line ≡ true) × StepAlone c.row p gone_line is_fault q printed) c c d events stop
         (λ is_fault q printed look. (sym (timely_is session m) ∙ timely, look)) h

@@ -10,7 +10,7 @@ use Rattle.pump_core.specs.History.{Arrival}
 use Rattle.pump_core.specs.History.{Look, Opening, looked}
 use Rattle.pump_core.specs.Exchanges.{Part, IsCut}
 use Rattle.pump_core.specs.Replies.{sent, takes, stores}
-use Rattle.pump_core.specs.Step.{Fits}
+use Rattle.pump_core.specs.Step.{FeedbackFits}
 use Rattle.pump_core.specs.Standing.{StandsAt, end_of}
 use Rattle.low_process.specs.Storing.{wants, message_in, StoreStep}
 use Rattle.low_process.specs.Whole.{HasStore}
@@ -22,7 +22,7 @@ use Rattle.stable_buffer.specs.Stands.{low_size}
 use Rattle.script_reader.specs.declared.event.Event.{Event}
 use Rattle.script_reader.specs.declared.line.ToldFeedback.{ToldFeedback}
 use Rattle.script_reader.specs.Lows.{is_bad, printed_store, printed_feedback, printed_replies}
-use Rattle.script_reader.specs.Tolds.{LowPast, begins_store, told_feedback, IsToldLook, IsToldAt}
+use Rattle.script_reader.specs.Alone.{PastAlone, begins_store, told_feedback, IsToldLook, IsToldAt}
 use Rattle.two_worlds.specs.Connections.{waits_of, is_broken_of, reading_of}
 use Rattle.two_worlds.specs.Printing.{printed_reply, look_prints}
 use Rattle.two_worlds.specs.LowParts.{disk_of, PartsStand, EndsBy}
@@ -58,7 +58,7 @@ pub record Settles (c d : LowParts) (m : ℕ) (a : Arrival) (l : LowLook) : Type
   pub row : d.row ≡ c.row
   pub moment : d.moment ≡ m
 
-module _ (c d : LowParts) (p : LowPast) (m w : ℕ) (a : Arrival) (told : ToldFeedback) (is_fault : Bool) (l : LowLook)
+module _ (c d : LowParts) (p : PastAlone) (m w : ℕ) (a : Arrival) (told : ToldFeedback) (is_fault : Bool) (l : LowLook)
     (was : PartsStand c p) (step : ToldStep c.row c.process d.process c.store d.store m w a told is_fault l) (settles : Settles c d m a l) where
   abbrev row : SessionRow
   row = row_of c.process
@@ -82,7 +82,7 @@ module _ (c d : LowParts) (p : LowPast) (m w : ℕ) (a : Arrival) (told : ToldFe
   cut_with : IsCut row (looked p.history x).life after
   cut_with = subst (λ (r : SessionRow). IsCut r (looked p.history x).life after) step.row_is stood.stands.cut
 
-  fits : Fits row (end_of row o at.parts) x
+  fits : FeedbackFits row (end_of row o at.parts) x
   fits = cuts_fit row o x at.parts after at.cut.are_parts cut_with.are_parts (sym cut_with.looks ∙ ap (λ looks. x ∷ looks) at.cut.looks)
 
   feedback : x.feedback ≡ told_feedback row o at.parts told a
@@ -97,7 +97,7 @@ module _ (c d : LowParts) (p : LowPast) (m w : ℕ) (a : Arrival) (told : ToldFe
   served : Serves (wants c.process a) (disk_of c) (disk_of d) is_fault
   served = serves c.process c.store d.store is_fault was.store (subst (λ (r : SessionRow). low_size r ≤ (disk_of c).room) (sym was.of_row) was.room) a step.keeps
 
-  abbrev q : LowPast
+  abbrev q : PastAlone
   q = record {
     history = looked p.history x;
     waits = if takes after then drop 1 p.waits else p.waits;
@@ -161,7 +161,7 @@ module _ (c d : LowParts) (p : LowPast) (m w : ℕ) (a : Arrival) (told : ToldFe
 
   -- ---- how the line ends ----
 
-  abbrev Does : Bool → LowPast → List Event → Type 0
+  abbrev Does : Bool → PastAlone → List Event → Type 0
   Does fault v printed = IsToldAt c.row p m w told a fault v printed
 
   does : (b : Bool) → is_fault ≡ b → Does b q (look_prints c.row.id m l)

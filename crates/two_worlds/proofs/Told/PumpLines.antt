@@ -7,9 +7,9 @@ use Rattle.disk_model.specs.declared.name.Role.TheVariants as roles
 use Rattle.low_process.specs.Looks.{is_down}
 use Rattle.script_reader.specs.declared.event.Event.{Event}
 use Rattle.script_reader.specs.declared.line.Line.{Line}
-use Rattle.script_reader.specs.Tolds.{LowPast, is_timely_low, IsRefusedAlone, StepLow}
+use Rattle.script_reader.specs.Alone.{PastAlone, is_timely_alone, IsRefusedAlone, StepAlone}
 use Rattle.two_worlds.specs.LowParts.{PartsStand, StandsForSome, EndsBy, Ends}
-use Rattle.two_worlds.specs.LowPumps.{low_row_of, AppliesLow, is_device}
+use Rattle.two_worlds.specs.LowPumps.{low_row_of, AppliesAlone, is_device}
 use Rattle.two_worlds.specs.declared.applied.Stop.{Stop}
 use Rattle.two_worlds.specs.declared.applied.Stop.TheVariants as stops
 use Rattle.two_worlds.specs.declared.low_pump.parts.LowParts.{LowParts}
@@ -28,9 +28,9 @@ same_pump old new same =
     path_j (λ (c : LowParts) (e : old.parts ≡ c). (h : Holds c) → record { parts = c; stands = h } ≡ old)
     (λ h. (λ i. record { parts = old.parts; stands = holds_prop old.parts h old.stands i })) (sym same) new.stands
 
-pub applies_low : (old new : LowPump) (line : Line) (p : LowPast) (printed : List Event) (stop : Option Stop)
-    → EndsBy (IsRefusedAlone (low_row_of old) p line) (λ is_fault q printed. (is_timely_low (low_row_of old) p line ≡ true) × StepLow (low_row_of old) p line is_fault q printed) old.parts new.parts printed stop
-    → AppliesLow old new line p printed stop
+pub applies_low : (old new : LowPump) (line : Line) (p : PastAlone) (printed : List Event) (stop : Option Stop)
+    → EndsBy (IsRefusedAlone (low_row_of old) p line) (λ is_fault q printed. (is_timely_alone (low_row_of old) p line ≡ true) × StepAlone (low_row_of old) p line is_fault q printed) old.parts new.parts printed stop
+    → AppliesAlone old new line p printed stop
 applies_low old new line p printed None h = (h.1.0, (h.0, h.1.1, h.2))
 applies_low old new line p printed (Some stops.Line) h = (h.0, h.1, same_pump old new h.2)
 applies_low old new line p printed (Some (stops.Device roles.Low faults)) h = (h.0.1.0, (h.0.0, h.0.1.1), h.1, h.2)
@@ -38,8 +38,8 @@ applies_low old new line p printed (Some (stops.Device roles.High faults)) h = a
 applies_low old new line p printed (Some (stops.Device roles.Recv faults)) h = absurd h
 applies_low old new line p printed (Some (stops.Full end size_of_message size)) h = absurd h
 
-module _ (c d : LowParts) (Bars : LowPast → Type 0) (Does : LowPast → Bool → LowPast → List Event → Type 0) where
-  down_by : (p : LowPast) (printed : List Event) (stop : Option Stop) → PartsStand c p → EndsBy (Bars p) (Does p) c d printed stop → is_down d.process ≡ is_device stop
+module _ (c d : LowParts) (Bars : PastAlone → Type 0) (Does : PastAlone → Bool → PastAlone → List Event → Type 0) where
+  down_by : (p : PastAlone) (printed : List Event) (stop : Option Stop) → PartsStand c p → EndsBy (Bars p) (Does p) c d printed stop → is_down d.process ≡ is_device stop
   down_by p printed None was h = h.2.up
   down_by p printed (Some stops.Line) was h = ap (λ (t : LowParts). is_down t.process) h.2 ∙ was.up
   down_by p printed (Some (stops.Device roles.Low faults)) was h = h.1
@@ -51,7 +51,7 @@ module _ (c d : LowParts) (Bars : LowPast → Type 0) (Does : LowPast → Bool �
   pub down_after : (printed : List Event) (stop : Option Stop) → ∥ StandsForSome c ∥₁ → Ends c d Bars Does printed stop → is_down d.process ≡ is_device stop
   down_after printed stop some ends = ∥∥₁_elim some (hlevel props) (λ s. down_by s.0 printed stop s.1 (ends s.0 s.1))
 
-  stands_by : (p : LowPast) (printed : List Event) (stop : Option Stop) → PartsStand c p → EndsBy (Bars p) (Does p) c d printed stop → Holds d
+  stands_by : (p : PastAlone) (printed : List Event) (stop : Option Stop) → PartsStand c p → EndsBy (Bars p) (Does p) c d printed stop → Holds d
   stands_by p printed None was h up = ∣ (h.0, h.2) ∣₁
   stands_by p printed (Some stops.Line) was h up = ∣ (p, subst (λ (t : LowParts). PartsStand t p) (sym h.2) was) ∣₁
   stands_by p printed (Some (stops.Device roles.Low faults)) was h up = let down = h.1 in absurd (cc)

@@ -20,7 +20,7 @@ use Rattle.low_process.specs.declared.process.LowProcess.{LowProcess}
 use Rattle.low_process.specs.Looks.{row_of, state_of, phase_of}
 use Rattle.low_process.specs.Storing.{wants, wants_in, message_of, message_in, outcome, Storing, StoreStep}
 use Rattle.low_process.specs.Whole.{IsStoreOf}
-use Rattle.script_reader.specs.Tolds.{comes_next, begins_store}
+use Rattle.script_reader.specs.Alone.{comes_next, begins_store}
 use Rattle.pump_core.proofs.MayTake.{is_idle, may_take_is}
 
 -- ---- a look that begins to store ----

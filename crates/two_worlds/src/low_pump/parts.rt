@@ -7,7 +7,7 @@ ghost use Rattle.stable_buffer.specs.Stands.{low_size};
 ghost use Rattle.stable_buffer.specs.Low.{IsLowReady, low_disk, low_count, low_row};
 ghost use Rattle.pump_frame.specs.Rows.{IsLawfulRow};
 ghost use Rattle.low_process.specs.Looks.{IsHand};
-ghost use Rattle.script_reader.specs.Tolds.{told_of_read};
+ghost use Rattle.script_reader.specs.Alone.{told_of_read};
 ghost use Rattle.two_worlds.specs.LowParts.{armed_if, answer_of};
 
 use crate::applied::Stop;
@@ -112,8 +112,8 @@ impl LowParts {
     ghost use Rattle.script_reader.specs.Lawful.{IsLawfulArriving, IsLawfulFeedback, IsLawfulLine};
     ghost use Rattle.script_reader.specs.Heads.{arriving_with, line_with, CanHold, CanHoldLine};
     ghost use Rattle.script_reader.specs.Lows.{first_of};
-    ghost use Rattle.script_reader.specs.Scripts.{IsLowEnd};
-    ghost use Rattle.script_reader.specs.Tolds.{LowPast, fresh_low, lost_low, is_timely_low, IsRefusedAlone, StepLow, IsToldAt};
+    ghost use Rattle.script_reader.specs.Scripts.{IsEndAlone};
+    ghost use Rattle.script_reader.specs.Alone.{PastAlone, fresh_alone, lost_alone, is_timely_alone, IsRefusedAlone, StepAlone, IsToldAt};
     ghost use Rattle.two_worlds.specs.LowParts.{PartsStand, StandsForSome, HasAsked, AnsweredBy, Ends, NeverBars, Crowds, IsJoinedTold};
     ghost use Rattle.two_worlds.specs.Printing.{lines_in};
 
@@ -127,7 +127,7 @@ impl LowParts {
         requires lawful { IsLawfulRow row.now }
         requires next { next ≤ 2 ^ 48 }
         requires held { held ≡ true → 1 ≤ next }
-        ensures stands { IfOk result (λ c. PartsStand c (fresh_low next held)) }
+        ensures stands { IfOk result (λ c. PartsStand c (fresh_alone next held)) }
         ensures row { IfOk result (λ c. c.row ≡ row.now) }
     {
         let disk = PlainDisk::new(alloc, disk_size(row, Role::Low))?;
@@ -145,8 +145,8 @@ impl LowParts {
 
     /// How many messages are stored.
     pub fn next(&self) -> u64
-        ensures { (p : LowPast) → PartsStand self.now p
-            → IsLowEnd self.now.row p (End self.now.row.id result None) }
+        ensures { (p : PastAlone) → PartsStand self.now p
+            → IsEndAlone self.now.row p (End self.now.row.id result None) }
     {
         self.process.next()
     }
@@ -263,7 +263,7 @@ impl LowParts {
         requires moment { moment ≤ 2 ^ 62 }
         requires out { out.old.items ≡ [] }
         ensures ends { Ends self.old self.new NeverBars (λ p is_fault q printed. IsToldAt self.old.row
-            (lost_low p) moment 0 Quiet Gone is_fault q printed) (lines_in out.new.items) result }
+            (lost_alone p) moment 0 Quiet Gone is_fault q printed) (lines_in out.new.items) result }
         ensures row { self.new.row ≡ self.old.row }
     {
         self.connection.lose();
@@ -281,8 +281,8 @@ impl LowParts {
         requires room { CanHoldLine line.now bytes.now }
         requires stands { ∥ StandsForSome self.old ∥₁ }
         ensures ends { Ends self.old self.new (λ p. IsRefusedAlone self.old.row p (line_with bytes.now line.now))
-            (λ p is_fault q printed. (is_timely_low self.old.row p (line_with bytes.now line.now) ≡ true)
-            × StepLow self.old.row p (line_with bytes.now line.now) is_fault q printed) (lines_in out.new.items) result }
+            (λ p is_fault q printed. (is_timely_alone self.old.row p (line_with bytes.now line.now) ≡ true)
+            × StepAlone self.old.row p (line_with bytes.now line.now) is_fault q printed) (lines_in out.new.items) result }
         ensures row { self.new.row ≡ self.old.row }
     {
         out.clear();

@@ -1,11 +1,11 @@
 use Rattle.std.proofs.Common.{◌≡◌, ℕ, ◌+◌, ◌-◌, ◌≤◌, List, [], ◌++◌, length, take, drop, replicate, ap, ◌∙◌, arith, append_assoc, append-nil, length-append}
 use Rattle.std.proofs.lemmas.List.{take_all, drop_all, take-replicate, length-replicate, replicate-append-replicate}
-use Rattle.disk_model.specs.Disk.{Holds}
+use Rattle.disk_model.specs.Disk.{IsWritten}
 use Rattle.stable_buffer.proofs.new_disk.fill_zeros.Goals as goal
 
 -- zeros at the end of zeros
 zeros_more : (from at n : ℕ) (whole mid new : List ℕ) → from ≤ at → n ≤ 64 → length mid ≡ at → mid ≡ whole ++ replicate (at - from) 0
-    → Holds mid at (take n (replicate 64 0)) new → new ≡ whole ++ replicate (at + n - from) 0
+    → IsWritten mid at (take n (replicate 64 0)) new → new ≡ whole ++ replicate (at + n - from) 0
 zeros_more from at n whole mid new le few size zeros holds =
     let bytes : take n (replicate 64 0) ≡ replicate n 0 = take-replicate n 64 0 few in
     let none : drop (at + length (take n (replicate 64 0))) mid ≡ [] = drop_all _ mid (omega (arith, size)) in

@@ -1,5 +1,5 @@
 use Rattle.std.proofs.Common.{◌≡◌, ℕ, ◌+◌, length, refl, ◌∙◌, ap, subst}
-use Rattle.disk_model.specs.Disk.{Moves, Each, Torn, Holds}
+use Rattle.disk_model.specs.Disk.{Moves, Each, Torn, IsWritten}
 use Rattle.disk_model.proofs.Run.{weaker}
 use Rattle.stable_buffer.specs.Register.{MayTurnTo, Selects, SameOutside, value_of}
 use Rattle.stable_buffer.specs.Stands.{spelled}
@@ -65,7 +65,7 @@ returns-in_err-commit-clause-moves g c =
     let written : m.tells → StandsAt r.second message (m.reading w.disk) = λ told.
     at_written r.second message (spelled message) (m.reading r.disk) (m.reading w.disk) refl
     (let stands = c.requires.ready.stands told in end_within row r.parity r.first r.second stands.0 (m.reading r.disk) (c.requires.ready.ready.each.reading told) stands.1)
-    (subst (λ k. Holds (m.reading r.disk) k (spelled message) (m.reading w.disk)) end (c.in_ok-write_message.ensures.written told)) in
+    (subst (λ k. IsWritten (m.reading r.disk) k (spelled message) (m.reading w.disk)) end (c.in_ok-write_message.ensures.written told)) in
     let has : Each m (StandsAt r.second message) q.disk =
     at_settled m row message r.second w.disk q.disk c.requires.ready.from written c.stage.ensures.moves c.in_ok-stage.ensures.settled in
     let selects : Each m (Selects q.parity r.first r.second) q.disk = subst (λ (f : ℕ × ℕ). Each m (Selects q.parity f.0 f.1) q.disk) same was.ready.each in
@@ -97,7 +97,7 @@ returns-clause-moves g c =
     let written : m.tells → StandsAt r.second message (m.reading w.disk) = λ told.
     at_written r.second message (spelled message) (m.reading r.disk) (m.reading w.disk) refl
     (let stands = c.requires.ready.stands told in end_within row r.parity r.first r.second stands.0 (m.reading r.disk) (c.requires.ready.ready.each.reading told) stands.1)
-    (subst (λ k. Holds (m.reading r.disk) k (spelled message) (m.reading w.disk)) end (c.in_ok-write_message.ensures.written told)) in
+    (subst (λ k. IsWritten (m.reading r.disk) k (spelled message) (m.reading w.disk)) end (c.in_ok-write_message.ensures.written told)) in
     let has : Each m (StandsAt r.second message) q.disk =
     at_settled m row message r.second w.disk q.disk c.requires.ready.from written c.stage.ensures.moves c.in_ok-stage.ensures.settled in
     let selects : Each m (Selects q.parity r.first r.second) q.disk = subst (λ (f : ℕ × ℕ). Each m (Selects q.parity f.0 f.1) q.disk) same was.ready.each in
@@ -129,7 +129,7 @@ returns-clause-taken g c = λ told.
     let written : m.tells → StandsAt r.second message (m.reading w.disk) = λ told.
     at_written r.second message (spelled message) (m.reading r.disk) (m.reading w.disk) refl
     (let stands = c.requires.ready.stands told in end_within row r.parity r.first r.second stands.0 (m.reading r.disk) (c.requires.ready.ready.each.reading told) stands.1)
-    (subst (λ k. Holds (m.reading r.disk) k (spelled message) (m.reading w.disk)) end (c.in_ok-write_message.ensures.written told)) in
+    (subst (λ k. IsWritten (m.reading r.disk) k (spelled message) (m.reading w.disk)) end (c.in_ok-write_message.ensures.written told)) in
     let has : Each m (StandsAt r.second message) q.disk =
     at_settled m row message r.second w.disk q.disk c.requires.ready.from written c.stage.ensures.moves c.in_ok-stage.ensures.settled in
     let selects : Each m (Selects q.parity r.first r.second) q.disk = subst (λ (f : ℕ × ℕ). Each m (Selects q.parity f.0 f.1) q.disk) same was.ready.each in

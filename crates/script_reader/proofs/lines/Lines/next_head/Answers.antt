@@ -1,5 +1,5 @@
 use Rattle.std.proofs.Common.{◌≡◌, ap, inl, refl, ◌∙◌, sym, subst, arith}
-use Rattle.script_reader.specs.Lines.{IsUnended, IsReady}
+use Rattle.script_reader.specs.Lines.{IsUnended, LineIsReady}
 use Rattle.script_reader.specs.Heads.{lined_with}
 use Rattle.script_reader.proofs.LineEnds.{not_ended, too_long, bad_come, unready, Keeps-then}
 use Rattle.script_reader.proofs.NextLaws.{first_next, last_next}
@@ -63,7 +63,7 @@ returns-in-Err-clause-reads g c =
     let fill = c.in-Err.ensures in (
       c.fill.new.self.held,
       reads_kept _ c.turns.self.held _ _ _ _ c.turns.invariant.4 fill.fills.1 fill.fills.0,
-      (refl, λ ready. unready c.turns.self.held (rw (← c.held.ensures.held) (sym c.line_end.ensures ∙ c.in_default.is)) (rw (← c.held-in-turns.ensures.held) c.if-held-gt2400.false) (subst IsReady fill.fills.0 ready)),
+      (refl, λ ready. unready c.turns.self.held (rw (← c.held.ensures.held) (sym c.line_end.ensures ∙ c.in_default.is)) (rw (← c.held-in-turns.ensures.held) c.if-held-gt2400.false) (subst LineIsReady fill.fills.0 ready)),
     )
 
 pub returns-in-Err-clause-unasked : goal.returns-in-Err-clause-unasked

@@ -1,6 +1,6 @@
 use Rattle.std.proofs.Common.{◌≡◌, ℕ, ◌+◌, length, ◌∙◌, ap, refl, subst, arith}
 use Rattle.std.proofs.lemmas.Result.{on_ok_weaker}
-use Rattle.disk_model.specs.Disk.{Torn, Holds}
+use Rattle.disk_model.specs.Disk.{Torn, IsWritten}
 use Rattle.disk_model.proofs.Run.{weaker}
 use Rattle.stable_buffer.specs.Register.{Selects}
 use Rattle.stable_buffer.specs.Stands.{StandsOn, slot_of, spelled}
@@ -18,7 +18,7 @@ returns-clause-slot g c =
     (λ written told. let new = m.reading c.write_message.new.self.disk in
     slot_written s.row s.register.first c.value-number.result.0 message (spelled message) old new
     c.requires.ready.ranges.some number refl c.requires.fits (let stands = c.requires.ready.stands told in stands.2.size)
-    (subst (λ p. Holds old p (spelled message) new) c.place-at.ensures.place (written told)))
+    (subst (λ p. IsWritten old p (spelled message) new) c.place-at.ensures.place (written told)))
     c.write_message.ensures.written
 
 pub returns-clause-moves : goal.returns-clause-moves

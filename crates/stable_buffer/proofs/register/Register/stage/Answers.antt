@@ -1,5 +1,5 @@
 use Rattle.std.proofs.Common.{◌≡◌, ◌∙◌, ℕ, ◌-◌, length, ap, subst, arith}
-use Rattle.disk_model.specs.Disk.{Meaning, Moves, Holds, Torn, Leaves}
+use Rattle.disk_model.specs.Disk.{Meaning, Moves, IsWritten, Torn, Leaves}
 use Rattle.disk_model.proofs.Run.{weaker, each_after, each_settled, leaves}
 use Rattle.stable_buffer.specs.Register.{Selects, HoldsNext, KeepsValue, IsReady, place_of, value_of}
 use Rattle.stable_buffer.specs.declared.register.Register.{Register}
@@ -33,7 +33,7 @@ returns-clause-staged g c =
       next = each_settled m (HoldsNext r.parity c.args.first c.args.second) c.write_and_sync.new.disk c.in_default.ensures.settled
           (λ told. let is = c.requires.each.reading told in
           cell_written c.args.first c.args.second (m.reading r.disk) at (m.reading c.write_and_sync.new.disk) (omega arith) (omega arith) (omega (arith, is.size))
-          (subst (λ bytes. Holds (m.reading r.disk) at bytes (m.reading c.write_and_sync.new.disk)) c.cell_of-cell.ensures (c.in_default.ensures.written told)));
+          (subst (λ bytes. IsWritten (m.reading r.disk) at bytes (m.reading c.write_and_sync.new.disk)) c.cell_of-cell.ensures (c.in_default.ensures.written told)));
     }
 
 pub returns-clause-moves : goal.returns-clause-moves

@@ -7,23 +7,23 @@ use Rattle.script_reader.specs.declared.line.Line.{Line}
 use Rattle.script_reader.specs.declared.line.Line.TheVariants as lines
 use Rattle.script_reader.specs.declared.event.Event.{Event}
 use Rattle.script_reader.specs.Steps as script
-use Rattle.script_reader.specs.Tolds.{LowPast}
-use Rattle.script_reader.specs.Scripts.{LowRunning, Alone, GoesAlone, LeadTo}
+use Rattle.script_reader.specs.Alone.{PastAlone}
+use Rattle.script_reader.specs.Scripts.{RunningAlone, Alone, GoesAlone, LeadTo}
 use Rattle.two_worlds.specs.Timelines.{arrived, AreLeft}
 
 -- the opening of the low side's one life, and what happened since, the newest first
-abbrev pub side_of : LowPast → List Timed → Side
+abbrev pub side_of : PastAlone → List Timed → Side
 side_of p events = record { opening = p.history.life.opening; events = events }
 
 -- this came to the low side, and these looks it made: each look that may take something was offered what
 -- came first and was not taken, and what waits came on the connection that stands and was not taken
-pub record IsLowTimeline (row : SessionRow) (p : LowPast) (events : List Timed) : Type 0 where
+pub record IsTimelineAlone (row : SessionRow) (p : PastAlone) (events : List Timed) : Type 0 where
   pub sides : HasSides row (side_of p events ∷ []) p.history
   pub waits : AreLeft (comings events) sides.1.0 p.waits p.is_broken
 
 -- a `told` line is what comes with it and one look, a `gone` line one look with the news that the
 -- connection is lost, each with some feedback
-abbrev pub AreEvents : LowPast → Line → List Timed → Type 0
+abbrev pub AreEvents : PastAlone → Line → List Timed → Type 0
 AreEvents p (lines.Told session m w fault told a) events =
     (c : script.LineComing) × script.Arrives session p.reading a c × (came : List Coming)
     × (c.added ≡ map arrived came)
@@ -33,16 +33,16 @@ AreEvents p _ events = ⊥
 
 -- the low side of the past p, to which this happened, came to the past q by this line: the line's events
 -- happened next
-abbrev pub LowGoesOn : SessionRow → LowPast → Line → List Timed → LowPast → Type 0
-LowGoesOn row p line events q = (more : List Timed) × IsLowTimeline row q (more ++ events) × AreEvents p line more
+abbrev pub GoesOnAlone : SessionRow → PastAlone → Line → List Timed → PastAlone → Type 0
+GoesOnAlone row p line events q = (more : List Timed) × IsTimelineAlone row q (more ++ events) × AreEvents p line more
 
 -- a line goes on with whatever happened to its low side
 abbrev pub LowLinesAreEvents : Type 0
-LowLinesAreEvents = (s : LowRunning) (line : Line) (q : LowPast) (printed : List Event) (events : List Timed)
+LowLinesAreEvents = (s : RunningAlone) (line : Line) (q : PastAlone) (printed : List Event) (events : List Timed)
     → GoesAlone s line (Some (Alone (record { row = s.row; past = q }))) printed
-    → IsLowTimeline s.row s.past events → LowGoesOn s.row s.past line events q
+    → IsTimelineAlone s.row s.past events → GoesOnAlone s.row s.past line events q
 
 -- what came to a script's low side alone, and the looks that it made
 abbrev pub LowScriptsAreTimed : Type 0
-LowScriptsAreTimed = (script : List Line) (s : LowRunning) (printed : List Event)
-    → LeadTo None script (Some (Alone s)) printed → (events : List Timed) × IsLowTimeline s.row s.past events
+LowScriptsAreTimed = (script : List Line) (s : RunningAlone) (printed : List Event)
+    → LeadTo None script (Some (Alone s)) printed → (events : List Timed) × IsTimelineAlone s.row s.past events

@@ -22,7 +22,7 @@ use Rattle.script_reader.specs.Lows.{first_of, is_bad, is_owed, comes_again, pri
 use Rattle.script_reader.specs.Steps.{LineComing, Arrives}
 
 -- what a low side alone has been through
-pub record LowPast : Type 0 where
+pub record PastAlone : Type 0 where
   -- the low history, each look with its arrival and its feedback
   pub history : History
   -- what came on the low connection and was not taken, whether bad bytes were taken on it, and what
@@ -36,8 +36,8 @@ pub record LowPast : Type 0 where
   pub moment : ℕ
 
 -- before its first line: so many messages are stored, and the last one is in the low hand or not
-abbrev pub fresh_low : ℕ → Bool → LowPast
-fresh_low next held = record {
+abbrev pub fresh_alone : ℕ → Bool → PastAlone
+fresh_alone next held = record {
   history = first_life (record { count = next; is_held = held });
   waits = [];
   is_broken = false;
@@ -103,7 +103,7 @@ begins_store row o before a = may_take o before && comes_next row (count_after o
 
 -- the look x, which is told this, leads from p to q, and prints this; its store fails exactly where the
 -- disk is armed
-pub record IsToldLook (row : SessionRow) (p : LowPast) (told : ToldFeedback) (x : Look) (q : LowPast) (printed : List Event) : Type 0 where
+pub record IsToldLook (row : SessionRow) (p : PastAlone) (told : ToldFeedback) (x : Look) (q : PastAlone) (printed : List Event) : Type 0 where
   -- the life without the look and with it, cut into exchanges
   pub before : List Part
   pub cut : IsCut row p.history.life before
@@ -129,46 +129,46 @@ pub record IsToldLook (row : SessionRow) (p : LowPast) (told : ToldFeedback) (x 
       ++ (printed_feedback row.id x.moment x.feedback ++ printed_replies row.id new)
 
 -- a look at m with the word w and this arrival, in which the disk fails or not
-abbrev pub IsToldAt : SessionRow → LowPast → ℕ → ℕ → ToldFeedback → Arrival → Bool → LowPast → List Event → Type 0
+abbrev pub IsToldAt : SessionRow → PastAlone → ℕ → ℕ → ToldFeedback → Arrival → Bool → PastAlone → List Event → Type 0
 IsToldAt row p m w told a is_fault q printed = (f : Feedback)
     × IsToldLook row p told (record { moment = m; word = w; arrival = a; is_fault = is_fault; feedback = f }) q printed
 
 -- ---- what comes before a look ----
 
 -- the past with what comes added; a fault that is told arms the disk
-abbrev pub joined_low : LowPast → Bool → LineComing → LowPast
-joined_low p fault c = record p { waits = p.waits ++ c.added; reading = c.reading; is_armed = p.is_armed || fault }
+abbrev pub joined_alone : PastAlone → Bool → LineComing → PastAlone
+joined_alone p fault c = record p { waits = p.waits ++ c.added; reading = c.reading; is_armed = p.is_armed || fault }
 
 -- the past after the connection is lost: nothing waits, and a new connection begins
-abbrev pub lost_low : LowPast → LowPast
-lost_low p = record p { waits = []; is_broken = false; reading = Within [] }
+abbrev pub lost_alone : PastAlone → PastAlone
+lost_alone p = record p { waits = []; is_broken = false; reading = Within [] }
 
 -- the look is offered what waits, of which there are at most 64
-abbrev pub IsOfferedTold : SessionRow → LowPast → ℕ → ℕ → ToldFeedback → Bool → LowPast → List Event → Type 0
+abbrev pub IsOfferedTold : SessionRow → PastAlone → ℕ → ℕ → ToldFeedback → Bool → PastAlone → List Event → Type 0
 IsOfferedTold row p m w told is_fault q printed =
     (length p.waits ≤ 64) × IsToldAt row p m w told (first_of p.is_broken p.waits) is_fault q printed
 
 -- ---- lines ----
 
 -- the line is one for a low side alone, names this session, and no moment falls
-abbrev pub is_timely_low : SessionRow → LowPast → Line → Bool
-is_timely_low row p (lines.Told session m w fault told a) = session == row.id && nat_le p.moment m
-is_timely_low row p (lines.Gone session m) = session == row.id && nat_le p.moment m
-is_timely_low row p _ = false
+abbrev pub is_timely_alone : SessionRow → PastAlone → Line → Bool
+is_timely_alone row p (lines.Told session m w fault told a) = session == row.id && nat_le p.moment m
+is_timely_alone row p (lines.Gone session m) = session == row.id && nat_le p.moment m
+is_timely_alone row p _ = false
 
 -- with what comes with the line, more than 64 arrivals would wait
-abbrev pub IsCrowdedLow : LowPast → Line → Type 0
-IsCrowdedLow p (lines.Told session m w fault told a) =
-    (c : LineComing) × Arrives session p.reading a c × (64 < length (joined_low p fault c).waits)
-IsCrowdedLow p line = ⊥
+abbrev pub IsCrowdedAlone : PastAlone → Line → Type 0
+IsCrowdedAlone p (lines.Told session m w fault told a) =
+    (c : LineComing) × Arrives session p.reading a c × (64 < length (joined_alone p fault c).waits)
+IsCrowdedAlone p line = ⊥
 
 -- the line can't be applied
-abbrev pub IsRefusedAlone : SessionRow → LowPast → Line → Type 0
-IsRefusedAlone row p line = (is_timely_low row p line ≡ false) ⊎ IsCrowdedLow p line
+abbrev pub IsRefusedAlone : SessionRow → PastAlone → Line → Type 0
+IsRefusedAlone row p line = (is_timely_alone row p line ≡ false) ⊎ IsCrowdedAlone p line
 
 -- the line leads from p to q and prints this, and the disk fails in it or not
-abbrev pub StepLow : SessionRow → LowPast → Line → Bool → LowPast → List Event → Type 0
-StepLow row p (lines.Told session m w fault told a) is_fault q printed =
-    (c : LineComing) × Arrives session p.reading a c × IsOfferedTold row (joined_low p fault c) m w told is_fault q printed
-StepLow row p (lines.Gone session m) is_fault q printed = IsToldAt row (lost_low p) m 0 Quiet Gone is_fault q printed
-StepLow row p _ is_fault q printed = ⊥
+abbrev pub StepAlone : SessionRow → PastAlone → Line → Bool → PastAlone → List Event → Type 0
+StepAlone row p (lines.Told session m w fault told a) is_fault q printed =
+    (c : LineComing) × Arrives session p.reading a c × IsOfferedTold row (joined_alone p fault c) m w told is_fault q printed
+StepAlone row p (lines.Gone session m) is_fault q printed = IsToldAt row (lost_alone p) m 0 Quiet Gone is_fault q printed
+StepAlone row p _ is_fault q printed = ⊥

@@ -8,7 +8,7 @@ ghost use Rattle.stable_buffer.specs.High.{IsHighReady, high_count};
 ghost use Rattle.pump_core.specs.Passage.{Low, High};
 ghost use Rattle.recovery.specs.Refusals.{refused_pump};
 ghost use Rattle.recovery.specs.Calls.{Calls, CallsHigh, is_device, low_failed, high_failed, low_left, high_left};
-ghost use Rattle.recovery.specs.Deals.{numbered, passing, InHands, Fills};
+ghost use Rattle.recovery.specs.Deals.{IsDealt, HandsFit};
 ghost use Rattle.recovery.specs.declared.why.Why.TheVariants.{Device};
 
 use crate::Why;
@@ -59,11 +59,10 @@ pub fn open_pump<D: Disk, L: LowEnd>(
     ensures counts { IfOk result (λ o. (low_count o.low ≡ o.next) × (high_count o.high ≡ o.removed)) }
     ensures dealt { IfOk result (λ o. (messages : List (List ℕ))
         × (D.told.tells → LowStands row.now o.next o.removed messages (D.told.reading low))
-        × (o.removed + length messages ≡ o.next)
-        × (o.next ≤ o.removed + row.now.capacity)
-        × InHands row.now.capacity (numbered o.removed messages) o.high_hand o.low_hand
-        × Fills (L.stands ends.old) (L.stands ends.new)
-        (passing row.now.capacity (numbered o.removed messages))) }
+        × IsDealt row.now o.removed o.next messages o.high_hand o.low_hand
+        (L.stands ends.old) (L.stands ends.new)) }
+    ensures hands { IfOk result (λ o.
+        HandsFit row.now.capacity o.removed o.next o.high_hand o.low_hand) }
     ensures removed { IfOk result (λ o. D.told.tells
         → HighStands row.now o.removed (D.told.reading high)) }
 

@@ -4,6 +4,8 @@ use Rattle.disk_model.proofs.Run.{goes_on_same}
 use Rattle.recovery.specs.Calls.{Calls}
 use Rattle.recovery.specs.Deals.{InSlots}
 use Rattle.recovery.proofs.Calls.{gone_on, stopped}
+use Rattle.recovery.proofs.Refill.{hands_fit}
+use Rattle.recovery.proofs.Rows.{row_capacity}
 use Rattle.recovery.proofs.pump.open_pump.Goals as goal
 
 pub returns-in-Err-clause-calls_high : goal.returns-in-Err-clause-calls_high
@@ -41,7 +43,7 @@ returns-in-Ok-deal-clause-dealt g c =
     let low = c.in-Ok.low in
     let row = c.args.row.now in
     let r = c.removed-removed.result in
-    let (ms, count, slots, hands, fills) = c.in-Ok-deal.ensures.dealt in
+    let (ms, slots, dealt) = c.in-Ok-deal.ensures.dealt in
     let next : c.accepted-next.result ≡ low.register.first = c.accepted-next.ensures in (
       ms,
       (λ told.
@@ -51,11 +53,21 @@ returns-in-Ok-deal-clause-dealt g c =
             size = s.size;
             value = s.value ∙ (λ i. (sym next i, 0));
             kept = omega (arith, c.if-next-removed.false, c.if-removed-next.false);
-            count = omega (arith, count, next);
+            count = omega (arith, dealt.count, next);
             slots = subst (λ (z : List ℕ). InSlots row r ms z) (c.in-Ok.ensures.same.reads told) (slots told);
           }),
-      omega (arith, count, next),
-      omega (arith, c.if-next-removed.false, c.if-removed-next.false),
-      hands,
-      fills,
+      record {
+        count = omega (arith, dealt.count, next);
+        places = omega (arith, dealt.places, next);
+        short = dealt.short;
+        hands = dealt.hands;
+        fills = dealt.fills;
+      },
     )
+
+pub returns-in-Ok-deal-clause-hands : goal.returns-in-Ok-deal-clause-hands
+returns-in-Ok-deal-clause-hands g c =
+    let row = c.args.row.now in
+    let (ms, slots, dealt) = c.in-Ok-deal.ensures.dealt in
+    let next : c.accepted-next.result ≡ c.in-Ok.low.register.first = c.accepted-next.ensures in
+    hands_fit row.capacity c.removed-removed.result c.accepted-next.result ms c.in-Ok-deal.hands.high c.in-Ok-deal.hands.low (row_capacity row c.requires.lawful).0 (omega (arith, dealt.count, next)) (omega (arith, dealt.places, next)) dealt.hands

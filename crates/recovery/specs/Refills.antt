@@ -1,13 +1,9 @@
 -- The numbers that an opening deals out are those of the world that opens.
-use Rattle.std.specs.Prelude.{◌≡◌, ℕ, ◌+◌, ◌≤◌, List, [], ◌∷◌, length, Option, Some, None}
+use Rattle.std.specs.Prelude.{◌≡◌, ℕ, ◌+◌, ◌≤◌, List, [], ◌∷◌, length, Option}
 use Rattle.pump_core.specs.World.{World, refilled}
 use Rattle.pump_frame.specs.Rows.{least_capacity}
 use Rattle.pump_frame.specs.declared.frame.Item.{Item}
-use Rattle.recovery.specs.Deals.{numbered, passing, InHands}
-
-abbrev pub number_of : Option Item → Option ℕ
-number_of None = None
-number_of (Some x) = Some x.number
+use Rattle.recovery.specs.Deals.{number_of, numbered, passing, InHands}
 
 abbrev pub numbers_in : List Item → List ℕ
 numbers_in [] = []

@@ -11,6 +11,7 @@ pub mod Highs
 pub mod Lawful
 pub mod Lines
 pub mod Lows
+pub mod Openings
 pub mod Parsing
 pub mod Past
 pub mod Readouts

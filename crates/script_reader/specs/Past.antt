@@ -22,6 +22,8 @@ pub record Past : Type 0 where
   pub reading : Reading
   -- what was accepted, the hands and what is held, the receiver's list, the packets
   pub world : World
+  -- so many TAKEN were sent before the session began
+  pub returned_before : ℕ
   -- the times that were published since the opening, the oldest first
   pub times : List ℕ
   -- the sendings since the opening, the newest first
@@ -37,6 +39,7 @@ fresh row = record {
   is_broken = false;
   reading = Within [];
   world = worlds.empty row.capacity;
+  returned_before = 0;
   times = [];
   sends = [];
   moment = 0;

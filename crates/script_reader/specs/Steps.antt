@@ -1,5 +1,5 @@
 -- What a line of a script does to its session, and what is printed.
-use Rattle.std.specs.Prelude.{◌≡◌, ◌⊎◌, ℕ, ◌<◌, ◌≤◌, ◌+◌, ◌^◌, Bool, false, ◌&&◌, ◌||◌, ◌==◌, not, nat_lt, nat_le, min, List, [], ◌∷◌, ◌++◌, map, length, option_to_list, Option, Some, None}
+use Rattle.std.specs.Prelude.{◌≡◌, ◌⊎◌, ℕ, ◌<◌, ◌≤◌, ◌+◌, ◌-◌, ◌^◌, Bool, false, ◌&&◌, ◌||◌, ◌==◌, not, nat_lt, nat_le, min, List, [], ◌∷◌, ◌++◌, map, length, option_to_list, Option, Some, None}
 use Rattle.pump_frame.specs.Frames.{greeting}
 use Rattle.pump_frame.specs.declared.frame.Frame.{Frame}
 use Rattle.pump_frame.specs.declared.frame.Kind.TheVariants as kinds
@@ -73,9 +73,9 @@ lost p = record p { waits = []; is_broken = false; reading = Within [] }
 abbrev pub goes_on : World → Bool
 goes_on w = nat_lt 0 (length (option_to_list w.high_hand ++ w.held))
 
--- so many of the packets that were ever sent are kept
-abbrev pub kept : {X : Type 0} → List X → ℕ
-kept packets = min 64 (length packets)
+-- so many of the packets that were sent since the session began are kept
+abbrev pub kept : {X : Type 0} → ℕ → List X → ℕ
+kept before packets = min 64 (length packets - before)
 
 -- the line is one for a whole session, names this one, no moment falls, a packet that it names is kept,
 -- and the return of `done` is at a moment of at most 2^62
@@ -87,9 +87,9 @@ is_timely row p (lines.Told session m w fault told a) = false
 is_timely row p (lines.Look session m w a) = session == row.id && nat_le p.moment m
 is_timely row p (lines.Gone session m) = session == row.id && nat_le p.moment m
 is_timely row p (lines.High session m) = session == row.id && nat_le p.moment m
-is_timely row p (lines.Carry session back) = session == row.id && nat_lt back (kept p.world.sent)
+is_timely row p (lines.Carry session back) = session == row.id && nat_lt back (kept 0 p.world.sent)
 is_timely row p (lines.Return session m back) =
-    session == row.id && (nat_le p.moment m && nat_lt back (kept p.world.returned))
+    session == row.id && (nat_le p.moment m && nat_lt back (kept p.returned_before p.world.returned))
 is_timely row p (lines.Done session m t) =
     session == row.id && (nat_le p.moment m && (not (goes_on p.world) || nat_le (m + t) (2 ^ 62)))
 

@@ -1,5 +1,5 @@
 -- What the parts of a pump stand for between two lines of a script.
-use Rattle.std.specs.Prelude.{◌≡◌, ℕ, ◌≤◌, Bool, false, ◌||◌, not, List, map, length, slice_get, Option, Some, None}
+use Rattle.std.specs.Prelude.{◌≡◌, ℕ, ◌≤◌, Bool, false, ◌||◌, not, List, map, length, drop, slice_get, Option, Some, None}
 use Rattle.std.specs.List.{All, AllByRecursion}
 use Rattle.circular_buffer.specs.Buffer.{keep_last}
 use Rattle.disk_model.specs.Disk.{Meaning}
@@ -56,12 +56,13 @@ pub record Kept : Type 0 where
   -- how many messages the receiver has, and where their records end
   pub received : ℕ
   pub end : ℕ
-  -- the packets that were sent last
+  -- the packets that were sent last. So many TAKEN were sent before the session began
   pub sent : List Item
+  pub returned_before : ℕ
   pub returned : List ℕ
 
-abbrev pub kept_of : {D : Type 0} → Parts D → Kept
-kept_of c = record {
+abbrev pub kept_of : {D : Type 0} → ℕ → Parts D → Kept
+kept_of returned_before c = record {
   capacity = c.row.capacity;
   low_hand = low.hand_of c.low;
   held = held_in c.ends;
@@ -71,6 +72,7 @@ kept_of c = record {
   received = recv_count c.receiver;
   end = recv_end c.receiver;
   sent = c.sent.items;
+  returned_before = returned_before;
   returned = c.returned.items;
 }
 
@@ -88,7 +90,7 @@ pub record HoldsWorld (k : Kept) (w : World) : Type 0 where
   pub received : length w.received ≡ k.received
   pub end : log_end w.received ≡ k.end
   pub sent : k.sent ≡ keep_last 64 w.sent
-  pub returned : k.returned ≡ keep_last 64 w.returned
+  pub returned : (k.returned_before ≤ length w.returned) × (k.returned ≡ keep_last 64 (drop k.returned_before w.returned))
 
 -- ---- the parts ----
 
@@ -164,7 +166,7 @@ pub record Stands {D : Type 0} (m : Meaning D) (c : Parts D) (p : Past) : Type 0
   pub row : IsLawfulRow c.row
   pub moment : c.moment ≡ p.moment
   pub sound : IsSound c.row p
-  pub world : HoldsWorld (kept_of c) p.world
+  pub world : HoldsWorld (kept_of p.returned_before c) p.world
   pub arrivals : KeepsArrivals c p
   pub low_ready : LowIsReady m c p
   pub high_ready : HighIsReady m c p

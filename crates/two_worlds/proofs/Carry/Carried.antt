@@ -1,8 +1,9 @@
 -- A DATA that comes to the receiver of parts, in the world.
-use Rattle.std.proofs.Common.{◌≡◌, inl, inr, ℕ, ◌+◌, ◌-◌, ◌^◌, ◌≤◌, ◌<◌, Bool, true, false, cond, List, [], ◌∷◌, ◌++◌, length, None, Some, refl, sym, ap, ◌∙◌, subst, arith, nat_lt}
+use Rattle.std.proofs.Common.{◌≡◌, inl, inr, ℕ, ◌+◌, ◌-◌, ◌^◌, ◌≤◌, ◌<◌, Bool, true, false, cond, List, [], ◌∷◌, ◌++◌, length, drop, None, Some, refl, sym, ap, ◌∙◌, subst, arith, nat_lt}
 use Rattle.std.specs.Prelude.{slice_get, ◌&&◌, ◌==◌}
 use Rattle.std.proofs.lemmas.Bool.Decides.{nat_tests}
 use Rattle.std.proofs.lemmas.Option.{slice_get_within}
+use Rattle.std.proofs.lemmas.List.{drop-append-le}
 use Rattle.circular_buffer.specs.Buffer.{keep_last}
 use Rattle.disk_model.specs.Disk.{Meaning}
 use Rattle.pump_frame.specs.declared.row.SessionRow.{SessionRow}
@@ -97,10 +98,19 @@ module _ {D : Type 0} (m : Meaning D) (c : Parts D) (p : Past) (back : ℕ) (pac
   pub lawful_again : packet.number < recv_count c.receiver → IsLawful again
   lawful_again lt = runs_lawfully p.world (CarryData (place p.world.sent back) ∷ []) again stands.sound.lawful (again, carries_again lt, refl)
 
-  returned_is : (returned : List ℕ) → returned ≡ keep_last 64 (c.returned.items ++ packet.number ∷ []) → returned ≡ keep_last 64 (p.world.returned ++ packet.number ∷ [])
-  returned_is returned e = e ∙ ap (λ (l : List ℕ). keep_last 64 (l ++ packet.number ∷ [])) stands.world.returned ∙ keep_last_push p.world.returned packet.number
+  -- these are the TAKEN that are kept once this one was sent too
+  abbrev KeepsWith : List ℕ → ℕ → Type 0
+  KeepsWith returned n = (p.returned_before ≤ length (p.world.returned ++ n ∷ [])) × (returned ≡ keep_last 64 (drop p.returned_before (p.world.returned ++ n ∷ [])))
 
-  pub holds_again : (returned : List ℕ) → returned ≡ keep_last 64 (c.returned.items ++ packet.number ∷ []) → HoldsWorld (record (kept_of c) { returned = returned }) again
+  returned_is : (returned : List ℕ) → returned ≡ keep_last 64 (c.returned.items ++ packet.number ∷ []) → KeepsWith returned packet.number
+  returned_is returned e =
+      let (le, kept) = stands.world.returned in (
+        omega (arith, le, length-push p.world.returned packet.number),
+        e ∙ ap (λ (l : List ℕ). keep_last 64 (l ++ packet.number ∷ [])) kept ∙ keep_last_push (drop p.returned_before p.world.returned) packet.number
+            ∙ ap (keep_last 64) (sym (drop-append-le p.returned_before p.world.returned (packet.number ∷ []) le)),
+      )
+
+  pub holds_again : (returned : List ℕ) → returned ≡ keep_last 64 (c.returned.items ++ packet.number ∷ []) → HoldsWorld (record (kept_of p.returned_before c) { returned = returned }) again
   holds_again returned e = record {
     capacity = stands.world.capacity;
     low_hand = stands.world.low_hand;
@@ -161,7 +171,7 @@ module _ {D : Type 0} (m : Meaning D) (c : Parts D) (p : Past) (back : ℕ) (pac
   pub holds_taken : (returned : List ℕ) (received end : ℕ) → packet.number ≡ recv_count c.receiver
       → returned ≡ keep_last 64 (c.returned.items ++ packet.number ∷ [])
       → received ≡ recv_count c.receiver + 1 → end ≡ recv_end c.receiver + 2 + length packet.payload
-      → HoldsWorld (record (kept_of c) { returned = returned; received = received; end = end }) taken
+      → HoldsWorld (record (kept_of p.returned_before c) { returned = returned; received = received; end = end }) taken
   holds_taken returned received end e is counts ends = record {
     capacity = stands.world.capacity;
     low_hand = stands.world.low_hand;
@@ -175,7 +185,7 @@ module _ {D : Type 0} (m : Meaning D) (c : Parts D) (p : Past) (back : ℕ) (pac
     received = length-push p.world.received packet.payload ∙ ap (λ (n : ℕ). n + 1) stands.world.received ∙ sym counts;
     end = log_end_push p.world.received packet.payload ∙ same_end ∙ sym ends;
     sent = stands.world.sent;
-    returned = returned_is returned is ∙ ap (λ (n : ℕ). keep_last 64 (p.world.returned ++ n ∷ [])) (e ∙ sym stands.world.received);
+    returned = subst (KeepsWith returned) (e ∙ sym stands.world.received) (returned_is returned is);
   }
 
   pub rest_taken : IsAtRest taken

@@ -60,7 +60,7 @@ module _ {D : Type 0} (m : Meaning D) (c : Parts D) (p : Past) (back : ℕ) (pac
 
   -- the parts stand for the world that this leads to
   stands_on : (returned : Buffer ℕ) (u : World) → returned.capacity ≡ c.returned.capacity
-      → HoldsWorld (record (kept_of c) { returned = returned.items; received = recv_count new; end = recv_end new }) u
+      → HoldsWorld (record (kept_of p.returned_before c) { returned = returned.items; received = recv_count new; end = recv_end new }) u
       → IsAtRest u → IsLawful u → u.accepted ≡ p.world.accepted → u.sent ≡ p.world.sent
       → IsRecvReady m new → recv_row new ≡ c.row → recv_size new ≡ receiver_size
       → DisksFit m c.row (low_disk c.low_store) (high_disk c.high_store) (recv_disk new) u
@@ -121,7 +121,7 @@ module _ {D : Type 0} (m : Meaning D) (c : Parts D) (p : Past) (back : ℕ) (pac
       record { low_disk = stands.disks.low_disk; high_disk = stands.disks.high_disk; recv_disk = stands.disks.recv_disk } in
       leads returned u u answers.Repeat out (led.no_overfill_again m c p back packet stands less at a.0) (led.carries_again m c p back packet stands less at a.0)
       (led.takes_nothing m c p back packet stands less at) (prints_by true answers.Repeat test refl)
-      (stands_on returned u is.1 (subst (λ (r : Receiver D). HoldsWorld (record (kept_of c) { returned = returned.items; received = recv_count r; end = recv_end r }) u) (sym a.1) (led.holds_again m c p back packet stands less at returned.items is.0))
+      (stands_on returned u is.1 (subst (λ (r : Receiver D). HoldsWorld (record (kept_of p.returned_before c) { returned = returned.items; received = recv_count r; end = recv_end r }) u) (sym a.1) (led.holds_again m c p back packet stands less at returned.items is.0))
       (led.rest_again m c p back packet stands less at) (led.lawful_again m c p back packet stands less at a.0) refl refl
       (subst (λ (r : Receiver D). IsRecvReady m r) (sym a.1) stands.recv_ready.ready) (ap (λ (r : Receiver D). recv_row r) a.1 ∙ stands.recv_ready.row) (ap (λ (r : Receiver D). recv_size r) a.1 ∙ stands.recv_ready.size)
       (subst (λ (r : Receiver D). DisksFit m c.row (low_disk c.low_store) (high_disk c.high_store) (recv_disk r) u) (sym a.1) disks))

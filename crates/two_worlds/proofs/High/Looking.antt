@@ -141,7 +141,7 @@ module _ {D : Type 0} (m : Meaning D) (c : Parts D) (p : Past) (stands : Stands 
       abbrev time : Option ℕ
       time = time_in m c p stands moment
 
-      kept : HoldsWorld (record (kept_of c) { removed = past.removed + 1; high_hand = None }) u
+      kept : HoldsWorld (record (kept_of p.returned_before c) { removed = past.removed + 1; high_hand = None }) u
       kept = record {
         capacity = stands.world.capacity;
         low_hand = stands.world.low_hand;

@@ -1,20 +1,26 @@
 -- The TAKEN that comes back: it is among those that were sent, and is put into the frame at hand.
-use Rattle.std.proofs.Common.{◌≡◌, ℕ, ◌<◌, List, Some, length, subst}
+use Rattle.std.proofs.Common.{◌≡◌, ℕ, ◌+◌, ◌-◌, ◌<◌, List, Some, length, drop, sym, ap, ◌∙◌, subst, arith, length-drop}
 use Rattle.std.specs.Prelude.{slice_get}
+use Rattle.circular_buffer.specs.Buffer.{keep_last}
 use Rattle.disk_model.specs.Disk.{Meaning}
 use Rattle.script_reader.specs.Past.{Past}
 use Rattle.script_reader.specs.Highs.{place}
 use Rattle.two_worlds.specs.Private.HighLooks.{ComesBack}
 use Rattle.two_worlds.specs.Standing.{Stands}
 use Rattle.two_worlds.specs.declared.pump.parts.Parts.{Parts}
-use Rattle.two_worlds.proofs.Carry.Packets.{in_whole}
+use Rattle.two_worlds.proofs.Carry.Packets.{in_whole, get_drop}
 
 -- the number that is found so many places before the last one stands there in the whole list
 pub number_comes : {D : Type 0} (m : Meaning D) (c : Parts D) (p : Past) → Stands m c p → (back n : ℕ) → back < length c.returned.items
     → slice_get c.returned.items (place c.returned.items back) ≡ Some n → slice_get p.world.returned (place p.world.returned back) ≡ Some n
 number_comes m c p s back n less at =
-    in_whole p.world.returned back n (subst (λ (l : List ℕ). back < length l) s.world.returned less)
-    (subst (λ (l : List ℕ). slice_get l (place l back) ≡ Some n) s.world.returned at)
+    let before = p.returned_before in
+    let all = p.world.returned in
+    let kept = s.world.returned.1 in
+    let within : back < length (keep_last 64 (drop before all)) = subst (λ (l : List ℕ). back < length l) kept less in
+    let there = in_whole (drop before all) back n within (subst (λ (l : List ℕ). slice_get l (place l back) ≡ Some n) kept at) in
+    let e : before + place (drop before all) back ≡ place all back = omega (arith, within, length-drop before all, length-drop (length (drop before all) - 64) (drop before all)) in
+    ap (slice_get all) (sym e) ∙ sym (get_drop before all (place (drop before all) back)) ∙ there
 
 -- ---- the frame at hand ----
 

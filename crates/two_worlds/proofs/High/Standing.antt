@@ -44,7 +44,7 @@ module _ {D : Type 0} (m : Meaning D) (c : Parts D) (p : Past) (stands : Stands 
     (ready : IsHighReady m store) (count : high_count store ≡ high.removed_of q) (up : high.is_down q ≡ false) (between : high.IsBetweenLooks q)
     (row : high.row_of q ≡ high.row_of c.high) (shape : shape_of ends ≡ shape_of c.ends)
     (removed : ℕ) (hand : Option Item) (w : World) (times : List ℕ)
-    (kept : HoldsWorld (record (kept_of c) { removed = removed; high_hand = hand }) w) (rest : IsAtRest w) (lawful : IsLawful w)
+    (kept : HoldsWorld (record (kept_of p.returned_before c) { removed = removed; high_hand = hand }) w) (rest : IsAtRest w) (lawful : IsLawful w)
     (fits : All (λ (x : Payload). length x ≤ c.row.message) w.accepted) (few_sends : length p.sends ≤ length w.sent)
     (disks : DisksFit m c.row (low_disk c.low_store) (high_disk store) (recv_disk c.receiver) w) where
   -- what the first part left
@@ -52,7 +52,7 @@ module _ {D : Type 0} (m : Meaning D) (c : Parts D) (p : Past) (stands : Stands 
   mid = record p { world = w; times = times }
 
   abbrev k : Kept
-  k = record (kept_of c) { removed = removed; high_hand = hand }
+  k = record (kept_of p.returned_before c) { removed = removed; high_hand = hand }
 
   abbrev past : high_past.ProcessPast
   past = past_of k mid times (high.last_of c.high)
@@ -75,9 +75,9 @@ module _ {D : Type 0} (m : Meaning D) (c : Parts D) (p : Past) (stands : Stands 
       (stood : HighStandsFor q (record past { hand = now; sends = (if b then record { number = removed; moment = moment } ∷ past.sends else past.sends); moment = moment }))
       (sent_is : sent ≡ (if b then Some removed else None)) where
     abbrev kept_by : Option Item → ℕ → Option ℕ → Kept
-    kept_by h r o = record (kept_of c) { high_hand = h; removed = r; held = held_in ends; sent = (packets_after o h c.sent).items }
+    kept_by h r o = record (kept_of p.returned_before c) { high_hand = h; removed = r; held = held_in ends; sent = (packets_after o h c.sent).items }
 
-    kept_same : kept_by now removed (if b then Some removed else None) ≡ kept_of parts
+    kept_same : kept_by now removed (if b then Some removed else None) ≡ kept_of p.returned_before parts
     kept_same = λ i. kept_by (sym stood.holds.hand i) (sym stood.holds.removed i) (sym sent_is i)
 
     abbrev end : Past

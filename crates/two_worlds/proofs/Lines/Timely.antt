@@ -1,5 +1,5 @@
 -- Whether a line can be applied, by what the parts keep.
-use Rattle.std.proofs.Common.{◌≡◌, ℕ, ◌+◌, ◌-◌, ◌^◌, Bool, true, false, List, ◌∷◌, ◌++◌, map, length, Option, None, Some, Result, Ok, Err, refl, sym, ap, ◌∙◌, inl, inr, arith, nat_lt, lt-ltb, length-append, length-drop, Bor}
+use Rattle.std.proofs.Common.{◌≡◌, ℕ, ◌+◌, ◌-◌, ◌^◌, Bool, true, false, List, ◌∷◌, ◌++◌, map, length, drop, Option, None, Some, Result, Ok, Err, refl, sym, ap, ◌∙◌, inl, inr, arith, nat_lt, lt-ltb, length-append, length-drop, Bor}
 use Rattle.std.specs.Prelude.{◌&&◌, ◌||◌, ◌==◌, not, nat_le, min, option_to_list, option_map, is_some}
 use Rattle.std.proofs.lemmas.List.{length-map}
 use Rattle.std.proofs.lemmas.Bool.Decides.{nat_tests}
@@ -33,10 +33,11 @@ module _ {D : Type 0} (m : Meaning D) (c : Parts D) (p : Past) (s : Stands m c p
       hand_or_held (high.hand_of c.high) (held_in c.ends)
       ∙ ap (λ (t : Option ℕ × List ℕ). nat_lt 0 (length (option_to_list t.0 ++ t.1))) (λ i. (sym s.world.high_hand i, sym s.world.held i))
 
-kept_length : {X : Type 0} (xs kept_xs : List X) → kept_xs ≡ keep_last 64 xs → length kept_xs ≡ kept xs
-kept_length xs kept_xs e = ap length e ∙ length-drop (length xs - 64) xs ∙ few (length xs) where
-  few : (n : ℕ) → n - (n - 64) ≡ min 64 n
-  few n = grind (arith, nat_tests)
+kept_length : {X : Type 0} (before : ℕ) (xs kept_xs : List X) → kept_xs ≡ keep_last 64 (drop before xs) → length kept_xs ≡ kept before xs
+kept_length before xs kept_xs e =
+    ap length e ∙ length-drop (length (drop before xs) - 64) (drop before xs) ∙ few (length (drop before xs)) ∙ ap (min 64) (length-drop before xs) where
+      few : (n : ℕ) → n - (n - 64) ≡ min 64 n
+      few n = grind (arith, nat_tests)
 
 module _ {D : Type 0} (m : Meaning D) (c : Parts D) (p : Past) where
   pub timely_is : (line : ScriptLine) → Stands m c p → is_timely_by c line ≡ is_timely c.row p line
@@ -47,9 +48,9 @@ module _ {D : Type 0} (m : Meaning D) (c : Parts D) (p : Past) where
   timely_is (lines.Look session moment w a) s = ap (λ (n : ℕ). session == c.row.id && nat_le n moment) s.moment
   timely_is (lines.Gone session moment) s = ap (λ (n : ℕ). session == c.row.id && nat_le n moment) s.moment
   timely_is (lines.High session moment) s = ap (λ (n : ℕ). session == c.row.id && nat_le n moment) s.moment
-  timely_is (lines.Carry session back) s = ap (λ (n : ℕ). session == c.row.id && nat_lt back n) (kept_length p.world.sent c.sent.items s.world.sent)
+  timely_is (lines.Carry session back) s = ap (λ (n : ℕ). session == c.row.id && nat_lt back n) (kept_length 0 p.world.sent c.sent.items s.world.sent)
   timely_is (lines.Return session moment back) s =
-      ap (λ (t : ℕ × ℕ). session == c.row.id && (nat_le t.0 moment && nat_lt back t.1)) (λ i. (s.moment i, kept_length p.world.returned c.returned.items s.world.returned i))
+      ap (λ (t : ℕ × ℕ). session == c.row.id && (nat_le t.0 moment && nat_lt back t.1)) (λ i. (s.moment i, kept_length p.returned_before p.world.returned c.returned.items s.world.returned.1 i))
   timely_is (lines.Done session moment time) s =
       ap (λ (t : ℕ × Bool). session == c.row.id && (nat_le t.0 moment && (not t.1 || nat_le (moment + time) (2 ^ 62)))) (λ i. (s.moment i, goes_is m c p s i))
 

@@ -146,8 +146,8 @@ module _ {D : Type 0} (m : Meaning D) (c d : Parts D) (p : Past) (moment word : 
       let some_room : (length p.world.held == c.row.capacity - 2) ≡ false = ap (λ n. length p.world.held == n - 2) (sym capacity_is) ∙ hears_room (length p.world.held == row.capacity - 2) (pair row p) l.feedback head e in
       ap (λ n. nat_lt n (c.row.capacity - 2)) (sym held_length) ∙ room_is (length p.world.held) (c.row.capacity - 2) le some_room
 
-  led : Led p.world (offers l.feedback ++ (stored_events (stores_at row s x) a ++ acks_of (sent x (reply_at row s x)))) (record (kept_of c) { low_hand = hand_by hand (moves l.feedback) (stores_at row s x) a; held = held_by hand (held_in c.ends) (moves l.feedback); accepted = (after row s x).next })
-  led = led_by p.world (kept_of c) stands.world stands.sound.rest row s x passing refl room below sort
+  led : Led p.world (offers l.feedback ++ (stored_events (stores_at row s x) a ++ acks_of (sent x (reply_at row s x)))) (record (kept_of p.returned_before c) { low_hand = hand_by hand (moves l.feedback) (stores_at row s x) a; held = held_by hand (held_in c.ends) (moves l.feedback); accepted = (after row s x).next })
+  led = led_by p.world (kept_of p.returned_before c) stands.world stands.sound.rest row s x passing refl room below sort
 
   abbrev q : Past
   q = record {
@@ -156,6 +156,7 @@ module _ {D : Type 0} (m : Meaning D) (c d : Parts D) (p : Past) (moment word : 
     is_broken = p.is_broken || (takes now.parts && is_bad a);
     reading = p.reading;
     world = led.end;
+    returned_before = p.returned_before;
     times = p.times;
     sends = p.sends;
     moment = moment;
@@ -179,6 +180,7 @@ module _ {D : Type 0} (m : Meaning D) (c d : Parts D) (p : Past) (moment word : 
         waits = refl;
         broken = refl;
         reading = refl;
+        first_returned = refl;
         times = refl;
         sends = refl;
         moment = refl;
@@ -249,7 +251,7 @@ module _ {D : Type 0} (m : Meaning D) (c d : Parts D) (p : Past) (moment word : 
       reading = did.reading ∙ stands.arrivals.reading;
       few = fewer (takes now.parts) p.waits stands.arrivals.few;
     };
-    world = subst (λ (t : Option Item × List Item × ℕ). HoldsWorld (record (kept_of c) { low_hand = t.0; held = t.1; accepted = t.2 }) led.end)
+    world = subst (λ (t : Option Item × List Item × ℕ). HoldsWorld (record (kept_of p.returned_before c) { low_hand = t.0; held = t.1; accepted = t.2 }) led.end)
         (λ i. (sym hand_is i, sym passed.items i, sym (ap (λ (t : State). t.next) step.state) i)) led.holds;
     sound = record {
       rest = led.rest;

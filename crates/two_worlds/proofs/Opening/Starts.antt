@@ -78,9 +78,9 @@ module _ {D : Type 0} (m : Meaning D) (c : Parts D) (n : IsNew m c) where
 
   -- this is kept of an empty world
   abbrev nothing : Kept
-  nothing = record { capacity = c.row.capacity; low_hand = None; held = []; high_hand = None; removed = 0; accepted = 0; received = 0; end = 80; sent = []; returned = [] }
+  nothing = record { capacity = c.row.capacity; low_hand = None; held = []; high_hand = None; removed = 0; accepted = 0; received = 0; end = 80; sent = []; returned_before = 0; returned = [] }
 
-  keeps_nothing : kept_of c ≡ nothing
+  keeps_nothing : kept_of 0 c ≡ nothing
   keeps_nothing i = record {
     capacity = c.row.capacity;
     low_hand = n.low_hand i;
@@ -91,10 +91,11 @@ module _ {D : Type 0} (m : Meaning D) (c : Parts D) (n : IsNew m c) where
     received = n.recv_count_is i;
     end = n.recv_end_is i;
     sent = (n.sent i).items;
+    returned_before = 0;
     returned = (n.returned i).items;
   }
 
-  holds : HoldsWorld (kept_of c) empty
+  holds : HoldsWorld (kept_of 0 c) empty
   holds = subst (λ (k : Kept). HoldsWorld k empty) (sym keeps_nothing) (record {
     capacity = refl;
     low_hand = refl;
@@ -108,7 +109,7 @@ module _ {D : Type 0} (m : Meaning D) (c : Parts D) (n : IsNew m c) where
     received = refl;
     end = refl;
     sent = refl;
-    returned = refl;
+    returned = (omega arith, refl);
   })
 
   pub starts : Stands m c (fresh c.row)

@@ -11,9 +11,11 @@ pub mod Highs
 pub mod Lawful
 pub mod Lines
 pub mod Lows
+pub mod Openings
 pub mod Parsing
 pub mod Past
 pub mod Readouts
+pub mod Restarts
 pub mod Scripts
 pub mod Sides
 pub mod Steps

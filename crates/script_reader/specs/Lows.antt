@@ -128,6 +128,7 @@ pub record IsLook (row : SessionRow) (p : Past) (x : Look) (q : Past) (printed :
   pub waits : q.waits ≡ (if takes after then drop 1 p.waits else p.waits)
   pub broken : q.is_broken ≡ (p.is_broken || (takes after && is_bad x.arrival))
   pub reading : q.reading ≡ p.reading
+  pub first_returned : q.returned_before ≡ p.returned_before
   pub times : q.times ≡ p.times
   pub sends : q.sends ≡ p.sends
   pub moment : q.moment ≡ x.moment

@@ -1,5 +1,5 @@
 -- What a line of a script does to its session, and what is printed.
-use Rattle.std.specs.Prelude.{◌≡◌, ◌⊎◌, ℕ, ◌<◌, ◌≤◌, ◌+◌, ◌^◌, Bool, false, ◌&&◌, ◌||◌, ◌==◌, not, nat_lt, nat_le, min, List, [], ◌∷◌, ◌++◌, map, length, option_to_list, Option, Some, None}
+use Rattle.std.specs.Prelude.{◌≡◌, ◌⊎◌, ℕ, ◌<◌, ◌≤◌, ◌+◌, ◌-◌, ◌^◌, Bool, false, ◌&&◌, ◌||◌, ◌==◌, not, nat_lt, nat_le, min, List, [], ◌∷◌, ◌++◌, map, length, option_to_list, Option, Some, None}
 use Rattle.pump_frame.specs.Frames.{greeting}
 use Rattle.pump_frame.specs.declared.frame.Frame.{Frame}
 use Rattle.pump_frame.specs.declared.frame.Kind.TheVariants as kinds
@@ -18,6 +18,7 @@ use Rattle.script_reader.specs.declared.event.Event.{Event}
 use Rattle.script_reader.specs.Past.{Past}
 use Rattle.script_reader.specs.Lows.{first_of, IsLook}
 use Rattle.script_reader.specs.Highs.{IsHighLook, IsReturn, IsCarried, IsOverfull, place}
+use Rattle.script_reader.specs.Restarts.{IsRestart, IsReceiverRestart}
 
 -- ---- what comes with a line ----
 
@@ -73,9 +74,9 @@ lost p = record p { waits = []; is_broken = false; reading = Within [] }
 abbrev pub goes_on : World → Bool
 goes_on w = nat_lt 0 (length (option_to_list w.high_hand ++ w.held))
 
--- so many of the packets that were ever sent are kept
-abbrev pub kept : {X : Type 0} → List X → ℕ
-kept packets = min 64 (length packets)
+-- so many of the packets that were sent since the session began are kept
+abbrev pub kept : {X : Type 0} → ℕ → List X → ℕ
+kept before packets = min 64 (length packets - before)
 
 -- the line is one for a whole session, names this one, no moment falls, a packet that it names is kept,
 -- and the return of `done` is at a moment of at most 2^62
@@ -87,11 +88,13 @@ is_timely row p (lines.Told session m w fault told a) = false
 is_timely row p (lines.Look session m w a) = session == row.id && nat_le p.moment m
 is_timely row p (lines.Gone session m) = session == row.id && nat_le p.moment m
 is_timely row p (lines.High session m) = session == row.id && nat_le p.moment m
-is_timely row p (lines.Carry session back) = session == row.id && nat_lt back (kept p.world.sent)
+is_timely row p (lines.Carry session back) = session == row.id && nat_lt back (kept 0 p.world.sent)
 is_timely row p (lines.Return session m back) =
-    session == row.id && (nat_le p.moment m && nat_lt back (kept p.world.returned))
+    session == row.id && (nat_le p.moment m && nat_lt back (kept p.returned_before p.world.returned))
 is_timely row p (lines.Done session m t) =
     session == row.id && (nat_le p.moment m && (not (goes_on p.world) || nat_le (m + t) (2 ^ 62)))
+is_timely row p (lines.Restart session m) = session == row.id && nat_le p.moment m
+is_timely row p (lines.ReceiverRestart session m) = session == row.id && nat_le p.moment m
 
 -- with what comes with the line, more than 64 arrivals would wait
 abbrev pub IsCrowded : Past → Line → Type 0
@@ -149,6 +152,8 @@ LineStep row p (lines.High session m) q printed = IsHighLook row p m None q prin
 LineStep row p (lines.Carry session back) q printed = IsCarried row p back q printed
 LineStep row p (lines.Return session m back) q printed = IsReturn row p m (place p.world.returned back) q printed
 LineStep row p (lines.Done session m t) q printed = IsDone row p m t q printed
+LineStep row p (lines.Restart session m) q printed = IsRestart row p m q printed
+LineStep row p (lines.ReceiverRestart session m) q printed = IsReceiverRestart row p m q printed
 
 -- the line could be applied, but a message does not fit at the receiver: it has come to q before that,
 -- and printed this; the message's record would begin at `end`

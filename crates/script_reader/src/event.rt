@@ -65,6 +65,21 @@ pub enum Event {
         session: u32,
         number: u64,
     },
+    /// The receiver was opened again, and attached with this count.
+    Attach {
+        session: u32,
+        moment: u64,
+        count: u64,
+    },
+    /// Both processes were opened again: how many messages were accepted and removed, and whether
+    /// one is in the low hand.
+    Restart {
+        session: u32,
+        moment: u64,
+        accepted: u64,
+        removed: u64,
+        held: bool,
+    },
     /// The end of the script: how many messages were accepted; `high` holds how many were removed
     /// and how many were taken by the receiver, and is `None` for a low side alone.
     End {
@@ -133,6 +148,18 @@ pub enum EventHead {
     Again {
         session: u32,
         number: u64,
+    },
+    Attach {
+        session: u32,
+        moment: u64,
+        count: u64,
+    },
+    Restart {
+        session: u32,
+        moment: u64,
+        accepted: u64,
+        removed: u64,
+        held: bool,
     },
     End {
         session: u32,

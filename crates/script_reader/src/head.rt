@@ -64,6 +64,14 @@ pub enum LineHead {
         moment: u64,
         time: u32,
     },
+    Restart {
+        session: u32,
+        moment: u64,
+    },
+    ReceiverRestart {
+        session: u32,
+        moment: u64,
+    },
 }
 
 /// What comes next in a script, as `Lined`, without the bytes.

@@ -149,11 +149,12 @@ look_same s p x q r xs ys h k =
     let wa : q.waits ≡ r.waits = h.waits ∙ ap (λ (u : List Part). if takes u then drop 1 p.waits else p.waits) c ∙ sym k.waits in
     let br : q.is_broken ≡ r.is_broken = h.broken ∙ ap (λ (u : List Part). p.is_broken || (takes u && is_bad x.arrival)) c ∙ sym k.broken in
     let un : q.reading ≡ r.reading = h.reading ∙ sym k.reading in
+    let fi : q.returned_before ≡ r.returned_before = h.first_returned ∙ sym k.first_returned in
     let ti : q.times ≡ r.times = h.times ∙ sym k.times in
     let se : q.sends ≡ r.sends = h.sends ∙ sym k.sends in
     let mo : q.moment ≡ r.moment = h.moment ∙ sym k.moment in
     record {
-      past = λ i. record { history = hi i; waits = wa i; is_broken = br i; reading = un i; world = w i; times = ti i; sends = se i; moment = mo i };
+      past = λ i. record { history = hi i; waits = wa i; is_broken = br i; reading = un i; world = w i; returned_before = fi i; times = ti i; sends = se i; moment = mo i };
       printed = h.printed_is ∙ (λ i. printed_store s.id x.moment (stores (c i)) ++ (printed_feedback s.id x.moment x.feedback ++ printed_replies s.id (n i))) ∙ sym k.printed_is;
     }
 

@@ -25,6 +25,8 @@ left_alone s (lines.High session m) after printed own h = absurd (h.1.1)
 left_alone s (lines.Carry session back) after printed own h = absurd (h.1.1)
 left_alone s (lines.Return session m back) after printed own h = absurd (h.1.1)
 left_alone s (lines.Done session m t) after printed own h = absurd (h.1.1)
+left_alone s (lines.Restart session m) after printed own h = absurd (cc)
+left_alone s (lines.ReceiverRestart session m) after printed own h = absurd (h.1.1)
 
 -- it stays a low side alone
 record StaysAlone (after : Option Begun) : Type 0 where
@@ -45,6 +47,8 @@ stays_alone s (lines.High session m) after printed h = goes_alone s (lines.High 
 stays_alone s (lines.Carry session back) after printed h = goes_alone s (lines.Carry session back) after printed h
 stays_alone s (lines.Return session m back) after printed h = goes_alone s (lines.Return session m back) after printed h
 stays_alone s (lines.Done session m t) after printed h = goes_alone s (lines.Done session m t) after printed h
+stays_alone s (lines.Restart session m) after printed h = goes_alone s (lines.Restart session m) after printed h
+stays_alone s (lines.ReceiverRestart session m) after printed h = goes_alone s (lines.ReceiverRestart session m) after printed h
 
 alone_leads : (s : RunningAlone) (script : List Line) (after : Option Begun) (printed : List Event)
     → LeadTo (Some (Alone s)) script after printed → LeadTo (Some (Alone s)) (low_side_of script) after printed
@@ -79,6 +83,8 @@ begun_alone (lines.High session m ∷ script) after printed row next held rest i
 begun_alone (lines.Carry session back ∷ script) after printed row next held rest is (mid, first, second, h, later, e) = absurd h
 begun_alone (lines.Return session m back ∷ script) after printed row next held rest is (mid, first, second, h, later, e) = absurd h
 begun_alone (lines.Done session m t ∷ script) after printed row next held rest is (mid, first, second, h, later, e) = absurd h
+begun_alone (lines.Restart session m ∷ script) after printed row next held rest is (mid, first, second, h, later, e) = absurd h
+begun_alone (lines.ReceiverRestart session m ∷ script) after printed row next held rest is (mid, first, second, h, later, e) = absurd h
 
 -- a low side's own lines have the transcript of its script
 own_transcript : (script : List Line) (printed : List Event) (row : SessionRow) (next : ℕ) (held : Bool) (rest : List Line)

@@ -116,14 +116,18 @@ leads_aside running line after printed own h = by running line own h
     by None (lines.Carry session back) own h = absurd h
     by None (lines.Return session m back) own h = absurd h
     by None (lines.Done session m t) own h = absurd h
+    by running (lines.Restart session m) own h = absurd (cc)
+    by None (lines.ReceiverRestart session m) own h = absurd h
     by (Some (Whole s)) (lines.High session m) own h = goes s (lines.High session m) own h
     by (Some (Whole s)) (lines.Carry session back) own h = goes s (lines.Carry session back) own h
     by (Some (Whole s)) (lines.Return session m back) own h = goes s (lines.Return session m back) own h
     by (Some (Whole s)) (lines.Done session m t) own h = goes s (lines.Done session m t) own h
+    by (Some (Whole s)) (lines.ReceiverRestart session m) own h = goes s (lines.ReceiverRestart session m) own h
     by (Some (Alone s)) (lines.High session m) own h = absurd (h.1.1)
     by (Some (Alone s)) (lines.Carry session back) own h = absurd (h.1.1)
     by (Some (Alone s)) (lines.Return session m back) own h = absurd (h.1.1)
     by (Some (Alone s)) (lines.Done session m t) own h = absurd (h.1.1)
+    by (Some (Alone s)) (lines.ReceiverRestart session m) own h = absurd (h.1.1)
 
 -- a line is applied, and goes on or stops the script
 data Moves (running : Option Begun) (line : Line) (after : Option Begun) (printed : List Event) : Type 0 where
@@ -234,6 +238,8 @@ own_fits row p (lines.High session m) q printed end n size own h = absurd h
 own_fits row p (lines.Return session m back) q printed end n size own h = absurd h
 own_fits row p (lines.Carry session back) q printed end n size own h = absurd (cc)
 own_fits row p (lines.Done session m t) q printed end n size own h = absurd (cc)
+own_fits row p (lines.Restart session m) q printed end n size own h = absurd h
+own_fits row p (lines.ReceiverRestart session m) q printed end n size own h = absurd h
 
 unsaid_step : (s : RunningAlone) (line : Line) (q : PastAlone) (printed : List Event) (m : ℕ) → StepAlone s.row s.past line true q printed → ((k : ℕ) → look_moment line ≡ Some k → m ≢ k) → IsUnsaid m (said_to_low printed)
 unsaid_step s (lines.Told session k w fault told z) q printed m (c, comes, (few, (f, i))) off = unsaid_told s.row _ told _ q printed m i (off k refl)
@@ -246,6 +252,8 @@ unsaid_step s (lines.High session k) q printed m h off = absurd h
 unsaid_step s (lines.Carry session back) q printed m h off = absurd h
 unsaid_step s (lines.Return session k back) q printed m h off = absurd h
 unsaid_step s (lines.Done session k t) q printed m h off = absurd h
+unsaid_step s (lines.Restart session k) q printed m h off = absurd h
+unsaid_step s (lines.ReceiverRestart session k) q printed m h off = absurd h
 
 unsaid_moves : (r : Option Begun) (line : Line) (s : Option Begun) (printed : List Event) (m : ℕ) → is_lows line ≡ true
     → Moves r line s printed → ((k : ℕ) → look_moment line ≡ Some k → m ≢ k) → IsUnsaid m (said_to_low printed)
@@ -301,6 +309,8 @@ goes_of s (lines.High session m) after printed own h = absurd (cc)
 goes_of s (lines.Carry session back) after printed own h = absurd (cc)
 goes_of s (lines.Return session m back) after printed own h = absurd (cc)
 goes_of s (lines.Done session m t) after printed own h = absurd (cc)
+goes_of s (lines.Restart session m) after printed own h = h
+goes_of s (lines.ReceiverRestart session m) after printed own h = absurd (cc)
 
 -- a line in two whole sessions
 whole_sessions : (s t : Running) (r' s' : Option Begun) (line : Line) (xs ys : List Event) → is_lows line ≡ true
@@ -437,6 +447,8 @@ overfills_aside s p (lines.Told session m w fault told z) q printed end n size h
 overfills_aside s p (lines.Gone session m) q printed end n size h = absurd h
 overfills_aside s p (lines.High session m) q printed end n size h = absurd h
 overfills_aside s p (lines.Return session m back) q printed end n size h = absurd h
+overfills_aside s p (lines.Restart session m) q printed end n size h = absurd h
+overfills_aside s p (lines.ReceiverRestart session m) q printed end n size h = absurd h
 
 step_own : (s : RunningAlone) (line : Line) (q : PastAlone) (printed : List Event) → is_lows line ≡ false → StepAlone s.row s.past line true q printed → ⊥
 step_own s (lines.Told session m w fault told z) q printed own h = absurd (cc)
@@ -449,6 +461,8 @@ step_own s (lines.High session m) q printed own h = h
 step_own s (lines.Carry session back) q printed own h = h
 step_own s (lines.Return session m back) q printed own h = h
 step_own s (lines.Done session m t) q printed own h = h
+step_own s (lines.Restart session m) q printed own h = h
+step_own s (lines.ReceiverRestart session m) q printed own h = h
 
 stops_aside : (running : Option Begun) (line : Line) (after : Option Begun) (printed : List Event) (fault : Fault) → is_lows line ≡ false → Stops running line after printed fault → IsAside running after printed
 stops_aside None line after printed fault own h = absurd h

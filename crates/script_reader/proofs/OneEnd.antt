@@ -34,6 +34,8 @@ crowded_steps s p (lines.High session m) q printed h k = h
 crowded_steps s p (lines.Carry session back) q printed h k = h
 crowded_steps s p (lines.Return session m back) q printed h k = h
 crowded_steps s p (lines.Done session m t) q printed h k = h
+crowded_steps s p (lines.Restart session m) q printed h k = h
+crowded_steps s p (lines.ReceiverRestart session m) q printed h k = h
 
 refused_goes : (s : Running) (line : Line) (mid : Option Begun) (printed : List Event) → IsRefusedWhole s.row s.past line → GoesWhole s line mid printed → ⊥
 refused_goes s line mid printed h (timely, (q, step, e)) =
@@ -52,6 +54,8 @@ crowded_low s p (lines.High session m) q printed h k = h
 crowded_low s p (lines.Carry session back) q printed h k = h
 crowded_low s p (lines.Return session m back) q printed h k = h
 crowded_low s p (lines.Done session m t) q printed h k = h
+crowded_low s p (lines.Restart session m) q printed h k = h
+crowded_low s p (lines.ReceiverRestart session m) q printed h k = h
 
 refused_low : (s : RunningAlone) (line : Line) (mid : Option Begun) (printed : List Event) → IsRefusedAlone s.row s.past line → GoesAlone s line mid printed → ⊥
 refused_low s line mid printed h (timely, (q, step, e)) =
@@ -69,6 +73,8 @@ refused_leads None (lines.High session m) mid printed r h = absurd h
 refused_leads None (lines.Carry session back) mid printed r h = absurd h
 refused_leads None (lines.Return session m back) mid printed r h = absurd h
 refused_leads None (lines.Done session m t) mid printed r h = absurd h
+refused_leads None (lines.Restart session m) mid printed r h = absurd h
+refused_leads None (lines.ReceiverRestart session m) mid printed r h = absurd h
 refused_leads (Some (Whole s)) (lines.Session row) mid printed r h = refused_goes s (lines.Session row) mid printed r h
 refused_leads (Some (Whole s)) (lines.LowSession row next held) mid printed r h = refused_goes s (lines.LowSession row next held) mid printed r h
 refused_leads (Some (Whole s)) (lines.Look session m w z) mid printed r h = refused_goes s (lines.Look session m w z) mid printed r h
@@ -78,6 +84,8 @@ refused_leads (Some (Whole s)) (lines.High session m) mid printed r h = refused_
 refused_leads (Some (Whole s)) (lines.Carry session back) mid printed r h = refused_goes s (lines.Carry session back) mid printed r h
 refused_leads (Some (Whole s)) (lines.Return session m back) mid printed r h = refused_goes s (lines.Return session m back) mid printed r h
 refused_leads (Some (Whole s)) (lines.Done session m t) mid printed r h = refused_goes s (lines.Done session m t) mid printed r h
+refused_leads (Some (Whole s)) (lines.Restart session m) mid printed r h = refused_goes s (lines.Restart session m) mid printed r h
+refused_leads (Some (Whole s)) (lines.ReceiverRestart session m) mid printed r h = refused_goes s (lines.ReceiverRestart session m) mid printed r h
 refused_leads (Some (Alone s)) (lines.Session row) mid printed r h = refused_low s (lines.Session row) mid printed r h
 refused_leads (Some (Alone s)) (lines.LowSession row next held) mid printed r h = refused_low s (lines.LowSession row next held) mid printed r h
 refused_leads (Some (Alone s)) (lines.Look session m w z) mid printed r h = refused_low s (lines.Look session m w z) mid printed r h
@@ -87,6 +95,8 @@ refused_leads (Some (Alone s)) (lines.High session m) mid printed r h = refused_
 refused_leads (Some (Alone s)) (lines.Carry session back) mid printed r h = refused_low s (lines.Carry session back) mid printed r h
 refused_leads (Some (Alone s)) (lines.Return session m back) mid printed r h = refused_low s (lines.Return session m back) mid printed r h
 refused_leads (Some (Alone s)) (lines.Done session m t) mid printed r h = refused_low s (lines.Done session m t) mid printed r h
+refused_leads (Some (Alone s)) (lines.Restart session m) mid printed r h = refused_low s (lines.Restart session m) mid printed r h
+refused_leads (Some (Alone s)) (lines.ReceiverRestart session m) mid printed r h = refused_low s (lines.ReceiverRestart session m) mid printed r h
 
 -- no line stands at the end
 end_is_fine : (running : Option Begun) (rest : List ℕ) → rest ≡ [] → IsFaulty (Some rest) running → ⊥

@@ -152,6 +152,8 @@ step_low_grows s p (lines.High session m) is_fault q printed h = absurd h
 step_low_grows s p (lines.Carry session back) is_fault q printed h = absurd h
 step_low_grows s p (lines.Return session m back) is_fault q printed h = absurd h
 step_low_grows s p (lines.Done session m t) is_fault q printed h = absurd h
+step_low_grows s p (lines.Restart session m) is_fault q printed h = absurd h
+step_low_grows s p (lines.ReceiverRestart session m) is_fault q printed h = absurd h
 
 -- the replies of the session that runs
 abbrev pub Replies : Option Begun → List Sent → Type 0

@@ -65,6 +65,8 @@ overfills_grows s p (lines.Told session m w fault told z) q printed end n size h
 overfills_grows s p (lines.Gone session m) q printed end n size h = absurd h
 overfills_grows s p (lines.High session m) q printed end n size h = absurd h
 overfills_grows s p (lines.Return session m back) q printed end n size h = absurd h
+overfills_grows s p (lines.Restart session m) q printed end n size h = absurd h
+overfills_grows s p (lines.ReceiverRestart session m) q printed end n size h = absurd h
 
 overfills_holds : (s : SessionRow) (p : Past) (line : Line) (q : Past) (printed : List Event) (end n size : ℕ) → Overfills s p line q printed end n size
     → Stays s.capacity p.world × (length p.waits ≤ 64) → Stays s.capacity q.world × (length q.waits ≤ 64)
@@ -79,6 +81,8 @@ overfills_holds s p (lines.Told session m w fault told z) q printed end n size h
 overfills_holds s p (lines.Gone session m) q printed end n size h k = absurd h
 overfills_holds s p (lines.High session m) q printed end n size h k = absurd h
 overfills_holds s p (lines.Return session m back) q printed end n size h k = absurd h
+overfills_holds s p (lines.Restart session m) q printed end n size h k = absurd h
+overfills_holds s p (lines.ReceiverRestart session m) q printed end n size h k = absurd h
 
 stops_grows : (running : Option Begun) (line : Line) (after : Option Begun) (printed : List Event) (fault : Fault) (rs : List Sent) → Stops running line after printed fault → Replies running rs → Replies after (rs ++ low_lines printed)
 stops_grows None line after printed fault rs h k = absurd h

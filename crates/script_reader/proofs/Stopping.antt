@@ -44,6 +44,8 @@ overfills_steps s p (lines.Told session m w fault told z) r first end n size q p
 overfills_steps s p (lines.Gone session m) r first end n size q printed h k = absurd h
 overfills_steps s p (lines.High session m) r first end n size q printed h k = absurd h
 overfills_steps s p (lines.Return session m back) r first end n size q printed h k = absurd h
+overfills_steps s p (lines.Restart session m) r first end n size q printed h k = absurd h
+overfills_steps s p (lines.ReceiverRestart session m) r first end n size q printed h k = absurd h
 
 overfull_one : (id : ℕ) (w : World) (back end n size end' n' size' : ℕ) → IsOverfull w back end n size → IsOverfull w back end' n' size' → faults.Full id end n size ≡ faults.Full id end' n' size'
 overfull_one id w back end n size end' n' size' h k =
@@ -67,6 +69,8 @@ overfills_one s p (lines.Told session m w fault told z) q r xs ys end n size end
 overfills_one s p (lines.Gone session m) q r xs ys end n size end' n' size' h k = absurd h
 overfills_one s p (lines.High session m) q r xs ys end n size end' n' size' h k = absurd h
 overfills_one s p (lines.Return session m back) q r xs ys end n size end' n' size' h k = absurd h
+overfills_one s p (lines.Restart session m) q r xs ys end n size end' n' size' h k = absurd h
+overfills_one s p (lines.ReceiverRestart session m) q r xs ys end n size end' n' size' h k = absurd h
 
 -- ---- a line that stops the script ----
 

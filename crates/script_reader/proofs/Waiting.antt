@@ -57,3 +57,5 @@ step_low_waits s p (lines.High session m) is_fault q printed h = absurd h
 step_low_waits s p (lines.Carry session back) is_fault q printed h = absurd h
 step_low_waits s p (lines.Return session m back) is_fault q printed h = absurd h
 step_low_waits s p (lines.Done session m t) is_fault q printed h = absurd h
+step_low_waits s p (lines.Restart session m) is_fault q printed h = absurd h
+step_low_waits s p (lines.ReceiverRestart session m) is_fault q printed h = absurd h

@@ -25,21 +25,20 @@ abbrev pub low_side_of : List Line → List Line
 low_side_of script = filter is_lows script
 
 -- what comes down to Low: the buffer is full, it has taken a message that nobody waits for any more, the
--- average of an exchange, or what is found at a restart: how many messages are accepted, and whether the
--- buffer is full
+-- average of an exchange, or at a restart whether the buffer is found full
 pub data Told : Type 0 where
   Full : Told
   Released : Told
   Average : (average : ℕ) → Told
-  Restarted : (accepted : ℕ) (is_held : Bool) → Told
+  Restarted : (is_held : Bool) → Told
 
--- what a printed line says that Low was told; its moment and its count are left out
+-- what a printed line says that Low was told; its moment and its counts are left out
 abbrev pub told : Event → Option Told
 told (prints.Full session m) = Some Full
 told (prints.Released session m) = Some Released
 told (prints.Passed session m seen) = Some (Average seen.average)
 told (prints.Repeat session m seen) = Some (Average seen.average)
-told (prints.Restart session m accepted removed held) = Some (Restarted accepted held)
+told (prints.Restart session m accepted removed held) = Some (Restarted held)
 told _ = None
 
 -- what these lines say that Low was told, in their order
@@ -65,13 +64,13 @@ average_in _ = None
 abbrev pub averages : List Event → List ℕ
 averages printed = filter_map average_in printed
 
--- what is found at each restart, in their order
-abbrev pub found_at : Event → Option (ℕ × Bool)
-found_at (prints.Restart session m accepted removed held) = Some (accepted, held)
-found_at _ = None
+-- whether the buffer is found full, at each restart in their order
+abbrev pub found_full : Event → Option Bool
+found_full (prints.Restart session m accepted removed held) = Some held
+found_full _ = None
 
-abbrev pub restarts_in : List Event → List (ℕ × Bool)
-restarts_in printed = filter_map found_at printed
+abbrev pub restarts_in : List Event → List Bool
+restarts_in printed = filter_map found_full printed
 
 -- the moment of a low look
 abbrev pub look_moment : Line → Option ℕ

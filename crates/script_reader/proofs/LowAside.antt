@@ -16,7 +16,7 @@ use Rattle.script_reader.specs.Sides.{is_lows}
 use Rattle.script_reader.proofs.Telling.{said_to_low, said-append}
 use Rattle.pump_frame.specs.declared.payload.Payload.{Payload}
 use Rattle.script_reader.proofs.Accepting.{Leaves, returns_leave, removes_leave, takes_up_leave, sends_leave, carries_leave, takes_leave}
-use Rattle.script_reader.proofs.LowAlike.{Half, half}
+use Rattle.script_reader.proofs.LowAlike.{half}
 
 of_removal : (session m n : ℕ) (time : Option ℕ) (b : Bool) → said_to_low (if b then prints.Removed session m n time ∷ [] else []) ≡ []
 of_removal session m n time true = refl

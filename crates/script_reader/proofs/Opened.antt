@@ -1,5 +1,5 @@
 -- A session begins in a lawful world, and on new disks in an empty one.
-use Rattle.std.proofs.Common.{◌≡◌, ℕ, ◌+◌, ◌-◌, ◌≤◌, Bool, true, false, [], length, Option, Some, None, refl, arith}
+use Rattle.std.proofs.Common.{◌≡◌, ℕ, ◌-◌, ◌≤◌, Bool, true, false, length, Option, Some, None, refl, arith}
 use Rattle.std.proofs.Math.Nat.{min-zero}
 use Rattle.std.proofs.lemmas.List.Elements.{All-nil}
 use Rattle.std.specs.List.{range_with_len}
@@ -10,7 +10,7 @@ use Rattle.pump_frame.specs.Rows.{is_within, IsLawfulRow}
 use Rattle.pump_frame.specs.declared.row.RowKey.{RowKey}
 use Rattle.pump_frame.specs.declared.row.RowKey.TheVariants.{Capacity}
 use Rattle.pump_frame.specs.declared.row.SessionRow.{SessionRow}
-use Rattle.pump_core.specs.World.{World, empty}
+use Rattle.pump_core.specs.World.{empty}
 use Rattle.pump_core.specs.Lawful.{IsLawful}
 use Rattle.pump_core.specs.Events.{Opened}
 use Rattle.pump_core.proofs.Laws.{begins_lawful}

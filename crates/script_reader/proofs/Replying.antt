@@ -4,7 +4,7 @@ use Rattle.std.specs.Prelude.{if◌then◌else◌}
 use Rattle.pump_frame.specs.declared.row.SessionRow.{SessionRow}
 use Rattle.pump_core.specs.declared.feedback.Feedback.{Feedback}
 use Rattle.pump_core.specs.declared.feedback.Feedback.TheVariants.{Quiet, Full, Passed, Released, Repeat}
-use Rattle.pump_core.specs.History.{Look, Opening, History, first_life, looked, reopened}
+use Rattle.pump_core.specs.History.{Look, Opening, History, first_life, looked}
 use Rattle.pump_core.specs.Timed.{opening_in}
 use Rattle.pump_core.specs.Replies.{Sent, LowReplies}
 use Rattle.pump_core.proofs.Runs.{one_list_of_lives}

@@ -8,7 +8,7 @@ use Rattle.script_reader.specs.declared.event.Event.TheVariants.{Stored, Full, P
 use Rattle.script_reader.specs.declared.fault.Fault.{Fault}
 use Rattle.disk_model.specs.declared.name.Role.{Role}
 use Rattle.disk_model.specs.declared.name.Role.TheVariants as roles
-use Rattle.script_reader.specs.declared.fault.Fault.TheVariants.{Words, Read, Script, Device, Full as FullLog}
+use Rattle.script_reader.specs.declared.fault.Fault.TheVariants.{Words, Read, Script, Device, Disk, Full as FullLog}
 use Rattle.script_reader.specs.Grammar.{spaced, held_field}
 
 -- the fields of a reply, which is a WELCOME, an ACK or a REFUSE; the payload byte of a REFUSE is its code
@@ -69,6 +69,8 @@ fault_fields Words = codes "fault" ∷ codes "words" ∷ []
 fault_fields Read = codes "fault" ∷ codes "read" ∷ []
 fault_fields (Script line) = codes "fault" ∷ codes "script" ∷ decimal line ∷ []
 fault_fields (Device session role) = codes "fault" ∷ codes "device" ∷ decimal session ∷ role_field role ∷ []
+fault_fields (Disk session role number first second) =
+    codes "fault" ∷ codes "disk" ∷ decimal session ∷ role_field role ∷ decimal number ∷ decimal first ∷ decimal second ∷ []
 fault_fields (FullLog session end length size) = codes "fault" ∷ codes "full" ∷ decimal session ∷ decimal end ∷ decimal length ∷ decimal size ∷ []
 
 abbrev pub fault_line : Fault → List ℕ

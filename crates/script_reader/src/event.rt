@@ -244,6 +244,28 @@ impl EventHead {
             },
             EventHead::Took { session, number } => Event::Took { session, number },
             EventHead::Again { session, number } => Event::Again { session, number },
+            EventHead::Attach {
+                session,
+                moment,
+                count,
+            } => Event::Attach {
+                session,
+                moment,
+                count,
+            },
+            EventHead::Restart {
+                session,
+                moment,
+                accepted,
+                removed,
+                held,
+            } => Event::Restart {
+                session,
+                moment,
+                accepted,
+                removed,
+                held,
+            },
             EventHead::End {
                 session,
                 accepted,
@@ -316,6 +338,28 @@ impl Event {
             },
             Event::Took { session, number } => EventHead::Took { session, number },
             Event::Again { session, number } => EventHead::Again { session, number },
+            Event::Attach {
+                session,
+                moment,
+                count,
+            } => EventHead::Attach {
+                session,
+                moment,
+                count,
+            },
+            Event::Restart {
+                session,
+                moment,
+                accepted,
+                removed,
+                held,
+            } => EventHead::Restart {
+                session,
+                moment,
+                accepted,
+                removed,
+                held,
+            },
             Event::End {
                 session,
                 accepted,

@@ -178,6 +178,14 @@ impl LineHead {
                 moment: *moment,
                 time: *time,
             },
+            LineHead::Restart { session, moment } => Line::Restart {
+                session: *session,
+                moment: *moment,
+            },
+            LineHead::ReceiverRestart { session, moment } => Line::ReceiverRestart {
+                session: *session,
+                moment: *moment,
+            },
         }
     }
 }
@@ -287,6 +295,14 @@ impl Line {
                 session: *session,
                 moment: *moment,
                 time: *time,
+            },
+            Line::Restart { session, moment } => LineHead::Restart {
+                session: *session,
+                moment: *moment,
+            },
+            Line::ReceiverRestart { session, moment } => LineHead::ReceiverRestart {
+                session: *session,
+                moment: *moment,
             },
         }
     }

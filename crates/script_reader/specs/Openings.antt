@@ -1,5 +1,5 @@
 -- What a session's disks were found to hold, and the session that begins on them.
-use Rattle.std.specs.Prelude.{◌≡◌, ℕ, ◌^◌, ◌≤◌, false, List, [], ◌++◌, length}
+use Rattle.std.specs.Prelude.{ℕ, ◌^◌, ◌≤◌, false, List, [], ◌++◌, length}
 use Rattle.std.specs.List.{All}
 use Rattle.pump_frame.specs.Readings.{Within}
 use Rattle.pump_frame.specs.declared.payload.Payload.{Payload}

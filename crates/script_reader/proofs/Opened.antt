@@ -6,7 +6,7 @@ use Rattle.std.specs.List.{range_with_len}
 use Rattle.std.specs.Prelude.{nat_le, min, ◌==◌, if◌then◌else◌}
 use Rattle.std.proofs.lemmas.Bool.{and_parts, ne_eqb}
 use Rattle.std.proofs.lemmas.Bool.Decides.{nat_tests}
-use Rattle.pump_frame.specs.Rows.{is_within, IsLawfulRow}
+use Rattle.pump_frame.specs.Rows.{least_capacity, greatest_capacity, is_within, IsLawfulRow}
 use Rattle.pump_frame.specs.declared.row.RowKey.{RowKey}
 use Rattle.pump_frame.specs.declared.row.RowKey.TheVariants.{Capacity}
 use Rattle.pump_frame.specs.declared.row.SessionRow.{SessionRow}
@@ -20,9 +20,9 @@ capacity_within : (b : Bool) (rest : Option RowKey) → (if b then rest else Som
 capacity_within true rest e = refl
 capacity_within false rest e = absurd (cc)
 
-pub row_capacity : (row : SessionRow) → IsLawfulRow row → (3 ≤ row.capacity) × (row.capacity ≤ 64)
+pub row_capacity : (row : SessionRow) → IsLawfulRow row → (least_capacity ≤ row.capacity) × (row.capacity ≤ greatest_capacity)
 row_capacity row h =
-    let parts = and_parts (nat_le 3 row.capacity) (nat_le row.capacity 64) (capacity_within (is_within 3 64 row.capacity) _ h) in
+    let parts = and_parts (nat_le least_capacity row.capacity) (nat_le row.capacity greatest_capacity) (capacity_within (is_within least_capacity greatest_capacity row.capacity) _ h) in
     let a = parts.0 in
     let b = parts.1 in
     (grind (arith, nat_tests), grind (arith, nat_tests))

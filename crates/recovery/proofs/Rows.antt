@@ -25,6 +25,6 @@ message_within false b rest e = absurd (cc)
 
 pub row_message : (row : SessionRow) → IsLawfulRow row → row.message ≤ 1024
 row_message row h =
-    let parts = and_parts (nat_le 1 row.message) (nat_le row.message 1024) (message_within (is_within 3 64 row.capacity) (is_within 1 1024 row.message) _ h) in
+    let parts = and_parts (nat_le 1 row.message) (nat_le row.message 1024) (message_within (is_within least_capacity greatest_capacity row.capacity) (is_within 1 1024 row.message) _ h) in
     let b = parts.1 in
     grind (arith, nat_tests)

@@ -14,3 +14,5 @@ pub mod Rooms
 pub mod Standing
 pub mod Timelines
 pub mod TimelinesAlone
+pub mod Timely
+pub mod Working

@@ -2,6 +2,7 @@
 pub mod Arrivals
 pub mod Carrying
 pub mod Formatted
+pub mod GoingOn
 pub mod HighLooks
 pub mod LineSteps
 pub mod LowLooks

@@ -14,6 +14,8 @@ use Rattle.two_worlds.specs.declared.pump.Pump.{Pump}
 use Rattle.two_worlds.specs.Standing as parts
 use Rattle.two_worlds.specs.Doing.{Fails, LeavesFit}
 use Rattle.two_worlds.specs.Timelines.{IsTimeline, RunGoesOn}
+use Rattle.two_worlds.specs.Timely.{CanApply, CannotApply}
+use Rattle.two_worlds.specs.Working.{IsTooLong}
 use Rattle.pump_core.specs.Timed.{Step as TimedStep, Point}
 
 -- the row that the pump was made for
@@ -62,3 +64,12 @@ Applies m s t line p printed (Some (Device role faults)) =
 Applies m s t line p printed (Some (Full end length size)) =
     (is_timely (row_of s) p line ≡ true)
     × ((q : Past) × Overfills (row_of s) p line q printed end length size × StandsFor m t q × LeavesFit m s.parts t.parts p q)
+
+-- A line was given to s and left it as t, whatever the disks tell. It can be applied by what s kept of the
+-- lines before; or it can't be, and nothing is printed or changed; or the device of a disk failed, and t is
+-- down; or its message is too long for the receiver's disk.
+abbrev pub AppliesOn : {D : Type 0} {g : _} → Meaning D → Pump D g → Pump D g → ScriptLine → List Event → Option Stop → Type 0
+AppliesOn m s t line printed None = CanApply s.parts line
+AppliesOn m s t line printed (Some Line) = CannotApply s.parts line × (printed ≡ []) × (t ≡ s)
+AppliesOn m s t line printed (Some (Device role faults)) = CanApply s.parts line × (is_down t ≡ true) × (faults ≡ m.count (disk_at role t))
+AppliesOn m s t line printed (Some (Full end length size)) = CanApply s.parts line × IsTooLong t.parts end length size

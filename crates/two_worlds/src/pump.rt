@@ -25,8 +25,8 @@ use std::alloc::Global;
 #[derive(Drop)]
 pub struct Pump<D: Disk> {
     parts: Parts<D>,
-    // What is read of the disks, and what a crash leaves of them, is a lawful world's, and until a
-    // call of a disk fails the parts stand for it.
+    // Until a call of a disk fails the parts work. What is read of disks that tell what they hold, and
+    // what a crash leaves of them, is a lawful world's, for which the parts stand until then.
     ghost keeps: { ∥ Keeps D.told parts ∥₁ },
 }
 
@@ -43,7 +43,7 @@ impl<D: Disk> Pump<D> {
     ghost use Rattle.script_reader.specs.Past.{Past, fresh};
     ghost use Rattle.two_worlds.specs.Disks.{Opens, CrashesOpen, LeaveWorld};
     ghost use Rattle.two_worlds.specs.LowPumps.{is_device};
-    ghost use Rattle.two_worlds.specs.Pumps.{row_of, StandsFor, StandsOrFails, is_down, disk_at, Applies};
+    ghost use Rattle.two_worlds.specs.Pumps.{row_of, StandsFor, StandsOrFails, is_down, disk_at, Applies, AppliesOn};
     ghost use Rattle.two_worlds.specs.Rooms.{HasRoom, DisksGo};
 
     /// The pump of a lawful row over three disks of size 0, which tell what they hold.
@@ -78,6 +78,7 @@ impl<D: Disk> Pump<D> {
         requires up { is_down self.old ≡ false }
         ensures applies { (p : Past) → StandsFor D.told self.old p
             → Applies D.told self.old self.new line.now p result.events.items result.stop }
+        ensures on { AppliesOn D.told self.old self.new line.now result.events.items result.stop }
         ensures serve { DisksGo D.told (row_of self.old) (disk_at roles.Low self.old) (disk_at roles.High self.old) (disk_at roles.Recv self.old)
             (disk_at roles.Low self.new) (disk_at roles.High self.new) (disk_at roles.Recv self.new) result.stop }
         ensures down { is_down self.new ≡ is_device result.stop }
@@ -104,6 +105,7 @@ impl<D: Disk> Pump<D> {
         requires up { is_down self.old ≡ false }
         ensures applies { (p : Past) → StandsFor D.told self.old p
             → Applies D.told self.old self.new (line_with bytes.now line.now) p (lines_in events.new.items) result }
+        ensures on { AppliesOn D.told self.old self.new (line_with bytes.now line.now) (lines_in events.new.items) result }
         ensures serve { DisksGo D.told (row_of self.old) (disk_at roles.Low self.old) (disk_at roles.High self.old) (disk_at roles.Recv self.old)
             (disk_at roles.Low self.new) (disk_at roles.High self.new) (disk_at roles.Recv self.new) result }
         ensures down { is_down self.new ≡ is_device result }

@@ -19,10 +19,9 @@ use Rattle.two_worlds.specs.declared.applied.Stop.TheVariants.{Line, Device, Ful
 use Rattle.two_worlds.specs.declared.pump.parts.Parts.{Parts}
 use Rattle.two_worlds.specs.Doing.{Does, LeavesFit, LeavesAlone, NeverBreaks, NeverOverfills}
 use Rattle.two_worlds.specs.Standing.{Stands, number_of}
-use Rattle.two_worlds.specs.Private.LineSteps.{goes_on_by, IsOverfullSent, Runs}
+use Rattle.two_worlds.specs.Private.LineSteps.{IsOverfullSent, Runs}
 use Rattle.two_worlds.proofs.Disks.Images.{Reads, stands_reads, fails_reads, both_fit, later_fits}
-use Rattle.two_worlds.proofs.High.HandFull.{goes_before, sent_after}
-use Rattle.two_worlds.proofs.Lines.Timely.{goes_is}
+use Rattle.two_worlds.proofs.High.HandFull.{sent_after}
 
 -- ---- the hand ----
 
@@ -159,14 +158,8 @@ module _ {D : Type 0} (m : Meaning D) (c d : Parts D) (moment time : ℕ) (out n
         later e p a.0 b.0 before s a.4 b.5,
       )
 
-  -- the message was sent before it is carried, and the line had time for it
+  -- the message was sent before it is carried
   module _ (e : Parts D) (mid : List Event) (looks : HighDoes e mid) (some : is_some (high.hand_of e.high) ≡ true) (p : Past) (s : Stands m c p) where
-    pub goes_by : goes_on_by c ≡ true
-    goes_by =
-        let a = looks p s in
-        let n = hand_is m e a.0 a.4 some in
-        goes_is m c p s ∙ goes_before c.row p moment a.0 a.1 n.0 s.sound.rest.due a.2 n.1
-
     pub has_packet : 0 < length e.sent.items
     has_packet =
         let a = looks p s in

@@ -18,7 +18,7 @@ impl<D: Disk> Parts<D> {
     /// that is unfinished kept or lost.
     pub fn close(self) -> (D, D, D)
         requires lawful { IsLawfulRow self.row }
-        requires hold { ∥ Hold D.told self.row (disk_at roles.Low self) (disk_at roles.High self) (disk_at roles.Recv self) ∥₁ }
+        requires hold { D.told.tells → ∥ Hold D.told self.row (disk_at roles.Low self) (disk_at roles.High self) (disk_at roles.Recv self) ∥₁ }
         ensures disks { result ≡ (disk_at roles.Low self, disk_at roles.High self, disk_at roles.Recv self) }
         ensures left { (p : Past) → Stands D.told self p ⊎ ((role : Role) × (faults : ℕ) × Fails D.told self p role faults)
             → LeaveWorld D.told self.row p.world result.0 result.1 result.2 }

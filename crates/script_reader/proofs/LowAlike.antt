@@ -105,8 +105,8 @@ after_looks row p q m w a f g p' q' xs ys alike i k decide =
         broken = i.broken ∙ (λ j. alike.broken j || (taken j && is_bad a)) ∙ sym k.broken;
         reading = i.reading ∙ alike.reading ∙ sym k.reading;
         accepted = look_accepts f (stores i.after) a i.new p.world p'.world i.world
-        ∙ (λ j. alike.accepted j + stored_in (kept j) a)
-        ∙ sym (look_accepts g (stores k.after) a k.new q.world q'.world k.world);
+            ∙ (λ j. alike.accepted j + stored_in (kept j) a)
+            ∙ sym (look_accepts g (stores k.after) a k.new q.world q'.world k.world);
       };
       said = px ∙ said_uncounted m f ∙ ap (said_by m) told ∙ sym (said_uncounted m g) ∙ sym py;
     }

@@ -4,13 +4,13 @@ use Rattle.pump_frame.specs.Rows.{IsLawfulRow}
 use Rattle.script_reader.specs.declared.line.Line.{Line}
 use Rattle.script_reader.specs.declared.line.Line.TheVariants as lines
 use Rattle.script_reader.specs.declared.event.Event.{Event}
-use Rattle.script_reader.specs.Openings.{Openings, CanOpen, opened}
+use Rattle.script_reader.specs.Openings.{Openings, CanOpen, first_past}
 use Rattle.script_reader.specs.Alone.{fresh_alone}
 use Rattle.script_reader.specs.Scripts.{Begun, Whole, Alone, GoesOn, Leads}
 
 -- before its first line, of a lawful row, on what its disks were found to hold
 abbrev pub IsNew : Openings → Begun → Type 0
-IsNew o (Whole s) = IsLawfulRow s.row × CanOpen s.row (o s.row.id) × (s.past ≡ opened s.row (o s.row.id))
+IsNew o (Whole s) = IsLawfulRow s.row × CanOpen s.row (o s.row.id) × (s.past ≡ first_past s.row (o s.row.id))
 IsNew o (Alone s) = (next : ℕ) × (held : Bool) × (s.past ≡ fresh_alone next held)
 
 pub led : {P : Type 0} (o : Openings) (running : Option Begun) (line : Line) (after : Option Begun) (printed : List Event) → Leads o running line after printed
@@ -20,7 +20,7 @@ pub led : {P : Type 0} (o : Openings) (running : Option Begun) (line : Line) (af
 led o None lines.Skip after printed h skips begins goes = skips refl h.0 h.1
 led o (Some s) lines.Skip after printed h skips begins goes = skips refl h.0 h.1
 led o None (lines.Session row) after printed h skips begins goes =
-    begins (Whole (record { row = row; past = opened row (o row.id) })) refl (h.0.0, h.0.1, refl) h.0.2 h.1
+    begins (Whole (record { row = row; past = first_past row (o row.id) })) refl (h.0.0, h.0.1, refl) h.0.2 h.1
 led o None (lines.LowSession row next held) after printed h skips begins goes =
     begins (Alone (record { row = row; past = fresh_alone next held })) refl (next, held, refl) h.0.1 h.1
 led o None (lines.Look session m w z) after printed h skips begins goes = absurd h

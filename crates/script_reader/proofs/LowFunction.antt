@@ -22,7 +22,7 @@ use Rattle.script_reader.specs.declared.fault.Fault.{Fault}
 use Rattle.script_reader.specs.declared.event.Event.{Event}
 use Rattle.script_reader.specs.declared.event.Event.TheVariants.{End}
 use Rattle.script_reader.specs.Past.{Past}
-use Rattle.script_reader.specs.Openings.{Openings, opened, restarted}
+use Rattle.script_reader.specs.Openings.{Openings, first_past, restarted}
 use Rattle.script_reader.specs.Restarts.{IsRestart}
 use Rattle.script_reader.specs.Lows.{first_of, IsLook}
 use Rattle.script_reader.specs.Alone.{PastAlone, IsToldLook, StepAlone}
@@ -359,7 +359,7 @@ one_session o p s t r' s' line xs ys same h k =
 begins_alike : (o p : Openings) (r' s' : Option Begun) (line : Line) (xs ys : List Event) → is_lows line ≡ true → OpensAlike o p line
     → Leads o None line r' xs → Leads p None line s' ys → Both (lows r') (lows s') xs ys
 begins_alike o p r' s' (lines.Session row) xs ys own opens h k =
-    let half_alike : Alike (half (opened row (o row.id))) (half (opened row (p row.id))) = record {
+    let half_alike : Alike (half (first_past row (o row.id))) (half (first_past row (p row.id))) = record {
       history = (record { opening = opens; looks = tt }, tt);
       waits = refl;
       broken = refl;

@@ -13,7 +13,7 @@ use Rattle.script_reader.specs.declared.fault.Fault.TheVariants as faults
 use Rattle.script_reader.specs.declared.event.Event.{Event}
 use Rattle.script_reader.specs.declared.event.Event.TheVariants.{End}
 use Rattle.script_reader.specs.Past.{Past}
-use Rattle.script_reader.specs.Openings.{Openings, CanOpen, opened}
+use Rattle.script_reader.specs.Openings.{Openings, CanOpen, first_past}
 use Rattle.script_reader.specs.Steps.{is_timely, LineStep, IsRefusedWhole, Overfills}
 use Rattle.script_reader.specs.Alone.{PastAlone, fresh_alone, is_timely_alone, StepAlone, IsRefusedAlone}
 
@@ -35,7 +35,7 @@ pub data Begun : Type 0 where
 -- a session line begins a lawful row's session on what its disks were found to hold
 abbrev pub BeginsWhole : Openings → SessionRow → Option Begun → Type 0
 BeginsWhole o row running =
-    IsLawfulRow row × CanOpen row (o row.id) × (running ≡ Some (Whole (record { row = row; past = opened row (o row.id) })))
+    IsLawfulRow row × CanOpen row (o row.id) × (running ≡ Some (Whole (record { row = row; past = first_past row (o row.id) })))
 
 -- so does the line of a low side alone
 abbrev pub BeginsAlone : SessionRow → ℕ → Bool → Option Begun → Type 0

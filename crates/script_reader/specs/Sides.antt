@@ -9,8 +9,7 @@ use Rattle.script_reader.specs.declared.event.Event.{Event}
 use Rattle.script_reader.specs.declared.event.Event.TheVariants as prints
 
 -- a line is low's own: it begins the session, makes a low look, says that low's connection is gone, or
--- opens both processes again.
--- The others are High's, the network's and the receiver's, or are skipped
+-- opens both processes again. The others are High's, the network's and the receiver's, or are skipped
 abbrev pub is_lows : Line → Bool
 is_lows (lines.Session row) = true
 is_lows (lines.LowSession row next held) = true

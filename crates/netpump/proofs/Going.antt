@@ -9,6 +9,7 @@ use Rattle.script_reader.specs.declared.fault.Fault.TheVariants as faults
 use Rattle.script_reader.specs.declared.line.Line.{Line}
 use Rattle.script_reader.specs.declared.line.Line.TheVariants as lines
 use Rattle.script_reader.specs.Steps.{is_timely, IsRefusedWhole, LineStep, Overfills}
+use Rattle.script_reader.specs.Openings.{Openings, new_disks}
 use Rattle.script_reader.specs.Past.{Past}
 use Rattle.script_reader.specs.Alone.{PastAlone, is_timely_alone, IsRefusedAlone, StepAlone}
 use Rattle.script_reader.specs.Scripts.{Running, RunningAlone, Begun, Whole, Alone, GoesOn, Leads, IsRefused}
@@ -23,17 +24,19 @@ use Rattle.netpump.specs.declared.session.Session.TheVariants as sessions
 use Rattle.netpump.specs.Sessions.{IsRoomy, StandsFor, SessionApplies}
 use Rattle.netpump.proofs.Rooms.{room_stays, no_device}
 
-pub leads_from : (running : Begun) (line : Line) (after : Option Begun) (printed : List Event) → line ≢ lines.Skip → GoesOn running line after printed → Leads (Some running) line after printed
-leads_from running lines.Skip after printed some h = absurd (some refl)
-leads_from running (lines.Session row) after printed some h = h
-leads_from running (lines.LowSession row next held) after printed some h = h
-leads_from running (lines.Look session moment word arrival) after printed some h = h
-leads_from running (lines.Told session moment word fault feedback arrival) after printed some h = h
-leads_from running (lines.Gone session moment) after printed some h = h
-leads_from running (lines.High session moment) after printed some h = h
-leads_from running (lines.Carry session back) after printed some h = h
-leads_from running (lines.Return session moment back) after printed some h = h
-leads_from running (lines.Done session moment time) after printed some h = h
+pub leads_from : (o : Openings) (running : Begun) (line : Line) (after : Option Begun) (printed : List Event) → line ≢ lines.Skip → GoesOn running line after printed → Leads o (Some running) line after printed
+leads_from o running lines.Skip after printed some h = absurd (some refl)
+leads_from o running (lines.Session row) after printed some h = h
+leads_from o running (lines.LowSession row next held) after printed some h = h
+leads_from o running (lines.Look session moment word arrival) after printed some h = h
+leads_from o running (lines.Told session moment word fault feedback arrival) after printed some h = h
+leads_from o running (lines.Gone session moment) after printed some h = h
+leads_from o running (lines.High session moment) after printed some h = h
+leads_from o running (lines.Carry session back) after printed some h = h
+leads_from o running (lines.Return session moment back) after printed some h = h
+leads_from o running (lines.Done session moment time) after printed some h = h
+leads_from o running (lines.Restart session moment) after printed some h = h
+leads_from o running (lines.ReceiverRestart session moment) after printed some h = h
 
 refused_whole : (s : Running) (line : Line) → line ≢ lines.Skip → IsRefusedWhole s.row s.past line → IsRefused (Some (Whole s)) line
 refused_whole s lines.Skip some h = absurd (some refl)
@@ -46,6 +49,8 @@ refused_whole s (lines.High session moment) some h = h
 refused_whole s (lines.Carry session back) some h = h
 refused_whole s (lines.Return session moment back) some h = h
 refused_whole s (lines.Done session moment time) some h = h
+refused_whole s (lines.Restart session moment) some h = h
+refused_whole s (lines.ReceiverRestart session moment) some h = h
 
 refused_alone : (s : RunningAlone) (line : Line) → line ≢ lines.Skip → IsRefusedAlone s.row s.past line → IsRefused (Some (Alone s)) line
 refused_alone s lines.Skip some h = absurd (some refl)
@@ -58,6 +63,8 @@ refused_alone s (lines.High session moment) some h = h
 refused_alone s (lines.Carry session back) some h = h
 refused_alone s (lines.Return session moment back) some h = h
 refused_alone s (lines.Done session moment time) some h = h
+refused_alone s (lines.Restart session moment) some h = h
+refused_alone s (lines.ReceiverRestart session moment) some h = h
 
 -- ---- a whole session ----
 
@@ -70,12 +77,13 @@ module _ (id : ℕ) (p t : _) (line : Line) (some : line ≢ lines.Skip) (printe
       let step : LineStep s.row s.past line h.1.0 printed = subst (λ (r : SessionRow). LineStep r s.past line h.1.0 printed) row h.1.1 in
       let after : Option Begun = Some (Whole (record { row = s.row; past = h.1.0 })) in (
         after,
-        leads_from (Whole s) line after printed some (timely, (h.1.0, step, refl)),
+        leads_from new_disks (Whole s) line after printed some (timely, (h.1.0, step, refl)),
         record { up = down; room = room; is_of = (id_is, same ∙ row, h.1.2) },
       )
   whole_does (Some stops.Line) down fine h =
       (refused_whole s line some (subst (λ (r : SessionRow). IsRefusedWhole r s.past line) row h.0), h.1)
   whole_does (Some (stops.Device role count)) down fine h = absurd (fine role count refl)
+  whole_does (Some (stops.Disk role why)) down fine h = h tt
   whole_does (Some (stops.Full end length size)) down fine h =
       let timely : is_timely s.row s.past line ≡ true = subst (λ (r : SessionRow). is_timely r s.past line ≡ true) row h.0 in
       let over : Overfills s.row s.past line h.1.0 printed end length size = subst (λ (r : SessionRow). Overfills r s.past line h.1.0 printed end length size) row h.1.1 in
@@ -109,7 +117,7 @@ module _ (id : ℕ) (p t : LowPump) (line : Line) (some : line ≢ lines.Skip) (
       let step : StepAlone s.row s.past line false h.1.0 printed = subst (λ (r : SessionRow). StepAlone r s.past line false h.1.0 printed) row h.1.1 in
       let after : Option Begun = Some (Alone (record { row = s.row; past = h.1.0 })) in (
         after,
-        leads_from (Alone s) line after printed some (timely, (h.1.0, step, refl)),
+        leads_from new_disks (Alone s) line after printed some (timely, (h.1.0, step, refl)),
         record { up = down; room = tt; is_of = (id_is, same ∙ row, h.1.2) },
       )
   alone_does (Some stops.Line) down h =
@@ -121,6 +129,7 @@ module _ (id : ℕ) (p t : LowPump) (line : Line) (some : line ≢ lines.Skip) (
       (after, (timely, (h.1.0, step, ap (λ (i : ℕ). faults.Device i roles.Low) id_is, refl)))
   alone_does (Some (stops.Device roles.High count)) down h = absurd h
   alone_does (Some (stops.Device roles.Recv count)) down h = absurd h
+  alone_does (Some (stops.Disk role why)) down h = absurd h
   alone_does (Some (stops.Full end length size)) down h = absurd h
 
 -- a line was given to the pump of a low side alone

@@ -7,6 +7,7 @@ use Rattle.script_reader.specs.declared.event.Event.{Event}
 use Rattle.script_reader.specs.declared.fault.Fault.{Fault}
 use Rattle.script_reader.specs.declared.fault.Fault.TheVariants.{Script, Device, Full}
 use Rattle.script_reader.specs.Faults.{IsFaulty}
+use Rattle.script_reader.specs.Openings.{Openings, new_disks}
 use Rattle.script_reader.specs.Scripts.{Begun, IsRefused, Stops}
 use Rattle.script_reader.proofs.Stopping.{stops_leads, stops_one}
 use Rattle.script_reader.proofs.OneEnd.{refused_leads}
@@ -17,19 +18,19 @@ use Rattle.netpump.proofs.Compared.{GoesOn, no_line, good_line, same_line, told_
 
 -- ---- one place ----
 
-refused_goes : (rest : List ℕ) (running : Option Begun) → IsFaulty (Some rest) running → GoesOn rest running → ⊥
-refused_goes rest running f g =
+refused_goes : (o : Openings) (rest : List ℕ) (running : Option Begun) → IsFaulty (Some rest) running → GoesOn o rest running → ⊥
+refused_goes o rest running f g =
     elim f [
       | inl bad ↦ good_line rest g.line g.left g.spelled bad
       | inr r ↦
           let same = same_line rest g.line r.0 g.left r.1 g.spelled r.2 in
-          refused_leads running g.line g.after g.printed (subst (λ (l : Line). IsRefused running l) (sym same) r.3) g.leads
+          refused_leads o running g.line g.after g.printed (subst (λ (l : Line). IsRefused running l) (sym same) r.3) g.leads
     ]
 
-stopping_goes : (rest : List ℕ) (number : ℕ) (running : Option Begun) (fault : Fault) → Stopping (Some rest) number running fault → GoesOn rest running → ⊥
-stopping_goes rest number running fault h g =
+stopping_goes : (o : Openings) (rest : List ℕ) (number : ℕ) (running : Option Begun) (fault : Fault) → Stopping (Some rest) number running fault → GoesOn o rest running → ⊥
+stopping_goes o rest number running fault h g =
     let same = same_line rest g.line h.line g.left h.left g.spelled h.spelled in
-    stops_leads running g.line h.after h.printed fault g.after g.printed (subst (λ (l : Line). Stops running l h.after h.printed fault) (sym same) h.stops) g.leads
+    stops_leads o running g.line h.after h.printed fault g.after g.printed (subst (λ (l : Line). Stops running l h.after h.printed fault) (sym same) h.stops) g.leads
 
 refused_stopping : (rest : List ℕ) (number : ℕ) (running : Option Begun) (fault : Fault) → IsFaulty (Some rest) running → Stopping (Some rest) number running fault → ⊥
 refused_stopping rest number running fault f h =
@@ -56,11 +57,11 @@ faulty_stopping rest number running fault (inl f) h = refused_stopping rest numb
 faulty_stopping rest number running fault (inr (last, some)) h = let few = h.few in omega (arith, few, last)
 
 -- a script does not go on at its end
-end_goes : (rest : List ℕ) (number : ℕ) (running : Option Begun) (end : Option Fault) → IsEnd rest number running end → number + 1 < 2 ^ 32 → GoesOn rest running → ⊥
-end_goes rest number running None h few g = no_line rest g.line g.left g.spelled h
-end_goes rest number running (Some fault) (inl (inl f, e)) few g = refused_goes rest running f g
-end_goes rest number running (Some fault) (inl (inr (last, some), e)) few g = omega (arith, few, last)
-end_goes rest number running (Some fault) (inr h) few g = stopping_goes rest number running fault h g
+end_goes : (o : Openings) (rest : List ℕ) (number : ℕ) (running : Option Begun) (end : Option Fault) → IsEnd rest number running end → number + 1 < 2 ^ 32 → GoesOn o rest running → ⊥
+end_goes o rest number running None h few g = no_line rest g.line g.left g.spelled h
+end_goes o rest number running (Some fault) (inl (inl f, e)) few g = refused_goes o rest running f g
+end_goes o rest number running (Some fault) (inl (inr (last, some), e)) few g = omega (arith, few, last)
+end_goes o rest number running (Some fault) (inr h) few g = stopping_goes o rest number running fault h g
 
 -- and has one end at one place
 one_end : (rest : List ℕ) (number : ℕ) (running : Option Begun) (a b : Option Fault) → IsEnd rest number running a → IsEnd rest number running b → a ≡ b
@@ -76,58 +77,62 @@ one_end rest number running (Some x) (Some y) (inr h) (inr k) = ap Some (stoppin
 
 -- ---- one script ----
 
-module _ (bytes : List ℕ) (end : Option Fault) (e : EndsWith bytes end) where
-  ends_at : (lines : List Line) (events : List Event) (running : Option Begun) (rest : List ℕ) (other : Option Fault) → IsSoFar (Some bytes) (Some rest) lines events running → length lines < 2 ^ 32
+module _ (o : Openings) (bytes : List ℕ) (end : Option Fault) (e : EndsWith o bytes end) where
+  ends_at : (lines : List Line) (events : List Event) (running : Option Begun) (rest : List ℕ) (other : Option Fault) → IsSoFar o (Some bytes) (Some rest) lines events running → length lines < 2 ^ 32
       → IsEnd rest (length lines) running other → end ≡ other
   ends_at lines events running rest other s few is =
       let fewer = e.few in
-      compare bytes e.rest rest e.lines lines None e.running running e.events events e.so_far.spelled e.so_far.leads s.spelled s.leads
+      compare o bytes e.rest rest e.lines lines None e.running running e.events events e.so_far.spelled e.so_far.leads s.spelled s.leads
       (λ same after number. one_end rest (length lines) running end other
       (subst (λ (n : ℕ). IsEnd rest n running end) number (subst (λ (b : Option Begun). IsEnd rest (length e.lines) b end) after (subst (λ (r : List ℕ). IsEnd r (length e.lines) e.running end) same e.is_end))) is)
-      (λ goes less. absurd (end_goes e.rest (length e.lines) e.running end e.is_end (omega (arith, less, few)) goes))
-      (λ goes less. absurd (end_goes rest (length lines) running other is (omega (arith, less, fewer)) goes))
+      (λ goes less. absurd (end_goes o e.rest (length e.lines) e.running end e.is_end (omega (arith, less, few)) goes))
+      (λ goes less. absurd (end_goes o rest (length lines) running other is (omega (arith, less, fewer)) goes))
 
   -- what was replayed, whose rest is told
-  told_so_far : (r : Replayed (Some bytes)) → (rest : List ℕ) × (r.rest ≡ Some rest) × IsSoFar (Some bytes) (Some rest) r.lines r.events r.running
-  told_so_far r =
-      let told = told_rest bytes r.lines r.rest r.so_far.spelled in
-      (told.0, told.1, subst (λ (rest : Option (List ℕ)). IsSoFar (Some bytes) rest r.lines r.events r.running) told.1 r.so_far)
+  told_so_far : (r : Replayed (Some bytes)) → r.openings ≡ o → (rest : List ℕ) × (r.rest ≡ Some rest) × IsSoFar o (Some bytes) (Some rest) r.lines r.events r.running
+  told_so_far r same =
+      let told = told_rest bytes r.lines r.rest r.so_far.spelled in (
+        told.0,
+        told.1,
+        subst (λ (p : Openings). IsSoFar p (Some bytes) (Some told.0) r.lines r.events r.running) same
+            (subst (λ (rest : Option (List ℕ)). IsSoFar r.openings (Some bytes) rest r.lines r.events r.running) told.1 r.so_far),
+      )
 
-  done_so : (r : Replayed (Some bytes)) (output : List ℕ) → IsFinished r output → end ≡ None
-  done_so r output d =
-      let told = told_so_far r in
+  done_so : (r : Replayed (Some bytes)) (output : List ℕ) → r.openings ≡ o → IsFinished r output → end ≡ None
+  done_so r output same d =
+      let told = told_so_far r same in
       ends_at r.lines r.events r.running told.0 None told.2 r.few (subst IsAtEnd told.1 d.ended)
 
-  faulted_so : (left : Option (List ℕ)) (r : Replayed (Some bytes)) (output : List ℕ) → IsFaulted left r output → end ≡ Some (fault_after (length r.lines))
-  faulted_so left r output d =
-      let told = told_so_far r in
+  faulted_so : (left : Option (List ℕ)) (r : Replayed (Some bytes)) (output : List ℕ) → r.openings ≡ o → IsFaulted left r output → end ≡ Some (fault_after (length r.lines))
+  faulted_so left r output same d =
+      let told = told_so_far r same in
       ends_at r.lines r.events r.running told.0 (Some (fault_after (length r.lines))) told.2 r.few
       (inl (subst (λ (rest : Option (List ℕ)). IsFaultyAt (length r.lines) rest r.running) told.1 d.faulty, refl))
 
-  stopped_so : (left : Option (List ℕ)) (fault : Fault) (r : Replayed (Some bytes)) (output : List ℕ) → IsStopped left fault r output → end ≡ Some fault
-  stopped_so left fault r output d =
-      let told = told_so_far r in
+  stopped_so : (left : Option (List ℕ)) (fault : Fault) (r : Replayed (Some bytes)) (output : List ℕ) → r.openings ≡ o → IsStopped left fault r output → end ≡ Some fault
+  stopped_so left fault r output same d =
+      let told = told_so_far r same in
       ends_at r.lines r.events r.running told.0 (Some fault) told.2 r.few (inr (subst (λ (rest : Option (List ℕ)). Stopping rest (length r.lines) r.running fault) told.1 d.next))
 
 -- ---- the statuses ----
 
-module _ (all old new : Option (List ℕ)) (bytes : List ℕ) (end : Option Fault) (told : all ≡ Some bytes) (e : EndsWith bytes end) where
+module _ (all old new : Option (List ℕ)) (bytes : List ℕ) (end : Option Fault) (told : all ≡ Some bytes) (e : EndsWith new_disks bytes end) where
   pub done_status : Wrote all old new (λ r output. IsFinished r output) → 0 ≡ status_of end
   done_status d =
       let (r, output, is, wrote) = subst (λ (a : Option (List ℕ)). Wrote a old new (λ r output. IsFinished r output)) told d in
-      sym (ap status_of (done_so bytes end e r output is))
+      sym (ap status_of (done_so new_disks bytes end e r output r.are_new is))
 
   pub faulted_status : (left : Option (List ℕ)) → Wrote all old new (IsFaulted left) → 5 ≡ status_of end
   faulted_status left d =
       let (r, output, is, wrote) = subst (λ (a : Option (List ℕ)). Wrote a old new (IsFaulted left)) told d in
-      sym (ap status_of (faulted_so bytes end e left r output is))
+      sym (ap status_of (faulted_so new_disks bytes end e left r output r.are_new is))
 
   pub failed_status : (left : Option (List ℕ)) → Wrote all old new (IsFailed left) → 7 ≡ status_of end
   failed_status left d =
       let (r, output, (session, is), wrote) = subst (λ (a : Option (List ℕ)). Wrote a old new (IsFailed left)) told d in
-      sym (ap status_of (stopped_so bytes end e left (Device session roles.Low) r output is))
+      sym (ap status_of (stopped_so new_disks bytes end e left (Device session roles.Low) r output r.are_new is))
 
   pub overfilled_status : (left : Option (List ℕ)) → Wrote all old new (IsOverfilled left) → 10 ≡ status_of end
   overfilled_status left d =
       let (r, output, (session, place, n, size, is), wrote) = subst (λ (a : Option (List ℕ)). Wrote a old new (IsOverfilled left)) told d in
-      sym (ap status_of (stopped_so bytes end e left (Full session place n size) r output is))
+      sym (ap status_of (stopped_so new_disks bytes end e left (Full session place n size) r output r.are_new is))

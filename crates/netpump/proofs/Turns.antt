@@ -9,7 +9,7 @@ use Rattle.script_reader.specs.declared.event.Event.{Event}
 use Rattle.script_reader.specs.declared.line.Line.{Line}
 use Rattle.script_reader.specs.declared.line.Line.TheVariants as lines
 use Rattle.script_reader.specs.Transcript.{text}
-use Rattle.script_reader.specs.Past.{fresh}
+use Rattle.script_reader.specs.Openings.{Openings, nothing_found, new_disks, CanOpen, first_past}
 use Rattle.script_reader.specs.Alone.{fresh_alone}
 use Rattle.script_reader.specs.Scripts.{Begun, Whole, Alone, Leads}
 use Rattle.two_worlds.specs.declared.applied.Stop.{Stop}
@@ -32,6 +32,7 @@ goes_so : (s : Session) (running : Begun) (line : Line) (printed : List Event) (
 goes_so s running line printed None h = h
 goes_so s running line printed (Some stops.Line) h = h
 goes_so s running line printed (Some (stops.Device role count)) h = h
+goes_so s running line printed (Some (stops.Disk role why)) h = absurd h
 goes_so s running line printed (Some (stops.Full end length size)) h = h
 
 -- what was printed is with the output
@@ -74,22 +75,22 @@ none_does None now None line held a outcome e goes h = adds_so None line now hel
 -- a session is opened, or there is not enough memory
 pub opens : (opened : Result Session OutOfMemory) (now : Option Session) (outcome : Outcome) (line : Line) (running : Begun) (printed : List Event)
     → MatchResult opened (λ begun. (now ≡ Some begun) × (outcome ≡ outcomes.Applied)) (λ e. outcome ≡ outcomes.Memory)
-    → IfOk opened (λ begun. StandsFor begun running) → Leads None line (Some running) printed → printed ≡ [] → TurnGoes None line now printed outcome
+    → IfOk opened (λ begun. StandsFor begun running) → Leads new_disks None line (Some running) printed → printed ≡ [] → TurnGoes None line now printed outcome
 opens (Ok begun) now outcome line running printed h stands leads silent =
     let stand : StandsForRunning now (Some running) = subst (λ (o : Option Session). StandsForRunning o (Some running)) (sym h.0) stands in
     rw h.1 (Some running, leads, stand)
 opens (Err e) now outcome line running printed h stands leads silent = rw h (refl, silent)
 
-pub begins : (line : Line) (row : SessionRow) (bad : Option RowKey) → line ≡ lines.Session row → bad ≡ first_bad row → bad ≡ None
-    → Leads None line (Some (Whole (record { row = row; past = fresh row }))) []
-begins line row bad is same none =
-    subst (λ (l : Line). Leads None l (Some (Whole (record { row = row; past = fresh row }))) []) (sym is) ((sym same ∙ none, refl), refl)
+pub begins : (line : Line) (row : SessionRow) (bad : Option RowKey) → CanOpen row nothing_found → line ≡ lines.Session row → bad ≡ first_bad row → bad ≡ None
+    → Leads new_disks None line (Some (Whole (record { row = row; past = first_past row nothing_found }))) []
+begins line row bad can is same none =
+    subst (λ (l : Line). Leads new_disks None l (Some (Whole (record { row = row; past = first_past row nothing_found }))) []) (sym is) ((sym same ∙ none, can, refl), refl)
 
 pub begins_alone : (line : Line) (row : SessionRow) (next : ℕ) (held : Bool) (bad : Option RowKey) → line ≡ lines.LowSession row next held → bad ≡ first_bad row → bad ≡ None
-    → Leads None line (Some (Alone (record { row = row; past = fresh_alone next held }))) []
+    → Leads new_disks None line (Some (Alone (record { row = row; past = fresh_alone next held }))) []
 begins_alone line row next held bad is same none =
-    subst (λ (l : Line). Leads None l (Some (Alone (record { row = row; past = fresh_alone next held }))) []) (sym is) ((sym same ∙ none, refl), refl)
+    subst (λ (l : Line). Leads new_disks None l (Some (Alone (record { row = row; past = fresh_alone next held }))) []) (sym is) ((sym same ∙ none, refl), refl)
 
 pub skips : (session : Option Session) (running : Option Begun) (line : Line) (held : List ℕ) (a : Option (List ℕ)) → line ≡ lines.Skip → StandsForRunning session running
     → TurnDoes running line session held held a a outcomes.Applied
-skips session running line held a is h = ([], (running, subst (λ (l : Line). Leads running l running []) (sym is) (refl, refl), h), gathers_none held a)
+skips session running line held a is h = ([], (running, subst (λ (l : Line). Leads new_disks running l running []) (sym is) (refl, refl), h), gathers_none held a)

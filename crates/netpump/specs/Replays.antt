@@ -13,9 +13,10 @@ use Rattle.script_reader.specs.declared.fault.Fault.TheVariants.{Words, Read, Sc
 use Rattle.disk_model.specs.declared.name.Role.TheVariants as roles
 use Rattle.script_reader.specs.Faults.{IsFaulty}
 use Rattle.script_reader.specs.Lines.{AreLines, IsUnended, IsSome}
+use Rattle.script_reader.specs.Openings.{Openings, new_disks}
 use Rattle.script_reader.specs.Readouts.{low_lines, Sound}
 use Rattle.script_reader.specs.Scripts.{Begun, Whole, Alone, LeadTo, Stops, ComesTo, IsTranscript}
-use Rattle.script_reader.specs.Sides.{low_side_of, told_to_low, full_moments, averages, HaveOwnMoments}
+use Rattle.script_reader.specs.Sides.{low_side_of, told_to_low, full_moments, averages, restarts_in, HaveOwnMoments, OpenAlike}
 use Rattle.script_reader.specs.Transcript.{text, fault_line}
 use Rattle.two_worlds.specs.Timelines.{IsTimeline}
 use Rattle.two_worlds.specs.TimelinesAlone.{IsTimelineAlone}
@@ -34,31 +35,36 @@ TellsWords old new status =
 -- ---- what the laws say ----
 
 -- before each of these lines, what was printed until then is sound
-abbrev pub AreSound : List Line → List Event → Type 0
-AreSound lines printed = (before : List Line) (line : Line) (later : List Line) → lines ≡ before ++ line ∷ later
+abbrev pub AreSound : Openings → List Line → List Event → Type 0
+AreSound o lines printed = (before : List Line) (line : Line) (later : List Line) → lines ≡ before ++ line ∷ later
     → (running : Option Begun) × (first : List Event) × (rest : List Event)
-    × LeadTo None before running first × (printed ≡ first ++ rest) × Sound running first
+    × LeadTo o None before running first × (printed ≡ first ++ rest) × Sound running first
 
--- whatever other lines do: with the same low side, to which the same was told, they print the same `low` lines
-abbrev pub DecideLow : List Line → List Event → Type 0
-DecideLow lines printed = (others : List Line) (after : Option Begun) (events : List Event) → ComesTo others after events
+-- whatever other lines do, on whatever disks: with the same low side, which opens alike and to which the same was told,
+-- they print the same `low` lines
+abbrev pub DecideLow : Openings → List Line → List Event → Type 0
+DecideLow o lines printed = (p : Openings) (others : List Line) (after : Option Begun) (events : List Event)
+    → ComesTo p others after events → OpenAlike o p lines
     → low_side_of lines ≡ low_side_of others → told_to_low printed ≡ told_to_low events → low_lines printed ≡ low_lines events
 
--- .. and where no two of its looks have one moment, with the same moments of a full buffer and the same averages
-abbrev pub DecideLowByMoments : List Line → List Event → Type 0
-DecideLowByMoments lines printed = (others : List Line) (after : Option Begun) (events : List Event) → ComesTo others after events
+-- .. and where no two of its looks have one moment, with the same moments of a full buffer, the same averages, and a
+-- buffer that each restart finds full in both or in none
+abbrev pub DecideLowByMoments : Openings → List Line → List Event → Type 0
+DecideLowByMoments o lines printed = (p : Openings) (others : List Line) (after : Option Begun) (events : List Event)
+    → ComesTo p others after events → OpenAlike o p lines
     → low_side_of lines ≡ low_side_of others → HaveOwnMoments (low_side_of lines)
-    → full_moments printed ≡ full_moments events → averages printed ≡ averages events → low_lines printed ≡ low_lines events
+    → full_moments printed ≡ full_moments events → restarts_in printed ≡ restarts_in events → averages printed ≡ averages events
+    → low_lines printed ≡ low_lines events
 
 -- What holds of these lines, which came to `after` and printed this, and the last of which may have stopped the script.
 -- At their end, and before each of them: the `low` lines are the replies of the low history, each with its moment; no more
 -- messages are live than there are places, no more are held than lie between the hands, the receiver's list is a front of
 -- the accepted one, and at most 64 arrivals wait. And what Low was told decides its `low` lines
-pub record KeepLaws (lines : List Line) (after : Option Begun) (printed : List Event) : Type 0 where
+pub record KeepLaws (o : Openings) (lines : List Line) (after : Option Begun) (printed : List Event) : Type 0 where
   pub sound : Sound after printed
-  pub each : AreSound lines printed
-  pub low : DecideLow lines printed
-  pub by_moments : DecideLowByMoments lines printed
+  pub each : AreSound o lines printed
+  pub low : DecideLow o lines printed
+  pub by_moments : DecideLowByMoments o lines printed
 
 -- what the session has been through is a timed run, of which its looks were told; to a low side alone its arrivals came
 -- as they come on a connection
@@ -69,20 +75,24 @@ IsTimed (Some (Alone s)) = (events : List Timed) × IsTimelineAlone s.row s.past
 
 -- ---- the lines so far ----
 
--- these lines were read, all could be applied, and they print these events; what is left of the script is `rest`
-pub record IsSoFar (all rest : Option (List ℕ)) (lines : List Line) (events : List Event) (running : Option Begun) : Type 0 where
+-- these lines were read, all could be applied on disks that were found so, and they print these events; what is left of
+-- the script is `rest`
+pub record IsSoFar (o : Openings) (all rest : Option (List ℕ)) (lines : List Line) (events : List Event) (running : Option Begun) : Type 0 where
   pub spelled : AreLines all lines rest
-  pub leads : LeadTo None lines running events
+  pub leads : LeadTo o None lines running events
 
--- the lines of a script that were replayed, what they print, and the session and the rest that they leave
+-- the lines of a script that were replayed, what the disks were found to hold, what the lines print, and the session and
+-- the rest that they leave
 pub record Replayed (all : Option (List ℕ)) : Type 0 where
+  pub openings : Openings
+  pub are_new : openings ≡ new_disks
   pub lines : List Line
   pub events : List Event
   pub running : Option Begun
   pub rest : Option (List ℕ)
-  pub so_far : IsSoFar all rest lines events running
+  pub so_far : IsSoFar openings all rest lines events running
   pub few : length lines < 2 ^ 32
-  pub laws : KeepLaws lines running events
+  pub laws : KeepLaws openings lines running events
   pub timed : IsTimed running
 
 -- after so many lines: the next one is outside the grammar or can't be applied, or would have the number 2^32
@@ -124,7 +134,7 @@ IsNearLast rest left = IsAtEnd rest ⊎ (IsNear rest left ⊎ ((line : Line) × 
 pub record IsFinished {all : Option (List ℕ)} (r : Replayed all) (output : List ℕ) : Type 0 where
   pub ended : IsAtEnd r.rest
   pub printed : List Event
-  pub transcript : IsTranscript r.lines printed
+  pub transcript : IsTranscript r.openings r.lines printed
   pub sound : Sound r.running printed
   pub output_is : output ≡ text printed
 
@@ -145,7 +155,7 @@ pub record IsFaulted {all : Option (List ℕ)} (left : Option (List ℕ)) (r : R
 -- fault, and the laws hold of all that is printed. At most 4,096 bytes were taken from that line on
 pub record IsStopped {all : Option (List ℕ)} (left : Option (List ℕ)) (fault : Fault) (r : Replayed all) (output : List ℕ) : Type 0 where
   pub next : Stopping r.rest (length r.lines) r.running fault
-  pub laws : KeepLaws (r.lines ++ next.line ∷ []) next.after (r.events ++ next.printed)
+  pub laws : KeepLaws r.openings (r.lines ++ next.line ∷ []) next.after (r.events ++ next.printed)
   pub taken : IsNear r.rest left
   pub output_is : output ≡ text (r.events ++ next.printed) ++ fault_line fault
 

@@ -6,6 +6,8 @@ use Rattle.pump_link.specs.Causes.{AppendsFront}
 use Rattle.script_reader.specs.declared.event.Event.{Event}
 use Rattle.script_reader.specs.declared.fault.Fault.TheVariants as faults
 use Rattle.script_reader.specs.declared.line.Line.{Line}
+use Rattle.recovery.specs.Faults.{why_number, why_values}
+use Rattle.script_reader.specs.Openings.{new_disks}
 use Rattle.script_reader.specs.Scripts.{Begun, Leads, IsRefused, Stops}
 use Rattle.script_reader.specs.Transcript.{text}
 use Rattle.two_worlds.specs.declared.applied.Stop.{Stop}
@@ -30,11 +32,12 @@ outcome_of id None = outcomes.Applied
 outcome_of id (Some stops.Line) = outcomes.Refused
 outcome_of id (Some (stops.Device role count)) = outcomes.Stopped (faults.Device id role)
 outcome_of id (Some (stops.Full end length size)) = outcomes.Stopped (faults.Full id end length size)
+outcome_of id (Some (stops.Disk role why)) = outcomes.Stopped (faults.Disk id role (why_number why) (why_values why).0 (why_values why).1)
 
 -- a line that prints this leads on, can't be applied, stops the script, or a session could not begin for want of memory
 abbrev pub TurnGoes : Option Begun → Line → Option Session → List Event → Outcome → Type 0
 TurnGoes running line session printed outcomes.Applied =
-    (after : Option Begun) × Leads running line after printed × StandsForRunning session after
+    (after : Option Begun) × Leads new_disks running line after printed × StandsForRunning session after
 TurnGoes running line session printed outcomes.Refused = IsRefused running line × (printed ≡ [])
 TurnGoes running line session printed (outcomes.Stopped fault) = (after : Option Begun) × Stops running line after printed fault
 TurnGoes running line session printed outcomes.Memory = (running ≡ None) × (printed ≡ [])
@@ -68,4 +71,5 @@ EndsAs all left old new before now (ended.Stopped faults.Words) = ⊥
 EndsAs all left old new before now (ended.Stopped faults.Read) = Wrote all old new (IsUnread left before now)
 EndsAs all left old new before now (ended.Stopped (faults.Script number)) = Wrote all old new (IsFaulted left)
 EndsAs all left old new before now (ended.Stopped (faults.Device session role)) = Wrote all old new (IsFailed left)
+EndsAs all left old new before now (ended.Stopped (faults.Disk session role number first second)) = ⊥
 EndsAs all left old new before now (ended.Stopped (faults.Full session end size_of_message size)) = Wrote all old new (IsOverfilled left)

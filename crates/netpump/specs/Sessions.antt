@@ -5,6 +5,7 @@ use Rattle.disk_model.specs.declared.name.Role.TheVariants as roles
 use Rattle.script_reader.specs.declared.event.Event.{Event}
 use Rattle.script_reader.specs.declared.fault.Fault.TheVariants as faults
 use Rattle.script_reader.specs.declared.line.Line.{Line}
+use Rattle.script_reader.specs.Openings.{new_disks}
 use Rattle.script_reader.specs.Scripts.{Begun, Whole, Alone, Leads, IsRefused, Stops}
 use Rattle.two_worlds.specs.declared.applied.Stop.{Stop}
 use Rattle.two_worlds.specs.declared.applied.Stop.TheVariants as stops
@@ -59,9 +60,10 @@ StandsForRunning (Some session) None = ⊥
 -- for and prints this; or it can't be, and prints nothing; or it stops the script after it printed this
 abbrev pub SessionApplies : Begun → Line → Session → List Event → Option Stop → Type 0
 SessionApplies running line t printed None =
-    (after : Option Begun) × Leads (Some running) line after printed × StandsForRunning (Some t) after
+    (after : Option Begun) × Leads new_disks (Some running) line after printed × StandsForRunning (Some t) after
 SessionApplies running line t printed (Some stops.Line) = IsRefused (Some running) line × (printed ≡ [])
 SessionApplies running line t printed (Some (stops.Device role count)) =
     (after : Option Begun) × Stops (Some running) line after printed (faults.Device (id_of t) role)
 SessionApplies running line t printed (Some (stops.Full end length size)) =
     (after : Option Begun) × Stops (Some running) line after printed (faults.Full (id_of t) end length size)
+SessionApplies running line t printed (Some (stops.Disk role why)) = ⊥

@@ -1,6 +1,7 @@
 ghost use Rattle.std.specs.Prelude.{◌≡◌, ℕ, ◌≤◌, ◌↔◌, ◌⊎◌, List, [], Option, Some, map, string_bytes, IsTrue};
 ghost use Rattle.std.specs.Io.KnownBytes.{Appends};
 ghost use Rattle.pump_frame.specs.Counts.{Rose};
+ghost use Rattle.script_reader.specs.Openings.{new_disks};
 ghost use Rattle.script_reader.specs.declared.fault.Fault.{Fault as Cause};
 ghost use Rattle.netpump.specs.Statuses.{EndsWith, status_of};
 ghost use Rattle.netpump.specs.Replays.{IsReplay, TellsWords, IsFinished, IsUnread, IsFaulted, IsFailed, IsOverfilled, IsCutOff, Wrote, WroteFront};
@@ -32,6 +33,8 @@ fn is_replay(words: &Vec<String>) -> bool
 ///   written.
 /// - 7: a line told that the device of a low side alone fails, in a store; the transcript of the
 ///   lines before was written, and what this line printed.
+/// - 8: a disk is refused when a line opens it again, which never comes over disks that nobody else
+///   writes.
 /// - 10: a line's message does not fit on the receiver's disk; the same was written.
 ///
 /// Of 0, 5, 7 and 10 it is the one whose cause is the first in the script, where it is none of the
@@ -58,7 +61,7 @@ pub fn batch<I: Source, O: Sink>(
     ensures device { result ≡ 7 → Wrote (I.left script.old) (O.written out.old) (O.written out.new) (IsFailed (I.left script.new)) }
     ensures full { result ≡ 10 → Wrote (I.left script.old) (O.written out.old) (O.written out.new) (IsOverfilled (I.left script.new)) }
     // A script that tells its bytes has the status of its end, unless memory, a read or a write failed.
-    ensures only { IsReplay (map string_bytes words.now.items) → (bytes : List ℕ) (end : Option Cause) → I.left script.old ≡ Some bytes → EndsWith bytes end
+    ensures only { IsReplay (map string_bytes words.now.items) → (bytes : List ℕ) (end : Option Cause) → I.left script.old ≡ Some bytes → EndsWith new_disks bytes end
         → (result ≡ status_of end) ⊎ ((result ≡ 1) ⊎ ((result ≡ 3) ⊎ (result ≡ 4))) }
     ensures status { (result ≤ 5) ⊎ ((result ≡ 7) ⊎ (result ≡ 10)) }
 {
@@ -76,6 +79,7 @@ pub fn batch<I: Source, O: Sink>(
         Ended::Write => 4,
         Ended::Stopped(Fault::Script { .. }) => 5,
         Ended::Stopped(Fault::Device { .. }) => 7,
+        Ended::Stopped(Fault::Disk { .. }) => 8,
         Ended::Stopped(Fault::Full { .. }) => 10,
     }
 }

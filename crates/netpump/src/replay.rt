@@ -95,6 +95,16 @@ fn outcome_of(id: u32, stop: &Option<Stop>) -> Outcome
             length: *length,
             size: *size,
         }),
+        Some(Stop::Disk { role, why }) => {
+            let (first, second) = why.values();
+            Outcome::Stopped(Fault::Disk {
+                session: id,
+                role: *role,
+                number: why.number(),
+                first,
+                second,
+            })
+        }
     }
 }
 

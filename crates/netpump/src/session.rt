@@ -6,7 +6,7 @@ ghost use Rattle.script_reader.specs.Lawful.{IsLawfulLine};
 ghost use Rattle.script_reader.specs.EventHeads.{event_of};
 ghost use Rattle.script_reader.specs.Heads.{line_with, CanHoldLine};
 ghost use Rattle.script_reader.specs.Grammar.{IsCount};
-ghost use Rattle.script_reader.specs.Past.{fresh};
+ghost use Rattle.script_reader.specs.Openings.{nothing_found, first_past};
 ghost use Rattle.script_reader.specs.Alone.{fresh_alone};
 ghost use Rattle.script_reader.specs.Scripts.{Begun, Running, RunningAlone, Whole, Alone, Ends};
 ghost use Rattle.two_worlds.specs.Printing.{lines_in};
@@ -31,7 +31,7 @@ impl Session {
     /// A whole session over three disks in memory with room for all that their formats need.
     pub fn whole(alloc: Global, row: &SessionRow) -> Result<Session, OutOfMemory>
         requires lawful { IsLawfulRow row.now }
-        ensures { IfOk result (λ session. StandsFor session (Whole (record { row = row.now; past = fresh row.now }))) }
+        ensures { IfOk result (λ session. StandsFor session (Whole (record { row = row.now; past = first_past row.now nothing_found }))) }
     {
         let low = PlainDisk::new(alloc, disk_size(row, Role::Low))?;
         let high = PlainDisk::new(alloc, disk_size(row, Role::High))?;

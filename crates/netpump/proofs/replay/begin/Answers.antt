@@ -1,12 +1,13 @@
 use Rattle.std.proofs.Common.{[], refl, ap}
 use Rattle.script_reader.specs.Heads.{line_with}
+use Rattle.script_reader.proofs.Opened.{new_disks_can}
 use Rattle.netpump.proofs.Turns.{opens, begins, begins_alone}
 use Rattle.netpump.proofs.replay.begin.Goals as goal
 
 pub returns-in-None : goal.returns-in-None
 returns-in-None c =
     opens c.whole.result c.keep.new.session c.keep.result (line_with c.args.body.now c.args.line.now) _ [] c.keep.ensures c.whole.ensures
-    (begins (line_with c.args.body.now c.args.line.now) c.in-Session.row c.first_bad.result (ap (line_with c.args.body.now) c.in-Session.is) c.first_bad.ensures c.in-None.is) refl
+    (begins (line_with c.args.body.now c.args.line.now) c.in-Session.row c.first_bad.result (new_disks_can c.in-Session.row) (ap (line_with c.args.body.now) c.in-Session.is) c.first_bad.ensures c.in-None.is) refl
 
 pub returns-in-None-first_bad : goal.returns-in-None-first_bad
 returns-in-None-first_bad c =

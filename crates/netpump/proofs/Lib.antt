@@ -3,10 +3,11 @@ pub mod Finished
 pub mod Gathered
 pub mod Going
 pub mod Kept
-pub mod OneStatus
 pub mod OneWord
-pub mod Rooms
+pub mod Opened
+pub mod Shelving
 pub mod SoFar
 pub mod Stopping
 pub mod Stops
+pub mod Stub
 pub mod Turns

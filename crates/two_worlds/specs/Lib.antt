@@ -12,6 +12,7 @@ pub mod Private
 pub mod Pumps
 pub mod Rooms
 pub mod Standing
+pub mod States
 pub mod Timelines
 pub mod TimelinesAlone
 pub mod Timely

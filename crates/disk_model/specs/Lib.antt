@@ -1,9 +1,12 @@
 pub mod Contents
 pub mod Disk
+pub mod DiskNames
 pub mod Mem
+pub mod MemShelf
 pub mod Plain
 pub mod Ranges
 pub mod Record
 pub mod RecordLaws
+pub mod Shelf
 pub mod Spare
 pub mod Written

@@ -1,4 +1,6 @@
-use crate::{Disk, DiskFault, MemDisk, Outcome, PlainDisk};
+use crate::{
+    Disk, DiskFault, DiskName, MemDisk, MemShelf, Outcome, PlainDisk, Role, Shelf, ShelfFault,
+};
 use std::alloc::Global;
 use std::test::Fail;
 
@@ -47,5 +49,77 @@ fn a_crash_leaves_one_of_three(rt: HostRuntime) -> Result<(), Fail> {
         assert_eq!(rt; disk.read(0, &mut into), Ok(()));
         assert_eq!(rt; into, bytes);
     }
+    Ok(())
+}
+
+const LOW: DiskName = DiskName {
+    session: 7,
+    role: Role::Low,
+};
+
+const HIGH: DiskName = DiskName {
+    session: 7,
+    role: Role::High,
+};
+
+// Takes a disk off the shelf, makes so many calls of it that fail, and puts it back.
+fn visit<S: Shelf>(shelf: &mut S, name: DiskName, failing: u64) -> Result<u64, ShelfFault> {
+    let mut disk = shelf.disk(name)?;
+    for _ in 0..failing {
+        let _ = disk.read(u64::MAX, &mut [0]);
+    }
+    let size = disk.size();
+    shelf.keep(name, disk);
+    size.map_err(|_| ShelfFault::Failed)
+}
+
+#[test]
+fn a_shelf_gives_what_it_holds(rt: HostRuntime) -> Result<(), Fail> {
+    let alloc = rt.alloc();
+    let mut low = PlainDisk::new(alloc, 8)?;
+    assert_eq!(rt; low.write_at(0, b"relay"), Ok(()));
+    let files = vec![in alloc;
+        (
+            String::from_str(alloc, "table")?,
+            Vec::from_slice(alloc, b"rows")?
+        ),
+    ]?;
+    let disks = vec![in alloc; (HIGH, PlainDisk::new(alloc, 8)?), (LOW, low)]?;
+    let mut shelf = MemShelf::new(disks, files, vec![in alloc; 5]?);
+    for (name, result, front) in [
+        ("table", Ok(4), *b"row"),
+        ("chair", Err(ShelfFault::Failed), *b"___"),
+    ] {
+        let mut into = *b"___";
+        assert_eq!(rt; shelf.whole(name, &mut into), result);
+        assert_eq!(rt; into, front);
+    }
+    let recv = DiskName {
+        session: 7,
+        role: Role::Recv,
+    };
+    // The call with the number 5 fails.
+    for (name, failing, result, faults) in [
+        (LOW, 0, Ok(5), 0),
+        (LOW, 2, Ok(5), 1),
+        (HIGH, 0, Ok(0), 1),
+        (HIGH, 0, Err(ShelfFault::Failed), 2),
+        (recv, 0, Err(ShelfFault::Failed), 3),
+        (LOW, 0, Ok(5), 3),
+    ] {
+        assert_eq!(rt; visit(&mut shelf, name, failing), result);
+        assert_eq!(rt; shelf.disk_faults(), faults);
+    }
+    let out = shelf.disk(LOW);
+    assert_eq!(rt;
+        (
+            out.is_ok(),
+            shelf.home(LOW).is_some(),
+            shelf.home(HIGH).is_some()
+        ),
+        (true, false, true)
+    );
+    assert_eq!(rt; shelf.disk(LOW).is_err(), true);
+    assert_eq!(rt; shelf.faults(), 1);
     Ok(())
 }

@@ -46,33 +46,33 @@ fit_begun Remove t m h fit = record {
 fit_begun Keep t m h fit = fit
 fit_begun (Refuse e) t m h fit = fit
 
-takes_fits : (s : Shape) (exact : Bool) (after : Low → High → Type 0) (l : Low) (h : High) (q : HighProcess) (b : Bool) (t : ProcessPast) (got : Option Item)
-    → Fit h t → ((k : High) → Fit k (taken_up t got) → FitsEnd q k) → TakesUp s exact after l h b t.removed got → TakesUp s exact (StandsFitting after q) l h b t.removed got
-takes_fits s exact after l h q true t (Some x) fit ends (is, stands) = (is, (stands, ends (takes h x t.removed) (record { count = fit.count; floor = omega arith })))
-takes_fits s exact after l h q true t None fit ends (is, stands) = (is, (stands, ends (sought h (length h.taken)) (record { count = fit.count; floor = fit.floor })))
-takes_fits s exact after l h q false t got fit ends (none, stands) = (none, (stands, ends h (subst (λ g. Fit h (taken_up t g)) (sym none) fit)))
+takes_fits : (s : Shape) (on_one_thread : Bool) (after : Low → High → Type 0) (l : Low) (h : High) (q : HighProcess) (b : Bool) (t : ProcessPast) (got : Option Item)
+    → Fit h t → ((k : High) → Fit k (taken_up t got) → FitsEnd q k) → TakesUp s on_one_thread after l h b t.removed got → TakesUp s on_one_thread (StandsFitting after q) l h b t.removed got
+takes_fits s on_one_thread after l h q true t (Some x) fit ends (is, stands) = (is, (stands, ends (takes h x t.removed) (record { count = fit.count; floor = omega arith })))
+takes_fits s on_one_thread after l h q true t None fit ends (is, stands) = (is, (stands, ends (sought h (length h.taken)) (record { count = fit.count; floor = fit.floor })))
+takes_fits s on_one_thread after l h q false t got fit ends (none, stands) = (none, (stands, ends h (subst (λ g. Fit h (taken_up t g)) (sym none) fit)))
 
-pub looked_fitting : (s : Shape) (exact : Bool) (after : Low → High → Type 0) (l : Low) (h : High) (p q : HighProcess) (t : ProcessPast) (m : ℕ) (task : Task) (a : Bool) (look : HighLook)
-    → StandsFor p t → FitsEnd p h → Looked s exact after l h p q t m task a look → Looked s exact (StandsFitting after q) l h p q t m task a look
-looked_fitting s exact after l h p q t m task a look stands fits seen =
+pub looked_fitting : (s : Shape) (on_one_thread : Bool) (after : Low → High → Type 0) (l : Low) (h : High) (p q : HighProcess) (t : ProcessPast) (m : ℕ) (task : Task) (a : Bool) (look : HighLook)
+    → StandsFor p t → FitsEnd p h → Looked s on_one_thread after l h p q t m task a look → Looked s on_one_thread (StandsFitting after q) l h p q t m task a look
+looked_fitting s on_one_thread after l h p q t m task a look stands fits seen =
     let u : ProcessPast = begun task t m in
     record {
       got = seen.got;
-      ends = takes_fits s exact after l (told_time (published_in task t m) h) q (wants u) u seen.got (fit_begun task t m h (fit_from p t h stands fits))
+      ends = takes_fits s on_one_thread after l (told_time (published_in task t m) h) q (wants u) u seen.got (fit_begun task t m h (fit_from p t h stands fits))
           (λ k fit. fits_from q (finished p.row.resend a (taken_up u seen.got) m) k seen.stands (record { count = fit.count; floor = fit.floor })) seen.ends;
       stands = seen.stands;
       is = seen.is;
     }
 
-takes_some : (s : Shape) (exact : Bool) (after : Low → High → Type 0) (l : Low) (h : High) (b : Bool) (n : ℕ) (got : Option Item) → TakesUp s exact after l h b n got → (l' : Low) × ((h' : High) × after l' h')
-takes_some s exact after l h true n (Some x) (is, stands) = (l, (takes h x n, stands))
-takes_some s exact after l h true n None (is, stands) = (l, (sought h (length h.taken), stands))
-takes_some s exact after l h false n got (none, stands) = (l, (h, stands))
+takes_some : (s : Shape) (on_one_thread : Bool) (after : Low → High → Type 0) (l : Low) (h : High) (b : Bool) (n : ℕ) (got : Option Item) → TakesUp s on_one_thread after l h b n got → (l' : Low) × ((h' : High) × after l' h')
+takes_some s on_one_thread after l h true n (Some x) (is, stands) = (l, (takes h x n, stands))
+takes_some s on_one_thread after l h true n None (is, stands) = (l, (sought h (length h.taken), stands))
+takes_some s on_one_thread after l h false n got (none, stands) = (l, (h, stands))
 
 -- there is something that the end and the process stand for after a look
-pub looked_some : (s : Shape) (exact : Bool) (after : Low → High → Type 0) (l : Low) (h : High) (p q : HighProcess) (t : ProcessPast) (m : ℕ) (task : Task) (a : Bool) (look : HighLook)
-    → Looked s exact after l h p q t m task a look → (l' : Low) × ((h' : High) × ((t' : ProcessPast) × (after l' h' × StandsFor q t')))
-looked_some s exact after l h p q t m task a look seen =
+pub looked_some : (s : Shape) (on_one_thread : Bool) (after : Low → High → Type 0) (l : Low) (h : High) (p q : HighProcess) (t : ProcessPast) (m : ℕ) (task : Task) (a : Bool) (look : HighLook)
+    → Looked s on_one_thread after l h p q t m task a look → (l' : Low) × ((h' : High) × ((t' : ProcessPast) × (after l' h' × StandsFor q t')))
+looked_some s on_one_thread after l h p q t m task a look seen =
     let u : ProcessPast = begun task t m in
-    let e = takes_some s exact after l (told_time (published_in task t m) h) (wants u) u.removed seen.got seen.ends in
+    let e = takes_some s on_one_thread after l (told_time (published_in task t m) h) (wants u) u.removed seen.got seen.ends in
     (e.0, (e.1.0, (finished p.row.resend a (taken_up u seen.got) m, (e.1.1, seen.stands))))

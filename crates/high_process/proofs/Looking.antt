@@ -396,15 +396,15 @@ module _ {D : Type 0} (m : Meaning D) (row : Row) (session removed : ℕ) (hand 
   images T p q r Keep is f = same_images f.1
   images T p q r Remove is f = removed_images (removal session removed hand frame (sym is)).given f.0.moves
 
-pub looked : (s : Shape) (exact : Bool) (after' : Low → High → Type 0) (l : Low) (h : High) (p q q' : HighProcess) (t : ProcessPast) (m : ℕ) (task : Task) (a : Bool) (ask : HighAsk) (item : Option Item) (look : HighLook)
-    → q.row.resend ≡ p.row.resend → LookBegins p q m task a ask → Finishes q q' item look → TakesUp s exact after' l (told_time ask.publish h) ask.wants ask.removed item → StandsFor p t
-    → Looked s exact after' l h p q' t m task a look
-looked s exact after' l h p q q' t m task a ask item look same begins finishes takes holds =
+pub looked : (s : Shape) (on_one_thread : Bool) (after' : Low → High → Type 0) (l : Low) (h : High) (p q q' : HighProcess) (t : ProcessPast) (m : ℕ) (task : Task) (a : Bool) (ask : HighAsk) (item : Option Item) (look : HighLook)
+    → q.row.resend ≡ p.row.resend → LookBegins p q m task a ask → Finishes q q' item look → TakesUp s on_one_thread after' l (told_time ask.publish h) ask.wants ask.removed item → StandsFor p t
+    → Looked s on_one_thread after' l h p q' t m task a look
+looked s on_one_thread after' l h p q q' t m task a ask item look same begins finishes takes holds =
     let b = begins t holds in
     let f = finishes (begun task t m) m (removed_in task t) (published_in task t m) a b.0 in
     record {
       got = item;
-      ends = subst (λ (r : HighAsk). TakesUp s exact after' l (told_time r.publish h) r.wants r.removed item) b.1 takes;
+      ends = subst (λ (r : HighAsk). TakesUp s on_one_thread after' l (told_time r.publish h) r.wants r.removed item) b.1 takes;
       stands = subst (λ n. StandsFor q' (finished n a (taken_up (begun task t m) item) m)) same f.0;
       is = subst (λ n. look ≡ record { removed = removed_in task t; published = published_in task t m; sent = sent_in n a (taken_up (begun task t m) item) m }) same f.1;
     }

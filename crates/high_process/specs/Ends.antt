@@ -17,9 +17,9 @@ told_time (Some x) h = publishes h x
 
 -- the end is asked for a message, if one is wanted. `after` is what it stands for at the return
 abbrev pub TakesUp : Shape → Bool → (Low → High → Type 0) → Low → High → Bool → ℕ → Option Item → Type 0
-TakesUp s exact after l h true removed (Some x) = Gives s exact after l h x removed
-TakesUp s exact after l h true removed None = GivesNone s exact after l h
-TakesUp s exact after l h false removed got = (got ≡ None) × after l h
+TakesUp s on_one_thread after l h true removed (Some x) = Gives s on_one_thread after l h x removed
+TakesUp s on_one_thread after l h true removed None = GivesNone s on_one_thread after l h
+TakesUp s on_one_thread after l h false removed got = (got ≡ None) × after l h
 
 -- the end published as many times as the process, and gave no message but those that are removed and
 -- the one in the hand

@@ -73,8 +73,8 @@ pub record Asked (p q : HighProcess) (ask : HighAsk) : Type 0 where
 
 -- a look: what the process and its end stood for, they stand for after it with its steps. `after` is
 -- what the end stands for then
-pub record Looked (s : Shape) (exact : Bool) (after : Low → High → Type 0) (l : Low) (h : High) (p q : HighProcess) (t : ProcessPast) (m : ℕ) (task : Task) (attaches : Bool) (look : HighLook) : Type 0 where
+pub record Looked (s : Shape) (on_one_thread : Bool) (after : Low → High → Type 0) (l : Low) (h : High) (p q : HighProcess) (t : ProcessPast) (m : ℕ) (task : Task) (attaches : Bool) (look : HighLook) : Type 0 where
   pub got : Option Item
-  pub ends : TakesUp s exact after l (told_time (published_in task t m) h) (wants (begun task t m)) (begun task t m).removed got
+  pub ends : TakesUp s on_one_thread after l (told_time (published_in task t m) h) (wants (begun task t m)) (begun task t m).removed got
   pub stands : StandsFor q (finished p.row.resend attaches (taken_up (begun task t m) got) m)
   pub is : look ≡ record { removed = removed_in task t; published = published_in task t m; sent = sent_in p.row.resend attaches (taken_up (begun task t m) got) m }

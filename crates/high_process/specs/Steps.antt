@@ -80,7 +80,7 @@ StepFinishes resend s q item look = (a : Asking) → s.asking ≡ Some a →
     × (look ≡ record { removed = a.removed; published = a.published; sent = if sends_of resend (with_item s item) a.attaches s.last then Some s.removed else None })
 
 -- the process takes up what the end gives, if it wants a message. `after` is what the end stands for then
-pub record Fills (s : Shape) (exact : Bool) (stands after : Low → High → Type 0) (p q : State) (ask : HighAsk) : Type 0 where
+pub record Fills (s : Shape) (on_one_thread : Bool) (stands after : Low → High → Type 0) (p q : State) (ask : HighAsk) : Type 0 where
   pub got : Option Item
   pub filled : q ≡ with_item p got
-  pub takes : (l : Low) (h : High) → stands l h → TakesUp s exact after l (told_time ask.publish h) ask.wants ask.removed got
+  pub takes : (l : Low) (h : High) → stands l h → TakesUp s on_one_thread after l (told_time ask.publish h) ask.wants ask.removed got

@@ -28,7 +28,7 @@ fn take_up<H: HighEnd>(wants: bool, removed: u64, ends: &mut H, into: &mut Item)
     ensures none { wants ≡ false → result ≡ false }
     ensures kept { result ≡ false → into.new ≡ into.old }
     ensures takes { (l : Low) (h : High) → H.stands ends.old l h
-        → TakesUp (H.shape ends.old) H.exact (H.stands ends.new) l h wants removed (hand_in result into.new) }
+        → TakesUp (H.shape ends.old) H.on_one_thread (H.stands ends.new) l h wants removed (hand_in result into.new) }
 {
     if !wants {
         return false;
@@ -47,7 +47,7 @@ pub fn fetch<H: HighEnd>(ask: &HighAsk, ends: &mut H, into: &mut Item) -> bool
     ensures none { ask.now.wants ≡ false → result ≡ false }
     ensures kept { result ≡ false → into.new ≡ into.old }
     ensures takes { (l : Low) (h : High) → H.stands ends.old l h
-        → TakesUp (H.shape ends.old) H.exact (H.stands ends.new)
+        → TakesUp (H.shape ends.old) H.on_one_thread (H.stands ends.new)
         l (told_time ask.now.publish h) ask.now.wants ask.now.removed (hand_in result into.new) }
 {
     tell(ask.publish, ends);

@@ -78,7 +78,7 @@ impl HighProcess {
             self.old self.new store.old store.new result }
         ensures looks { IfOk result (λ look. (l : Low) (h : High) (t : ProcessPast)
             → StandsFitting (H.stands ends.old) self.old l h → StandsFor self.old t
-            → Looked (H.shape ends.old) H.exact (StandsFitting (H.stands ends.new) self.new)
+            → Looked (H.shape ends.old) H.on_one_thread (StandsFitting (H.stands ends.new) self.new)
             l h self.old self.new t moment
             (task_at self.old (frame_of frame.entry)) (attaches_at self.old (frame_of frame.entry)) look) }
         ensures images { LeavesCounted D.told self.old store.old store.new (frame_of frame.entry) }

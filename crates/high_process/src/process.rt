@@ -290,7 +290,7 @@ impl HighProcess {
         ensures shape { H.shape ends.new ≡ H.shape ends.old }
         ensures place { H.place ends.new ≡ H.place ends.old }
         ensures row { self.new.row ≡ self.old.row }
-        ensures fills { Fills (H.shape ends.old) H.exact (H.stands ends.old) (H.stands ends.new)
+        ensures fills { Fills (H.shape ends.old) H.on_one_thread (H.stands ends.old) (H.stands ends.new)
             (state_of self.old) (state_of self.new) ask.now }
     {
         if fetch(ask, ends, &mut self.hand) {

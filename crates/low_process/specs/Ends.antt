@@ -26,21 +26,21 @@ StandsFitting stands p l h = stands l h × FitsEnd p l
 -- exactly where an acknowledgement is owed. `after` is what the end stands for at the return
 abbrev pub OfferStep : Shape → Bool → (Low → High → Type 0) → Low → High → Item → Bool → Answer
     → Type 0
-OfferStep s exact after l h item owed ToldFull = Refuses s exact after l h
-OfferStep s exact after l h item true (ToldPassed seen) =
-    Passes s exact (λ l' h'. Reads s exact after l' h' seen.count seen.average) l h item
-OfferStep s exact after l h item false (ToldPassed seen) = Passes s exact after l h item
-OfferStep s exact after l h item owed (ToldAverage seen) = ⊥
+OfferStep s on_one_thread after l h item owed ToldFull = Refuses s on_one_thread after l h
+OfferStep s on_one_thread after l h item true (ToldPassed seen) =
+    Passes s on_one_thread (λ l' h'. Reads s on_one_thread after l' h' seen.count seen.average) l h item
+OfferStep s on_one_thread after l h item false (ToldPassed seen) = Passes s on_one_thread after l h item
+OfferStep s on_one_thread after l h item owed (ToldAverage seen) = ⊥
 
 -- what the end goes through in a look, by the feedback: what passes is the message that was in the
 -- hand, and an average is read where it passes owed, and where a message came once more
 abbrev pub EndStep : Shape → Bool → (Low → High → Type 0) → Low → High → Option Item → Feedback
     → Type 0
-EndStep s exact after l h hand Quiet = after l h
-EndStep s exact after l h hand Full = Refuses s exact after l h
-EndStep s exact after l h (Some item) (Passed seen) =
-    Passes s exact (λ l' h'. Reads s exact after l' h' seen.count seen.average) l h item
-EndStep s exact after l h None (Passed seen) = ⊥
-EndStep s exact after l h (Some item) Released = Passes s exact after l h item
-EndStep s exact after l h None Released = ⊥
-EndStep s exact after l h hand (Repeat seen) = Reads s exact after l h seen.count seen.average
+EndStep s on_one_thread after l h hand Quiet = after l h
+EndStep s on_one_thread after l h hand Full = Refuses s on_one_thread after l h
+EndStep s on_one_thread after l h (Some item) (Passed seen) =
+    Passes s on_one_thread (λ l' h'. Reads s on_one_thread after l' h' seen.count seen.average) l h item
+EndStep s on_one_thread after l h None (Passed seen) = ⊥
+EndStep s on_one_thread after l h (Some item) Released = Passes s on_one_thread after l h item
+EndStep s on_one_thread after l h None Released = ⊥
+EndStep s on_one_thread after l h hand (Repeat seen) = Reads s on_one_thread after l h seen.count seen.average

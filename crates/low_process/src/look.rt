@@ -34,7 +34,7 @@ fn offer<L: LowEnd>(item: Item, is_owed: bool, ends: &mut L) -> Answer
     ensures place { L.place ends.new ≡ L.place ends.old }
     ensures fits { IsAnswerTo AsksForward result }
     ensures step { (l : Low) (h : High) → L.stands ends.old l h → ComesNext l.forwarded item.number
-        → OfferStep (L.shape ends.old) L.exact (L.stands ends.new) l h item is_owed result }
+        → OfferStep (L.shape ends.old) L.on_one_thread (L.stands ends.new) l h item is_owed result }
 {
     match ends.forward(item) {
         Forwarded::Full(_) => Answer::Full,
@@ -145,7 +145,7 @@ impl LowProcess {
         ensures place { L.place ends.new ≡ L.place ends.old }
         ensures ends { (l : Low) (h : High)
             → L.stands ends.old l h → ComesNext l.forwarded item.number
-            → EndStep (L.shape ends.old) L.exact (StandsFitting (L.stands ends.new) self.new) l h
+            → EndStep (L.shape ends.old) L.on_one_thread (StandsFitting (L.stands ends.new) self.new) l h
             (Some item) head.new.feedback }
     {
         let is_owed = self.owes();
@@ -188,7 +188,7 @@ impl LowProcess {
         ensures shape { L.shape ends.new ≡ L.shape ends.old }
         ensures place { L.place ends.new ≡ L.place ends.old }
         ensures ends { (l : Low) (h : High) → StandsFitting (L.stands ends.old) self.old l h
-            → EndStep (L.shape ends.old) L.exact (StandsFitting (L.stands ends.new) self.new) l h
+            → EndStep (L.shape ends.old) L.on_one_thread (StandsFitting (L.stands ends.new) self.new) l h
             (hand_of self.old) head.new.feedback }
     {
         match self.begin_into(moment, word, arrival, store, head) {
@@ -235,7 +235,7 @@ impl LowProcess {
         ensures shape { L.shape ends.new ≡ L.shape ends.old }
         ensures place { L.place ends.new ≡ L.place ends.old }
         ensures ends { (l : Low) (h : High) → StandsFitting (L.stands ends.old) self.old l h
-            → EndStep (L.shape ends.old) L.exact (StandsFitting (L.stands ends.new) self.new) l h
+            → EndStep (L.shape ends.old) L.on_one_thread (StandsFitting (L.stands ends.new) self.new) l h
             (hand_of self.old) result.feedback }
     {
         let mut head = LookHead::new();

@@ -37,7 +37,7 @@ pub trait LowSide {
     ghost place: { Self → List TableId };
 
     /// Both ends are on one thread, so that a call sees the other end as it is.
-    ghost exact: { Bool };
+    ghost on_one_thread: { Bool };
 
     /// What was done at this end, and at the other one.
     ghost stands: { Self → Low → High → Type 0 };
@@ -56,7 +56,7 @@ pub trait HighSide {
     ghost place: { Self → List TableId };
 
     /// Both ends are on one thread, so that a call sees the other end as it is.
-    ghost exact: { Bool };
+    ghost on_one_thread: { Bool };
 
     /// What was done at the other end, and at this one.
     ghost stands: { Self → Low → High → Type 0 };
@@ -76,8 +76,8 @@ pub trait LowEnd: LowSide {
         ensures back { IfFull result (λ back. back ≡ item) }
         ensures step { (l : Low) (h : High) → Self.stands self.old l h → ComesNext l.forwarded item.number
             → MatchForwarded result
-            (Passes (Self.shape self.old) Self.exact (Self.stands self.new) l h item)
-            (Refuses (Self.shape self.old) Self.exact (Self.stands self.new) l h) };
+            (Passes (Self.shape self.old) Self.on_one_thread (Self.stands self.new) l h item)
+            (Refuses (Self.shape self.old) Self.on_one_thread (Self.stands self.new) l h) };
 
     /// What was published at a step of this call: how many times, not fewer than were read before,
     /// and their average in microseconds, at most 10^9.
@@ -87,7 +87,7 @@ pub trait LowEnd: LowSide {
         ensures place { Self.place self.new ≡ Self.place self.old }
         ensures bound { result.average ≤ 10 ^ 9 }
         ensures step { (l : Low) (h : High) → Self.stands self.old l h
-            → Reads (Self.shape self.old) Self.exact (Self.stands self.new) l h
+            → Reads (Self.shape self.old) Self.on_one_thread (Self.stands self.new) l h
             result.count result.average };
 }
 
@@ -104,8 +104,8 @@ pub trait HighEnd: HighSide {
         ensures kept { result ≡ false → into.new ≡ into.old }
         ensures step { (l : Low) (h : High) → Self.stands self.old l h
             → MatchTaken result
-            (Gives (Self.shape self.old) Self.exact (Self.stands self.new) l h into.new removed)
-            (GivesNone (Self.shape self.old) Self.exact (Self.stands self.new) l h) };
+            (Gives (Self.shape self.old) Self.on_one_thread (Self.stands self.new) l h into.new removed)
+            (GivesNone (Self.shape self.old) Self.on_one_thread (Self.stands self.new) l h) };
 
     /// As `next_into`, with the item by value.
     fn next(&mut self, removed: u64) -> Next
@@ -114,8 +114,8 @@ pub trait HighEnd: HighSide {
         ensures place { Self.place self.new ≡ Self.place self.old }
         ensures step { (l : Low) (h : High) → Self.stands self.old l h
             → MatchNext result
-            (λ item. Gives (Self.shape self.old) Self.exact (Self.stands self.new) l h item removed)
-            (GivesNone (Self.shape self.old) Self.exact (Self.stands self.new) l h) }
+            (λ item. Gives (Self.shape self.old) Self.on_one_thread (Self.stands self.new) l h item removed)
+            (GivesNone (Self.shape self.old) Self.on_one_thread (Self.stands self.new) l h) }
     {
         let mut item = Item::default();
         if self.next_into(removed, &mut item) {

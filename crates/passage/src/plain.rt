@@ -27,7 +27,7 @@ impl LowSide for PlainEnds {
 
     ghost place = { λ e. [] };
 
-    ghost exact = { true };
+    ghost on_one_thread = { true };
 
     ghost stands = { StandsFor };
 }
@@ -40,7 +40,7 @@ impl HighSide for PlainEnds {
 
     ghost place = { λ e. [] };
 
-    ghost exact = { true };
+    ghost on_one_thread = { true };
 
     ghost stands = { StandsFor };
 }

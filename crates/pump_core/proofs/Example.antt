@@ -10,7 +10,7 @@ use Rattle.pump_core.specs.Replies.{welcome, acknowledgement, LowReplies}
 use Rattle.pump_core.specs.declared.event.Event.TheVariants.{StoreBegin, StoreEnd, Forward, Acknowledge}
 use Rattle.pump_core.specs.World.{World, empty}
 use Rattle.pump_core.specs.Events.{Empty, stored}
-use Rattle.pump_core.specs.Timed.{Step, Arrives, LowLook, Offer, Read, Occurs, Point, opening_in, high_from, LeadsTo}
+use Rattle.pump_core.specs.Timed.{Step, Arrives, LowLook, Offer, Read, Occurs, Point, opening_in, high_from, look_begun, LeadsTo}
 use Rattle.pump_core.specs.Comings.{Whole, Comes, Looks, Timed}
 use Rattle.pump_core.specs.Runs.{IsRun}
 
@@ -101,16 +101,16 @@ point w events stood = record {
 }
 
 abbrev e₁ : List Timed
-e₁ = Looks 10 0 false false Quiet ∷ Comes (Whole hello) ∷ []
+e₁ = Looks (look_begun 10 0 false false) ∷ Comes (Whole hello) ∷ []
 
 abbrev e₂ : List Timed
-e₂ = Looks 20 0 false false Quiet ∷ Comes (Whole message) ∷ e₁
+e₂ = Looks (look_begun 20 0 false false) ∷ Comes (Whole message) ∷ e₁
 
 abbrev e₃ : List Timed
-e₃ = Looks 30 0 false false (Passed (record { count = 0; average = 5 })) ∷ e₂
+e₃ = Looks (record (look_begun 30 0 false false) { feedback = Passed (record { count = 0; average = 5 }) }) ∷ e₂
 
 abbrev e₄ : List Timed
-e₄ = Looks 40 0 false false Quiet ∷ e₃
+e₄ = Looks (look_begun 40 0 false false) ∷ e₃
 
 abbrev s₂ : List Step
 s₂ = Occurs (StoreBegin payload) ∷ Occurs StoreEnd ∷ []
@@ -187,17 +187,21 @@ run = record {
     (
       2,
       (
+        refl,
         2,
-        record { moment = refl; word = refl; outcome = refl; feedback = refl; leaves = refl; before = Delivery x₂ [] x₃ (Waiting []) ∷ Answer x₁ ∷ []; cut = cut₃; arrival = λ g t. absurd (cc); count = refl },
+        record { before = Delivery x₂ [] x₃ (Waiting []) ∷ Answer x₁ ∷ []; cut = cut₃; arrival = λ g t. absurd (cc); count = refl },
         (
+          refl,
           2,
-          record { moment = refl; word = refl; outcome = refl; feedback = refl; leaves = refl; before = Offering x₂ [] ∷ Answer x₁ ∷ []; cut = cut₂; arrival = λ g t. absurd (cc); count = refl },
+          record { before = Offering x₂ [] ∷ Answer x₁ ∷ []; cut = cut₂; arrival = λ g t. absurd (cc); count = refl },
           (
+            refl,
             1,
-            record { moment = refl; word = refl; outcome = refl; feedback = refl; leaves = refl; before = Answer x₁ ∷ []; cut = cut₁; arrival = λ g t. refl; count = refl },
+            record { before = Answer x₁ ∷ []; cut = cut₁; arrival = λ g t. refl; count = refl },
             (
+              refl,
               0,
-              record { moment = refl; word = refl; outcome = refl; feedback = refl; leaves = refl; before = []; cut = cut₀; arrival = λ g t. refl; count = refl },
+              record { before = []; cut = cut₀; arrival = λ g t. refl; count = refl },
               refl,
             ),
           ),

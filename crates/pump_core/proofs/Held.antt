@@ -10,7 +10,7 @@ use Rattle.pump_core.specs.declared.event.Event.TheVariants.{Forward, TakeUp, Se
 use Rattle.pump_core.specs.World.{World, opened}
 use Rattle.pump_core.specs.Events.{Opened, took}
 use Rattle.pump_core.specs.Sendings.{Sending}
-use Rattle.pump_core.specs.Timed.{Step, LowLook, HighLook, Offer, Publish, Occurs, Point, opening_in, LeadsTo}
+use Rattle.pump_core.specs.Timed.{Step, LowLook, HighLook, Offer, Publish, Occurs, Point, opening_in, look_begun, LeadsTo}
 use Rattle.pump_core.specs.Runs.{IsRun}
 
 abbrev row : SessionRow
@@ -92,7 +92,9 @@ cut₂ : IsCut row (life (x₂ ∷ x₁ ∷ [])) (Release (x₁ ∷ []) x₂ ∷
 cut₂ = record { are_parts = (record { part = ((refl, tt), refl, refl); release = refl }, tt, tt); looks = refl }
 
 abbrev events : List Timed
-events = Looks 30 0 false false Released ∷ Looks 10 0 false false Full ∷ []
+events =
+    Looks (record (look_begun 30 0 false false) { feedback = Released })
+    ∷ Looks (record (look_begun 10 0 false false) { feedback = Full }) ∷ []
 
 abbrev stood : List (List Step)
 stood = (Offer ∷ Occurs Forward ∷ []) ∷ (Offer ∷ []) ∷ []
@@ -193,11 +195,13 @@ run = record {
     (
       0,
       (
+        refl,
         0,
-        record { moment = refl; word = refl; outcome = refl; feedback = refl; leaves = refl; before = Holding x₁ [] ∷ []; cut = cut₁; arrival = λ g t. absurd (cc); count = refl },
+        record { before = Holding x₁ [] ∷ []; cut = cut₁; arrival = λ g t. absurd (cc); count = refl },
         (
+          refl,
           0,
-          record { moment = refl; word = refl; outcome = refl; feedback = refl; leaves = refl; before = []; cut = cut₀; arrival = λ g t. absurd (cc); count = refl },
+          record { before = []; cut = cut₀; arrival = λ g t. absurd (cc); count = refl },
           refl,
         ),
       ),

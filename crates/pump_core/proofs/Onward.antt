@@ -1,13 +1,13 @@
 -- A timed run goes on: what one line of a script has to show, by one look, one arrival, one high look,
 -- one carry or one restart.
-use Rattle.std.proofs.Common.{◌≡◌, ℕ, Bool, List, [], ◌∷◌, map, refl, ap, ◌∙◌}
+use Rattle.std.proofs.Common.{◌≡◌, ℕ, List, [], ◌∷◌, map, refl, ap, ◌∙◌}
 use Rattle.pump_frame.specs.declared.row.SessionRow.{SessionRow}
 use Rattle.pump_core.specs.declared.event.Event.TheVariants.{CarryData, TakeBegin, TakeEnd}
 use Rattle.pump_core.specs.declared.feedback.Feedback.{Feedback}
 use Rattle.pump_core.specs.History.{Look, History, looked, reopened}
 use Rattle.pump_core.specs.Exchanges.{Part, IsCut}
 use Rattle.pump_core.specs.Pairs.{uncounted}
-use Rattle.pump_core.specs.Comings.{Coming, Comes, Looks, IsOffered}
+use Rattle.pump_core.specs.Comings.{Coming, LookMade, Comes, Looks, look_made, IsOffered}
 use Rattle.pump_core.specs.World.{World}
 use Rattle.pump_core.specs.Events.{Happens}
 use Rattle.pump_core.specs.Timed.{Step, Occurs, HighSide, Point, opening_in, happened, reopens, LeadsTo}
@@ -36,10 +36,10 @@ arrives_on row past steps t h c r leads = record {
 
 -- the point t with one more low look, in which these steps stand; v has the world, the high side and
 -- the moment to which the steps lead
-abbrev pub looks_to : Point → Point → ℕ → ℕ → Bool → Bool → Feedback → List Step → Point
-looks_to t v m w gone d f stood = record v {
+abbrev pub looks_to : Point → Point → LookMade → List Step → Point
+looks_to t v made stood = record v {
   life = record {
-    side = record { opening = t.life.side.opening; events = Looks m w gone d f ∷ t.life.side.events };
+    side = record { opening = t.life.side.opening; events = Looks made ∷ t.life.side.events };
     stood = stood ∷ t.life.stood;
   };
   earlier = t.earlier;
@@ -52,19 +52,20 @@ told f (l ∷ ls) = record { is_held = l.is_held; looks = f ∷ l.looks } ∷ ls
 
 -- one low look: it is offered what came, its feedback is the run's, and the steps of its place stand
 -- in it
-pub looks_on : (row : SessionRow) (past steps : List Step) (t v : Point) (h : History) (m w : ℕ)
-    (gone d : Bool) (f : Feedback) (stood : List Step) (x : Look) (now : ℕ) (parts : List Part)
+pub looks_on : (row : SessionRow) (past steps : List Step) (t v : Point) (h : History) (made : LookMade)
+    (stood : List Step) (x : Look) (now : ℕ) (parts : List Part)
     → (r : IsRun row past t h)
-    → LeadsTo row steps (looks_to t v m w gone d f stood)
-    → IsOffered row t.life.side.opening (map (with_feedback uncounted) t.life.side.events) m w gone d
-    (uncounted f) h.life.looks x (taken_in row past t h r) now
-    → x.feedback ≡ f
+    → LeadsTo row steps (looks_to t v made stood)
+    → look_made x ≡ record made { feedback = uncounted made.feedback }
+    → IsOffered row (record { opening = t.life.side.opening; looks = h.life.looks })
+    (map (with_feedback uncounted) t.life.side.events) x (taken_in row past t h r) now
+    → x.feedback ≡ made.feedback
     → IsCut row (looked h x).life parts
     → stood ≡ steps_in parts
-    → IsRun row steps (looks_to t v m w gone d f stood) (looked h x)
-looks_on row past steps t v h m w gone d f stood x now parts r leads offered feedback cut stands = record {
+    → IsRun row steps (looks_to t v made stood) (looked h x)
+looks_on row past steps t v h made stood x now parts r leads is offered feedback cut stands = record {
   leads = leads;
-  low = (r.low.0, (now, (taken_in row past t h r, offered, r.low.1.1)), r.low.2);
+  low = (r.low.0, (now, (is, taken_in row past t h r, offered, r.low.1.1)), r.low.2);
   feedback = ap (told x.feedback) r.feedback ∙ ap (λ k. told k (feedback_of t)) feedback;
   places = (((parts, cut, stands), r.places.0), r.places.1);
 }

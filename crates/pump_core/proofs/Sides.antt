@@ -1,5 +1,5 @@
 -- Histories with one low side have the same replies.
-use Rattle.std.proofs.Common.{◌≡◌, ℕ, ◌+◌, Bool, true, false, List, [], ◌∷◌, ◌++◌, None, refl, sym, ap, ◌∙◌}
+use Rattle.std.proofs.Common.{◌≡◌, ℕ, Bool, true, false, List, [], ◌∷◌, ◌++◌, None, refl, sym, ap, ◌∙◌}
 use Rattle.std.specs.Prelude.{if◌then◌else◌, ◌&&◌, not}
 use Rattle.pump_frame.specs.declared.row.SessionRow.{SessionRow}
 use Rattle.pump_core.specs.History.{Arrival}
@@ -12,7 +12,7 @@ use Rattle.pump_core.specs.Exchanges.{is_gone, Waiting, Over, Part, Holding, Rel
 use Rattle.pump_core.specs.Replies.{Sent, sent, LifeReplies, LivesReplies}
 use Rattle.pump_core.specs.Step.{after, reply_at}
 use Rattle.pump_core.specs.Standing.{State, phase_after, end_of}
-use Rattle.pump_core.specs.Comings.{Timed, Comes, Looks, is_nothing, may_take, offer, IsOffered, AreOffered, Side, HaveSides}
+use Rattle.pump_core.specs.Comings.{LookMade, Timed, Comes, Looks, is_nothing, may_take, offer, look_made, taken_after, IsOffered, AreOffered, Side, HaveSides}
 use Rattle.pump_core.proofs.Runs.{run, run_replies, ran}
 use Rattle.pump_core.proofs.Agreement.{look, same_step}
 
@@ -56,7 +56,7 @@ same_or_gone : (gone : Bool) (a b : Arrival) → is_gone a ≡ gone → is_gone 
 same_or_gone true a b ga gb h = gone-is a ga ∙ sym (gone-is b gb)
 same_or_gone false a b ga gb h = h refl
 
-counts : (gone idle p q : Bool) (a b : Arrival) (n k : ℕ) → p ≡ idle → q ≡ idle → (gone ≡ false → idle ≡ true → a ≡ b) → n ≡ k → (if gone then 0 else if p && not (is_nothing a) then n + 1 else n) ≡ (if gone then 0 else if q && not (is_nothing b) then k + 1 else k)
+counts : (gone idle p q : Bool) (a b : Arrival) (n k : ℕ) → p ≡ idle → q ≡ idle → (gone ≡ false → idle ≡ true → a ≡ b) → n ≡ k → taken_after gone (p && not (is_nothing a)) n ≡ taken_after gone (q && not (is_nothing b)) k
 counts true idle p q a b n k ep eq same e = refl
 counts false true p q a b n k ep eq same e = rw (ep, eq, same refl refl, e)
 counts false false p q a b n k ep eq same e = rw (ep, eq, e)
@@ -71,23 +71,30 @@ module _ (row : SessionRow) (o : Opening) where
     replies : run_replies row o xs ≡ run_replies row o ys
     taken : n ≡ k
 
-  one_look : (past : List Timed) (m w : ℕ) (gone d : Bool) (f : Feedback) (xs ys : List Look) (x y : Look) (n n' k k' : ℕ) → OneSide xs ys n k → IsOffered row o past m w gone d f xs x n n' → IsOffered row o past m w gone d f ys y k k' → OneSide (x ∷ xs) (y ∷ ys) n' k'
-  one_look past m w gone d f xs ys x y n n' k k' one hx hy =
+  one_look : (past : List Timed) (xs ys : List Look) (x y : Look) (n n' k k' : ℕ) → look_made x ≡ look_made y → OneSide xs ys n k → IsOffered row (record { opening = o; looks = xs }) past x n n' → IsOffered row (record { opening = o; looks = ys }) past y k k' → OneSide (x ∷ xs) (y ∷ ys) n' k'
+  one_look past xs ys x y n n' k k' made one hx hy =
+      let gone = is_gone x.arrival in
       let s = run row o xs in
       let ex = ends_so xs hx.before hx.cut in
       let ey = ends_so ys hy.before hy.cut in
       let idle_x : may_take o hx.before ≡ is_idle s.phase = takes-idle row o hx.before ∙ ap (λ (t : State). is_idle t.phase) (sym ex) in
       let idle_y : may_take o hy.before ≡ is_idle s.phase = takes-idle row o hy.before ∙ ap (λ (t : State). is_idle t.phase) (sym ey ∙ sym one.state) in
-      let gone_same : is_gone x.arrival ≡ is_gone y.arrival = hx.leaves ∙ sym hy.leaves in
-      let here : gone ≡ false → is_idle s.phase ≡ true → x.arrival ≡ y.arrival = λ g t. hx.arrival g (idle_x ∙ t) ∙ ap (offer past) one.taken ∙ sym (hy.arrival g (idle_y ∙ t)) in
-      let same : is_idle s.phase ≡ true → x.arrival ≡ y.arrival = λ t. same_or_gone gone x.arrival y.arrival hx.leaves hy.leaves (λ g. here g t) in
+      let gone_same : gone ≡ is_gone y.arrival = ap (λ (l : LookMade). l.is_gone) made in
+      let here : gone ≡ false → is_idle s.phase ≡ true → x.arrival ≡ y.arrival = λ g t. hx.arrival g (idle_x ∙ t) ∙ ap (offer past) one.taken ∙ sym (hy.arrival (sym gone_same ∙ g) (idle_y ∙ t)) in
+      let same : is_idle s.phase ≡ true → x.arrival ≡ y.arrival = λ t. same_or_gone gone x.arrival y.arrival refl (sym gone_same) (λ g. here g t) in
       let z = look x.moment x.word y.arrival x.is_fault x.feedback in
       let blind = untaken row s.next s.greeted s.phase x.moment x.word x.arrival y.arrival x.is_fault x.feedback gone_same same in
-      let step = same_step row s z y (record { moment = hx.moment ∙ sym hy.moment; word = hx.word ∙ sym hy.word; arrival = refl; outcome = hx.outcome ∙ sym hy.outcome; feedback = hx.feedback ∙ sym hy.feedback }) in
+      let step = same_step row s z y (record {
+        moment = ap (λ (l : LookMade). l.moment) made;
+        word = ap (λ (l : LookMade). l.word) made;
+        arrival = refl;
+        outcome = ap (λ (l : LookMade). l.is_fault) made;
+        feedback = ap (λ (l : LookMade). l.feedback) made;
+      }) in
       record {
         state = blind.0 ∙ step.0 ∙ ap (λ t. after row t y) one.state;
         replies = ap (λ l. run_replies row o xs ++ l) (blind.1 ∙ step.1) ∙ ap (λ (t : List Sent × State). t.0 ++ sent y (reply_at row t.1 y)) (λ i. (one.replies i, one.state i));
-        taken = hx.count ∙ counts gone (is_idle s.phase) (may_take o hx.before) (may_take o hy.before) x.arrival y.arrival n k idle_x idle_y here one.taken ∙ sym hy.count;
+        taken = hx.count ∙ counts gone (is_idle s.phase) (may_take o hx.before) (may_take o hy.before) x.arrival y.arrival n k idle_x idle_y here one.taken ∙ ap (λ b. taken_after b (may_take o hy.before && not (is_nothing y.arrival)) k) gone_same ∙ sym hy.count;
       }
 
   one_side : (events : List Timed) (xs ys : List Look) (n k : ℕ) → AreOffered row o events xs n → AreOffered row o events ys k → OneSide xs ys n k
@@ -95,9 +102,9 @@ module _ (row : SessionRow) (o : Opening) where
   one_side [] (x ∷ xs) ys n k h h' = absurd h
   one_side [] [] (y ∷ ys) n k h h' = absurd h'
   one_side (Comes a ∷ past) xs ys n k h h' = one_side past xs ys n k h h'
-  one_side (Looks m w gone d f ∷ past) [] ys n k h h' = absurd h
-  one_side (Looks m w gone d f ∷ past) (x ∷ xs) [] n k h h' = absurd h'
-  one_side (Looks m w gone d f ∷ past) (x ∷ xs) (y ∷ ys) n k h h' = one_look past m w gone d f xs ys x y h.0 n h'.0 k (one_side past xs ys h.0 h'.0 h.2 h'.2) h.1 h'.1
+  one_side (Looks made ∷ past) [] ys n k h h' = absurd h
+  one_side (Looks made ∷ past) (x ∷ xs) [] n k h h' = absurd h'
+  one_side (Looks made ∷ past) (x ∷ xs) (y ∷ ys) n k (is, before, offered, older) (is', before', offered', older') = one_look past xs ys x y before n before' k (is ∙ sym is') (one_side past xs ys before before' older older') offered offered'
 
 one_life : (row : SessionRow) (s : Side) (a b : Life) (xs ys : List Sent) (n k : ℕ) → a.opening ≡ s.opening → b.opening ≡ s.opening → AreOffered row s.opening s.events a.looks n → AreOffered row s.opening s.events b.looks k → LifeReplies row a xs → LifeReplies row b ys → xs ≡ ys
 one_life row s a b xs ys n k ea eb ha hb (parts, cut, e) (parts', cut', e') =

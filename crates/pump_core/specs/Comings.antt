@@ -15,12 +15,19 @@ pub data Coming : Type 0 where
   Whole : (f : Frame) → Coming
   Broken : Coming
 
--- what happens on the low side: something comes on the connection that stands, or a look is made. Of a
--- look this is known: whether the connection is gone in it, and not what it was offered; its feedback is
--- without the count
+-- a look that was made: its moment, its random word, whether the connection is gone in it, whether the
+-- low disk failed in it, and the feedback; but not what it was offered
+pub record LookMade : Type 0 where
+  pub moment : ℕ
+  pub word : ℕ
+  pub is_gone : Bool
+  pub is_fault : Bool
+  pub feedback : Feedback
+
+-- what happens on the low side: something comes on the connection that stands, or a look is made
 pub data Timed : Type 0 where
   Comes : (c : Coming) → Timed
-  Looks : (moment word : ℕ) (gone is_fault : Bool) (feedback : Feedback) → Timed
+  Looks : (made : LookMade) → Timed
 
 abbrev pub is_broken : Coming → Bool
 is_broken (Whole f) = false
@@ -30,7 +37,7 @@ is_broken Broken = true
 abbrev pub comings : List Timed → List Coming
 comings [] = []
 comings (Comes c ∷ past) = comings past ++ c ∷ []
-comings (Looks m w gone d f ∷ past) = if gone then [] else comings past
+comings (Looks made ∷ past) = if made.is_gone then [] else comings past
 
 -- the arrival of what came, or of nothing
 abbrev pub arrival_of_coming : Option Coming → Arrival
@@ -56,27 +63,43 @@ abbrev pub is_nothing : Arrival → Bool
 is_nothing Nothing = true
 is_nothing _ = false
 
--- the look x stands for this event, after these events and these looks; `taken` and `now` count what
--- was taken on the connection before the look and with it
-pub record IsOffered (row : SessionRow) (o : Opening) (past : List Timed) (m w : ℕ) (gone d : Bool) (f : Feedback) (looks : List Look) (x : Look) (taken now : ℕ) : Type 0 where
-  pub moment : x.moment ≡ m
-  pub word : x.word ≡ w
-  pub outcome : x.is_fault ≡ d
-  pub feedback : uncounted x.feedback ≡ f
-  pub leaves : is_gone x.arrival ≡ gone
-  pub before : List Part
-  pub cut : IsCut row (record { opening = o; looks = looks }) before
-  pub arrival : gone ≡ false → may_take o before ≡ true → x.arrival ≡ offer past taken
-  pub count : now ≡ (if gone then 0 else if may_take o before && not (is_nothing x.arrival) then taken + 1 else taken)
+-- the look x without what it was offered, and without the count in its feedback
+abbrev pub look_made : Look → LookMade
+look_made x = record {
+  moment = x.moment;
+  word = x.word;
+  is_gone = is_gone x.arrival;
+  is_fault = x.is_fault;
+  feedback = uncounted x.feedback;
+}
 
--- these looks were made while this happened, each that may take was offered what came first, and `now`
--- was taken on the connection that stands
+-- how many were taken on the connection that stands after a look, by whether it is gone in the look,
+-- whether the look takes something, and how many were taken before it
+abbrev pub taken_after : Bool → Bool → ℕ → ℕ
+taken_after gone takes taken = if gone then 0 else if takes then taken + 1 else taken
+
+-- x comes next in this life, after these events, and is offered what came first, if it may take that;
+-- `taken` and `now` count what was taken on the connection before the look and after it
+pub record IsOffered (row : SessionRow) (life : Life) (past : List Timed) (x : Look) (taken now : ℕ) : Type 0 where
+  -- the life is cut into these parts, which say whether the look may take something
+  pub before : List Part
+  pub cut : IsCut row life before
+  -- one that may, and keeps the connection, is offered the earliest of what was not taken
+  pub arrival : is_gone x.arrival ≡ false → may_take life.opening before ≡ true → x.arrival ≡ offer past taken
+  -- and what it is offered is taken then, unless it is nothing
+  pub count : now ≡ taken_after (is_gone x.arrival) (may_take life.opening before && not (is_nothing x.arrival)) taken
+
+-- after this opening these looks were made while this happened, each that may take was offered what came
+-- first, and `now` was taken on the connection that stands
 abbrev pub AreOffered : SessionRow → Opening → List Timed → List Look → ℕ → Type 0
 AreOffered row o [] [] now = now ≡ 0
 AreOffered row o [] (x ∷ looks) now = ⊥
 AreOffered row o (Comes c ∷ past) looks now = AreOffered row o past looks now
-AreOffered row o (Looks m w gone d f ∷ past) [] now = ⊥
-AreOffered row o (Looks m w gone d f ∷ past) (x ∷ looks) now = (taken : ℕ) × IsOffered row o past m w gone d f looks x taken now × AreOffered row o past looks taken
+AreOffered row o (Looks made ∷ past) [] now = ⊥
+AreOffered row o (Looks made ∷ past) (x ∷ looks) now =
+    (look_made x ≡ made)
+    × (taken : ℕ) × IsOffered row (record { opening = o; looks = looks }) past x taken now
+    × AreOffered row o past looks taken
 
 -- the low side of a life: its opening and what happened since, the newest first
 pub record Side : Type 0 where

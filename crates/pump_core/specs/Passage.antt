@@ -102,35 +102,56 @@ publishes h micros = record h {
   taken_before = h.taken_before ++ length h.taken ∷ [];
 }
 
--- What one call leaves. `after` is what the end stands for at the return, and `exact` says that
--- both ends are on one thread, so that the call sees the other end as it is.
-module _ (s : Shape) (exact : Bool) (after : Low → High → Type 0) (l : Low) (h : High) where
+-- What one call leaves. `after` is what the end stands for at the return. Where both ends are on one
+-- thread, the call sees the other end as it is; else nothing is said of that.
+module _ (s : Shape) (on_one_thread : Bool) (after : Low → High → Type 0) (l : Low) (h : High) where
+  -- it sees room for one more item
+  abbrev pub SeesRoom : Type 0
+  SeesRoom = on_one_thread ≡ true → length l.forwarded < length h.taken + s.places
+
+  -- it sees that just so many were taken up
+  abbrev pub SeesTaken : ℕ → Type 0
+  SeesTaken taken = on_one_thread ≡ true → taken ≡ length h.taken
+
+  -- it sees that just so many times were published, and their average
+  abbrev pub SeesTimes : ℕ → ℕ → Type 0
+  SeesTimes count average =
+      on_one_thread ≡ true → (count ≡ length h.times) × (average ≡ average_of s.averaging h.times)
+
+  -- it sees that this item is the first of those held
+  abbrev pub SeesFirst : Item → Type 0
+  SeesFirst x =
+      on_one_thread ≡ true → (rest : List Item) × (l.forwarded ≡ (h.taken ++ x ∷ []) ++ rest)
+
+  -- it sees that nothing is held
+  abbrev pub SeesNothing : Type 0
+  SeesNothing = on_one_thread ≡ true → length h.taken ≡ length l.forwarded
+
+  -- where so many were taken up, all places are full
+  abbrev pub FillsPlaces : ℕ → Type 0
+  FillsPlaces taken = length l.forwarded ≡ taken + s.places
+
+  -- no count that was read before is above this one
+  abbrev pub NoneAbove : ℕ → Type 0
+  NoneAbove count = All (λ p. p.0 ≤ count) l.pairs
+
   -- the item passed
   abbrev pub Passes : Item → Type 0
-  Passes x =
-      (exact ≡ true → length l.forwarded < length h.taken + s.places)
-      × after (forwards l x) h
+  Passes x = SeesRoom × after (forwards l x) h
 
   -- a try found all places full
   abbrev pub Refuses : Type 0
-  Refuses =
-      (taken : ℕ) × (length l.forwarded ≡ taken + s.places)
-      × (exact ≡ true → taken ≡ length h.taken)
-      × after (tried l taken) h
+  Refuses = (taken : ℕ) × FillsPlaces taken × SeesTaken taken × after (tried l taken) h
 
   -- a count not below those before was read, with its average
   abbrev pub Reads : ℕ → ℕ → Type 0
   Reads count average =
-      All (λ p. p.0 ≤ count) l.pairs
-      × (exact ≡ true → (count ≡ length h.times) × (average ≡ average_of s.averaging h.times))
-      × after (read_pair l count average) h
+      NoneAbove count × SeesTimes count average × after (read_pair l count average) h
 
   -- the item was taken up
   abbrev pub Gives : Item → ℕ → Type 0
-  Gives x removed =
-      (exact ≡ true → (rest : List Item) × (l.forwarded ≡ (h.taken ++ x ∷ []) ++ rest))
-      × after l (takes h x removed)
+  Gives x removed = SeesFirst x × after l (takes h x removed)
 
   -- a try found nothing
   abbrev pub GivesNone : Type 0
-  GivesNone = (exact ≡ true → length h.taken ≡ length l.forwarded) × after l (sought h (length h.taken))
+  GivesNone = SeesNothing × after l (sought h (length h.taken))

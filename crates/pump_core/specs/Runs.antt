@@ -23,7 +23,7 @@ pub record LifeFeedback : Type 0 where
 abbrev pub feedbacks : List Timed → List Feedback
 feedbacks [] = []
 feedbacks (Comes c ∷ past) = feedbacks past
-feedbacks (Looks m w gone d f ∷ past) = f ∷ feedbacks past
+feedbacks (Looks made ∷ past) = made.feedback ∷ feedbacks past
 
 abbrev pub feedback_of_side : Side → LifeFeedback
 feedback_of_side s = record { is_held = s.opening.is_held; looks = feedbacks s.events }
@@ -105,7 +105,7 @@ AllInPlace row (l ∷ ls) [] = ⊥
 -- what happened on the low side, with the feedback changed
 abbrev pub with_feedback : (Feedback → Feedback) → Timed → Timed
 with_feedback g (Comes c) = Comes c
-with_feedback g (Looks m w gone d f) = Looks m w gone d (g f)
+with_feedback g (Looks made) = Looks (record made { feedback = g made.feedback })
 
 abbrev pub side_with : (Feedback → Feedback) → Side → Side
 side_with g s = record { opening = s.opening; events = map (with_feedback g) s.events }

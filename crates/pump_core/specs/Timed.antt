@@ -9,7 +9,7 @@ use Rattle.pump_core.specs.declared.feedback.Feedback.TheVariants.{Quiet, Full, 
 use Rattle.pump_core.specs.declared.event.Event.{Event}
 use Rattle.pump_core.specs.declared.event.Event.TheVariants.{StoreBegin, StoreEnd, Forward, TakeUp, Send, ReturnTaken, RemoveBegin, RemoveEnd, Acknowledge, Crash}
 use Rattle.pump_core.specs.History.{Opening}
-use Rattle.pump_core.specs.Comings.{Coming, Timed, Comes, Looks, Side}
+use Rattle.pump_core.specs.Comings.{Coming, LookMade, Timed, Comes, Looks, Side}
 use Rattle.pump_core.specs.World.{World, live}
 use Rattle.pump_core.specs.Events.{Happens, BeginsRun}
 use Rattle.pump_core.specs.Sendings.{Sending, removal_time, sending_of}
@@ -107,7 +107,7 @@ with_read s f = f
 abbrev pub felt : (Feedback → Feedback) → List Timed → List Timed
 felt f [] = []
 felt f (Comes c ∷ past) = Comes c ∷ felt f past
-felt f (Looks m w gone d feedback ∷ past) = Looks m w gone d (f feedback) ∷ past
+felt f (Looks made ∷ past) = Looks (record made { feedback = f made.feedback }) ∷ past
 
 -- the step stands in the newest look; one before the first look of a life makes a list too many, so
 -- that it stands in no place
@@ -187,11 +187,15 @@ looks_next t e = record {
   stood = [] ∷ t.life.stood;
 }
 
+-- a look that begins, and was told nothing so far
+abbrev pub look_begun : (moment word : ℕ) (gone is_fault : Bool) → LookMade
+look_begun m w gone d = record { moment = m; word = w; is_gone = gone; is_fault = d; feedback = Quiet }
+
 -- the step leads from the point t to the point u
 abbrev pub StepsTo : SessionRow → Point → Step → Point → Type 0
 StepsTo row t (Arrives c) u = u ≡ record t { life = happened t (Comes c) }
 StepsTo row t (LowLook m w gone d) u =
-    (t.looked ≤ m) × (u ≡ record t { looked = m; life = looks_next t (Looks m w gone d Quiet) })
+    (t.looked ≤ m) × (u ≡ record t { looked = m; life = looks_next t (Looks (look_begun m w gone d)) })
 StepsTo row t (HighLook m) u =
     (t.high.moment ≤ m) × IsPublished t.high × (u ≡ record t { high = high_looking t.high m })
 StepsTo row t Offer u = u ≡ standing t Offer (offered t.world)

@@ -3,7 +3,8 @@ pub mod Calls
 pub mod Comparing
 pub mod Dealing
 pub mod Image
-pub mod Refill
+pub mod Readings
+mod Refill
 pub mod Rows
 pub mod Shapes
 pub mod Slots

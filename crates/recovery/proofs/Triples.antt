@@ -3,13 +3,18 @@ use Rattle.std.proofs.Common.{◌≡◌, inl, inr, ℕ, ◌+◌, ◌-◌, ◌^�
 use Rattle.std.proofs.lemmas.Bool.{cases_lt}
 use Rattle.std.proofs.lemmas.List.{get_or-drop, get_or_append_left, get_or_at}
 use Rattle.std.proofs.lemmas.Option.{slice_get_within, get_or_from_slice_get}
-use Rattle.pump_core.specs.Lawful.{StoresWithPlace, IsPrefixOf, IsNext}
+use Rattle.pump_core.specs.World.{World}
+use Rattle.pump_core.specs.Lawful.{StoresWithPlace, IsPrefixOf, IsNext, IsLawful}
 use Rattle.stable_buffer.specs.Register.{value_of}
 use Rattle.stable_buffer.specs.Stands.{InSlot}
 use Rattle.pump_frame.specs.declared.row.SessionRow.{SessionRow}
 use Rattle.disk_model.specs.declared.name.Role.TheVariants.{Low, High}
 use Rattle.recovery.specs.Refusals.{refused_disk, refused_pair, refused_pump, bad_slot, told_of, or_else}
-use Rattle.recovery.specs.Joint.{kept_with, taking_of, accepted_if, removed_if, received_if, EachTripleOpens}
+use Rattle.recovery.specs.Agreement.{SlotsAgree, Disagrees}
+use Rattle.recovery.specs.Joint.{kept_with, taking_of, accepted_if, removed_if, received_if, EachTripleOpens, EachWorldOpens}
+use Rattle.recovery.specs.declared.why.Why.{Why}
+use Rattle.recovery.specs.declared.why.Why.TheVariants.{Device, NotABuffer, WrongShape, BadRegister, Mismatch, BadSlot, Apart, Differs, NotEmpty}
+use Rattle.recovery.proofs.Rows.{row_message}
 use Rattle.recovery.proofs.Accepts.{FitsRow, low_none, high_none, recv_none, slots_none}
 
 -- ---- a list with an unfinished message kept or not ----
@@ -82,6 +87,19 @@ pump_none row low high E B one two is_low is_high below above slots =
     let there : refused_pair row (value_of high).0 (value_of low).0 low ≡ None = (λ i. refused_pair row (is_high i).0 (is_low i).0 low) ∙ pair in
     (λ i. or_else (told_of Low (one i)) (or_else (told_of High (two i)) (refused_pair row (value_of high).0 (value_of low).0 low))) ∙ there
 
+-- lists that agree aren't refused
+never_apart : (row : SessionRow) (removed count accepted : ℕ) (ms : List (List ℕ)) (low : List ℕ) (why : Why) → removed ≤ count → count ≤ accepted → SlotsAgree row removed count ms low → Disagrees row removed count accepted ms low why → ⊥
+never_apart row removed count accepted ms low (Apart found bound) up down all (_, inl (less, _)) = omega (arith, less, up)
+never_apart row removed count accepted ms low (Apart found bound) up down all (_, inr (_, more, _)) = omega (arith, more, down)
+never_apart row removed count accepted ms low (Differs n) up down all (_, _, from, to, _, other) = other (all n from to)
+never_apart row removed count accepted ms low (Device a) up down all d = d
+never_apart row removed count accepted ms low (NotABuffer a b) up down all d = d
+never_apart row removed count accepted ms low (WrongShape a b c) up down all d = d
+never_apart row removed count accepted ms low (BadRegister a b) up down all d = d
+never_apart row removed count accepted ms low (Mismatch a b) up down all d = d
+never_apart row removed count accepted ms low (BadSlot a b) up down all d = d
+never_apart row removed count accepted ms low (NotEmpty a) up down all d = d
+
 pub each_triple : EachTripleOpens
 each_triple row w size stored removed taken low high recv lawful r s =
     let b = lawful.bounded in
@@ -111,12 +129,44 @@ each_triple row w size stored removed taken low high recv lawful r s =
     let m = r.message in
     let up = order.0 in
     let down = order.1 in
+    let before : B ≤ R = omega (arith, down, taken') in
+    let within : R ≤ E = omega (arith, reached, longer) in
+    let slots : SlotsAgree row B R rec low = λ n from to.
+    subst (λ (x : List ℕ). InSlot row n x low) (kept_get stored w.storing w.accepted n (omega (arith, to, reached)) ∙ sym (front.same n to)) (in_slot n (omega (arith, from, up)) (omega (arith, to, reached, longer))) in
     record {
       pump = pump_none row low high E B (low_none row fits E w.removed (drop w.removed acc) low small s.low_stands) (high_none row fits B high (omega (arith, down, taken', reached, longer, small)) s.high_stands) s.low_stands.value s.high_stands.value
           (omega (arith, down, taken', reached, longer)) (omega (arith, above, up, c))
           (slots_none row m low B (E - B) (λ i from to. (get_or acc i [], in_slot i (omega (arith, from, up)) (omega (arith, to, down, taken', reached, longer)))));
       receiver = recv_none row fits size rec recv (omega (arith, reached, longer, small)) r.room s.recv_stands;
-      order = (omega (arith, down, taken'), omega (arith, reached, longer));
-      agree = λ n from to.
-          subst (λ (x : List ℕ). InSlot row n x low) (kept_get stored w.storing w.accepted n (omega (arith, to, reached)) ∙ sym (front.same n to)) (in_slot n (omega (arith, from, up)) (omega (arith, to, reached, longer)));
+      order = (before, within);
+      agree = slots;
+      never = λ why. never_apart row B R E rec low why before within slots;
     }
+
+-- ---- disks of a world as it is ----
+
+-- the world with no call unfinished
+abbrev finished : World → World
+finished w = record w { storing = None; removing = false; packet = None; taking = false }
+
+finished_lawful : (w : World) → IsLawful w → IsLawful (finished w)
+finished_lawful w l =
+    let b = l.bounded in
+    let d = l.delivered in
+    record {
+      bounded = record {
+        size = b.size;
+        within = b.within;
+        order = b.order;
+        store = tt;
+        removal = record { hand = b.removal.hand; cause = λ is. absurd (cc) };
+        sent = b.sent;
+        acknowledged = b.acknowledged;
+      };
+      delivered = record { prefix = d.prefix; removed = d.removed; due = d.due; packet = refl; returned = d.returned };
+    }
+
+pub each_world : EachWorldOpens
+each_world row w size low high recv lawful small s = each_triple row (finished w) size false false false low high recv (finished_lawful w s.lawful)
+    (record { capacity = sym s.capacity; message = row_message row lawful; session = small; count = s.count; room = s.room })
+    (record { low_stands = s.low_stands; high_stands = s.high_stands; recv_stands = s.recv_stands })

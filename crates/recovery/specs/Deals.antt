@@ -1,5 +1,6 @@
 -- How the messages of an opened pump are dealt out.
-use Rattle.std.specs.Prelude.{◌≡◌, ℕ, ◌+◌, ◌-◌, ◌<◌, List, [], ◌∷◌, take, drop, length, slice_get, slice_index_or, Option}
+use Rattle.std.specs.Prelude.{◌≡◌, ℕ, ◌+◌, ◌-◌, ◌<◌, ◌≤◌, ◌==◌, nat_lt, if◌then◌else◌, List, [], ◌∷◌, take, drop, length, slice_get, slice_index_or, Option, Some, None}
+use Rattle.std.specs.List.{All}
 use Rattle.pump_frame.specs.declared.frame.Item.{Item}
 use Rattle.pump_frame.specs.declared.row.SessionRow.{SessionRow}
 use Rattle.pump_core.specs.Passage.{Low, High}
@@ -26,3 +27,23 @@ Fills before after items = (l : Low) (h : High) → before l h → l.forwarded �
 -- messages stand in their slots from number b on
 abbrev pub InSlots : SessionRow → ℕ → List (List ℕ) → List ℕ → Type 0
 InSlots row b messages disk = (i : ℕ) → i < length messages → InSlot row (b + i) (slice_index_or messages i []) disk
+
+-- ---- what an opened pump has, whatever is on its disks ----
+
+-- messages with the numbers from `removed` to before `next` are dealt out; they are no more than there are places, and none is longer than the row's
+pub record IsDealt (row : SessionRow) (removed next : ℕ) (messages : List (List ℕ)) (high low : Option Item) (before after : Low → High → Type 0) : Type 0 where
+  pub count : removed + length messages ≡ next
+  pub places : next ≤ removed + row.capacity
+  pub short : All (λ message. length message ≤ row.message) messages
+  pub hands : InHands row.capacity (numbered removed messages) high low
+  pub fills : Fills before after (passing row.capacity (numbered removed messages))
+
+-- the number of the message in a hand
+abbrev pub number_of : Option Item → Option ℕ
+number_of None = None
+number_of (Some x) = Some x.number
+
+-- the first message that isn't removed is in the high hand, and the last one of all in the low hand exactly where all places are taken
+pub record HandsFit (capacity removed next : ℕ) (high low : Option Item) : Type 0 where
+  pub first : number_of high ≡ (if nat_lt removed next then Some removed else None)
+  pub last : number_of low ≡ (if next == removed + capacity then Some (next - 1) else None)

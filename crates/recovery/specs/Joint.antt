@@ -4,10 +4,12 @@ use Rattle.pump_core.specs.World.{World}
 use Rattle.pump_core.specs.Lawful.{IsLawful}
 use Rattle.stable_buffer.specs.Stands.{LowStands, HighStands}
 use Rattle.stable_buffer.specs.Log.{RecvStands}
+use Rattle.pump_frame.specs.Rows.{IsLawfulRow}
 use Rattle.pump_frame.specs.declared.row.SessionRow.{SessionRow}
 use Rattle.stable_buffer.specs.Register.{value_of}
 use Rattle.recovery.specs.Refusals.{refused_pump, refused_receiver}
-use Rattle.recovery.specs.Agreement.{SlotsAgree}
+use Rattle.recovery.specs.Agreement.{SlotsAgree, Disagrees}
+use Rattle.recovery.specs.declared.why.Why.{Why}
 
 -- an unfinished message is kept or not
 abbrev pub kept_with : Bool → Option (List ℕ) → List (List ℕ) → List (List ℕ)
@@ -43,14 +45,30 @@ pub record IsRow (row : SessionRow) (w : World) (size : ℕ) (recv : List ℕ) :
   pub count : length (accepted_if w true) ≤ 2 ^ 48
   pub room : (value_of recv).1 ≤ size
 
--- nothing is refused, and the counts are those of the world
+-- nothing is refused, neither of one disk nor where they are compared, and the counts are those of the world
 pub record Opens (row : SessionRow) (size E B R : ℕ) (received : List (List ℕ)) (low high recv : List ℕ) : Type 0 where
   pub pump : refused_pump row low high ≡ None
   pub receiver : refused_receiver row size recv ≡ None
   pub order : (B ≤ R) × (R ≤ E)
   pub agree : SlotsAgree row B R received low
+  pub never : (why : Why) → Disagrees row B R E received low why → ⊥
 
 -- Disks of one lawful world, each with its unfinished call kept or not, are refused for nothing and agree.
 abbrev pub EachTripleOpens : Type 0
 EachTripleOpens = (row : SessionRow) (w : World) (size : ℕ) (stored removed taken : Bool) (low high recv : List ℕ) → IsLawful w → IsRow row w size recv → Stand row w stored removed taken low high recv
     → Opens row size (length (accepted_if w stored)) (removed_if w removed) (length (received_if w taken)) (received_if w taken) low high recv
+
+-- three readings that stand for a lawful world of the row as it is; its counts and its records fit the disks
+pub record StandForWorld (row : SessionRow) (w : World) (size : ℕ) (low high recv : List ℕ) : Type 0 where
+  pub lawful : IsLawful w
+  pub capacity : w.capacity ≡ row.capacity
+  pub count : length w.accepted ≤ 2 ^ 48
+  pub room : (value_of recv).1 ≤ size
+  pub low_stands : LowStands row (length w.accepted) w.removed (drop w.removed w.accepted) low
+  pub high_stands : HighStands row w.removed high
+  pub recv_stands : RecvStands row w.received recv
+
+-- Disks that stand for one lawful world are refused for nothing.
+abbrev pub EachWorldOpens : Type 0
+EachWorldOpens = (row : SessionRow) (w : World) (size : ℕ) (low high recv : List ℕ) → IsLawfulRow row → row.id < 2 ^ 32 → StandForWorld row w size low high recv
+    → Opens row size (length w.accepted) w.removed (length w.received) w.received low high recv

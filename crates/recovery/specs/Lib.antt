@@ -4,5 +4,6 @@ pub mod Deals
 pub mod Faults
 pub mod Images
 pub mod Joint
+pub mod Readings
 pub mod Refills
 pub mod Refusals

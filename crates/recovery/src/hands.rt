@@ -1,12 +1,13 @@
 // The messages of an opened pump, dealt out to the hands and the passage.
 ghost use Rattle.std.specs.Prelude.{◌≡◌, ◌+◌, ◌-◌, ◌^◌, ◌<◌, ◌≤◌, ℕ, true, false, [], Some, None, List, length, IfOk, OnOk, IfErr};
+ghost use Rattle.std.specs.List.{All};
 ghost use Rattle.disk_model.specs.Disk.{Moves, Same};
 ghost use Rattle.stable_buffer.specs.Stands.{InSlot};
 ghost use Rattle.stable_buffer.specs.Low.{IsLowReady, low_disk, low_row, low_count};
 ghost use Rattle.pump_core.specs.Passage.{Low, High, ComesNext, forwards};
 ghost use Rattle.recovery.specs.Refusals.{bad_slot};
 ghost use Rattle.recovery.specs.Calls.{Calls, failed, is_device};
-ghost use Rattle.recovery.specs.Deals.{numbered, passing, InHands, Fills, InSlots};
+ghost use Rattle.recovery.specs.Deals.{numbered, Fills, InSlots, IsDealt};
 ghost use Rattle.recovery.specs.declared.why.Why.TheVariants.{Device};
 
 use crate::Why;
@@ -30,6 +31,7 @@ fn read_live<D: Disk>(low: &mut LowStore<D>, n: u64, row: &SessionRow) -> Result
     requires stored { n < low_count low.old }
     requires kept { low_count low.old ≤ n + row.now.capacity }
     ensures number { IfOk result (λ item. item.number ≡ n) }
+    ensures short { IfOk result (λ item. length item.payload ≤ row.now.message) }
     ensures stands { IfOk result (λ item. D.told.tells
         → InSlot row.now n item.payload (D.told.reading (low_disk low.old))) }
     ensures fine { OnOk result (D.told.tells → (k : ℕ) → 0 < k
@@ -76,6 +78,7 @@ fn fill<D: Disk, L: Takes>(
     requires fresh { (l : Low) × (h : High) × L.stands ends.old l h × (l.forwarded ≡ []) }
 
     ensures forwarded { OnOk result ((messages : List (List ℕ)) × (from + length messages ≡ to)
+        × All (λ message. length message ≤ row.now.message) messages
         × (D.told.tells → InSlots row.now from messages (D.told.reading (low_disk low.old)))
         × Fills (L.stands ends.old) (L.stands ends.new) (numbered from messages)) }
     ensures fine { OnOk result (D.told.tells → (k : ℕ) → to ≤ from + k
@@ -116,10 +119,10 @@ pub fn deal<D: Disk, L: Takes>(
     requires calm { D.told.tells_plan → D.told.armed (low_disk low.old) ≡ false }
     requires fresh { (l : Low) × (h : High) × L.stands ends.old l h × (l.forwarded ≡ []) }
 
-    ensures dealt { IfOk result (λ hands. (messages : List (List ℕ)) × (removed + length messages ≡ low_count low.old)
+    ensures dealt { IfOk result (λ hands. (messages : List (List ℕ))
         × (D.told.tells → InSlots row.now removed messages (D.told.reading (low_disk low.old)))
-        × InHands row.now.capacity (numbered removed messages) hands.high hands.low
-        × Fills (L.stands ends.old) (L.stands ends.new) (passing row.now.capacity (numbered removed messages))) }
+        × IsDealt row.now removed (low_count low.old) messages hands.high hands.low
+        (L.stands ends.old) (L.stands ends.new)) }
     ensures fine { OnOk result (D.told.tells
         → bad_slot row.now (D.told.reading (low_disk low.old)) removed (low_count low.old - removed) ≡ None) }
     ensures exact { IfErr result (λ why. is_device why ≡ false → D.told.tells

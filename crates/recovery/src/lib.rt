@@ -15,7 +15,10 @@ mod shape;
 mod why;
 
 pub use compare::agree;
-pub use law::{each_triple_opens, openings_refill, removed_images, stored_images, taken_images};
+pub use law::{
+    disks_tell_messages, each_triple_opens, each_world_opens, openings_refill, removed_images,
+    stored_images, taken_images,
+};
 pub use pump::{NotOpened, Opened, open_pump};
 pub use receiver::open_receiver;
 pub use why::Why;

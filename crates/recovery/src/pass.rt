@@ -17,8 +17,8 @@ pub trait Takes: LowSide {
         ensures place { Self.place self.new ≡ Self.place self.old }
         ensures step { (l : Low) (h : High) → Self.stands self.old l h → ComesNext l.forwarded item.number
             → MatchForwarded result
-            (Passes (Self.shape self.old) Self.exact (Self.stands self.new) l h item)
-            (Refuses (Self.shape self.old) Self.exact (Self.stands self.new) l h) };
+            (Passes (Self.shape self.old) Self.on_one_thread (Self.stands self.new) l h item)
+            (Refuses (Self.shape self.old) Self.on_one_thread (Self.stands self.new) l h) };
 }
 
 impl<L: LowEnd> Takes for L {

@@ -8,7 +8,7 @@ ghost use Rattle.stable_buffer.specs.High.{IsHighReady, high_count};
 ghost use Rattle.pump_core.specs.Passage.{Low, High};
 ghost use Rattle.recovery.specs.Refusals.{refused_pump};
 ghost use Rattle.recovery.specs.Calls.{Calls, CallsHigh, is_device, low_failed, high_failed, low_left, high_left};
-ghost use Rattle.recovery.specs.Deals.{numbered, passing, InHands, Fills};
+ghost use Rattle.recovery.specs.Deals.{IsDealt, HandsFit};
 ghost use Rattle.recovery.specs.declared.why.Why.TheVariants.{Device};
 
 use crate::Why;
@@ -40,6 +40,17 @@ pub struct NotOpened<D> {
     pub high: D,
 }
 
+fn refused<D>(role: Role, why: Why, low: D, high: D) -> NotOpened<D>
+    ensures { result ≡ record { role = role; why = why; low = low; high = high } }
+{
+    NotOpened {
+        role,
+        why,
+        low,
+        high,
+    }
+}
+
 /// Opens the two stores of a pump, and deals out its messages: the first to the high hand, the next
 /// ones to the passage, in which nothing was forwarded yet, and where all places are full the last
 /// to the low hand. After a refusal the passage may have some of them: clear it.
@@ -59,11 +70,10 @@ pub fn open_pump<D: Disk, L: LowEnd>(
     ensures counts { IfOk result (λ o. (low_count o.low ≡ o.next) × (high_count o.high ≡ o.removed)) }
     ensures dealt { IfOk result (λ o. (messages : List (List ℕ))
         × (D.told.tells → LowStands row.now o.next o.removed messages (D.told.reading low))
-        × (o.removed + length messages ≡ o.next)
-        × (o.next ≤ o.removed + row.now.capacity)
-        × InHands row.now.capacity (numbered o.removed messages) o.high_hand o.low_hand
-        × Fills (L.stands ends.old) (L.stands ends.new)
-        (passing row.now.capacity (numbered o.removed messages))) }
+        × IsDealt row.now o.removed o.next messages o.high_hand o.low_hand
+        (L.stands ends.old) (L.stands ends.new)) }
+    ensures hands { IfOk result (λ o.
+        HandsFit row.now.capacity o.removed o.next o.high_hand o.low_hand) }
     ensures removed { IfOk result (λ o. D.told.tells
         → HighStands row.now o.removed (D.told.reading high)) }
 
@@ -86,37 +96,19 @@ pub fn open_pump<D: Disk, L: LowEnd>(
 {
     let mut low = match open_low(low, row) {
         Ok(low) => low,
-        Err((low, why)) => {
-            return Err(NotOpened {
-                role: Role::Low,
-                why,
-                low,
-                high,
-            });
-        }
+        Err((low, why)) => return Err(refused(Role::Low, why, low, high)),
     };
     let high = match open_high(high, row) {
         Ok(high) => high,
-        Err((high, why)) => {
-            return Err(NotOpened {
-                role: Role::High,
-                why,
-                low: low.into_disk(),
-                high,
-            });
-        }
+        Err((high, why)) => return Err(refused(Role::High, why, low.into_disk(), high)),
     };
     let (next, removed) = (low.accepted(), high.removed());
     if removed > next || next - removed > row.capacity as u64 {
-        return Err(NotOpened {
-            role: Role::High,
-            why: Why::Mismatch {
-                removed,
-                accepted: next,
-            },
-            low: low.into_disk(),
-            high: high.into_disk(),
-        });
+        let why = Why::Mismatch {
+            removed,
+            accepted: next,
+        };
+        return Err(refused(Role::High, why, low.into_disk(), high.into_disk()));
     }
     match deal(&mut low, removed, row, ends) {
         Ok(hands) => Ok(Opened {
@@ -127,11 +119,9 @@ pub fn open_pump<D: Disk, L: LowEnd>(
             high_hand: hands.high,
             low_hand: hands.low,
         }),
-        Err(why) => Err(NotOpened {
-            role: Role::Low,
-            why,
-            low: low.into_disk(),
-            high: high.into_disk(),
-        }),
+        Err(why) => {
+            let disks = (low.into_disk(), high.into_disk());
+            Err(refused(Role::Low, why, disks.0, disks.1))
+        }
     }
 }

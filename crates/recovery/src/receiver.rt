@@ -2,7 +2,8 @@
 ghost use Rattle.std.specs.Prelude.{◌≡◌, ◌≤◌, true, false, Some, None, length, IfOk, OnOk, IfErr};
 ghost use Rattle.pump_frame.specs.Rows.{IsLawfulRow};
 ghost use Rattle.disk_model.specs.Disk.{Moves, Same};
-ghost use Rattle.high_receiver.specs.Receiving.{IsRecvReady, StandsForSome, recv_disk, recv_count, recv_row, recv_size};
+ghost use Rattle.high_receiver.specs.Receiving.{IsRecvReady, StandsForSome, recv_disk, recv_count, recv_end, recv_row, recv_size};
+ghost use Rattle.stable_buffer.specs.Register.{value_of};
 ghost use Rattle.recovery.specs.Refusals.{refused_receiver};
 ghost use Rattle.recovery.specs.Calls.{Calls, is_device};
 ghost use Rattle.recovery.specs.declared.why.Why.TheVariants.{Device};
@@ -21,6 +22,8 @@ pub fn open_receiver<D: Disk>(disk: D, row: &SessionRow, size: u64) -> Result<Re
     ensures ready { IfOk result (λ r. IsRecvReady D.told r) }
     ensures row { IfOk result (λ r. recv_row r ≡ row.now) }
     ensures size { IfOk result (λ r. recv_size r ≡ size) }
+    ensures value { IfOk result (λ r. D.told.tells
+        → (recv_count r, recv_end r) ≡ value_of (D.told.reading disk)) }
     ensures stands { IfOk result (λ r. D.told.tells
         → StandsForSome row.now (D.told.reading disk)) }
 

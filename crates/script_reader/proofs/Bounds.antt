@@ -1,5 +1,5 @@
 -- A session to which a script leads keeps its bounds.
-use Rattle.std.proofs.Common.{◌≡◌, ⊎_elim, ℕ, ◌+◌, ◌-◌, ◌≤◌, Bool, true, false, cond, List, [], ◌∷◌, Option, Some, None, refl, sym, ap, ◌∙◌, subst, arith}
+use Rattle.std.proofs.Common.{◌≡◌, ⊎_elim, ℕ, ◌+◌, ◌-◌, ◌≤◌, zero, suc, Bool, true, false, cond, List, [], ◌∷◌, Option, Some, None, refl, sym, ap, ◌∙◌, subst, arith}
 use Rattle.std.specs.Prelude.{◌==◌, ◌&&◌, nat_lt, length}
 use Rattle.pump_frame.specs.declared.row.SessionRow.{SessionRow}
 use Rattle.pump_core.specs.declared.event.Event.{Event as WorldEvent}
@@ -13,12 +13,14 @@ use Rattle.script_reader.specs.declared.line.Line.TheVariants as lines
 use Rattle.script_reader.specs.declared.event.Event.{Event}
 use Rattle.pump_core.specs.HighLooks.{Perhaps, Returns, IsSent}
 use Rattle.script_reader.specs.Past.{Past}
-use Rattle.script_reader.specs.Highs.{IsHighLook, is_ahead, IsReturnBy, IsReturn, IsCarried, place}
+use Rattle.script_reader.specs.Highs.{IsWholeLook, is_ahead, IsReturnBy, IsReturn, IsAttach, IsCarried, place}
+use Rattle.script_reader.specs.Openings.{Openings}
+use Rattle.script_reader.specs.Restarts.{IsReceiverRestart}
 use Rattle.script_reader.specs.Steps.{IsCarriedBack, LineStep}
 use Rattle.script_reader.specs.Alone.{PastAlone}
 use Rattle.script_reader.specs.Scripts.{Begun, Whole, Alone, GoesOn, Leads, LeadTo}
 use Rattle.script_reader.specs.Readouts.{KeepsBounds}
-use Rattle.script_reader.proofs.Fresh.{fresh_lawful}
+use Rattle.script_reader.proofs.Opened.{opened_lawful}
 use Rattle.script_reader.proofs.Leading.{IsNew, led}
 use Rattle.script_reader.proofs.Waiting.{step_waits, step_low_waits}
 
@@ -83,19 +85,26 @@ sends_lawful : (n : ℕ) (b : Bool) (w v : World) → (Stays n) w → IsSent b w
 sends_lawful n true w v l h = stays_one n w Send v l h
 sends_lawful n false w v l e = subst (Stays n) (sym e) l
 
-pub high_lawful : (n : ℕ) (s : SessionRow) (p : Past) (m : ℕ) (back : Option ℕ) (q : Past) (printed : List Event) → (Stays n) p.world → IsHighLook s p m back q printed → (Stays n) q.world
-high_lawful n s p m back q printed l (mid, first, second, r, t, e) =
+pub high_lawful : (n : ℕ) (s : SessionRow) (attaches : Bool) (p : Past) (m : ℕ) (back : Option ℕ) (q : Past) (printed : List Event) → (Stays n) p.world → IsWholeLook s attaches p m back q printed → (Stays n) q.world
+high_lawful n s attaches p m back q printed l (mid, first, second, r, t, e) =
     let a = returns_lawful n p.world back r.look.answered l r.look.returns in
     let b = perhaps_lawful n r.look.answered RemoveBegin (RemoveEnd ∷ []) mid.world a r.look.removes in
     let c = perhaps_lawful n mid.world TakeUp [] t.look.taken b t.look.takes_up in
     sends_lawful n t.look.is_sent t.look.taken q.world c t.look.sent
 
-return_by_lawful : (b : Bool) (n : ℕ) (s : SessionRow) (p : Past) (m k : ℕ) (q : Past) (printed : List Event) → (Stays n) p.world → IsReturnBy b s p m k q printed → (Stays n) q.world
-return_by_lawful true n s p m k q printed l h = subst (λ (t : Past). (Stays n) t.world) (sym h.0) l
-return_by_lawful false n s p m k q printed l h = high_lawful n s p m (Some k) q printed l h
+return_by_lawful : (b : Bool) (n : ℕ) (s : SessionRow) (attaches : Bool) (p : Past) (m k : ℕ) (q : Past) (printed : List Event) → (Stays n) p.world → IsReturnBy b s attaches p m k q printed → (Stays n) q.world
+return_by_lawful true n s attaches p m k q printed l h = subst (λ (t : Past). (Stays n) t.world) (sym h.0) l
+return_by_lawful false n s attaches p m k q printed l h = high_lawful n s attaches p m (Some k) q printed l h
 
 return_lawful : (n : ℕ) (s : SessionRow) (p : Past) (m k : ℕ) (q : Past) (printed : List Event) → (Stays n) p.world → IsReturn s p m k q printed → (Stays n) q.world
-return_lawful n s p m k q printed l h = return_by_lawful (is_ahead p.world k) n s p m k q printed l h
+return_lawful n s p m k q printed l h = return_by_lawful (is_ahead p.world k) n s false p m k q printed l h
+
+attach_lawful : (n : ℕ) (s : SessionRow) (p : Past) (m count : ℕ) (q : Past) (printed : List Event) → (Stays n) p.world → IsAttach s p m count q printed → (Stays n) q.world
+attach_lawful n s p m zero q printed l h = high_lawful n s true p m None q printed l h
+attach_lawful n s p m (suc k) q printed l (i, at, h) = return_by_lawful (is_ahead p.world i) n s true p m i q printed l h
+
+receiver_lawful : (n : ℕ) (s : SessionRow) (p : Past) (m : ℕ) (q : Past) (printed : List Event) → (Stays n) p.world → IsReceiverRestart s p m q printed → (Stays n) q.world
+receiver_lawful n s p m q printed l (mid, (h, is), (more, t, e)) = attach_lawful n s mid m (length mid.world.received) q more (stays_one n p.world (Crash None (Some false)) mid.world l h) t
 
 carry_lawful : (n : ℕ) (s : SessionRow) (p : Past) (back : ℕ) (q : Past) (printed : List Event) → (Stays n) p.world → IsCarried s p back q printed → (Stays n) q.world
 carry_lawful n s p back q printed l c = perhaps_lawful n c.carried TakeBegin (TakeEnd ∷ []) q.world (stays_one n p.world (CarryData (place p.world.sent back)) c.carried l c.carries) c.takes
@@ -111,10 +120,12 @@ step_lawful n s p (lines.LowSession row next held) q printed l h = absurd h
 step_lawful n s p (lines.Told session m w fault told a) q printed l h = absurd h
 step_lawful n s p (lines.Look session m w a) q printed l (c, comes, (few, (f, i))) = stays_by n p.world _ q.world l i.world
 step_lawful n s p (lines.Gone session m) q printed l (f, i) = stays_by n p.world _ q.world l i.world
-step_lawful n s p (lines.High session m) q printed l h = high_lawful n s p m None q printed l h
+step_lawful n s p (lines.High session m) q printed l h = high_lawful n s false p m None q printed l h
 step_lawful n s p (lines.Carry session back) q printed l h = carry_lawful n s p back q printed l h
 step_lawful n s p (lines.Return session m back) q printed l h = return_lawful n s p m (place p.world.returned back) q printed l h
-step_lawful n s p (lines.Done session m t) q printed l (mid, first, second, h, g, e) = goes_lawful n s mid.world.high_hand mid (m + t) q second (high_lawful n s p m None mid first l h) g
+step_lawful n s p (lines.Done session m t) q printed l (mid, first, second, h, g, e) = goes_lawful n s mid.world.high_hand mid (m + t) q second (high_lawful n s false p m None mid first l h) g
+step_lawful n s p (lines.Restart session m) q printed l (h, e, f) = stays_one n p.world (Crash (Some (false, false)) None) q.world l h
+step_lawful n s p (lines.ReceiverRestart session m) q printed l h = receiver_lawful n s p m q printed l h
 
 -- what holds of the session that runs: its world stays lawful, and at most 64 wait
 abbrev pub Holds : Option Begun → Type 0
@@ -122,26 +133,27 @@ Holds None = Unit {0}
 Holds (Some (Whole s)) = Stays s.row.capacity s.past.world × (length s.past.waits ≤ 64)
 Holds (Some (Alone s)) = length s.past.waits ≤ 64
 
-begins_so : (s : Begun) → IsNew s → Holds (Some s)
-begins_so (Whole s) new =
-    subst (λ (p : Past). Stays s.row.capacity p.world × (length p.waits ≤ 64)) (sym new.1) (record { lawful = fresh_lawful s.row new.0; capacity = refl }, omega arith)
-begins_so (Alone s) new = subst (λ (p : PastAlone). length p.waits ≤ 64) (sym new.2) (omega arith)
+begins_so : (o : Openings) (s : Begun) → IsNew o s → Holds (Some s)
+begins_so o (Whole s) new =
+    subst (λ (p : Past). Stays s.row.capacity p.world × (length p.waits ≤ 64)) (sym new.2)
+    (record { lawful = opened_lawful s.row (o s.row.id) new.0 new.1; capacity = refl }, omega arith)
+begins_so o (Alone s) new = subst (λ (p : PastAlone). length p.waits ≤ 64) (sym new.2) (omega arith)
 
 goes_so : (s : Begun) (line : Line) (after : Option Begun) (printed : List Event) → GoesOn s line after printed → Holds (Some s) → Holds after
 goes_so (Whole s) line after printed (timely, (q, step, e)) (l, few) =
     subst Holds (sym e) (step_lawful s.row.capacity s.row s.past line q printed l step, step_waits s.row s.past line q printed few step)
 goes_so (Alone s) line after printed (timely, (q, step, e)) few = subst Holds (sym e) (step_low_waits s.row s.past line false q printed step)
 
-leads_so : (running : Option Begun) (line : Line) (after : Option Begun) (printed : List Event) → Leads running line after printed → Holds running → Holds after
-leads_so running line after printed h k =
-    led running line after printed h
+leads_so : (o : Openings) (running : Option Begun) (line : Line) (after : Option Begun) (printed : List Event) → Leads o running line after printed → Holds running → Holds after
+leads_so o running line after printed h k =
+    led o running line after printed h
     (λ skip e f. subst Holds (sym e) k)
-    (λ s none new e f. subst Holds (sym e) (begins_so s new))
+    (λ s none new e f. subst Holds (sym e) (begins_so o s new))
     (λ s some goes. goes_so s line after printed goes (subst Holds some k))
 
-pub lead_so : (running : Option Begun) (script : List Line) (after : Option Begun) (printed : List Event) → LeadTo running script after printed → Holds running → Holds after
-lead_so running [] after printed (e, f) k = subst Holds (sym e) k
-lead_so running (line ∷ script) after printed (mid, first, second, h, later, e) k = lead_so mid script after second later (leads_so running line mid first h k)
+pub lead_so : (o : Openings) (running : Option Begun) (script : List Line) (after : Option Begun) (printed : List Event) → LeadTo o running script after printed → Holds running → Holds after
+lead_so o running [] after printed (e, f) k = subst Holds (sym e) k
+lead_so o running (line ∷ script) after printed (mid, first, second, h, later, e) k = lead_so o mid script after second later (leads_so o running line mid first h k)
 
 pub bounds : (s : Begun) → Holds (Some s) → KeepsBounds s
 bounds (Whole s) (l, few) = record {

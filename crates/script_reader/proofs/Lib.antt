@@ -1,9 +1,9 @@
+pub mod Accepting
 pub mod Bounds
 pub mod DigitLaws
 pub mod FieldChains
 pub mod FieldLaws
 pub mod FreeFields
-pub mod Fresh
 pub mod Heads
 pub mod Leading
 pub mod LineEnds
@@ -20,6 +20,7 @@ pub mod OneEnd
 pub mod OneLow
 pub mod OneReading
 pub mod OneScript
+pub mod Opened
 pub mod ReadLaws
 pub mod Replying
 pub mod SessionLaws

@@ -7,7 +7,7 @@ use Rattle.std.specs.Str.{bytes_eq}
 use Rattle.std.specs.List.{slice_split}
 use Rattle.std.proofs.lemmas.List.Splits.{join_with_byte-slice_split}
 use Rattle.script_reader.specs.declared.line.Line.{Line}
-use Rattle.script_reader.specs.declared.line.Line.TheVariants.{Skip, Session, LowSession, Look, Told, Gone, High, Carry, Return, Done}
+use Rattle.script_reader.specs.declared.line.Line.TheVariants.{Skip, Session, LowSession, Look, Told, Gone, High, Carry, Return, Done, Restart, ReceiverRestart}
 use Rattle.script_reader.specs.declared.line.Arriving.{Arriving}
 use Rattle.script_reader.specs.declared.line.Arriving.TheVariants.{Nothing, Hello, Data, Raw}
 use Rattle.script_reader.specs.Fields.{is_space}
@@ -15,13 +15,13 @@ use Rattle.script_reader.specs.declared.line.ToldFeedback.{ToldFeedback}
 use Rattle.script_reader.specs.declared.line.ToldFeedback.TheVariants.{Quiet, Full, Pair}
 use Rattle.script_reader.specs.Grammar.{held_field, outcome_field, IsFeedback, spaced, row_fields, IsArriving, HasFields, IsSkipped, IsLine}
 use Rattle.script_reader.specs.Lawful.{IsLawfulArriving, IsLawfulFeedback, IsLawfulLine}
-use Rattle.script_reader.specs.Parsing.{session_of, low_session_of, look_of, told_of, gone_of, high_of, carry_of, return_of, done_of, line_of, is_skipped, line_at}
+use Rattle.script_reader.specs.Parsing.{session_of, low_session_of, look_of, told_of, gone_of, high_of, carry_of, return_of, done_of, restart_of, receiver_restart_of, line_of, is_skipped, line_at}
 use Rattle.script_reader.proofs.Splits.{split_joined}
 use Rattle.script_reader.proofs.FieldChains.{chosen}
 use Rattle.script_reader.proofs.FreeFields.{free_text, free_word, free_decimal}
 use Rattle.script_reader.proofs.SessionLaws.{session_takes, session_put, low_session_takes, low_session_put, free_row, free_count}
 use Rattle.script_reader.proofs.LookLaws.{look_takes, look_put, free_arriving}
-use Rattle.script_reader.proofs.MomentLaws.{gone_takes, gone_put, high_takes, high_put, carry_takes, carry_put, return_takes, return_put, done_takes, done_put}
+use Rattle.script_reader.proofs.MomentLaws.{gone_takes, gone_put, high_takes, high_put, carry_takes, carry_put, return_takes, return_put, done_takes, done_put, restart_takes, restart_put, receiver_restart_takes, receiver_restart_put}
 use Rattle.script_reader.proofs.ToldLaws.{told_takes, told_put, free_told}
 
 -- the word at the front decides: the fields after it, or the next word
@@ -45,7 +45,9 @@ line_takes (w ∷ fields) line e =
     by_word w (codes "high") fields line (high_of fields) _ e (high_takes fields line) (λ e.
     by_word w (codes "carry") fields line (carry_of fields) _ e (carry_takes fields line) (λ e.
     by_word w (codes "return") fields line (return_of fields) _ e (return_takes fields line) (λ e.
-    by_word w (codes "done") fields line (done_of fields) None e (done_takes fields line) (λ e. cc)))))))))
+    by_word w (codes "done") fields line (done_of fields) _ e (done_takes fields line) (λ e.
+    by_word w (codes "restart") fields line (restart_of fields) _ e (restart_takes fields line) (λ e.
+    by_word w (codes "receiver-restart") fields line (receiver_restart_of fields) None e (receiver_restart_takes fields line) (λ e. cc)))))))))))
 
 line_put : (line : Line) (fields : List (List ℕ)) → HasFields line fields → line_of fields ≡ Some line
 unfolding line_of
@@ -59,6 +61,8 @@ line_put (High session moment) fields h = rw h.2 (high_put session moment h.0 h.
 line_put (Carry session back) fields h = rw h.2 (carry_put session back h.0 h.1)
 line_put (Return session moment back) fields h = rw h.3 (return_put session moment back h.0 h.1 h.2)
 line_put (Done session moment time) fields h = rw h.3 (done_put session moment time h.0 h.1 h.2)
+line_put (Restart session moment) fields h = rw h.2 (restart_put session moment h.0 h.1)
+line_put (ReceiverRestart session moment) fields h = rw h.2 (receiver_restart_put session moment h.0 h.1)
 
 -- bytes that are a line's fields with one space between are split into them
 split_line : (line : Line) (fields : List (List ℕ)) → HasFields line fields → slice_split is_space (spaced fields) ≡ fields
@@ -88,6 +92,12 @@ split_line (Return session moment back) fields h =
 split_line (Done session moment time) fields h =
     rw h.3 (split_joined (codes "done") (decimal session ∷ decimal moment ∷ decimal time ∷ []) (free_text (codes "done") refl)
     (free_decimal session (omega (arith, h.0)), (free_decimal moment (omega (arith, h.1)), (free_decimal time (omega (arith, h.2)), tt))))
+split_line (Restart session moment) fields h =
+    rw h.2 (split_joined (codes "restart") (decimal session ∷ decimal moment ∷ []) (free_text (codes "restart") refl)
+    (free_decimal session (omega (arith, h.0)), (free_decimal moment (omega (arith, h.1)), tt)))
+split_line (ReceiverRestart session moment) fields h =
+    rw h.2 (split_joined (codes "receiver-restart") (decimal session ∷ decimal moment ∷ []) (free_text (codes "receiver-restart") refl)
+    (free_decimal session (omega (arith, h.0)), (free_decimal moment (omega (arith, h.1)), tt)))
 
 unskipped : (line : Line) (fields : List (List ℕ)) → HasFields line fields → is_skipped (spaced fields) ≡ false
 unskipped Skip fields h = absurd h
@@ -100,6 +110,8 @@ unskipped (High session moment) fields h = rw h.2 refl
 unskipped (Carry session back) fields h = rw h.2 refl
 unskipped (Return session moment back) fields h = rw h.3 refl
 unskipped (Done session moment time) fields h = rw h.3 refl
+unskipped (Restart session moment) fields h = rw h.2 refl
+unskipped (ReceiverRestart session moment) fields h = rw h.2 refl
 
 skips : (bytes : List ℕ) → is_skipped bytes ≡ true → IsSkipped bytes
 skips [] e = tt
@@ -167,6 +179,8 @@ lawful_fields (High session moment) fields h = h.1
 lawful_fields (Carry session back) fields h = tt
 lawful_fields (Return session moment back) fields h = h.1
 lawful_fields (Done session moment time) fields h = (h.1, h.2)
+lawful_fields (Restart session moment) fields h = h.1
+lawful_fields (ReceiverRestart session moment) fields h = h.1
 
 pub lawful_line : (line : Line) (bytes : List ℕ) → IsLine line bytes → IsLawfulLine line
 lawful_line line bytes h =

@@ -1,13 +1,13 @@
 -- Two sessions that are alike for Low stay so in a look that is told the same.
-use Rattle.std.proofs.Common.{◌≡◌, ℕ, Bool, List, [], ◌∷◌, drop, refl, sym, ap, ◌∙◌, subst}
+use Rattle.std.proofs.Common.{◌≡◌, ℕ, ◌+◌, Bool, List, [], ◌∷◌, length, drop, refl, sym, ap, ◌∙◌, subst}
 use Rattle.std.specs.Prelude.{if◌then◌else◌, ◌&&◌, ◌||◌}
 use Rattle.pump_frame.specs.Readings.{Reading}
 use Rattle.pump_frame.specs.declared.row.SessionRow.{SessionRow}
 use Rattle.pump_core.specs.declared.feedback.Feedback.{Feedback}
 use Rattle.pump_core.specs.History.{Arrival, Look, Opening, History, looked}
 use Rattle.pump_core.specs.Exchanges.{Part, IsCut}
-use Rattle.pump_core.specs.Replies.{takes}
-use Rattle.pump_core.specs.Step.{after, takes_at, FeedbackFits}
+use Rattle.pump_core.specs.Replies.{takes, stores}
+use Rattle.pump_core.specs.Step.{after, takes_at, stores_at, FeedbackFits}
 use Rattle.pump_core.specs.Standing.{State, end_of}
 use Rattle.pump_core.specs.Pairs.{uncounted, SameLook, SameLooks, SameUpToCounts}
 use Rattle.pump_core.proofs.Runs.{run, ran}
@@ -18,7 +18,8 @@ use Rattle.script_reader.specs.Past.{Past}
 use Rattle.script_reader.specs.Lows.{is_bad, IsLook}
 use Rattle.script_reader.specs.Steps.{look_of, IsLowLook}
 use Rattle.pump_core.proofs.CutsFit.{cuts_fit}
-use Rattle.script_reader.proofs.Telling.{said_to_low, said_by, said_of_look, said_uncounted, OneKind, looks_one_kind, looks_take}
+use Rattle.script_reader.proofs.Telling.{said_to_low, said_by, said_of_look, said_uncounted, OneKind, looks_one_kind, looks_take, looks_store}
+use Rattle.script_reader.proofs.Accepting.{stored_in, look_accepts}
 
 -- low's half of what a session has been through
 pub record Half : Type 0 where
@@ -26,9 +27,10 @@ pub record Half : Type 0 where
   pub waits : List Arrival
   pub is_broken : Bool
   pub reading : Reading
+  pub accepted : ℕ
 
 abbrev pub half : Past → Half
-half p = record { history = p.history; waits = p.waits; is_broken = p.is_broken; reading = p.reading }
+half p = record { history = p.history; waits = p.waits; is_broken = p.is_broken; reading = p.reading; accepted = length p.world.accepted }
 
 -- the halves are alike up to the counts that were told
 pub record Alike (p q : Half) : Type 0 where
@@ -36,6 +38,7 @@ pub record Alike (p q : Half) : Type 0 where
   pub waits : p.waits ≡ q.waits
   pub broken : p.is_broken ≡ q.is_broken
   pub reading : p.reading ≡ q.reading
+  pub accepted : p.accepted ≡ q.accepted
 
 same_run : (row : SessionRow) (o : Opening) (xs ys : List Look) → SameLooks xs ys → run row o xs ≡ run row o ys
 same_run row o [] [] e = refl
@@ -60,6 +63,7 @@ same_state row h k parts others same cut cut' =
 record Stands (row : SessionRow) (p : Past) (x : Look) (s : State) (after : List Part) : Type 0 where
   fits : FeedbackFits row s x
   taken : takes after ≡ takes_at s x
+  stored : stores after ≡ stores_at row s x
 
 stands : (row : SessionRow) (p : Past) (x : Look) (q : Past) (printed : List Event) (i : IsLook row p x q printed)
     → Stands row p x (end_of row p.history.life.opening i.before) i.after
@@ -67,7 +71,8 @@ stands row p x q printed i =
     let o = p.history.life.opening in
     let e = sym i.cut_with.looks ∙ ap (λ l. x ∷ l) i.cut.looks in
     let fits = cuts_fit row o x i.before i.after i.cut.are_parts i.cut_with.are_parts e in
-    record { fits = fits; taken = (newest_of_cut row o x i.before i.after i.cut.are_parts i.cut_with.are_parts e fits).taken }
+    let newest = newest_of_cut row o x i.before i.after i.cut.are_parts i.cut_with.are_parts e fits in
+    record { fits = fits; taken = newest.taken; stored = newest.stored }
 
 -- after two looks that were told the same
 pub record Looked (p q : Past) (xs ys : List Event) : Type 0 where
@@ -89,6 +94,7 @@ after_looks row p q m w a f g p' q' xs ys alike i k decide =
     let py : said_to_low ys ≡ said_by m g = ap said_to_low k.printed_is ∙ said_of_look row.id m _ g k.new in
     let told = decide (looks_one_kind row s m w a f g si.fits (subst (λ (u : State). FeedbackFits row u y) (sym one) sk.fits)) px py in
     let taken : takes i.after ≡ takes k.after = si.taken ∙ looks_take s m w a f g ∙ ap (λ (u : State). takes_at u y) one ∙ sym sk.taken in
+    let kept : stores i.after ≡ stores k.after = si.stored ∙ looks_store row s m w a f g ∙ ap (λ (u : State). stores_at row u y) one ∙ sym sk.stored in
     let look : SameLook x y = record { moment = refl; word = refl; arrival = refl; outcome = refl; feedback = told } in
     let history : SameUpToCounts (looked p.history x) (looked q.history y) =
     (record { opening = alike.history.0.opening; looks = (look, alike.history.0.looks) }, alike.history.1) in
@@ -98,6 +104,9 @@ after_looks row p q m w a f g p' q' xs ys alike i k decide =
         waits = i.waits ∙ (λ j. if taken j then drop 1 (alike.waits j) else alike.waits j) ∙ sym k.waits;
         broken = i.broken ∙ (λ j. alike.broken j || (taken j && is_bad a)) ∙ sym k.broken;
         reading = i.reading ∙ alike.reading ∙ sym k.reading;
+        accepted = look_accepts f (stores i.after) a i.new p.world p'.world i.world
+            ∙ (λ j. alike.accepted j + stored_in (kept j) a)
+            ∙ sym (look_accepts g (stores k.after) a k.new q.world q'.world k.world);
       };
       said = px ∙ said_uncounted m f ∙ ap (said_by m) told ∙ sym (said_uncounted m g) ∙ sym py;
     }

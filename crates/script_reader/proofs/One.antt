@@ -1,6 +1,6 @@
 -- A line of a whole session does one thing, and prints one thing.
-use Rattle.std.proofs.Common.{◌≡◌, ⊎_elim, ℕ, ◌+◌, Bool, true, false, List, [], ◌∷◌, ◌++◌, drop, Option, Some, None, sym, ap, ◌∙◌, subst}
-use Rattle.std.specs.Prelude.{if◌then◌else◌, slice_get, option_to_list, ◌&&◌, ◌||◌}
+use Rattle.std.proofs.Common.{◌≡◌, ⊎_elim, ℕ, ◌+◌, zero, suc, Bool, true, false, List, [], ◌∷◌, ◌++◌, length, drop, Option, Some, None, sym, ap, ◌∙◌, subst}
+use Rattle.std.specs.Prelude.{if◌then◌else◌, slice_get, option_to_list, is_some, ◌&&◌, ◌||◌}
 use Rattle.std.proofs.lemmas.Option.{same_Some}
 use Rattle.pump_frame.specs.declared.row.SessionRow.{SessionRow}
 use Rattle.pump_core.specs.declared.feedback.Feedback.{Feedback}
@@ -17,11 +17,14 @@ use Rattle.pump_core.proofs.Cuts.{one_cut}
 use Rattle.script_reader.specs.declared.line.Line.{Line}
 use Rattle.script_reader.specs.declared.line.Line.TheVariants as lines
 use Rattle.script_reader.specs.declared.event.Event.{Event}
+use Rattle.script_reader.specs.declared.event.Event.TheVariants.{Attach, Restart}
 use Rattle.pump_core.specs.HighLooks.{Perhaps, Returns, IsSent, time_between, RemovalPart, SendingPart}
-use Rattle.pump_core.specs.Sendings.{sends_hand, sending_of}
+use Rattle.pump_core.specs.Sendings.{expected, sends_hand, sending_of}
 use Rattle.script_reader.specs.Past.{Past, high_of}
 use Rattle.script_reader.specs.Lows.{first_of, is_bad, feedback, offers, stored_events, acks_of, printed_store, printed_feedback, printed_replies, IsLook}
-use Rattle.script_reader.specs.Highs.{printed_removal, printed_sending, printed_carry, IsRemoval, IsSending, IsHighLook, is_ahead, IsReturnBy, IsReturn, IsCarried, place}
+use Rattle.script_reader.specs.Highs.{printed_removal, printed_sending, printed_carry, IsRemoval, IsSending, IsWholeLook, IsHighLook, is_not_below, is_ahead, IsReturnBy, IsReturn, IsAttach, IsCarried, place}
+use Rattle.script_reader.specs.Openings.{restarted}
+use Rattle.script_reader.specs.Restarts.{IsRestart, IsReopened, IsReceiverRestart}
 use Rattle.script_reader.specs.Steps.{LineComing, bad_of, came, IsRead, Arrives, joined, lost, look_of, IsLowLook, IsOfferedLook, IsCarriedBack, LineStep}
 use Rattle.script_reader.specs.declared.line.Arriving.{Arriving}
 use Rattle.script_reader.specs.declared.line.Arriving.TheVariants as arriving
@@ -69,9 +72,17 @@ perhaps_one w e es v u h k = ⊎_elim
     (λ (o : ((x : World) → Happens w e x → ⊥) × (u ≡ w)). n.1 ∙ sym o.1) k)
     h
 
-returns_one : (w : World) (back : Option ℕ) (v u : World) → Returns w back v → Returns w back u → v ≡ u
+-- what comes back from these places is the same
+abbrev ComesAlike : World → Option ℕ → Option ℕ → Type 0
+ComesAlike w back other = (v u : World) → Returns w back v → Returns w other u → v ≡ u
+
+returns_one : (w : World) (back : Option ℕ) → ComesAlike w back back
 returns_one w None v u h k = h ∙ sym k
 returns_one w (Some n) v u h k = happens_one w (ReturnTaken n) v u h k
+
+-- so it is where one TAKEN stands at both
+taken_one : (w : World) (i j : ℕ) → slice_get w.returned i ≡ slice_get w.returned j → ComesAlike w (Some i) (Some j)
+taken_one w i j same v u h k = h.3 ∙ ap (answered w) (same_Some h.0 k.0 (sym h.1 ∙ same ∙ k.1)) ∙ sym k.3
 
 sends_one : (b : Bool) (w v u : World) → IsSent b w v → IsSent b w u → v ≡ u
 sends_one true w v u h k = happens_one w Send v u h k
@@ -83,11 +94,12 @@ pub record Same (q r : Past) (xs ys : List Event) : Type 0 where
   pub past : q ≡ r
   pub printed : xs ≡ ys
 
-removal_one : (s : SessionRow) (p : Past) (m : ℕ) (back : Option ℕ) (q r : Past) (xs ys : List Event) → IsRemoval s p m back q xs → IsRemoval s p m back r ys → Same q r xs ys
-removal_one s p m back q r xs ys h k =
+removal_one : (s : SessionRow) (p : Past) (m : ℕ) (back other : Option ℕ) (q r : Past) (xs ys : List Event) → ComesAlike p.world back other
+    → IsRemoval s p m back q xs → IsRemoval s p m other r ys → Same q r xs ys
+removal_one s p m back other q r xs ys alike h k =
     let x : RemovalPart (high_of p) m back (high_of q) = h.look in
-    let y : RemovalPart (high_of p) m back (high_of r) = k.look in
-    let a = returns_one p.world back x.answered y.answered x.returns y.returns in
+    let y : RemovalPart (high_of p) m other (high_of r) = k.look in
+    let a = alike x.answered y.answered x.returns y.returns in
     let b = perhaps_one x.answered RemoveBegin (RemoveEnd ∷ []) q.world r.world x.removes (subst (λ (w : World). Perhaps w RemoveBegin (RemoveEnd ∷ []) r.world) (sym a) y.removes) in
     let t : x.time ≡ y.time = x.is_time ∙ ap (λ (u : World × World). time_between (high_of p) m u.0 u.1) (λ i. (a i, b i)) ∙ sym y.is_time in
     let times : q.times ≡ r.times = x.times ∙ ap (λ (o : Option ℕ). p.times ++ option_to_list o) t ∙ sym y.times in
@@ -96,12 +108,12 @@ removal_one s p m back q r xs ys h k =
       printed = h.printed_is ∙ (λ i. printed_removal s.id m (a i) (b i) (t i)) ∙ sym k.printed_is;
     }
 
-sending_one : (s : SessionRow) (p : Past) (m : ℕ) (q r : Past) (xs ys : List Event) → IsSending s p m q xs → IsSending s p m r ys → Same q r xs ys
-sending_one s p m q r xs ys h k =
-    let x : SendingPart s.resend false (high_of p) m (high_of q) = h.look in
-    let y : SendingPart s.resend false (high_of p) m (high_of r) = k.look in
+sending_one : (s : SessionRow) (attaches : Bool) (p : Past) (m : ℕ) (q r : Past) (xs ys : List Event) → IsSending s attaches p m q xs → IsSending s attaches p m r ys → Same q r xs ys
+sending_one s attaches p m q r xs ys h k =
+    let x : SendingPart s.resend attaches (high_of p) m (high_of q) = h.look in
+    let y : SendingPart s.resend attaches (high_of p) m (high_of r) = k.look in
     let a = perhaps_one p.world TakeUp [] x.taken y.taken x.takes_up y.takes_up in
-    let c : x.is_sent ≡ y.is_sent = x.cause ∙ ap (λ (w : World). sends_hand s.resend false p.sends m w.high_hand) a ∙ sym y.cause in
+    let c : x.is_sent ≡ y.is_sent = x.cause ∙ ap (λ (w : World). sends_hand s.resend attaches p.sends m w.high_hand) a ∙ sym y.cause in
     let b = sends_one x.is_sent x.taken q.world r.world x.sent (subst (λ (u : Bool × World). IsSent u.0 u.1 r.world) (λ i. (sym c i, sym a i)) y.sent) in
     let sends : q.sends ≡ r.sends = x.sends ∙ (λ i. if c i then sending_of m (a i).high_hand ++ p.sends else p.sends) ∙ sym y.sends in
     record {
@@ -109,18 +121,30 @@ sending_one s p m q r xs ys h k =
       printed = h.printed_is ∙ (λ i. if c i then printed_sending s.id m (a i).high_hand else []) ∙ sym k.printed_is;
     }
 
-pub high_one : (s : SessionRow) (p : Past) (m : ℕ) (back : Option ℕ) (q r : Past) (xs ys : List Event) → IsHighLook s p m back q xs → IsHighLook s p m back r ys → Same q r xs ys
-high_one s p m back q r xs ys (mid, a, b, h, t, e) (mid', a', b', h', t', e') =
-    let x = removal_one s p m back mid mid' a a' h h' in
-    let y = sending_one s mid m q r b b' t (subst (λ (u : Past). IsSending s u m r b') (sym x.past) t') in
+whole_one : (s : SessionRow) (attaches : Bool) (p : Past) (m : ℕ) (back other : Option ℕ) (q r : Past) (xs ys : List Event) → ComesAlike p.world back other
+    → IsWholeLook s attaches p m back q xs → IsWholeLook s attaches p m other r ys → Same q r xs ys
+whole_one s attaches p m back other q r xs ys alike (mid, a, b, h, t, e) (mid', a', b', h', t', e') =
+    let x = removal_one s p m back other mid mid' a a' alike h h' in
+    let y = sending_one s attaches mid m q r b b' t (subst (λ (u : Past). IsSending s attaches u m r b') (sym x.past) t') in
     record { past = y.past; printed = e ∙ (λ i. x.printed i ++ y.printed i) ∙ sym e' }
 
-return_by_one : (b : Bool) (s : SessionRow) (p : Past) (m n : ℕ) (q r : Past) (xs ys : List Event) → IsReturnBy b s p m n q xs → IsReturnBy b s p m n r ys → Same q r xs ys
-return_by_one true s p m n q r xs ys h k = record { past = h.0 ∙ sym k.0; printed = h.1 ∙ sym k.1 }
-return_by_one false s p m n q r xs ys h k = high_one s p m (Some n) q r xs ys h k
+pub high_one : (s : SessionRow) (p : Past) (m : ℕ) (back : Option ℕ) (q r : Past) (xs ys : List Event) → IsHighLook s p m back q xs → IsHighLook s p m back r ys → Same q r xs ys
+high_one s p m back q r xs ys h k = whole_one s false p m back back q r xs ys (returns_one p.world back) h k
+
+return_by_one : (b : Bool) (s : SessionRow) (attaches : Bool) (p : Past) (m i j : ℕ) (q r : Past) (xs ys : List Event) → ComesAlike p.world (Some i) (Some j)
+    → IsReturnBy b s attaches p m i q xs → IsReturnBy b s attaches p m j r ys → Same q r xs ys
+return_by_one true s attaches p m i j q r xs ys alike h k = record { past = h.0 ∙ sym k.0; printed = h.1 ∙ sym k.1 }
+return_by_one false s attaches p m i j q r xs ys alike h k = whole_one s attaches p m (Some i) (Some j) q r xs ys alike h k
 
 return_one : (s : SessionRow) (p : Past) (m n : ℕ) (q r : Past) (xs ys : List Event) → IsReturn s p m n q xs → IsReturn s p m n r ys → Same q r xs ys
-return_one s p m n q r xs ys h k = return_by_one (is_ahead p.world n) s p m n q r xs ys h k
+return_one s p m n q r xs ys h k = return_by_one (is_ahead p.world n) s false p m n n q r xs ys (returns_one p.world (Some n)) h k
+
+attach_one : (s : SessionRow) (p : Past) (m count : ℕ) (q r : Past) (xs ys : List Event) → IsAttach s p m count q xs → IsAttach s p m count r ys → Same q r xs ys
+attach_one s p m zero q r xs ys h k = whole_one s true p m None None q r xs ys (returns_one p.world None) h k
+attach_one s p m (suc n) q r xs ys (i, at, h) (j, at', k) =
+    let same : slice_get p.world.returned i ≡ slice_get p.world.returned j = at ∙ sym at' in
+    let ahead : is_ahead p.world i ≡ is_ahead p.world j = ap (is_not_below (expected p.world.removed p.world.high_hand)) same in
+    return_by_one (is_ahead p.world i) s true p m i j q r xs ys (taken_one p.world i j same) h (subst (λ (b : Bool). IsReturnBy b s true p m j r ys) (sym ahead) k)
 
 carry_one : (s : SessionRow) (p : Past) (back : ℕ) (q r : Past) (xs ys : List Event) → IsCarried s p back q xs → IsCarried s p back r ys → Same q r xs ys
 carry_one s p back q r xs ys h k =
@@ -186,6 +210,29 @@ arrives_one session r (arriving.Hello l n) c d h k = h ∙ sym k
 arrives_one session r (arriving.Data n b) c d h k = h ∙ sym k
 arrives_one session r (arriving.Raw bytes) c d h k = stream_one r bytes.items c d h k
 
+-- ---- the lines that open disks again ----
+
+restart_one : (s : SessionRow) (p : Past) (m : ℕ) (q r : Past) (xs ys : List Event) → IsRestart s p m q xs → IsRestart s p m r ys → Same q r xs ys
+restart_one s p m q r xs ys (h, e, f) (k, e', f') =
+    let w : q.world ≡ r.world = happens_one p.world (Crash (Some (false, false)) None) q.world r.world h k in
+    record {
+      past = e ∙ ap (λ (v : World). restarted p v m) w ∙ sym e';
+      printed = f ∙ ap (λ (v : World). Restart s.id m (length v.accepted) v.removed (is_some v.low_hand) ∷ []) w ∙ sym f';
+    }
+
+reopened_one : (p q r : Past) → IsReopened p q → IsReopened p r → q ≡ r
+reopened_one p q r (h, e) (k, f) =
+    let w : q.world ≡ r.world = happens_one p.world (Crash None (Some false)) q.world r.world h k in
+    e ∙ ap (λ (v : World). record p { world = v }) w ∙ sym f
+
+receiver_one : (s : SessionRow) (p : Past) (m : ℕ) (q r : Past) (xs ys : List Event) → IsReceiverRestart s p m q xs → IsReceiverRestart s p m r ys → Same q r xs ys
+receiver_one s p m q r xs ys (mid, h, (a, t, e)) (mid', h', (a', t', e')) =
+    let x : mid ≡ mid' = reopened_one p mid mid' h h' in
+    let y = attach_one s mid m (length mid.world.received) q r a a' t (subst (λ (u : Past). IsAttach s u m (length u.world.received) r a') (sym x) t') in
+    record { past = y.past; printed = e ∙ (λ i. Attach s.id m (length (x i).world.received) ∷ y.printed i) ∙ sym e' }
+
+-- ---- lines of a script ----
+
 pub step_one : (s : SessionRow) (p : Past) (line : Line) (q r : Past) (xs ys : List Event) → LineStep s p line q xs → LineStep s p line r ys → Same q r xs ys
 step_one s p lines.Skip q r xs ys h k = absurd h
 step_one s p (lines.Session row) q r xs ys h k = absurd h
@@ -202,3 +249,5 @@ step_one s p (lines.Done session m t) q r xs ys (mid, a, b, h, g, e) (mid', a', 
     let x = high_one s p m None mid mid' a a' h h' in
     let y = goes_one s mid.world.high_hand mid (m + t) q r b b' g (subst (λ (u : Past). IsCarriedBack s u.world.high_hand u (m + t) r b') (sym x.past) g') in
     record { past = y.past; printed = e ∙ (λ i. x.printed i ++ y.printed i) ∙ sym e' }
+step_one s p (lines.Restart session m) q r xs ys h k = restart_one s p m q r xs ys h k
+step_one s p (lines.ReceiverRestart session m) q r xs ys h k = receiver_one s p m q r xs ys h k

@@ -13,6 +13,7 @@ use Rattle.script_reader.proofs.LineLaws.{one_line}
 use Rattle.script_reader.proofs.OneReading.{taken, not_nothing}
 use Rattle.pump_frame.specs.declared.row.SessionRow.{SessionRow}
 use Rattle.script_reader.specs.Past.{Past}
+use Rattle.script_reader.specs.Openings.{Openings}
 use Rattle.script_reader.specs.Steps.{LineComing, joined, IsCrowded, IsRefusedWhole, LineStep}
 use Rattle.script_reader.specs.Alone.{PastAlone, joined_alone, IsCrowdedAlone, IsRefusedAlone, StepAlone}
 use Rattle.script_reader.proofs.One.{arrives_one}
@@ -34,6 +35,8 @@ crowded_steps s p (lines.High session m) q printed h k = h
 crowded_steps s p (lines.Carry session back) q printed h k = h
 crowded_steps s p (lines.Return session m back) q printed h k = h
 crowded_steps s p (lines.Done session m t) q printed h k = h
+crowded_steps s p (lines.Restart session m) q printed h k = h
+crowded_steps s p (lines.ReceiverRestart session m) q printed h k = h
 
 refused_goes : (s : Running) (line : Line) (mid : Option Begun) (printed : List Event) → IsRefusedWhole s.row s.past line → GoesWhole s line mid printed → ⊥
 refused_goes s line mid printed h (timely, (q, step, e)) =
@@ -52,41 +55,49 @@ crowded_low s p (lines.High session m) q printed h k = h
 crowded_low s p (lines.Carry session back) q printed h k = h
 crowded_low s p (lines.Return session m back) q printed h k = h
 crowded_low s p (lines.Done session m t) q printed h k = h
+crowded_low s p (lines.Restart session m) q printed h k = h
+crowded_low s p (lines.ReceiverRestart session m) q printed h k = h
 
 refused_low : (s : RunningAlone) (line : Line) (mid : Option Begun) (printed : List Event) → IsRefusedAlone s.row s.past line → GoesAlone s line mid printed → ⊥
 refused_low s line mid printed h (timely, (q, step, e)) =
     elim h [ inl late ↦ both_ways _ late timely | inr crowded ↦ crowded_low s.row s.past line q printed crowded step ]
 
 -- a line that can't be applied leads nowhere
-pub refused_leads : (running : Option Begun) (line : Line) (mid : Option Begun) (printed : List Event) → IsRefused running line → Leads running line mid printed → ⊥
-refused_leads running lines.Skip mid printed r h = absurd r
-refused_leads None (lines.Session row) mid printed r h = no_key _ r.0 h.0.0 r.1
-refused_leads None (lines.LowSession row next held) mid printed r h = no_key _ r.0 h.0.0 r.1
-refused_leads None (lines.Look session m w z) mid printed r h = absurd h
-refused_leads None (lines.Told session m w fault told z) mid printed r h = absurd h
-refused_leads None (lines.Gone session m) mid printed r h = absurd h
-refused_leads None (lines.High session m) mid printed r h = absurd h
-refused_leads None (lines.Carry session back) mid printed r h = absurd h
-refused_leads None (lines.Return session m back) mid printed r h = absurd h
-refused_leads None (lines.Done session m t) mid printed r h = absurd h
-refused_leads (Some (Whole s)) (lines.Session row) mid printed r h = refused_goes s (lines.Session row) mid printed r h
-refused_leads (Some (Whole s)) (lines.LowSession row next held) mid printed r h = refused_goes s (lines.LowSession row next held) mid printed r h
-refused_leads (Some (Whole s)) (lines.Look session m w z) mid printed r h = refused_goes s (lines.Look session m w z) mid printed r h
-refused_leads (Some (Whole s)) (lines.Told session m w fault told z) mid printed r h = refused_goes s (lines.Told session m w fault told z) mid printed r h
-refused_leads (Some (Whole s)) (lines.Gone session m) mid printed r h = refused_goes s (lines.Gone session m) mid printed r h
-refused_leads (Some (Whole s)) (lines.High session m) mid printed r h = refused_goes s (lines.High session m) mid printed r h
-refused_leads (Some (Whole s)) (lines.Carry session back) mid printed r h = refused_goes s (lines.Carry session back) mid printed r h
-refused_leads (Some (Whole s)) (lines.Return session m back) mid printed r h = refused_goes s (lines.Return session m back) mid printed r h
-refused_leads (Some (Whole s)) (lines.Done session m t) mid printed r h = refused_goes s (lines.Done session m t) mid printed r h
-refused_leads (Some (Alone s)) (lines.Session row) mid printed r h = refused_low s (lines.Session row) mid printed r h
-refused_leads (Some (Alone s)) (lines.LowSession row next held) mid printed r h = refused_low s (lines.LowSession row next held) mid printed r h
-refused_leads (Some (Alone s)) (lines.Look session m w z) mid printed r h = refused_low s (lines.Look session m w z) mid printed r h
-refused_leads (Some (Alone s)) (lines.Told session m w fault told z) mid printed r h = refused_low s (lines.Told session m w fault told z) mid printed r h
-refused_leads (Some (Alone s)) (lines.Gone session m) mid printed r h = refused_low s (lines.Gone session m) mid printed r h
-refused_leads (Some (Alone s)) (lines.High session m) mid printed r h = refused_low s (lines.High session m) mid printed r h
-refused_leads (Some (Alone s)) (lines.Carry session back) mid printed r h = refused_low s (lines.Carry session back) mid printed r h
-refused_leads (Some (Alone s)) (lines.Return session m back) mid printed r h = refused_low s (lines.Return session m back) mid printed r h
-refused_leads (Some (Alone s)) (lines.Done session m t) mid printed r h = refused_low s (lines.Done session m t) mid printed r h
+pub refused_leads : (o : Openings) (running : Option Begun) (line : Line) (mid : Option Begun) (printed : List Event) → IsRefused running line → Leads o running line mid printed → ⊥
+refused_leads o running lines.Skip mid printed r h = absurd r
+refused_leads o None (lines.Session row) mid printed r h = no_key _ r.0 h.0.0 r.1
+refused_leads o None (lines.LowSession row next held) mid printed r h = no_key _ r.0 h.0.0 r.1
+refused_leads o None (lines.Look session m w z) mid printed r h = absurd h
+refused_leads o None (lines.Told session m w fault told z) mid printed r h = absurd h
+refused_leads o None (lines.Gone session m) mid printed r h = absurd h
+refused_leads o None (lines.High session m) mid printed r h = absurd h
+refused_leads o None (lines.Carry session back) mid printed r h = absurd h
+refused_leads o None (lines.Return session m back) mid printed r h = absurd h
+refused_leads o None (lines.Done session m t) mid printed r h = absurd h
+refused_leads o None (lines.Restart session m) mid printed r h = absurd h
+refused_leads o None (lines.ReceiverRestart session m) mid printed r h = absurd h
+refused_leads o (Some (Whole s)) (lines.Session row) mid printed r h = refused_goes s (lines.Session row) mid printed r h
+refused_leads o (Some (Whole s)) (lines.LowSession row next held) mid printed r h = refused_goes s (lines.LowSession row next held) mid printed r h
+refused_leads o (Some (Whole s)) (lines.Look session m w z) mid printed r h = refused_goes s (lines.Look session m w z) mid printed r h
+refused_leads o (Some (Whole s)) (lines.Told session m w fault told z) mid printed r h = refused_goes s (lines.Told session m w fault told z) mid printed r h
+refused_leads o (Some (Whole s)) (lines.Gone session m) mid printed r h = refused_goes s (lines.Gone session m) mid printed r h
+refused_leads o (Some (Whole s)) (lines.High session m) mid printed r h = refused_goes s (lines.High session m) mid printed r h
+refused_leads o (Some (Whole s)) (lines.Carry session back) mid printed r h = refused_goes s (lines.Carry session back) mid printed r h
+refused_leads o (Some (Whole s)) (lines.Return session m back) mid printed r h = refused_goes s (lines.Return session m back) mid printed r h
+refused_leads o (Some (Whole s)) (lines.Done session m t) mid printed r h = refused_goes s (lines.Done session m t) mid printed r h
+refused_leads o (Some (Whole s)) (lines.Restart session m) mid printed r h = refused_goes s (lines.Restart session m) mid printed r h
+refused_leads o (Some (Whole s)) (lines.ReceiverRestart session m) mid printed r h = refused_goes s (lines.ReceiverRestart session m) mid printed r h
+refused_leads o (Some (Alone s)) (lines.Session row) mid printed r h = refused_low s (lines.Session row) mid printed r h
+refused_leads o (Some (Alone s)) (lines.LowSession row next held) mid printed r h = refused_low s (lines.LowSession row next held) mid printed r h
+refused_leads o (Some (Alone s)) (lines.Look session m w z) mid printed r h = refused_low s (lines.Look session m w z) mid printed r h
+refused_leads o (Some (Alone s)) (lines.Told session m w fault told z) mid printed r h = refused_low s (lines.Told session m w fault told z) mid printed r h
+refused_leads o (Some (Alone s)) (lines.Gone session m) mid printed r h = refused_low s (lines.Gone session m) mid printed r h
+refused_leads o (Some (Alone s)) (lines.High session m) mid printed r h = refused_low s (lines.High session m) mid printed r h
+refused_leads o (Some (Alone s)) (lines.Carry session back) mid printed r h = refused_low s (lines.Carry session back) mid printed r h
+refused_leads o (Some (Alone s)) (lines.Return session m back) mid printed r h = refused_low s (lines.Return session m back) mid printed r h
+refused_leads o (Some (Alone s)) (lines.Done session m t) mid printed r h = refused_low s (lines.Done session m t) mid printed r h
+refused_leads o (Some (Alone s)) (lines.Restart session m) mid printed r h = refused_low s (lines.Restart session m) mid printed r h
+refused_leads o (Some (Alone s)) (lines.ReceiverRestart session m) mid printed r h = refused_low s (lines.ReceiverRestart session m) mid printed r h
 
 -- no line stands at the end
 end_is_fine : (running : Option Begun) (rest : List ℕ) → rest ≡ [] → IsFaulty (Some rest) running → ⊥
@@ -99,40 +110,40 @@ end_is_fine running rest e f =
     ]
 
 -- the next line is the one that there is
-next_is_fine : (running mid : Option Begun) (rest bytes left : List ℕ) (line : Line) (printed : List Event) → rest ≡ bytes ++ 10 ∷ left → IsUnended bytes → IsLine line bytes
-    → Leads running line mid printed → IsFaulty (Some rest) running → ⊥
-next_is_fine running mid rest bytes left line printed e u i h f =
+next_is_fine : (o : Openings) (running mid : Option Begun) (rest bytes left : List ℕ) (line : Line) (printed : List Event) → rest ≡ bytes ++ 10 ∷ left → IsUnended bytes → IsLine line bytes
+    → Leads o running line mid printed → IsFaulty (Some rest) running → ⊥
+next_is_fine o running mid rest bytes left line printed e u i h f =
     elim f [
       | inl bad ↦ bad.bad line bytes left (record { unended = u; spelled = i; whole = e })
       | inr r ↦
           let t = taken rest r.2.0 r.2.1 r.2.4 in
           let same = one_front bytes r.2.0 left t.0 u r.2.2 (sym e ∙ t.2) in
           let line_is : line ≡ r.0 = one_line bytes line r.0 i (rw same.0 r.2.3) in
-          refused_leads running line mid printed (subst (λ l. IsRefused running l) (sym line_is) r.3) h
+          refused_leads o running line mid printed (subst (λ l. IsRefused running l) (sym line_is) r.3) h
     ]
 
-both_end : (all rest : List ℕ) (ls script : List Line) (from running after : Option Begun) (events body : List Event)
-    → AreLines (Some all) ls (Some rest) → LeadTo from ls running events → IsFaulty (Some rest) running
-    → AreLines (Some all) script (Some []) → LeadTo from script after body → ⊥
-both_end all rest [] [] from running after events body p h f q k =
+both_end : (o : Openings) (all rest : List ℕ) (ls script : List Line) (from running after : Option Begun) (events body : List Event)
+    → AreLines (Some all) ls (Some rest) → LeadTo o from ls running events → IsFaulty (Some rest) running
+    → AreLines (Some all) script (Some []) → LeadTo o from script after body → ⊥
+both_end o all rest [] [] from running after events body p h f q k =
     end_is_fine running rest (p ∙ sym q) f
-both_end all rest [] (x ∷ xs) from running after events body p h f q k =
+both_end o all rest [] (x ∷ xs) from running after events body p h f q k =
     let t = taken all q.0 q.1 q.4 in
-    next_is_fine from k.0 rest q.0 t.0 x k.1 (p ∙ t.2) q.2 q.3 k.3 (subst (λ r. IsFaulty (Some rest) r) h.0 f)
-both_end all rest (x ∷ xs) [] from running after events body p h f q k =
+    next_is_fine o from k.0 rest q.0 t.0 x k.1 (p ∙ t.2) q.2 q.3 k.3 (subst (λ r. IsFaulty (Some rest) r) h.0 f)
+both_end o all rest (x ∷ xs) [] from running after events body p h f q k =
     let t = taken all p.0 p.1 p.4 in
     not_nothing p.0 t.0 (sym t.2 ∙ sym q)
-both_end all rest (x ∷ xs) (y ∷ ys) from running after events body p h f q k =
+both_end o all rest (x ∷ xs) (y ∷ ys) from running after events body p h f q k =
     let t = taken all p.0 p.1 p.4 in
     let u = taken all q.0 q.1 q.4 in
     let same = one_front p.0 q.0 t.0 u.0 p.2 q.2 (sym t.2 ∙ u.2) in
     let first : x ≡ y = one_line q.0 x y (rw same.0 at p.3) q.3 in
     let left : AreLines (Some u.0) xs (Some rest) = rw (t.1, same.1) at p.5 in
     let right : AreLines (Some u.0) ys (Some []) = rw u.1 at q.5 in
-    let led = leads_one from x h.0 k.0 h.1 k.1 h.3 (subst (λ l. Leads from l k.0 k.1) (sym first) k.3) in
-    both_end u.0 rest xs ys h.0 running after h.2 k.2 left h.4 f right (subst (λ r. LeadTo r ys after k.2) (sym led.after) k.4)
+    let led = leads_one o from x h.0 k.0 h.1 k.1 h.3 (subst (λ l. Leads o from l k.0 k.1) (sym first) k.3) in
+    both_end o u.0 rest xs ys h.0 running after h.2 k.2 left h.4 f right (subst (λ r. LeadTo o r ys after k.2) (sym led.after) k.4)
 
-pub faulty_scripts : (all rest : List ℕ) (ls script : List Line) (running : Option Begun) (events printed : List Event)
-    → AreLines (Some all) ls (Some rest) → LeadTo None ls running events → IsFaulty (Some rest) running
-    → AreLines (Some all) script (Some []) → IsTranscript script printed → ⊥
-faulty_scripts all rest ls script running events printed p h f q k = both_end all rest ls script None running k.0 events k.1 p h f q k.3
+pub faulty_scripts : (o : Openings) (all rest : List ℕ) (ls script : List Line) (running : Option Begun) (events printed : List Event)
+    → AreLines (Some all) ls (Some rest) → LeadTo o None ls running events → IsFaulty (Some rest) running
+    → AreLines (Some all) script (Some []) → IsTranscript o script printed → ⊥
+faulty_scripts o all rest ls script running events printed p h f q k = both_end o all rest ls script None running k.0 events k.1 p h f q k.3

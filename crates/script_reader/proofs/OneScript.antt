@@ -7,6 +7,7 @@ use Rattle.script_reader.specs.declared.line.Line.TheVariants as lines
 use Rattle.script_reader.specs.declared.event.Event.{Event}
 use Rattle.script_reader.specs.declared.event.Event.TheVariants.{End}
 use Rattle.script_reader.specs.Past.{Past}
+use Rattle.script_reader.specs.Openings.{Openings}
 use Rattle.script_reader.specs.Alone.{PastAlone}
 use Rattle.script_reader.specs.Scripts.{Running, RunningAlone, Begun, Whole, Alone, GoesWhole, GoesAlone, GoesOn, Leads, LeadTo, Ends, IsTranscript}
 use Rattle.script_reader.proofs.One.{step_one}
@@ -30,33 +31,37 @@ goes_on_one : (s : Begun) (line : Line) (a b : Option Begun) (xs ys : List Event
 goes_on_one (Whole s) line a b xs ys h k = goes_one s line a b xs ys h k
 goes_on_one (Alone s) line a b xs ys h k = goes_low_one s line a b xs ys h k
 
-pub leads_one : (running : Option Begun) (line : Line) (a b : Option Begun) (xs ys : List Event) → Leads running line a xs → Leads running line b ys → Alike a b xs ys
-leads_one None lines.Skip a b xs ys h k = record { after = h.0 ∙ sym k.0; printed = h.1 ∙ sym k.1 }
-leads_one (Some s) lines.Skip a b xs ys h k = record { after = h.0 ∙ sym k.0; printed = h.1 ∙ sym k.1 }
-leads_one None (lines.Session row) a b xs ys h k = record { after = h.0.1 ∙ sym k.0.1; printed = h.1 ∙ sym k.1 }
-leads_one None (lines.LowSession row next held) a b xs ys h k = record { after = h.0.1 ∙ sym k.0.1; printed = h.1 ∙ sym k.1 }
-leads_one None (lines.Look session m w z) a b xs ys h k = absurd h
-leads_one None (lines.Told session m w fault told z) a b xs ys h k = absurd h
-leads_one None (lines.Gone session m) a b xs ys h k = absurd h
-leads_one None (lines.High session m) a b xs ys h k = absurd h
-leads_one None (lines.Carry session back) a b xs ys h k = absurd h
-leads_one None (lines.Return session m back) a b xs ys h k = absurd h
-leads_one None (lines.Done session m t) a b xs ys h k = absurd h
-leads_one (Some s) (lines.Session row) a b xs ys h k = goes_on_one s (lines.Session row) a b xs ys h k
-leads_one (Some s) (lines.LowSession row next held) a b xs ys h k = goes_on_one s (lines.LowSession row next held) a b xs ys h k
-leads_one (Some s) (lines.Look session m w z) a b xs ys h k = goes_on_one s (lines.Look session m w z) a b xs ys h k
-leads_one (Some s) (lines.Told session m w fault told z) a b xs ys h k = goes_on_one s (lines.Told session m w fault told z) a b xs ys h k
-leads_one (Some s) (lines.Gone session m) a b xs ys h k = goes_on_one s (lines.Gone session m) a b xs ys h k
-leads_one (Some s) (lines.High session m) a b xs ys h k = goes_on_one s (lines.High session m) a b xs ys h k
-leads_one (Some s) (lines.Carry session back) a b xs ys h k = goes_on_one s (lines.Carry session back) a b xs ys h k
-leads_one (Some s) (lines.Return session m back) a b xs ys h k = goes_on_one s (lines.Return session m back) a b xs ys h k
-leads_one (Some s) (lines.Done session m t) a b xs ys h k = goes_on_one s (lines.Done session m t) a b xs ys h k
+pub leads_one : (o : Openings) (running : Option Begun) (line : Line) (a b : Option Begun) (xs ys : List Event) → Leads o running line a xs → Leads o running line b ys → Alike a b xs ys
+leads_one o None lines.Skip a b xs ys h k = record { after = h.0 ∙ sym k.0; printed = h.1 ∙ sym k.1 }
+leads_one o (Some s) lines.Skip a b xs ys h k = record { after = h.0 ∙ sym k.0; printed = h.1 ∙ sym k.1 }
+leads_one o None (lines.Session row) a b xs ys h k = record { after = h.0.2 ∙ sym k.0.2; printed = h.1 ∙ sym k.1 }
+leads_one o None (lines.LowSession row next held) a b xs ys h k = record { after = h.0.1 ∙ sym k.0.1; printed = h.1 ∙ sym k.1 }
+leads_one o None (lines.Look session m w z) a b xs ys h k = absurd h
+leads_one o None (lines.Told session m w fault told z) a b xs ys h k = absurd h
+leads_one o None (lines.Gone session m) a b xs ys h k = absurd h
+leads_one o None (lines.High session m) a b xs ys h k = absurd h
+leads_one o None (lines.Carry session back) a b xs ys h k = absurd h
+leads_one o None (lines.Return session m back) a b xs ys h k = absurd h
+leads_one o None (lines.Done session m t) a b xs ys h k = absurd h
+leads_one o None (lines.Restart session m) a b xs ys h k = absurd h
+leads_one o None (lines.ReceiverRestart session m) a b xs ys h k = absurd h
+leads_one o (Some s) (lines.Session row) a b xs ys h k = goes_on_one s (lines.Session row) a b xs ys h k
+leads_one o (Some s) (lines.LowSession row next held) a b xs ys h k = goes_on_one s (lines.LowSession row next held) a b xs ys h k
+leads_one o (Some s) (lines.Look session m w z) a b xs ys h k = goes_on_one s (lines.Look session m w z) a b xs ys h k
+leads_one o (Some s) (lines.Told session m w fault told z) a b xs ys h k = goes_on_one s (lines.Told session m w fault told z) a b xs ys h k
+leads_one o (Some s) (lines.Gone session m) a b xs ys h k = goes_on_one s (lines.Gone session m) a b xs ys h k
+leads_one o (Some s) (lines.High session m) a b xs ys h k = goes_on_one s (lines.High session m) a b xs ys h k
+leads_one o (Some s) (lines.Carry session back) a b xs ys h k = goes_on_one s (lines.Carry session back) a b xs ys h k
+leads_one o (Some s) (lines.Return session m back) a b xs ys h k = goes_on_one s (lines.Return session m back) a b xs ys h k
+leads_one o (Some s) (lines.Done session m t) a b xs ys h k = goes_on_one s (lines.Done session m t) a b xs ys h k
+leads_one o (Some s) (lines.Restart session m) a b xs ys h k = goes_on_one s (lines.Restart session m) a b xs ys h k
+leads_one o (Some s) (lines.ReceiverRestart session m) a b xs ys h k = goes_on_one s (lines.ReceiverRestart session m) a b xs ys h k
 
-pub lead_one : (running : Option Begun) (script : List Line) (a b : Option Begun) (xs ys : List Event) → LeadTo running script a xs → LeadTo running script b ys → Alike a b xs ys
-lead_one running [] a b xs ys h k = record { after = h.0 ∙ sym k.0; printed = h.1 ∙ sym k.1 }
-lead_one running (line ∷ script) a b xs ys (mid, c, d, h, t, e) (mid', c', d', h', t', e') =
-    let x = leads_one running line mid mid' c c' h h' in
-    let y = lead_one mid script a b d d' t (subst (λ (u : Option Begun). LeadTo u script b d') (sym x.after) t') in
+pub lead_one : (o : Openings) (running : Option Begun) (script : List Line) (a b : Option Begun) (xs ys : List Event) → LeadTo o running script a xs → LeadTo o running script b ys → Alike a b xs ys
+lead_one o running [] a b xs ys h k = record { after = h.0 ∙ sym k.0; printed = h.1 ∙ sym k.1 }
+lead_one o running (line ∷ script) a b xs ys (mid, c, d, h, t, e) (mid', c', d', h', t', e') =
+    let x = leads_one o running line mid mid' c c' h h' in
+    let y = lead_one o mid script a b d d' t (subst (λ (u : Option Begun). LeadTo o u script b d') (sym x.after) t') in
     record { after = y.after; printed = e ∙ (λ i. x.printed i ++ y.printed i) ∙ sym e' }
 
 ends_one : (running : Option Begun) (xs ys : List Event) → Ends running xs → Ends running ys → xs ≡ ys
@@ -67,8 +72,8 @@ ends_one (Some (Alone s)) xs ys (x, (parts, cut, e), f) (y, (parts', cut', e'), 
     let same : x ≡ y = e ∙ ap (λ (u : List Part). End s.row.id (count_after s.past.history.life.opening u) None) c ∙ sym e' in
     f ∙ ap (λ (u : Event). u ∷ []) same ∙ sym f'
 
-pub transcript_one : (script : List Line) (xs ys : List Event) → IsTranscript script xs → IsTranscript script ys → xs ≡ ys
-transcript_one script xs ys (a, c, l, h, end, e) (b, d, l', k, end', f) =
-    let x = lead_one None script a b c d h k in
+pub transcript_one : (o : Openings) (script : List Line) (xs ys : List Event) → IsTranscript o script xs → IsTranscript o script ys → xs ≡ ys
+transcript_one o script xs ys (a, c, l, h, end, e) (b, d, l', k, end', f) =
+    let x = lead_one o None script a b c d h k in
     let y = ends_one a l l' end (subst (λ (u : Option Begun). Ends u l') (sym x.after) end') in
     e ∙ (λ i. x.printed i ++ y i) ∙ sym f

@@ -11,6 +11,7 @@ use Rattle.script_reader.specs.declared.fault.Fault.{Fault}
 use Rattle.script_reader.specs.declared.fault.Fault.TheVariants as faults
 use Rattle.script_reader.specs.declared.event.Event.{Event}
 use Rattle.script_reader.specs.Past.{Past}
+use Rattle.script_reader.specs.Openings.{Openings}
 use Rattle.script_reader.specs.Alone.{PastAlone}
 use Rattle.script_reader.specs.Highs.{IsCarried, overfills, IsOverfull}
 use Rattle.script_reader.specs.Steps.{IsCarriedBack as GoesOnCarried, LineStep, Overfills}
@@ -44,6 +45,8 @@ overfills_steps s p (lines.Told session m w fault told z) r first end n size q p
 overfills_steps s p (lines.Gone session m) r first end n size q printed h k = absurd h
 overfills_steps s p (lines.High session m) r first end n size q printed h k = absurd h
 overfills_steps s p (lines.Return session m back) r first end n size q printed h k = absurd h
+overfills_steps s p (lines.Restart session m) r first end n size q printed h k = absurd h
+overfills_steps s p (lines.ReceiverRestart session m) r first end n size q printed h k = absurd h
 
 overfull_one : (id : ℕ) (w : World) (back end n size end' n' size' : ℕ) → IsOverfull w back end n size → IsOverfull w back end' n' size' → faults.Full id end n size ≡ faults.Full id end' n' size'
 overfull_one id w back end n size end' n' size' h k =
@@ -67,6 +70,8 @@ overfills_one s p (lines.Told session m w fault told z) q r xs ys end n size end
 overfills_one s p (lines.Gone session m) q r xs ys end n size end' n' size' h k = absurd h
 overfills_one s p (lines.High session m) q r xs ys end n size end' n' size' h k = absurd h
 overfills_one s p (lines.Return session m back) q r xs ys end n size end' n' size' h k = absurd h
+overfills_one s p (lines.Restart session m) q r xs ys end n size end' n' size' h k = absurd h
+overfills_one s p (lines.ReceiverRestart session m) q r xs ys end n size end' n' size' h k = absurd h
 
 -- ---- a line that stops the script ----
 
@@ -79,9 +84,9 @@ skip_goes_on None end first fault h = h
 skip_goes_on (Some (Whole s)) end first fault h = cc h.0
 skip_goes_on (Some (Alone s)) end first fault h = cc h.0
 
-pub stops_leads : (running : Option Begun) (line : Line) (end : Option Begun) (first : List Event) (fault : Fault) (after : Option Begun) (printed : List Event) → Stops running line end first fault → Leads running line after printed → ⊥
-stops_leads running line end first fault after printed h k =
-    led running line after printed k
+pub stops_leads : (o : Openings) (running : Option Begun) (line : Line) (end : Option Begun) (first : List Event) (fault : Fault) (after : Option Begun) (printed : List Event) → Stops running line end first fault → Leads o running line after printed → ⊥
+stops_leads o running line end first fault after printed h k =
+    led o running line after printed k
     (λ skip e f. skip_goes_on running end first fault (subst (λ (l : Line). Stops running l end first fault) skip h))
     (λ s none new e f. subst (λ (r : Option Begun). Stops r line end first fault) none h)
     (λ s some goes. stops_goes s line end first fault after printed (subst (λ (r : Option Begun). Stops r line end first fault) some h) goes)
@@ -104,25 +109,25 @@ stops_one (Some (Alone s)) line after other xs ys fault stop (timely, (q, h, f, 
 -- ---- in a script ----
 
 -- a front of the lines of a script, and the lines after it
-pub lead_parts : (running : Option Begun) (before later : List Line) (after : Option Begun) (printed : List Event) → LeadTo running (before ++ later) after printed
-    → (mid : Option Begun) × (first : List Event) × (second : List Event) × LeadTo running before mid first × LeadTo mid later after second × (printed ≡ first ++ second)
-lead_parts running [] later after printed h = (running, [], printed, (refl, refl), h, refl)
-lead_parts running (x ∷ before) later after printed (mid, first, second, h, t, e) =
-    let r = lead_parts mid before later after second t in
+pub lead_parts : (o : Openings) (running : Option Begun) (before later : List Line) (after : Option Begun) (printed : List Event) → LeadTo o running (before ++ later) after printed
+    → (mid : Option Begun) × (first : List Event) × (second : List Event) × LeadTo o running before mid first × LeadTo o mid later after second × (printed ≡ first ++ second)
+lead_parts o running [] later after printed h = (running, [], printed, (refl, refl), h, refl)
+lead_parts o running (x ∷ before) later after printed (mid, first, second, h, t, e) =
+    let r = lead_parts o mid before later after second t in
     (r.0, first ++ r.1, r.2, (mid, first, r.1, h, r.3, refl), r.4, e ∙ ap (λ xs. first ++ xs) r.5 ∙ sym (append_assoc first r.1 r.2))
 
-pub no_transcript : (before : List Line) (line : Line) (later : List Line) (running end : Option Begun) (events first printed : List Event) (fault : Fault)
-    → LeadTo None before running events → Stops running line end first fault → IsTranscript (before ++ line ∷ later) printed → ⊥
-no_transcript before line later running end events first printed fault led_there stops whole =
-    let r = lead_parts None before (line ∷ later) whole.0 whole.1 whole.3 in
+pub no_transcript : (o : Openings) (before : List Line) (line : Line) (later : List Line) (running end : Option Begun) (events first printed : List Event) (fault : Fault)
+    → LeadTo o None before running events → Stops running line end first fault → IsTranscript o (before ++ line ∷ later) printed → ⊥
+no_transcript o before line later running end events first printed fault led_there stops whole =
+    let r = lead_parts o None before (line ∷ later) whole.0 whole.1 whole.3 in
     let next = r.4 in
-    let same = lead_one None before running r.0 events r.1 led_there r.3 in
-    stops_leads running line end first fault next.0 next.1 stops (subst (λ (u : Option Begun). Leads u line next.0 next.1) (sym same.after) next.3)
+    let same = lead_one o None before running r.0 events r.1 led_there r.3 in
+    stops_leads o running line end first fault next.0 next.1 stops (subst (λ (u : Option Begun). Leads o u line next.0 next.1) (sym same.after) next.3)
 
-pub one_stop : (before : List Line) (line : Line) (running other end stopped : Option Begun) (events more first second : List Event) (fault stop : Fault)
-    → LeadTo None before running events → Stops running line end first fault → LeadTo None before other more → Stops other line stopped second stop
+pub one_stop : (o : Openings) (before : List Line) (line : Line) (running other end stopped : Option Begun) (events more first second : List Event) (fault stop : Fault)
+    → LeadTo o None before running events → Stops running line end first fault → LeadTo o None before other more → Stops other line stopped second stop
     → (end ≡ stopped) × (events ++ first ≡ more ++ second) × (fault ≡ stop)
-one_stop before line running other end stopped events more first second fault stop h stops k stops' =
-    let same = lead_one None before running other events more h k in
+one_stop o before line running other end stopped events more first second fault stop h stops k stops' =
+    let same = lead_one o None before running other events more h k in
     let one = stops_one running line end stopped first second fault stop stops (subst (λ (u : Option Begun). Stops u line stopped second stop) (sym same.after) stops') in
     (one.past, (λ i. same.printed i ++ one.printed i), one.fault_is)

@@ -14,29 +14,31 @@ use Rattle.pump_core.specs.Phases.{Idle, Passing, Waiting as Waits, Down}
 use Rattle.pump_core.specs.Exchanges.{is_gone, is_repeat, has_average, is_passed}
 use Rattle.pump_core.specs.Replies.{Sent}
 use Rattle.pump_core.specs.Standing.{State}
-use Rattle.pump_core.specs.Step.{is_quiet, fits_passing, fits_idle, fits_in, FeedbackFits, takes_in, takes_at}
+use Rattle.pump_core.specs.Step.{is_quiet, fits_passing, fits_idle, fits_in, FeedbackFits, takes_in, takes_at, stores_idle, stores_in, stores_at}
 use Rattle.pump_core.specs.Pairs.{uncounted}
 use Rattle.script_reader.specs.declared.event.Event.{Event}
 use Rattle.script_reader.specs.Lows.{printed_store, printed_feedback, printed_replies}
 use Rattle.script_reader.specs.Steps.{look_of}
 use Rattle.script_reader.specs.declared.event.Event.TheVariants as prints
 use Rattle.script_reader.specs.Sides as sides
-use Rattle.script_reader.specs.Sides.{Told, told, told_to_low, full_at, full_moments, average_in, averages}
+use Rattle.script_reader.specs.Sides.{Told, told, told_to_low, full_at, full_moments, average_in, averages, found_full, restarts_in}
 
 -- ---- what is said to Low ----
 
 -- what comes down to Low: that the buffer is full, and when; that it has taken a message that nobody
--- waits for; an average
+-- waits for; an average; whether it is found full at a restart
 pub data Said : Type 0 where
   Full' : (moment : ℕ) → Said
   Released' : Said
   Average' : (average : ℕ) → Said
+  Restarted' : (is_held : Bool) → Said
 
 abbrev pub said : Event → Option Said
 said (prints.Full session m) = Some (Full' m)
 said (prints.Released session m) = Some Released'
 said (prints.Passed session m seen) = Some (Average' seen.average)
 said (prints.Repeat session m seen) = Some (Average' seen.average)
+said (prints.Restart session m accepted removed held) = Some (Restarted' held)
 said _ = None
 
 abbrev pub said_to_low : List Event → List Said
@@ -47,6 +49,7 @@ abbrev pub plain : Said → Told
 plain (Full' m) = sides.Full
 plain Released' = sides.Released
 plain (Average' a) = sides.Average a
+plain (Restarted' held) = sides.Restarted held
 
 abbrev pub full_said : Said → Option ℕ
 full_said (Full' m) = Some m
@@ -56,23 +59,30 @@ abbrev pub average_said : Said → Option ℕ
 average_said (Average' a) = Some a
 average_said _ = None
 
+abbrev pub restart_said : Said → Option Bool
+restart_said (Restarted' held) = Some held
+restart_said _ = None
+
 record Tells (x : Event) (ss : List Said) : Type 0 where
   told : cons_option (told x) (map plain ss) ≡ map plain (cons_option (said x) ss)
   full : cons_option (full_at x) (filter_map full_said ss) ≡ filter_map full_said (cons_option (said x) ss)
   average : cons_option (average_in x) (filter_map average_said ss) ≡ filter_map average_said (cons_option (said x) ss)
+  restart : cons_option (found_full x) (filter_map restart_said ss) ≡ filter_map restart_said (cons_option (said x) ss)
 
 tells : (x : Event) (ss : List Said) → Tells x ss
-tells (prints.Stored session m n) ss = record { told = refl; full = refl; average = refl }
-tells (prints.Full session m) ss = record { told = refl; full = refl; average = refl }
-tells (prints.Passed session m seen) ss = record { told = refl; full = refl; average = refl }
-tells (prints.Released session m) ss = record { told = refl; full = refl; average = refl }
-tells (prints.Repeat session m seen) ss = record { told = refl; full = refl; average = refl }
-tells (prints.Low session m r) ss = record { told = refl; full = refl; average = refl }
-tells (prints.Removed session m n t) ss = record { told = refl; full = refl; average = refl }
-tells (prints.Sent session m n) ss = record { told = refl; full = refl; average = refl }
-tells (prints.Took session n) ss = record { told = refl; full = refl; average = refl }
-tells (prints.Again session n) ss = record { told = refl; full = refl; average = refl }
-tells (prints.End session a high) ss = record { told = refl; full = refl; average = refl }
+tells (prints.Stored session m n) ss = record { told = refl; full = refl; average = refl; restart = refl }
+tells (prints.Full session m) ss = record { told = refl; full = refl; average = refl; restart = refl }
+tells (prints.Passed session m seen) ss = record { told = refl; full = refl; average = refl; restart = refl }
+tells (prints.Released session m) ss = record { told = refl; full = refl; average = refl; restart = refl }
+tells (prints.Repeat session m seen) ss = record { told = refl; full = refl; average = refl; restart = refl }
+tells (prints.Low session m r) ss = record { told = refl; full = refl; average = refl; restart = refl }
+tells (prints.Removed session m n t) ss = record { told = refl; full = refl; average = refl; restart = refl }
+tells (prints.Sent session m n) ss = record { told = refl; full = refl; average = refl; restart = refl }
+tells (prints.Took session n) ss = record { told = refl; full = refl; average = refl; restart = refl }
+tells (prints.Again session n) ss = record { told = refl; full = refl; average = refl; restart = refl }
+tells (prints.Attach session m n) ss = record { told = refl; full = refl; average = refl; restart = refl }
+tells (prints.Restart session m a b held) ss = record { told = refl; full = refl; average = refl; restart = refl }
+tells (prints.End session a high) ss = record { told = refl; full = refl; average = refl; restart = refl }
 
 pub told_is_said : (xs : List Event) → told_to_low xs ≡ map plain (said_to_low xs)
 told_is_said [] = refl
@@ -85,6 +95,10 @@ full_is_said (x ∷ xs) = ap (cons_option (full_at x)) (full_is_said xs) ∙ (te
 pub average_is_said : (xs : List Event) → averages xs ≡ filter_map average_said (said_to_low xs)
 average_is_said [] = refl
 average_is_said (x ∷ xs) = ap (cons_option (average_in x)) (average_is_said xs) ∙ (tells x (said_to_low xs)).average
+
+pub restart_is_said : (xs : List Event) → restarts_in xs ≡ filter_map restart_said (said_to_low xs)
+restart_is_said [] = refl
+restart_is_said (x ∷ xs) = ap (cons_option (found_full x)) (restart_is_said xs) ∙ (tells x (said_to_low xs)).restart
 
 -- ---- what a look prints ----
 
@@ -255,6 +269,13 @@ by_phase row s m w a f g Idle e h = by_arrival row s a f g e h
 same_average : (a b : ℕ) (later more : List Told) → sides.Average a ∷ later ≡ sides.Average b ∷ more → a ≡ b
 same_average a b later more e = cc
 
+-- what two restarts found first is the same
+pub one_found : (a b : Bool) (later more : List Said) → map plain (Restarted' a ∷ later) ≡ map plain (Restarted' b ∷ more) → a ≡ b
+one_found a b later more e = by a b (map plain later) (map plain more) e
+  where
+    by : (a b : Bool) (later more : List Told) → sides.Restarted a ∷ later ≡ sides.Restarted b ∷ more → a ≡ b
+    by a b later more e = cc
+
 -- what is said first is the same without its moment
 pub one_told : (f g : Feedback) (m : ℕ) (later more : List Said) → OneKind f g
     → map plain (said_by m f ++ later) ≡ map plain (said_by m g ++ more) → uncounted f ≡ uncounted g
@@ -283,6 +304,9 @@ one_told (Passed s) Full m later more k e = absurd (cc)
 one_told (Passed s) Released m later more k e = absurd (cc)
 one_told Released Full m later more k e = absurd (cc)
 one_told Released (Passed t) m later more k e = absurd (cc)
+
+pub same_found : (a b : Bool) (later more : List Bool) → a ∷ later ≡ b ∷ more → a ≡ b
+same_found a b later more e = cc
 
 -- two looks in one state that are offered the same have feedback of one kind
 pub looks_one_kind : (row : SessionRow) (s : State) (m w : ℕ) (a : Arrival) (f g : Feedback)
@@ -339,3 +363,19 @@ takes_same m w a f g Idle = refl
 
 pub looks_take : (s : State) (m w : ℕ) (a : Arrival) (f g : Feedback) → takes_at s (look_of m w a f) ≡ takes_at s (look_of m w a g)
 looks_take s m w a f g = takes_same m w a f g s.phase
+
+-- they store their message or not
+stores_alike : (row : SessionRow) (s : State) (m w : ℕ) (a b : Arrival) (f g : Feedback) → stores_idle row s (look_of m w a f) b ≡ stores_idle row s (look_of m w a g) b
+stores_alike row s m w a Nothing f g = refl
+stores_alike row s m w a Bad f g = refl
+stores_alike row s m w a Gone f g = refl
+stores_alike row s m w a (Came c) f g = refl
+
+stores_same : (row : SessionRow) (s : State) (m w : ℕ) (a : Arrival) (f g : Feedback) (ph : Phase) → stores_in row s (look_of m w a f) ph ≡ stores_in row s (look_of m w a g) ph
+stores_same row s m w a f g Down = refl
+stores_same row s m w a f g (Waits n at) = refl
+stores_same row s m w a f g (Passing owed) = refl
+stores_same row s m w a f g Idle = stores_alike row s m w a a f g
+
+pub looks_store : (row : SessionRow) (s : State) (m w : ℕ) (a : Arrival) (f g : Feedback) → stores_at row s (look_of m w a f) ≡ stores_at row s (look_of m w a g)
+looks_store row s m w a f g = stores_same row s m w a f g s.phase

@@ -14,13 +14,14 @@ use Rattle.pump_core.specs.Replies.{refusal}
 use Rattle.pump_core.specs.World.{World}
 use Rattle.pump_core.specs.Events.{Happens, Run}
 use Rattle.script_reader.specs.declared.event.Event.{Event}
-use Rattle.script_reader.specs.declared.event.Event.TheVariants.{Low}
+use Rattle.script_reader.specs.declared.event.Event.TheVariants.{Low, Attach}
 use Rattle.script_reader.specs.declared.line.Line.{Line}
 use Rattle.script_reader.specs.declared.line.Line.TheVariants as lines
 use Rattle.pump_core.specs.HighLooks.{Returns}
 use Rattle.script_reader.specs.Past.{Past}
 use Rattle.script_reader.specs.Lows.{first_of}
 use Rattle.script_reader.specs.Highs.{IsHighLook, IsCarried, overfills, place}
+use Rattle.script_reader.specs.Restarts.{IsReopened}
 use Rattle.script_reader.specs.Steps.{LineComing, Arrives, joined}
 
 -- the look x takes the next message, and the low disk fails in its store: it is refused, and from then
@@ -48,6 +49,14 @@ pub record IsUnremoved (p : Past) (m : ℕ) (back : Option ℕ) (q : Past) : Typ
   pub begins : Happens answered RemoveBegin q.world
   pub rest : q ≡ record p { world = q.world; moment = m }
 
+-- a receiver attaches at m, and the high disk fails in the removal that is due
+pub record IsUnattached (p : Past) (m : ℕ) (q : Past) : Type 0 where
+  pub number : ℕ
+  pub count : length p.world.received ≡ number + 1
+  pub at : ℕ
+  pub taken : slice_get p.world.returned at ≡ Some number
+  pub unremoved : IsUnremoved p m (Some at) q
+
 -- a DATA is carried to the receiver, which has room for it, and whose disk fails in the taking
 pub record IsUntaken (p : Past) (back : ℕ) (q : Past) : Type 0 where
   pub packet : Item
@@ -64,7 +73,7 @@ BreaksOff row mid m roles.High q printed =
     (carried : Past) × IsCarried row mid 0 carried printed × IsUnremoved carried m (Some (place carried.world.returned 0)) q
 
 -- the line begins what it does from p, and the disk of this role fails: q is what it has come to, with
--- the last event unfinished, and this was printed
+-- the last event unfinished, and this was printed. Where an opening fails, nothing has happened
 abbrev pub Breaks : SessionRow → Past → Line → Role → Past → List Event → Type 0
 Breaks row p (lines.Look session m w a) roles.Low q printed =
     (c : LineComing) × Arrives session p.reading a c × (length (joined p c).waits ≤ 64) × IsLost row (joined p c) m w q printed
@@ -74,4 +83,9 @@ Breaks row p (lines.Return session m back) roles.High q printed =
 Breaks row p (lines.Done session m t) role q printed =
     (mid : Past) × (n : ℕ) × (first : List Event) × (second : List Event) × IsHighLook row p m None mid first
     × (mid.world.high_hand ≡ Some n) × BreaksOff row mid (m + t) role q second × (printed ≡ first ++ second)
+Breaks row p (lines.Restart session m) roles.Low q printed = (q ≡ p) × (printed ≡ [])
+Breaks row p (lines.Restart session m) roles.High q printed = (q ≡ p) × (printed ≡ [])
+Breaks row p (lines.ReceiverRestart session m) roles.Recv q printed = (q ≡ p) × (printed ≡ [])
+Breaks row p (lines.ReceiverRestart session m) roles.High q printed =
+    (mid : Past) × IsReopened p mid × IsUnattached mid m q × (printed ≡ Attach row.id m (length mid.world.received) ∷ [])
 Breaks row p _ _ q printed = ⊥

@@ -4,7 +4,7 @@ use Rattle.pump_core.specs.ReplyFrames.{frame_of}
 use Rattle.script_reader.specs.declared.event.Event.{Event}
 use Rattle.script_reader.specs.declared.event.Event.TheVariants as events
 use Rattle.script_reader.specs.declared.event.EventHead.{EventHead}
-use Rattle.script_reader.specs.declared.event.EventHead.TheVariants.{Stored, Full, Passed, Released, Repeat, Low, Removed, Sent, Took, Again, End}
+use Rattle.script_reader.specs.declared.event.EventHead.TheVariants.{Stored, Full, Passed, Released, Repeat, Low, Removed, Sent, Took, Again, Attach, Restart, End}
 
 -- the event, whose reply is a frame of its session
 abbrev pub event_of : EventHead → Event
@@ -18,6 +18,8 @@ event_of (Removed session moment number time) = events.Removed session moment nu
 event_of (Sent session moment number) = events.Sent session moment number
 event_of (Took session number) = events.Took session number
 event_of (Again session number) = events.Again session number
+event_of (Attach session moment count) = events.Attach session moment count
+event_of (Restart session moment accepted removed held) = events.Restart session moment accepted removed held
 event_of (End session accepted high) = events.End session accepted high
 
 -- a `low` line

@@ -6,7 +6,7 @@ use Rattle.hex.specs.Hex.{decode_of}
 use Rattle.pump_frame.specs.Names.{IsName}
 use Rattle.pump_frame.specs.declared.row.SessionRow.{SessionRow}
 use Rattle.script_reader.specs.declared.line.Line.{Line}
-use Rattle.script_reader.specs.declared.line.Line.TheVariants.{Skip, Session, LowSession, Look, Told, Gone, High, Carry, Return, Done}
+use Rattle.script_reader.specs.declared.line.Line.TheVariants.{Skip, Session, LowSession, Look, Told, Gone, High, Carry, Return, Done, Restart, ReceiverRestart}
 use Rattle.script_reader.specs.declared.line.ToldFeedback.{ToldFeedback}
 use Rattle.script_reader.specs.declared.line.ToldFeedback.TheVariants.{Quiet, Full, Pair}
 use Rattle.script_reader.specs.declared.line.Arriving.{Arriving}
@@ -96,6 +96,9 @@ HasFields (Return session moment back) fields = (session < 2 ^ 32) × (moment �
 HasFields (Gone session moment) fields = (session < 2 ^ 32) × (moment ≤ 2 ^ 62) × (fields ≡ codes "gone" ∷ decimal session ∷ decimal moment ∷ [])
 HasFields (Done session moment time) fields = (session < 2 ^ 32) × (moment ≤ 2 ^ 62) × (time ≤ 10 ^ 9)
     × (fields ≡ codes "done" ∷ decimal session ∷ decimal moment ∷ decimal time ∷ [])
+HasFields (Restart session moment) fields = (session < 2 ^ 32) × (moment ≤ 2 ^ 62) × (fields ≡ codes "restart" ∷ decimal session ∷ decimal moment ∷ [])
+HasFields (ReceiverRestart session moment) fields = (session < 2 ^ 32) × (moment ≤ 2 ^ 62)
+    × (fields ≡ codes "receiver-restart" ∷ decimal session ∷ decimal moment ∷ [])
 
 -- an empty line, or one that begins with #
 abbrev pub IsSkipped : List ℕ → Type 0

@@ -11,7 +11,7 @@ use Rattle.script_reader.specs.declared.lines.Lined.TheVariants as lined
 use Rattle.script_reader.specs.declared.head.LinedHead.{LinedHead}
 use Rattle.script_reader.specs.declared.head.LinedHead.TheVariants as heads
 use Rattle.script_reader.specs.declared.head.LineHead.{LineHead}
-use Rattle.script_reader.specs.declared.head.LineHead.TheVariants.{Skip, Session, LowSession, Look, Told, Gone, High, Carry, Return, Done}
+use Rattle.script_reader.specs.declared.head.LineHead.TheVariants.{Skip, Session, LowSession, Look, Told, Gone, High, Carry, Return, Done, Restart, ReceiverRestart}
 
 abbrev pub arriving_with : List ℕ → ArrivingHead → Arriving
 arriving_with bytes Nothing = arriving.Nothing
@@ -30,6 +30,8 @@ line_with bytes (High session moment) = line.High session moment
 line_with bytes (Carry session back) = line.Carry session back
 line_with bytes (Return session moment back) = line.Return session moment back
 line_with bytes (Done session moment time) = line.Done session moment time
+line_with bytes (Restart session moment) = line.Restart session moment
+line_with bytes (ReceiverRestart session moment) = line.ReceiverRestart session moment
 
 -- a payload has at most 1024 bytes, and raw bytes are at most 1042
 abbrev pub CanHold : ArrivingHead → List ℕ → Type 0
@@ -49,6 +51,8 @@ CanHoldLine (High session moment) bytes = Unit {0}
 CanHoldLine (Carry session back) bytes = Unit {0}
 CanHoldLine (Return session moment back) bytes = Unit {0}
 CanHoldLine (Done session moment time) bytes = Unit {0}
+CanHoldLine (Restart session moment) bytes = Unit {0}
+CanHoldLine (ReceiverRestart session moment) bytes = Unit {0}
 
 abbrev pub lined_with : List ℕ → LinedHead → Lined
 lined_with bytes (heads.Line line) = lined.Line (line_with bytes line)

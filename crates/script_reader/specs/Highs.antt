@@ -1,5 +1,5 @@
 -- A high look of a session, and a packet that is carried to the receiver.
-use Rattle.std.specs.Prelude.{◌≡◌, ℕ, ◌+◌, ◌-◌, Bool, true, false, ◌&&◌, ◌==◌, nat_lt, nat_le, if◌then◌else◌, List, [], ◌∷◌, ◌++◌, length, slice_get, Option, Some, None}
+use Rattle.std.specs.Prelude.{◌≡◌, ℕ, ◌+◌, ◌-◌, Bool, true, false, ◌&&◌, ◌==◌, nat_lt, nat_le, if◌then◌else◌, List, [], ◌∷◌, ◌++◌, length, slice_get, zero, suc, Option, Some, None}
 use Rattle.pump_frame.specs.declared.payload.Payload.{Payload}
 use Rattle.pump_frame.specs.declared.frame.Item.{Item}
 use Rattle.pump_frame.specs.declared.row.SessionRow.{SessionRow}
@@ -32,17 +32,22 @@ printed_sending session m None = []
 printed_sending session m (Some n) = Sent session m n ∷ []
 
 -- the second part of a high look at m: an empty hand takes up the next message, and the message in
--- the hand is sent where it is due
-pub record IsSending (row : SessionRow) (p : Past) (m : ℕ) (q : Past) (printed : List Event) : Type 0 where
-  pub look : SendingPart row.resend false (high_of p) m (high_of q)
+-- the hand is sent where it is due, and in any case where a receiver attaches
+pub record IsSending (row : SessionRow) (attaches : Bool) (p : Past) (m : ℕ) (q : Past) (printed : List Event) : Type 0 where
+  pub look : SendingPart row.resend attaches (high_of p) m (high_of q)
   pub rest : q ≡ record p { world = q.world; sends = q.sends; moment = m }
   pub printed_is : printed ≡ (if look.is_sent then printed_sending row.id m look.taken.high_hand else [])
 
--- a high look at m leads from p to q and prints this; `back` is the place of the TAKEN that comes back
-abbrev pub IsHighLook : SessionRow → Past → ℕ → Option ℕ → Past → List Event → Type 0
-IsHighLook row p m back q printed =
+-- a high look at m leads from p to q and prints this; a receiver attaches in it or none does, and `back`
+-- is the place of the TAKEN that comes back
+abbrev pub IsWholeLook : SessionRow → Bool → Past → ℕ → Option ℕ → Past → List Event → Type 0
+IsWholeLook row attaches p m back q printed =
     (mid : Past) × (first : List Event) × (second : List Event)
-    × IsRemoval row p m back mid first × IsSending row mid m q second × (printed ≡ first ++ second)
+    × IsRemoval row p m back mid first × IsSending row attaches mid m q second × (printed ≡ first ++ second)
+
+-- .. in which none attaches
+abbrev pub IsHighLook : SessionRow → Past → ℕ → Option ℕ → Past → List Event → Type 0
+IsHighLook row p m back q printed = IsWholeLook row false p m back q printed
 
 -- ---- a TAKEN that comes back ----
 
@@ -55,13 +60,23 @@ abbrev pub is_ahead : World → ℕ → Bool
 is_ahead w k = is_not_below (expected w.removed w.high_hand) (slice_get w.returned k)
 
 -- such a TAKEN is refused, and its look does nothing; any other comes back in a high look
-abbrev pub IsReturnBy : Bool → SessionRow → Past → ℕ → ℕ → Past → List Event → Type 0
-IsReturnBy true row p m k q printed = (q ≡ record p { moment = m }) × (printed ≡ [])
-IsReturnBy false row p m k q printed = IsHighLook row p m (Some k) q printed
+abbrev pub IsReturnBy : Bool → SessionRow → Bool → Past → ℕ → ℕ → Past → List Event → Type 0
+IsReturnBy true row attaches p m k q printed = (q ≡ record p { moment = m }) × (printed ≡ [])
+IsReturnBy false row attaches p m k q printed = IsWholeLook row attaches p m (Some k) q printed
 
 -- a high look at m, in which the TAKEN at this place comes back
 abbrev pub IsReturn : SessionRow → Past → ℕ → ℕ → Past → List Event → Type 0
-IsReturn row p m k q printed = IsReturnBy (is_ahead p.world k) row p m k q printed
+IsReturn row p m k q printed = IsReturnBy (is_ahead p.world k) row false p m k q printed
+
+-- ---- a receiver that attaches ----
+
+-- a high look at m with the ATTACH of a receiver that has so many messages: it brings back the TAKEN of
+-- the last of them, and what is then in the hand is sent
+abbrev pub IsAttach : SessionRow → Past → ℕ → ℕ → Past → List Event → Type 0
+IsAttach row p m zero q printed = IsWholeLook row true p m None q printed
+IsAttach row p m (suc n) q printed =
+    (k : ℕ) × (slice_get p.world.returned k ≡ Some n)
+    × IsReturnBy (is_ahead p.world k) row true p m k q printed
 
 -- ---- a packet that is carried ----
 

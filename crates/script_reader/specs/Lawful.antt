@@ -1,7 +1,7 @@
 -- The lines that a reader gives: their numbers are in the ranges of the grammar.
 use Rattle.std.specs.Prelude.{◌≡◌, ◌^◌, ◌<◌, ◌≤◌, length}
 use Rattle.script_reader.specs.declared.line.Line.{Line}
-use Rattle.script_reader.specs.declared.line.Line.TheVariants.{Skip, Session, LowSession, Look, Told, Gone, High, Carry, Return, Done}
+use Rattle.script_reader.specs.declared.line.Line.TheVariants.{Skip, Session, LowSession, Look, Told, Gone, High, Carry, Return, Done, Restart, ReceiverRestart}
 use Rattle.script_reader.specs.declared.line.ToldFeedback.{ToldFeedback}
 use Rattle.script_reader.specs.declared.line.ToldFeedback.TheVariants.{Quiet, Full, Pair}
 use Rattle.script_reader.specs.Grammar.{IsCount}
@@ -34,3 +34,5 @@ IsLawfulLine (High session moment) = moment ≤ 2 ^ 62
 IsLawfulLine (Carry session back) = Unit {0}
 IsLawfulLine (Return session moment back) = moment ≤ 2 ^ 62
 IsLawfulLine (Done session moment time) = (moment ≤ 2 ^ 62) × (time ≤ 10 ^ 9)
+IsLawfulLine (Restart session moment) = moment ≤ 2 ^ 62
+IsLawfulLine (ReceiverRestart session moment) = moment ≤ 2 ^ 62

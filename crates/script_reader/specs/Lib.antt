@@ -15,6 +15,7 @@ pub mod Openings
 pub mod Parsing
 pub mod Past
 pub mod Readouts
+pub mod Restarts
 pub mod Scripts
 pub mod Sides
 pub mod Steps

@@ -1,5 +1,5 @@
 -- What a session's disks were found to hold, and the session that begins on them.
-use Rattle.std.specs.Prelude.{◌≡◌, ℕ, ◌^◌, ◌≤◌, false, List, [], ◌++◌, length}
+use Rattle.std.specs.Prelude.{ℕ, ◌^◌, ◌≤◌, false, List, [], ◌++◌, length}
 use Rattle.std.specs.List.{All}
 use Rattle.pump_frame.specs.Readings.{Within}
 use Rattle.pump_frame.specs.declared.payload.Payload.{Payload}
@@ -46,8 +46,8 @@ abbrev pub opened_world : SessionRow → Found → World
 opened_world row f = worlds.opened row.capacity f.removed f.received f.later
 
 -- a session before its first line. The TAKEN of the last message that its receiver had was sent before
-abbrev pub opened : SessionRow → Found → Past
-opened row f = record {
+abbrev pub first_past : SessionRow → Found → Past
+first_past row f = record {
   history = first_life (opening_in (opened_world row f));
   waits = [];
   is_broken = false;

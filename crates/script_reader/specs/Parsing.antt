@@ -12,7 +12,7 @@ use Rattle.pump_frame.specs.Names.{is_name_byte}
 use Rattle.pump_frame.specs.declared.row.SessionRow.{SessionRow}
 use Rattle.script_reader.specs.Fields.{is_space}
 use Rattle.script_reader.specs.declared.line.Line.{Line}
-use Rattle.script_reader.specs.declared.line.Line.TheVariants.{Skip, Session, LowSession, Look, Told, Gone, High, Carry, Return, Done}
+use Rattle.script_reader.specs.declared.line.Line.TheVariants.{Skip, Session, LowSession, Look, Told, Gone, High, Carry, Return, Done, Restart, ReceiverRestart}
 use Rattle.script_reader.specs.declared.line.ToldFeedback.{ToldFeedback}
 use Rattle.script_reader.specs.declared.line.ToldFeedback.TheVariants.{Quiet, Full, Pair}
 use Rattle.script_reader.specs.declared.line.Arriving.{Arriving}
@@ -175,17 +175,32 @@ told_of fields = do
   arrival ← arriving_of told.1
   Some (Told session.0 moment.0 hex.0 fault.0 told.0 arrival)
 
-unfoldable pub gone_of : List (List ℕ) → Option Line
-gone_of fields = do
+-- a session and a moment, and no field after them
+unfoldable pub session_and_moment : List (List ℕ) → Option (ℕ × ℕ)
+session_and_moment fields = do
   session ← field_at (number (2 ^ 32)) fields
   moment ← field_at (number (2 ^ 62 + 1)) session.1
-  at_end (Gone session.0 moment.0) moment.1
+  at_end (session.0, moment.0) moment.1
+
+unfoldable pub gone_of : List (List ℕ) → Option Line
+gone_of fields = do
+  at ← session_and_moment fields
+  Some (Gone at.0 at.1)
 
 unfoldable pub high_of : List (List ℕ) → Option Line
 high_of fields = do
-  session ← field_at (number (2 ^ 32)) fields
-  moment ← field_at (number (2 ^ 62 + 1)) session.1
-  at_end (High session.0 moment.0) moment.1
+  at ← session_and_moment fields
+  Some (High at.0 at.1)
+
+unfoldable pub restart_of : List (List ℕ) → Option Line
+restart_of fields = do
+  at ← session_and_moment fields
+  Some (Restart at.0 at.1)
+
+unfoldable pub receiver_restart_of : List (List ℕ) → Option Line
+receiver_restart_of fields = do
+  at ← session_and_moment fields
+  Some (ReceiverRestart at.0 at.1)
 
 unfoldable pub carry_of : List (List ℕ) → Option Line
 carry_of fields = do
@@ -219,6 +234,8 @@ line_of (word ∷ fields) =
     else if bytes_eq word (codes "carry") then carry_of fields
     else if bytes_eq word (codes "return") then return_of fields
     else if bytes_eq word (codes "done") then done_of fields
+    else if bytes_eq word (codes "restart") then restart_of fields
+    else if bytes_eq word (codes "receiver-restart") then receiver_restart_of fields
     else None
 
 abbrev pub is_skipped : List ℕ → Bool

@@ -1,13 +1,12 @@
 -- What a session has been through, when a script has run so far.
-use Rattle.std.specs.Prelude.{ℕ, Bool, false, List, [], length}
+use Rattle.std.specs.Prelude.{ℕ, Bool, List, length}
 use Rattle.pump_frame.specs.Averages.{averaging_of, average_of}
-use Rattle.pump_frame.specs.Readings.{Reading, Within}
+use Rattle.pump_frame.specs.Readings.{Reading}
 use Rattle.pump_frame.specs.declared.row.SessionRow.{SessionRow}
 use Rattle.pump_core.specs.declared.feedback.Seen.{Seen}
-use Rattle.pump_core.specs.History.{Arrival, History, first_life}
+use Rattle.pump_core.specs.History.{Arrival, History}
 use Rattle.pump_core.specs.HighLooks.{HighPast}
 use Rattle.pump_core.specs.Sendings.{Sending}
-use Rattle.pump_core.specs.World as worlds
 use Rattle.pump_core.specs.World.{World}
 
 pub record Past : Type 0 where
@@ -30,20 +29,6 @@ pub record Past : Type 0 where
   pub sends : List Sending
   -- the moment of the last line that had one
   pub moment : ℕ
-
--- a session before its first line
-abbrev pub fresh : SessionRow → Past
-fresh row = record {
-  history = first_life (record { count = 0; is_held = false });
-  waits = [];
-  is_broken = false;
-  reading = Within [];
-  world = worlds.empty row.capacity;
-  returned_before = 0;
-  times = [];
-  sends = [];
-  moment = 0;
-}
 
 -- what a read of High's times gives: how many were published, and their average
 abbrev pub pair : SessionRow → Past → Seen

@@ -1,4 +1,5 @@
--- The transcript of a whole script, which has one session: a whole one, or a low side alone.
+-- The transcript of a whole script, which has one session: a whole one, or a low side alone. It depends on
+-- what the disks of a whole session were found to hold.
 use Rattle.std.specs.Prelude.{◌≡◌, ◌⊎◌, ℕ, Bool, true, false, List, [], ◌∷◌, ◌++◌, length, Option, Some, None}
 use Rattle.disk_model.specs.declared.name.Role.TheVariants as roles
 use Rattle.pump_frame.specs.Rows.{first_bad, IsLawfulRow}
@@ -11,7 +12,8 @@ use Rattle.script_reader.specs.declared.fault.Fault.{Fault}
 use Rattle.script_reader.specs.declared.fault.Fault.TheVariants as faults
 use Rattle.script_reader.specs.declared.event.Event.{Event}
 use Rattle.script_reader.specs.declared.event.Event.TheVariants.{End}
-use Rattle.script_reader.specs.Past.{Past, fresh}
+use Rattle.script_reader.specs.Past.{Past}
+use Rattle.script_reader.specs.Openings.{Openings, CanOpen, first_past}
 use Rattle.script_reader.specs.Steps.{is_timely, LineStep, IsRefusedWhole, Overfills}
 use Rattle.script_reader.specs.Alone.{PastAlone, fresh_alone, is_timely_alone, StepAlone, IsRefusedAlone}
 
@@ -30,9 +32,10 @@ pub data Begun : Type 0 where
   Whole : (s : Running) → Begun
   Alone : (s : RunningAlone) → Begun
 
--- a session line begins a lawful row's session
-abbrev pub BeginsWhole : SessionRow → Option Begun → Type 0
-BeginsWhole row running = IsLawfulRow row × (running ≡ Some (Whole (record { row = row; past = fresh row })))
+-- a session line begins a lawful row's session on what its disks were found to hold
+abbrev pub BeginsWhole : Openings → SessionRow → Option Begun → Type 0
+BeginsWhole o row running =
+    IsLawfulRow row × CanOpen row (o row.id) × (running ≡ Some (Whole (record { row = row; past = first_past row (o row.id) })))
 
 -- so does the line of a low side alone
 abbrev pub BeginsAlone : SessionRow → ℕ → Bool → Option Begun → Type 0
@@ -56,12 +59,12 @@ GoesOn (Alone s) line running printed = GoesAlone s line running printed
 
 -- the line can be applied, leads from `running` to `after`, and prints this: a skipped line does
 -- nothing, the first line that is not skipped begins the session, and all others are the session's
-abbrev pub Leads : Option Begun → Line → Option Begun → List Event → Type 0
-Leads running lines.Skip after printed = (after ≡ running) × (printed ≡ [])
-Leads None (lines.Session row) after printed = BeginsWhole row after × (printed ≡ [])
-Leads None (lines.LowSession row next held) after printed = BeginsAlone row next held after × (printed ≡ [])
-Leads None line after printed = ⊥
-Leads (Some s) line after printed = GoesOn s line after printed
+abbrev pub Leads : Openings → Option Begun → Line → Option Begun → List Event → Type 0
+Leads o running lines.Skip after printed = (after ≡ running) × (printed ≡ [])
+Leads o None (lines.Session row) after printed = BeginsWhole o row after × (printed ≡ [])
+Leads o None (lines.LowSession row next held) after printed = BeginsAlone row next held after × (printed ≡ [])
+Leads o None line after printed = ⊥
+Leads o (Some s) line after printed = GoesOn s line after printed
 
 -- the line can't be applied: it is another line where there is no session, a session line with a
 -- number outside its range, or what the session has been through refuses it
@@ -87,11 +90,11 @@ Stops (Some (Alone s)) line after printed fault =
     × (fault ≡ faults.Device s.row.id roles.Low) × (after ≡ Some (Alone (record { row = s.row; past = q }))))
 
 -- these lines lead from `running` to `after`, and print this
-abbrev pub LeadTo : Option Begun → List Line → Option Begun → List Event → Type 0
-LeadTo running [] after printed = (after ≡ running) × (printed ≡ [])
-LeadTo running (line ∷ later) after printed =
+abbrev pub LeadTo : Openings → Option Begun → List Line → Option Begun → List Event → Type 0
+LeadTo o running [] after printed = (after ≡ running) × (printed ≡ [])
+LeadTo o running (line ∷ later) after printed =
     (mid : Option Begun) × (first : List Event) × (second : List Event)
-    × Leads running line mid first × LeadTo mid later after second × (printed ≡ first ++ second)
+    × Leads o running line mid first × LeadTo o mid later after second × (printed ≡ first ++ second)
 
 -- how many messages of the session were accepted, removed and received
 abbrev pub end_of : SessionRow → Past → Event
@@ -109,24 +112,24 @@ Ends (Some (Whole s)) printed = printed ≡ end_of s.row s.past ∷ []
 Ends (Some (Alone s)) printed = (event : Event) × IsEndAlone s.row s.past event × (printed ≡ event ∷ [])
 
 -- the transcript of a whole script, whose lines can all be applied, and none of which stops it
-abbrev pub IsTranscript : List Line → List Event → Type 0
-IsTranscript script printed =
+abbrev pub IsTranscript : Openings → List Line → List Event → Type 0
+IsTranscript o script printed =
     (after : Option Begun) × (body : List Event) × (last : List Event)
-    × LeadTo None script after body × Ends after last × (printed ≡ body ++ last)
+    × LeadTo o None script after body × Ends after last × (printed ≡ body ++ last)
 
 -- these lines led to `after` and printed this: all of them can be applied, and the last one may stop the
 -- script
-pub record StopsAfter (script : List Line) (after : Option Begun) (printed : List Event) : Type 0 where
+pub record StopsAfter (o : Openings) (script : List Line) (after : Option Begun) (printed : List Event) : Type 0 where
   pub before : List Line
   pub line : Line
   pub script_is : script ≡ before ++ line ∷ []
   pub running : Option Begun
   pub first : List Event
-  pub leads : LeadTo None before running first
+  pub leads : LeadTo o None before running first
   pub last : List Event
   pub fault : Fault
   pub stops : Stops running line after last fault
   pub printed_is : printed ≡ first ++ last
 
-abbrev pub ComesTo : List Line → Option Begun → List Event → Type 0
-ComesTo script after printed = LeadTo None script after printed ⊎ StopsAfter script after printed
+abbrev pub ComesTo : Openings → List Line → Option Begun → List Event → Type 0
+ComesTo o script after printed = LeadTo o None script after printed ⊎ StopsAfter o script after printed

@@ -18,6 +18,7 @@ use Rattle.script_reader.specs.declared.event.Event.{Event}
 use Rattle.script_reader.specs.Past.{Past}
 use Rattle.script_reader.specs.Lows.{first_of, IsLook}
 use Rattle.script_reader.specs.Highs.{IsHighLook, IsReturn, IsCarried, IsOverfull, place}
+use Rattle.script_reader.specs.Restarts.{IsRestart, IsReceiverRestart}
 
 -- ---- what comes with a line ----
 
@@ -92,6 +93,8 @@ is_timely row p (lines.Return session m back) =
     session == row.id && (nat_le p.moment m && nat_lt back (kept p.returned_before p.world.returned))
 is_timely row p (lines.Done session m t) =
     session == row.id && (nat_le p.moment m && (not (goes_on p.world) || nat_le (m + t) (2 ^ 62)))
+is_timely row p (lines.Restart session m) = session == row.id && nat_le p.moment m
+is_timely row p (lines.ReceiverRestart session m) = session == row.id && nat_le p.moment m
 
 -- with what comes with the line, more than 64 arrivals would wait
 abbrev pub IsCrowded : Past → Line → Type 0
@@ -149,6 +152,8 @@ LineStep row p (lines.High session m) q printed = IsHighLook row p m None q prin
 LineStep row p (lines.Carry session back) q printed = IsCarried row p back q printed
 LineStep row p (lines.Return session m back) q printed = IsReturn row p m (place p.world.returned back) q printed
 LineStep row p (lines.Done session m t) q printed = IsDone row p m t q printed
+LineStep row p (lines.Restart session m) q printed = IsRestart row p m q printed
+LineStep row p (lines.ReceiverRestart session m) q printed = IsReceiverRestart row p m q printed
 
 -- the line could be applied, but a message does not fit at the receiver: it has come to q before that,
 -- and printed this; the message's record would begin at `end`

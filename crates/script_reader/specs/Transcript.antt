@@ -2,14 +2,14 @@
 use Rattle.std.specs.Prelude.{ℕ, List, [], ◌∷◌, ◌++◌, Option, None, Some, codes, decimal, slice_index}
 use Rattle.std.specs.List.{flat_map}
 use Rattle.pump_frame.specs.declared.frame.Kind.{Kind}
-use Rattle.pump_frame.specs.declared.frame.Kind.TheVariants.{Hello, Welcome, Data, Ack, Refuse, Attach, Taken}
+use Rattle.pump_frame.specs.declared.frame.Kind.TheVariants.{Hello, Welcome, Data, Ack, Refuse, Attach as AttachFrame, Taken}
 use Rattle.script_reader.specs.declared.event.Event.{Event}
-use Rattle.script_reader.specs.declared.event.Event.TheVariants.{Stored, Full, Passed, Released, Repeat, Low, Removed, Sent, Took, Again, End}
+use Rattle.script_reader.specs.declared.event.Event.TheVariants.{Stored, Full, Passed, Released, Repeat, Low, Removed, Sent, Took, Again, Attach, Restart, End}
 use Rattle.script_reader.specs.declared.fault.Fault.{Fault}
 use Rattle.disk_model.specs.declared.name.Role.{Role}
 use Rattle.disk_model.specs.declared.name.Role.TheVariants as roles
-use Rattle.script_reader.specs.declared.fault.Fault.TheVariants.{Words, Read, Script, Device, Full as FullLog}
-use Rattle.script_reader.specs.Grammar.{spaced}
+use Rattle.script_reader.specs.declared.fault.Fault.TheVariants.{Words, Read, Script, Device, Disk, Full as FullLog}
+use Rattle.script_reader.specs.Grammar.{spaced, held_field}
 
 -- the fields of a reply, which is a WELCOME, an ACK or a REFUSE; the payload byte of a REFUSE is its code
 abbrev pub reply_fields : Kind → ℕ → List ℕ → List (List ℕ)
@@ -18,7 +18,7 @@ reply_fields Ack number payload = codes "ack" ∷ decimal number ∷ []
 reply_fields Refuse number payload = codes "refuse" ∷ decimal (slice_index payload 0) ∷ decimal number ∷ []
 reply_fields Hello number payload = []
 reply_fields Data number payload = []
-reply_fields Attach number payload = []
+reply_fields AttachFrame number payload = []
 reply_fields Taken number payload = []
 
 -- a time, or a dash where none was published
@@ -42,6 +42,8 @@ event_fields (Removed session moment number time) = codes "removed" ∷ decimal 
 event_fields (Sent session moment number) = codes "sent" ∷ decimal session ∷ decimal moment ∷ decimal number ∷ []
 event_fields (Took session number) = codes "took" ∷ decimal session ∷ decimal number ∷ []
 event_fields (Again session number) = codes "again" ∷ decimal session ∷ decimal number ∷ []
+event_fields (Attach session moment count) = codes "attach" ∷ decimal session ∷ decimal moment ∷ decimal count ∷ []
+event_fields (Restart session moment accepted removed held) = codes "restart" ∷ decimal session ∷ decimal moment ∷ decimal accepted ∷ decimal removed ∷ held_field held ∷ []
 event_fields (End session accepted high) = codes "end" ∷ decimal session ∷ decimal accepted ∷ high_fields high
 
 -- fields as a line, with its line end
@@ -67,6 +69,8 @@ fault_fields Words = codes "fault" ∷ codes "words" ∷ []
 fault_fields Read = codes "fault" ∷ codes "read" ∷ []
 fault_fields (Script line) = codes "fault" ∷ codes "script" ∷ decimal line ∷ []
 fault_fields (Device session role) = codes "fault" ∷ codes "device" ∷ decimal session ∷ role_field role ∷ []
+fault_fields (Disk session role number first second) =
+    codes "fault" ∷ codes "disk" ∷ decimal session ∷ role_field role ∷ decimal number ∷ decimal first ∷ decimal second ∷ []
 fault_fields (FullLog session end length size) = codes "fault" ∷ codes "full" ∷ decimal session ∷ decimal end ∷ decimal length ∷ decimal size ∷ []
 
 abbrev pub fault_line : Fault → List ℕ

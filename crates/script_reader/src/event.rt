@@ -65,6 +65,21 @@ pub enum Event {
         session: u32,
         number: u64,
     },
+    /// The receiver was opened again, and attached with this count.
+    Attach {
+        session: u32,
+        moment: u64,
+        count: u64,
+    },
+    /// Both processes were opened again: how many messages were accepted and removed, and whether
+    /// one is in the low hand.
+    Restart {
+        session: u32,
+        moment: u64,
+        accepted: u64,
+        removed: u64,
+        held: bool,
+    },
     /// The end of the script: how many messages were accepted; `high` holds how many were removed
     /// and how many were taken by the receiver, and is `None` for a low side alone.
     End {
@@ -133,6 +148,18 @@ pub enum EventHead {
     Again {
         session: u32,
         number: u64,
+    },
+    Attach {
+        session: u32,
+        moment: u64,
+        count: u64,
+    },
+    Restart {
+        session: u32,
+        moment: u64,
+        accepted: u64,
+        removed: u64,
+        held: bool,
     },
     End {
         session: u32,
@@ -217,6 +244,28 @@ impl EventHead {
             },
             EventHead::Took { session, number } => Event::Took { session, number },
             EventHead::Again { session, number } => Event::Again { session, number },
+            EventHead::Attach {
+                session,
+                moment,
+                count,
+            } => Event::Attach {
+                session,
+                moment,
+                count,
+            },
+            EventHead::Restart {
+                session,
+                moment,
+                accepted,
+                removed,
+                held,
+            } => Event::Restart {
+                session,
+                moment,
+                accepted,
+                removed,
+                held,
+            },
             EventHead::End {
                 session,
                 accepted,
@@ -289,6 +338,28 @@ impl Event {
             },
             Event::Took { session, number } => EventHead::Took { session, number },
             Event::Again { session, number } => EventHead::Again { session, number },
+            Event::Attach {
+                session,
+                moment,
+                count,
+            } => EventHead::Attach {
+                session,
+                moment,
+                count,
+            },
+            Event::Restart {
+                session,
+                moment,
+                accepted,
+                removed,
+                held,
+            } => EventHead::Restart {
+                session,
+                moment,
+                accepted,
+                removed,
+                held,
+            },
             Event::End {
                 session,
                 accepted,

@@ -17,6 +17,15 @@ pub enum Fault {
         session: u32,
         role: Role,
     },
+    /// A disk of this session was refused when it was opened: the refusal's number, and its two
+    /// values in their order, 0 where it has none.
+    Disk {
+        session: u32,
+        role: Role,
+        number: u32,
+        first: u64,
+        second: u64,
+    },
     /// A message of `length` bytes does not fit behind `end` on the receiver's disk of this session,
     /// which has `size` bytes.
     Full {

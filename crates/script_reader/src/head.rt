@@ -64,6 +64,14 @@ pub enum LineHead {
         moment: u64,
         time: u32,
     },
+    Restart {
+        session: u32,
+        moment: u64,
+    },
+    ReceiverRestart {
+        session: u32,
+        moment: u64,
+    },
 }
 
 /// What comes next in a script, as `Lined`, without the bytes.
@@ -169,6 +177,14 @@ impl LineHead {
                 session: *session,
                 moment: *moment,
                 time: *time,
+            },
+            LineHead::Restart { session, moment } => Line::Restart {
+                session: *session,
+                moment: *moment,
+            },
+            LineHead::ReceiverRestart { session, moment } => Line::ReceiverRestart {
+                session: *session,
+                moment: *moment,
             },
         }
     }
@@ -279,6 +295,14 @@ impl Line {
                 session: *session,
                 moment: *moment,
                 time: *time,
+            },
+            Line::Restart { session, moment } => LineHead::Restart {
+                session: *session,
+                moment: *moment,
+            },
+            Line::ReceiverRestart { session, moment } => LineHead::ReceiverRestart {
+                session: *session,
+                moment: *moment,
             },
         }
     }

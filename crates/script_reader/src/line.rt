@@ -88,4 +88,15 @@ pub enum Line {
         moment: u64,
         time: u32,
     },
+    /// Both processes are opened again from their disks; the connection is a new one.
+    Restart {
+        session: u32,
+        moment: u64,
+    },
+    /// The receiver is opened again from its disk, and the high process looks, with the receiver's
+    /// ATTACH.
+    ReceiverRestart {
+        session: u32,
+        moment: u64,
+    },
 }

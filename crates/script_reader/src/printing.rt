@@ -2,6 +2,7 @@ ghost use Rattle.std.specs.Prelude.{◌≡◌, ℕ, ◌+◌, ◌≤◌, List, []
 ghost use Rattle.arrayvec.specs.ArrayVec.{array_vec_len};
 ghost use Rattle.script_reader.specs.EventHeads.{event_of};
 ghost use Rattle.script_reader.specs.Transcript.{role_field, reply_fields, high_fields, time_field, event_line, fault_line, line_with_end};
+ghost use Rattle.script_reader.specs.Grammar.{held_field};
 
 use crate::event::{Event, EventHead};
 use crate::fault::Fault;
@@ -201,6 +202,23 @@ fn put_removed<const N: usize>(
     put(into, b"\n");
 }
 
+fn put_restart<const N: usize>(
+    into: &mut ArrayVec<u8, N>,
+    session: u32,
+    moment: u64,
+    accepted: u64,
+    removed: u64,
+    held: bool,
+)
+    requires { array_vec_len into.old + 256 ≤ N }
+    ensures { into.new.items ≡ into.old.items ++ line_with_end (codes "restart" ∷ decimal session ∷ decimal moment ∷ decimal accepted ∷ decimal removed ∷ held_field held ∷ []) }
+{
+    put_front(into, b"restart", session, moment);
+    put_field(into, accepted);
+    put_field(into, removed);
+    put(into, if held { b" 1\n" } else { b" 0\n" });
+}
+
 fn put_end<const N: usize>(
     into: &mut ArrayVec<u8, N>,
     session: u32,
@@ -304,6 +322,18 @@ pub fn append_head<const N: usize>(event: &EventHead, into: &mut ArrayVec<u8, N>
         } => put_three(into, b"sent", u64::from(session), moment, number),
         EventHead::Took { session, number } => put_two(into, b"took", u64::from(session), number),
         EventHead::Again { session, number } => put_two(into, b"again", u64::from(session), number),
+        EventHead::Attach {
+            session,
+            moment,
+            count,
+        } => put_three(into, b"attach", u64::from(session), moment, count),
+        EventHead::Restart {
+            session,
+            moment,
+            accepted,
+            removed,
+            held,
+        } => put_restart(into, session, moment, accepted, removed, held),
         EventHead::End {
             session,
             accepted,
@@ -337,25 +367,55 @@ pub fn print_event(event: &Event, into: &mut ArrayVec<u8, 2400>)
     }
 }
 
-/// A space, which of a session's three disks, and the line end.
+/// A space and which of a session's three disks.
 fn put_role<const N: usize>(into: &mut ArrayVec<u8, N>, role: Role)
-    requires { array_vec_len into.old + 40 ≤ N }
-    ensures { into.new.items ≡ into.old.items ++ (32 ∷ role_field role ++ 10 ∷ []) }
+    requires { array_vec_len into.old + 5 ≤ N }
+    ensures items { into.new.items ≡ into.old.items ++ 32 ∷ role_field role }
+    ensures len { array_vec_len into.new ≤ array_vec_len into.old + 5 }
 {
     match role {
-        Role::Low => put(into, b" low\n"),
-        Role::High => put(into, b" high\n"),
-        Role::Recv => put(into, b" recv\n"),
+        Role::Low => put(into, b" low"),
+        Role::High => put(into, b" high"),
+        Role::Recv => put(into, b" recv"),
     }
+}
+
+/// A word, a session and which of its disks: the front of a fault of a disk.
+fn put_disk_front<const N: usize>(into: &mut ArrayVec<u8, N>, word: &[u8], session: u32, role: Role)
+    requires room { array_vec_len into.old + 256 ≤ N }
+    requires short { length word.now ≤ 40 }
+    ensures items { into.new.items ≡ into.old.items ++ word.now ++ 32 ∷ decimal session ++ 32 ∷ role_field role }
+    ensures len { array_vec_len into.new ≤ array_vec_len into.old + 86 }
+{
+    put(into, word);
+    put_field(into, u64::from(session));
+    put_role(into, role);
 }
 
 fn put_device<const N: usize>(into: &mut ArrayVec<u8, N>, session: u32, role: Role)
     requires { array_vec_len into.old + 256 ≤ N }
     ensures { into.new.items ≡ into.old.items ++ line_with_end (codes "fault" ∷ codes "device" ∷ decimal session ∷ role_field role ∷ []) }
 {
-    put(into, b"fault device");
-    put_field(into, u64::from(session));
-    put_role(into, role);
+    put_disk_front(into, b"fault device", session, role);
+    put(into, b"\n");
+}
+
+fn put_disk<const N: usize>(
+    into: &mut ArrayVec<u8, N>,
+    session: u32,
+    role: Role,
+    number: u32,
+    first: u64,
+    second: u64,
+)
+    requires { array_vec_len into.old + 256 ≤ N }
+    ensures { into.new.items ≡ into.old.items ++ line_with_end (codes "fault" ∷ codes "disk" ∷ decimal session ∷ role_field role ∷ decimal number ∷ decimal first ∷ decimal second ∷ []) }
+{
+    put_disk_front(into, b"fault disk", session, role);
+    put_field(into, u64::from(number));
+    put_field(into, first);
+    put_field(into, second);
+    put(into, b"\n");
 }
 
 /// Puts the fault's line, with its line end, behind what the room holds.
@@ -368,6 +428,13 @@ pub fn append_fault<const N: usize>(fault: &Fault, into: &mut ArrayVec<u8, N>)
         Fault::Read => put(into, b"fault read\n"),
         Fault::Script { line } => put_one(into, b"fault script", u64::from(*line)),
         Fault::Device { session, role } => put_device(into, *session, *role),
+        Fault::Disk {
+            session,
+            role,
+            number,
+            first,
+            second,
+        } => put_disk(into, *session, *role, *number, *first, *second),
         Fault::Full {
             session,
             end,

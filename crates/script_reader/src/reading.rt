@@ -2,7 +2,7 @@ ghost use Rattle.std.specs.Prelude.{◌≡◌, ℕ, ◌+◌, ◌^◌, List, IfSo
 ghost use Rattle.script_reader.specs.Heads.{arriving_with, line_with, CanHold, CanHoldLine};
 ghost use Rattle.script_reader.specs.Grammar.{IsLine};
 ghost use Rattle.script_reader.specs.Lawful.{IsLawfulLine};
-ghost use Rattle.script_reader.specs.Parsing.{Reads, field_at, number, row_at, session_of, low_session_of, hello_of, data_of, raw_of, arriving_of, look_of, told_of, gone_of, high_of, carry_of, return_of, done_of, line_of, line_at};
+ghost use Rattle.script_reader.specs.Parsing.{Reads, field_at, number, row_at, session_of, low_session_of, hello_of, data_of, raw_of, arriving_of, look_of, told_of, session_and_moment, gone_of, high_of, carry_of, return_of, done_of, restart_of, receiver_restart_of, line_of, line_at};
 
 use crate::body::Body;
 use crate::fields::Fields;
@@ -89,6 +89,12 @@ fn read_fields(fields: &mut Fields, body: &mut Body) -> Option<LineHead>
     }
     if word == b"done".as_slice() {
         return read_done(fields);
+    }
+    if word == b"restart".as_slice() {
+        return read_restart(fields);
+    }
+    if word == b"receiver-restart".as_slice() {
+        return read_receiver_restart(fields);
     }
     None
 }
@@ -254,16 +260,25 @@ fn read_moment(fields: &mut Fields) -> Option<u64>
     fields.number((1 << 62) + 1)
 }
 
-#[tactic(auto, unfolding(crate::specs::Parsing::gone_of))]
-fn read_gone(fields: &mut Fields) -> Option<LineHead>
-    ensures value { (bytes : List ℕ) → option_map (line_with bytes) result ≡ gone_of fields.old }
-    ensures room { (bytes : List ℕ) → IfSome result (λ it. CanHoldLine it bytes) }
+/// A session and a moment, and no field after them.
+#[tactic(auto, unfolding(crate::specs::Parsing::session_and_moment))]
+fn read_session_and_moment(fields: &mut Fields) -> Option<(u32, u64)>
+    ensures { result ≡ session_and_moment fields.old }
 {
     let session = fields.small()?;
     let moment = read_moment(fields)?;
     if !fields.is_done() {
         return None;
     }
+    Some((session, moment))
+}
+
+#[tactic(auto, unfolding(crate::specs::Parsing::gone_of))]
+fn read_gone(fields: &mut Fields) -> Option<LineHead>
+    ensures value { (bytes : List ℕ) → option_map (line_with bytes) result ≡ gone_of fields.old }
+    ensures room { (bytes : List ℕ) → IfSome result (λ it. CanHoldLine it bytes) }
+{
+    let (session, moment) = read_session_and_moment(fields)?;
     Some(LineHead::Gone { session, moment })
 }
 
@@ -272,11 +287,7 @@ fn read_high(fields: &mut Fields) -> Option<LineHead>
     ensures value { (bytes : List ℕ) → option_map (line_with bytes) result ≡ high_of fields.old }
     ensures room { (bytes : List ℕ) → IfSome result (λ it. CanHoldLine it bytes) }
 {
-    let session = fields.small()?;
-    let moment = read_moment(fields)?;
-    if !fields.is_done() {
-        return None;
-    }
+    let (session, moment) = read_session_and_moment(fields)?;
     Some(LineHead::High { session, moment })
 }
 
@@ -327,4 +338,22 @@ fn read_done(fields: &mut Fields) -> Option<LineHead>
         moment,
         time: time as u32,
     })
+}
+
+#[tactic(auto, unfolding(crate::specs::Parsing::restart_of))]
+fn read_restart(fields: &mut Fields) -> Option<LineHead>
+    ensures value { (bytes : List ℕ) → option_map (line_with bytes) result ≡ restart_of fields.old }
+    ensures room { (bytes : List ℕ) → IfSome result (λ it. CanHoldLine it bytes) }
+{
+    let (session, moment) = read_session_and_moment(fields)?;
+    Some(LineHead::Restart { session, moment })
+}
+
+#[tactic(auto, unfolding(crate::specs::Parsing::receiver_restart_of))]
+fn read_receiver_restart(fields: &mut Fields) -> Option<LineHead>
+    ensures value { (bytes : List ℕ) → option_map (line_with bytes) result ≡ receiver_restart_of fields.old }
+    ensures room { (bytes : List ℕ) → IfSome result (λ it. CanHoldLine it bytes) }
+{
+    let (session, moment) = read_session_and_moment(fields)?;
+    Some(LineHead::ReceiverRestart { session, moment })
 }

@@ -223,6 +223,41 @@ fn no_step_of_the_high_side_is_so(rt: HostRuntime) {
     assert!(rt; is_no_line(b"return 1 0 18446744073709551616"));
 }
 
+#[test]
+fn disks_are_opened_again(rt: HostRuntime) {
+    let both = read_line(b"restart 1 4611686018427387904");
+    let receiver = read_line(b"receiver-restart 4294967295 0");
+    assert!(rt;
+        matches!(
+            both,
+            Some(Line::Restart {
+                session: 1,
+                moment: 4611686018427387904
+            })
+        )
+    );
+    assert!(rt;
+        matches!(
+            receiver,
+            Some(Line::ReceiverRestart {
+                session: 4294967295,
+                moment: 0
+            })
+        )
+    );
+    // a field too few, one too many, numbers past their bounds, other words
+    for line in [
+        b"restart 1".as_slice(),
+        b"restart 1 0 0",
+        b"restart 1 4611686018427387905",
+        b"receiver-restart 4294967296 0",
+        b"receiver restart 1 0",
+        b"receiver-Restart 1 0",
+    ] {
+        assert!(rt; is_no_line(line));
+    }
+}
+
 fn prints(fault: Fault, line: &[u8]) -> bool {
     let mut room = ArrayVec::new();
     print_fault(&fault, &mut room);
@@ -253,6 +288,31 @@ fn faults_have_their_lines(rt: HostRuntime) {
     assert!(rt; prints(high, b"fault device 4294967295 high\n"));
     assert!(rt; prints(receiver, b"fault device 0 recv\n"));
     assert!(rt; prints(full, b"fault full 1 16777210 8 16777216\n"));
+}
+
+#[test]
+fn refused_disks_have_their_lines(rt: HostRuntime) {
+    let refused = Fault::Disk {
+        session: 1,
+        role: Role::High,
+        number: 5,
+        first: 3,
+        second: 1,
+    };
+    let greatest = Fault::Disk {
+        session: 4294967295,
+        role: Role::Recv,
+        number: 4294967295,
+        first: 18446744073709551615,
+        second: 18446744073709551615,
+    };
+    assert!(rt; prints(refused, b"fault disk 1 high 5 3 1\n"));
+    assert!(rt;
+        prints(
+            greatest,
+            b"fault disk 4294967295 recv 4294967295 18446744073709551615 18446744073709551615\n"
+        )
+    );
 }
 
 // Whether the event is printed so by its head, by the event itself, and behind what a small room holds.
@@ -305,6 +365,38 @@ fn events_have_their_lines(rt: HostRuntime) {
         };
         assert!(rt; tells(&low, line));
     }
+}
+
+#[test]
+fn disks_opened_again_have_their_lines(rt: HostRuntime) {
+    let (session, moment) = (4294967295, 20);
+    let attach = EventHead::Attach {
+        session,
+        moment,
+        count: 281474976710656,
+    };
+    let restart = EventHead::Restart {
+        session,
+        moment,
+        accepted: 281474976710656,
+        removed: 281474976710655,
+        held: true,
+    };
+    let quiet = EventHead::Restart {
+        session: 1,
+        moment: 150,
+        accepted: 1,
+        removed: 0,
+        held: false,
+    };
+    assert!(rt; tells(&attach, b"attach 4294967295 20 281474976710656\n"));
+    assert!(rt;
+        tells(
+            &restart,
+            b"restart 4294967295 20 281474976710656 281474976710655 1\n"
+        )
+    );
+    assert!(rt; tells(&quiet, b"restart 1 150 1 0 0\n"));
 }
 
 // The next line that is a `high` line's moment, 0 for a skipped line, 1 for a failed read, and 2 else.

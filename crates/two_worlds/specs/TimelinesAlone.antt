@@ -3,6 +3,7 @@ use Rattle.std.specs.Prelude.{◌≡◌, true, false, List, [], ◌∷◌, ◌++
 use Rattle.pump_frame.specs.declared.row.SessionRow.{SessionRow}
 use Rattle.pump_core.specs.declared.feedback.Feedback.{Feedback}
 use Rattle.pump_core.specs.Comings.{Coming, Timed, Comes, Looks, Side, HasSides, comings}
+use Rattle.pump_core.specs.Timed.{look_begun}
 use Rattle.script_reader.specs.declared.line.Line.{Line}
 use Rattle.script_reader.specs.declared.line.Line.TheVariants as lines
 use Rattle.script_reader.specs.declared.event.Event.{Event}
@@ -27,8 +28,8 @@ abbrev pub AreEvents : PastAlone → Line → List Timed → Type 0
 AreEvents p (lines.Told session m w fault told a) events =
     (c : script.LineComing) × script.Arrives session p.reading a c × (came : List Coming)
     × (c.added ≡ map arrived came)
-    × ((f : Feedback) × (events ≡ Looks m w false false f ∷ reverse (map (λ k. Comes k) came)))
-AreEvents p (lines.Gone session m) events = (f : Feedback) × (events ≡ Looks m 0 true false f ∷ [])
+    × ((f : Feedback) × (events ≡ Looks (record (look_begun m w false false) { feedback = f }) ∷ reverse (map (λ k. Comes k) came)))
+AreEvents p (lines.Gone session m) events = (f : Feedback) × (events ≡ Looks (record (look_begun m 0 true false) { feedback = f }) ∷ [])
 AreEvents p _ events = ⊥
 
 -- the low side of the past p, to which this happened, came to the past q by this line: the line's events

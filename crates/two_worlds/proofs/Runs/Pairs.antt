@@ -12,18 +12,20 @@ same_events : (xs ys : List Timed)
     → map (with_feedback uncounted) xs ≡ map (with_feedback uncounted) ys
 same_events [] [] e f = refl
 same_events [] (Comes a ∷ ys) e f = absurd (cc)
-same_events [] (Looks m w g d t ∷ ys) e f = absurd (cc)
+same_events [] (Looks y ∷ ys) e f = absurd (cc)
 same_events (Comes a ∷ xs) [] e f = absurd (cc)
-same_events (Looks m w g d t ∷ xs) [] e f = absurd (cc)
+same_events (Looks x ∷ xs) [] e f = absurd (cc)
 same_events (Comes a ∷ xs) (Comes b ∷ ys) e f =
     let r : map (with_feedback uncounted) xs ≡ map (with_feedback uncounted) ys = same_events xs ys (cc) f in
     let s : a ≡ b = cc in
     λ i. Comes (s i) ∷ r i
-same_events (Comes a ∷ xs) (Looks m w g d t ∷ ys) e f = absurd (cc)
-same_events (Looks m w g d t ∷ xs) (Comes a ∷ ys) e f = absurd (cc)
-same_events (Looks m w g d t ∷ xs) (Looks m' w' g' d' t' ∷ ys) e f =
+same_events (Comes a ∷ xs) (Looks y ∷ ys) e f = absurd (cc)
+same_events (Looks x ∷ xs) (Comes a ∷ ys) e f = absurd (cc)
+same_events (Looks x ∷ xs) (Looks y ∷ ys) e f =
     let r : map (with_feedback uncounted) xs ≡ map (with_feedback uncounted) ys = same_events xs ys (cc) (cc) in
-    cc
+    let own : record x { feedback = nothing_told x.feedback } ≡ record y { feedback = nothing_told y.feedback } = cc in
+    let told : uncounted x.feedback ≡ uncounted y.feedback = cc in
+    λ i. Looks (record (own i) { feedback = told i }) ∷ r i
 
 same_sides : (ss ts : List Side) → map (side_with nothing_told) ss ≡ map (side_with nothing_told) ts
     → map without_counts (map feedback_of_side ss) ≡ map without_counts (map feedback_of_side ts)

@@ -8,7 +8,7 @@ use Rattle.pump_core.specs.History.{Arrival, Gone, Look, Opening, History, looke
 use Rattle.pump_core.specs.Exchanges.{is_gone}
 use Rattle.pump_core.specs.Replies.{takes}
 use Rattle.pump_core.specs.Pairs.{uncounted}
-use Rattle.pump_core.specs.Comings.{Coming, Timed, Comes, Looks, HasSides, comings, offer, may_take, is_nothing, IsOffered}
+use Rattle.pump_core.specs.Comings.{Coming, Timed, Comes, Looks, HasSides, comings, offer, may_take, is_nothing, taken_after, IsOffered}
 use Rattle.script_reader.specs.declared.line.Line.{Line}
 use Rattle.script_reader.specs.declared.line.Line.TheVariants as lines
 use Rattle.script_reader.specs.declared.line.ToldFeedback.{ToldFeedback}
@@ -21,7 +21,7 @@ use Rattle.two_worlds.specs.Timelines.{arrived, AreLeft}
 use Rattle.two_worlds.specs.TimelinesAlone.{side_of, IsTimelineAlone, GoesOnAlone}
 use Rattle.two_worlds.proofs.Timeline.Cuts.{Newest, newest_of}
 use Rattle.two_worlds.proofs.Timeline.Looks.{left_after, none_left}
-use Rattle.two_worlds.proofs.Timeline.Lows.{taken_after, counts, second}
+use Rattle.two_worlds.proofs.Timeline.Lows.{made_with, counts, second}
 use Rattle.two_worlds.proofs.Timeline.Scripts.{arrives_came}
 use Rattle.two_worlds.proofs.Timeline.Waits.{comes_more, offered_first, offers_no_gone}
 
@@ -66,18 +66,13 @@ module _ (row : SessionRow) (p : PastAlone) (events : List Timed) (m w : ℕ) (a
   now = taken_after (is_gone a) (takes i.after) taken
 
   abbrev more : List Timed
-  more = Looks m w (is_gone a) false (uncounted f) ∷ events
+  more = Looks (made_with m w (is_gone a) (uncounted f)) ∷ events
 
   n : Newest row o p.history.life.looks x i.after
   n = newest_of row o x p.history.life.looks i.after i.cut_with.are_parts (sym i.cut_with.looks) refl
 
-  here : IsOffered row o events m w (is_gone a) false (uncounted f) p.history.life.looks x taken now
+  here : IsOffered row p.history.life events x taken now
   here = record {
-    moment = refl;
-    word = refl;
-    outcome = refl;
-    feedback = refl;
-    leaves = refl;
     before = n.before;
     cut = record { are_parts = n.are_parts; looks = sym n.looks };
     arrival = λ g k. comes g;
@@ -90,14 +85,14 @@ module _ (row : SessionRow) (p : PastAlone) (events : List Timed) (m w : ℕ) (a
 
   looks_on : AreLeft (comings more) now q.waits q.is_broken → IsTimelineAlone row q more
   looks_on left =
-      let so : HasSides row (record { opening = o; events = more } ∷ []) (looked p.history x) = (sides.0, (now, (taken, here, sides.1.1)), sides.2) in
+      let so : HasSides row (record { opening = o; events = more } ∷ []) (looked p.history x) = (sides.0, (now, (refl, taken, here, sides.1.1)), sides.2) in
       let r = subst (λ (h : History). (s : HasSides row (record { opening = h.life.opening; events = more } ∷ []) h) × AreLeft (comings more) s.1.0 q.waits q.is_broken) (sym i.history) (so, left) in
       record { sides = r.0; waits = r.1 }
 
 -- a look that is offered what waits
 offered_on : (row : SessionRow) (p : PastAlone) (events : List Timed) (m w : ℕ) (f : Feedback) (told : ToldFeedback) (q : PastAlone) (printed : List Event)
     → IsTimelineAlone row p events → IsToldLook row p told (told_look m w (first_of p.is_broken p.waits) f) q printed
-    → IsTimelineAlone row q (Looks m w false false (uncounted f) ∷ events)
+    → IsTimelineAlone row q (Looks (made_with m w false (uncounted f)) ∷ events)
 offered_on row p events m w f told q printed k i =
     let came = comings events in
     let taken = k.sides.1.0 in
@@ -110,13 +105,13 @@ offered_on row p events m w f told q printed k i =
     let stays_back = sym stays in
     let left_so : AreLeft (if is_gone a then [] else came) (taken_after (is_gone a) (takes i.after) taken) q.waits q.is_broken =
     subst (λ (u : Bool × List Arrival × Bool). AreLeft (if u.0 then [] else came) (taken_after u.0 (takes i.after) taken) u.1 u.2) (λ j. (stays_back j, waits_back j, broken_back j)) left in
-    subst (λ (b : Bool). IsTimelineAlone row q (Looks m w b false (uncounted f) ∷ events)) stays
+    subst (λ (b : Bool). IsTimelineAlone row q (Looks (made_with m w b (uncounted f)) ∷ events)) stays
     (looks_on row p events m w a f told q printed k.sides comes i left_so)
 
 -- a look with the news that the connection is lost
 lost_on : (row : SessionRow) (p : PastAlone) (events : List Timed) (m w : ℕ) (f : Feedback) (told : ToldFeedback) (q : PastAlone) (printed : List Event)
     → IsTimelineAlone row p events → IsToldLook row (lost_alone p) told (told_look m w Gone f) q printed
-    → IsTimelineAlone row q (Looks m w true false (uncounted f) ∷ events)
+    → IsTimelineAlone row q (Looks (made_with m w true (uncounted f)) ∷ events)
 lost_on row p events m w f told q printed k i =
     looks_on row (lost_alone p) events m w Gone f told q printed k.sides (λ g. absurd (cc)) i (none_left (takes i.after) q.waits q.is_broken i.waits i.broken)
 
@@ -133,14 +128,14 @@ low_line_goes row p (lines.Carry session back) q printed events h i = absurd h
 low_line_goes row p (lines.Return session m back) q printed events h i = absurd h
 low_line_goes row p (lines.Done session m time) q printed events h i = absurd h
 low_line_goes row p (lines.Gone session m) q printed events (f, look) i =
-    (Looks m 0 true false (uncounted f) ∷ [], lost_on row p events m 0 f _ q printed i look, (uncounted f, refl))
+    (Looks (made_with m 0 true (uncounted f)) ∷ [], lost_on row p events m 0 f _ q printed i look, (uncounted f, refl))
 low_line_goes row p (lines.Told session m w fault told a) q printed events (c, arrives, (few, (f, look))) i =
     let came = arrives_came session p.reading a c arrives in
     let brought : List Timed = reverse (map (λ k. Comes k) came.0) in
     let all = all_come row p events came.0 i in
     let joined : IsTimelineAlone row (joined_alone p fault c) (brought ++ events) =
     subst (λ (l : List Arrival). IsTimelineAlone row (record p { waits = p.waits ++ l; reading = c.reading; is_armed = (joined_alone p fault c).is_armed }) (brought ++ events)) (sym came.1) (record { sides = all.sides; waits = all.waits }) in (
-      Looks m w false false (uncounted f) ∷ brought,
+      Looks (made_with m w false (uncounted f)) ∷ brought,
       offered_on row (joined_alone p fault c) (brought ++ events) m w f told q printed joined look,
       (c, arrives, came.0, came.1, (uncounted f, refl)),
     )

@@ -8,7 +8,7 @@ use Rattle.pump_core.specs.declared.feedback.Feedback.{Feedback}
 use Rattle.pump_core.specs.History.{Arrival, Gone, History, looked}
 use Rattle.pump_core.specs.Exchanges.{is_gone}
 use Rattle.pump_core.specs.Replies.{takes}
-use Rattle.pump_core.specs.Comings.{Coming, comings, is_nothing}
+use Rattle.pump_core.specs.Comings.{Coming, comings, is_nothing, taken_after}
 use Rattle.pump_core.specs.Sendings.{Sending}
 use Rattle.pump_core.specs.Timed.{Step, HighSide, Arrives, Point}
 use Rattle.pump_core.specs.Runs.{steps_in, IsRun}
@@ -18,7 +18,7 @@ use Rattle.script_reader.specs.Past.{Past}
 use Rattle.script_reader.specs.Lows.{first_of, is_bad, IsLook}
 use Rattle.script_reader.specs.Steps.{lost, look_of}
 use Rattle.two_worlds.specs.Timelines.{taken_in, arrived, AreLeft, IsAtRest, HasSent, IsTimeline}
-use Rattle.two_worlds.proofs.Timeline.Lows.{taken_after, done_steps, HasLooked, look_on}
+use Rattle.two_worlds.proofs.Timeline.Lows.{done_steps, HasLooked, look_on}
 use Rattle.two_worlds.proofs.Timeline.Waits.{comes_more, offered_first, offers_no_gone, takes_first}
 
 -- ---- a timed run of a past ----

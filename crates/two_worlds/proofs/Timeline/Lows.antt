@@ -1,6 +1,6 @@
 -- A low look goes on with a timed run: it is offered what came, told what the run tells it, and its
 -- steps stand in their places.
-use Rattle.std.proofs.Common.{◌≡◌, ℕ, ◌+◌, ◌-◌, ◌≤◌, Bool, true, false, List, [], ◌∷◌, ◌++◌, length, map, Option, Some, None, refl, sym, ap, ◌∙◌, subst, append_assoc}
+use Rattle.std.proofs.Common.{◌≡◌, ℕ, ◌-◌, ◌≤◌, Bool, true, false, List, [], ◌∷◌, ◌++◌, length, map, Option, Some, None, refl, sym, ap, ◌∙◌, subst, append_assoc}
 use Rattle.std.specs.Prelude.{if◌then◌else◌, ◌&&◌, not, ◌==◌, reverse}
 use Rattle.pump_frame.specs.declared.row.SessionRow.{SessionRow}
 use Rattle.pump_core.specs.declared.event.Event.{Event as WorldEvent}
@@ -11,10 +11,10 @@ use Rattle.pump_core.specs.History.{Arrival, Look, Opening, Life, History, looke
 use Rattle.pump_core.specs.Exchanges.{is_gone, Part, count_after, greeted_after, IsCut}
 use Rattle.pump_core.specs.Replies.{Sent, replies_of, takes, stores, LowReplies}
 use Rattle.pump_core.specs.Pairs.{uncounted}
-use Rattle.pump_core.specs.Comings.{Timed, Comes, Looks, comings, first_of, offer, may_take, is_nothing, IsOffered}
+use Rattle.pump_core.specs.Comings.{LookMade, Timed, Comes, Looks, comings, first_of, offer, may_take, is_nothing, taken_after, IsOffered}
 use Rattle.pump_core.specs.World.{World}
 use Rattle.pump_core.specs.Events.{Run}
-use Rattle.pump_core.specs.Timed.{Step, LowLook, Offer, Read, Occurs, Point, offered, seen, LeadsTo}
+use Rattle.pump_core.specs.Timed.{Step, LowLook, Offer, Read, Occurs, Point, offered, seen, look_begun, LeadsTo}
 use Rattle.pump_core.specs.Runs.{LifeFeedback, with_feedback, steps_in, IsRun}
 use Rattle.pump_core.proofs.Runs.{one_list_of_lives}
 use Rattle.pump_core.proofs.Cuts.{one_cut}
@@ -89,9 +89,13 @@ says row p before a = says_gone (length p.world.held == row.capacity - 2) (is_go
 
 -- ---- the steps of the look ----
 
+-- a look with this feedback, in which the disk did not fail
+abbrev pub made_with : ℕ → ℕ → Bool → Feedback → LookMade
+made_with m w gone f = record (look_begun m w gone false) { feedback = f }
+
 -- the point t after a look with this feedback, in which these steps stood and which led to this world
 abbrev looked_to : Point → ℕ → ℕ → Bool → Feedback → List Step → World → Point
-looked_to t m w gone f stood v = looks_to t (record t { world = v; looked = m }) m w gone false f stood
+looked_to t m w gone f stood v = looks_to t (record t { world = v; looked = m }) (made_with m w gone f) stood
 
 -- the steps of a look in which this was done
 abbrev pub done_steps : ℕ → ℕ → Bool → List Step → List Step
@@ -139,11 +143,7 @@ module _ (row : SessionRow) (past : List Step) (t : Point) (m w : ℕ) (gone : B
 comings_with : (g : Feedback → Feedback) (events : List Timed) → comings (map (with_feedback g) events) ≡ comings events
 comings_with g [] = refl
 comings_with g (Comes c ∷ past) = ap (λ l. l ++ c ∷ []) (comings_with g past)
-comings_with g (Looks m w gone d f ∷ past) = ap (λ l. if gone then [] else l) (comings_with g past)
-
--- how many were taken after a look
-abbrev pub taken_after : Bool → Bool → ℕ → ℕ
-taken_after gone takes taken = if gone then 0 else if takes then taken + 1 else taken
+comings_with g (Looks made ∷ past) = ap (λ l. if made.is_gone then [] else l) (comings_with g past)
 
 pub counts : (gone takes t : Bool) (taken : ℕ) → (gone ≡ false → takes ≡ t) → taken_after gone takes taken ≡ taken_after gone t taken
 counts true takes t taken e = refl
@@ -166,7 +166,7 @@ pub record HasLooked (row : SessionRow) (steps : List Step) (t : Point) (h : His
   pub world : to.world ≡ v
   pub high : to.high ≡ t.high
   pub late : to.looked ≡ m
-  pub events : to.life.side.events ≡ Looks m w (is_gone a) false f ∷ t.life.side.events
+  pub events : to.life.side.events ≡ Looks (made_with m w (is_gone a) f) ∷ t.life.side.events
   pub count : taken_in row (done_steps m w (is_gone a) (steps_in parts) ++ steps) to (looked h (look_of m w a f)) run_on ≡ taken_after (is_gone a) (takes parts) (taken_in row steps t h run)
   -- what it takes is something
   pub some : is_gone a ≡ false → takes parts ≡ true → is_nothing a ≡ false
@@ -211,38 +211,33 @@ module _ (row : SessionRow) (p : Past) (steps : List Step) (t : Point) (m w : �
       subst (λ (k : World × List WorldEvent). Run k.0 k.1 q.world) (λ j. (was j, all j)) i.world
 
   abbrev end : Point
-  end = looks_to t (record t { world = q.world; looked = m }) m w (is_gone a) false f (steps_by n.deed)
+  end = looks_to t (record t { world = q.world; looked = m }) (made_with m w (is_gone a) f) (steps_by n.deed)
 
   goes : LeadsTo row (done_steps m w (is_gone a) (steps_in i.after) ++ steps) end
   goes =
       let l = deed_leads row steps t m w (is_gone a) run.leads late n.deed q.world does happened in
       let feedback_back = sym n.feedback in
       let steps_back = sym n.steps in
-      subst (λ (k : Feedback × List Step). LeadsTo row (done_steps m w (is_gone a) k.1 ++ steps) (looks_to t (record t { world = q.world; looked = m }) m w (is_gone a) false k.0 (steps_by n.deed))) (λ j. (feedback_back j, steps_back j)) l
+      subst (λ (k : Feedback × List Step). LeadsTo row (done_steps m w (is_gone a) k.1 ++ steps) (looks_to t (record t { world = q.world; looked = m }) (made_with m w (is_gone a) k.0) (steps_by n.deed))) (λ j. (feedback_back j, steps_back j)) l
 
-  offered_here : IsOffered row o (map (with_feedback uncounted) t.life.side.events) m w (is_gone a) false (uncounted f) p.history.life.looks x taken now
+  offered_here : IsOffered row p.history.life (map (with_feedback uncounted) t.life.side.events) x taken now
   offered_here = record {
-    moment = refl;
-    word = refl;
-    outcome = refl;
-    feedback = refl;
-    leaves = refl;
     before = n.before;
     cut = record { are_parts = n.are_parts; looks = sym n.looks };
     arrival = λ g k. comes g ∙ ap (λ l. first_of l taken) (sym (comings_with uncounted t.life.side.events));
     count = counts (is_gone a) (takes i.after) (may_take o n.before && not (is_nothing a)) taken n.taken;
   }
 
-  here : IsOffered row t.life.side.opening (map (with_feedback uncounted) t.life.side.events) m w (is_gone a) false (uncounted f) p.history.life.looks x taken now
+  here : IsOffered row (record { opening = t.life.side.opening; looks = p.history.life.looks }) (map (with_feedback uncounted) t.life.side.events) x taken now
   here =
-      subst (λ (k : Opening). IsOffered row k (map (with_feedback uncounted) t.life.side.events) m w (is_gone a) false (uncounted f) p.history.life.looks x taken now) run.low.0 offered_here
+      subst (λ (k : Opening). IsOffered row (record { opening = k; looks = p.history.life.looks }) (map (with_feedback uncounted) t.life.side.events) x taken now) run.low.0 offered_here
 
   pub look_on : HasLooked row steps t p.history run m w a f i.after q.world
   look_on = record {
     to = end;
     run_on = record {
       leads = goes;
-      low = (run.low.0, (now, (taken, here, run.low.1.1)), run.low.2);
+      low = (run.low.0, (now, (refl, taken, here, run.low.1.1)), run.low.2);
       feedback = ap (told_also f) run.feedback;
       places = (((i.after, i.cut_with, sym n.steps), run.places.0), run.places.1);
     };

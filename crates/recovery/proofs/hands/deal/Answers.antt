@@ -49,12 +49,11 @@ returns-then-next-last-clause-dealt g c =
     let d = m.reading c.args.low.now.register.disk in
     let e = c.args.low.now.register.first in
     let b = c.args.removed in
-    let (ms, count, slots, fills) = c.in_ok-fill.ensures.forwarded in
+    let (ms, count, short, slots, fills) = c.in_ok-fill.ensures.forwarded in
     let to : c.min.result ≡ e = omega (arith, c.min.ensures, c.accepted-next.ensures, c.if-next-last.true) in
-    let dealt = some_dealt row b e m.tells d (g.L.LowSide.stands c.args.ends.now) (g.L.LowSide.stands c.fill.new.ends) c.in_ok-first.first c.in_ok-first.ensures.number c.in_ok-first.ensures.stands
-    ms (λ told. subst (λ (z : List ℕ). InSlots row (b + 1) ms z) (c.read_live.ensures.moves.reads told) (slots told)) fills
-    (omega (arith, count, to)) (omega (arith, c.accepted-next.ensures, c.if-next-last.true)) in
-    (dealt.messages, dealt.count, dealt.slots, dealt.hands, dealt.fills)
+    some_dealt row b e m.tells d (g.L.LowSide.stands c.args.ends.now) (g.L.LowSide.stands c.fill.new.ends) c.in_ok-first.first c.in_ok-first.ensures.number c.in_ok-first.ensures.short c.in_ok-first.ensures.stands
+    ms short (λ told. subst (λ (z : List ℕ). InSlots row (b + 1) ms z) (c.read_live.ensures.moves.reads told) (slots told)) fills
+    (omega (arith, count, to)) (omega (arith, c.accepted-next.ensures, c.if-next-last.true))
 
 pub returns-in_err-held-clause-exact : goal.returns-in_err-held-clause-exact
 returns-in_err-held-clause-exact g c =
@@ -109,14 +108,13 @@ returns-clause-dealt g c =
     let e = c.args.low.now.register.first in
     let b = c.args.removed in
     let last = b + row.capacity - 1 in
-    let (ms, count, slots, fills) = c.in_ok-fill.ensures.forwarded in
+    let (ms, count, short, slots, fills) = c.in_ok-fill.ensures.forwarded in
     let to : c.min.result ≡ last = omega (arith, c.min.ensures, c.accepted-next.ensures, c.if-next-last.false) in
     let wide : 3 ≤ row.capacity = (row_capacity row (subst IsLawfulRow c.requires.row c.requires.ready.lawful)).0 in
-    let dealt = all_dealt row b e m.tells d (g.L.LowSide.stands c.args.ends.now) (g.L.LowSide.stands c.fill.new.ends) c.in_ok-first.first c.in_ok-first.ensures.number c.in_ok-first.ensures.stands
-    ms (λ told. subst (λ (z : List ℕ). InSlots row (b + 1) ms z) (c.read_live.ensures.moves.reads told) (slots told)) fills
-    c.in_ok-held.held c.in_ok-held.ensures.number (λ told. subst (λ (z : List ℕ). InSlot row last c.in_ok-held.held.payload z) (c.fill.ensures.moves.reads told ∙ c.read_live.ensures.moves.reads told) (c.in_ok-held.ensures.stands told))
-    wide (omega (arith, count, to)) (omega (arith, c.accepted-next.ensures, c.requires.between.1, c.if-next-last.false, wide)) in
-    (dealt.messages, dealt.count, dealt.slots, dealt.hands, dealt.fills)
+    all_dealt row b e m.tells d (g.L.LowSide.stands c.args.ends.now) (g.L.LowSide.stands c.fill.new.ends) c.in_ok-first.first c.in_ok-first.ensures.number c.in_ok-first.ensures.short c.in_ok-first.ensures.stands
+    ms short (λ told. subst (λ (z : List ℕ). InSlots row (b + 1) ms z) (c.read_live.ensures.moves.reads told) (slots told)) fills
+    c.in_ok-held.held c.in_ok-held.ensures.number c.in_ok-held.ensures.short (λ told. subst (λ (z : List ℕ). InSlot row last c.in_ok-held.held.payload z) (c.fill.ensures.moves.reads told ∙ c.read_live.ensures.moves.reads told) (c.in_ok-held.ensures.stands told))
+    wide (omega (arith, count, to)) (omega (arith, c.accepted-next.ensures, c.requires.between.1, c.if-next-last.false, wide))
 
 pub returns-clause-moves : goal.returns-clause-moves
 returns-clause-moves g c =

@@ -1,4 +1,5 @@
-use Rattle.std.proofs.Common.{◌≡◌, ℕ, ◌+◌, ◌-◌, List, [], ◌∷◌, ◌++◌, length, refl, sym, ◌∙◌, ap, subst, arith, length-append}
+use Rattle.std.proofs.Common.{◌≡◌, ℕ, ◌+◌, ◌-◌, ◌≤◌, List, [], ◌∷◌, ◌++◌, length, refl, sym, ◌∙◌, ap, subst, arith, length-append}
+use Rattle.std.proofs.lemmas.List.Elements.{All-nil, All-push}
 use Rattle.disk_model.specs.Disk.{Same}
 use Rattle.disk_model.proofs.Run.{started, goes_on_same}
 use Rattle.pump_core.specs.Passage.{Low, Shape, ComesNext}
@@ -18,6 +19,7 @@ loop-n-init g c =
       to = omega (arith, c.requires.range.0);
       messages = [];
       length' = omega arith;
+      short = All-nil (λ message. length message ≤ c.args.row.now.message);
       slots = λ told i lt. absurd (omega (arith, lt));
       fills = λ l h stood empty. subst (λ (z : List Item). g.L.LowSide.stands c.args.ends.now (record l { forwarded = z }) h) empty stood;
       same = (refl, refl);
@@ -72,6 +74,7 @@ loop-n-preserved g c =
       to = omega (arith, c.loop-n-test.true);
       messages = ms ++ x.payload ∷ [];
       length' = omega (arith, i.length', length-append ms (x.payload ∷ []));
+      short = All-push (λ message. length message ≤ row.message) ms x.payload i.short c.in_ok-item.ensures.short;
       slots = λ told. slots_snoc row from n ms x.payload d i.length' (i.slots told)
           (subst (λ (z : List ℕ). InSlot row n x.payload z) (i.moves.reads told) (c.in_ok-item.ensures.stands told));
       fills = λ l h stood empty.

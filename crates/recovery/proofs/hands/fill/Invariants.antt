@@ -1,4 +1,5 @@
 use Rattle.std.proofs.Common.{◌≡◌, ◌+◌, ◌-◌, ◌≤◌, ℕ, List, length, false}
+use Rattle.std.specs.List.{All}
 use Rattle.disk_model.specs.Disk.{Moves, Same}
 use Rattle.stable_buffer.specs.Low.{IsLowReady, low_count, low_disk, low_row}
 use Rattle.recovery.specs.Refusals.{bad_slot}
@@ -16,6 +17,7 @@ invariant-loop-n g l =
       to : l.n ≤ l.to;
       messages : List (List ℕ);
       length' : l.from + length messages ≡ l.n;
+      short : All (λ message. length message ≤ row.message) messages;
       slots : m.tells → InSlots row l.from messages disk;
       fills : Fills (g.L.LowSide.stands l.fn.ends) (g.L.LowSide.stands l.ends) (numbered l.from messages);
       same : (g.L.LowSide.shape l.ends ≡ g.L.LowSide.shape l.fn.ends) × (g.L.LowSide.place l.ends ≡ g.L.LowSide.place l.fn.ends);

@@ -5,6 +5,6 @@ pub returns-clause-end : goal.returns-clause-end
 returns-clause-end c = sound_so
 
 pub returns-clause-each : goal.returns-clause-each
-returns-clause-each c = λ before line later after printed h.
-    let f = fronts_so before line later after printed h in
-    (f.0, f.1, f.2, f.3, f.4, sound_lead before f.0 f.1 f.3)
+returns-clause-each c = λ o before line later after printed h.
+    let f = fronts_so o before line later after printed h in
+    (f.0, f.1, f.2, f.3, f.4, sound_lead o before f.0 f.1 f.3)

@@ -29,3 +29,11 @@ returns-then-eq-8-clause-value c = rw (c.read_return.ensures.value c.args.body.n
 pub returns-then-eq-9-clause-value : goal.returns-then-eq-9-clause-value
 unfolding line_of
 returns-then-eq-9-clause-value c = rw (c.read_done.ensures.value c.args.body.now) (search rules)
+
+pub returns-then-eq-10-clause-value : goal.returns-then-eq-10-clause-value
+unfolding line_of
+returns-then-eq-10-clause-value c = rw (c.read_restart.ensures.value c.args.body.now) (search rules)
+
+pub returns-then-eq-11-clause-value : goal.returns-then-eq-11-clause-value
+unfolding line_of
+returns-then-eq-11-clause-value c = rw (c.read_receiver_restart.ensures.value c.args.body.now) (search rules)

@@ -30,6 +30,6 @@ returns-clause-looks g c = λ l h t stands holds.
     let fills = c.take_up.ensures.fills in
     let finishes = finishes_from b q fills.got c.send.result
     (step_after b.row.resend _ (state_of b) _ (state_of q) fills.got c.send.result (ap (λ r. r.resend) c.take_up.ensures.row) fills.filled c.send.ensures.steps) in
-    looked_fitting s g.H.HighSide.exact after l h p q t c.args.moment task attaches c.send.result holds stands.1
-    (looked s g.H.HighSide.exact after l h p b q t c.args.moment task attaches c.in_ok-ask.ask fills.got c.send.result
+    looked_fitting s g.H.HighSide.on_one_thread after l h p q t c.args.moment task attaches c.send.result holds stands.1
+    (looked s g.H.HighSide.on_one_thread after l h p b q t c.args.moment task attaches c.in_ok-ask.ask fills.got c.send.result
     (ap (λ r. r.resend) c.begin.ensures.row) c.in_ok-ask.ensures.begins finishes (fills.takes l h stands.0) holds)

@@ -11,5 +11,5 @@ returns-clause-ends g c = λ l h stands comes.
     let e = c.finish_into.ensures in
     let tells = subst (λ (o : Bool). Tells o answer f) (sym c.owes-is_owed.ensures) e.tells in
     let hand = e.hand ∙ ap (λ (t : Option Item). hand_passed t f) c.requires.hand in
-    offered (g.L.LowSide.shape c.args.ends.now) g.L.LowSide.exact (g.L.LowSide.stands c.offer-answer.new.ends) c.finish_into.new.self l h
+    offered (g.L.LowSide.shape c.args.ends.now) g.L.LowSide.on_one_thread (g.L.LowSide.stands c.offer-answer.new.ends) c.finish_into.new.self l h
     c.args.item c.owes-is_owed.result answer f (c.offer-answer.ensures.step l h stands comes) tells hand (c.requires.number ∙ sym e.next) comes

@@ -69,7 +69,7 @@ pub record IsNew {D : Type 0} (m : Meaning D) (c : Parts D) : Type 0 where
   pub shape : shape_of c.ends ≡ shape_of_row c.row
   pub sent : c.sent ≡ buffer [] 64
   pub returned : c.returned ≡ buffer [] 64
-  pub taken : (c.taken.kind ≡ Taken) × (c.taken.session ≡ c.row.id)
+  pub taken : c.taken.session ≡ c.row.id
   pub moment : c.moment ≡ 0
 
 module _ {D : Type 0} (m : Meaning D) (c : Parts D) (n : IsNew m c) where
@@ -127,6 +127,7 @@ module _ {D : Type 0} (m : Meaning D) (c : Parts D) (n : IsNew m c) where
       lawful = fresh_lawful c.row n.row;
       fits = All-nil (λ (x : Payload). length x ≤ c.row.message);
       sends = omega arith;
+      answered = λ some. absurd (omega (arith, some));
     };
     moment = n.moment;
     low_ready = record {

@@ -46,7 +46,9 @@ impl<D: Disk> Parts<D> {
             LineHead::Skip
             | LineHead::Session(_)
             | LineHead::LowSession { .. }
-            | LineHead::Told { .. } => false,
+            | LineHead::Told { .. }
+            | LineHead::Restart { .. }
+            | LineHead::ReceiverRestart { .. } => false,
             LineHead::Look {
                 session,
                 moment,
@@ -199,7 +201,9 @@ impl<D: Disk> Parts<D> {
             LineHead::Skip
             | LineHead::Session(_)
             | LineHead::LowSession { .. }
-            | LineHead::Told { .. } => { Err(Stop::Line) }
+            | LineHead::Told { .. }
+            | LineHead::Restart { .. }
+            | LineHead::ReceiverRestart { .. } => { Err(Stop::Line) }
             LineHead::Look {
                 moment,
                 word,

@@ -1,4 +1,5 @@
 pub mod Agreement
+pub mod Answered
 pub mod Connections
 pub mod Disks
 pub mod Doing

@@ -17,7 +17,7 @@ use Rattle.script_reader.specs.declared.fault.Fault.{Fault}
 use Rattle.script_reader.specs.Past.{Past}
 use Rattle.script_reader.specs.Highs.{IsWholeLook, is_ahead, IsReturnBy, IsReturn, IsAttach, IsCarried, place}
 use Rattle.script_reader.specs.Lows.{IsLook}
-use Rattle.script_reader.specs.Openings.{Found, Openings, opened}
+use Rattle.script_reader.specs.Openings.{Found, Openings, first_past}
 use Rattle.script_reader.specs.Restarts.{IsRestart, IsReceiverRestart}
 use Rattle.script_reader.specs.Steps.{joined, lost, IsCarriedBack, LineStep, Overfills}
 use Rattle.pump_core.specs.History.{Look}
@@ -156,7 +156,7 @@ leads_answered row (s ∷ past) u (t, before, m) = step_answered row t s u m (le
 
 -- ---- looks ----
 
-perhaps_goes : (w : World) (e : Event) (es : List Event) (v : World) → Perhaps w e es v → Onward w v
+pub perhaps_goes : (w : World) (e : Event) (es : List Event) (v : World) → Perhaps w e es v → Onward w v
 perhaps_goes w e es v h = ⊎_elim
     (λ (r : Run w (e ∷ es) v). run_goes w (e ∷ es) v r)
     (λ (o : ((x : World) → Happens w e x → ⊥) × (v ≡ w)). stays_same w v o.1)
@@ -268,7 +268,7 @@ stopped_goes row p (lines.ReceiverRestart session m) q printed end k size h = ab
 -- ---- scripts ----
 
 -- a session that begins keeps its answers
-pub opened_keeps : (row : SessionRow) (f : Found) → KeepsAnswers (opened row f)
+pub opened_keeps : (row : SessionRow) (f : Found) → KeepsAnswers (first_past row f)
 opened_keeps row f = record { answered = last_answered f.received; before = omega arith }
 
 abbrev Keeps : Option Begun → Type 0

@@ -7,7 +7,6 @@ use Rattle.disk_model.proofs.Run.{each_settled}
 use Rattle.pump_frame.specs.Rows.{IsLawfulRow}
 use Rattle.pump_frame.specs.declared.payload.Payload.{Payload}
 use Rattle.pump_frame.specs.declared.frame.Item.{Item}
-use Rattle.pump_frame.specs.declared.frame.Kind.TheVariants.{Taken}
 use Rattle.stable_buffer.specs.Low.{IsLowReady, low_disk, low_count, low_row}
 use Rattle.stable_buffer.specs.High.{IsHighReady, high_disk, high_count}
 use Rattle.stable_buffer.specs.Stands.{LowStands, HighStands}

@@ -56,9 +56,8 @@ module _ (row : SessionRow) (p : Past) (m : ℕ) where
       → BreaksWith m back role p q more → BreaksAttaching row m role p q (AttachLine row.id m n ∷ more)
   breaks_attaching n None role q more count last breaks = absurd breaks
   breaks_attaching zero (Some k) role q more count last breaks = absurd last
-  breaks_attaching (suc n) (Some k) role q more count last (is, unremoved, none) =
-      (
-        is,
-        record { number = n; count = omega (arith, count); at = k; taken = last; unremoved = unremoved },
-        (λ i. AttachLine row.id m (count i) ∷ none i),
-      )
+  breaks_attaching (suc n) (Some k) role q more count last (is, unremoved, none) = (
+    is,
+    record { number = n; count = omega (arith, count); at = k; taken = last; unremoved = unremoved },
+    (λ i. AttachLine row.id m (count i) ∷ none i),
+  )

@@ -46,9 +46,7 @@ impl<D: Disk> Parts<D> {
             LineHead::Skip
             | LineHead::Session(_)
             | LineHead::LowSession { .. }
-            | LineHead::Told { .. }
-            | LineHead::Restart { .. }
-            | LineHead::ReceiverRestart { .. } => false,
+            | LineHead::Told { .. } => false,
             LineHead::Look {
                 session,
                 moment,
@@ -201,9 +199,7 @@ impl<D: Disk> Parts<D> {
             LineHead::Skip
             | LineHead::Session(_)
             | LineHead::LowSession { .. }
-            | LineHead::Told { .. }
-            | LineHead::Restart { .. }
-            | LineHead::ReceiverRestart { .. } => { Err(Stop::Line) }
+            | LineHead::Told { .. } => { Err(Stop::Line) }
             LineHead::Look {
                 moment,
                 word,

@@ -1,5 +1,4 @@
-use Rattle.std.proofs.Common.{◌≡◌, true, Some, ◌∷◌}
-use Rattle.disk_model.specs.declared.name.Role.TheVariants as roles
+use Rattle.std.proofs.Common.{true}
 use Rattle.pump_frame.specs.declared.frame.Kind.TheVariants.{Attach}
 use Rattle.script_reader.specs.declared.event.Event.TheVariants.{Attach as AttachLine}
 use Rattle.two_worlds.specs.Private.HighLooks.{LeadsWith, BreaksWith, Attaches, BreaksAttaching}

@@ -8,3 +8,4 @@ pub mod LineSteps
 pub mod LowLooks
 pub mod Restarting
 pub mod Serving
+pub mod StateSteps

@@ -7,7 +7,6 @@ use Rattle.disk_model.proofs.Run.{each_settled}
 use Rattle.pump_frame.specs.Rows.{IsLawfulRow}
 use Rattle.pump_frame.specs.declared.payload.Payload.{Payload}
 use Rattle.pump_frame.specs.declared.frame.Item.{Item}
-use Rattle.pump_frame.specs.declared.frame.Kind.TheVariants.{Taken}
 use Rattle.stable_buffer.specs.Low.{IsLowReady, low_disk, low_count, low_row}
 use Rattle.stable_buffer.specs.High.{IsHighReady, high_disk, high_count}
 use Rattle.stable_buffer.specs.Stands.{LowStands, HighStands}
@@ -69,7 +68,7 @@ pub record IsNew {D : Type 0} (m : Meaning D) (c : Parts D) : Type 0 where
   pub shape : shape_of c.ends ≡ shape_of_row c.row
   pub sent : c.sent ≡ buffer [] 64
   pub returned : c.returned ≡ buffer [] 64
-  pub taken : (c.taken.kind ≡ Taken) × (c.taken.session ≡ c.row.id)
+  pub taken : c.taken.session ≡ c.row.id
   pub moment : c.moment ≡ 0
 
 module _ {D : Type 0} (m : Meaning D) (c : Parts D) (n : IsNew m c) where
@@ -127,6 +126,7 @@ module _ {D : Type 0} (m : Meaning D) (c : Parts D) (n : IsNew m c) where
       lawful = fresh_lawful c.row n.row;
       fits = All-nil (λ (x : Payload). length x ≤ c.row.message);
       sends = omega arith;
+      answered = λ some. absurd (omega (arith, some));
     };
     moment = n.moment;
     low_ready = record {

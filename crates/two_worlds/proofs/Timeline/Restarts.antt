@@ -5,7 +5,7 @@ use Rattle.pump_frame.specs.declared.row.SessionRow.{SessionRow}
 use Rattle.pump_core.specs.declared.event.Event.TheVariants.{Crash}
 use Rattle.pump_core.specs.World.{World}
 use Rattle.pump_core.specs.Events.{Happens, Opened}
-use Rattle.pump_core.specs.Timed.{Step, Occurs, Point, LeadsTo, opening_in, opens, reopens}
+use Rattle.pump_core.specs.Timed.{Step, Occurs, Point, opening_in, opens, reopens}
 use Rattle.pump_core.specs.Runs.{LifeFeedback}
 use Rattle.script_reader.specs.declared.event.Event.{Event}
 use Rattle.script_reader.specs.declared.line.Line.TheVariants.{ReceiverRestart}

@@ -1,6 +1,6 @@
 -- What a script's session has been through is a timed run: line by line.
 use Rattle.std.proofs.Common.{◌≡◌, ℕ, ◌+◌, ◌≤◌, Bool, true, false, List, [], ◌∷◌, ◌++◌, map, Option, Some, None, refl, sym, ap, subst, arith, append_assoc}
-use Rattle.std.specs.Prelude.{◌==◌, ◌&&◌, ◌||◌, ◌^◌, nat_le, not, if◌then◌else◌, reverse}
+use Rattle.std.specs.Prelude.{◌==◌, ◌&&◌, ◌||◌, ◌^◌, nat_le, not, reverse}
 use Rattle.std.proofs.lemmas.Bool.{and_parts}
 use Rattle.std.proofs.lemmas.Bool.Decides.{nat_tests}
 use Rattle.pump_frame.specs.declared.frame.Frame.{Frame}
@@ -26,7 +26,7 @@ use Rattle.script_reader.specs.Steps.{bad_of, came, IsRead, Arrives as ArrivesWi
 use Rattle.script_reader.specs.Scripts.{Running, Begun, Whole as WholeSession, Alone, GoesWhole, GoesOn as GoesOn, Leads, LeadTo}
 use Rattle.script_reader.proofs.Leading.{IsNew, led}
 use Rattle.two_worlds.specs.Timelines.{arrived, IsTimeline, high_steps, return_steps, carry_steps, AreLookSteps, AreDoneSteps, AreSteps, RunGoesOn}
-use Rattle.two_worlds.proofs.Timeline.Looks.{timeline, HasMore, both, all_come, offered_look, lost_look}
+use Rattle.two_worlds.proofs.Timeline.Looks.{HasMore, both, all_come, offered_look, lost_look}
 use Rattle.two_worlds.proofs.Timeline.Highs.{high_look}
 use Rattle.two_worlds.proofs.Timeline.Lows.{done_steps}
 use Rattle.two_worlds.proofs.Timeline.Returns.{HasSome, return_look}

@@ -6,4 +6,5 @@ pub mod GoingOn
 pub mod HighLooks
 pub mod LineSteps
 pub mod LowLooks
+pub mod Restarting
 pub mod Serving

@@ -21,6 +21,8 @@ is_timely_by c (lines.Told session m w fault told a) = false
 is_timely_by c (lines.Look session m w a) = session == c.row.id && nat_le c.moment m
 is_timely_by c (lines.Gone session m) = session == c.row.id && nat_le c.moment m
 is_timely_by c (lines.High session m) = session == c.row.id && nat_le c.moment m
+is_timely_by c (lines.Restart session m) = session == c.row.id && nat_le c.moment m
+is_timely_by c (lines.ReceiverRestart session m) = session == c.row.id && nat_le c.moment m
 is_timely_by c (lines.Carry session back) = session == c.row.id && nat_lt back (length c.sent.items)
 is_timely_by c (lines.Return session m back) =
     session == c.row.id && (nat_le c.moment m && nat_lt back (length c.returned.items))

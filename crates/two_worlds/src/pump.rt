@@ -7,6 +7,7 @@ mod lines;
 mod low_look;
 mod open;
 mod parts;
+mod restart;
 mod state;
 #[cfg(test)]
 mod tests;
@@ -43,7 +44,7 @@ impl<D: Disk> Pump<D> {
     ghost use Rattle.two_worlds.specs.Printing.{lines_in};
     ghost use Rattle.script_reader.specs.Past.{Past, fresh};
     ghost use Rattle.two_worlds.specs.Disks.{Opens, CrashesOpen, LeaveWorld};
-    ghost use Rattle.two_worlds.specs.LowPumps.{is_device};
+    ghost use Rattle.two_worlds.specs.LowPumps.{stops_at_disk};
     ghost use Rattle.two_worlds.specs.Pumps.{row_of, StandsFor, StandsOrFails, is_down, disk_at, Applies, AppliesOn};
     ghost use Rattle.two_worlds.specs.Rooms.{HasRoom, DisksGo};
 
@@ -84,7 +85,7 @@ impl<D: Disk> Pump<D> {
         ensures on { AppliesOn D.told self.old self.new line.now result.events.items result.stop }
         ensures serve { DisksGo D.told (row_of self.old) (disk_at roles.Low self.old) (disk_at roles.High self.old) (disk_at roles.Recv self.old)
             (disk_at roles.Low self.new) (disk_at roles.High self.new) (disk_at roles.Recv self.new) result.stop }
-        ensures down { is_down self.new ≡ is_device result.stop }
+        ensures down { is_down self.new ≡ stops_at_disk result.stop }
         ensures row { row_of self.new ≡ row_of self.old }
     {
         let mut heads = ArrayVec::new();
@@ -111,7 +112,7 @@ impl<D: Disk> Pump<D> {
         ensures on { AppliesOn D.told self.old self.new (line_with bytes.now line.now) (lines_in events.new.items) result }
         ensures serve { DisksGo D.told (row_of self.old) (disk_at roles.Low self.old) (disk_at roles.High self.old) (disk_at roles.Recv self.old)
             (disk_at roles.Low self.new) (disk_at roles.High self.new) (disk_at roles.Recv self.new) result }
-        ensures down { is_down self.new ≡ is_device result }
+        ensures down { is_down self.new ≡ stops_at_disk result }
         ensures row { row_of self.new ≡ row_of self.old }
     {
         match &mut self.state {

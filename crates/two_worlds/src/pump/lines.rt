@@ -53,7 +53,9 @@ impl<D: Disk> Parts<D> {
                 ..
             }
             | LineHead::Gone { session, moment }
-            | LineHead::High { session, moment } => {
+            | LineHead::High { session, moment }
+            | LineHead::Restart { session, moment }
+            | LineHead::ReceiverRestart { session, moment } => {
                 *session == self.row.id && self.moment <= *moment
             }
             LineHead::Carry { session, back } => {
@@ -199,7 +201,9 @@ impl<D: Disk> Parts<D> {
             LineHead::Skip
             | LineHead::Session(_)
             | LineHead::LowSession { .. }
-            | LineHead::Told { .. } => { Err(Stop::Line) }
+            | LineHead::Told { .. }
+            | LineHead::Restart { .. }
+            | LineHead::ReceiverRestart { .. } => { Err(Stop::Line) }
             LineHead::Look {
                 moment,
                 word,

@@ -21,7 +21,7 @@ use recovery::{Why, open_pump};
 use script_reader::EventHead;
 
 /// The reason to stop where this disk is refused.
-fn stop_for(role: Role, why: Why) -> Stop
+pub fn stop_for(role: Role, why: Why) -> Stop
     ensures { result ≡ stop_for role why }
 {
     match why {

@@ -1,0 +1,2 @@
+-- The receiver is opened again.
+pub mod Receiver

@@ -9,3 +9,4 @@ pub mod LowLooks
 pub mod Reopening
 pub mod Restarting
 pub mod Serving
+pub mod StateSteps

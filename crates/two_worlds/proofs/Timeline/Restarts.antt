@@ -10,7 +10,7 @@ use Rattle.pump_core.specs.Runs.{LifeFeedback}
 use Rattle.script_reader.specs.declared.event.Event.{Event}
 use Rattle.script_reader.specs.declared.line.Line.TheVariants.{ReceiverRestart}
 use Rattle.script_reader.specs.Past.{Past}
-use Rattle.script_reader.specs.Openings.{Found, CanOpen, opened_world, opened, restarted}
+use Rattle.script_reader.specs.Openings.{Found, CanOpen, opened_world, first_past, restarted}
 use Rattle.script_reader.specs.Restarts.{IsRestart, IsReopened, IsReceiverRestart}
 use Rattle.script_reader.proofs.Opened.{row_capacity}
 use Rattle.two_worlds.specs.Timelines.{IsAtRest, IsTimeline, RunGoesOn}
@@ -19,7 +19,7 @@ use Rattle.two_worlds.proofs.Timeline.Returns.{attach_look}
 
 -- ---- a session that begins ----
 
-pub opened_timeline : (row : SessionRow) (f : Found) → IsLawfulRow row → CanOpen row f → IsTimeline row (opened row f) [] (opens (opened_world row f))
+pub opened_timeline : (row : SessionRow) (f : Found) → IsLawfulRow row → CanOpen row f → IsTimeline row (first_past row f) [] (opens (opened_world row f))
 opened_timeline row f lawful can =
     let size = row_capacity row lawful in
     record {

@@ -18,7 +18,7 @@ use Rattle.script_reader.specs.declared.line.Line.{Line}
 use Rattle.script_reader.specs.declared.line.Line.TheVariants as lines
 use Rattle.script_reader.specs.declared.event.Event.{Event}
 use Rattle.script_reader.specs.Past.{Past}
-use Rattle.script_reader.specs.Openings.{Openings, opened_world, opened}
+use Rattle.script_reader.specs.Openings.{Openings, opened_world, first_past}
 use Rattle.script_reader.specs.Highs.{IsHighLook, place}
 use Rattle.script_reader.specs.Lows.{IsLook}
 use Rattle.script_reader.specs.Steps as coming
@@ -161,7 +161,7 @@ goes_on_run (Alone s) line after printed (timely, (q, step, e)) k = subst HasRun
 new_run : (o : Openings) (s : Begun) → IsNew o s → HasRun (Some s)
 new_run o (WholeSession s) (lawful, can, e) =
     let f = o s.row.id in
-    let begun : (steps : List Step) × (t : Point) × IsTimeline s.row (opened s.row f) steps t = ([], opens (opened_world s.row f), opened_timeline s.row f lawful can) in
+    let begun : (steps : List Step) × (t : Point) × IsTimeline s.row (first_past s.row f) steps t = ([], opens (opened_world s.row f), opened_timeline s.row f lawful can) in
     subst (λ (p : Past). (steps : List Step) × (t : Point) × IsTimeline s.row p steps t) (sym e) begun
 new_run o (Alone s) new = tt
 

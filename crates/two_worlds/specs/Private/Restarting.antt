@@ -1,12 +1,12 @@
 -- Both processes of a pump are opened again: what becomes of it, by what is answered.
-use Rattle.std.specs.Prelude.{◌≡◌, ◌⊎◌, ℕ, true, false, [], ◌∷◌, Result, Ok, Err}
+use Rattle.std.specs.Prelude.{◌≡◌, ◌⊎◌, ℕ, Bool, ◌&&◌, ◌==◌, nat_le, true, false, [], ◌∷◌, Result, Ok, Err}
 use Rattle.disk_model.specs.Disk.{Meaning}
 use Rattle.disk_model.specs.declared.name.Role.{Role}
 use Rattle.disk_model.specs.declared.name.Role.TheVariants as roles
 use Rattle.recovery.specs.Calls.{is_device}
 use Rattle.recovery.specs.declared.why.Why.{Why}
 use Rattle.recovery.specs.declared.why.Why.TheVariants as whys
-use Rattle.script_reader.specs.declared.head.EventHead.{EventHead}
+use Rattle.script_reader.specs.declared.event.EventHead.{EventHead}
 use Rattle.script_reader.specs.EventHeads.{event_of}
 use Rattle.script_reader.specs.Past.{Past}
 use Rattle.script_reader.specs.Restarts.{IsRestart}
@@ -15,11 +15,17 @@ use Rattle.two_worlds.specs.declared.applied.Stop.{Stop}
 use Rattle.two_worlds.specs.declared.applied.Stop.TheVariants.{Line, Device, Full, Disk}
 use Rattle.two_worlds.specs.declared.pump.state.BareDisks.{BareDisks}
 use Rattle.two_worlds.specs.declared.pump.state.PumpState.{PumpState}
+use Rattle.two_worlds.specs.declared.pump.state.PumpState.TheVariants.{Open, Shut}
 use Rattle.two_worlds.specs.Doing.{Fails, LeavesFit}
 use Rattle.two_worlds.specs.Rooms.{DisksGo}
 use Rattle.two_worlds.specs.Standing.{bare_disk}
 use Rattle.two_worlds.specs.States.{disks_in, is_down_in, IsOpenWith, StandsIn}
 use Rattle.two_worlds.specs.Working.{Works}
+
+-- the session and the moment fit an open pump
+abbrev pub is_due_in : {D : Type 0} → PumpState D → ℕ → ℕ → Bool
+is_due_in (Open c) session moment = session == c.row.id && nat_le c.moment moment
+is_due_in (Shut d) session moment = false
 
 -- the reason to stop where this disk is refused
 abbrev pub stop_for : Role → Why → Stop

@@ -37,4 +37,4 @@ does_after m c c' d out mid now line p leads leads_by breaks breaks_by (Err Line
 does_after m c c' d out mid now line p leads leads_by breaks breaks_by (Err (Device role faults)) is f g k (q, printed, h, told, fails, fit) =
     (q, line ∷ printed, g role q printed h, told ∙ ap (λ (l : List Event). l ++ printed) is ∙ append_assoc out (line ∷ []) printed, fails, k q fit)
 does_after m c c' d out mid now line p leads leads_by breaks breaks_by (Err (Full end length size)) is f g k (q, printed, h, told, stand, fit) = absurd h
-does_after m c c' d out mid now line p leads leads_by breaks breaks_by (Err (Disk role why)) is f g k h = h
+does_after m c c' d out mid now line p leads leads_by breaks breaks_by (Err (Disk role why)) is f g k h = absurd h

@@ -1,2 +1,3 @@
 -- The receiver is opened again.
 pub mod Receiver
+pub mod Refused

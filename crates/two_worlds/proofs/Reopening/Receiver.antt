@@ -30,20 +30,26 @@ calls_serve m least old new true a = inr (record {
   counts = a.counts;
   rose = λ e. a.rose refl;
   never = λ plan off fits. let no = a.never plan off in absurd (cc);
-  always = λ plan armed. tt;
+  always = λ plan armed. refl;
   room = a.room;
   disarmed = a.disarmed;
 })
 calls_serve m least old new false a = inr (record {
   counts = a.counts;
-  rose = λ e. absurd e;
-  never = λ plan off fits. tt;
+  rose = λ e. absurd (cc);
+  never = λ plan off fits. refl;
   always = λ plan armed. let no = a.always plan armed in absurd (cc);
   room = a.room;
   disarmed = a.disarmed;
 })
 
 -- ---- the disk that is called ----
+
+-- the count and the end of a receiver are those that a read gives
+pub value_read : {D : Type 0} (m : Meaning D) (receiver : Receiver D) → IsRecvReady m receiver → m.tells → value_of (m.reading (recv_disk receiver)) ≡ (recv_count receiver, recv_end receiver)
+value_read m receiver ready told =
+    let was = ready.ready.each.reading told in
+    ap (λ (parity : ℕ). cell_at (m.reading (recv_disk receiver)) (place_of parity)) was.selector ∙ was.cell
 
 module _ {D : Type 0} (m : Meaning D) (c : Parts D) (recv : D) (same : Moves m Same (recv_disk c.receiver) recv) where
   onto : (P : List ℕ → Type 0) (x y : List ℕ) → P x → Same x y → P y
@@ -91,15 +97,9 @@ module _ {D : Type 0} (m : Meaning D) (c : Parts D) (new : Receiver D) where
       short = record { low_hand = w.short.low_hand; held = w.short.held; high_hand = w.short.high_hand; sent = w.short.sent };
     }
 
-    -- the count and the end are those from before
-    value_is : m.tells → IsRecvReady m c.receiver → (recv_count new, recv_end new) ≡ (recv_count c.receiver, recv_end c.receiver)
-    value_is told old =
-        let was = old.ready.each.reading told in
-        r.value told ∙ ap (λ (parity : ℕ). cell_at (m.reading (recv_disk c.receiver)) (place_of parity)) was.selector ∙ was.cell
-
     stands_again : m.tells → (p : Past) → Stands m c p → Stands m (record c { receiver = new }) p
     stands_again told p s =
-        let value = value_is told s.recv_ready.ready in
+        let value : (recv_count new, recv_end new) ≡ (recv_count c.receiver, recv_end c.receiver) = r.value told ∙ value_read m c.receiver s.recv_ready.ready told in
         record {
           row = s.row;
           arrivals = record { waits = s.arrivals.waits; broken = s.arrivals.broken; reading = s.arrivals.reading; few = s.arrivals.few };

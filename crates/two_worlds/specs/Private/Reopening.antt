@@ -1,27 +1,25 @@
--- The receiver of a pump is opened again, and attaches: what becomes of the pump, by what is answered.
-use Rattle.std.specs.Prelude.{◌≡◌, ℕ, true, false, List, Result, Ok, Err}
+-- The receiver of a pump is opened again and attaches: what becomes of the pump, by what is answered.
+use Rattle.std.specs.Prelude.{◌≡◌, ℕ, true, false, List, [], Result, Ok, Err}
 use Rattle.std.specs.Result.{result_err}
 use Rattle.disk_model.specs.Disk.{Meaning}
 use Rattle.disk_model.specs.declared.name.Role.TheVariants as roles
 use Rattle.recovery.specs.Calls.{is_device}
 use Rattle.script_reader.specs.declared.event.Event.{Event}
-use Rattle.script_reader.specs.declared.line.Line.{Line as ScriptLine}
 use Rattle.script_reader.specs.Past.{Past}
-use Rattle.script_reader.specs.Steps.{LineStep}
-use Rattle.script_reader.specs.Breaks.{Breaks}
 use Rattle.two_worlds.specs.declared.applied.Stop.{Stop}
 use Rattle.two_worlds.specs.declared.applied.Stop.TheVariants.{Line, Device, Full, Disk}
 use Rattle.two_worlds.specs.declared.pump.parts.Parts.{Parts}
 use Rattle.two_worlds.specs.declared.pump.state.BareDisks.{BareDisks}
 use Rattle.two_worlds.specs.declared.pump.state.PumpState.{PumpState}
 use Rattle.two_worlds.specs.declared.pump.state.PumpState.TheVariants.{Open, Shut}
-use Rattle.two_worlds.specs.Doing.{Fails, LeavesFit}
+use Rattle.two_worlds.specs.Doing.{Does, NeverOverfills, Fails, LeavesFit, LeavesAlone}
+use Rattle.two_worlds.specs.Private.GoingOn.{WorksOn}
+use Rattle.two_worlds.specs.Private.HighLooks.{Attaches, BreaksAttaching}
+use Rattle.two_worlds.specs.Private.Serving.{DisksServe}
 use Rattle.two_worlds.specs.Rooms.{DisksGo}
 use Rattle.two_worlds.specs.Standing.{bare_of, bare_disk}
 use Rattle.two_worlds.specs.States.{disks_in, is_down_in, IsOpenWith, StandsIn}
-use Rattle.two_worlds.specs.Working.{Works, IsTooLong}
-
--- ---- the opening ----
+use Rattle.two_worlds.specs.Working.{Works}
 
 -- Over disks that tell what they hold, and stood for the past p: the pump stands for p still; or the
 -- receiver's disk failed, and nothing has happened.
@@ -33,14 +31,13 @@ ReopensFrom m old t p (Err Line) = ⊥
 ReopensFrom m old t p (Err (Full end size_of_message size)) = ⊥
 ReopensFrom m old t p (Err (Disk role why)) = ⊥
 
--- Whatever the disks tell: the pump works; or the call of a disk failed, and it is down; or the receiver's
--- disk is refused, and it is shut.
+-- whatever the disks tell: the pump works; or it is shut, since a call of the receiver's disk failed or that
+-- disk is refused
 abbrev pub ReopensOn : {D : Type 0} → Meaning D → PumpState D → Result (Unit {0}) Stop → Type 0
 ReopensOn m t (Ok done) = IsOpenWith (λ d. ∥ Works m d ∥₁) t
 ReopensOn m t (Err Line) = ⊥
-ReopensOn m t (Err (Device role faults)) = (is_down_in t ≡ true) × (faults ≡ m.count (bare_disk role (disks_in t)))
-ReopensOn m t (Err (Full end size_of_message size)) =
-    IsOpenWith (λ d. ∥ Works m d ∥₁ × IsTooLong d end size_of_message size) t
+ReopensOn m t (Err (Device role faults)) = (role ≡ roles.Recv) × (is_down_in t ≡ true) × (faults ≡ m.count (bare_disk role (disks_in t)))
+ReopensOn m t (Err (Full end size_of_message size)) = ⊥
 ReopensOn m t (Err (Disk role why)) = (role ≡ roles.Recv) × (is_down_in t ≡ true) × (is_device why ≡ false)
 
 -- so the disks go
@@ -60,16 +57,11 @@ pub record Reopens {D : Type 0} (m : Meaning D) (c : Parts D) (t : PumpState D) 
   pub serve : DisksReopen m (bare_of c) (disks_in t) result
   pub rest : IsRestOf c t
 
--- ---- the line ----
-
--- Over disks that tell what they hold, and stood for the past p: the line was carried out and this was
--- printed, or the device of a disk cut it short.
-abbrev pub LineLeads : {D : Type 0} → Meaning D → BareDisks D → PumpState D → ScriptLine → Past → List Event → Result (Unit {0}) Stop → Type 0
-LineLeads m old t line p printed (Ok done) =
-    (q : Past) × LineStep old.row p line q printed × StandsIn m t q × LeavesFit m old (disks_in t) p q
-LineLeads m old t line p printed (Err (Device role faults)) =
-    (q : Past) × Breaks old.row p line role q printed
-    × (is_down_in t ≡ true) × Fails m (disks_in t) q role faults × LeavesFit m old (disks_in t) p q
-LineLeads m old t line p printed (Err Line) = ⊥
-LineLeads m old t line p printed (Err (Full end size_of_message size)) = ⊥
-LineLeads m old t line p printed (Err (Disk role why)) = ⊥
+-- the receiver of these parts attached at this moment, which printed this and led to these
+pub record Reattaches {D : Type 0} (m : Meaning D) (c d : Parts D) (moment : ℕ) (printed : List Event) (result : Result (Unit {0}) Stop) : Type 0 where
+  pub does : Does (Attaches c.row moment) (BreaksAttaching c.row moment) NeverOverfills m c d [] printed result
+  pub works : WorksOn m d result
+  pub serve : DisksServe m c d result
+  pub low : LeavesAlone roles.Low c d
+  pub recv : LeavesAlone roles.Recv c d
+  pub row : d.row ≡ c.row

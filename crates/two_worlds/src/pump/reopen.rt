@@ -1,12 +1,14 @@
 //! The receiver of a pump is opened again from its disk, and attaches.
 
-ghost use Rattle.std.specs.Prelude.{◌≡◌, ◌^◌, ◌≤◌};
+ghost use Rattle.std.specs.Prelude.{◌≡◌, ◌^◌, ◌≤◌, length};
 ghost use Rattle.script_reader.specs.declared.line.Line.TheVariants as lines;
 ghost use Rattle.script_reader.specs.Past.{Past};
 ghost use Rattle.two_worlds.specs.Printing.{lines_in};
 ghost use Rattle.two_worlds.specs.States.{disks_in, IsOpenWith, StandsIn};
 ghost use Rattle.two_worlds.specs.Working.{IsAble};
-ghost use Rattle.two_worlds.specs.Private.Reopening.{Reopens, ReopensOn, DisksReopen, LineLeads};
+ghost use Rattle.two_worlds.specs.Private.Reopening.{Reopens, Reattaches};
+ghost use Rattle.two_worlds.specs.Private.StateSteps.{StateApplies, StateAppliesOn};
+ghost use Rattle.two_worlds.specs.Rooms.{DisksGo};
 
 use crate::applied::Stop;
 use crate::pump::parts::Parts;
@@ -59,9 +61,9 @@ impl<D: Disk> Parts<D> {
 }
 
 impl<D: Disk> PumpState<D> {
-    /// As `Parts::reopened`.
+    // The receiver of a pump at work is opened again.
     fn reopened(self, _by: ()) -> (PumpState<D>, Result<(), Stop>)
-        requires able { IsOpenWith (λ c. IsAble D.told c) self }
+        requires able { IsOpenWith (IsAble D.told) self }
         ensures { IsOpenWith (λ c. Reopens D.told c result.0 result.1) self }
     {
         match self {
@@ -70,29 +72,46 @@ impl<D: Disk> PumpState<D> {
         }
     }
 
-    /// A `receiver-restart` line at this moment in microseconds, which is not below the last one and at
-    /// most 2^62: the receiver is opened again from its disk, and attaches to the high process. What it
-    /// prints is all that is in the list after it. `Stop::Device` says that the receiver's disk failed
-    /// in the opening, or the high disk in the removal of the message that the receiver has; after
-    /// `Stop::Disk`, which never comes over disks that tell what they hold, the pump is shut.
-    pub fn restart_receiver(
-        &mut self,
-        moment: u64,
-        out: &mut ArrayVec<EventHead, 4>,
-    ) -> Result<(), Stop>
-        requires able { IsOpenWith (λ c. IsAble D.told c) self.old }
+    // The receiver of a pump at work attaches to the high process.
+    fn attach(&mut self, moment: u64, out: &mut ArrayVec<EventHead, 4>) -> Result<(), Stop>
+        requires able { IsOpenWith (IsAble D.told) self.old }
         requires order { IsOpenWith (λ c. c.moment ≤ moment) self.old }
         requires moment { moment ≤ 2 ^ 62 }
-        ensures does { D.told.tells → (p : Past) → StandsIn D.told self.old p
-            → LineLeads D.told (disks_in self.old) self.new (lines.ReceiverRestart (disks_in self.old).row.id moment) p (lines_in out.new.items) result }
-        ensures on { ReopensOn D.told self.new result }
-        ensures serve { DisksReopen D.told (disks_in self.old) (disks_in self.new) result }
+        requires out { length out.old.items ≤ 0 }
+        ensures { IsOpenWith (λ c. IsOpenWith (λ d. Reattaches D.told c d moment (lines_in out.new.items) result) self.new) self.old }
     {
-        out.clear();
-        replace_with(self, (), PumpState::reopened)?;
         match self {
             PumpState::Open(parts) => parts.attach(moment, out),
             PumpState::Shut(_) => unreachable!(),
         }
+    }
+
+    /// A `receiver-restart` line: the receiver is opened again from its disk, and attaches to the high
+    /// process. `Stop::Device` says that the receiver's disk failed in the opening, and the pump is then
+    /// shut, or the high disk in the removal of a message that the receiver has. `Stop::Disk` never
+    /// comes where the disks tell what they hold.
+    pub fn restart_receiver(
+        &mut self,
+        session: u32,
+        moment: u64,
+        out: &mut ArrayVec<EventHead, 4>,
+    ) -> Option<Stop>
+        requires able { IsOpenWith (IsAble D.told) self.old }
+        requires moment { moment ≤ 2 ^ 62 }
+        ensures applies { D.told.tells → (p : Past) → StandsIn D.told self.old p
+            → StateApplies D.told self.old self.new (lines.ReceiverRestart session moment) p (lines_in out.new.items) result }
+        ensures on { StateAppliesOn D.told self.old self.new (lines.ReceiverRestart session moment) (lines_in out.new.items) result }
+        ensures serve { DisksGo D.told (disks_in self.old).row (disks_in self.old).low (disks_in self.old).high (disks_in self.old).recv
+            (disks_in self.new).low (disks_in self.new).high (disks_in self.new).recv result }
+        ensures row { (disks_in self.new).row ≡ (disks_in self.old).row }
+    {
+        out.clear();
+        if !self.is_due(session, moment) {
+            return Some(Stop::Line);
+        }
+        if let Err(stop) = replace_with(self, (), PumpState::reopened) {
+            return Some(stop);
+        }
+        self.attach(moment, out).err()
     }
 }

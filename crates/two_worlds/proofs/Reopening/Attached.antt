@@ -111,16 +111,15 @@ module _ {D : Type 0} (m : Meaning D) (c : Parts D) (new : Receiver D) (e : Part
   applied_from (Ok done) a p s first (q, more, (rest, attach, prints), is, stand, second) =
       (timely m c (Open e) session moment due p s, (q, (p, reopened p s.sound.rest, (rest, attach, is ∙ prints)), stand, fits (Ok done) a p q first second))
   applied_from (Err Line) a p s first does = absurd does
-  applied_from (Err (Device role faults)) a p s first (q, more, (high, unattached, prints), is, (down, fails), second) =
-      (
-        timely m c (Open e) session moment due p s,
-        (
-          q,
-          subst (λ (r : Role). Breaks c.row p (lines.ReceiverRestart session moment) r q printed) (sym high) (p, reopened p s.sound.rest, unattached, is ∙ prints),
-          (down, fails),
-          fits (Err (Device role faults)) a p q first second,
-        ),
-      )
+  applied_from (Err (Device role faults)) a p s first (q, more, (high, unattached, prints), is, (down, fails), second) = (
+    timely m c (Open e) session moment due p s,
+    (
+      q,
+      subst (λ (r : Role). Breaks c.row p (lines.ReceiverRestart session moment) r q printed) (sym high) (p, reopened p s.sound.rest, unattached, is ∙ prints),
+      (down, fails),
+      fits (Err (Device role faults)) a p q first second,
+    ),
+  )
   applied_from (Err (Full end k size)) a p s first (q, more, over, is, stand, second) = absurd over
   applied_from (Err (Disk role why)) a p s first does = absurd does
 

@@ -133,11 +133,14 @@ module _ {D : Type 0} (m : Meaning D) (c : Parts D) (new : Receiver D) where
     reopens able = record {
       from = λ told p s. (stands_again told p s, still_fits m c (recv_disk new) r.same p s);
       on = ∥∥₁_map able.works works_again;
-      serve = (refl, record {
-        low_goes = serves_alone m (low_size c.row) (low_disk c.low_store);
-        high_goes = serves_alone m 80 (high_disk c.high_store);
-        recv_goes = calls_serve m receiver_size (recv_disk c.receiver) (recv_disk new) false r.calls;
-        behind = behind_alone m c (recv_disk new) able.stands (recv_still_has m c (recv_disk new) r.same);
-      });
+      serve = (
+        refl,
+        record {
+          low_goes = serves_alone m (low_size c.row) (low_disk c.low_store);
+          high_goes = serves_alone m 80 (high_disk c.high_store);
+          recv_goes = calls_serve m receiver_size (recv_disk c.receiver) (recv_disk new) false r.calls;
+          behind = behind_alone m c (recv_disk new) able.stands (recv_still_has m c (recv_disk new) r.same);
+        },
+      );
       rest = refl;
     }

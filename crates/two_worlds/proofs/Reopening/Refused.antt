@@ -71,12 +71,15 @@ module _ {D : Type 0} (m : Meaning D) (c : Parts D) (recv : D) where
             still_fits m c recv r.same p s,
           );
           on = (refl, refl, counted);
-          serve = (refl, record {
-            low_goes = serves_alone m (low_size c.row) (low_disk c.low_store);
-            high_goes = serves_alone m 80 (high_disk c.high_store);
-            recv_goes = calls_serve m receiver_size (recv_disk c.receiver) recv true r.calls;
-            behind = behind_alone m c recv able.stands (recv_still_has m c recv r.same);
-          });
+          serve = (
+            refl,
+            record {
+              low_goes = serves_alone m (low_size c.row) (low_disk c.low_store);
+              high_goes = serves_alone m 80 (high_disk c.high_store);
+              recv_goes = calls_serve m receiver_size (recv_disk c.receiver) recv true r.calls;
+              behind = behind_alone m c recv able.stands (recv_still_has m c recv r.same);
+            },
+          );
           rest = refl;
         }
 
@@ -84,12 +87,15 @@ module _ {D : Type 0} (m : Meaning D) (c : Parts D) (recv : D) where
     other why fine r = record {
       from = λ told p s. (let never = sym (never_refused m c small told p s) ∙ r.cause fine told in absurd (cc));
       on = (refl, refl, fine);
-      serve = (refl, record {
-        low_goes = serves_alone m (low_size c.row) (low_disk c.low_store);
-        high_goes = serves_alone m 80 (high_disk c.high_store);
-        recv_goes = calls_serve m receiver_size (recv_disk c.receiver) recv false (subst (λ (b : Bool). Calls m (recv_disk c.receiver) recv b) fine r.calls);
-        behind = behind_alone m c recv able.stands (recv_still_has m c recv r.same);
-      });
+      serve = (
+        refl,
+        record {
+          low_goes = serves_alone m (low_size c.row) (low_disk c.low_store);
+          high_goes = serves_alone m 80 (high_disk c.high_store);
+          recv_goes = calls_serve m receiver_size (recv_disk c.receiver) recv false (subst (λ (b : Bool). Calls m (recv_disk c.receiver) recv b) fine r.calls);
+          behind = behind_alone m c recv able.stands (recv_still_has m c recv r.same);
+        },
+      );
       rest = refl;
     }
 

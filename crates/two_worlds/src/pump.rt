@@ -7,6 +7,7 @@ mod lines;
 mod low_look;
 mod open;
 mod parts;
+mod reopen;
 mod restart;
 mod state;
 #[cfg(test)]

@@ -1,38 +1,19 @@
 -- A line that was given to a pump.
-use Rattle.std.proofs.Common.{◌≡◌, true, false, List, [], Option, None, Some, Result, Ok, Err, refl, sym, ap, ◌∙◌, subst}
-use Rattle.std.specs.Prelude.{◌||◌, not}
+use Rattle.std.proofs.Common.{◌≡◌, List, [], Option, None, Some, Result, Ok, Err, sym, ap, subst}
 use Rattle.std.specs.Result.{result_err}
 use Rattle.disk_model.specs.Disk.{Meaning}
-use Rattle.disk_model.specs.declared.name.Role.TheVariants as roles
-use Rattle.std.proofs.Math.Logic.{∥∥₁_elim, ∥∥₁_map}
-use Rattle.pump_frame.specs.declared.row.RowKey.{RowKey}
-use Rattle.pump_frame.specs.Rows.{IsLawfulRow}
-use Rattle.pump_frame.specs.declared.row.SessionRow.{SessionRow}
 use Rattle.script_reader.specs.declared.event.Event.{Event}
 use Rattle.script_reader.specs.declared.line.Line.{Line as ScriptLine}
 use Rattle.script_reader.specs.Past.{Past}
-use Rattle.script_reader.specs.Steps.{is_timely, LineStep, IsRefusedWhole, Overfills}
+use Rattle.script_reader.specs.Steps.{LineStep, Overfills}
 use Rattle.script_reader.specs.Breaks.{Breaks}
-use Rattle.std.proofs.Props.{props}
 use Rattle.two_worlds.specs.declared.applied.Stop.{Stop}
 use Rattle.two_worlds.specs.declared.applied.Stop.TheVariants.{Line, Device, Full, Disk}
 use Rattle.two_worlds.specs.declared.pump.parts.Parts.{Parts}
-use Rattle.two_worlds.specs.declared.pump.Pump.{Pump}
 use Rattle.two_worlds.specs.declared.pump.state.PumpState.{PumpState}
 use Rattle.two_worlds.specs.declared.pump.state.PumpState.TheVariants.{Open}
-use Rattle.two_worlds.specs.Disks.{Hold}
-use Rattle.two_worlds.specs.Doing.{Fails, LeavesFit}
-use Rattle.two_worlds.specs.Keeping.{Keeps}
 use Rattle.two_worlds.specs.Private.StateSteps.{StateApplies, StateAppliesOn}
-use Rattle.two_worlds.specs.Private.LineSteps.{Attempts, AttemptsFrom, AttemptsOn, answer_of}
-use Rattle.two_worlds.specs.Standing.{Stands, StandsForSome, is_down, disk_at, bare_disk}
-use Rattle.two_worlds.specs.States.{disks_in, is_down_in, IsOpenWith, StandsIn}
-use Rattle.two_worlds.specs.Timely.{CanApply, CannotApply}
-use Rattle.two_worlds.specs.Working.{Works, IsTooLong}
-use Rattle.two_worlds.specs.LowPumps.{stops_at_disk}
-use Rattle.two_worlds.specs.Pumps.{Applies, AppliesOn, GoesOnTimed}
-use Rattle.two_worlds.proofs.Opening.Working.{works_of}
-use Rattle.two_worlds.proofs.Timeline.Scripts.{line_goes}
+use Rattle.two_worlds.specs.Private.LineSteps.{AttemptsFrom, AttemptsOn, answer_of}
 
 -- the answer is the one of its reason to stop
 pub answer_is : (answer : Result (Unit {0}) Stop) (stop : Option Stop) → stop ≡ result_err answer → answer ≡ answer_of stop

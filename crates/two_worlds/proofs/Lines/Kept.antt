@@ -1,5 +1,5 @@
 -- What a pump keeps over a line, and the line in the words of a pump.
-use Rattle.std.proofs.Common.{◌≡◌, true, false, List, Option, None, Some, refl, sym, ap, ◌∙◌, subst}
+use Rattle.std.proofs.Common.{◌≡◌, false, List, Option, None, Some, refl, sym, ap, ◌∙◌, subst}
 use Rattle.std.specs.Prelude.{◌||◌, not}
 use Rattle.std.proofs.Math.Logic.{∥∥₁_elim, ∥∥₁_map}
 use Rattle.std.proofs.Props.{props}
@@ -20,7 +20,7 @@ use Rattle.two_worlds.specs.Keeping.{Keeps}
 use Rattle.two_worlds.specs.LowPumps.{stops_at_disk}
 use Rattle.two_worlds.specs.Private.StateSteps.{StateApplies, StateAppliesOn}
 use Rattle.two_worlds.specs.Pumps.{Applies, AppliesOn}
-use Rattle.two_worlds.specs.Standing.{Stands, StandsForSome, is_down}
+use Rattle.two_worlds.specs.Standing.{Stands, is_down}
 use Rattle.two_worlds.specs.States.{disks_in, is_down_in, IsOpenWith, StandsIn}
 use Rattle.two_worlds.specs.Working.{Works, IsAble, IsTooLong}
 use Rattle.two_worlds.proofs.Opening.Working.{works_of}

@@ -1,7 +1,6 @@
 -- A `restart` line, from what became of the state.
-use Rattle.std.proofs.Common.{◌≡◌, ◌⊎◌, ⊎_elim, ℕ, Bool, true, false, List, [], ◌∷◌, Option, Some, None, Result, Ok, Err, refl, sym, ap, ◌∙◌, subst, inl, inr}
+use Rattle.std.proofs.Common.{◌≡◌, ◌⊎◌, ⊎_elim, ℕ, true, List, [], ◌∷◌, Some, None, Ok, Err, refl, sym, ap, ◌∙◌, subst, inl}
 use Rattle.std.specs.Prelude.{◌==◌, ◌&&◌, nat_le}
-use Rattle.std.proofs.Math.Logic.{∥∥₁_elim}
 use Rattle.disk_model.specs.Disk.{Meaning}
 use Rattle.disk_model.specs.declared.name.Role.{Role}
 use Rattle.disk_model.specs.declared.name.Role.TheVariants as roles
@@ -17,12 +16,10 @@ use Rattle.two_worlds.specs.declared.applied.Stop.{Stop}
 use Rattle.two_worlds.specs.declared.applied.Stop.TheVariants.{Line, Device, Full, Disk}
 use Rattle.two_worlds.specs.declared.pump.state.PumpState.{PumpState}
 use Rattle.two_worlds.specs.declared.pump.state.PumpState.TheVariants.{Open, Shut}
-use Rattle.two_worlds.specs.Disks.{RemovesBehind}
-use Rattle.two_worlds.specs.Private.Restarting.{is_due_in, RestartsFrom, RestartsOn}
-use Rattle.two_worlds.specs.Private.StateSteps.{StateApplies, StateAppliesOn}
+use Rattle.two_worlds.specs.Private.Restarting.{is_due_in, RestartsFrom}
+use Rattle.two_worlds.specs.Private.StateSteps.{StateApplies}
 use Rattle.two_worlds.specs.Rooms.{DisksGo}
 use Rattle.two_worlds.specs.States.{disks_in, IsOpenWith, StandsIn}
-use Rattle.two_worlds.specs.Timely.{CanApply}
 use Rattle.two_worlds.specs.Working.{IsAble}
 use Rattle.two_worlds.proofs.Disks.Together.{still_behind}
 

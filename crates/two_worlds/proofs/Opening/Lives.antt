@@ -1,9 +1,7 @@
 -- Parts that have just been opened stand for the session that begins on what was found, or for the one
 -- that begins again.
-use Rattle.std.proofs.Common.{◌≡◌, ℕ, ◌≤◌, false, List, [], length, drop, Some, None, refl, sym, ap, ◌∙◌, subst, arith}
+use Rattle.std.proofs.Common.{◌≡◌, ℕ, ◌≤◌, false, List, length, drop, Some, None, refl, sym, ap, ◌∙◌, subst}
 use Rattle.std.specs.List.{All}
-use Rattle.std.proofs.lemmas.List.{drop_all}
-use Rattle.circular_buffer.specs.Buffer.{keep_last}
 use Rattle.disk_model.specs.Disk.{Meaning}
 use Rattle.pump_frame.specs.declared.row.SessionRow.{SessionRow}
 use Rattle.stable_buffer.specs.Low.{low_disk}
@@ -12,14 +10,12 @@ use Rattle.stable_buffer.specs.Stands.{LowStands, HighStands}
 use Rattle.stable_buffer.specs.Log.{RecvStands}
 use Rattle.high_receiver.specs.Receiving.{recv_disk}
 use Rattle.pump_core.specs.declared.event.Event.TheVariants.{Crash}
-use Rattle.pump_core.specs.History.{first_life, reopened}
-use Rattle.pump_core.specs.Events.{Opened, pump_crashed}
-use Rattle.pump_core.specs.World as worlds
-use Rattle.pump_core.specs.World.{World, last_taken}
-use Rattle.pump_core.proofs.Laws.{begins_lawful, stays_lawful}
+use Rattle.pump_core.specs.History.{reopened}
+use Rattle.pump_core.specs.Events.{pump_crashed}
+use Rattle.pump_core.specs.World.{World}
+use Rattle.pump_core.proofs.Laws.{stays_lawful}
 use Rattle.script_reader.specs.Past.{Past}
-use Rattle.script_reader.specs.Openings.{Found, accepted_in, first_past, restarted}
-use Rattle.script_reader.proofs.Opened.{row_capacity}
+use Rattle.script_reader.specs.Openings.{restarted}
 use Rattle.two_worlds.specs.declared.pump.parts.Parts.{Parts}
 use Rattle.two_worlds.specs.Standing.{Stands}
 use Rattle.two_worlds.specs.Private.Opened.{AreOpened}

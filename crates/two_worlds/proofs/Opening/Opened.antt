@@ -1,6 +1,6 @@
 -- Parts that have just been opened stand for a session that begins, or begins again, in the world that
 -- their disks stand for.
-use Rattle.std.proofs.Common.{◌≡◌, inl, ℕ, zero, suc, ◌+◌, ◌-◌, ◌^◌, ◌≤◌, ◌<◌, ◌==◌, Bool, true, false, List, [], ◌∷◌, length, map, take, drop, slice_get, Option, Some, None, refl, sym, ap, ◌∙◌, subst, arith, length-drop}
+use Rattle.std.proofs.Common.{◌≡◌, inl, ℕ, zero, suc, ◌+◌, ◌-◌, ◌≤◌, ◌==◌, Bool, true, false, List, [], ◌∷◌, length, map, take, drop, slice_get, Option, Some, None, refl, sym, ap, ◌∙◌, subst, arith, length-drop}
 use Rattle.std.specs.Prelude.{is_some, if◌then◌else◌}
 use Rattle.std.specs.List.{All, AllByRecursion}
 use Rattle.std.specs.Cmp.{both_ways}
@@ -11,45 +11,43 @@ use Rattle.circular_buffer.specs.Buffer.{keep_last}
 use Rattle.circular_buffer.proofs.Places.{slice_get-drop}
 use Rattle.disk_model.specs.Disk.{Meaning}
 use Rattle.disk_model.proofs.Run.{each_settled}
-use Rattle.pump_frame.specs.Rows.{IsLawfulRow}
 use Rattle.pump_frame.specs.Readings.{Within}
 use Rattle.pump_frame.specs.declared.payload.Payload.{Payload}
 use Rattle.pump_frame.specs.declared.row.SessionRow.{SessionRow}
 use Rattle.pump_frame.specs.declared.frame.Item.{Item}
-use Rattle.stable_buffer.specs.Low.{IsLowReady, low_disk, low_count, low_row}
-use Rattle.stable_buffer.specs.High.{IsHighReady, high_disk, high_count}
+use Rattle.stable_buffer.specs.Low.{low_disk, low_count}
+use Rattle.stable_buffer.specs.High.{high_disk, high_count}
 use Rattle.stable_buffer.specs.Stands.{LowStands, HighStands}
 use Rattle.stable_buffer.specs.Log.{RecvStands, Records, log_of}
 use Rattle.stable_buffer.specs.Register.{value_of, Selects, cell_at, place_of}
-use Rattle.high_receiver.specs.Receiving.{IsRecvReady, recv_disk, recv_count, recv_end, recv_row, recv_size}
+use Rattle.high_receiver.specs.Receiving.{recv_disk, recv_count, recv_end}
 use Rattle.pump_core.specs.History.{History, Opening}
-use Rattle.pump_core.specs.Passage.{Low, new_low, new_high, shape_of_row, ComesNext}
+use Rattle.pump_core.specs.Passage.{new_low, new_high, ComesNext}
 use Rattle.pump_core.specs.Standing.{KeepsExchanges}
 use Rattle.pump_core.specs.Timed.{opening_in}
 use Rattle.pump_core.specs.World.{World, refilled, live}
 use Rattle.pump_core.specs.Lawful.{IsLawful}
-use Rattle.passage.specs.Plain.{held_in, shape_of, StandsFor as EndsStand}
+use Rattle.passage.specs.Plain.{held_in}
 use Rattle.low_process.specs.Looks as low
 use Rattle.low_process.specs.Ends as low_ends
 use Rattle.low_process.specs.declared.process.LowProcess.{LowProcess}
 use Rattle.high_process.specs.States as high
 use Rattle.high_process.specs.Past as high_past
 use Rattle.high_process.specs.Looks.{StandsFor as HighStandsFor}
-use Rattle.recovery.specs.Deals.{number_of, numbered, passing, InHands, HandsFit, IsDealt}
+use Rattle.recovery.specs.Deals.{number_of, numbered, passing, InHands, HandsFit}
 use Rattle.recovery.specs.Refills.{numbers_in, AreRefilled}
 use Rattle.recovery.proofs.Readings.{low_tells}
 use Rattle.recovery.proofs.Refill.{refills, hands_fit, passing_next, all_dealt_out}
 use Rattle.script_reader.proofs.Opened.{row_capacity}
 use Rattle.script_reader.specs.Past.{Past}
-use Rattle.script_reader.specs.Highs.{log_end, receiver_size}
+use Rattle.script_reader.specs.Highs.{log_end}
 use Rattle.two_worlds.specs.declared.pump.parts.Parts.{Parts}
 use Rattle.two_worlds.specs.Answered.{HasAnswered}
-use Rattle.two_worlds.specs.Connections.{Connected, unused, waits_of, is_broken_of, reading_of}
+use Rattle.two_worlds.specs.Connections.{Connected, waits_of, is_broken_of, reading_of}
 use Rattle.two_worlds.specs.Disks.{LowFits, HighFits, RecvFits, live_messages}
 use Rattle.two_worlds.specs.Standing.{Stands, HoldsWorld, EndsAreReady, IsAccepted, IsAcceptedHand, kept_of}
 use Rattle.two_worlds.specs.Working.{Works, IsShort, IsShortHand, IsPacket}
 use Rattle.two_worlds.specs.Private.Opened.{AreOpened}
-use Rattle.two_worlds.specs.Timelines.{IsAtRest}
 
 -- ---- the messages that are dealt out ----
 

@@ -1,5 +1,5 @@
 -- Both processes of a pump are opened again, over the disks that they had.
-use Rattle.std.proofs.Common.{◌≡◌, ◌⊎◌, inl, inr, ⊎_elim, ℕ, ◌+◌, ◌-◌, ◌^◌, ◌≤◌, ◌<◌, ◌==◌, ◌&&◌, Bool, true, false, List, length, Option, Some, None, Result, Ok, Err, refl, sym, ap, ◌∙◌, subst, arith}
+use Rattle.std.proofs.Common.{◌≡◌, ◌⊎◌, inl, inr, ⊎_elim, ℕ, ◌+◌, ◌-◌, ◌^◌, ◌≤◌, ◌<◌, ◌==◌, ◌&&◌, Bool, true, false, List, Option, Some, None, Ok, Err, refl, sym, ap, ◌∙◌, subst, arith}
 use Rattle.std.specs.Prelude.{if◌then◌else◌, is_some}
 use Rattle.std.specs.Coded.{le_prop}
 use Rattle.std.proofs.Math.Logic.{∥∥₁_elim}
@@ -8,7 +8,6 @@ use Rattle.disk_model.specs.Disk.{Meaning, Each, Leaves, Moves, Same, Answers}
 use Rattle.disk_model.specs.declared.name.Role.{Role}
 use Rattle.disk_model.specs.declared.name.Role.TheVariants as roles
 use Rattle.disk_model.proofs.Run.{each_after, leaves}
-use Rattle.pump_frame.specs.Rows.{IsLawfulRow}
 use Rattle.pump_frame.specs.declared.frame.Item.{Item}
 use Rattle.pump_frame.specs.declared.row.SessionRow.{SessionRow}
 use Rattle.stable_buffer.specs.Low.{low_disk}
@@ -17,7 +16,6 @@ use Rattle.stable_buffer.specs.Register.{value_of}
 use Rattle.stable_buffer.specs.Stands.{low_size}
 use Rattle.high_receiver.specs.Receiving.{recv_disk}
 use Rattle.high_receiver.specs.declared.receiver.Receiver.{Receiver}
-use Rattle.pump_core.specs.World.{World}
 use Rattle.low_process.specs.Looks as low
 use Rattle.low_process.specs.Storing.{outcome}
 use Rattle.recovery.specs.Calls.{Calls, CallsHigh, is_low, is_high, is_device}
@@ -30,8 +28,7 @@ use Rattle.recovery.proofs.Triples.{each_world}
 use Rattle.script_reader.specs.declared.event.EventHead.{EventHead}
 use Rattle.script_reader.specs.Past.{Past}
 use Rattle.script_reader.specs.Highs.{receiver_size}
-use Rattle.two_worlds.specs.declared.applied.Stop.{Stop}
-use Rattle.two_worlds.specs.declared.applied.Stop.TheVariants.{Line, Device, Full, Disk}
+use Rattle.two_worlds.specs.declared.applied.Stop.TheVariants.{Device, Disk}
 use Rattle.two_worlds.specs.declared.pump.parts.Parts.{Parts}
 use Rattle.two_worlds.specs.declared.pump.state.BareDisks.{BareDisks}
 use Rattle.two_worlds.specs.declared.pump.state.PumpState.TheVariants.{Shut}
@@ -40,7 +37,7 @@ use Rattle.two_worlds.specs.Doing.{Fails, LeavesFit}
 use Rattle.two_worlds.specs.Private.Restarting.{stop_for, RestartsFrom, RestartsOn, DisksRestart}
 use Rattle.two_worlds.specs.Rooms.{Serves, stops_at}
 use Rattle.two_worlds.specs.Standing.{Stands, StandsForSome, bare_of, bare_disk}
-use Rattle.two_worlds.proofs.Carry.Serves.{HasTaken, recv_has, high_has}
+use Rattle.two_worlds.proofs.Carry.Serves.{recv_has, high_has}
 use Rattle.two_worlds.proofs.Disks.Images.{recv_alone}
 use Rattle.two_worlds.proofs.Disks.LeavesWorld.{fits_row}
 use Rattle.two_worlds.proofs.Opening.Opened.{received_end}

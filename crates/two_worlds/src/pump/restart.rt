@@ -26,7 +26,7 @@ use recovery::{Why, open_pump};
 use script_reader::EventHead;
 
 /// The reason to stop where this disk is refused.
-fn stop_for(role: Role, why: Why) -> Stop
+pub fn stop_for(role: Role, why: Why) -> Stop
     ensures { result ≡ stop_for role why }
 {
     match why {
@@ -114,7 +114,7 @@ impl<D: Disk> PumpState<D> {
     }
 
     /// Whether the disks of this session can be opened again at this moment.
-    fn is_due(&self, session: u32, moment: u64) -> bool
+    pub fn is_due(&self, session: u32, moment: u64) -> bool
         requires open { IsOpenWith (IsAble D.told) self.now }
         ensures { result ≡ is_due_in self.now session moment }
     {
@@ -151,23 +151,5 @@ impl<D: Disk> PumpState<D> {
             }
             Err(stop) => Some(stop),
         }
-    }
-
-    /// A `receiver-restart` line: INTERIM.
-    pub fn restart_receiver(
-        &mut self,
-        session: u32,
-        moment: u64,
-        out: &mut ArrayVec<EventHead, 4>,
-    ) -> Option<Stop>
-        requires never { ⊥ }
-        ensures applies { D.told.tells → (p : Past) → StandsIn D.told self.old p
-            → StateApplies D.told self.old self.new (lines.ReceiverRestart session moment) p (lines_in out.new.items) result }
-        ensures on { StateAppliesOn D.told self.old self.new (lines.ReceiverRestart session moment) (lines_in out.new.items) result }
-        ensures serve { DisksGo D.told (disks_in self.old).row (disks_in self.old).low (disks_in self.old).high (disks_in self.old).recv
-            (disks_in self.new).low (disks_in self.new).high (disks_in self.new).recv result }
-        ensures row { (disks_in self.new).row ≡ (disks_in self.old).row }
-    {
-        unreachable!()
     }
 }

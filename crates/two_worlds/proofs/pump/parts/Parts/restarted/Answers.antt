@@ -1,7 +1,5 @@
 use Rattle.std.proofs.Common.{◌≡◌, ℕ, ◌<◌, ◌^◌, Option, Some, Err, false, [], ◌∷◌, refl, sym, ap, ◌∙◌, subst, arith}
 use Rattle.std.specs.Prelude.{is_some, ◌&&◌}
-use Rattle.std.specs.List.{All}
-use Rattle.std.specs.Coded.{le_prop}
 use Rattle.std.proofs.Math.Logic.{∥∥₁_map, ∥∥₁_elim}
 use Rattle.std.proofs.Props.{props}
 use Rattle.pump_frame.specs.Rows.{first_bad}
@@ -15,7 +13,7 @@ use Rattle.recovery.specs.Refusals.{refused_pump}
 use Rattle.stable_buffer.specs.Stands.{LowStands}
 use Rattle.pump_core.specs.Events.{pump_crashed}
 use Rattle.pump_core.specs.History.{History, Opening, first_life, reopened}
-use Rattle.pump_core.specs.Passage.{new_low, new_high, shape_of_row}
+use Rattle.pump_core.specs.Passage.{new_low, new_high}
 use Rattle.pump_core.specs.Standing.{KeepsExchanges}
 use Rattle.passage.specs.Plain.{StandsFor as EndsStand}
 use Rattle.low_process.specs.Looks as low

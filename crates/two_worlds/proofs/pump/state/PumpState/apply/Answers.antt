@@ -1,9 +1,9 @@
-use Rattle.std.proofs.Common.{refl, sym, ap, ◌∙◌, subst}
+use Rattle.std.proofs.Common.{refl, sym, ap, subst}
 use Rattle.script_reader.specs.Heads.{line_with}
 use Rattle.script_reader.specs.declared.line.Line.{Line}
 use Rattle.two_worlds.specs.declared.pump.state.PumpState.{PumpState}
 use Rattle.two_worlds.specs.Printing.{lines_in}
-use Rattle.two_worlds.specs.Private.StateSteps.{StateApplies, StateAppliesOn}
+use Rattle.two_worlds.specs.Private.StateSteps.{StateApplies}
 use Rattle.two_worlds.specs.States.{StandsIn}
 use Rattle.two_worlds.proofs.Lines.Applied.{applied, applied_on}
 use Rattle.two_worlds.proofs.pump.state.PumpState.apply.Goals as goal

@@ -1,6 +1,7 @@
 -- New parts, and what parts that work have ready.
 pub mod Ends
 pub mod Formatted
+pub mod Opened
 pub mod Ready
 pub mod RowRanges
 pub mod Starts

@@ -25,6 +25,7 @@ use Rattle.high_process.specs.States as high
 use Rattle.high_process.specs.Past as high_past
 use Rattle.high_process.specs.Looks.{StandsFor as HighStandsFor}
 use Rattle.high_process.specs.Ends as high_ends
+pub use Rattle.recovery.specs.Deals.{number_of}
 use Rattle.script_reader.specs.Past.{Past}
 use Rattle.script_reader.specs.Highs.{log_end, receiver_size}
 use Rattle.two_worlds.specs.Connections.{waits_of, is_broken_of, reading_of}
@@ -33,10 +34,6 @@ use Rattle.two_worlds.specs.Timelines.{IsAtRest}
 use Rattle.two_worlds.specs.declared.pump.parts.Parts.{Parts}
 
 -- ---- the world ----
-
-abbrev pub number_of : Option Item → Option ℕ
-number_of None = None
-number_of (Some item) = Some item.number
 
 -- the item has the payload of the accepted message of its number
 abbrev pub IsAccepted : List Payload → Item → Type 0

@@ -1,3 +1,4 @@
+pub mod Answered
 pub mod Arriving
 pub mod Carry
 pub mod Disks

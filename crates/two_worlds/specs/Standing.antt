@@ -32,6 +32,7 @@ use Rattle.two_worlds.specs.Connections.{waits_of, is_broken_of, reading_of}
 use Rattle.two_worlds.specs.Disks.{DisksFit}
 use Rattle.two_worlds.specs.Timelines.{IsAtRest}
 use Rattle.two_worlds.specs.declared.pump.parts.Parts.{Parts}
+use Rattle.two_worlds.specs.declared.pump.state.BareDisks.{BareDisks}
 
 -- ---- the world ----
 
@@ -180,7 +181,14 @@ StandsForSome m c = (p : Past) × Stands m c p
 abbrev pub is_down : {D : Type 0} → Parts D → Bool
 is_down c = low.is_down c.low || high.is_down c.high || not (recv_is_open c.receiver)
 
+-- the disks of the parts, bare
+abbrev pub bare_of : {D : Type 0} → Parts D → BareDisks D
+bare_of c = record { row = c.row; low = low_disk c.low_store; high = high_disk c.high_store; recv = recv_disk c.receiver }
+
+abbrev pub bare_disk : {D : Type 0} → Role → BareDisks D → D
+bare_disk roles.Low d = d.low
+bare_disk roles.High d = d.high
+bare_disk roles.Recv d = d.recv
+
 abbrev pub disk_at : {D : Type 0} → Role → Parts D → D
-disk_at roles.Low c = low_disk c.low_store
-disk_at roles.High c = high_disk c.high_store
-disk_at roles.Recv c = recv_disk c.receiver
+disk_at role c = bare_disk role (bare_of c)

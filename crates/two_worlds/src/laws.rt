@@ -2,6 +2,7 @@
 //! whose contract is the law; calling it does nothing.
 
 ghost use Rattle.two_worlds.specs.Laws.{EventsAreCertain, EveryWorldIsLawful, ForgedWorldsAreBounded, TimedWorldsAreLawful, RunsHaveReplies, PairsAgree, AcknowledgedIsAccepted, ThinnedHistoriesAgree, AcceptedOutlives, AcknowledgedOutlives};
+ghost use Rattle.two_worlds.specs.Answered.{EveryWorldHasAnswered, SessionsKeepAnswers};
 ghost use Rattle.two_worlds.specs.Timelines.{LinesAreSteps, ScriptsAreTimedRuns};
 ghost use Rattle.two_worlds.specs.TimelinesAlone.{LowLinesAreEvents, LowScriptsAreTimed};
 
@@ -20,6 +21,18 @@ pub fn every_world_is_lawful()
 /// Whatever comes back to it, forged or not, the pump keeps its bounds.
 pub fn forged_worlds_are_bounded()
     ensures { ForgedWorldsAreBounded }
+{}
+
+/// Whatever happens, the receiver has answered the last message that it took: that TAKEN was sent, since
+/// the session began or before.
+pub fn every_world_has_answered()
+    ensures { EveryWorldHasAnswered }
+{}
+
+/// So it has in each session of a script, with restarts of the processes and of the receiver, whatever
+/// its disks were found to hold.
+pub fn sessions_keep_answers()
+    ensures { SessionsKeepAnswers }
 {}
 
 /// The world to which a timed run comes is lawful.

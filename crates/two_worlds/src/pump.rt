@@ -1,13 +1,13 @@
 //! The whole pump of a session over three disks, on one thread.
 
 mod carry;
-mod close;
 mod formatted;
 mod high_look;
 mod lines;
 mod low_look;
 mod open;
 mod parts;
+mod state;
 #[cfg(test)]
 mod tests;
 
@@ -19,15 +19,16 @@ use disk_model::Disk;
 use parts::Parts;
 use pump_frame::SessionRow;
 use script_reader::{EventHead, Line, LineHead};
+use state::PumpState;
 use std::alloc::Global;
 
 /// A whole session: its processes, its passage, its receiver, over three disks.
 #[derive(Drop)]
 pub struct Pump<D: Disk> {
-    parts: Parts<D>,
-    // Until a call of a disk fails the parts work. What is read of disks that tell what they hold, and
-    // what a crash leaves of them, is a lawful world's, for which the parts stand until then.
-    ghost keeps: { ∥ Keeps D.told parts ∥₁ },
+    state: PumpState<D>,
+    // Until it is down its parts work. What is read of disks that tell what they hold, and what a crash
+    // leaves of them, is a lawful world's, for which the parts stand until then.
+    ghost keeps: { ∥ Keeps D.told state ∥₁ },
 }
 
 ghost use Rattle.two_worlds.specs.Keeping.{Keeps};
@@ -68,7 +69,9 @@ impl<D: Disk> Pump<D> {
         ensures never { D.told.tells_plan → HasRoom D.told row.now low high recv → IfErr result (λ e. e.why ≡ None) }
     {
         let parts = Parts::fresh(alloc, row, low, high, recv)?;
-        Ok(Pump { parts })
+        Ok(Pump {
+            state: PumpState::Open(parts),
+        })
     }
 
     /// A line of the script: what it prints, and whether it stops the session. Until a call of a disk
@@ -111,19 +114,25 @@ impl<D: Disk> Pump<D> {
         ensures down { is_down self.new ≡ is_device result }
         ensures row { row_of self.new ≡ row_of self.old }
     {
-        self.parts.apply(line, bytes, events)
+        match &mut self.state {
+            PumpState::Open(parts) => parts.apply(line, bytes, events),
+            PumpState::Shut(_) => unreachable!(),
+        }
     }
 
-    /// How many messages were accepted, removed, and taken by the receiver.
+    /// How many messages were accepted, removed, and taken by the receiver; 0 of a pump that is shut.
     pub fn counts(&self) -> (u64, u64, u64)
         ensures { (p : Past) → StandsFor D.told self.now p
             → result ≡ (length p.world.accepted, p.world.removed, length p.world.received) }
     {
-        (
-            self.parts.low.next(),
-            self.parts.high.removed(),
-            self.parts.receiver.count(),
-        )
+        match &self.state {
+            PumpState::Open(parts) => (
+                parts.low.next(),
+                parts.high.removed(),
+                parts.receiver.count(),
+            ),
+            PumpState::Shut(_) => (0, 0, 0),
+        }
     }
 
     /// The low, the high and the receiver's disk, with no further call. What is read of them stands for
@@ -137,6 +146,7 @@ impl<D: Disk> Pump<D> {
         ensures open { CrashesOpen D.told (row_of self) result.0 result.1 result.2 }
         ensures read { D.told.tells → Opens (row_of self) (D.told.reading result.0) (D.told.reading result.1) (D.told.reading result.2) }
     {
-        self.parts.close()
+        let disks = self.state.into_disks();
+        (disks.low, disks.high, disks.recv)
     }
 }

@@ -32,7 +32,7 @@ use Rattle.two_worlds.specs.Working.{Works}
 use Rattle.two_worlds.specs.Timelines.{IsAtRest}
 use Rattle.stable_buffer.specs.Stands.{HighStands}
 use Rattle.two_worlds.specs.Disks.{LowFits, HighFits, RecvFits, DisksFit}
-use Rattle.two_worlds.specs.Doing.{LeavesFit}
+use Rattle.two_worlds.specs.Doing.{PartsLeaveFit}
 use Rattle.two_worlds.specs.Private.HighLooks.{ComesBack, LeadsWith, most_lines, removed_line, sent_line, printed_look}
 use Rattle.two_worlds.specs.declared.pump.parts.Parts.{Parts}
 use Rattle.two_worlds.proofs.Disks.Images.{low_alone, recv_alone, all_alone, high_leaves}
@@ -94,14 +94,14 @@ module _ {D : Type 0} (m : Meaning D) (c : Parts D) (p : Past) (stands : Stands 
     pub leads : LeadsWith c.row moment back p end printed
     pub printed_is : printed ≡ printed_look c.row.id moment look
     pub stand : Stands m (looked_parts m c moment q store ends look.sent) end
-    pub fits : LeavesFit m c (looked_parts m c moment q store ends look.sent) p end
+    pub fits : PartsLeaveFit m c (looked_parts m c moment q store ends look.sent) p end
 
   -- .. in the words of a part of a line
   pub led : (back : Option ℕ) (look : HighLook) → Leads back look → (out now : List Event) → now ≡ out ++ printed_look c.row.id moment look
       → (d : Parts D) → d ≡ looked_parts m c moment q store ends look.sent
-      → (end : Past) × (printed : List Event) × LeadsWith c.row moment back p end printed × (now ≡ out ++ printed) × Stands m d end × LeavesFit m c d p end
+      → (end : Past) × (printed : List Event) × LeadsWith c.row moment back p end printed × (now ≡ out ++ printed) × Stands m d end × PartsLeaveFit m c d p end
   led back look l out now told d is =
-      (l.end, l.printed, l.leads, told ∙ ap (λ (more : List Event). out ++ more) (sym l.printed_is), subst (λ (e : Parts D). Stands m e l.end) (sym is) l.stand, subst (λ (e : Parts D). LeavesFit m c e p l.end) (sym is) l.fits)
+      (l.end, l.printed, l.leads, told ∙ ap (λ (more : List Event). out ++ more) (sym l.printed_is), subst (λ (e : Parts D). Stands m e l.end) (sym is) l.stand, subst (λ (e : Parts D). PartsLeaveFit m c e p l.end) (sym is) l.fits)
 
   abbrev past : high_past.ProcessPast
   past = high_past_of c p

@@ -17,7 +17,7 @@ use Rattle.script_reader.specs.Breaks.{IsUntaken, IsUnremoved, BreaksOff}
 use Rattle.two_worlds.specs.declared.applied.Stop.{Stop}
 use Rattle.two_worlds.specs.declared.applied.Stop.TheVariants.{Line, Device, Full}
 use Rattle.two_worlds.specs.declared.pump.parts.Parts.{Parts}
-use Rattle.two_worlds.specs.Doing.{Does, LeavesFit, LeavesAlone, NeverBreaks, NeverOverfills}
+use Rattle.two_worlds.specs.Doing.{Does, PartsLeaveFit, LeavesAlone, NeverBreaks, NeverOverfills}
 use Rattle.two_worlds.specs.Standing.{Stands, number_of}
 use Rattle.two_worlds.specs.Private.LineSteps.{IsOverfullSent, Runs}
 use Rattle.two_worlds.proofs.Disks.Images.{Reads, stands_reads, fails_reads, both_fit, later_fits}
@@ -76,7 +76,7 @@ module _ {D : Type 0} (m : Meaning D) (c d : Parts D) (moment : ℕ) (out now : 
     pub recv_after : LeavesAlone roles.Recv e d
     pub row_after : d.row ≡ e.row
 
-  both : (e : Parts D) (p mid q : Past) → Between e → Stands m c p → Stands m e mid → Reads m d q → LeavesFit m c e p mid → LeavesFit m e d mid q → LeavesFit m c d p q
+  both : (e : Parts D) (p mid q : Past) → Between e → Stands m c p → Stands m e mid → Reads m d q → PartsLeaveFit m c e p mid → PartsLeaveFit m e d mid q → PartsLeaveFit m c d p q
   both e p mid q b s s' reads first second = both_fit m c e d p mid q s s' b.row (b.low_after ∙ b.low) b.high b.recv_after b.row_after reads first second
 
   -- the TAKEN comes back
@@ -126,7 +126,7 @@ module _ {D : Type 0} (m : Meaning D) (c d : Parts D) (moment time : ℕ) (out n
     pub row : e.row ≡ c.row
     pub low_after : LeavesAlone roles.Low e d
 
-  later : (e : Parts D) (p mid q : Past) → Before e → Stands m c p → Stands m e mid → LeavesFit m e d mid q → LeavesFit m c d p q
+  later : (e : Parts D) (p mid q : Past) → Before e → Stands m c p → Stands m e mid → PartsLeaveFit m e d mid q → PartsLeaveFit m c d p q
   later e p mid q b s s' fits = later_fits m c e d p mid q s s' b.row (b.low_after ∙ b.low) b.high b.recv fits
 
   -- its message goes on

@@ -63,7 +63,7 @@ refused_alone s (lines.Done session moment time) some h = h
 
 module _ (id : ℕ) (p t : _) (line : Line) (some : line ≢ lines.Skip) (printed : List Event) (s : Running) (id_is : id ≡ s.row.id) (row : pump.row_of p ≡ s.row) (same : pump.row_of t ≡ pump.row_of p)
     (room : IsRoomy (sessions.Whole id t)) where
-  whole_does : (stop : Option Stop) → pump.is_down t ≡ low_pump.is_device stop → ((role : Role) (count : ℕ) → stop ≡ Some (stops.Device role count) → ⊥) → pump.Applies plain_meaning p t line s.past printed stop
+  whole_does : (stop : Option Stop) → pump.is_down t ≡ low_pump.stops_at_disk stop → ((role : Role) (count : ℕ) → stop ≡ Some (stops.Device role count) → ⊥) → pump.Applies plain_meaning p t line s.past printed stop
       → SessionApplies (Whole s) line (sessions.Whole id t) printed stop
   whole_does None down fine h =
       let timely : is_timely s.row s.past line ≡ true = subst (λ (r : SessionRow). is_timely r s.past line ≡ true) row h.0 in
@@ -86,7 +86,7 @@ module _ (id : ℕ) (p t : _) (line : Line) (some : line ≢ lines.Skip) (printe
 pub whole_applies : (before : Session) (id : ℕ) (p t : _) (line : Line) (printed : List Event) (stop : Option Stop) → before ≡ sessions.Whole id p → line ≢ lines.Skip
     → ((q : Past) → pump.StandsFor plain_meaning p q → pump.Applies plain_meaning p t line q printed stop)
     → DisksGo plain_meaning (pump.row_of p) (pump.disk_at roles.Low p) (pump.disk_at roles.High p) (pump.disk_at roles.Recv p) (pump.disk_at roles.Low t) (pump.disk_at roles.High t) (pump.disk_at roles.Recv t) stop
-    → pump.is_down t ≡ low_pump.is_device stop → pump.row_of t ≡ pump.row_of p → (running : Begun) → StandsFor before running → SessionApplies running line (sessions.Whole id t) printed stop
+    → pump.is_down t ≡ low_pump.stops_at_disk stop → pump.row_of t ≡ pump.row_of p → (running : Begun) → StandsFor before running → SessionApplies running line (sessions.Whole id t) printed stop
 whole_applies before id p t line printed stop is some applies goes down same running h = whole_runs running (subst (λ (s : Session). StandsFor s running) is h)
   where
     roomy : IsRoomy (sessions.Whole id p) → IsRoomy (sessions.Whole id t)
@@ -102,7 +102,7 @@ whole_applies before id p t line printed stop is some applies goes down same run
 
 module _ (id : ℕ) (p t : LowPump) (line : Line) (some : line ≢ lines.Skip) (printed : List Event) (s : RunningAlone) (id_is : id ≡ s.row.id) (row : low_pump.low_row_of p ≡ s.row)
     (same : low_pump.low_row_of t ≡ low_pump.low_row_of p) where
-  alone_does : (stop : Option Stop) → low_pump.low_is_down t ≡ low_pump.is_device stop → low_pump.AppliesAlone p t line s.past printed stop
+  alone_does : (stop : Option Stop) → low_pump.low_is_down t ≡ low_pump.stops_at_disk stop → low_pump.AppliesAlone p t line s.past printed stop
       → SessionApplies (Alone s) line (sessions.Alone id t) printed stop
   alone_does None down h =
       let timely : is_timely_alone s.row s.past line ≡ true = subst (λ (r : SessionRow). is_timely_alone r s.past line ≡ true) row h.0 in
@@ -126,7 +126,7 @@ module _ (id : ℕ) (p t : LowPump) (line : Line) (some : line ≢ lines.Skip) (
 -- a line was given to the pump of a low side alone
 pub alone_applies : (before : Session) (id : ℕ) (p t : LowPump) (line : Line) (printed : List Event) (stop : Option Stop) → before ≡ sessions.Alone id p → line ≢ lines.Skip
     → ((q : PastAlone) → low_pump.LowStandsFor p q → low_pump.AppliesAlone p t line q printed stop)
-    → low_pump.low_is_down t ≡ low_pump.is_device stop → low_pump.low_row_of t ≡ low_pump.low_row_of p
+    → low_pump.low_is_down t ≡ low_pump.stops_at_disk stop → low_pump.low_row_of t ≡ low_pump.low_row_of p
     → (running : Begun) → StandsFor before running → SessionApplies running line (sessions.Alone id t) printed stop
 alone_applies before id p t line printed stop is some applies down same running h = alone_runs running (subst (λ (s : Session). StandsFor s running) is h)
   where

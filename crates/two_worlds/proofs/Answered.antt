@@ -8,6 +8,7 @@ use Rattle.pump_core.specs.declared.event.Event.TheVariants.{StoreBegin, StoreEn
 use Rattle.pump_core.specs.World.{World, last_taken}
 use Rattle.pump_core.specs.Events.{Happens, Run, BeginsRun, Empty, Opened, holds, with_kept, with_answer, pump_crashed, receiver_crashed}
 use Rattle.pump_core.specs.HighLooks.{Perhaps, Returns, IsSent}
+use Rattle.pump_core.specs.Timed.{Step, Arrives, LowLook, HighLook, Offer, Read, Publish, Occurs, Point, LeadsTo, StepsTo}
 use Rattle.pump_core.proofs.Lists.{slice_get-append, slice_get-past, length-push}
 use Rattle.script_reader.specs.declared.line.Line.{Line}
 use Rattle.script_reader.specs.declared.line.Line.TheVariants as lines
@@ -16,13 +17,14 @@ use Rattle.script_reader.specs.declared.fault.Fault.{Fault}
 use Rattle.script_reader.specs.Past.{Past}
 use Rattle.script_reader.specs.Highs.{IsWholeLook, is_ahead, IsReturnBy, IsReturn, IsAttach, IsCarried, place}
 use Rattle.script_reader.specs.Lows.{IsLook}
-use Rattle.script_reader.specs.Openings.{Found, Openings, opened}
+use Rattle.script_reader.specs.Openings.{Found, Openings, first_past}
 use Rattle.script_reader.specs.Restarts.{IsRestart, IsReceiverRestart}
 use Rattle.script_reader.specs.Steps.{joined, lost, IsCarriedBack, LineStep, Overfills}
 use Rattle.pump_core.specs.History.{Look}
 use Rattle.script_reader.specs.Scripts.{Running, Begun, Whole, Alone, GoesOn, Leads, LeadTo, Stops, StopsAfter, ComesTo}
 use Rattle.script_reader.proofs.Leading.{IsNew, led}
 use Rattle.two_worlds.specs.Answered.{HasAnswered, KeepsAnswers}
+use Rattle.two_worlds.proofs.Runs.Worlds.{world_after}
 
 -- ---- one list of messages, and the TAKEN that were sent ----
 
@@ -131,9 +133,30 @@ begins_answered _ (Opened capacity removed received later low high a) = last_ans
 pub runs_answered : (start end : World) (events : List Event) → BeginsRun start → Run start events end → HasAnswered end
 runs_answered start end events begins run = (run_goes start events end run).answered (begins_answered start begins)
 
+-- ---- timed runs ----
+
+abbrev world : Point → World
+world t = t.world
+
+stays_at : (t u : Point) → u.world ≡ t.world → HasAnswered t.world → HasAnswered u.world
+stays_at t u e a = subst HasAnswered (sym e) a
+
+step_answered : (row : SessionRow) (t : Point) (s : Step) (u : Point) → StepsTo row t s u → HasAnswered t.world → HasAnswered u.world
+step_answered row t (Arrives c) u m a = stays_at t u (ap world m) a
+step_answered row t (LowLook at w gone is_fault) u m a = stays_at t u (ap world m.1) a
+step_answered row t (HighLook at) u m a = stays_at t u (ap world m.2) a
+step_answered row t Offer u m a = stays_at t u (ap world m) a
+step_answered row t Read u m a = stays_at t u (ap world m) a
+step_answered row t Publish u m a = stays_at t u (ap world m.2) a
+step_answered row t (Occurs e) u (v, h, waits, m) a = subst HasAnswered (sym (ap world m ∙ world_after t e v)) ((event_goes t.world e v h).answered a)
+
+pub leads_answered : (row : SessionRow) (steps : List Step) (t : Point) → LeadsTo row steps t → HasAnswered t.world
+leads_answered row [] t (w, b, c, e) = subst HasAnswered (sym (ap world e)) (begins_answered w b)
+leads_answered row (s ∷ past) u (t, before, m) = step_answered row t s u m (leads_answered row past t before)
+
 -- ---- looks ----
 
-perhaps_goes : (w : World) (e : Event) (es : List Event) (v : World) → Perhaps w e es v → Onward w v
+pub perhaps_goes : (w : World) (e : Event) (es : List Event) (v : World) → Perhaps w e es v → Onward w v
 perhaps_goes w e es v h = ⊎_elim
     (λ (r : Run w (e ∷ es) v). run_goes w (e ∷ es) v r)
     (λ (o : ((x : World) → Happens w e x → ⊥) × (v ≡ w)). stays_same w v o.1)
@@ -245,7 +268,7 @@ stopped_goes row p (lines.ReceiverRestart session m) q printed end k size h = ab
 -- ---- scripts ----
 
 -- a session that begins keeps its answers
-pub opened_keeps : (row : SessionRow) (f : Found) → KeepsAnswers (opened row f)
+pub opened_keeps : (row : SessionRow) (f : Found) → KeepsAnswers (first_past row f)
 opened_keeps row f = record { answered = last_answered f.received; before = omega arith }
 
 abbrev Keeps : Option Begun → Type 0

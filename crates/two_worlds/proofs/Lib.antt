@@ -6,6 +6,7 @@ pub mod High
 pub mod Lines
 pub mod Low
 pub mod Opening
+pub mod Reopening
 pub mod Runs
 pub mod Timeline
 pub mod Told

@@ -1,8 +1,12 @@
 -- The TAKEN of the last message that the receiver took is among those that were sent.
 use Rattle.std.specs.Prelude.{◌≡◌, ℕ, ◌-◌, ◌<◌, ◌≤◌, List, length, slice_get, Some}
+use Rattle.pump_frame.specs.declared.row.SessionRow.{SessionRow}
 use Rattle.pump_core.specs.declared.event.Event.{Event}
+use Rattle.pump_core.specs.History.{History}
 use Rattle.pump_core.specs.World.{World}
 use Rattle.pump_core.specs.Events.{BeginsRun, Run}
+use Rattle.pump_core.specs.Timed.{Step, Point}
+use Rattle.pump_core.specs.Runs.{IsRun}
 use Rattle.script_reader.specs.declared.line.Line.{Line}
 use Rattle.script_reader.specs.declared.event.Event.{Event as Printed}
 use Rattle.script_reader.specs.Past.{Past}
@@ -23,6 +27,10 @@ pub record KeepsAnswers (p : Past) : Type 0 where
 -- from a world that begins, all events lead to worlds whose receiver has answered
 abbrev pub EveryWorldHasAnswered : Type 0
 EveryWorldHasAnswered = (start end : World) (events : List Event) → BeginsRun start → Run start events end → HasAnswered end
+
+-- so has the receiver in the world to which a timed run comes
+abbrev pub TimedWorldsHaveAnswered : Type 0
+TimedWorldsHaveAnswered = (row : SessionRow) (steps : List Step) (t : Point) (h : History) → IsRun row steps t h → HasAnswered t.world
 
 -- whatever a script's session has been through, its receiver has answered
 abbrev pub SessionsKeepAnswers : Type 0

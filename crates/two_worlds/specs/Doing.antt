@@ -6,7 +6,7 @@ use Rattle.pump_core.specs.Lawful.{IsLawful}
 use Rattle.script_reader.specs.declared.event.Event.{Event}
 use Rattle.script_reader.specs.Past.{Past}
 use Rattle.two_worlds.specs.declared.applied.Stop.{Stop}
-use Rattle.two_worlds.specs.declared.applied.Stop.TheVariants.{Line, Device, Full}
+use Rattle.two_worlds.specs.declared.applied.Stop.TheVariants.{Line, Device, Full, Disk}
 use Rattle.two_worlds.specs.declared.pump.parts.Parts.{Parts}
 use Rattle.two_worlds.specs.Disks.{LowFits, HighFits, RecvFits, DisksFit, FitsRow}
 use Rattle.two_worlds.specs.declared.pump.state.BareDisks.{BareDisks}
@@ -36,7 +36,7 @@ PartsLeaveFit m c d p q = LeavesFit m (bare_of c) (bare_of d) p q
 
 -- Whatever it stood for before, after an Ok it stands for what `Leads` leads to; where a disk failed, for
 -- what `Breaks` breaks off at; where a message did not fit, for what `Overfills` leads to. What each
--- prints was added to what was printed, and every image on the way fits.
+-- prints was added to what was printed, and every image on the way fits. It opens no disk.
 module _ (Leads : Past → Past → List Event → Type 0) (Breaks : Role → Past → Past → List Event → Type 0)
     (Overfills : Past → Past → List Event → ℕ → ℕ → ℕ → Type 0) where
   abbrev pub DoesFrom : {D : Type 0} → Meaning D → Parts D → Parts D → List Event → List Event → Past → Result (Unit {0}) Stop → Type 0
@@ -47,6 +47,7 @@ module _ (Leads : Past → Past → List Event → Type 0) (Breaks : Role → Pa
       (q : Past) × (printed : List Event) × Breaks role p q printed × (now ≡ out ++ printed) × PartsFail m d q role faults × PartsLeaveFit m c d p q
   DoesFrom m c d out now p (Err (Full end size_of_message size)) =
       (q : Past) × (printed : List Event) × Overfills p q printed end size_of_message size × (now ≡ out ++ printed) × Stands m d q × PartsLeaveFit m c d p q
+  DoesFrom m c d out now p (Err (Disk role why)) = ⊥
 
   abbrev pub Does : {D : Type 0} → Meaning D → Parts D → Parts D → List Event → List Event → Result (Unit {0}) Stop → Type 0
   Does m c d out now result = (p : Past) → Stands m c p → DoesFrom m c d out now p result

@@ -6,4 +6,7 @@ pub mod GoingOn
 pub mod HighLooks
 pub mod LineSteps
 pub mod LowLooks
+pub mod Reopening
+pub mod Restarting
 pub mod Serving
+pub mod StateSteps

@@ -7,6 +7,8 @@ mod lines;
 mod low_look;
 mod open;
 mod parts;
+mod reopen;
+mod restart;
 mod state;
 #[cfg(test)]
 mod tests;
@@ -41,9 +43,10 @@ impl<D: Disk> Pump<D> {
     ghost use Rattle.script_reader.specs.Lawful.{IsLawfulLine};
     ghost use Rattle.script_reader.specs.Heads.{line_with, CanHoldLine};
     ghost use Rattle.two_worlds.specs.Printing.{lines_in};
-    ghost use Rattle.script_reader.specs.Past.{Past, fresh};
+    ghost use Rattle.script_reader.specs.Past.{Past};
+    ghost use Rattle.script_reader.specs.Openings.{first_past, nothing_found};
     ghost use Rattle.two_worlds.specs.Disks.{Opens, CrashesOpen, LeaveWorld};
-    ghost use Rattle.two_worlds.specs.LowPumps.{is_device};
+    ghost use Rattle.two_worlds.specs.LowPumps.{stops_at_disk};
     ghost use Rattle.two_worlds.specs.Pumps.{row_of, StandsFor, StandsOrFails, is_down, disk_at, Applies, AppliesOn};
     ghost use Rattle.two_worlds.specs.Rooms.{HasRoom, DisksGo};
 
@@ -60,7 +63,7 @@ impl<D: Disk> Pump<D> {
         requires low { D.told.reading low ≡ [] }
         requires high { D.told.reading high ≡ [] }
         requires recv { D.told.reading recv ≡ [] }
-        ensures fresh { IfOk result (λ pump. StandsFor D.told pump (fresh row.now)) }
+        ensures fresh { IfOk result (λ pump. StandsFor D.told pump (first_past row.now nothing_found)) }
         ensures row { IfOk result (λ pump. row_of pump ≡ row.now) }
         ensures up { IfOk result (λ pump. is_down pump ≡ false) }
         ensures room { D.told.tells_plan → HasRoom D.told row.now low high recv
@@ -79,12 +82,12 @@ impl<D: Disk> Pump<D> {
     pub fn apply(&mut self, line: &Line) -> Applied
         requires lawful { IsLawfulLine line.now }
         requires up { is_down self.old ≡ false }
-        ensures applies { (p : Past) → StandsFor D.told self.old p
+        ensures applies { D.told.tells → (p : Past) → StandsFor D.told self.old p
             → Applies D.told self.old self.new line.now p result.events.items result.stop }
         ensures on { AppliesOn D.told self.old self.new line.now result.events.items result.stop }
         ensures serve { DisksGo D.told (row_of self.old) (disk_at roles.Low self.old) (disk_at roles.High self.old) (disk_at roles.Recv self.old)
             (disk_at roles.Low self.new) (disk_at roles.High self.new) (disk_at roles.Recv self.new) result.stop }
-        ensures down { is_down self.new ≡ is_device result.stop }
+        ensures down { is_down self.new ≡ stops_at_disk result.stop }
         ensures row { row_of self.new ≡ row_of self.old }
     {
         let mut heads = ArrayVec::new();
@@ -106,18 +109,15 @@ impl<D: Disk> Pump<D> {
         requires lawful { IsLawfulLine (line_with bytes.now line.now) }
         requires room { CanHoldLine line.now bytes.now }
         requires up { is_down self.old ≡ false }
-        ensures applies { (p : Past) → StandsFor D.told self.old p
+        ensures applies { D.told.tells → (p : Past) → StandsFor D.told self.old p
             → Applies D.told self.old self.new (line_with bytes.now line.now) p (lines_in events.new.items) result }
         ensures on { AppliesOn D.told self.old self.new (line_with bytes.now line.now) (lines_in events.new.items) result }
         ensures serve { DisksGo D.told (row_of self.old) (disk_at roles.Low self.old) (disk_at roles.High self.old) (disk_at roles.Recv self.old)
             (disk_at roles.Low self.new) (disk_at roles.High self.new) (disk_at roles.Recv self.new) result }
-        ensures down { is_down self.new ≡ is_device result }
+        ensures down { is_down self.new ≡ stops_at_disk result }
         ensures row { row_of self.new ≡ row_of self.old }
     {
-        match &mut self.state {
-            PumpState::Open(parts) => parts.apply(line, bytes, events),
-            PumpState::Shut(_) => unreachable!(),
-        }
+        self.state.apply(line, bytes, events)
     }
 
     /// How many messages were accepted, removed, and taken by the receiver; 0 of a pump that is shut.

@@ -40,6 +40,8 @@ use Rattle.two_worlds.proofs.Disks.LeavesWorld.{fits_row}
 use Rattle.two_worlds.proofs.Carry.Answered.{AnsweredWith, in_store, full, took as took_by, repeated}
 use Rattle.two_worlds.proofs.Carry.Carried as led
 use Rattle.two_worlds.proofs.Opening.Ready.{recv_reading}
+use Rattle.two_worlds.specs.Answered.{HasAnswered}
+use Rattle.two_worlds.proofs.Answered.{twice, event_goes, perhaps_goes}
 
 -- the numbers that are kept, and one more
 abbrev pub Returns : Buffer ℕ → ℕ → Buffer ℕ → Type 0
@@ -58,14 +60,19 @@ module _ {D : Type 0} (m : Meaning D) (c : Parts D) (p : Past) (back : ℕ) (pac
   abbrev E : ℕ
   E = recv_end c.receiver
 
+  -- the receiver has answered what it took
+  answered_then : (v u : World) → Happens p.world (CarryData (place p.world.sent back)) v → Perhaps v TakeBegin (TakeEnd ∷ []) u → HasAnswered u
+  answered_then v u carries takes =
+      (twice p.world v u (event_goes p.world (CarryData (place p.world.sent back)) v carries) (perhaps_goes v TakeBegin (TakeEnd ∷ []) u takes)).answered stands.sound.answered
+
   -- the parts stand for the world that this leads to
   stands_on : (returned : Buffer ℕ) (u : World) → returned.capacity ≡ c.returned.capacity
       → HoldsWorld (record (kept_of p.returned_before c) { returned = returned.items; received = recv_count new; end = recv_end new }) u
-      → IsAtRest u → IsLawful u → u.accepted ≡ p.world.accepted → u.sent ≡ p.world.sent
+      → IsAtRest u → IsLawful u → HasAnswered u → u.accepted ≡ p.world.accepted → u.sent ≡ p.world.sent
       → IsRecvReady m new → recv_row new ≡ c.row → recv_size new ≡ receiver_size
       → DisksFit m c.row (low_disk c.low_store) (high_disk c.high_store) (recv_disk new) u
       → Stands m (record c { receiver = new; returned = returned }) (record p { world = u })
-  stands_on returned u capacity holds rest lawful accepted sent ready row size disks = record {
+  stands_on returned u capacity holds rest lawful answered accepted sent ready row size disks = record {
     row = stands.row;
     arrivals = record {
       waits = stands.arrivals.waits;
@@ -79,6 +86,7 @@ module _ {D : Type 0} (m : Meaning D) (c : Parts D) (p : Past) (back : ℕ) (pac
       lawful = lawful;
       fits = subst (All (λ (x : Payload). length x ≤ c.row.message)) (sym accepted) stands.sound.fits;
       sends = subst (λ (l : List Item). length p.sends ≤ length l) (sym sent) stands.sound.sends;
+      answered = answered;
     };
     moment = stands.moment;
     low_ready = record { history = stands.low_ready.history; store = stands.low_ready.store; up = stands.low_ready.up; between = stands.low_ready.between; row = stands.low_ready.row; last = stands.low_ready.last };
@@ -122,7 +130,8 @@ module _ {D : Type 0} (m : Meaning D) (c : Parts D) (p : Past) (back : ℕ) (pac
       leads returned u u answers.Repeat out (led.no_overfill_again m c p back packet stands less at a.0) (led.carries_again m c p back packet stands less at a.0)
       (led.takes_nothing m c p back packet stands less at) (prints_by true answers.Repeat test refl)
       (stands_on returned u is.1 (subst (λ (r : Receiver D). HoldsWorld (record (kept_of p.returned_before c) { returned = returned.items; received = recv_count r; end = recv_end r }) u) (sym a.1) (led.holds_again m c p back packet stands less at returned.items is.0))
-      (led.rest_again m c p back packet stands less at) (led.lawful_again m c p back packet stands less at a.0) refl refl
+      (led.rest_again m c p back packet stands less at) (led.lawful_again m c p back packet stands less at a.0)
+      (answered_then u u (led.carries_again m c p back packet stands less at a.0) (led.takes_nothing m c p back packet stands less at)) refl refl
       (subst (λ (r : Receiver D). IsRecvReady m r) (sym a.1) stands.recv_ready.ready) (ap (λ (r : Receiver D). recv_row r) a.1 ∙ stands.recv_ready.row) (ap (λ (r : Receiver D). recv_size r) a.1 ∙ stands.recv_ready.size)
       (subst (λ (r : Receiver D). DisksFit m c.row (low_disk c.low_store) (high_disk c.high_store) (recv_disk r) u) (sym a.1) disks))
       (all_alone m c p stands (record c { receiver = new; returned = returned }) (record p { world = u }) refl refl (ap (λ (r : Receiver D). recv_disk r) a.1))
@@ -169,7 +178,8 @@ module _ {D : Type 0} (m : Meaning D) (c : Parts D) (p : Past) (back : ℕ) (pac
       leads returned (led.waits m c p back packet stands less at) u answers.Took out (led.no_overfill_next m c p back packet stands less at a.0 fits) (led.carries_next m c p back packet stands less at a.0)
       (led.takes_next m c p back packet stands less at) (prints_by false answers.Took test refl)
       (stands_on returned u is.1 (led.holds_taken m c p back packet stands less at returned.items (recv_count new) (recv_end new) a.0 is.0 s.count s.end)
-      (led.rest_taken m c p back packet stands less at) (led.lawful_taken m c p back packet stands less at a.0) refl refl s.ready (same_row ∙ row_is) (same_size ∙ stands.recv_ready.size) disks)
+      (led.rest_taken m c p back packet stands less at) (led.lawful_taken m c p back packet stands less at a.0)
+      (answered_then (led.waits m c p back packet stands less at) u (led.carries_next m c p back packet stands less at a.0) (led.takes_next m c p back packet stands less at)) refl refl s.ready (same_row ∙ row_is) (same_size ∙ stands.recv_ready.size) disks)
       (taking_fits (record c { receiver = new; returned = returned }) (record p { world = u }) (Ok answers.Took) s refl refl refl (λ x is. inl is))
 
   pub leads_by : (taken : Taken) (returned : Buffer ℕ) (out : List Event) → Returns c.returned packet.number returned → recv_row new ≡ recv_row c.receiver → recv_size new ≡ recv_size c.receiver

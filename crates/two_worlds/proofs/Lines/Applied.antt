@@ -15,7 +15,7 @@ use Rattle.script_reader.specs.Steps.{is_timely, LineStep, IsRefusedWhole, Overf
 use Rattle.script_reader.specs.Breaks.{Breaks}
 use Rattle.std.proofs.Props.{props}
 use Rattle.two_worlds.specs.declared.applied.Stop.{Stop}
-use Rattle.two_worlds.specs.declared.applied.Stop.TheVariants.{Line, Device, Full}
+use Rattle.two_worlds.specs.declared.applied.Stop.TheVariants.{Line, Device, Full, Disk}
 use Rattle.two_worlds.specs.declared.pump.parts.Parts.{Parts}
 use Rattle.two_worlds.specs.declared.pump.Pump.{Pump}
 use Rattle.two_worlds.specs.declared.pump.state.PumpState.{PumpState}
@@ -28,7 +28,7 @@ use Rattle.two_worlds.specs.Standing.{Stands, StandsForSome, is_down, disk_at, b
 use Rattle.two_worlds.specs.States.{disks_in, is_down_in, IsOpenWith, StandsIn}
 use Rattle.two_worlds.specs.Timely.{CanApply, CannotApply}
 use Rattle.two_worlds.specs.Working.{Works, IsTooLong}
-use Rattle.two_worlds.specs.LowPumps.{is_device}
+use Rattle.two_worlds.specs.LowPumps.{stops_at_disk}
 use Rattle.two_worlds.specs.Pumps.{Applies, AppliesOn, GoesOnTimed}
 use Rattle.two_worlds.proofs.Opening.Working.{works_of}
 use Rattle.two_worlds.proofs.Timeline.Scripts.{line_goes}
@@ -65,18 +65,21 @@ module _ {D : Type 0} (m : Meaning D) (c d : Parts D) (line : ScriptLine) (out n
   holds_after (Some Line) p s a = subst (λ (t : Parts D). Holds m t) (sym a.0) (holds m c p s)
   holds_after (Some (Device role faults)) p s a = (let f = a.1.4.1 in ∣ record { world = a.1.0.world; lawful = f.lawful; disks = f.disks } ∣₁)
   holds_after (Some (Full end k size)) p s a = holds m d a.1.0 a.1.4
+  holds_after (Some (Disk role why)) p s a = absurd a
 
   stands_after : (stop : Option Stop) (p : Past) → is_down d ≡ false → Stands m c p → AttemptsFrom m c d line out now p (answer_of stop) → StandsForSome m d
   stands_after None p up s a = (a.1.0, a.1.4)
   stands_after (Some Line) p up s a = subst (λ (t : Parts D). StandsForSome m t) (sym a.0) (p, s)
   stands_after (Some (Device role faults)) p up s a = (let down = a.1.4.0 in absurd (cc))
   stands_after (Some (Full end k size)) p up s a = (a.1.0, a.1.4)
+  stands_after (Some (Disk role why)) p up s a = absurd a
 
   works_after : (stop : Option Stop) → is_down d ≡ false → ∥ Works m c ∥₁ → AttemptsOn m c d line out now (answer_of stop) → ∥ Works m d ∥₁
   works_after None up w a = a.1
   works_after (Some Line) up w a = subst (λ (t : Parts D). ∥ Works m t ∥₁) (sym a.0) w
   works_after (Some (Device role faults)) up w a = (let down = a.1.0 in absurd (cc))
   works_after (Some (Full end k size)) up w a = a.1.0
+  works_after (Some (Disk role why)) up w a = absurd a
 
   -- the pump keeps this, whatever became of the line
   pub still_keeps : (stop : Option Stop) → d.row ≡ c.row → is_down c ≡ false → Attempts m c d line out now (answer_of stop) → AttemptsOn m c d line out now (answer_of stop)
@@ -96,11 +99,12 @@ module _ {D : Type 0} (m : Meaning D) (c d : Parts D) (line : ScriptLine) (out n
   up_if works = ∥∥₁_elim works (hlevel props) (up_of m d)
 
   -- the parts are down where a device stopped the line
-  pub down_after : (stop : Option Stop) → is_down c ≡ false → AttemptsOn m c d line out now (answer_of stop) → is_down d ≡ is_device stop
+  pub down_after : (stop : Option Stop) → is_down c ≡ false → AttemptsOn m c d line out now (answer_of stop) → is_down d ≡ stops_at_disk stop
   down_after None up a = up_if a.1
   down_after (Some Line) up a = ap is_down a.0 ∙ up
   down_after (Some (Device role faults)) up a = a.1.0
   down_after (Some (Full end k size)) up a = up_if a.1.0
+  down_after (Some (Disk role why)) up a = absurd a
 
 -- ---- the line ----
 

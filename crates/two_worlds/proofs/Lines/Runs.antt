@@ -13,7 +13,7 @@ use Rattle.script_reader.specs.Highs.{IsHighLook, IsCarried, IsReturn, IsOverful
 use Rattle.script_reader.specs.Steps.{joined, lost, IsOfferedLook, IsLowLook, LineStep, Overfills}
 use Rattle.script_reader.specs.Breaks.{IsLost, IsUntaken, IsUnremoved, Breaks}
 use Rattle.two_worlds.specs.declared.applied.Stop.{Stop}
-use Rattle.two_worlds.specs.declared.applied.Stop.TheVariants.{Line, Device, Full}
+use Rattle.two_worlds.specs.declared.applied.Stop.TheVariants.{Line, Device, Full, Disk}
 use Rattle.two_worlds.specs.Connections.{Connected, unused, Joins}
 use Rattle.two_worlds.specs.declared.pump.parts.Parts.{Parts}
 use Rattle.two_worlds.specs.Doing.{DoesFrom, Does, PartsLeaveFit, NeverBreaks, NeverOverfills}
@@ -32,6 +32,7 @@ runs_from m c c' d line out now Leads Cuts Over p from (Ok done) f g h k r = (r.
 runs_from m c c' d line out now Leads Cuts Over p from (Err Line) f g h k r = absurd r
 runs_from m c c' d line out now Leads Cuts Over p from (Err (Device role faults)) f g h k r = (r.0, r.1, g role r.0 r.1 r.2, r.3, r.4, k r.0 r.5)
 runs_from m c c' d line out now Leads Cuts Over p from (Err (Full end n size)) f g h k r = (r.0, r.1, h r.0 r.1 end n size r.2, r.3, r.4, k r.0 r.5)
+runs_from m c c' d line out now Leads Cuts Over p from (Err (Disk role why)) f g h k r = absurd r
 
 -- ---- looks of the low side ----
 

@@ -48,6 +48,7 @@ use Rattle.pump_core.proofs.MayTake.{may_take_is}
 use Rattle.two_worlds.proofs.Low.Told.{LookHead, is_passing, moves, owed_is, told_by, told_in, passing_is, hears_room, feedback_is}
 use Rattle.two_worlds.proofs.Low.Wants.{taking, hand_is_empty, is_short, stored_is}
 use Rattle.two_worlds.proofs.Low.Worlds.{Led, led_by, hand_by, held_by, passed_is, empty_hand, room_is, full_number}
+use Rattle.two_worlds.proofs.Answered.{run_goes}
 
 prints_reply : (session m w : ℕ) (a : Arrival) (f : Feedback) (r : Option Frame) → printed_reply session m r ≡ printed_replies session (sent (look_of m w a false f) r)
 prints_reply session m w a f None = refl
@@ -258,6 +259,7 @@ module _ {D : Type 0} (m : Meaning D) (c d : Parts D) (p : Past) (moment word : 
       lawful = runs_lawfully p.world _ led.end stands.sound.lawful led.run;
       fits = fits;
       sends = subst (λ (items : List Item). length p.sends ≤ length items) (sym grows.sent) stands.sound.sends;
+      answered = (run_goes p.world _ led.end led.run).answered stands.sound.answered;
     };
     moment = refl;
     low_ready = record {

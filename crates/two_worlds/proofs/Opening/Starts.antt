@@ -1,13 +1,13 @@
 -- New parts stand for a session before its first line.
-use Rattle.std.proofs.Common.{◌≡◌, inl, ℕ, ◌≤◌, false, [], length, None, refl, sym, ap, ◌∙◌, subst, arith}
+use Rattle.std.proofs.Common.{◌≡◌, inl, ℕ, ◌≤◌, ◌==◌, Bool, false, [], length, None, refl, sym, ap, ◌∙◌, subst, arith}
 use Rattle.std.proofs.lemmas.List.Elements.{All-nil}
+use Rattle.std.proofs.lemmas.Bool.{ne_eqb}
 use Rattle.circular_buffer.specs.Buffer.{Buffer, buffer}
 use Rattle.disk_model.specs.Disk.{Meaning}
 use Rattle.disk_model.proofs.Run.{each_settled}
 use Rattle.pump_frame.specs.Rows.{IsLawfulRow}
 use Rattle.pump_frame.specs.declared.payload.Payload.{Payload}
 use Rattle.pump_frame.specs.declared.frame.Item.{Item}
-use Rattle.pump_frame.specs.declared.frame.Kind.TheVariants.{Taken}
 use Rattle.stable_buffer.specs.Low.{IsLowReady, low_disk, low_count, low_row}
 use Rattle.stable_buffer.specs.High.{IsHighReady, high_disk, high_count}
 use Rattle.stable_buffer.specs.Stands.{LowStands, HighStands}
@@ -17,18 +17,22 @@ use Rattle.pump_core.specs.History.{first_life}
 use Rattle.pump_core.specs.Passage.{new_low, new_high, shape_of_row}
 use Rattle.pump_core.specs.World as worlds
 use Rattle.pump_core.specs.World.{World}
+use Rattle.pump_core.specs.Lawful.{IsLawful}
+use Rattle.pump_core.specs.Timed.{opening_in}
+use Rattle.pump_frame.specs.Readings.{Within}
 use Rattle.passage.specs.Plain.{shape_of, StandsFor as EndsStand}
 use Rattle.low_process.specs.Looks as low
 use Rattle.high_process.specs.States as high
 use Rattle.high_process.specs.Past as high_past
 use Rattle.high_process.specs.Looks.{StandsFor as HighStandsFor}
-use Rattle.script_reader.specs.Past.{fresh}
+use Rattle.script_reader.specs.Past.{Past}
+use Rattle.script_reader.specs.Openings.{first_past, nothing_found, opened_world}
 use Rattle.script_reader.specs.Highs.{receiver_size}
 use Rattle.two_worlds.specs.declared.pump.parts.Parts.{Parts}
 use Rattle.two_worlds.specs.Connections.{Connected, unused, waits_of, is_broken_of, reading_of}
 use Rattle.two_worlds.specs.Disks.{LowFits, HighFits, RecvFits}
 use Rattle.two_worlds.specs.Standing.{Stands, HoldsWorld, Kept, kept_of}
-use Rattle.script_reader.proofs.Fresh.{fresh_lawful}
+use Rattle.script_reader.proofs.Opened.{opened_lawful, new_disks, new_disks_can, row_capacity}
 
 -- the parts have just been made
 pub record IsNew {D : Type 0} (m : Meaning D) (c : Parts D) : Type 0 where
@@ -69,7 +73,7 @@ pub record IsNew {D : Type 0} (m : Meaning D) (c : Parts D) : Type 0 where
   pub shape : shape_of c.ends ≡ shape_of_row c.row
   pub sent : c.sent ≡ buffer [] 64
   pub returned : c.returned ≡ buffer [] 64
-  pub taken : (c.taken.kind ≡ Taken) × (c.taken.session ≡ c.row.id)
+  pub taken : c.taken.session ≡ c.row.id
   pub moment : c.moment ≡ 0
 
 module _ {D : Type 0} (m : Meaning D) (c : Parts D) (n : IsNew m c) where
@@ -112,8 +116,30 @@ module _ {D : Type 0} (m : Meaning D) (c : Parts D) (n : IsNew m c) where
     returned = (omega arith, refl);
   })
 
-  pub starts : Stands m c (fresh c.row)
-  starts = record {
+  -- a session before its first line, in a world where nothing has happened
+  abbrev fresh : World → Past
+  fresh w = record {
+    history = first_life (opening_in w);
+    waits = [];
+    is_broken = false;
+    reading = Within [];
+    world = w;
+    returned_before = length w.returned;
+    times = [];
+    sends = [];
+    moment = 0;
+  }
+
+  is_empty : opened_world c.row nothing_found ≡ empty
+  is_empty = new_disks c.row n.row
+
+  not_held : (0 == c.row.capacity) ≡ false
+  not_held = ne_eqb 0 c.row.capacity (λ e. absurd (omega (arith, e, (row_capacity c.row n.row).0)))
+
+  pub starts : Stands m c (first_past c.row nothing_found)
+  starts = subst (λ (w : World). Stands m c (fresh w)) (sym is_empty) begins where
+  begins : Stands m c (fresh empty)
+  begins = record {
     row = n.row;
     arrivals = record {
       waits = ap (λ (t : Connected). waits_of t) n.connection;
@@ -124,13 +150,14 @@ module _ {D : Type 0} (m : Meaning D) (c : Parts D) (n : IsNew m c) where
     world = holds;
     sound = record {
       rest = record { storing = refl; due = refl; removing = refl; packet = refl; taking = refl };
-      lawful = fresh_lawful c.row n.row;
+      lawful = subst IsLawful is_empty (opened_lawful c.row nothing_found n.row (new_disks_can c.row));
       fits = All-nil (λ (x : Payload). length x ≤ c.row.message);
       sends = omega arith;
+      answered = λ some. absurd (omega (arith, some));
     };
     moment = n.moment;
     low_ready = record {
-      history = n.history;
+      history = subst (λ (b : Bool). low.StandsFor c.low (first_life (record { count = 0; is_held = b }))) (sym not_held) n.history;
       store = record { ready = n.low_ready; count = n.low_count_is ∙ sym n.next; row = n.store_row ∙ sym n.low_row_is };
       up = n.low_up;
       between = n.low_between;

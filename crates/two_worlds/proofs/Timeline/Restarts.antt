@@ -5,12 +5,12 @@ use Rattle.pump_frame.specs.declared.row.SessionRow.{SessionRow}
 use Rattle.pump_core.specs.declared.event.Event.TheVariants.{Crash}
 use Rattle.pump_core.specs.World.{World}
 use Rattle.pump_core.specs.Events.{Happens, Opened}
-use Rattle.pump_core.specs.Timed.{Step, Occurs, Point, LeadsTo, opening_in, opens, reopens}
+use Rattle.pump_core.specs.Timed.{Step, Occurs, Point, opening_in, opens, reopens}
 use Rattle.pump_core.specs.Runs.{LifeFeedback}
 use Rattle.script_reader.specs.declared.event.Event.{Event}
 use Rattle.script_reader.specs.declared.line.Line.TheVariants.{ReceiverRestart}
 use Rattle.script_reader.specs.Past.{Past}
-use Rattle.script_reader.specs.Openings.{Found, CanOpen, opened_world, opened, restarted}
+use Rattle.script_reader.specs.Openings.{Found, CanOpen, opened_world, first_past, restarted}
 use Rattle.script_reader.specs.Restarts.{IsRestart, IsReopened, IsReceiverRestart}
 use Rattle.script_reader.proofs.Opened.{row_capacity}
 use Rattle.two_worlds.specs.Timelines.{IsAtRest, IsTimeline, RunGoesOn}
@@ -19,7 +19,7 @@ use Rattle.two_worlds.proofs.Timeline.Returns.{attach_look}
 
 -- ---- a session that begins ----
 
-pub opened_timeline : (row : SessionRow) (f : Found) → IsLawfulRow row → CanOpen row f → IsTimeline row (opened row f) [] (opens (opened_world row f))
+pub opened_timeline : (row : SessionRow) (f : Found) → IsLawfulRow row → CanOpen row f → IsTimeline row (first_past row f) [] (opens (opened_world row f))
 opened_timeline row f lawful can =
     let size = row_capacity row lawful in
     record {

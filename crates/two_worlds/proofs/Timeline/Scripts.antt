@@ -1,6 +1,6 @@
 -- What a script's session has been through is a timed run: line by line.
 use Rattle.std.proofs.Common.{◌≡◌, ℕ, ◌+◌, ◌≤◌, Bool, true, false, List, [], ◌∷◌, ◌++◌, map, Option, Some, None, refl, sym, ap, subst, arith, append_assoc}
-use Rattle.std.specs.Prelude.{◌==◌, ◌&&◌, ◌||◌, ◌^◌, nat_le, not, if◌then◌else◌, reverse}
+use Rattle.std.specs.Prelude.{◌==◌, ◌&&◌, ◌||◌, ◌^◌, nat_le, not, reverse}
 use Rattle.std.proofs.lemmas.Bool.{and_parts}
 use Rattle.std.proofs.lemmas.Bool.Decides.{nat_tests}
 use Rattle.pump_frame.specs.declared.frame.Frame.{Frame}
@@ -18,7 +18,7 @@ use Rattle.script_reader.specs.declared.line.Line.{Line}
 use Rattle.script_reader.specs.declared.line.Line.TheVariants as lines
 use Rattle.script_reader.specs.declared.event.Event.{Event}
 use Rattle.script_reader.specs.Past.{Past}
-use Rattle.script_reader.specs.Openings.{Openings, opened_world, opened}
+use Rattle.script_reader.specs.Openings.{Openings, opened_world, first_past}
 use Rattle.script_reader.specs.Highs.{IsHighLook, place}
 use Rattle.script_reader.specs.Lows.{IsLook}
 use Rattle.script_reader.specs.Steps as coming
@@ -26,7 +26,7 @@ use Rattle.script_reader.specs.Steps.{bad_of, came, IsRead, Arrives as ArrivesWi
 use Rattle.script_reader.specs.Scripts.{Running, Begun, Whole as WholeSession, Alone, GoesWhole, GoesOn as GoesOn, Leads, LeadTo}
 use Rattle.script_reader.proofs.Leading.{IsNew, led}
 use Rattle.two_worlds.specs.Timelines.{arrived, IsTimeline, high_steps, return_steps, carry_steps, AreLookSteps, AreDoneSteps, AreSteps, RunGoesOn}
-use Rattle.two_worlds.proofs.Timeline.Looks.{timeline, HasMore, both, all_come, offered_look, lost_look}
+use Rattle.two_worlds.proofs.Timeline.Looks.{HasMore, both, all_come, offered_look, lost_look}
 use Rattle.two_worlds.proofs.Timeline.Highs.{high_look}
 use Rattle.two_worlds.proofs.Timeline.Lows.{done_steps}
 use Rattle.two_worlds.proofs.Timeline.Returns.{HasSome, return_look}
@@ -161,7 +161,7 @@ goes_on_run (Alone s) line after printed (timely, (q, step, e)) k = subst HasRun
 new_run : (o : Openings) (s : Begun) → IsNew o s → HasRun (Some s)
 new_run o (WholeSession s) (lawful, can, e) =
     let f = o s.row.id in
-    let begun : (steps : List Step) × (t : Point) × IsTimeline s.row (opened s.row f) steps t = ([], opens (opened_world s.row f), opened_timeline s.row f lawful can) in
+    let begun : (steps : List Step) × (t : Point) × IsTimeline s.row (first_past s.row f) steps t = ([], opens (opened_world s.row f), opened_timeline s.row f lawful can) in
     subst (λ (p : Past). (steps : List Step) × (t : Point) × IsTimeline s.row p steps t) (sym e) begun
 new_run o (Alone s) new = tt
 

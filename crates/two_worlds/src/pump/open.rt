@@ -8,7 +8,7 @@ ghost use Rattle.pump_frame.specs.Rows.{IsLawfulRow};
 ghost use Rattle.passage.specs.Plain.{shape_of, StandsFor as EndsStand};
 ghost use Rattle.stable_buffer.specs.Format.{size_of};
 ghost use Rattle.stable_buffer.specs.Register.{register_disk};
-ghost use Rattle.script_reader.specs.Past.{fresh};
+ghost use Rattle.script_reader.specs.Openings.{first_past, nothing_found};
 ghost use Rattle.two_worlds.specs.Openings.{IsCalled, IsFormatted, ComeBack};
 ghost use Rattle.two_worlds.specs.Connections.{unused};
 ghost use Rattle.two_worlds.specs.Rooms.{IsFree};
@@ -69,7 +69,7 @@ impl<D: Disk> Parts<D> {
         requires low { (old : D) × IsFormatted D.told row.now roles.Low old registers.low }
         requires high { (old : D) × IsFormatted D.told row.now roles.High old registers.high }
         requires recv { (old : D) × IsFormatted D.told row.now roles.Recv old registers.recv }
-        ensures stands { Stands D.told result (fresh row.now) }
+        ensures stands { Stands D.told result (first_past row.now nothing_found) }
         ensures row { result.row ≡ row.now }
         ensures low { disk_at roles.Low result ≡ register_disk registers.low }
         ensures high { disk_at roles.High result ≡ register_disk registers.high }
@@ -111,7 +111,7 @@ impl<D: Disk> Parts<D> {
         requires low { D.told.reading low ≡ [] }
         requires high { D.told.reading high ≡ [] }
         requires recv { D.told.reading recv ≡ [] }
-        ensures stands { IfOk result (λ parts. Stands D.told parts (fresh row.now)) }
+        ensures stands { IfOk result (λ parts. Stands D.told parts (first_past row.now nothing_found)) }
         ensures row { IfOk result (λ parts. parts.row ≡ row.now) }
         ensures low { IfOk result (λ parts. IsCalled D.told low (disk_at roles.Low parts)) }
         ensures high { IfOk result (λ parts. IsCalled D.told high (disk_at roles.High parts)) }

@@ -1,6 +1,6 @@
 ghost use Rattle.std.specs.Prelude.{◌≡◌, ◌<◌, ◌≤◌, [], false, IfSome, IfOk};
 ghost use Rattle.pump_frame.specs.Rows.{IsLawfulRow};
-ghost use Rattle.two_worlds.specs.LowPumps.{is_device};
+ghost use Rattle.two_worlds.specs.LowPumps.{stops_at_disk};
 ghost use Rattle.two_worlds.specs.Pumps.{is_down};
 
 use crate::{Pump, Stop};
@@ -56,7 +56,7 @@ fn play<D: Disk>(
     output: &mut Vec<u8>,
 ) -> Result<Option<Stop>, Fail>
     requires up { is_down pump.old ≡ false }
-    ensures down { IfOk result (λ stop. is_down pump.new ≡ is_device stop) }
+    ensures down { IfOk result (λ stop. is_down pump.new ≡ stops_at_disk stop) }
 {
     let mut text = ArrayVec::new();
     for line in script {

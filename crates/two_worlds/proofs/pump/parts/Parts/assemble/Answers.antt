@@ -46,6 +46,6 @@ returns-clause-stands g c =
       shape = c.requires.shape;
       sent = c.requires.sent;
       returned = c.requires.returned;
-      taken = (refl, refl);
+      taken = refl;
       moment = refl;
     })

@@ -1,3 +1,4 @@
+pub mod Files
 pub mod Outputs
 pub mod Replays
 pub mod Runners

@@ -3,6 +3,8 @@
 
 mod batch;
 mod explain;
+mod file_disk;
+mod file_shelf;
 mod output;
 mod replay;
 mod session;

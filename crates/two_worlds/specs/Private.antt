@@ -1,8 +1,8 @@
 -- The words of private functions. No public clause names them.
 pub mod Arrivals
 pub mod Carrying
-pub mod Formatted
 pub mod HighLooks
 pub mod LineSteps
 pub mod LowLooks
+pub mod Readied
 pub mod Serving

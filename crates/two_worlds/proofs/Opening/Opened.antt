@@ -144,7 +144,7 @@ pub record AreOpened {D : Type 0} (m : Meaning D) (c : Parts D) (lives : Opening
 
 -- ---- what the disks stand for ----
 
-value_by : (parity first second : ℕ) (disk : List ℕ) → Selects parity first second disk → value_of disk ≡ (first, second)
+pub value_by : (parity first second : ℕ) (disk : List ℕ) → Selects parity first second disk → value_of disk ≡ (first, second)
 value_by parity first second disk s = ap (λ k. cell_at disk (place_of k)) s.selector ∙ s.cell
 
 -- records end where their lengths say

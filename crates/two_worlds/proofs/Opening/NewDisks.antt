@@ -1,0 +1,73 @@
+-- What new disks stand for, and the session that begins on them.
+use Rattle.std.proofs.Common.{◌≡◌, ℕ, ◌+◌, ◌-◌, ◌*◌, ◌≤◌, ◌==◌, Bool, false, true, List, [], ◌++◌, length, take, replicate, min, Option, Some, None, refl, sym, ap, ◌∙◌, subst, arith, length-append}
+use Rattle.std.specs.Prelude.{if◌then◌else◌}
+use Rattle.std.specs.List.{range_with_len}
+use Rattle.std.proofs.lemmas.List.{take_at, length-replicate}
+use Rattle.std.proofs.lemmas.List.Elements.{All-nil}
+use Rattle.disk_model.specs.Disk.{Meaning}
+use Rattle.disk_model.specs.declared.name.Role.{Role}
+use Rattle.disk_model.specs.declared.name.Role.TheVariants.{Low, High, Recv}
+use Rattle.pump_frame.specs.Rows.{IsLawfulRow}
+use Rattle.pump_frame.specs.Readings.{Within}
+use Rattle.pump_frame.specs.declared.payload.Payload.{Payload}
+use Rattle.pump_frame.specs.declared.row.SessionRow.{SessionRow}
+use Rattle.stable_buffer.specs.Format.{FormatStands, header_of, new_bytes, role_byte, second_of, size_of}
+use Rattle.stable_buffer.proofs.Fresh.{fresh_stands, header_length}
+use Rattle.pump_core.specs.History.{first_life}
+use Rattle.pump_core.specs.World as worlds
+use Rattle.script_reader.specs.Past.{Past, fresh}
+use Rattle.script_reader.specs.Openings.{nothing_found, opened}
+use Rattle.script_reader.proofs.Fresh.{row_capacity}
+use Rattle.two_worlds.specs.Openings.{StandForFound, DisksStandFor, readied}
+
+whole : (row : SessionRow) (role : Role) → 80 ≤ size_of row role
+whole row Low = omega arith
+whole row High = omega arith
+whole row Recv = omega arith
+
+new_stands : (row : SessionRow) (role : Role) → FormatStands row role 0 (new_bytes row role 0)
+new_stands row role =
+    let front = header_of row (role_byte role) 0 (second_of role) in
+    let rest : List ℕ = replicate (size_of row role - 80) 0 in
+    let size = header_length row (role_byte role) 0 (second_of role) in
+    let left = length-replicate {A = ℕ} (size_of row role - 80) 0 in
+    fresh_stands row role 0 (new_bytes row role 0) (omega arith) (λ is. refl) (take_at front rest 80 size) (length-append front rest ∙ omega (arith, size, left, whole row role))
+
+nothing_stands : (row : SessionRow) → IsLawfulRow row → StandForFound row nothing_found (new_bytes row Low 0) (new_bytes row High 0) (new_bytes row Recv 0)
+nothing_stands row lawful = record {
+  can_open = record {
+    agree = record { taken = omega arith; fits = omega arith };
+    count = omega arith;
+    end = omega arith;
+    short = All-nil (λ (message : Payload). length message ≤ row.message);
+  };
+  low_is = new_stands row Low;
+  high_is = new_stands row High;
+  recv_is = new_stands row Recv;
+}
+
+-- three empty disks stand for nothing once they are formatted
+pub empty_disks : {D : Type 0} (m : Meaning D) (row : SessionRow) (low high recv : D) → IsLawfulRow row → m.reading low ≡ [] → m.reading high ≡ [] → m.reading recv ≡ [] → DisksStandFor m row low high recv nothing_found
+empty_disks m row low high recv lawful a b c =
+    subst (λ (v : List ℕ × List ℕ × List ℕ). StandForFound row nothing_found (readied row Low v.0) (readied row High v.1) (readied row Recv v.2)) (λ i. (sym a i, sym b i, sym c i)) (nothing_stands row lawful)
+
+-- a session whose low side finds all places full or not, and holds so many numbers
+abbrev begun : SessionRow → Bool → ℕ → Past
+begun row full held = record {
+  history = first_life (record { count = 0; is_held = full });
+  waits = [];
+  is_broken = false;
+  reading = Within [];
+  world = record (worlds.empty row.capacity) { held = range_with_len (0 + 1) held; low_hand = (if full then Some (0 - 1) else None) };
+  returned_before = 0;
+  times = [];
+  sends = [];
+  moment = 0;
+}
+
+pub opened_new : (row : SessionRow) → IsLawfulRow row → opened row nothing_found ≡ fresh row
+opened_new row lawful =
+    let wide = (row_capacity row lawful).0 in
+    let no : (0 - 0 == row.capacity) ≡ false = grind (arith, wide) in
+    let none : min (row.capacity - 2) (0 - 0 - 1) ≡ 0 = omega arith in
+    λ i. begun row (no i) (none i)

@@ -4,3 +4,4 @@ pub mod Carried
 pub mod Carries
 pub mod Packets
 pub mod Serves
+pub mod Works

@@ -9,3 +9,4 @@ pub mod Returning
 pub mod Sendings
 pub mod Serves
 pub mod Standing
+pub mod Works

@@ -2,5 +2,6 @@
 pub mod Applied
 pub mod DoesMore
 pub mod Done
+pub mod On
 pub mod Runs
 pub mod Timely

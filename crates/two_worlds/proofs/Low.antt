@@ -12,4 +12,5 @@ pub mod Sorts
 pub mod Stepping
 pub mod Told
 pub mod Wants
+pub mod Works
 pub mod Worlds

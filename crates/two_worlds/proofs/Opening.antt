@@ -1,12 +1,11 @@
--- New parts, and what parts that stand for something have ready.
+-- What an opening leaves, and what parts that work have ready.
 pub mod Comparing
 pub mod Ends
 pub mod Founds
-pub mod NewDisks
-pub mod Refusing
-pub mod Formatted
 pub mod Lives
+pub mod NewDisks
 pub mod Opened
 pub mod Ready
+pub mod Refusing
 pub mod RowRanges
-pub mod Starts
+pub mod Working

@@ -12,5 +12,8 @@ pub mod Private
 pub mod Pumps
 pub mod Rooms
 pub mod Standing
+pub mod States
 pub mod Timelines
 pub mod TimelinesAlone
+pub mod Timely
+pub mod Working

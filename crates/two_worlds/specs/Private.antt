@@ -1,8 +1,10 @@
 -- The words of private functions. No public clause names them.
 pub mod Arrivals
 pub mod Carrying
+pub mod GoingOn
 pub mod HighLooks
 pub mod LineSteps
 pub mod LowLooks
+pub mod Opened
 pub mod Readied
 pub mod Serving

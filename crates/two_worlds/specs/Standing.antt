@@ -13,6 +13,7 @@ use Rattle.pump_frame.specs.declared.frame.Kind.TheVariants.{Taken}
 use Rattle.stable_buffer.specs.Low.{low_disk}
 use Rattle.stable_buffer.specs.High.{IsHighReady, high_count, high_disk}
 use Rattle.high_receiver.specs.Receiving.{IsRecvReady, recv_count, recv_end, recv_row, recv_size, recv_disk, recv_is_open}
+use Rattle.pump_core.specs.History.{History}
 use Rattle.pump_core.specs.World.{World}
 use Rattle.pump_core.specs.Lawful.{IsLawful}
 use Rattle.pump_core.specs.Passage.{Low, High, shape_of_row}
@@ -31,6 +32,7 @@ use Rattle.two_worlds.specs.Connections.{waits_of, is_broken_of, reading_of}
 use Rattle.two_worlds.specs.Disks.{DisksFit}
 use Rattle.two_worlds.specs.Timelines.{IsAtRest}
 use Rattle.two_worlds.specs.declared.pump.parts.Parts.{Parts}
+use Rattle.two_worlds.specs.declared.pump.state.BareDisks.{BareDisks}
 
 -- ---- the world ----
 
@@ -92,8 +94,8 @@ pub record HoldsWorld (k : Kept) (w : World) : Type 0 where
 -- ---- the parts ----
 
 -- the low process is up, stands for this history, and has its store
-pub record LowIsReady {D : Type 0} (m : Meaning D) (c : Parts D) (p : Past) : Type 0 where
-  pub history : low.StandsFor c.low p.history
+pub record LowIsReady {D : Type 0} (m : Meaning D) (c : Parts D) (h : History) : Type 0 where
+  pub history : low.StandsFor c.low h
   pub store : IsStoreOf m c.low c.low_store
   pub up : low.is_down c.low ≡ false
   pub between : low.IsBetweenLooks c.low
@@ -110,9 +112,9 @@ high_past_of c p = record {
   moment = high.last_of c.high;
 }
 
--- the high process is up, stands for this, and has its store
-pub record HighIsReady {D : Type 0} (m : Meaning D) (c : Parts D) (p : Past) : Type 0 where
-  pub past : HighStandsFor c.high (high_past_of c p)
+-- the high process is up, has been through this, and has its store
+pub record HighIsReady {D : Type 0} (m : Meaning D) (c : Parts D) (u : high_past.ProcessPast) : Type 0 where
+  pub past : HighStandsFor c.high u
   pub store : IsHighReady m c.high_store
   pub count : high_count c.high_store ≡ high.removed_of c.high
   pub up : high.is_down c.high ≡ false
@@ -126,13 +128,13 @@ pub record RecvIsReady {D : Type 0} (m : Meaning D) (c : Parts D) : Type 0 where
   pub row : recv_row c.receiver ≡ c.row
   pub size : recv_size c.receiver ≡ receiver_size
 
--- the two ends of the passage did this, and each fits its process
-pub record EndsAreReady {D : Type 0} (c : Parts D) (p : Past) : Type 0 where
+-- the two ends of the passage published these times, and each fits its process
+pub record EndsAreReady {D : Type 0} (c : Parts D) (published : List ℕ) : Type 0 where
   pub low : Low
   pub high : High
   pub stand : EndsStand c.ends low high
   pub shape : shape_of c.ends ≡ shape_of_row c.row
-  pub times : high.times ≡ p.times
+  pub times : high.times ≡ published
   pub low_fits : low_ends.FitsEnd c.low low
   pub high_fits : high_ends.FitsEnd c.high high
 
@@ -165,10 +167,10 @@ pub record Stands {D : Type 0} (m : Meaning D) (c : Parts D) (p : Past) : Type 0
   pub sound : IsSound c.row p
   pub world : HoldsWorld (kept_of p.returned_before c) p.world
   pub arrivals : KeepsArrivals c p
-  pub low_ready : LowIsReady m c p
-  pub high_ready : HighIsReady m c p
+  pub low_ready : LowIsReady m c p.history
+  pub high_ready : HighIsReady m c (high_past_of c p)
   pub recv_ready : RecvIsReady m c
-  pub ends : EndsAreReady c p
+  pub ends : EndsAreReady c p.times
   pub packets : KeepsPackets c
   pub disks : DisksFit m c.row (low_disk c.low_store) (high_disk c.high_store) (recv_disk c.receiver) p.world
 
@@ -179,7 +181,14 @@ StandsForSome m c = (p : Past) × Stands m c p
 abbrev pub is_down : {D : Type 0} → Parts D → Bool
 is_down c = low.is_down c.low || high.is_down c.high || not (recv_is_open c.receiver)
 
+-- the disks of the parts, bare
+abbrev pub bare_of : {D : Type 0} → Parts D → BareDisks D
+bare_of c = record { row = c.row; low = low_disk c.low_store; high = high_disk c.high_store; recv = recv_disk c.receiver }
+
+abbrev pub bare_disk : {D : Type 0} → Role → BareDisks D → D
+bare_disk roles.Low d = d.low
+bare_disk roles.High d = d.high
+bare_disk roles.Recv d = d.recv
+
 abbrev pub disk_at : {D : Type 0} → Role → Parts D → D
-disk_at roles.Low c = low_disk c.low_store
-disk_at roles.High c = high_disk c.high_store
-disk_at roles.Recv c = recv_disk c.receiver
+disk_at role c = bare_disk role (bare_of c)

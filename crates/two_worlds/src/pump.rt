@@ -1,13 +1,13 @@
 //! The whole pump of a session over three disks, on one thread.
 
 mod carry;
-mod close;
-mod readied;
 mod high_look;
 mod lines;
 mod low_look;
 mod open;
 mod parts;
+mod readied;
+mod state;
 #[cfg(test)]
 mod tests;
 
@@ -19,15 +19,16 @@ use disk_model::Disk;
 use parts::Parts;
 use pump_frame::SessionRow;
 use script_reader::{EventHead, Line, LineHead};
+use state::PumpState;
 use std::alloc::Global;
 
 /// A whole session: its processes, its passage, its receiver, over three disks.
 #[derive(Drop)]
 pub struct Pump<D: Disk> {
-    parts: Parts<D>,
-    // What is read of the disks, and what a crash leaves of them, is a lawful world's, and until a
-    // call of a disk fails the parts stand for it.
-    ghost keeps: { ∥ Keeps D.told parts ∥₁ },
+    state: PumpState<D>,
+    // Until it is down its parts work. What is read of disks that tell what they hold, and what a crash
+    // leaves of them, is a lawful world's, for which the parts stand until then.
+    ghost keeps: { ∥ Keeps D.told state ∥₁ },
 }
 
 ghost use Rattle.two_worlds.specs.Keeping.{Keeps};
@@ -45,12 +46,12 @@ impl<D: Disk> Pump<D> {
     ghost use Rattle.two_worlds.specs.Disks.{Opens, CrashesOpen, LeaveWorld};
     ghost use Rattle.recovery.specs.Calls.{is_device as is_device_fault};
     ghost use Rattle.two_worlds.specs.LowPumps.{is_device};
-    ghost use Rattle.two_worlds.specs.Pumps.{row_of, StandsFor, StandsOrFails, is_down, disk_at, Applies};
+    ghost use Rattle.two_worlds.specs.Pumps.{row_of, StandsFor, StandsOrFails, is_down, disk_at, Applies, AppliesOn};
     ghost use Rattle.two_worlds.specs.Rooms.{HasRoom, DisksGo};
 
-    /// The pump of a lawful row over three disks, which tell what they hold. Each that is empty is
-    /// formatted first. A session begins on what they stand for, of which there is one; where they stand
-    /// for nothing they are refused, for the first cause in the order of `docs/formats.md`, "Disks".
+    /// The pump of a lawful row over three disks. Each that is empty is formatted first. Where they tell
+    /// what they hold, the session begins on what they stand for, and where they stand for nothing they
+    /// are refused, for the first cause in the order of `docs/formats.md`, "Disks".
     pub fn open(
         alloc: Global,
         row: &SessionRow,
@@ -59,11 +60,10 @@ impl<D: Disk> Pump<D> {
         recv: D,
     ) -> Result<Pump<D>, NotOpen<D>>
         requires lawful { IsLawfulRow row.now }
-        requires tells { D.told.tells }
-        ensures opens { IfOk result (λ pump. (f : Found) × DisksStandFor D.told row.now low high recv f) }
-        ensures stands { IfOk result (λ pump. (f : Found) → DisksStandFor D.told row.now low high recv f
+        ensures opens { IfOk result (λ pump. D.told.tells → (f : Found) × DisksStandFor D.told row.now low high recv f) }
+        ensures stands { IfOk result (λ pump. D.told.tells → (f : Found) → DisksStandFor D.told row.now low high recv f
             → StandsFor D.told pump (opened row.now f)) }
-        ensures fresh { D.told.reading low ≡ [] → D.told.reading high ≡ [] → D.told.reading recv ≡ []
+        ensures fresh { D.told.tells → D.told.reading low ≡ [] → D.told.reading high ≡ [] → D.told.reading recv ≡ []
             → IfOk result (λ pump. StandsFor D.told pump (fresh row.now)) }
         ensures row { IfOk result (λ pump. row_of pump ≡ row.now) }
         ensures up { IfOk result (λ pump. is_down pump ≡ false) }
@@ -71,7 +71,7 @@ impl<D: Disk> Pump<D> {
         ensures high { IfOk result (λ pump. GoesOn D.told row.now roles.High high (disk_at roles.High pump) false) }
         ensures recv { IfOk result (λ pump. GoesOn D.told row.now roles.Recv recv (disk_at roles.Recv pump) false) }
         ensures back { IfErr result (λ e. ComeBack D.told row.now low high recv e) }
-        ensures stops { IfErr result (λ e. (f : Found) → DisksStandFor D.told row.now low high recv f
+        ensures stops { IfErr result (λ e. D.told.tells → (f : Found) → DisksStandFor D.told row.now low high recv f
             → IfSome e.why (λ why. is_device_fault why ≡ true)) }
         ensures room { D.told.tells_plan → HasRoom D.told row.now low high recv
             → IfOk result (λ pump. HasRoom D.told row.now (disk_at roles.Low pump) (disk_at roles.High pump) (disk_at roles.Recv pump)) }
@@ -81,7 +81,9 @@ impl<D: Disk> Pump<D> {
         // It is read so that it is known to be in the range of its type.
         let _id = row.id;
         let parts = Parts::open(alloc, row, low, high, recv)?;
-        Ok(Pump { parts })
+        Ok(Pump {
+            state: PumpState::Open(parts),
+        })
     }
 
     /// A line of the script: what it prints, and whether it stops the session. Until a call of a disk
@@ -91,6 +93,7 @@ impl<D: Disk> Pump<D> {
         requires up { is_down self.old ≡ false }
         ensures applies { (p : Past) → StandsFor D.told self.old p
             → Applies D.told self.old self.new line.now p result.events.items result.stop }
+        ensures on { AppliesOn D.told self.old self.new line.now result.events.items result.stop }
         ensures serve { DisksGo D.told (row_of self.old) (disk_at roles.Low self.old) (disk_at roles.High self.old) (disk_at roles.Recv self.old)
             (disk_at roles.Low self.new) (disk_at roles.High self.new) (disk_at roles.Recv self.new) result.stop }
         ensures down { is_down self.new ≡ is_device result.stop }
@@ -117,24 +120,31 @@ impl<D: Disk> Pump<D> {
         requires up { is_down self.old ≡ false }
         ensures applies { (p : Past) → StandsFor D.told self.old p
             → Applies D.told self.old self.new (line_with bytes.now line.now) p (lines_in events.new.items) result }
+        ensures on { AppliesOn D.told self.old self.new (line_with bytes.now line.now) (lines_in events.new.items) result }
         ensures serve { DisksGo D.told (row_of self.old) (disk_at roles.Low self.old) (disk_at roles.High self.old) (disk_at roles.Recv self.old)
             (disk_at roles.Low self.new) (disk_at roles.High self.new) (disk_at roles.Recv self.new) result }
         ensures down { is_down self.new ≡ is_device result }
         ensures row { row_of self.new ≡ row_of self.old }
     {
-        self.parts.apply(line, bytes, events)
+        match &mut self.state {
+            PumpState::Open(parts) => parts.apply(line, bytes, events),
+            PumpState::Shut(_) => unreachable!(),
+        }
     }
 
-    /// How many messages were accepted, removed, and taken by the receiver.
+    /// How many messages were accepted, removed, and taken by the receiver; 0 of a pump that is shut.
     pub fn counts(&self) -> (u64, u64, u64)
         ensures { (p : Past) → StandsFor D.told self.now p
             → result ≡ (length p.world.accepted, p.world.removed, length p.world.received) }
     {
-        (
-            self.parts.low.next(),
-            self.parts.high.removed(),
-            self.parts.receiver.count(),
-        )
+        match &self.state {
+            PumpState::Open(parts) => (
+                parts.low.next(),
+                parts.high.removed(),
+                parts.receiver.count(),
+            ),
+            PumpState::Shut(_) => (0, 0, 0),
+        }
     }
 
     /// The low, the high and the receiver's disk, with no further call. What is read of them stands for
@@ -148,6 +158,7 @@ impl<D: Disk> Pump<D> {
         ensures open { CrashesOpen D.told (row_of self) result.0 result.1 result.2 }
         ensures read { D.told.tells → Opens (row_of self) (D.told.reading result.0) (D.told.reading result.1) (D.told.reading result.2) }
     {
-        self.parts.close()
+        let disks = self.state.into_disks();
+        (disks.low, disks.high, disks.recv)
     }
 }

@@ -1,5 +1,6 @@
 -- What waits on the connection of a pump changes, and nothing else.
 use Rattle.std.proofs.Common.{◌≡◌, ℕ, ◌≤◌, ◌<◌, Bool, false, List, [], ◌++◌, length, ap, ◌∙◌, subst, arith}
+use Rattle.std.proofs.Math.Logic.{∥∥₁_map}
 use Rattle.disk_model.specs.Disk.{Meaning}
 use Rattle.pump_frame.specs.Readings.{Reading, Within}
 use Rattle.pump_core.specs.History.{Arrival}
@@ -9,7 +10,8 @@ use Rattle.script_reader.specs.Steps.{LineComing, Arrives, joined, lost}
 use Rattle.two_worlds.specs.Connections as connections
 use Rattle.two_worlds.specs.Connections.{Connected, waits_of, is_broken_of, reading_of, unused}
 use Rattle.two_worlds.specs.declared.pump.parts.Parts.{Parts}
-use Rattle.two_worlds.specs.Standing.{Stands, StandsForSome}
+use Rattle.two_worlds.specs.Standing.{Stands}
+use Rattle.two_worlds.specs.Working.{Works, IsAble}
 
 module _ {D : Type 0} (m : Meaning D) (c : Parts D) (k : Connected) where
   -- the parts with this connection stand for the past with what waits on it
@@ -57,12 +59,32 @@ module _ {D : Type 0} (m : Meaning D) (c : Parts D) (k : Connected) where
   pub stands_lost : k ≡ unused → (p : Past) → Stands m c p → Stands m (record c { connection = k }) (lost p)
   stands_lost is p s = stands_with p [] false (Within []) (ap waits_of is) (ap is_broken_of is) (ap reading_of is) (omega arith) s
 
-  pub some_joined : (coming : LineComing) → length (waits_of (connections.joined c.connection coming)) ≤ 64 → k ≡ connections.joined c.connection coming
-      → StandsForSome m c → StandsForSome m (record c { connection = k })
-  some_joined coming few is s = (joined s.0 coming, stands_joined s.0 coming few is s.1)
+  works_with : Works m c → Works m (record c { connection = k })
+  works_with w = record {
+    row = w.row;
+    history = w.history;
+    past = w.past;
+    times = w.times;
+    low_ready = record { history = w.low_ready.history; store = w.low_ready.store; up = w.low_ready.up; between = w.low_ready.between; row = w.low_ready.row; last = w.low_ready.last };
+    high_ready = record { past = w.high_ready.past; store = w.high_ready.store; count = w.high_ready.count; up = w.high_ready.up; between = w.high_ready.between; row = w.high_ready.row; last = w.high_ready.last };
+    recv_ready = record { ready = w.recv_ready.ready; row = w.recv_ready.row; size = w.recv_ready.size };
+    ends = record { low = w.ends.low; high = w.ends.high; stand = w.ends.stand; shape = w.ends.shape; times = w.ends.times; low_fits = w.ends.low_fits; high_fits = w.ends.high_fits };
+    packets = record { sent = w.packets.sent; returned = w.packets.returned; taken = w.packets.taken };
+    short = record { low_hand = w.short.low_hand; held = w.short.held; high_hand = w.short.high_hand; sent = w.short.sent };
+  }
 
-  pub some_lost : k ≡ unused → StandsForSome m c → StandsForSome m (record c { connection = k })
-  some_lost is s = (lost s.0, stands_lost is s.0 s.1)
+  pub able_joined : (coming : LineComing) → length (waits_of (connections.joined c.connection coming)) ≤ 64 → k ≡ connections.joined c.connection coming
+      → IsAble m c → IsAble m (record c { connection = k })
+  able_joined coming few is able = record {
+    works = ∥∥₁_map able.works works_with;
+    stands = λ told. ∥∥₁_map (able.stands told) (λ s. (joined s.0 coming, stands_joined s.0 coming few is s.1));
+  }
+
+  pub able_lost : k ≡ unused → IsAble m c → IsAble m (record c { connection = k })
+  able_lost is able = record {
+    works = ∥∥₁_map able.works works_with;
+    stands = λ told. ∥∥₁_map (able.stands told) (λ s. (lost s.0, stands_lost is s.0 s.1));
+  }
 
 -- what comes with a line comes with it by the past too
 pub arrives_at : {D : Type 0} (m : Meaning D) (c : Parts D) (p : Past) (session : ℕ) (a : Arriving) (coming : LineComing) → Stands m c p → Arrives session (reading_of c.connection) a coming → Arrives session p.reading a coming

@@ -1,12 +1,10 @@
 -- A DATA that comes to the receiver of parts, in the world.
-use Rattle.std.proofs.Common.{◌≡◌, inl, inr, ℕ, ◌+◌, ◌-◌, ◌^◌, ◌≤◌, ◌<◌, Bool, true, false, cond, List, [], ◌∷◌, ◌++◌, length, drop, None, Some, refl, sym, ap, ◌∙◌, subst, arith, nat_lt}
+use Rattle.std.proofs.Common.{◌≡◌, inl, inr, ℕ, ◌+◌, ◌-◌, ◌≤◌, ◌<◌, Bool, true, false, cond, List, [], ◌∷◌, ◌++◌, length, drop, None, Some, refl, sym, ap, ◌∙◌, subst, arith, nat_lt}
 use Rattle.std.specs.Prelude.{slice_get, ◌&&◌, ◌==◌}
 use Rattle.std.proofs.lemmas.Bool.Decides.{nat_tests}
-use Rattle.std.proofs.lemmas.Option.{slice_get_within}
 use Rattle.std.proofs.lemmas.List.{drop-append-le}
 use Rattle.circular_buffer.specs.Buffer.{keep_last}
 use Rattle.disk_model.specs.Disk.{Meaning}
-use Rattle.pump_frame.specs.declared.row.SessionRow.{SessionRow}
 use Rattle.pump_frame.specs.declared.frame.Item.{Item}
 use Rattle.pump_frame.specs.declared.payload.Payload.{Payload}
 use Rattle.pump_core.specs.declared.event.Event.TheVariants.{CarryData, TakeBegin, TakeEnd}
@@ -15,7 +13,7 @@ use Rattle.pump_core.specs.Lawful.{IsLawful, IsMessage}
 use Rattle.pump_core.specs.Events.{Happens, Run, carried, took}
 use Rattle.pump_core.proofs.Lists.{All-at, length-push}
 use Rattle.pump_core.proofs.Laws.{runs_lawfully}
-use Rattle.high_receiver.specs.Receiving.{recv_count, recv_end, recv_row}
+use Rattle.high_receiver.specs.Receiving.{recv_count, recv_end}
 use Rattle.script_reader.specs.Past.{Past}
 use Rattle.pump_core.specs.HighLooks.{Perhaps}
 use Rattle.script_reader.specs.Highs.{place, overfills, receiver_size, log_end}
@@ -40,17 +38,6 @@ module _ {D : Type 0} (m : Meaning D) (c : Parts D) (p : Past) (back : ℕ) (pac
 
   message : IsMessage p.world.removed p.world.accepted packet
   message = All-at (IsMessage p.world.removed p.world.accepted) p.world.sent (place p.world.sent back) packet stands.sound.lawful.bounded.sent at_world
-
-  pub small : packet.number < 2 ^ 48
-  small =
-      let within = slice_get_within p.world.accepted packet.number packet.payload message.payload in
-      let store = stands.low_ready.store in
-      omega (arith, within, stands.world.accepted, store.count, store.ready.count)
-
-  pub short : length packet.payload ≤ (recv_row c.receiver).message
-  short =
-      let le = All-at (λ (x : Payload). length x ≤ c.row.message) p.world.accepted packet.number packet.payload stands.sound.fits message.payload in
-      subst (λ (r : SessionRow). length packet.payload ≤ r.message) (sym stands.recv_ready.row) le
 
   below : packet.number ≤ length p.world.received
   below = let n = message.number in let r = stands.sound.lawful.delivered.removed in omega (arith, n, r)

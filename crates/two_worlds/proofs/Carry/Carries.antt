@@ -32,7 +32,7 @@ use Rattle.script_reader.specs.Breaks.{IsUntaken}
 use Rattle.two_worlds.specs.declared.pump.parts.Parts.{Parts}
 use Rattle.two_worlds.specs.Private.Carrying.{printed_taken}
 use Rattle.two_worlds.specs.Disks.{DisksFit, LowFits, HighFits, RecvFits}
-use Rattle.two_worlds.specs.Doing.{Fails, LeavesFit}
+use Rattle.two_worlds.specs.Doing.{PartsFail, PartsLeaveFit}
 use Rattle.two_worlds.specs.Standing.{kept_of, HoldsWorld, Stands, is_down, disk_at}
 use Rattle.two_worlds.specs.Timelines.{IsAtRest}
 use Rattle.two_worlds.proofs.Disks.Images.{low_alone, high_alone, all_alone}
@@ -51,7 +51,7 @@ returned old new n capacity is =
 
 -- the carry led to this
 abbrev pub Leads : {D : Type 0} → Meaning D → Parts D → Past → ℕ → List Event → List Event → Parts D → Type 0
-Leads m c p back out now d = (q : Past) × (printed : List Event) × IsCarried c.row p back q printed × (now ≡ out ++ printed) × Stands m d q × LeavesFit m c d p q
+Leads m c p back out now d = (q : Past) × (printed : List Event) × IsCarried c.row p back q printed × (now ≡ out ++ printed) × Stands m d q × PartsLeaveFit m c d p q
 
 module _ {D : Type 0} (m : Meaning D) (c : Parts D) (p : Past) (back : ℕ) (packet : Item) (stands : Stands m c p) (less : back < length c.sent.items)
     (at : cond (nat_lt back (length c.sent.items)) (slice_get c.sent.items (length c.sent.items - back - 1)) None ≡ Some packet) (new : Receiver D) where
@@ -93,7 +93,7 @@ module _ {D : Type 0} (m : Meaning D) (c : Parts D) (p : Past) (back : ℕ) (pac
       → overfills p.world packet ≡ false → Happens p.world (CarryData (place p.world.sent back)) v → Perhaps v TakeBegin (TakeEnd ∷ []) u
       → printed_taken c.row.id packet.number taken ≡ printed_carry c.row.id p.world packet
       → Stands m (record c { receiver = new; returned = returned }) (record p { world = u })
-      → LeavesFit m c (record c { receiver = new; returned = returned }) p (record p { world = u })
+      → PartsLeaveFit m c (record c { receiver = new; returned = returned }) p (record p { world = u })
       → Leads m c p back out (out ++ printed_taken c.row.id packet.number taken ∷ []) (record c { receiver = new; returned = returned })
   leads returned v u taken out fits carries takes prints standing leave = (
     record p { world = u },
@@ -136,7 +136,7 @@ module _ {D : Type 0} (m : Meaning D) (c : Parts D) (p : Past) (back : ℕ) (pac
   -- a crash at any moment of a taking leaves the messages from before, or this one too
   taking_fits : (d : Parts D) (q : Past) (result : Result Taken TakeFault) → Stores m packet.payload c.receiver new result
       → disk_at roles.Low d ≡ disk_at roles.Low c → disk_at roles.High d ≡ disk_at roles.High c → disk_at roles.Recv d ≡ recv_disk new
-      → ((x : List ℕ) → RecvStands c.row (p.world.received ++ packet.payload ∷ []) x → RecvFits c.row q.world x) → LeavesFit m c d p q
+      → ((x : List ℕ) → RecvStands c.row (p.world.received ++ packet.payload ∷ []) x → RecvFits c.row q.world x) → PartsLeaveFit m c d p q
   taking_fits d q result s low high recv more = record {
     low = low_alone m c p stands (LowFits c.row q.world) (disk_at roles.Low d) low;
     high = high_alone m c p stands (HighFits c.row q.world) (disk_at roles.High d) high;
@@ -184,7 +184,7 @@ module _ {D : Type 0} (m : Meaning D) (c : Parts D) (p : Past) (back : ℕ) (pac
       (λ i. stands.low_ready.up i || stands.high_ready.up i || not (closed i))
 
   pub breaks : (count : ℕ) → AnsweredWith m packet.payload packet.number (recv_count c.receiver) E (recv_size c.receiver) c.receiver new (Err (faults.Device count))
-      → (q : Past) × IsUntaken p back q × Fails m (record c { receiver = new }) q roles.Recv count × LeavesFit m c (record c { receiver = new }) p q
+      → (q : Past) × IsUntaken p back q × PartsFail m (record c { receiver = new }) q roles.Recv count × PartsLeaveFit m c (record c { receiver = new }) p q
   breaks count answered =
       let a = in_store m packet.payload packet.number (recv_count c.receiver) E (recv_size c.receiver) c.receiver new count answered in
       let s = a.2 in
@@ -193,32 +193,34 @@ module _ {D : Type 0} (m : Meaning D) (c : Parts D) (p : Past) (back : ℕ) (pac
       let fits : E + 2 + length packet.payload ≤ receiver_size = subst (λ (n : ℕ). E + 2 + length packet.payload ≤ n) stands.recv_ready.size a.1 in (
         record p { world = u },
         record { packet = packet; at = led.at_world m c p back packet stands less at; fits = led.no_overfill_next m c p back packet stands less at a.0 fits; begins = led.runs_to_taking m c p back packet stands less at a.0; rest = refl },
-        record {
-          down = fails_down s.closed;
-          counted = cc;
-          lawful = led.lawful_taking m c p back packet stands less at a.0;
-          fits = record {
-            capacity = stands.world.capacity;
-            count = (fits_row m c p stands).count;
-            end = omega (arith, fits, led.log_end_push p.world.received packet.payload, stands.world.end);
-          };
-          disks = record {
-            low_disk = stands.disks.low_disk;
-            high_disk = stands.disks.high_disk;
-            recv_disk = each_after m (RecvFits c.row p.world) (RecvFits c.row u) (MayTake (recv_row c.receiver) packet.payload) (recv_disk c.receiver) (recv_disk new) stands.disks.recv_disk
-                (λ old now fit may. ⊎_elim
-                (λ stays. inl (subst (λ (r : SessionRow). RecvStands r p.world.received now) row_is stays))
-                (λ more. inr (packet.payload, refl, refl, subst (λ (r : SessionRow). RecvStands r (p.world.received ++ packet.payload ∷ []) now) row_is more))
-                (may.either p.world.received (was old fit)))
-                s.moves;
-          };
-        },
+        (
+          fails_down s.closed,
+          record {
+            counted = cc;
+            lawful = led.lawful_taking m c p back packet stands less at a.0;
+            fits = record {
+              capacity = stands.world.capacity;
+              count = (fits_row m c p stands).count;
+              end = omega (arith, fits, led.log_end_push p.world.received packet.payload, stands.world.end);
+            };
+            disks = record {
+              low_disk = stands.disks.low_disk;
+              high_disk = stands.disks.high_disk;
+              recv_disk = each_after m (RecvFits c.row p.world) (RecvFits c.row u) (MayTake (recv_row c.receiver) packet.payload) (recv_disk c.receiver) (recv_disk new) stands.disks.recv_disk
+                  (λ old now fit may. ⊎_elim
+                  (λ stays. inl (subst (λ (r : SessionRow). RecvStands r p.world.received now) row_is stays))
+                  (λ more. inr (packet.payload, refl, refl, subst (λ (r : SessionRow). RecvStands r (p.world.received ++ packet.payload ∷ []) now) row_is more))
+                  (may.either p.world.received (was old fit)))
+                  s.moves;
+            };
+          },
+        ),
         taking_fits (record c { receiver = new }) (record p { world = u }) (Err (faults.Device count)) s refl refl refl (λ x is. inr (packet.payload, refl, refl, is)),
       )
 
   -- the message does not fit
   pub overfull : (end size_of_message size : ℕ) → AnsweredWith m packet.payload packet.number (recv_count c.receiver) E (recv_size c.receiver) c.receiver new (Err (faults.LogFull end size_of_message size))
-      → IsOverfull p.world back end size_of_message size × Stands m (record c { receiver = new }) p × LeavesFit m c (record c { receiver = new }) p p
+      → IsOverfull p.world back end size_of_message size × Stands m (record c { receiver = new }) p × PartsLeaveFit m c (record c { receiver = new }) p p
   overfull end k size answered =
       let a = full m packet.payload packet.number (recv_count c.receiver) E (recv_size c.receiver) c.receiver new end k size answered in
       let over : receiver_size < E + 2 + length packet.payload = subst (λ (n : ℕ). n < E + 2 + length packet.payload) stands.recv_ready.size a.over in (

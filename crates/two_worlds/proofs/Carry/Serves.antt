@@ -1,6 +1,5 @@
 -- The disks' calls in a carry: only the receiver's disk is called, and no crash leaves more removed than taken.
-use Rattle.std.proofs.Common.{◌≡◌, inl, inr, ⊎_elim, ℕ, ◌+◌, ◌-◌, ◌≤◌, ◌<◌, Bool, true, false, cond, List, [], ◌∷◌, ◌++◌, length, None, Some, Result, Ok, Err, refl, sym, ap, subst, arith, nat_lt, length-append, IsOk, IsErr, IfSome}
-use Rattle.std.specs.Prelude.{slice_get}
+use Rattle.std.proofs.Common.{◌≡◌, inl, inr, ⊎_elim, ℕ, ◌+◌, ◌≤◌, Bool, true, false, List, [], ◌∷◌, ◌++◌, length, Result, Ok, Err, refl, sym, ap, subst, arith, length-append, IsOk, IsErr}
 use Rattle.std.specs.Coded.{le_prop}
 use Rattle.std.proofs.Math.Logic.{∥∥₁_elim}
 use Rattle.std.proofs.Props.{props}
@@ -9,14 +8,13 @@ use Rattle.disk_model.specs.Disk.{Meaning, Each, Moves, Answers}
 use Rattle.disk_model.specs.declared.name.Role.TheVariants as roles
 use Rattle.disk_model.proofs.Run.{each_after, each_weaker}
 use Rattle.pump_frame.specs.declared.row.SessionRow.{SessionRow}
-use Rattle.pump_frame.specs.declared.frame.Item.{Item}
 use Rattle.stable_buffer.specs.Register.{value_of}
 use Rattle.stable_buffer.specs.Stands.{low_size}
 use Rattle.stable_buffer.specs.Log.{RecvStands}
 use Rattle.stable_buffer.specs.High.{high_disk}
 use Rattle.low_process.specs.Storing.{outcome}
 use Rattle.high_receiver.specs.Steps.{MayTake}
-use Rattle.high_receiver.specs.Receiving.{Stores, answer_at_once, recv_count, recv_end, recv_row, recv_size, recv_disk}
+use Rattle.high_receiver.specs.Receiving.{recv_count, recv_end, recv_row, recv_size, recv_disk}
 use Rattle.high_receiver.specs.declared.receiver.Receiver.{Receiver}
 use Rattle.high_receiver.specs.declared.values.Taken.{Taken}
 use Rattle.high_receiver.specs.declared.values.Taken.TheVariants as answers
@@ -30,8 +28,8 @@ use Rattle.two_worlds.specs.Disks.{RecvFits, HighFits, RemovesBehind}
 use Rattle.two_worlds.specs.Private.Serving.{DisksServe}
 use Rattle.two_worlds.specs.Rooms.{Serves}
 use Rattle.two_worlds.specs.Standing.{Stands, StandsForSome, disk_at}
-use Rattle.two_worlds.proofs.Carry.Answered.{AnsweredWith, answered, in_store, full, took, repeated}
-use Rattle.two_worlds.proofs.Carry.Carried.{not_ahead}
+use Rattle.two_worlds.specs.Working.{IsAble}
+use Rattle.two_worlds.proofs.Carry.Answered.{AnsweredWith, in_store, full, took, repeated}
 use Rattle.two_worlds.proofs.Opening.Ready.{high_reading, recv_reading}
 
 -- a receiver's disk has taken so many at least
@@ -70,9 +68,9 @@ module _ {D : Type 0} (m : Meaning D) (c : Parts D) where
       (λ disk fit. ap (λ (v : ℕ × ℕ). v.0) (high_reading c.row p.world disk s.sound.rest.removing fit).value) s.disks.high_disk
 
   -- the high disk is left alone
-  pub behind_alone : (recv : D) → ∥ StandsForSome m c ∥₁ → ((p : Past) → Stands m c p → Each m (HasTaken p.world.removed) recv)
+  pub behind_alone : (recv : D) → (m.tells → ∥ StandsForSome m c ∥₁) → ((p : Past) → Stands m c p → Each m (HasTaken p.world.removed) recv)
       → RemovesBehind m (high_disk c.high_store) (high_disk c.high_store) recv
-  behind_alone recv some has = λ told b since d image. ∥∥₁_elim some le_prop (λ s.
+  behind_alone recv some has = λ told b since d image. ∥∥₁_elim (some (m.images_tell told)) le_prop (λ s.
       let high = (high_has s.0 s.1).images told b (m.only_now told (high_disk c.high_store) b since) in
       let taken = (has s.0 s.1).images told d image in
       omega (arith, high, taken))
@@ -93,25 +91,12 @@ store_serves m fits least old new is_fault result room there back ok a = inr (re
   disarmed = a.disarmed;
 })
 
--- a receiver answers to a packet that is kept: it is not ahead
-pub answered_with : {D : Type 0} (m : Meaning D) (c : Parts D) (some : ∥ StandsForSome m c ∥₁) (back : ℕ) (packet : Item) → back < length c.sent.items
-    → cond (nat_lt back (length c.sent.items)) (slice_get c.sent.items (length c.sent.items - back - 1)) None ≡ Some packet
-    → (new : Receiver D) (result answer : Result Taken TakeFault) → result ≡ answer
-    → IfSome (answer_at_once (recv_count c.receiver) (recv_end c.receiver) (recv_size c.receiver) packet.number (length packet.payload)) (λ a. result ≡ a)
-    → IfSome (answer_at_once (recv_count c.receiver) (recv_end c.receiver) (recv_size c.receiver) packet.number (length packet.payload)) (λ a. new ≡ c.receiver)
-    → (answer_at_once (recv_count c.receiver) (recv_end c.receiver) (recv_size c.receiver) packet.number (length packet.payload) ≡ None → Stores m packet.payload c.receiver new result)
-    → AnsweredWith m packet.payload packet.number (recv_count c.receiver) (recv_end c.receiver) (recv_size c.receiver) c.receiver new answer
-answered_with m c some back packet less at new result answer is at_once unchanged stores =
-    let le = ∥∥₁_elim some le_prop (λ s. not_ahead m c s.0 back packet s.1 less at) in
-    subst (λ r. AnsweredWith m packet.payload packet.number (recv_count c.receiver) (recv_end c.receiver) (recv_size c.receiver) c.receiver new r) is
-    (answered m packet.payload packet.number (recv_count c.receiver) (recv_end c.receiver) (recv_size c.receiver) c.receiver new result le at_once unchanged stores)
-
-module _ {D : Type 0} (m : Meaning D) (c : Parts D) (some : ∥ StandsForSome m c ∥₁) (message : List ℕ) (n : ℕ) (new : Receiver D) where
+module _ {D : Type 0} (m : Meaning D) (c : Parts D) (able : IsAble m c) (message : List ℕ) (n : ℕ) (new : Receiver D) where
   abbrev pub With : Result Taken TakeFault → Type 0
   With result = AnsweredWith m message n (recv_count c.receiver) (recv_end c.receiver) (recv_size c.receiver) c.receiver new result
 
   size_is : recv_size c.receiver ≡ receiver_size
-  size_is = ∥∥₁_elim some (hlevel props) (λ s. s.1.recv_ready.size)
+  size_is = ∥∥₁_elim able.works (hlevel props) (λ s. s.recv_ready.size)
 
   roomy : recv_end c.receiver + 2 + length message ≤ recv_size c.receiver → receiver_size ≤ m.room (recv_disk c.receiver) → recv_end c.receiver + 2 + length message ≤ m.room (recv_disk c.receiver)
   roomy fits room = let e = size_is in omega (arith, fits, room, e)
@@ -126,7 +111,7 @@ module _ {D : Type 0} (m : Meaning D) (c : Parts D) (some : ∥ StandsForSome m 
         low_goes = serves_alone m (low_size c.row) (disk_at roles.Low c);
         high_goes = serves_alone m 80 (disk_at roles.High c);
         recv_goes = store_serves m (recv_end c.receiver + 2 + length message ≤ m.room (recv_disk c.receiver)) receiver_size (recv_disk c.receiver) (recv_disk new) false (Ok answers.Took) (roomy a.1) (λ e. e) (λ e. e) (λ e. e) a.2.answers;
-        behind = behind_alone m c (recv_disk new) some (λ p s. recv_has_after m c p message (recv_disk new) s a.2.moves);
+        behind = behind_alone m c (recv_disk new) able.stands (λ p s. recv_has_after m c p message (recv_disk new) s a.2.moves);
       }
   serves_ok answers.Repeat returned w =
       let a = repeated m message n (recv_count c.receiver) (recv_end c.receiver) (recv_size c.receiver) c.receiver new w in
@@ -134,7 +119,7 @@ module _ {D : Type 0} (m : Meaning D) (c : Parts D) (some : ∥ StandsForSome m 
         low_goes = serves_alone m (low_size c.row) (disk_at roles.Low c);
         high_goes = serves_alone m 80 (disk_at roles.High c);
         recv_goes = inl (ap (λ (r : Receiver D). recv_disk r) a.1, refl);
-        behind = behind_alone m c (recv_disk new) some (unchanged a.1);
+        behind = behind_alone m c (recv_disk new) able.stands (unchanged a.1);
       }
 
   pub serves_device : (count : ℕ) → With (Err (faults.Device count)) → DisksServe m c (record c { receiver = new }) (Err (Device roles.Recv count))
@@ -144,7 +129,7 @@ module _ {D : Type 0} (m : Meaning D) (c : Parts D) (some : ∥ StandsForSome m 
         low_goes = serves_alone m (low_size c.row) (disk_at roles.Low c);
         high_goes = serves_alone m 80 (disk_at roles.High c);
         recv_goes = store_serves m (recv_end c.receiver + 2 + length message ≤ m.room (recv_disk c.receiver)) receiver_size (recv_disk c.receiver) (recv_disk new) true (Err (faults.Device count)) (roomy a.1) (λ e. e) (λ e. e) (λ e. e) a.2.answers;
-        behind = behind_alone m c (recv_disk new) some (λ p s. recv_has_after m c p message (recv_disk new) s a.2.moves);
+        behind = behind_alone m c (recv_disk new) able.stands (λ p s. recv_has_after m c p message (recv_disk new) s a.2.moves);
       }
 
   pub serves_full : (end size_of_message size : ℕ) → With (Err (faults.LogFull end size_of_message size)) → DisksServe m c (record c { receiver = new }) (Err (Full end size_of_message size))
@@ -154,5 +139,14 @@ module _ {D : Type 0} (m : Meaning D) (c : Parts D) (some : ∥ StandsForSome m 
         low_goes = serves_alone m (low_size c.row) (disk_at roles.Low c);
         high_goes = serves_alone m 80 (disk_at roles.High c);
         recv_goes = inl (ap (λ (r : Receiver D). recv_disk r) a.same, refl);
-        behind = behind_alone m c (recv_disk new) some (unchanged a.same);
+        behind = behind_alone m c (recv_disk new) able.stands (unchanged a.same);
       }
+
+-- a receiver that did nothing
+pub serves_nothing : {D : Type 0} (m : Meaning D) (c : Parts D) (able : IsAble m c) (new : Receiver D) → new ≡ c.receiver → DisksServe m c (record c { receiver = new }) (Ok tt)
+serves_nothing {D} m c able new same = record {
+  low_goes = serves_alone m (low_size c.row) (disk_at roles.Low c);
+  high_goes = serves_alone m 80 (disk_at roles.High c);
+  recv_goes = inl (ap (λ (r : Receiver D). recv_disk r) same, refl);
+  behind = behind_alone m c (recv_disk new) able.stands (λ p s. subst (λ (r : Receiver D). Each m (HasTaken p.world.removed) (recv_disk r)) (sym same) (recv_has m c p s));
+}

@@ -147,9 +147,9 @@ module _ (row : SessionRow) (a b c : List ℕ) (small : row.message < 2 ^ 16) wh
       opens_by r.0 r.1 some
 
 -- whatever the lawful world is that the disks hold
-module _ {D : Type 0} (m : Meaning D) (row : SessionRow) (small : row.message < 2 ^ 16) (low high recv : D) (h : ∥ Hold m row low high recv ∥₁) where
+module _ {D : Type 0} (m : Meaning D) (row : SessionRow) (small : row.message < 2 ^ 16) (low high recv : D) (h : m.tells → ∥ Hold m row low high recv ∥₁) where
   pub crashes_surely_open : CrashesOpen m row low high recv
-  crashes_surely_open told a b c ia ib ic = opens_surely row a b c small (∥∥₁_map h (λ t. crashes_open m row low high recv t told a b c ia ib ic))
+  crashes_surely_open told a b c ia ib ic = opens_surely row a b c small (∥∥₁_map (h (m.images_tell told)) (λ t. crashes_open m row low high recv t told a b c ia ib ic))
 
   pub readings_surely_open : m.tells → Opens row (m.reading low) (m.reading high) (m.reading recv)
-  readings_surely_open told = opens_surely row _ _ _ small (∥∥₁_map h (λ t. readings_open m row low high recv t told))
+  readings_surely_open told = opens_surely row _ _ _ small (∥∥₁_map (h told) (λ t. readings_open m row low high recv t told))

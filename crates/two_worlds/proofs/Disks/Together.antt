@@ -20,7 +20,8 @@ use Rattle.two_worlds.specs.Disks.{HighFits, RecvFits, RemovesBehind}
 use Rattle.two_worlds.specs.Doing.{LeavesAlone}
 use Rattle.two_worlds.specs.Private.Serving.{DisksServe}
 use Rattle.two_worlds.specs.Rooms.{Serves, stops_at}
-use Rattle.two_worlds.specs.Standing.{StandsForSome, disk_at}
+use Rattle.two_worlds.specs.Standing.{disk_at}
+use Rattle.two_worlds.specs.Working.{IsAble}
 use Rattle.two_worlds.proofs.Opening.Ready.{high_reading, recv_reading}
 
 -- ---- two rows of calls ----
@@ -64,9 +65,9 @@ removed_at row w disk none fit = ap (λ (v : ℕ × ℕ). v.0) (high_reading row
 received_at : (row : SessionRow) (w : World) (disk : List ℕ) → w.packet ≡ None → RecvFits row w disk → (value_of disk).0 ≡ length w.received
 received_at row w disk none fit = ap (λ (v : ℕ × ℕ). v.0) (recv_reading row w disk none fit).value
 
-module _ {D : Type 0} (m : Meaning D) (c : Parts D) (some : ∥ StandsForSome m c ∥₁) where
+module _ {D : Type 0} (m : Meaning D) (c : Parts D) (able : IsAble m c) where
   still_behind : RemovesBehind m (disk_at roles.High c) (disk_at roles.High c) (disk_at roles.Recv c)
-  still_behind = λ told b since d image. ∥∥₁_elim some le_prop (λ s.
+  still_behind = λ told b since d image. ∥∥₁_elim (able.stands (m.images_tell told)) le_prop (λ s.
       let high = removed_at c.row s.0.world b s.1.sound.rest.removing (s.1.disks.high_disk.images told b (m.only_now told (disk_at roles.High c) b since)) in
       let recv = received_at c.row s.0.world d s.1.sound.rest.packet (s.1.disks.recv_disk.images told d image) in
       let le = s.1.sound.lawful.delivered.removed in

@@ -24,7 +24,7 @@ use Rattle.script_reader.specs.Past.{Past}
 use Rattle.script_reader.specs.Highs.{IsReturnBy}
 use Rattle.two_worlds.specs.Standing.{Stands}
 use Rattle.two_worlds.specs.Disks.{LowFits, HighFits, RecvFits}
-use Rattle.two_worlds.specs.Doing.{Fails, LeavesFit}
+use Rattle.two_worlds.specs.Doing.{PartsFail, PartsLeaveFit}
 use Rattle.two_worlds.specs.Private.HighLooks.{ComesBack, LeadsWith, BreaksWith}
 use Rattle.two_worlds.specs.declared.pump.parts.Parts.{Parts}
 use Rattle.two_worlds.proofs.Disks.Images.{low_alone, recv_alone, all_alone, high_leaves}
@@ -49,8 +49,8 @@ module _ {D : Type 0} (m : Meaning D) (c : Parts D) (p : Past) (stands : Stands 
   pub record Broken (back : Option ℕ) (faults : ℕ) : Type 0 where
     pub end : Past
     pub breaks : BreaksWith moment back roles.High p end []
-    pub fails : Fails m (broken_parts c moment q store ends) end roles.High faults
-    pub fits : LeavesFit m c (broken_parts c moment q store ends) p end
+    pub fails : PartsFail m (broken_parts c moment q store ends) end roles.High faults
+    pub fits : PartsLeaveFit m c (broken_parts c moment q store ends) p end
 
   breaks_removing : (frame : Option Frame) → LeavesCounted m c.high c.high_store store frame → (k faults : ℕ) → TakesHand c p k → Fares m Remove c.high q c.high_store store (failed (Device faults)) → Broken (Some k) faults
   breaks_removing frame leaves k faults takes fares = record {
@@ -60,14 +60,16 @@ module _ {D : Type 0} (m : Meaning D) (c : Parts D) (p : Past) (stands : Stands 
       record { answered = with_due p.world; returns = takes.returns; begins = (refl, stands.sound.rest.removing, refl); rest = refl },
       refl,
     );
-    fails = record {
-      down = ap (λ (b : Bool). (low.is_down c.low || b) || not (recv_is_open c.receiver)) fares.1 ∙ or_true (low.is_down c.low) (not (recv_is_open c.receiver));
-      counted = same_count faults (m.count (high_disk store)) fares.0.fault;
-      lawful = runs_lawfully p.world (ReturnTaken k ∷ RemoveBegin ∷ []) (with_begun p.world) stands.sound.lawful
-          (with_due p.world, takes.returns, (with_begun p.world, (refl, stands.sound.rest.removing, refl), refl));
-      fits = (let f = fits_row m c p stands in record { capacity = f.capacity; count = f.count; end = f.end });
-      disks = broken_disks m c p stands store (Device faults) fares.0;
-    };
+    fails = (
+      ap (λ (b : Bool). (low.is_down c.low || b) || not (recv_is_open c.receiver)) fares.1 ∙ or_true (low.is_down c.low) (not (recv_is_open c.receiver)),
+      record {
+        counted = same_count faults (m.count (high_disk store)) fares.0.fault;
+        lawful = runs_lawfully p.world (ReturnTaken k ∷ RemoveBegin ∷ []) (with_begun p.world) stands.sound.lawful
+            (with_due p.world, takes.returns, (with_begun p.world, (refl, stands.sound.rest.removing, refl), refl));
+        fits = (let f = fits_row m c p stands in record { capacity = f.capacity; count = f.count; end = f.end });
+        disks = broken_disks m c p stands store (Device faults) fares.0;
+      },
+    );
     fits = record {
       low = low_alone m c p stands (LowFits c.row (with_begun p.world)) (low_disk c.low_store) refl;
       high = high_leaves m c p stands (HighFits c.row (with_begun p.world)) store frame leaves (λ x is. inr (refl, is));
@@ -95,7 +97,7 @@ module _ {D : Type 0} (m : Meaning D) (c : Parts D) (p : Past) (stands : Stands 
     pub end : Past
     pub leads : LeadsWith c.row moment back p end []
     pub stand : Stands m (broken_parts c moment q store ends) end
-    pub fits : LeavesFit m c (broken_parts c moment q store ends) p end
+    pub fits : PartsLeaveFit m c (broken_parts c moment q store ends) p end
 
   waits : Stands m (record c { moment = moment }) (record p { moment = moment })
   waits = record {

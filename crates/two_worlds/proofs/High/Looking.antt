@@ -28,10 +28,11 @@ use Rattle.pump_core.specs.HighLooks.{Returns}
 use Rattle.script_reader.specs.Past.{Past}
 use Rattle.script_reader.specs.Highs.{IsHighLook, IsReturnBy, is_ahead}
 use Rattle.two_worlds.specs.Standing.{HoldsWorld, Stands, kept_of, high_past_of}
+use Rattle.two_worlds.specs.Working.{Works}
 use Rattle.two_worlds.specs.Timelines.{IsAtRest}
 use Rattle.stable_buffer.specs.Stands.{HighStands}
 use Rattle.two_worlds.specs.Disks.{LowFits, HighFits, RecvFits, DisksFit}
-use Rattle.two_worlds.specs.Doing.{LeavesFit}
+use Rattle.two_worlds.specs.Doing.{PartsLeaveFit}
 use Rattle.two_worlds.specs.Private.HighLooks.{ComesBack, LeadsWith, most_lines, removed_line, sent_line, printed_look}
 use Rattle.two_worlds.specs.declared.pump.parts.Parts.{Parts}
 use Rattle.two_worlds.proofs.Disks.Images.{low_alone, recv_alone, all_alone, high_leaves}
@@ -67,13 +68,13 @@ none_asked : {D : Type 0} (c : Parts D) (frame : Option Frame) → frame ≡ Non
 none_asked c None e = refl
 none_asked c (Some f) e = absurd (cc)
 
-pub lines_by : {D : Type 0} {m : Meaning D} (c : Parts D) (p : Past) (stands : Stands m c p) (q : HighProcess) (ends : PlainEnds) (moment : ℕ) (frame : Option Frame) (look : HighLook)
+pub lines_by : {D : Type 0} {m : Meaning D} (c : Parts D) (w : Works m c) (q : HighProcess) (ends : PlainEnds) (moment : ℕ) (frame : Option Frame) (look : HighLook)
     → ((l : Low) (h : High) (t : high_past.ProcessPast) → StandsFitting (EndsStand c.ends) c.high l h → HighStandsFor c.high t
     → Looked (shape_of c.ends) true (StandsFitting (EndsStand ends) q) l h c.high q t moment (high.task_at c.high frame) (high.attaches_at c.high frame) look)
     → length (printed_look c.row.id moment look) ≤ most_lines frame
-lines_by c p stands q ends moment frame look looked =
-    let seen = looked stands.ends.low stands.ends.high (high_past_of c p) (stands.ends.stand, stands.ends.high_fits) stands.high_ready.past in
-    few_lines c.row.id moment frame look (λ e. ap (λ (l : HighLook). l.removed) seen.is ∙ ap (λ (t : Task). high_past.removed_in t (high_past_of c p)) (none_asked c frame e))
+lines_by c w q ends moment frame look looked =
+    let seen = looked w.ends.low w.ends.high w.past (w.ends.stand, w.ends.high_fits) w.high_ready.past in
+    few_lines c.row.id moment frame look (λ e. ap (λ (l : HighLook). l.removed) seen.is ∙ ap (λ (t : Task). high_past.removed_in t w.past) (none_asked c frame e))
 
 -- it is no TAKEN that is ahead
 abbrev IsFine : World → Option ℕ → Type 0
@@ -93,14 +94,14 @@ module _ {D : Type 0} (m : Meaning D) (c : Parts D) (p : Past) (stands : Stands 
     pub leads : LeadsWith c.row moment back p end printed
     pub printed_is : printed ≡ printed_look c.row.id moment look
     pub stand : Stands m (looked_parts m c moment q store ends look.sent) end
-    pub fits : LeavesFit m c (looked_parts m c moment q store ends look.sent) p end
+    pub fits : PartsLeaveFit m c (looked_parts m c moment q store ends look.sent) p end
 
   -- .. in the words of a part of a line
   pub led : (back : Option ℕ) (look : HighLook) → Leads back look → (out now : List Event) → now ≡ out ++ printed_look c.row.id moment look
       → (d : Parts D) → d ≡ looked_parts m c moment q store ends look.sent
-      → (end : Past) × (printed : List Event) × LeadsWith c.row moment back p end printed × (now ≡ out ++ printed) × Stands m d end × LeavesFit m c d p end
+      → (end : Past) × (printed : List Event) × LeadsWith c.row moment back p end printed × (now ≡ out ++ printed) × Stands m d end × PartsLeaveFit m c d p end
   led back look l out now told d is =
-      (l.end, l.printed, l.leads, told ∙ ap (λ (more : List Event). out ++ more) (sym l.printed_is), subst (λ (e : Parts D). Stands m e l.end) (sym is) l.stand, subst (λ (e : Parts D). LeavesFit m c e p l.end) (sym is) l.fits)
+      (l.end, l.printed, l.leads, told ∙ ap (λ (more : List Event). out ++ more) (sym l.printed_is), subst (λ (e : Parts D). Stands m e l.end) (sym is) l.stand, subst (λ (e : Parts D). PartsLeaveFit m c e p l.end) (sym is) l.fits)
 
   abbrev past : high_past.ProcessPast
   past = high_past_of c p

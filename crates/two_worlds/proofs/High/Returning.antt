@@ -1,12 +1,14 @@
 -- The TAKEN that comes back: it is among those that were sent, and is put into the frame at hand.
 use Rattle.std.proofs.Common.{◌≡◌, ℕ, ◌+◌, ◌-◌, ◌<◌, List, Some, length, drop, sym, ap, ◌∙◌, subst, arith, length-drop}
 use Rattle.std.specs.Prelude.{slice_get}
+use Rattle.std.proofs.Math.Logic.{∥∥₁_map}
 use Rattle.circular_buffer.specs.Buffer.{keep_last}
 use Rattle.disk_model.specs.Disk.{Meaning}
 use Rattle.script_reader.specs.Past.{Past}
 use Rattle.script_reader.specs.Highs.{place}
 use Rattle.two_worlds.specs.Private.HighLooks.{ComesBack}
 use Rattle.two_worlds.specs.Standing.{Stands}
+use Rattle.two_worlds.specs.Working.{Works, IsAble}
 use Rattle.two_worlds.specs.declared.pump.parts.Parts.{Parts}
 use Rattle.two_worlds.proofs.Carry.Packets.{in_whole, get_drop}
 
@@ -57,6 +59,26 @@ stands_numbered m c n p s = record {
   };
   packets = record { sent = s.packets.sent; returned = s.packets.returned; taken = s.packets.taken };
   disks = s.disks;
+}
+
+works_numbered : {D : Type 0} (m : Meaning D) (c : Parts D) (n : ℕ) → Works m c → Works m (numbered c n)
+works_numbered m c n w = record {
+  row = w.row;
+  history = w.history;
+  past = w.past;
+  times = w.times;
+  low_ready = record { history = w.low_ready.history; store = w.low_ready.store; up = w.low_ready.up; between = w.low_ready.between; row = w.low_ready.row; last = w.low_ready.last };
+  high_ready = record { past = w.high_ready.past; store = w.high_ready.store; count = w.high_ready.count; up = w.high_ready.up; between = w.high_ready.between; row = w.high_ready.row; last = w.high_ready.last };
+  recv_ready = record { ready = w.recv_ready.ready; row = w.recv_ready.row; size = w.recv_ready.size };
+  ends = record { low = w.ends.low; high = w.ends.high; stand = w.ends.stand; shape = w.ends.shape; times = w.ends.times; low_fits = w.ends.low_fits; high_fits = w.ends.high_fits };
+  packets = record { sent = w.packets.sent; returned = w.packets.returned; taken = w.packets.taken };
+  short = record { low_hand = w.short.low_hand; held = w.short.held; high_hand = w.short.high_hand; sent = w.short.sent };
+}
+
+pub able_numbered : {D : Type 0} (m : Meaning D) (c : Parts D) (n : ℕ) → IsAble m c → IsAble m (numbered c n)
+able_numbered m c n able = record {
+  works = ∥∥₁_map able.works (works_numbered m c n);
+  stands = λ told. ∥∥₁_map (able.stands told) (λ s. (s.0, stands_numbered m c n s.0 s.1));
 }
 
 -- so it is the session's TAKEN that comes back

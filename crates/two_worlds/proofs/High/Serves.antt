@@ -2,7 +2,7 @@
 use Rattle.disk_model.specs.Disk.{Answers, Meaning}
 use Rattle.high_process.specs.Storing.{Fares, LeavesCounted}
 use Rattle.high_process.specs.declared.process.HighProcess.{HighProcess}
-use Rattle.high_process.specs.declared.values.HighFault.TheVariants.{Ahead, Behind, Device}
+use Rattle.high_process.specs.declared.values.HighFault.TheVariants.{Device}
 use Rattle.high_process.specs.declared.values.HighFault.{HighFault}
 use Rattle.high_process.specs.declared.values.HighLook.{HighLook}
 use Rattle.high_process.specs.declared.values.Task.TheVariants.{Keep, Refuse, Remove}
@@ -13,21 +13,19 @@ use Rattle.pump_frame.specs.declared.frame.Frame.{Frame}
 use Rattle.script_reader.specs.Past.{Past}
 use Rattle.stable_buffer.specs.High.{high_disk, removal_end}
 use Rattle.stable_buffer.specs.declared.high.HighStore.{HighStore}
-use Rattle.std.proofs.Common.{None, Ok, Option, Some, ap, arith, false, inl, inr, le_trans, refl, subst, sym, true, ℕ, ◌≡◌, ◌≤◌}
+use Rattle.std.proofs.Common.{Ok, Option, ap, arith, false, inl, inr, le_trans, refl, subst, sym, true, ℕ, ◌≡◌, ◌≤◌}
 use Rattle.std.proofs.Math.Logic.{∥∥₁_elim}
-use Rattle.std.proofs.Props.{props}
 use Rattle.std.specs.Coded.{le_prop}
 use Rattle.two_worlds.proofs.High.Disks.{behind, failed, went}
-use Rattle.two_worlds.proofs.High.Removals.{Asks, asks}
 use Rattle.two_worlds.specs.Disks.{RemovesBehind}
 use Rattle.two_worlds.specs.Private.Serving.{DisksServe}
 use Rattle.two_worlds.specs.Rooms.{Serves}
 use Rattle.two_worlds.specs.Private.HighLooks.{ComesBack}
-use Rattle.two_worlds.specs.Standing.{Stands, StandsForSome}
+use Rattle.two_worlds.specs.Standing.{Stands}
+use Rattle.two_worlds.specs.Working.{IsAble}
 use Rattle.two_worlds.specs.declared.pump.parts.Parts.{Parts}
-use Rattle.two_worlds.proofs.High.Failing.{never_behind}
+use Rattle.two_worlds.proofs.High.Works.{is_device}
 use Rattle.two_worlds.proofs.High.Standing.{looked_parts}
-use Rattle.high_process.specs.States as high
 
 -- ---- the high disk ----
 
@@ -60,11 +58,6 @@ module _ {D : Type 0} (m : Meaning D) (q r : HighProcess) (old new : HighStore D
     disarmed = a.disarmed;
   })
 
--- nothing that comes back asks for a fault of the disk
-no_device : {D : Type 0} (c : Parts D) (p : Past) (back : Option ℕ) (faults : ℕ) → Asks c p back (Refuse (Device faults)) → ⊥
-no_device c p None faults asked = asked
-no_device c p (Some k) faults asked = asked
-
 -- ---- the calls of a look ----
 
 module _ {D : Type 0} (m : Meaning D) (c : Parts D) (q : HighProcess) (store : HighStore D) (frame : Option Frame) where
@@ -73,24 +66,16 @@ module _ {D : Type 0} (m : Meaning D) (c : Parts D) (q : HighProcess) (store : H
   broken_serves Remove faults fares never = broken m c.high q c.high_store store (Device faults) fares.0.answers
   broken_serves (Refuse e) faults fares never = absurd (never (cc))
 
-  pub refused_serves : (task : Task) (n next : ℕ) → Fares m task c.high q c.high_store store (failed (Ahead n next)) → Serves m 80 (high_disk c.high_store) (high_disk store) false
-  refused_serves Keep n next fares = absurd fares.0
-  refused_serves Remove n next fares = let no = fares.0.fault in absurd (cc)
-  refused_serves (Refuse e) n next fares = inl (ap high_disk fares.2, refl)
+  pub refused_serves : (task : Task) (e : HighFault) → is_device e ≡ false → Fares m task c.high q c.high_store store (failed e) → Serves m 80 (high_disk c.high_store) (high_disk store) false
+  refused_serves Keep e fine fares = absurd fares.0
+  refused_serves Remove e fine fares = let no = ap is_device fares.0.fault in absurd (cc)
+  refused_serves (Refuse f) e fine fares = inl (ap high_disk fares.2, refl)
 
-  module _ (some : ∥ StandsForSome m c ∥₁) (comes : (p : Past) → Stands m c p → (back : Option ℕ) × ComesBack c.row.id p.world frame back) where
+  module _ (able : IsAble m c) (comes : (p : Past) → Stands m c p → (back : Option ℕ) × ComesBack c.row.id p.world frame back) where
     -- whatever comes back, no crash leaves more removed than taken
     pub removes_behind : LeavesCounted m c.high c.high_store store frame → RemovesBehind m (high_disk c.high_store) (high_disk store) (recv_disk c.receiver)
     removes_behind leaves = λ told b left d image.
-        ∥∥₁_elim some le_prop (λ s. (let back = comes s.0 s.1 in behind m c s.0 s.1 store frame back.0 back.1 leaves told b left d image))
-
-    pub asks_no_device : (faults : ℕ) → high.task_at c.high frame ≡ Refuse (Device faults) → ⊥
-    asks_no_device faults e =
-        ∥∥₁_elim some (hlevel props) (λ s. (let back = comes s.0 s.1 in no_device c s.0 back.0 faults (subst (Asks c s.0 back.0) e (asks m c s.0 s.1 frame back.0 back.1))))
-
-    pub comes_not_behind : (ends : PlainEnds) (n removed : ℕ) → Fares m (high.task_at c.high frame) c.high q c.high_store store (failed (Behind n removed)) → ⊥
-    comes_not_behind ends n removed fares =
-        ∥∥₁_elim some (hlevel props) (λ s. (let back = comes s.0 s.1 in never_behind m c s.0 s.1 c.moment (omega arith) q store ends frame back.0 n removed back.1 fares))
+        ∥∥₁_elim (able.stands (m.images_tell told)) le_prop (λ s. (let back = comes s.0 s.1 in behind m c s.0 s.1 store frame back.0 back.1 leaves told b left d image))
 
 -- after a look that went well
 pub looked_serves : {D : Type 0} (m : Meaning D) (c : Parts D) (moment : ℕ) (q : HighProcess) (store : HighStore D) (ends : PlainEnds) (look : HighLook) (task : Task)

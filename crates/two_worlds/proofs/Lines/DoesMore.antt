@@ -4,7 +4,7 @@ use Rattle.disk_model.specs.Disk.{Meaning}
 use Rattle.disk_model.specs.declared.name.Role.{Role}
 use Rattle.script_reader.specs.declared.event.Event.{Event}
 use Rattle.script_reader.specs.Past.{Past}
-use Rattle.two_worlds.specs.Doing.{DoesFrom, LeavesFit}
+use Rattle.two_worlds.specs.Doing.{DoesFrom, PartsLeaveFit}
 use Rattle.two_worlds.specs.declared.applied.Stop.{Stop}
 use Rattle.two_worlds.specs.declared.applied.Stop.TheVariants.{Line, Device, Full}
 use Rattle.two_worlds.specs.declared.pump.parts.Parts.{Parts}
@@ -15,7 +15,7 @@ pub does_more : {D : Type 0} (m : Meaning D) (c c' d : Parts D) (out now : List 
     (overfills : Past → Past → List Event → ℕ → ℕ → ℕ → Type 0) (result : Result (Unit {0}) Stop)
     → ((q : Past) (printed : List Event) → leads p q printed → leads_by p q printed)
     → ((role : Role) (q : Past) (printed : List Event) → breaks role p q printed → breaks_by role p q printed)
-    → ((q : Past) → LeavesFit m c' d p q → LeavesFit m c d p q)
+    → ((q : Past) → PartsLeaveFit m c' d p q → PartsLeaveFit m c d p q)
     → DoesFrom leads breaks overfills m c' d out now p result → DoesFrom leads_by breaks_by overfills m c d out now p result
 does_more m c c' d out now p leads leads_by breaks breaks_by overfills (Ok done) f g k (q, printed, h, told, stand, fit) = (q, printed, f q printed h, told, stand, k q fit)
 does_more m c c' d out now p leads leads_by breaks breaks_by overfills (Err Line) f g k h = h

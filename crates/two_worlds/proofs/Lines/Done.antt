@@ -17,12 +17,11 @@ use Rattle.script_reader.specs.Breaks.{IsUntaken, IsUnremoved, BreaksOff}
 use Rattle.two_worlds.specs.declared.applied.Stop.{Stop}
 use Rattle.two_worlds.specs.declared.applied.Stop.TheVariants.{Line, Device, Full}
 use Rattle.two_worlds.specs.declared.pump.parts.Parts.{Parts}
-use Rattle.two_worlds.specs.Doing.{Does, LeavesFit, LeavesAlone, NeverBreaks, NeverOverfills}
+use Rattle.two_worlds.specs.Doing.{Does, PartsLeaveFit, LeavesAlone, NeverBreaks, NeverOverfills}
 use Rattle.two_worlds.specs.Standing.{Stands, number_of}
-use Rattle.two_worlds.specs.Private.LineSteps.{goes_on_by, IsOverfullSent, Runs}
+use Rattle.two_worlds.specs.Private.LineSteps.{IsOverfullSent, Runs}
 use Rattle.two_worlds.proofs.Disks.Images.{Reads, stands_reads, fails_reads, both_fit, later_fits}
-use Rattle.two_worlds.proofs.High.HandFull.{goes_before, sent_after}
-use Rattle.two_worlds.proofs.Lines.Timely.{goes_is}
+use Rattle.two_worlds.proofs.High.HandFull.{sent_after}
 
 -- ---- the hand ----
 
@@ -77,7 +76,7 @@ module _ {D : Type 0} (m : Meaning D) (c d : Parts D) (moment : ℕ) (out now : 
     pub recv_after : LeavesAlone roles.Recv e d
     pub row_after : d.row ≡ e.row
 
-  both : (e : Parts D) (p mid q : Past) → Between e → Stands m c p → Stands m e mid → Reads m d q → LeavesFit m c e p mid → LeavesFit m e d mid q → LeavesFit m c d p q
+  both : (e : Parts D) (p mid q : Past) → Between e → Stands m c p → Stands m e mid → Reads m d q → PartsLeaveFit m c e p mid → PartsLeaveFit m e d mid q → PartsLeaveFit m c d p q
   both e p mid q b s s' reads first second = both_fit m c e d p mid q s s' b.row (b.low_after ∙ b.low) b.high b.recv_after b.row_after reads first second
 
   -- the TAKEN comes back
@@ -127,7 +126,7 @@ module _ {D : Type 0} (m : Meaning D) (c d : Parts D) (moment time : ℕ) (out n
     pub row : e.row ≡ c.row
     pub low_after : LeavesAlone roles.Low e d
 
-  later : (e : Parts D) (p mid q : Past) → Before e → Stands m c p → Stands m e mid → LeavesFit m e d mid q → LeavesFit m c d p q
+  later : (e : Parts D) (p mid q : Past) → Before e → Stands m c p → Stands m e mid → PartsLeaveFit m e d mid q → PartsLeaveFit m c d p q
   later e p mid q b s s' fits = later_fits m c e d p mid q s s' b.row (b.low_after ∙ b.low) b.high b.recv fits
 
   -- its message goes on
@@ -159,14 +158,8 @@ module _ {D : Type 0} (m : Meaning D) (c d : Parts D) (moment time : ℕ) (out n
         later e p a.0 b.0 before s a.4 b.5,
       )
 
-  -- the message was sent before it is carried, and the line had time for it
+  -- the message was sent before it is carried
   module _ (e : Parts D) (mid : List Event) (looks : HighDoes e mid) (some : is_some (high.hand_of e.high) ≡ true) (p : Past) (s : Stands m c p) where
-    pub goes_by : goes_on_by c ≡ true
-    goes_by =
-        let a = looks p s in
-        let n = hand_is m e a.0 a.4 some in
-        goes_is m c p s ∙ goes_before c.row p moment a.0 a.1 n.0 s.sound.rest.due a.2 n.1
-
     pub has_packet : 0 < length e.sent.items
     has_packet =
         let a = looks p s in

@@ -18,7 +18,9 @@ use Rattle.two_worlds.specs.declared.applied.Stop.{Stop}
 use Rattle.two_worlds.specs.declared.applied.Stop.TheVariants.{Line, Device, Full}
 use Rattle.two_worlds.specs.declared.pump.parts.Parts.{Parts}
 use Rattle.two_worlds.specs.Standing.{Stands, number_of}
-use Rattle.two_worlds.specs.Private.LineSteps.{goes_on_by, is_timely_by, Runs, Attempts}
+use Rattle.two_worlds.specs.Private.LineSteps.{Runs, Attempts}
+use Rattle.two_worlds.specs.Timely.{goes_on_by, is_timely_by}
+use Rattle.two_worlds.specs.Working.{Works}
 
 some_less : (n : ℕ) (ns : List ℕ) → nat_lt 0 (length (n ∷ ns)) ≡ true
 some_less n ns = lt-ltb 0 (length (n ∷ ns)) (omega arith)
@@ -73,9 +75,9 @@ hand_lent None hand e = ap is_some (sym e)
 hand_lent (Some x) hand e = ap is_some (sym e)
 
 -- so many are held as were forwarded and not taken up
-pub held_is : {D : Type 0} (m : Meaning D) (c : Parts D) (p : Past) (n : ℕ) → Stands m c p → ((l : Low) (h : High) → EndsStand c.ends l h → length l.forwarded ≡ length h.taken + n) → n ≡ length (held_in c.ends)
-held_is m c p n s count =
-    let e = s.ends in
+pub held_is : {D : Type 0} (m : Meaning D) (c : Parts D) (n : ℕ) → Works m c → ((l : Low) (h : High) → EndsStand c.ends l h → length l.forwarded ≡ length h.taken + n) → n ≡ length (held_in c.ends)
+held_is m c n w count =
+    let e = w.ends in
     let all = ap length e.stand.between in
     let both = length-append e.high.taken (held_in c.ends) in
     let is = count e.low e.high e.stand in

@@ -34,7 +34,7 @@ use Rattle.script_reader.specs.Lows.{is_bad, comes_again, feedback, offers, stor
 use Rattle.two_worlds.specs.Connections.{waits_of, is_broken_of}
 use Rattle.two_worlds.specs.declared.pump.parts.Parts.{Parts}
 use Rattle.two_worlds.specs.Disks.{LowFits, DisksFit}
-use Rattle.two_worlds.specs.Doing.{LeavesFit}
+use Rattle.two_worlds.specs.Doing.{PartsLeaveFit}
 use Rattle.two_worlds.specs.Printing.{printed_reply, look_prints}
 use Rattle.two_worlds.specs.Standing.{kept_of, HoldsWorld, number_of, Stands}
 use Rattle.two_worlds.proofs.Disks.Images.{grown_fits}
@@ -295,5 +295,5 @@ module _ {D : Type 0} (m : Meaning D) (c d : Parts D) (p : Past) (moment word : 
     disks = disks;
   }
 
-  pub look_leads : (q : Past) × IsLook c.row p (look_of moment word a false l.feedback) q (look_prints c.row.id moment l) × Stands m d q × LeavesFit m c d p q
+  pub look_leads : (q : Past) × IsLook c.row p (look_of moment word a false l.feedback) q (look_prints c.row.id moment l) × Stands m d q × PartsLeaveFit m c d p q
   look_leads = (q, is_look_of_row, subst (λ (t : Parts D). Stands m t q) (sym did.rest) stands_then, grown_fits m c d p moment word a false l did stands q grows)

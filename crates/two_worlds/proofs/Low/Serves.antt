@@ -25,7 +25,7 @@ use Rattle.two_worlds.specs.Disks.{RemovesBehind}
 use Rattle.two_worlds.specs.Private.Serving.{DisksServe}
 use Rattle.two_worlds.specs.Rooms.{Serves, stops_at}
 use Rattle.two_worlds.specs.Private.LowLooks.{stop_of}
-use Rattle.two_worlds.specs.Standing.{StandsForSome}
+use Rattle.two_worlds.specs.Working.{IsAble}
 use Rattle.two_worlds.proofs.Opening.Ends.{low_is_up}
 use Rattle.two_worlds.proofs.Opening.Ready.{low_has_store, high_reading, recv_reading}
 use Rattle.two_worlds.proofs.Low.Looked.{Looked}
@@ -51,14 +51,14 @@ recv_fine false faults = refl
 slot_ends : (row : SessionRow) (n : ℕ) (message : List ℕ) → 1 ≤ row.capacity → length message ≤ row.message → slot_end row n message ≤ low_size row
 slot_ends row n message some short = let e = slot_within_low row n some in omega (arith, e, short)
 
-module _ {D : Type 0} (m : Meaning D) (c d : Parts D) (moment word : ℕ) (a : Arrival) (is_fault : Bool) (l : LowLook) (did : Looked m c d moment word a is_fault l) (some : ∥ StandsForSome m c ∥₁) where
+module _ {D : Type 0} (m : Meaning D) (c d : Parts D) (moment word : ℕ) (a : Arrival) (is_fault : Bool) (l : LowLook) (did : Looked m c d moment word a is_fault l) (able : IsAble m c) where
   same_row : low_row c.low_store ≡ c.row
-  same_row = ∥∥₁_elim some (hlevel props) (λ s. s.1.low_ready.store.row ∙ s.1.low_ready.row)
+  same_row = ∥∥₁_elim able.works (hlevel props) (λ s. s.low_ready.store.row ∙ s.low_ready.row)
 
   fits : (message : Payload) → message_in c.low a ≡ Some message → low_size c.row ≤ m.room (low_disk c.low_store)
       → slot_end (low_row c.low_store) (low_count c.low_store) message ≤ m.room (low_disk c.low_store)
   fits message e le =
-      let has = low_has_store m c some in
+      let has = low_has_store m c able in
       let short : length message ≤ (low_row c.low_store).message = subst (λ (r : SessionRow). length message ≤ r.message) (sym has.row) (is_short c.low a message (taking c.low a message e)) in
       let within = slot_ends (low_row c.low_store) (low_count c.low_store) message has.ready.ranges.some short in
       let le' : low_size (low_row c.low_store) ≤ m.room (low_disk c.low_store) = subst (λ (r : SessionRow). low_size r ≤ m.room (low_disk c.low_store)) (sym same_row) le in
@@ -77,10 +77,10 @@ module _ {D : Type 0} (m : Meaning D) (c d : Parts D) (moment word : ℕ) (a : A
 
   -- the process is down exactly where the device failed
   pub down_is : is_down d.low ≡ is_fault
-  down_is = did.step.falls ∙ ap (λ (b : Bool). b || is_fault) (low_is_up m c some)
+  down_is = did.step.falls ∙ ap (λ (b : Bool). b || is_fault) (low_is_up m c able)
 
   behind : RemovesBehind m (high_disk c.high_store) (high_disk c.high_store) (recv_disk c.receiver)
-  behind told high left recv is = ∥∥₁_elim some le_prop (λ s.
+  behind told high left recv is = ∥∥₁_elim (able.stands (m.images_tell told)) le_prop (λ s.
       let p = s.0 in
       let h = high_reading c.row p.world high s.1.sound.rest.removing (s.1.disks.high_disk.images told high (m.only_now told (high_disk c.high_store) high left)) in
       let r = recv_reading c.row p.world recv s.1.sound.rest.packet (s.1.disks.recv_disk.images told recv is) in

@@ -1,6 +1,5 @@
 -- The calls of the disks in an opening, and whose disk is blamed.
-use Rattle.std.proofs.Common.{◌≡◌, ◌⊎◌, inl, inr, ℕ, ◌≤◌, ◌<◌, ◌&&◌, Bool, true, false, not, List, length, Option, Some, None, IfSome, is_some, Result, Ok, Err, refl, sym, ap, ◌∙◌, subst, arith, le_trans}
-use Rattle.std.specs.Prelude.{IsOk, IsErr}
+use Rattle.std.proofs.Common.{◌≡◌, ◌⊎◌, inl, inr, ℕ, ◌≤◌, ◌<◌, ◌&&◌, Bool, true, false, not, List, length, Option, Some, None, IfSome, is_some, refl, sym, ap, ◌∙◌, subst, arith, le_trans}
 use Rattle.std.proofs.lemmas.Bool.{cases_lt}
 use Rattle.disk_model.specs.Disk.{Meaning, Answers, Moves, Same}
 use Rattle.disk_model.proofs.Run.{goes_on_same}
@@ -44,7 +43,7 @@ high_blamed true false = refl
 high_blamed false low = refl
 
 pub recv_blamed : (device low recv : Bool) → (device ≡ true → (low ≡ false) ⊎ (recv ≡ false)) → (device ≡ false → recv ≡ true) → (low ≡ false → recv ≡ true) → (device && is_role roles.Recv (role_blamed low)) ≡ not recv
-recv_blamed true true true shut up one = elim (shut refl) [ | inl e ↦ absurd (cc) | inr e ↦ absurd (cc) ]
+recv_blamed true true true shut up one = elim (shut refl) [ inl e ↦ absurd (cc) | inr e ↦ absurd (cc) ]
 recv_blamed true true false shut up one = refl
 recv_blamed true false true shut up one = refl
 recv_blamed true false false shut up one = let e = one refl in absurd (cc)
@@ -100,7 +99,7 @@ module _ {D : Type 0} (m : Meaning D) (least : ℕ) where
         let still : (new ≡ old) × (after ≡ before) → Serves m least (low_disk old) (low_disk new) (not (low_is_open new)) = λ same.
         inl (ap low_disk same.0, open_still (low_is_open old) (low_is_open new) up (ap low_is_open same.0)) in
         elim (cases_lt removed taken) [
-          | inl some ↦ elim (cases_lt next taken) [ | inl more ↦ still (idle (inr more)) | inr within ↦ serves_by _ _ _ (calls some within) ]
+          | inl some ↦ elim (cases_lt next taken) [ inl more ↦ still (idle (inr more)) | inr within ↦ serves_by _ _ _ (calls some within) ]
           | inr none ↦ still (idle (inl none))
         ]
 
@@ -112,7 +111,7 @@ module _ {D : Type 0} (m : Meaning D) (least : ℕ) where
         elim (cases_lt removed taken) [
           | inl some ↦ elim (cases_lt next taken) [
             | inl more ↦ still (idle (inr more)).1
-            | inr within ↦ elim (calls some within) [ | inl called ↦ serves_by _ _ _ called.0 | inr left ↦ still left.0 ]
+            | inr within ↦ elim (calls some within) [ inl called ↦ serves_by _ _ _ called.0 | inr left ↦ still left.0 ]
           ]
           | inr none ↦ still (idle (inl none)).1
         ]

@@ -1,4 +1,4 @@
--- The ends of the passage of parts that stand for something: they may have done just what is still seen
+-- The ends of the passage of parts that work: they may have done just what is still seen
 -- of it.
 use Rattle.std.proofs.Common.{◌≡◌, ℕ, ◌+◌, ◌-◌, ◌≤◌, Bool, true, false, List, [], ◌∷◌, ◌++◌, length, drop, replicate, refl, sym, ap, ◌∙◌, subst, arith}
 use Rattle.std.specs.Prelude.{◌==◌, ◌&&◌}
@@ -21,7 +21,7 @@ use Rattle.low_process.specs.Looks.{IsBetweenLooks, is_down, last_of, next_of, h
 use Rattle.low_process.specs.Ends.{number_offered, FitsEnd as LowFits}
 use Rattle.high_process.specs.Ends.{FitsEnd as HighFits}
 use Rattle.two_worlds.specs.declared.pump.parts.Parts.{Parts}
-use Rattle.two_worlds.specs.Standing.{StandsForSome}
+use Rattle.two_worlds.specs.Working.{IsAble}
 
 -- ---- numbers that rise ----
 
@@ -112,7 +112,7 @@ nothing_is (Average n) e = absurd (cc)
 all_none : (n : ℕ) → All (λ (k : ℕ). k ≤ 0) (replicate n 0)
 all_none n = All-replicate (λ (k : ℕ). k ≤ 0) n 0 (omega arith)
 
-module _ {D : Type 0} (m : Meaning D) (c : Parts D) (some : ∥ StandsForSome m c ∥₁) where
+module _ {D : Type 0} (m : Meaning D) (c : Parts D) (able : IsAble m c) where
   abbrev pub low_seen : Low
   low_seen = record { forwarded = held_in c.ends; tries = []; pairs = [] }
 
@@ -122,11 +122,11 @@ module _ {D : Type 0} (m : Meaning D) (c : Parts D) (some : ∥ StandsForSome m 
       record { taken = []; floor = 0; times = times; taken_before = replicate (length times) 0; tries = [] }
 
   times_seen : Counts c.ends.window.count c.ends.window.ring.capacity c.ends.window.ring.items (padded c.ends.window.count c.ends.window.ring.items)
-  times_seen = ∥∥₁_elim some (hlevel props) (λ s. counts_padded c.ends.window.count c.ends.window.ring.capacity c.ends.window.ring.items s.1.ends.high.times s.1.ends.stand.times)
+  times_seen = ∥∥₁_elim able.works (hlevel props) (λ s. counts_padded c.ends.window.count c.ends.window.ring.capacity c.ends.window.ring.items s.ends.high.times s.ends.stand.times)
 
   numbers_seen : Numbered (first_number (held_in c.ends)) (held_in c.ends)
-  numbers_seen = tests_numbered (first_number (held_in c.ends)) (held_in c.ends) (∥∥₁_elim some (hlevel props) (λ s.
-      let e = s.1.ends in
+  numbers_seen = tests_numbered (first_number (held_in c.ends)) (held_in c.ends) (∥∥₁_elim able.works (hlevel props) (λ s.
+      let e = s.ends in
       let rises = e.stand.lawful.agrees.rises in
       numbered_tests (first_number (held_in c.ends)) (held_in c.ends)
       (rest_numbered rises.0 e.high.taken (held_in c.ends) (subst (Numbered rises.0) e.stand.between rises.1))))
@@ -153,23 +153,23 @@ module _ {D : Type 0} (m : Meaning D) (c : Parts D) (some : ∥ StandsForSome m 
   pub low_fits_seen : LowFits c.low low_seen
   low_fits_seen up =
       let n = number_offered (next_of c.low) (hand_of c.low) in
-      tests_next (held_in c.ends) n (∥∥₁_elim some (hlevel props) (λ s.
-      let e = s.1.ends in
+      tests_next (held_in c.ends) n (∥∥₁_elim able.works (hlevel props) (λ s.
+      let e = s.ends in
       next_tests (held_in c.ends) n (rest_next e.high.taken (held_in c.ends) n (subst (λ l. ComesNext l n) e.stand.between (e.low_fits up)))))
 
   pub high_fits_seen : HighFits c.high high_seen
   high_fits_seen = record {
-    count = sym times_seen.0 ∙ ∥∥₁_elim some (hlevel props) (λ s. s.1.ends.stand.times.0 ∙ s.1.ends.high_fits.count);
+    count = sym times_seen.0 ∙ ∥∥₁_elim able.works (hlevel props) (λ s. s.ends.stand.times.0 ∙ s.ends.high_fits.count);
     floor = omega arith;
   }
 
   -- ---- the low process ----
 
   pub low_between : IsBetweenLooks c.low
-  low_between = nothing_is c.low.asking (∥∥₁_elim some (hlevel props) (λ s. ap asks_nothing s.1.low_ready.between))
+  low_between = nothing_is c.low.asking (∥∥₁_elim able.works (hlevel props) (λ s. ap asks_nothing s.low_ready.between))
 
   pub low_order : (moment : ℕ) → c.moment ≤ moment → last_of c.low ≤ moment
-  low_order moment le = ∥∥₁_elim some le_prop (λ s. let last = s.1.low_ready.last in omega (arith, last, le))
+  low_order moment le = ∥∥₁_elim able.works le_prop (λ s. let last = s.low_ready.last in omega (arith, last, le))
 
   pub low_is_up : is_down c.low ≡ false
-  low_is_up = ∥∥₁_elim some (hlevel props) (λ s. s.1.low_ready.up)
+  low_is_up = ∥∥₁_elim able.works (hlevel props) (λ s. s.low_ready.up)

@@ -1,5 +1,5 @@
 -- What is found on three disks that agree.
-use Rattle.std.proofs.Common.{◌≡◌, inl, inr, ℕ, zero, suc, ◌+◌, ◌-◌, ◌^◌, ◌≤◌, ◌<◌, List, [], ◌∷◌, ◌++◌, length, take, drop, get_or, refl, sym, ap, ◌∙◌, subst, arith, length-drop, length-append}
+use Rattle.std.proofs.Common.{◌≡◌, inl, inr, ℕ, suc, ◌+◌, ◌-◌, ◌^◌, ◌≤◌, ◌<◌, List, [], ◌∷◌, length, drop, get_or, refl, sym, ap, ◌∙◌, subst, arith, length-drop, length-append}
 use Rattle.std.specs.List.{All}
 use Rattle.std.proofs.lemmas.Bool.{cases_lt}
 use Rattle.std.proofs.lemmas.List.{ext_get_or, get_or-drop, get_or_append_left, get_or-append_right}
@@ -10,7 +10,7 @@ use Rattle.stable_buffer.specs.Register.{value_of}
 use Rattle.stable_buffer.specs.Stands.{LowStands, HighStands, InSlot}
 use Rattle.stable_buffer.specs.Log.{RecvStands, Records, log_of}
 use Rattle.script_reader.specs.Highs.{receiver_size}
-use Rattle.script_reader.specs.Openings.{Found, CanOpen, accepted_in}
+use Rattle.script_reader.specs.Openings.{Found, accepted_in}
 use Rattle.recovery.specs.Agreement.{SlotsAgree}
 use Rattle.recovery.proofs.Rows.{row_message}
 use Rattle.recovery.proofs.Slots.{slot_one}

@@ -23,7 +23,8 @@ use Rattle.script_reader.proofs.Fresh.{row_capacity}
 use Rattle.two_worlds.specs.declared.pump.parts.Parts.{Parts}
 use Rattle.two_worlds.specs.Openings.{StandForFound}
 use Rattle.two_worlds.specs.Standing.{Stands}
-use Rattle.two_worlds.proofs.Opening.Opened.{AreOpened, OpensIn, stand}
+use Rattle.two_worlds.specs.Private.Opened.{AreOpened}
+use Rattle.two_worlds.proofs.Opening.Opened.{OpensIn, stand}
 use Rattle.two_worlds.proofs.Opening.Ready.{low_reading, high_reading, recv_reading}
 
 module _ {D : Type 0} (m : Meaning D) (told : m.tells) (c : Parts D) where

@@ -1,4 +1,4 @@
--- The stores and the receiver of parts that stand for something are ready.
+-- The stores and the receiver of parts that work are ready.
 use Rattle.std.proofs.Common.{◌≡◌, inl, inr, ℕ, ◌≤◌, false, true, List, [], length, Option, Some, None, refl, sym, ap, ◌∙◌, subst, arith}
 use Rattle.std.proofs.Math.Logic.{∥∥₁_elim}
 use Rattle.std.proofs.Props.{props}
@@ -18,7 +18,7 @@ use Rattle.std.specs.Prelude.{is_some}
 use Rattle.pump_core.specs.World.{World}
 use Rattle.two_worlds.specs.Disks.{LowFits, HighFits, RecvFits, live_messages}
 use Rattle.two_worlds.specs.declared.pump.parts.Parts.{Parts}
-use Rattle.two_worlds.specs.Standing.{StandsForSome}
+use Rattle.two_worlds.specs.Working.{IsAble}
 
 -- ---- what a disk stands for at rest ----
 
@@ -66,22 +66,22 @@ none_by : {X : Type 0} (o : Option X) → is_some o ≡ false → o ≡ None
 none_by None e = refl
 none_by (Some x) e = absurd (cc)
 
-module _ {D : Type 0} (m : Meaning D) (c : Parts D) (some : ∥ StandsForSome m c ∥₁) where
+module _ {D : Type 0} (m : Meaning D) (c : Parts D) (able : IsAble m c) where
   pub recv_is_ready : IsRecvReady m c.receiver
   recv_is_ready = record {
-    is_open = ∥∥₁_elim some (hlevel props) (λ s. s.1.recv_ready.ready.is_open);
+    is_open = ∥∥₁_elim able.works (hlevel props) (λ s. s.recv_ready.ready.is_open);
     ready = record {
-      is_open = ∥∥₁_elim some (hlevel props) (λ s. s.1.recv_ready.ready.ready.is_open);
-      parity = ∥∥₁_elim some le_prop (λ s. s.1.recv_ready.ready.ready.parity);
-      each = ∥∥₁_elim some (hlevel props) (λ s. s.1.recv_ready.ready.ready.each);
+      is_open = ∥∥₁_elim able.works (hlevel props) (λ s. s.recv_ready.ready.ready.is_open);
+      parity = ∥∥₁_elim able.works le_prop (λ s. s.recv_ready.ready.ready.parity);
+      each = ∥∥₁_elim able.works (hlevel props) (λ s. s.recv_ready.ready.ready.each);
     };
-    lawful = ∥∥₁_elim some (hlevel props) (λ s. s.1.recv_ready.ready.lawful);
-    short = ∥∥₁_elim some le_prop (λ s. s.1.recv_ready.ready.short);
-    count = ∥∥₁_elim some le_prop (λ s. s.1.recv_ready.ready.count);
-    from = ∥∥₁_elim some le_prop (λ s. s.1.recv_ready.ready.from);
-    within = ∥∥₁_elim some le_prop (λ s. s.1.recv_ready.ready.within);
-    settled = ∥∥₁_elim some (hlevel props) (λ s. s.1.recv_ready.ready.settled);
-    stands = λ told. disk_stands _ _ (∥∥₁_elim some (hlevel props) (λ s. ∣ s.1.recv_ready.ready.stands told ∣₁));
+    lawful = ∥∥₁_elim able.works (hlevel props) (λ s. s.recv_ready.ready.lawful);
+    short = ∥∥₁_elim able.works le_prop (λ s. s.recv_ready.ready.short);
+    count = ∥∥₁_elim able.works le_prop (λ s. s.recv_ready.ready.count);
+    from = ∥∥₁_elim able.works le_prop (λ s. s.recv_ready.ready.from);
+    within = ∥∥₁_elim able.works le_prop (λ s. s.recv_ready.ready.within);
+    settled = ∥∥₁_elim able.works (hlevel props) (λ s. s.recv_ready.ready.settled);
+    stands = λ told. disk_stands _ _ (∥∥₁_elim able.works (hlevel props) (λ s. ∣ s.recv_ready.ready.stands told ∣₁));
   }
 
   -- the count alone tells what a low disk stands for
@@ -93,9 +93,9 @@ module _ {D : Type 0} (m : Meaning D) (c : Parts D) (some : ∥ StandsForSome m 
         E,
         [],
         record {
-          header = ∥∥₁_elim some (hlevel props) (λ s. (s.1.low_ready.store.ready.stands told).2.header);
-          size = ∥∥₁_elim some (hlevel props) (λ s. (s.1.low_ready.store.ready.stands told).2.size);
-          value = ∥∥₁_elim some (hlevel props) (λ s. (s.1.low_ready.store.ready.stands told).2.value);
+          header = ∥∥₁_elim able.works (hlevel props) (λ s. (s.low_ready.store.ready.stands told).2.header);
+          size = ∥∥₁_elim able.works (hlevel props) (λ s. (s.low_ready.store.ready.stands told).2.size);
+          value = ∥∥₁_elim able.works (hlevel props) (λ s. (s.low_ready.store.ready.stands told).2.value);
           kept = omega arith;
           count = omega arith;
           slots = λ i less. absurd (omega (arith, less));
@@ -105,51 +105,51 @@ module _ {D : Type 0} (m : Meaning D) (c : Parts D) (some : ∥ StandsForSome m 
   pub low_is_ready : IsLowReady m c.low_store
   low_is_ready = record {
     ready = record {
-      is_open = ∥∥₁_elim some (hlevel props) (λ s. s.1.low_ready.store.ready.ready.is_open);
-      parity = ∥∥₁_elim some le_prop (λ s. s.1.low_ready.store.ready.ready.parity);
-      each = ∥∥₁_elim some (hlevel props) (λ s. s.1.low_ready.store.ready.ready.each);
+      is_open = ∥∥₁_elim able.works (hlevel props) (λ s. s.low_ready.store.ready.ready.is_open);
+      parity = ∥∥₁_elim able.works le_prop (λ s. s.low_ready.store.ready.ready.parity);
+      each = ∥∥₁_elim able.works (hlevel props) (λ s. s.low_ready.store.ready.ready.each);
     };
-    count = ∥∥₁_elim some le_prop (λ s. s.1.low_ready.store.ready.count);
-    second = ∥∥₁_elim some (hlevel props) (λ s. s.1.low_ready.store.ready.second);
-    lawful = ∥∥₁_elim some (hlevel props) (λ s. s.1.low_ready.store.ready.lawful);
-    ranges = ∥∥₁_elim some (hlevel props) (λ s. s.1.low_ready.store.ready.ranges);
-    settled = ∥∥₁_elim some (hlevel props) (λ s. s.1.low_ready.store.ready.settled);
+    count = ∥∥₁_elim able.works le_prop (λ s. s.low_ready.store.ready.count);
+    second = ∥∥₁_elim able.works (hlevel props) (λ s. s.low_ready.store.ready.second);
+    lawful = ∥∥₁_elim able.works (hlevel props) (λ s. s.low_ready.store.ready.lawful);
+    ranges = ∥∥₁_elim able.works (hlevel props) (λ s. s.low_ready.store.ready.ranges);
+    settled = ∥∥₁_elim able.works (hlevel props) (λ s. s.low_ready.store.ready.settled);
     stands = low_stands;
   }
 
   pub low_has_store : IsStoreOf m c.low c.low_store
   low_has_store = record {
     ready = low_is_ready;
-    count = ∥∥₁_elim some (hlevel props) (λ s. s.1.low_ready.store.count);
-    row = ∥∥₁_elim some (hlevel props) (λ s. s.1.low_ready.store.row);
+    count = ∥∥₁_elim able.works (hlevel props) (λ s. s.low_ready.store.count);
+    row = ∥∥₁_elim able.works (hlevel props) (λ s. s.low_ready.store.row);
   }
 
   high_stands : m.tells → HighStands c.row (high_count c.high_store) (m.reading (high_disk c.high_store))
-  high_stands told = ∥∥₁_elim some (hlevel props) (λ s.
+  high_stands told = ∥∥₁_elim (able.stands told) (hlevel props) (λ s.
       subst (λ (n : ℕ). HighStands c.row n (m.reading (high_disk c.high_store))) (s.1.world.removed ∙ sym s.1.high_ready.count)
       (high_reading c.row s.0.world (m.reading (high_disk c.high_store)) s.1.sound.rest.removing (s.1.disks.high_disk.reading told)))
 
   pub high_is_up : high.is_down c.high ≡ false
-  high_is_up = ∥∥₁_elim some (hlevel props) (λ s. s.1.high_ready.up)
+  high_is_up = ∥∥₁_elim able.works (hlevel props) (λ s. s.high_ready.up)
 
   pub high_is_between : high.IsBetweenLooks c.high
-  high_is_between = none_by c.high.asking (∥∥₁_elim some (hlevel props) (λ s. ap is_some s.1.high_ready.between))
+  high_is_between = none_by c.high.asking (∥∥₁_elim able.works (hlevel props) (λ s. ap is_some s.high_ready.between))
 
   pub high_is_timely : high.last_of c.high ≤ c.moment
-  high_is_timely = ∥∥₁_elim some le_prop (λ s. s.1.high_ready.last)
+  high_is_timely = ∥∥₁_elim able.works le_prop (λ s. s.high_ready.last)
 
   pub high_counts : high_count c.high_store ≡ high.removed_of c.high
-  high_counts = ∥∥₁_elim some (hlevel props) (λ s. s.1.high_ready.count)
+  high_counts = ∥∥₁_elim able.works (hlevel props) (λ s. s.high_ready.count)
 
   pub high_is_ready : IsHighReady m c.high_store
   high_is_ready = record {
     ready = record {
-      is_open = ∥∥₁_elim some (hlevel props) (λ s. s.1.high_ready.store.ready.is_open);
-      parity = ∥∥₁_elim some le_prop (λ s. s.1.high_ready.store.ready.parity);
-      each = ∥∥₁_elim some (hlevel props) (λ s. s.1.high_ready.store.ready.each);
+      is_open = ∥∥₁_elim able.works (hlevel props) (λ s. s.high_ready.store.ready.is_open);
+      parity = ∥∥₁_elim able.works le_prop (λ s. s.high_ready.store.ready.parity);
+      each = ∥∥₁_elim able.works (hlevel props) (λ s. s.high_ready.store.ready.each);
     };
-    count = ∥∥₁_elim some le_prop (λ s. s.1.high_ready.store.count);
-    second = ∥∥₁_elim some (hlevel props) (λ s. s.1.high_ready.store.second);
-    settled = ∥∥₁_elim some (hlevel props) (λ s. s.1.high_ready.store.settled);
+    count = ∥∥₁_elim able.works le_prop (λ s. s.high_ready.store.count);
+    second = ∥∥₁_elim able.works (hlevel props) (λ s. s.high_ready.store.second);
+    settled = ∥∥₁_elim able.works (hlevel props) (λ s. s.high_ready.store.settled);
     stands = λ told. (c.row, high_stands told);
   }

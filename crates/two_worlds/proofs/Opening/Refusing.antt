@@ -1,12 +1,11 @@
 -- Disks that stand for something are refused for nothing.
-use Rattle.std.proofs.Common.{◌≡◌, inl, inr, ℕ, ◌+◌, ◌^◌, ◌≤◌, ◌<◌, ◌&&◌, Bool, true, false, List, length, Option, Some, None, IfSome, refl, sym, ap, ◌∙◌, subst, arith}
+use Rattle.std.proofs.Common.{◌≡◌, inl, inr, ℕ, ◌^◌, ◌<◌, ◌&&◌, Bool, true, false, List, length, Option, Some, None, IfSome, refl, subst, arith}
 use Rattle.disk_model.specs.Disk.{Meaning}
 use Rattle.disk_model.specs.declared.name.Role.{Role}
 use Rattle.disk_model.specs.declared.name.Role.TheVariants as roles
 use Rattle.pump_frame.specs.Rows.{IsLawfulRow}
 use Rattle.pump_frame.specs.declared.row.SessionRow.{SessionRow}
 use Rattle.stable_buffer.specs.Format.{size_of, receiver_size}
-use Rattle.stable_buffer.specs.Register.{value_of}
 use Rattle.pump_core.specs.Events.{Opened}
 use Rattle.pump_core.proofs.Laws.{begins_lawful}
 use Rattle.recovery.specs.Agreement.{Disagrees}
@@ -17,7 +16,7 @@ use Rattle.recovery.proofs.Triples.{each_world}
 use Rattle.script_reader.specs.Openings.{Found, accepted_in, opened_world}
 use Rattle.script_reader.proofs.Fresh.{row_capacity}
 use Rattle.two_worlds.specs.Openings.{StandForFound, DisksStandFor, IsRefused, ComeBack, failed_at, is_for_device, readied}
-use Rattle.two_worlds.specs.Rooms.{IsFree, HasRoom, is_role}
+use Rattle.two_worlds.specs.Rooms.{HasRoom, is_role}
 use Rattle.two_worlds.specs.declared.not_open.NotOpen.{NotOpen}
 use Rattle.two_worlds.proofs.Opening.Comparing.{never_fails}
 use Rattle.two_worlds.proofs.Opening.Opened.{received_end}

@@ -1,11 +1,8 @@
 -- What a line of a script does to the parts of a pump.
-use Rattle.std.specs.Prelude.{◌≡◌, ℕ, ◌+◌, ◌^◌, Bool, true, false, ◌&&◌, ◌||◌, not, ◌==◌, nat_lt, nat_le, List, [], length, is_some, Option, None, Some, Result, Ok, Err}
+use Rattle.std.specs.Prelude.{◌≡◌, ℕ, true, List, [], Option, None, Some, Result, Ok, Err}
 use Rattle.disk_model.specs.Disk.{Meaning}
-use Rattle.high_process.specs.States as high
-use Rattle.passage.specs.Plain.{held_in}
 use Rattle.script_reader.specs.declared.event.Event.{Event}
 use Rattle.script_reader.specs.declared.line.Line.{Line as ScriptLine}
-use Rattle.script_reader.specs.declared.line.Line.TheVariants as lines
 use Rattle.script_reader.specs.Past.{Past}
 use Rattle.script_reader.specs.Highs.{IsOverfull}
 use Rattle.script_reader.specs.Steps.{is_timely, IsCrowded, IsRefusedWhole, LineStep, Overfills}
@@ -15,27 +12,8 @@ use Rattle.two_worlds.specs.declared.applied.Stop.TheVariants.{Line, Device, Ful
 use Rattle.two_worlds.specs.declared.pump.parts.Parts.{Parts}
 use Rattle.two_worlds.specs.Standing.{Stands}
 use Rattle.two_worlds.specs.Doing.{DoesFrom}
-
--- ---- which lines can be applied ----
-
--- a high look without a TAKEN leaves a message in the high hand
-abbrev pub goes_on_by : {D : Type 0} → Parts D → Bool
-goes_on_by c = is_some (high.hand_of c.high) || nat_lt 0 (length (held_in c.ends))
-
--- as `is_timely`, by what the parts keep
-abbrev pub is_timely_by : {D : Type 0} → Parts D → ScriptLine → Bool
-is_timely_by c lines.Skip = false
-is_timely_by c (lines.Session other) = false
-is_timely_by c (lines.LowSession other next held) = false
-is_timely_by c (lines.Told session m w fault told a) = false
-is_timely_by c (lines.Look session m w a) = session == c.row.id && nat_le c.moment m
-is_timely_by c (lines.Gone session m) = session == c.row.id && nat_le c.moment m
-is_timely_by c (lines.High session m) = session == c.row.id && nat_le c.moment m
-is_timely_by c (lines.Carry session back) = session == c.row.id && nat_lt back (length c.sent.items)
-is_timely_by c (lines.Return session m back) =
-    session == c.row.id && (nat_le c.moment m && nat_lt back (length c.returned.items))
-is_timely_by c (lines.Done session m t) =
-    session == c.row.id && (nat_le c.moment m && (not (goes_on_by c) || nat_le (m + t) (2 ^ 62)))
+use Rattle.two_worlds.specs.Timely.{IsCrowdedBy, IsUncrowdedBy, CanApply, CannotApply}
+use Rattle.two_worlds.specs.Private.GoingOn.{WorksOn}
 
 -- ---- what a line does ----
 -- Each says more of the line than the one before. `Does` says what any part of a line leads to. `LineDoes`
@@ -77,6 +55,23 @@ AttemptsFrom m c d line out now p (Err (Full end size_of_message size)) =
 
 abbrev pub Attempts : {D : Type 0} → Meaning D → Parts D → Parts D → ScriptLine → List Event → List Event → Result (Unit {0}) Stop → Type 0
 Attempts m c d line out now result = (p : Past) → Stands m c p → AttemptsFrom m c d line out now p result
+
+-- ---- what a line does, whatever the disks tell ----
+
+-- a line for which the test holds: the parts go on from what it did; or more than 64 arrivals would wait
+-- and nothing has changed
+abbrev pub RunsOn : {D : Type 0} → Meaning D → Parts D → Parts D → ScriptLine → List Event → List Event → Result (Unit {0}) Stop → Type 0
+RunsOn m c d line out now (Ok done) = IsUncrowdedBy c line × WorksOn m d (Ok done)
+RunsOn m c d line out now (Err Line) = (d ≡ c) × (now ≡ out) × IsCrowdedBy c line
+RunsOn m c d line out now (Err (Device role faults)) = IsUncrowdedBy c line × WorksOn m d (Err (Device role faults))
+RunsOn m c d line out now (Err (Full end size_of_message size)) = IsUncrowdedBy c line × WorksOn m d (Err (Full end size_of_message size))
+
+-- any line: it can be applied, and the parts go on from what it did; or it can't, and nothing has changed
+abbrev pub AttemptsOn : {D : Type 0} → Meaning D → Parts D → Parts D → ScriptLine → List Event → List Event → Result (Unit {0}) Stop → Type 0
+AttemptsOn m c d line out now (Ok done) = CanApply c line × WorksOn m d (Ok done)
+AttemptsOn m c d line out now (Err Line) = (d ≡ c) × (now ≡ out) × CannotApply c line
+AttemptsOn m c d line out now (Err (Device role faults)) = CanApply c line × WorksOn m d (Err (Device role faults))
+AttemptsOn m c d line out now (Err (Full end size_of_message size)) = CanApply c line × WorksOn m d (Err (Full end size_of_message size))
 
 -- ---- an answer, as the reason to stop that it gives ----
 

@@ -2,11 +2,14 @@
 
 ghost use Rattle.std.specs.Prelude.{◌≡◌, ℕ, ◌+◌, ◌<◌, ◌≤◌, [], length, OnOk};
 ghost use Rattle.disk_model.specs.declared.name.Role.TheVariants as roles;
+ghost use Rattle.script_reader.specs.Past.{Past};
 ghost use Rattle.script_reader.specs.Highs.{IsCarried, IsOverfull};
 ghost use Rattle.script_reader.specs.Breaks.{IsUntaken};
 ghost use Rattle.two_worlds.specs.Printing.{lines_in};
-ghost use Rattle.two_worlds.specs.Standing.{StandsForSome};
+ghost use Rattle.two_worlds.specs.Working.{IsAble};
+ghost use Rattle.two_worlds.specs.Standing.{Stands};
 ghost use Rattle.two_worlds.specs.Doing.{Does, LeavesAlone};
+ghost use Rattle.two_worlds.specs.Private.GoingOn.{WorksOn};
 ghost use Rattle.two_worlds.specs.Private.Serving.{DisksServe};
 
 use crate::applied::Stop;
@@ -22,18 +25,19 @@ impl<D: Disk> Parts<D> {
     /// receiver has taken, then or before, is returned. A message that does not fit on the receiver's
     /// disk is `Stop::Full`, and then nothing was done; `Stop::Device` leaves the receiver closed.
     pub fn carry(&mut self, back: u64, out: &mut ArrayVec<EventHead, 4>) -> Result<(), Stop>
-        requires stands { ∥ StandsForSome D.told self.old ∥₁ }
+        requires able { IsAble D.told self.old }
         requires back { back < length self.old.sent.items }
         requires out { length out.old.items ≤ 3 }
         ensures does { Does (λ p q printed. IsCarried self.old.row p back q printed)
             (λ role p q printed. (role ≡ roles.Recv) × IsUntaken p back q × (printed ≡ []))
             (λ p q printed end size_of_message size. (q ≡ p) × IsOverfull p.world back end size_of_message size × (printed ≡ []))
             D.told self.old self.new (lines_in out.old.items) (lines_in out.new.items) result }
+        ensures works { WorksOn D.told self.new result }
         ensures serve { DisksServe D.told self.old self.new result }
         ensures low { LeavesAlone roles.Low self.old self.new }
         ensures high { LeavesAlone roles.High self.old self.new }
         ensures out { length out.new.items ≤ length out.old.items + 1 }
-        ensures returned { OnOk result (0 < length self.new.returned.items) }
+        ensures returned { OnOk result ((p : Past) → Stands D.told self.old p → 0 < length self.new.returned.items) }
         ensures moment { self.new.moment ≡ self.old.moment }
         ensures row { self.new.row ≡ self.old.row }
     {
@@ -52,8 +56,8 @@ impl<D: Disk> Parts<D> {
                 faults,
             }),
             Err(TakeFault::LogFull { end, length, size }) => Err(Stop::Full { end, length, size }),
-            // No DATA is sent before the receiver has all the messages before it.
-            Err(TakeFault::Ahead { .. }) => unreachable!(),
+            // Only over disks that do not agree is a DATA ahead of the receiver.
+            Err(TakeFault::Ahead { .. }) => Ok(()),
         }
     }
 }

@@ -1,15 +1,18 @@
 //! A high look of a pump.
 
-ghost use Rattle.std.specs.Prelude.{◌≡◌, ℕ, ◌+◌, ◌^◌, ◌<◌, ◌≤◌, ◌++◌, [], Option, None, Some, length, slice_get};
+ghost use Rattle.std.specs.Prelude.{◌≡◌, ℕ, ◌+◌, ◌^◌, ◌<◌, ◌≤◌, ◌++◌, true, is_some, [], Option, None, Some, length, slice_get};
 ghost use Rattle.disk_model.specs.declared.name.Role.TheVariants as roles;
 ghost use Rattle.high_process.specs.States as high;
 ghost use Rattle.high_process.specs.Tasks.{frame_of};
 ghost use Rattle.script_reader.specs.Past.{Past};
 ghost use Rattle.script_reader.specs.Highs.{IsHighLook, IsReturn, place};
 ghost use Rattle.script_reader.specs.Breaks.{IsUnremoved};
-ghost use Rattle.two_worlds.specs.Standing.{Stands, StandsForSome};
+ghost use Rattle.two_worlds.specs.Standing.{Stands};
+ghost use Rattle.two_worlds.specs.Working.{IsAble};
 ghost use Rattle.two_worlds.specs.Doing.{Does, DoesFrom, NeverBreaks, NeverOverfills, LeavesAlone};
+ghost use Rattle.two_worlds.specs.Private.GoingOn.{WorksOn};
 ghost use Rattle.two_worlds.specs.Private.Serving.{DisksServe};
+ghost use Rattle.two_worlds.specs.Timely.{goes_on_by};
 ghost use Rattle.two_worlds.specs.Printing.{lines_in};
 ghost use Rattle.two_worlds.specs.Private.HighLooks.{ComesBack, LeadsWith, BreaksWith, frame_when, most_lines, printed_look, packets_after};
 
@@ -72,7 +75,7 @@ impl<D: Disk> Parts<D> {
         comes_back: bool,
         out: &mut ArrayVec<EventHead, 4>,
     ) -> Result<(), Stop>
-        requires stands { ∥ StandsForSome D.told self.old ∥₁ }
+        requires able { IsAble D.told self.old }
         requires order { self.old.moment ≤ moment }
         requires moment { moment ≤ 2 ^ 62 }
         requires back { (p : Past) → Stands D.told self.old p
@@ -82,6 +85,8 @@ impl<D: Disk> Parts<D> {
             → (back : Option ℕ) → ComesBack self.old.row.id p.world (frame_when comes_back self.old.taken) back
             → DoesFrom (LeadsWith self.old.row moment back) (BreaksWith moment back) NeverOverfills
             D.told self.old self.new (lines_in out.old.items) (lines_in out.new.items) p result }
+        ensures works { WorksOn D.told self.new result }
+        ensures goes { is_some (high.hand_of self.new.high) ≡ true → goes_on_by self.old ≡ true }
         ensures serve { DisksServe D.told self.old self.new result }
         ensures low { LeavesAlone roles.Low self.old self.new }
         ensures high { frame_when comes_back self.old.taken ≡ None → LeavesAlone roles.High self.old self.new }
@@ -107,19 +112,21 @@ impl<D: Disk> Parts<D> {
             // A TAKEN of a message that was not sent is refused.
             Err(HighFault::Ahead { .. }) => Ok(()),
             // Only a receiver that attaches can be behind.
-            Err(HighFault::Behind { .. }) => unreachable!(),
+            Err(HighFault::Behind { .. }) => Ok(()),
         }
     }
 
     /// A high look to which nothing comes back, at this moment in microseconds, which is not below the
     /// last one and at most 2^62. No disk is called.
     pub fn look_high(&mut self, moment: u64, out: &mut ArrayVec<EventHead, 4>) -> Result<(), Stop>
-        requires stands { ∥ StandsForSome D.told self.old ∥₁ }
+        requires able { IsAble D.told self.old }
         requires order { self.old.moment ≤ moment }
         requires moment { moment ≤ 2 ^ 62 }
         requires out { length out.old.items ≤ 3 }
         ensures does { Does (λ p q printed. IsHighLook self.old.row p moment None q printed)
             NeverBreaks NeverOverfills D.told self.old self.new (lines_in out.old.items) (lines_in out.new.items) result }
+        ensures works { WorksOn D.told self.new result }
+        ensures goes { is_some (high.hand_of self.new.high) ≡ true → goes_on_by self.old ≡ true }
         ensures serve { DisksServe D.told self.old self.new result }
         ensures low { LeavesAlone roles.Low self.old self.new }
         ensures high { LeavesAlone roles.High self.old self.new }
@@ -148,7 +155,7 @@ impl<D: Disk> Parts<D> {
         back: u64,
         out: &mut ArrayVec<EventHead, 4>,
     ) -> Result<(), Stop>
-        requires stands { ∥ StandsForSome D.told self.old ∥₁ }
+        requires able { IsAble D.told self.old }
         requires order { self.old.moment ≤ moment }
         requires moment { moment ≤ 2 ^ 62 }
         requires back { back < length self.old.returned.items }
@@ -157,6 +164,7 @@ impl<D: Disk> Parts<D> {
             (λ role p q printed. (role ≡ roles.High)
             × IsUnremoved p moment (Some (place p.world.returned back)) q × (printed ≡ []))
             NeverOverfills D.told self.old self.new (lines_in out.old.items) (lines_in out.new.items) result }
+        ensures works { WorksOn D.told self.new result }
         ensures serve { DisksServe D.told self.old self.new result }
         ensures low { LeavesAlone roles.Low self.old self.new }
         ensures recv { LeavesAlone roles.Recv self.old self.new }

@@ -10,10 +10,13 @@ ghost use Rattle.script_reader.specs.Steps.{IsCarriedBack};
 ghost use Rattle.script_reader.specs.Breaks.{BreaksOff};
 ghost use Rattle.two_worlds.specs.Printing.{lines_in};
 ghost use Rattle.two_worlds.specs.Rooms.{DisksGo};
-ghost use Rattle.two_worlds.specs.Standing.{Stands, StandsForSome, disk_at};
+ghost use Rattle.two_worlds.specs.Standing.{Stands, disk_at};
+ghost use Rattle.two_worlds.specs.Working.{IsAble};
 ghost use Rattle.two_worlds.specs.Doing.{Does, LeavesAlone};
+ghost use Rattle.two_worlds.specs.Private.GoingOn.{WorksOn};
 ghost use Rattle.two_worlds.specs.Private.Serving.{DisksServe};
-ghost use Rattle.two_worlds.specs.Private.LineSteps.{goes_on_by, is_timely_by, IsOverfullSent, Runs, Attempts, answer_of};
+ghost use Rattle.two_worlds.specs.Private.LineSteps.{IsOverfullSent, Runs, RunsOn, Attempts, AttemptsOn, answer_of};
+ghost use Rattle.two_worlds.specs.Timely.{goes_on_by, is_timely_by};
 
 use crate::applied::Stop;
 use crate::pump::parts::Parts;
@@ -27,7 +30,7 @@ const LAST_MOMENT: u64 = 4_611_686_018_427_387_904;
 impl<D: Disk> Parts<D> {
     /// Whether a high look to which nothing comes back leaves a message in the high hand.
     fn goes_on(&self) -> bool
-        requires stands { ∥ StandsForSome D.told self.now ∥₁ }
+        requires able { IsAble D.told self.now }
         ensures { result ≡ goes_on_by self.now }
     {
         self.high.hand().is_some() || self.ends.held() > 0
@@ -35,7 +38,7 @@ impl<D: Disk> Parts<D> {
 
     /// Whether the line can be applied, where there is room for what comes with it.
     fn is_timely(&self, line: &LineHead, _bytes: &[u8]) -> bool
-        requires stands { ∥ StandsForSome D.told self.now ∥₁ }
+        requires able { IsAble D.told self.now }
         requires lawful { IsLawfulLine (line_with _bytes.now line.now) }
         ensures { result ≡ is_timely_by self.now (line_with _bytes.now line.now) }
     {
@@ -87,13 +90,15 @@ impl<D: Disk> Parts<D> {
         bytes: &[u8],
         out: &mut ArrayVec<EventHead, 4>,
     ) -> Result<(), Stop>
-        requires stands { ∥ StandsForSome D.told self.old ∥₁ }
+        requires able { IsAble D.told self.old }
         requires lawful { IsLawfulArriving (arriving_with bytes.now arriving.now) }
         requires room { CanHold arriving.now bytes.now }
         requires order { self.old.moment ≤ moment }
         requires moment { moment ≤ 2 ^ 62 }
         requires out { length out.old.items ≤ 0 }
         ensures runs { Runs D.told self.old self.new (lines.Look self.old.row.id moment word (arriving_with bytes.now arriving.now))
+            (lines_in out.old.items) (lines_in out.new.items) result }
+        ensures on { RunsOn D.told self.old self.new (lines.Look self.old.row.id moment word (arriving_with bytes.now arriving.now))
             (lines_in out.old.items) (lines_in out.new.items) result }
         ensures serve { DisksServe D.told self.old self.new result }
         ensures row { self.new.row ≡ self.old.row }
@@ -106,12 +111,13 @@ impl<D: Disk> Parts<D> {
 
     /// A `gone` line: the connection is lost, and the low process looks.
     fn gone_line(&mut self, moment: u64, out: &mut ArrayVec<EventHead, 4>) -> Result<(), Stop>
-        requires stands { ∥ StandsForSome D.told self.old ∥₁ }
+        requires able { IsAble D.told self.old }
         requires order { self.old.moment ≤ moment }
         requires moment { moment ≤ 2 ^ 62 }
         requires out { length out.old.items ≤ 0 }
         ensures runs { Runs D.told self.old self.new (lines.Gone self.old.row.id moment)
             (lines_in out.old.items) (lines_in out.new.items) result }
+        ensures works { WorksOn D.told self.new result }
         ensures serve { DisksServe D.told self.old self.new result }
         ensures row { self.new.row ≡ self.old.row }
     {
@@ -122,7 +128,7 @@ impl<D: Disk> Parts<D> {
     /// The message in the high hand, which was sent last, comes to the receiver, and its TAKEN comes
     /// back.
     fn carry_back(&mut self, moment: u64, out: &mut ArrayVec<EventHead, 4>) -> Result<(), Stop>
-        requires stands { ∥ StandsForSome D.told self.old ∥₁ }
+        requires able { IsAble D.told self.old }
         requires order { self.old.moment ≤ moment }
         requires moment { moment ≤ 2 ^ 62 }
         requires sent { 0 < length self.old.sent.items }
@@ -130,11 +136,16 @@ impl<D: Disk> Parts<D> {
         ensures does { Does (λ p q printed. (n : ℕ) → IsCarriedBack self.old.row (Some n) p moment q printed)
             (λ role p q printed. BreaksOff self.old.row p moment role q printed)
             IsOverfullSent D.told self.old self.new (lines_in out.old.items) (lines_in out.new.items) result }
+        ensures works { WorksOn D.told self.new result }
         ensures serve { DisksServe D.told self.old self.new result }
         ensures low { LeavesAlone roles.Low self.old self.new }
         ensures row { self.new.row ≡ self.old.row }
     {
         self.carry(0, out)?;
+        // A receiver whose disk tells nothing may refuse it, and then nothing has come back.
+        if self.returned.is_empty() {
+            return Ok(());
+        }
         self.take_back(moment, 0, out)
     }
 
@@ -146,18 +157,22 @@ impl<D: Disk> Parts<D> {
         time: u32,
         out: &mut ArrayVec<EventHead, 4>,
     ) -> Result<(), Stop>
-        requires stands { ∥ StandsForSome D.told self.old ∥₁ }
+        requires able { IsAble D.told self.old }
         requires order { self.old.moment ≤ moment }
         requires moment { moment ≤ 2 ^ 62 }
         requires back { goes_on_by self.old ≡ true → moment + time ≤ 2 ^ 62 }
         requires out { length out.old.items ≤ 0 }
         ensures runs { Runs D.told self.old self.new (lines.Done self.old.row.id moment time)
             (lines_in out.old.items) (lines_in out.new.items) result }
+        ensures works { WorksOn D.told self.new result }
         ensures serve { DisksServe D.told self.old self.new result }
         ensures row { self.new.row ≡ self.old.row }
     {
         self.look_high(moment, out)?;
         if self.high.hand().is_none() {
+            return Ok(());
+        }
+        if self.sent.is_empty() {
             return Ok(());
         }
         self.carry_back(moment + time as u64, out)
@@ -170,12 +185,13 @@ impl<D: Disk> Parts<D> {
         bytes: &[u8],
         out: &mut ArrayVec<EventHead, 4>,
     ) -> Result<(), Stop>
-        requires stands { ∥ StandsForSome D.told self.old ∥₁ }
+        requires able { IsAble D.told self.old }
         requires lawful { IsLawfulLine (line_with bytes.now line.now) }
         requires room { CanHoldLine line.now bytes.now }
         requires timely { is_timely_by self.old (line_with bytes.now line.now) ≡ true }
         requires out { length out.old.items ≤ 0 }
         ensures runs { Runs D.told self.old self.new (line_with bytes.now line.now) (lines_in out.old.items) (lines_in out.new.items) result }
+        ensures on { RunsOn D.told self.old self.new (line_with bytes.now line.now) (lines_in out.old.items) (lines_in out.new.items) result }
         ensures serve { DisksServe D.told self.old self.new result }
         ensures row { self.new.row ≡ self.old.row }
     {
@@ -205,11 +221,12 @@ impl<D: Disk> Parts<D> {
         bytes: &[u8],
         out: &mut ArrayVec<EventHead, 4>,
     ) -> Result<(), Stop>
-        requires stands { ∥ StandsForSome D.told self.old ∥₁ }
+        requires able { IsAble D.told self.old }
         requires lawful { IsLawfulLine (line_with bytes.now line.now) }
         requires room { CanHoldLine line.now bytes.now }
         requires out { length out.old.items ≤ 0 }
         ensures attempts { Attempts D.told self.old self.new (line_with bytes.now line.now) (lines_in out.old.items) (lines_in out.new.items) result }
+        ensures on { AttemptsOn D.told self.old self.new (line_with bytes.now line.now) (lines_in out.old.items) (lines_in out.new.items) result }
         ensures serve { DisksServe D.told self.old self.new result }
         ensures row { self.new.row ≡ self.old.row }
     {
@@ -227,10 +244,11 @@ impl<D: Disk> Parts<D> {
         bytes: &[u8],
         out: &mut ArrayVec<EventHead, 4>,
     ) -> Option<Stop>
-        requires stands { ∥ StandsForSome D.told self.old ∥₁ }
+        requires able { IsAble D.told self.old }
         requires lawful { IsLawfulLine (line_with bytes.now line.now) }
         requires room { CanHoldLine line.now bytes.now }
         ensures attempts { Attempts D.told self.old self.new (line_with bytes.now line.now) [] (lines_in out.new.items) (answer_of result) }
+        ensures on { AttemptsOn D.told self.old self.new (line_with bytes.now line.now) [] (lines_in out.new.items) (answer_of result) }
         ensures serve { DisksGo D.told self.old.row (disk_at roles.Low self.old) (disk_at roles.High self.old) (disk_at roles.Recv self.old)
             (disk_at roles.Low self.new) (disk_at roles.High self.new) (disk_at roles.Recv self.new) result }
         ensures row { self.new.row ≡ self.old.row }

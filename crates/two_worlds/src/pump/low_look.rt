@@ -6,8 +6,9 @@ ghost use Rattle.pump_core.specs.History.{Gone};
 ghost use Rattle.script_reader.specs.Steps.{IsOfferedLook, IsLowLook};
 ghost use Rattle.script_reader.specs.Breaks.{IsLost};
 ghost use Rattle.two_worlds.specs.Connections.{unused};
-ghost use Rattle.two_worlds.specs.Standing.{StandsForSome};
+ghost use Rattle.two_worlds.specs.Working.{IsAble};
 ghost use Rattle.two_worlds.specs.Doing.{Does, NeverBreaks, NeverOverfills};
+ghost use Rattle.two_worlds.specs.Private.GoingOn.{WorksOn};
 ghost use Rattle.two_worlds.specs.Private.Serving.{DisksServe};
 ghost use Rattle.two_worlds.specs.Printing.{lines_in};
 
@@ -28,13 +29,14 @@ impl<D: Disk> Parts<D> {
         word: u32,
         out: &mut ArrayVec<EventHead, 4>,
     ) -> Result<(), Stop>
-        requires stands { ∥ StandsForSome D.told self.old ∥₁ }
+        requires able { IsAble D.told self.old }
         requires order { self.old.moment ≤ moment }
         requires moment { moment ≤ 2 ^ 62 }
         requires out { length out.old.items ≤ 1 }
         ensures does { Does (λ p q printed. IsOfferedLook self.old.row p moment word q printed)
             (λ role p q printed. (role ≡ roles.Low) × IsLost self.old.row p moment word q printed)
             NeverOverfills D.told self.old self.new (lines_in out.old.items) (lines_in out.new.items) result }
+        ensures works { WorksOn D.told self.new result }
         ensures serve { DisksServe D.told self.old self.new result }
         ensures row { self.new.row ≡ self.old.row }
     {
@@ -55,13 +57,14 @@ impl<D: Disk> Parts<D> {
 
     /// The low look of a connection that is lost: nothing waits on the new one.
     pub fn look_gone(&mut self, moment: u64, out: &mut ArrayVec<EventHead, 4>) -> Result<(), Stop>
-        requires stands { ∥ StandsForSome D.told self.old ∥₁ }
+        requires able { IsAble D.told self.old }
         requires unused { self.old.connection ≡ unused }
         requires order { self.old.moment ≤ moment }
         requires moment { moment ≤ 2 ^ 62 }
         requires out { length out.old.items ≤ 1 }
         ensures does { Does (λ p q printed. IsLowLook self.old.row p moment 0 Gone q printed)
             NeverBreaks NeverOverfills D.told self.old self.new (lines_in out.old.items) (lines_in out.new.items) result }
+        ensures works { WorksOn D.told self.new result }
         ensures serve { DisksServe D.told self.old self.new result }
         ensures row { self.new.row ≡ self.old.row }
     {

@@ -4,6 +4,7 @@ ghost use Rattle.std.specs.Prelude.{◌≡◌, ◌≤◌, [], false, true, None,
 ghost use Rattle.circular_buffer.specs.Buffer.{buffer};
 ghost use Rattle.disk_model.specs.Disk.{Moves, Same};
 ghost use Rattle.disk_model.specs.declared.name.Role.TheVariants as roles;
+ghost use Rattle.pump_core.specs.History.{first_life};
 ghost use Rattle.pump_core.specs.Passage.{new_low, new_high, shape_of_row};
 ghost use Rattle.pump_frame.specs.Rows.{IsLawfulRow};
 ghost use Rattle.passage.specs.Plain.{shape_of, StandsFor as EndsStand};
@@ -13,11 +14,13 @@ ghost use Rattle.high_receiver.specs.Receiving.{recv_disk};
 ghost use Rattle.recovery.specs.Calls.{is_device};
 ghost use Rattle.recovery.specs.declared.why.Why.TheVariants.{Device};
 ghost use Rattle.script_reader.specs.Openings.{Found, opened};
-ghost use Rattle.two_worlds.specs.Openings.{IsRefused, StandForFound, DisksStandFor, GoesOn, ComeBack, disk_back};
+ghost use Rattle.two_worlds.specs.Openings.{IsRefused, DisksStandFor, GoesOn, ComeBack, disk_back};
 ghost use Rattle.two_worlds.specs.Private.Readied.{PumpOpens, ReceiverOpens, disk_after, fails_at, role_blamed};
+ghost use Rattle.two_worlds.specs.Private.Opened.{AreOpened};
 ghost use Rattle.two_worlds.specs.Connections.{unused};
-ghost use Rattle.two_worlds.specs.Rooms.{Serves, IsFree};
+ghost use Rattle.two_worlds.specs.Rooms.{Serves};
 ghost use Rattle.two_worlds.specs.Standing.{Stands, disk_at};
+ghost use Rattle.two_worlds.specs.Working.{Works};
 
 use crate::connection::Connection;
 use crate::not_open::NotOpen;
@@ -147,9 +150,10 @@ impl<D: Disk> Parts<D> {
             pump memory.ends }
         requires receiver { ReceiverOpens D.told row.now (D.told.reading (low_disk pump.low)) (D.told.reading (recv_disk receiver))
             pump.removed pump.next receiver }
-        ensures stands { D.told.tells → (f : Found)
-            → StandForFound row.now f (D.told.reading (low_disk pump.low)) (D.told.reading (high_disk pump.high)) (D.told.reading (recv_disk receiver))
-            → Stands D.told result (opened row.now f) }
+        ensures opened { AreOpened D.told result first_life }
+        ensures start { result.moment ≡ 0 }
+        ensures sent { result.sent.items ≡ [] }
+        ensures returned { result.returned.items ≡ [] }
         ensures row { result.row ≡ row.now }
         ensures low { disk_at roles.Low result ≡ low_disk pump.low }
         ensures high { disk_at roles.High result ≡ high_disk pump.high }
@@ -186,6 +190,7 @@ impl<D: Disk> Parts<D> {
         recv: D,
     ) -> Result<Parts<D>, NotOpen<D>>
         requires lawful { IsLawfulRow row.now }
+        ensures works { IfOk result (λ parts. Works D.told parts) }
         ensures opens { IfOk result (λ parts. D.told.tells → (f : Found) × DisksStandFor D.told row.now low high recv f) }
         ensures stands { IfOk result (λ parts. D.told.tells → (f : Found) → DisksStandFor D.told row.now low high recv f
             → Stands D.told parts (opened row.now f)) }

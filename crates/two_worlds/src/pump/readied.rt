@@ -67,22 +67,46 @@ pub fn ready_all<D: Disk>(
     let low = match ready_disk(low, row, Role::Low) {
         Ok(low) => low,
         Err((low, device)) => {
-            let why = Some(Why::Device { faults: device.faults });
-            return Err(NotOpen { role: Role::Low, why, low, high, recv });
+            let why = Some(Why::Device {
+                faults: device.faults,
+            });
+            return Err(NotOpen {
+                role: Role::Low,
+                why,
+                low,
+                high,
+                recv,
+            });
         }
     };
     let high = match ready_disk(high, row, Role::High) {
         Ok(high) => high,
         Err((high, device)) => {
-            let why = Some(Why::Device { faults: device.faults });
-            return Err(NotOpen { role: Role::High, why, low, high, recv });
+            let why = Some(Why::Device {
+                faults: device.faults,
+            });
+            return Err(NotOpen {
+                role: Role::High,
+                why,
+                low,
+                high,
+                recv,
+            });
         }
     };
     match ready_disk(recv, row, Role::Recv) {
         Ok(recv) => Ok(Disks { low, high, recv }),
         Err((recv, device)) => {
-            let why = Some(Why::Device { faults: device.faults });
-            Err(NotOpen { role: Role::Recv, why, low, high, recv })
+            let why = Some(Why::Device {
+                faults: device.faults,
+            });
+            Err(NotOpen {
+                role: Role::Recv,
+                why,
+                low,
+                high,
+                recv,
+            })
         }
     }
 }

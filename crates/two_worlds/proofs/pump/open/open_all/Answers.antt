@@ -1,4 +1,4 @@
-use Rattle.std.proofs.Common.{◌≡◌, inl, inr, ◌∙◌, ◌&&◌, ℕ, List, false, not, Some, IfSome, slice_index_or, [], refl, sym, ap, subst, arith}
+use Rattle.std.proofs.Common.{◌≡◌, inl, inr, ◌∙◌, ◌&&◌, ℕ, List, false, not, IfSome, slice_index_or, [], refl, sym, ap, subst, arith}
 use Rattle.disk_model.specs.Disk.{Moves, Same}
 use Rattle.disk_model.specs.declared.name.Role.TheVariants as roles
 use Rattle.disk_model.proofs.Run.{goes_on_same}

@@ -1,4 +1,4 @@
-use Rattle.std.proofs.Common.{◌≡◌, ℕ, List, [], Option, refl, sym, ap, ◌∙◌, subst, arith}
+use Rattle.std.proofs.Common.{ℕ, Option, refl, sym, ap, ◌∙◌, subst, arith}
 use Rattle.pump_frame.specs.declared.frame.Item.{Item}
 use Rattle.pump_core.specs.History.{first_life}
 use Rattle.pump_core.specs.Passage.{new_low, new_high}
@@ -9,11 +9,10 @@ use Rattle.low_process.specs.Looks as low
 use Rattle.high_process.specs.Past as high_past
 use Rattle.high_process.specs.Looks.{StandsFor as HighStandsFor}
 use Rattle.recovery.specs.Deals.{numbered, passing, InHands}
-use Rattle.two_worlds.proofs.Opening.Lives.{begins}
 use Rattle.two_worlds.proofs.pump.parts.Parts.assemble.Goals as goal
 
-pub returns-clause-stands : goal.returns-clause-stands
-returns-clause-stands g c = λ told f s.
+pub returns-clause-opened : goal.returns-clause-opened
+returns-clause-opened g c =
     let m = g.D.Disk.told in
     let row = c.args.row.now in
     let p = c.requires.pump in
@@ -22,7 +21,7 @@ returns-clause-stands g c = λ told f s.
     let removed = p.counts.1 in
     let low_hand = c.open.ensures.hand in
     let high_hand = c.open-2.ensures.hand in
-    begins m told _ f (record {
+    record {
       row = c.requires.lawful;
       connection = c.requires.connection;
       low_ready = p.ready_low;
@@ -35,6 +34,7 @@ returns-clause-stands g c = λ told f s.
       stands = λ t. subst (λ (v : ℕ × ℕ). LowStands row v.0 v.1 p.messages (m.reading (low_disk c.args.pump.low))) (λ i. (sym next i, sym removed i)) (p.stands t);
       count = omega (arith, p.count, next, removed);
       places = omega (arith, p.places, next, removed);
+      short = p.short;
       hands = subst (λ (v : ℕ × Option Item × Option Item). InHands row.capacity (numbered v.0 p.messages) v.1 v.2) (λ i. (sym removed i, sym high_hand i, sym low_hand i)) p.hands;
       ends = subst (λ (b : ℕ). EndsStand c.args.memory.ends (record new_low { forwarded = passing row.capacity (numbered b p.messages) }) new_high) (sym removed) p.ends_stand;
       shape = p.shape;
@@ -52,4 +52,4 @@ returns-clause-stands g c = λ told f s.
       high_last = c.open-2.ensures.last;
       high_up = c.open-2.ensures.up;
       packets = record { sent = ap (λ b. b.capacity) c.requires.sent; returned = ap (λ b. b.capacity) c.requires.returned; taken = (refl, refl) };
-    }) refl (ap (λ b. b.items) c.requires.sent) (ap (λ b. b.items) c.requires.returned) s
+    }

@@ -1,14 +1,16 @@
 use Rattle.std.proofs.Common.{subst}
 use Rattle.std.proofs.lemmas.Result.{err_from_is_err_and}
-use Rattle.std.proofs.Math.Logic.{∥∥₁_map}
+use Rattle.script_reader.specs.Highs.{IsCarried}
+use Rattle.two_worlds.proofs.Lines.On.{able_on}
 use Rattle.pump_frame.specs.declared.row.SessionRow.{SessionRow}
 use Rattle.two_worlds.proofs.Lines.Done as done
 use Rattle.two_worlds.proofs.Disks.Together.{serve_then}
 use Rattle.two_worlds.specs.Printing.{lines_in}
 use Rattle.two_worlds.proofs.pump.parts.Parts.carry_back.Goals as goal
 
-pub take_back-requires-clause-stands : goal.take_back-requires-clause-stands
-take_back-requires-clause-stands g c = ∥∥₁_map c.requires.stands (λ s. (let a = c.in_ok-carry.ensures.does s.0 s.1 in (a.0, a.4)))
+pub take_back-requires-clause-able : goal.take_back-requires-clause-able
+take_back-requires-clause-able g c =
+    able_on g.D.Disk.told c.args.self.now c.carry.new.self (λ p q printed. IsCarried c.args.self.now.row p 0 q printed) (lines_in c.args.out.now.items) (lines_in c.carry.new.out.items) c.requires.able c.in_ok-carry.ensures.works c.in_ok-carry.ensures.does
 
 pub returns-in_err-carry-clause-does : goal.returns-in_err-carry-clause-does
 returns-in_err-carry-clause-does g c =

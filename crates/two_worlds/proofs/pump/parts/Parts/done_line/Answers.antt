@@ -1,6 +1,6 @@
-use Rattle.std.proofs.Common.{subst, ◌∙◌}
-use Rattle.std.specs.Coded.{le_prop}
-use Rattle.std.proofs.Math.Logic.{∥∥₁_map, ∥∥₁_elim}
+use Rattle.std.proofs.Common.{subst, sym, None, ◌∙◌}
+use Rattle.script_reader.specs.Highs.{IsHighLook}
+use Rattle.two_worlds.proofs.Lines.On.{able_on, none_kept}
 use Rattle.pump_frame.specs.declared.row.SessionRow.{SessionRow}
 use Rattle.two_worlds.proofs.Lines.Timely.{hand_lent}
 use Rattle.two_worlds.proofs.Lines.Done as done
@@ -13,18 +13,13 @@ returns-then-is_none-clause-runs g c =
     done.done_here g.D.Disk.told c.args.self.now c.look_high.new.self c.args.moment c.args.time (lines_in c.args.out.now.items) (lines_in c.look_high.new.out.items) c.in_ok-look_high.ensures.does
     (hand_lent c.hand.result _ c.hand.ensures.hand ∙ c.if-is_none.ensures)
 
-pub carry_back-requires-clause-stands : goal.carry_back-requires-clause-stands
-carry_back-requires-clause-stands g c = ∥∥₁_map c.requires.stands (λ s. (let a = c.in_ok-look_high.ensures.does s.0 s.1 in (a.0, a.4)))
-
-pub carry_back-requires-clause-sent : goal.carry_back-requires-clause-sent
-carry_back-requires-clause-sent g c =
-    ∥∥₁_elim c.requires.stands le_prop (λ s. done.has_packet g.D.Disk.told c.args.self.now c.look_high.new.self c.args.moment c.args.time (lines_in c.args.out.now.items) (lines_in c.look_high.new.out.items) c.look_high.new.self (lines_in c.look_high.new.out.items) c.in_ok-look_high.ensures.does
-    (hand_lent c.hand.result _ c.hand.ensures.hand ∙ c.if-is_none.ensures) s.0 s.1)
+pub carry_back-requires-clause-able : goal.carry_back-requires-clause-able
+carry_back-requires-clause-able g c =
+    able_on g.D.Disk.told c.args.self.now c.look_high.new.self (λ p q printed. IsHighLook c.args.self.now.row p c.args.moment None q printed) (lines_in c.args.out.now.items) (lines_in c.look_high.new.out.items) c.requires.able c.in_ok-look_high.ensures.works c.in_ok-look_high.ensures.does
 
 pub carry_back-requires-clause-moment : goal.carry_back-requires-clause-moment
 carry_back-requires-clause-moment g c =
-    ∥∥₁_elim c.requires.stands le_prop (λ s. c.requires.back (done.goes_by g.D.Disk.told c.args.self.now c.look_high.new.self c.args.moment c.args.time (lines_in c.args.out.now.items) (lines_in c.look_high.new.out.items) c.look_high.new.self (lines_in c.look_high.new.out.items) c.in_ok-look_high.ensures.does
-    (hand_lent c.hand.result _ c.hand.ensures.hand ∙ c.if-is_none.ensures) s.0 s.1))
+    c.requires.back (c.in_ok-look_high.ensures.goes (hand_lent c.hand.result _ c.hand.ensures.hand ∙ c.if-is_none.ensures))
 
 pub returns-clause-runs : goal.returns-clause-runs
 returns-clause-runs g c =
@@ -37,3 +32,9 @@ returns-clause-runs g c =
 pub returns-clause-serve : goal.returns-clause-serve
 returns-clause-serve g c =
     serve_then g.D.Disk.told c.args.self.now c.look_high.new.self c.carry_back.new.self c.carry_back.result c.in_ok-look_high.ensures.serve c.in_ok-look_high.ensures.high c.in_ok-look_high.ensures.row c.carry_back.ensures.serve
+
+pub returns-then-is_empty-clause-runs : goal.returns-then-is_empty-clause-runs
+returns-then-is_empty-clause-runs g c = λ p s.
+    let some = done.has_packet g.D.Disk.told c.args.self.now c.look_high.new.self c.args.moment c.args.time (lines_in c.args.out.now.items) (lines_in c.look_high.new.out.items) c.look_high.new.self (lines_in c.look_high.new.out.items) c.in_ok-look_high.ensures.does
+    (hand_lent c.hand.result _ c.hand.ensures.hand ∙ c.if-is_none.ensures) p s in
+    absurd (none_kept c.look_high.new.self.sent.items some (sym c.is_empty.ensures ∙ c.if-is_empty.true))

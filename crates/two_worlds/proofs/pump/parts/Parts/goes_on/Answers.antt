@@ -7,4 +7,4 @@ use Rattle.two_worlds.proofs.pump.parts.Parts.goes_on.Goals as goal
 pub returns-else-is_some : goal.returns-else-is_some
 returns-else-is_some g c =
     goes_held c.args.self.now c.held.result (hand_lent c.hand.result _ c.hand.ensures.hand ∙ sym c.if-is_some.ensures)
-    (∥∥₁_elim c.requires.stands (hlevel props) (λ s. held_is g.D.Disk.told c.args.self.now s.0 c.held.result s.1 c.held.ensures))
+    (∥∥₁_elim c.requires.able.works (hlevel props) (λ w. held_is g.D.Disk.told c.args.self.now c.held.result w c.held.ensures))

@@ -1,11 +1,10 @@
-use Rattle.std.proofs.Math.Logic.{∥∥₁_map}
-use Rattle.two_worlds.proofs.Arriving.Connected.{some_lost}
+use Rattle.two_worlds.proofs.Arriving.Connected.{able_lost}
 use Rattle.two_worlds.proofs.Lines.Runs.{gone_runs}
 use Rattle.two_worlds.specs.Printing.{lines_in}
 use Rattle.two_worlds.proofs.pump.parts.Parts.gone_line.Goals as goal
 
-pub look_gone-requires-clause-stands : goal.look_gone-requires-clause-stands
-look_gone-requires-clause-stands g c = ∥∥₁_map c.requires.stands (some_lost g.D.Disk.told c.args.self.now c.lose.new.self c.lose.ensures)
+pub look_gone-requires-clause-able : goal.look_gone-requires-clause-able
+look_gone-requires-clause-able g c = able_lost g.D.Disk.told c.args.self.now c.lose.new.self c.lose.ensures c.requires.able
 
 pub returns-clause-runs : goal.returns-clause-runs
 returns-clause-runs g c =

@@ -9,24 +9,25 @@ use Rattle.two_worlds.proofs.Opening.Ready.{low_has_store}
 use Rattle.two_worlds.proofs.Opening.Ends.{low_between, low_order, low_seen, high_seen, ends_seen, low_fits_seen}
 use Rattle.two_worlds.proofs.Low.Looked.{Looked, no_waits, no_bad}
 use Rattle.two_worlds.proofs.Low.Serves.{low_serves}
+use Rattle.two_worlds.proofs.Low.Works.{low_works}
 use Rattle.two_worlds.proofs.Low.Does.{gone_does}
 use Rattle.two_worlds.proofs.pump.parts.Parts.look_gone.Goals as goal
 
 pub look_into-requires-clause-between : goal.look_into-requires-clause-between
-look_into-requires-clause-between g c = low_between g.D.Disk.told c.args.self.now c.requires.stands
+look_into-requires-clause-between g c = low_between g.D.Disk.told c.args.self.now c.requires.able
 
 pub look_into-requires-clause-order : goal.look_into-requires-clause-order
-look_into-requires-clause-order g c = low_order g.D.Disk.told c.args.self.now c.requires.stands c.args.moment c.requires.order
+look_into-requires-clause-order g c = low_order g.D.Disk.told c.args.self.now c.requires.able c.args.moment c.requires.order
 
 pub look_into-requires-clause-store : goal.look_into-requires-clause-store
-look_into-requires-clause-store g c = λ up. low_has_store g.D.Disk.told c.args.self.now c.requires.stands
+look_into-requires-clause-store g c = λ up. low_has_store g.D.Disk.told c.args.self.now c.requires.able
 
 pub look_into-requires-clause-ends : goal.look_into-requires-clause-ends
 look_into-requires-clause-ends g c =
     let m = g.D.Disk.told in
     let s = c.args.self.now in
-    let some = c.requires.stands in
-    (low_seen m s some, high_seen m s some, (ends_seen m s some, low_fits_seen m s some))
+    let able = c.requires.able in
+    (low_seen m s able, high_seen m s able, (ends_seen m s able, low_fits_seen m s able))
 
 pub returns : goal.returns
 returns g c =
@@ -56,6 +57,7 @@ returns g c =
     record {
       does = λ p stands. gone_does m s d c.args.moment 0 Gone l c.requires.order (lines_in c.args.out.now.items) printed (subst (λ (r : SessionRow). printed ≡ lines_in c.args.out.now.items ++ look_prints s.row.id c.args.moment (look_with r head)) (sym stands.low_ready.row) end.prints) p stands e.looks.0 c.end_look.result
           refl did end.stop;
-      serve = low_serves m s d c.args.moment 0 Gone e.looks.0 l did c.requires.stands c.end_look.result end.stop;
+      works = low_works m s d c.args.moment 0 Gone l c.requires.order c.requires.able e.looks.0 c.end_look.result did end.stop;
+      serve = low_serves m s d c.args.moment 0 Gone e.looks.0 l did c.requires.able c.end_look.result end.stop;
       row = refl;
     }

@@ -1,11 +1,19 @@
-use Rattle.std.proofs.Common.{◌≡◌, ℕ, List, false, refl, sym, ap, ◌∙◌, subst, arith}
+use Rattle.std.proofs.Common.{◌≡◌, ℕ, List, false, sym, ap, ◌∙◌, subst}
+use Rattle.std.specs.List.{All}
+use Rattle.std.proofs.lemmas.List.Elements.{All-nil}
 use Rattle.std.proofs.lemmas.Result.{err_from_is_err_and}
-use Rattle.disk_model.specs.Disk.{Moves, Same}
 use Rattle.disk_model.specs.declared.name.Role.TheVariants as roles
+use Rattle.pump_frame.specs.declared.row.SessionRow.{SessionRow}
+use Rattle.pump_core.specs.History.{first_life}
 use Rattle.stable_buffer.specs.Low.{low_disk}
 use Rattle.stable_buffer.specs.High.{high_disk}
 use Rattle.high_receiver.specs.Receiving.{recv_disk}
 use Rattle.two_worlds.specs.Openings.{StandForFound, GoesOn, ComeBack, readied, failed_at}
+use Rattle.script_reader.specs.Openings.{opened}
+use Rattle.two_worlds.specs.Standing.{Stands, disk_at}
+use Rattle.two_worlds.specs.Working.{IsPacket}
+use Rattle.two_worlds.proofs.Opening.Lives.{begins}
+use Rattle.two_worlds.proofs.Opening.Opened.{works}
 use Rattle.two_worlds.proofs.Opening.Comparing.{goes_on, receiver_over, found_by, refused_over, some_why}
 use Rattle.two_worlds.proofs.pump.parts.Parts.open.Goals as goal
 
@@ -56,7 +64,19 @@ returns-clause-stands g c = λ told f s.
     let low = o.moves_low.reads told ∙ same.0 in
     let high = o.moves_high.reads told ∙ same.1 in
     let recv = o.moves_recv.reads told ∙ same.2 in
-    c.assemble.ensures.stands told f (subst (λ (v : List ℕ × List ℕ × List ℕ). StandForFound row f v.0 v.1 v.2) (λ i. (sym low i, sym high i, sym recv i)) s)
+    let a = c.assemble.ensures in
+    let at : (m.reading (disk_at roles.Low c.assemble.result), m.reading (disk_at roles.High c.assemble.result), m.reading (disk_at roles.Recv c.assemble.result))
+    ≡ (readied row roles.Low (m.reading c.args.low), readied row roles.High (m.reading c.args.high), readied row roles.Recv (m.reading c.args.recv)) = λ i.
+    ((ap m.reading a.low ∙ low) i, (ap m.reading a.high ∙ high) i, (ap m.reading a.recv ∙ recv) i) in
+    subst (λ (r : SessionRow). Stands m c.assemble.result (opened r f)) a.row
+    (begins m told c.assemble.result f a.opened a.start a.sent a.returned
+    (subst (λ (r : SessionRow). StandForFound r f (m.reading (disk_at roles.Low c.assemble.result)) (m.reading (disk_at roles.High c.assemble.result)) (m.reading (disk_at roles.Recv c.assemble.result))) (sym a.row)
+    (subst (λ (v : List ℕ × List ℕ × List ℕ). StandForFound row f v.0 v.1 v.2) (sym at) s)))
+
+pub returns-clause-works : goal.returns-clause-works
+returns-clause-works g c =
+    let a = c.assemble.ensures in
+    works g.D.Disk.told c.assemble.result first_life a.opened (subst (All (IsPacket c.assemble.result.row)) (sym a.sent) (All-nil (IsPacket c.assemble.result.row)))
 
 pub returns-clause-low : goal.returns-clause-low
 returns-clause-low g c =

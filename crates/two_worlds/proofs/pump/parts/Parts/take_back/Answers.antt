@@ -1,17 +1,16 @@
 use Rattle.std.proofs.Common.{◌≡◌, Some, []}
-use Rattle.std.proofs.Math.Logic.{∥∥₁_map}
 use Rattle.disk_model.specs.declared.name.Role.TheVariants as roles
 use Rattle.script_reader.specs.Highs.{IsReturn, place}
 use Rattle.script_reader.specs.Breaks.{IsUnremoved}
 use Rattle.two_worlds.specs.Doing.{NeverOverfills}
 use Rattle.two_worlds.specs.Private.HighLooks.{LeadsWith, BreaksWith}
 use Rattle.two_worlds.proofs.Lines.DoesMore.{does_more}
-use Rattle.two_worlds.proofs.High.Returning.{numbered, stands_numbered, comes_numbered}
+use Rattle.two_worlds.proofs.High.Returning.{numbered, stands_numbered, able_numbered, comes_numbered}
 use Rattle.two_worlds.specs.Printing.{lines_in}
 use Rattle.two_worlds.proofs.pump.parts.Parts.take_back.Goals as goal
 
-pub look_with-requires-clause-stands : goal.look_with-requires-clause-stands
-look_with-requires-clause-stands g c = ∥∥₁_map c.requires.stands (λ s. (s.0, stands_numbered g.D.Disk.told c.args.self.now c.number_back-self.result s.0 s.1))
+pub look_with-requires-clause-able : goal.look_with-requires-clause-able
+look_with-requires-clause-able g c = able_numbered g.D.Disk.told c.args.self.now c.number_back-self.result c.requires.able
 
 pub look_with-requires-clause-back : goal.look_with-requires-clause-back
 look_with-requires-clause-back g c = λ p s.

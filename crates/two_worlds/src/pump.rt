@@ -1,12 +1,12 @@
 //! The whole pump of a session over three disks, on one thread.
 
 mod carry;
-mod formatted;
 mod high_look;
 mod lines;
 mod low_look;
 mod open;
 mod parts;
+mod readied;
 mod reopen;
 mod restart;
 mod state;
@@ -36,21 +36,24 @@ pub struct Pump<D: Disk> {
 ghost use Rattle.two_worlds.specs.Keeping.{Keeps};
 
 impl<D: Disk> Pump<D> {
-    ghost use Rattle.std.specs.Prelude.{◌≡◌, false, [], length, None, IfOk, IfErr};
+    ghost use Rattle.std.specs.Prelude.{◌≡◌, true, false, [], length, None, IfOk, IfErr, IfSome};
     ghost use Rattle.disk_model.specs.declared.name.Role.TheVariants as roles;
     ghost use Rattle.pump_frame.specs.Rows.{IsLawfulRow};
-    ghost use Rattle.two_worlds.specs.Openings.{ComeBack};
+    ghost use Rattle.two_worlds.specs.Openings.{DisksStandFor, GoesOn, ComeBack};
     ghost use Rattle.script_reader.specs.Lawful.{IsLawfulLine};
     ghost use Rattle.script_reader.specs.Heads.{line_with, CanHoldLine};
     ghost use Rattle.two_worlds.specs.Printing.{lines_in};
     ghost use Rattle.script_reader.specs.Past.{Past};
-    ghost use Rattle.script_reader.specs.Openings.{first_past, nothing_found};
+    ghost use Rattle.script_reader.specs.Openings.{Found, first_past, nothing_found};
     ghost use Rattle.two_worlds.specs.Disks.{Opens, CrashesOpen, LeaveWorld};
+    ghost use Rattle.recovery.specs.Calls.{is_device};
     ghost use Rattle.two_worlds.specs.LowPumps.{stops_at_disk};
     ghost use Rattle.two_worlds.specs.Pumps.{row_of, StandsFor, StandsOrFails, is_down, disk_at, Applies, AppliesOn};
     ghost use Rattle.two_worlds.specs.Rooms.{HasRoom, DisksGo};
 
-    /// The pump of a lawful row over three disks of size 0, which tell what they hold.
+    /// The pump of a lawful row over three disks. Each that is empty is formatted first. Where they tell
+    /// what they hold, the session begins on what they stand for, and where they stand for nothing they
+    /// are refused, for the first cause in the order of `docs/formats.md`, "Disks".
     pub fn open(
         alloc: Global,
         row: &SessionRow,
@@ -59,19 +62,27 @@ impl<D: Disk> Pump<D> {
         recv: D,
     ) -> Result<Pump<D>, NotOpen<D>>
         requires lawful { IsLawfulRow row.now }
-        requires tells { D.told.tells }
-        requires low { D.told.reading low ≡ [] }
-        requires high { D.told.reading high ≡ [] }
-        requires recv { D.told.reading recv ≡ [] }
-        ensures fresh { IfOk result (λ pump. StandsFor D.told pump (first_past row.now nothing_found)) }
+        ensures opens { IfOk result (λ pump. D.told.tells → (f : Found) × DisksStandFor D.told row.now low high recv f) }
+        ensures stands { IfOk result (λ pump. D.told.tells → (f : Found) → DisksStandFor D.told row.now low high recv f
+            → StandsFor D.told pump (first_past row.now f)) }
+        ensures fresh { D.told.tells → D.told.reading low ≡ [] → D.told.reading high ≡ [] → D.told.reading recv ≡ []
+            → IfOk result (λ pump. StandsFor D.told pump (first_past row.now nothing_found)) }
         ensures row { IfOk result (λ pump. row_of pump ≡ row.now) }
         ensures up { IfOk result (λ pump. is_down pump ≡ false) }
+        ensures low { IfOk result (λ pump. GoesOn D.told row.now roles.Low low (disk_at roles.Low pump) false) }
+        ensures high { IfOk result (λ pump. GoesOn D.told row.now roles.High high (disk_at roles.High pump) false) }
+        ensures recv { IfOk result (λ pump. GoesOn D.told row.now roles.Recv recv (disk_at roles.Recv pump) false) }
+        ensures back { IfErr result (λ e. ComeBack D.told row.now low high recv e) }
+        ensures stops { IfErr result (λ e. D.told.tells → (f : Found) → DisksStandFor D.told row.now low high recv f
+            → IfSome e.why (λ why. is_device why ≡ true)) }
         ensures room { D.told.tells_plan → HasRoom D.told row.now low high recv
             → IfOk result (λ pump. HasRoom D.told row.now (disk_at roles.Low pump) (disk_at roles.High pump) (disk_at roles.Recv pump)) }
-        ensures back { IfErr result (λ e. ComeBack D.told row.now low high recv e) }
-        ensures never { D.told.tells_plan → HasRoom D.told row.now low high recv → IfErr result (λ e. e.why ≡ None) }
+        ensures never { D.told.tells_plan → HasRoom D.told row.now low high recv
+            → D.told.reading low ≡ [] → D.told.reading high ≡ [] → D.told.reading recv ≡ [] → IfErr result (λ e. e.why ≡ None) }
     {
-        let parts = Parts::fresh(alloc, row, low, high, recv)?;
+        // It is read so that it is known to be in the range of its type.
+        let _id = row.id;
+        let parts = Parts::open(alloc, row, low, high, recv)?;
         Ok(Pump {
             state: PumpState::Open(parts),
         })

@@ -1,7 +1,9 @@
 -- Parts that have just been opened stand for the session that begins on what was found, or for the one
 -- that begins again.
-use Rattle.std.proofs.Common.{◌≡◌, ℕ, ◌≤◌, false, List, length, drop, Some, None, refl, sym, ap, ◌∙◌, subst}
+use Rattle.std.proofs.Common.{◌≡◌, ℕ, ◌≤◌, false, List, [], length, drop, Some, None, refl, sym, ap, ◌∙◌, subst, arith}
 use Rattle.std.specs.List.{All}
+use Rattle.std.proofs.lemmas.List.{drop_all}
+use Rattle.circular_buffer.specs.Buffer.{keep_last}
 use Rattle.disk_model.specs.Disk.{Meaning}
 use Rattle.pump_frame.specs.declared.row.SessionRow.{SessionRow}
 use Rattle.stable_buffer.specs.Low.{low_disk}
@@ -10,19 +12,49 @@ use Rattle.stable_buffer.specs.Stands.{LowStands, HighStands}
 use Rattle.stable_buffer.specs.Log.{RecvStands}
 use Rattle.high_receiver.specs.Receiving.{recv_disk}
 use Rattle.pump_core.specs.declared.event.Event.TheVariants.{Crash}
-use Rattle.pump_core.specs.History.{reopened}
-use Rattle.pump_core.specs.Events.{pump_crashed}
-use Rattle.pump_core.specs.World.{World}
-use Rattle.pump_core.proofs.Laws.{stays_lawful}
+use Rattle.pump_core.specs.History.{first_life, reopened}
+use Rattle.pump_core.specs.Events.{Opened, pump_crashed}
+use Rattle.pump_core.specs.World as worlds
+use Rattle.pump_core.specs.World.{World, last_taken}
+use Rattle.pump_core.proofs.Laws.{begins_lawful, stays_lawful}
 use Rattle.script_reader.specs.Past.{Past}
-use Rattle.script_reader.specs.Openings.{restarted}
+use Rattle.script_reader.specs.Openings.{Found, accepted_in, first_past, restarted}
+use Rattle.script_reader.proofs.Opened.{row_capacity}
 use Rattle.two_worlds.specs.declared.pump.parts.Parts.{Parts}
+use Rattle.two_worlds.specs.Openings.{StandForFound}
 use Rattle.two_worlds.specs.Standing.{Stands}
 use Rattle.two_worlds.specs.Private.Opened.{AreOpened}
+use Rattle.two_worlds.proofs.Answered.{last_answered}
 use Rattle.two_worlds.proofs.Opening.Opened.{OpensIn, stand}
 use Rattle.two_worlds.proofs.Opening.Ready.{low_reading, high_reading, recv_reading}
 
 module _ {D : Type 0} (m : Meaning D) (told : m.tells) (c : Parts D) where
+  -- ---- a session that begins ----
+
+  module _ (f : Found) (n : AreOpened m c first_life) (start : c.moment ≡ 0) (sent : c.sent.items ≡ []) (returned : c.returned.items ≡ [])
+      (s : StandForFound c.row f (m.reading (low_disk c.low_store)) (m.reading (high_disk c.high_store)) (m.reading (recv_disk c.receiver))) where
+    -- the world that opens, but for the hands
+    abbrev bare : World
+    bare = record (worlds.empty c.row.capacity) { accepted = accepted_in f; removed = f.removed; received = f.received; returned = last_taken f.received }
+
+    in_found : OpensIn m c bare (length (last_taken f.received))
+    in_found = record {
+      lawful = let wide = row_capacity c.row n.row in begins_lawful _ (Opened c.row.capacity f.removed f.received f.later wide.0 wide.1 s.can_open.agree);
+      capacity = refl;
+      packet = refl;
+      taking = refl;
+      fits = s.can_open.short;
+      answered = last_answered f.received;
+      low_is = s.low_is;
+      high_is = s.high_is;
+      recv_is = s.recv_is;
+      sent = sent;
+      returned = (omega arith, returned ∙ sym (ap (keep_last 64) (drop_all (length (last_taken f.received)) (last_taken f.received) (omega arith))));
+    }
+
+    pub begins : Stands m c (first_past c.row f)
+    begins = subst (λ (k : ℕ). Stands m c (record (first_past c.row f) { moment = k })) start (stand m told c first_life bare (length (last_taken f.received)) n in_found)
+
   -- ---- a session that begins again ----
 
   -- both processes are opened again: the receiver and the packets are as they were, and the disks read

@@ -1,15 +1,14 @@
 -- Both processes of a pump are opened again, over the disks that they had.
-use Rattle.std.proofs.Common.{◌≡◌, ◌⊎◌, inl, inr, ⊎_elim, ℕ, ◌+◌, ◌-◌, ◌^◌, ◌≤◌, ◌<◌, ◌==◌, ◌&&◌, Bool, true, false, List, Option, Some, None, Ok, Err, refl, sym, ap, ◌∙◌, subst, arith}
+use Rattle.std.proofs.Common.{◌≡◌, ◌⊎◌, inl, ⊎_elim, ℕ, ◌+◌, ◌-◌, ◌^◌, ◌≤◌, ◌<◌, ◌==◌, ◌&&◌, Bool, true, false, List, Option, Some, None, Ok, Err, refl, sym, ap, ◌∙◌, subst, arith}
 use Rattle.std.specs.Prelude.{if◌then◌else◌, is_some}
 use Rattle.std.specs.Coded.{le_prop}
 use Rattle.std.proofs.Math.Logic.{∥∥₁_elim}
 use Rattle.std.proofs.lemmas.Bool.{eqb-true}
-use Rattle.disk_model.specs.Disk.{Meaning, Each, Leaves, Moves, Same, Answers}
+use Rattle.disk_model.specs.Disk.{Meaning, Each, Leaves, Moves, Same}
 use Rattle.disk_model.specs.declared.name.Role.{Role}
 use Rattle.disk_model.specs.declared.name.Role.TheVariants as roles
 use Rattle.disk_model.proofs.Run.{each_after, leaves}
 use Rattle.pump_frame.specs.declared.frame.Item.{Item}
-use Rattle.pump_frame.specs.declared.row.SessionRow.{SessionRow}
 use Rattle.stable_buffer.specs.Low.{low_disk}
 use Rattle.stable_buffer.specs.High.{high_disk}
 use Rattle.stable_buffer.specs.Register.{value_of}
@@ -17,7 +16,6 @@ use Rattle.stable_buffer.specs.Stands.{low_size}
 use Rattle.high_receiver.specs.Receiving.{recv_disk}
 use Rattle.high_receiver.specs.declared.receiver.Receiver.{Receiver}
 use Rattle.low_process.specs.Looks as low
-use Rattle.low_process.specs.Storing.{outcome}
 use Rattle.recovery.specs.Calls.{Calls, CallsHigh, is_low, is_high, is_device}
 use Rattle.recovery.specs.Deals.{number_of}
 use Rattle.recovery.specs.Faults.{why_values}
@@ -40,6 +38,7 @@ use Rattle.two_worlds.specs.Standing.{Stands, StandsForSome, bare_of, bare_disk}
 use Rattle.two_worlds.proofs.Carry.Serves.{recv_has, high_has}
 use Rattle.two_worlds.proofs.Disks.Images.{recv_alone}
 use Rattle.two_worlds.proofs.Disks.LeavesWorld.{fits_row}
+use Rattle.two_worlds.proofs.Opening.Comparing.{serves_by, serves_high}
 use Rattle.two_worlds.proofs.Opening.Opened.{received_end}
 use Rattle.two_worlds.proofs.Opening.Ready.{low_reading, high_reading, recv_reading}
 
@@ -81,33 +80,7 @@ module _ {D : Type 0} (m : Meaning D) (c : Parts D) where
       let taken = (recv_has m c s.0 s.1).images told d image in
       omega (arith, is, taken))
 
--- ---- calls ----
-
-module _ {D : Type 0} (m : Meaning D) (least : ℕ) where
-  answers_by : (old new : D) (b : Bool) → Calls m old new b → Answers m (least ≤ m.room old) old new (outcome b)
-  answers_by old new true c = record {
-    counts = c.counts;
-    rose = λ e. c.rose refl;
-    never = λ plan unarmed fits. (let e = c.never plan unarmed in absurd (cc));
-    always = λ plan armed. refl;
-    room = c.room;
-    disarmed = c.disarmed;
-  }
-  answers_by old new false c = record {
-    counts = c.counts;
-    rose = λ e. absurd (cc);
-    never = λ plan unarmed fits. refl;
-    always = λ plan armed. (let e = c.always plan armed in absurd (cc));
-    room = c.room;
-    disarmed = c.disarmed;
-  }
-
-  pub serves_called : (old new : D) (b : Bool) → Calls m old new b → Serves m least old new b
-  serves_called old new b c = inr (answers_by old new b c)
-
-  pub serves_high : (row : SessionRow) (low old new : D) (b : Bool) → CallsHigh m row low old new b → Serves m least old new b
-  serves_high row low old new b (inl (calls, go)) = serves_called old new b calls
-  serves_high row low old new b (inr (same, none, stop)) = inl (same, none)
+-- ---- whose disk ----
 
 module _ (why : Why) (n : ℕ) where
   low_by : (b : Bool) (role : Role) → (is_low role && b) ≡ stops_at roles.Low (Some (if b then Device role n else Disk role why))
@@ -212,7 +185,7 @@ module _ {D : Type 0} (m : Meaning D) (c : Parts D) (low high : D) (role : Role)
   refused_serves some calls_low calls_high = (
     refl,
     record {
-      low_goes = subst (λ (b : Bool). Serves m (low_size c.row) (low_disk c.low_store) low b) (low_by why (why_values why).0 (is_device why) role) (serves_called m (low_size c.row) (low_disk c.low_store) low _ calls_low);
+      low_goes = subst (λ (b : Bool). Serves m (low_size c.row) (low_disk c.low_store) low b) (low_by why (why_values why).0 (is_device why) role) (serves_by m (low_size c.row) (low_disk c.low_store) low _ calls_low);
       high_goes = subst (λ (b : Bool). Serves m 80 (high_disk c.high_store) high b) (high_by why (why_values why).0 (is_device why) role) (serves_high m 80 c.row (low_disk c.low_store) (high_disk c.high_store) high _ calls_high);
       recv_goes = inl (refl, recv_by why (why_values why).0 (is_device why) role n.of_pump);
       behind = behind_read m c some high n.high_same;
@@ -228,7 +201,7 @@ pub opened_serves : {D : Type 0} (m : Meaning D) (c d : Parts D) → (m.tells �
 opened_serves m c d some row recv calls_low calls_high same event = (
   row,
   record {
-    low_goes = serves_called m (low_size c.row) (low_disk c.low_store) (low_disk d.low_store) false calls_low;
+    low_goes = serves_by m (low_size c.row) (low_disk c.low_store) (low_disk d.low_store) false calls_low;
     high_goes = serves_high m 80 c.row (low_disk c.low_store) (high_disk c.high_store) (high_disk d.high_store) false calls_high;
     recv_goes = inl (ap (λ (r : Receiver _). recv_disk r) recv, refl);
     behind = subst (λ (r : Receiver _). RemovesBehind m (high_disk c.high_store) (high_disk d.high_store) (recv_disk r)) (sym recv) (behind_read m c some (high_disk d.high_store) same);

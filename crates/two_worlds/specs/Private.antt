@@ -6,6 +6,7 @@ pub mod GoingOn
 pub mod HighLooks
 pub mod LineSteps
 pub mod LowLooks
+pub mod Opened
 pub mod Reopening
 pub mod Restarting
 pub mod Serving

@@ -6,6 +6,7 @@ use Rattle.std.specs.List.{All, AllByRecursion}
 use Rattle.std.specs.Cmp.{both_ways}
 use Rattle.std.proofs.lemmas.Bool.{eqb-true, eq-eqb}
 use Rattle.std.proofs.lemmas.List.{length-take-le}
+use Rattle.std.proofs.lemmas.List.Elements.{All-head, All-tail, All-take, All-drop}
 use Rattle.circular_buffer.specs.Buffer.{keep_last}
 use Rattle.circular_buffer.proofs.Places.{slice_get-drop}
 use Rattle.disk_model.specs.Disk.{Meaning}
@@ -37,13 +38,17 @@ use Rattle.high_process.specs.Looks.{StandsFor as HighStandsFor}
 use Rattle.recovery.specs.Deals.{number_of, numbered, passing, InHands, HandsFit, IsDealt}
 use Rattle.recovery.specs.Refills.{numbers_in, AreRefilled}
 use Rattle.recovery.proofs.Readings.{low_tells}
-use Rattle.recovery.proofs.Refill.{refills, hands_fit, passing_next}
+use Rattle.recovery.proofs.Refill.{refills, hands_fit, passing_next, all_dealt_out}
+use Rattle.script_reader.proofs.Opened.{row_capacity}
 use Rattle.script_reader.specs.Past.{Past}
 use Rattle.script_reader.specs.Highs.{log_end, receiver_size}
 use Rattle.two_worlds.specs.declared.pump.parts.Parts.{Parts}
+use Rattle.two_worlds.specs.Answered.{HasAnswered}
 use Rattle.two_worlds.specs.Connections.{Connected, unused, waits_of, is_broken_of, reading_of}
 use Rattle.two_worlds.specs.Disks.{LowFits, HighFits, RecvFits, live_messages}
-use Rattle.two_worlds.specs.Standing.{Stands, HoldsWorld, Kept, IsAccepted, IsAcceptedHand, KeepsPackets, kept_of}
+use Rattle.two_worlds.specs.Standing.{Stands, HoldsWorld, EndsAreReady, IsAccepted, IsAcceptedHand, kept_of}
+use Rattle.two_worlds.specs.Working.{Works, IsShort, IsShortHand, IsPacket}
+use Rattle.two_worlds.specs.Private.Opened.{AreOpened}
 use Rattle.two_worlds.specs.Timelines.{IsAtRest}
 
 -- ---- the messages that are dealt out ----
@@ -104,47 +109,9 @@ offered (Some x) false n next is = absurd (cc)
 all_places : (e b n : ℕ) → b ≤ e → (e == b + n) ≡ (e - b == n)
 all_places e b n le = both_ways _ _ (λ t. let q = eqb-true e (b + n) t in eq-eqb (e - b) n (omega (arith, q))) (λ t. let q = eqb-true (e - b) n t in eq-eqb e (b + n) (omega (arith, q, le)))
 
--- ---- the parts ----
-
--- The parts have just been opened, and this is what was found. An opening of the low side leads to this
--- history
-pub record AreOpened {D : Type 0} (m : Meaning D) (c : Parts D) (lives : Opening → History) : Type 0 where
-  pub row : IsLawfulRow c.row
-  pub connection : c.connection ≡ unused
-  -- the stores and the receiver
-  pub low_ready : IsLowReady m c.low_store
-  pub store_row : low_row c.low_store ≡ c.row
-  pub high_ready : IsHighReady m c.high_store
-  pub recv_ready : IsRecvReady m c.receiver
-  pub recv_row_is : recv_row c.receiver ≡ c.row
-  pub recv_size_is : recv_size c.receiver ≡ receiver_size
-  -- the messages of the low disk
-  pub messages : List Payload
-  pub stands : m.tells → LowStands c.row (low_count c.low_store) (high_count c.high_store) messages (m.reading (low_disk c.low_store))
-  pub count : high_count c.high_store + length messages ≡ low_count c.low_store
-  pub places : low_count c.low_store ≤ high_count c.high_store + c.row.capacity
-  pub hands : InHands c.row.capacity (numbered (high_count c.high_store) messages) (high.hand_of c.high) (low.hand_of c.low)
-  pub ends : EndsStand c.ends (record new_low { forwarded = passing c.row.capacity (numbered (high_count c.high_store) messages) }) new_high
-  pub shape : shape_of c.ends ≡ shape_of_row c.row
-  -- the processes
-  pub history : low.StandsFor c.low (lives (low.opening_of (low_count c.low_store) (low.hand_of c.low)))
-  pub low_between : low.IsBetweenLooks c.low
-  pub low_row_is : low.row_of c.low ≡ c.row
-  pub next : low.next_of c.low ≡ low_count c.low_store
-  pub low_last : low.last_of c.low ≡ 0
-  pub low_up : low.is_down c.low ≡ false
-  pub past : HighStandsFor c.high (high_past.fresh (high_count c.high_store) (high.hand_of c.high))
-  pub high_between : high.IsBetweenLooks c.high
-  pub high_row : high.row_of c.high ≡ c.row
-  pub removed : high.removed_of c.high ≡ high_count c.high_store
-  pub published : high.published_of c.high ≡ 0
-  pub high_last : high.last_of c.high ≡ 0
-  pub high_up : high.is_down c.high ≡ false
-  pub packets : KeepsPackets c
-
 -- ---- what the disks stand for ----
 
-value_by : (parity first second : ℕ) (disk : List ℕ) → Selects parity first second disk → value_of disk ≡ (first, second)
+pub value_by : (parity first second : ℕ) (disk : List ℕ) → Selects parity first second disk → value_of disk ≡ (first, second)
 value_by parity first second disk s = ap (λ k. cell_at disk (place_of k)) s.selector ∙ s.cell
 
 -- records end where their lengths say
@@ -161,6 +128,79 @@ received_end row ms disk s =
     let all = records_end row.message ms (log_of s.end disk) s.records in
     ap (λ (v : ℕ × ℕ). v.1) s.value ∙ omega (arith, all, size, s.from)
 
+-- ---- the parts work, whatever their disks tell ----
+
+hand_short : (row : SessionRow) (xs : List Item) (k : ℕ) → All (IsShort row) xs → IsShortHand row (slice_get xs k)
+hand_short row [] k all = tt
+hand_short row (x ∷ xs) zero all = All-head (IsShort row) x xs all
+hand_short row (x ∷ xs) (suc k) all = hand_short row xs k (All-tail (IsShort row) x xs all)
+
+module _ {D : Type 0} (m : Meaning D) (c : Parts D) (lives : Opening → History) (n : AreOpened m c lives) where
+  abbrev dealt : List Item
+  dealt = numbered (high_count c.high_store) n.messages
+
+  enough : 3 ≤ c.row.capacity
+  enough = (row_capacity c.row n.row).0
+
+  hands_are : HandsFit c.row.capacity (high_count c.high_store) (low_count c.low_store) (high.hand_of c.high) (low.hand_of c.low)
+  hands_are = hands_fit c.row.capacity (high_count c.high_store) (low_count c.low_store) n.messages (high.hand_of c.high) (low.hand_of c.low) enough n.count n.places n.hands
+
+  next_fits : ComesNext (passing c.row.capacity dealt) (low_ends.number_offered (low.next_of c.low) (low.hand_of c.low))
+  next_fits =
+      let e = low_count c.low_store in
+      let b = e == high_count c.high_store + c.row.capacity in
+      let is : low_ends.number_offered (low.next_of c.low) (low.hand_of c.low) ≡ (if b then e - 1 else e) =
+      offered (low.hand_of c.low) b (e - 1) (low.next_of c.low) hands_are.last ∙ ap (λ (k : ℕ). if b then e - 1 else k) n.next in
+      passing_next c.row.capacity (high_count c.high_store) e _ n.messages enough n.count n.places is
+
+  ends_are_ready : EndsAreReady c []
+  ends_are_ready = record {
+    low = record new_low { forwarded = passing c.row.capacity dealt };
+    high = new_high;
+    stand = n.ends;
+    shape = n.shape;
+    times = refl;
+    low_fits = λ up. next_fits;
+    high_fits = record { count = sym n.published; floor = omega arith };
+  }
+
+  all_short : All (IsShort c.row) dealt
+  all_short = all_dealt_out (λ message. length message ≤ c.row.message) (high_count c.high_store) n.messages n.short
+
+  pub works : All (IsPacket c.row) c.sent.items → Works m c
+  works sent = record {
+    row = n.row;
+    history = lives (low.opening_of (low_count c.low_store) (low.hand_of c.low));
+    past = high_past.fresh (high_count c.high_store) (high.hand_of c.high);
+    times = [];
+    low_ready = record {
+      history = n.history;
+      store = record { ready = n.low_ready; count = sym n.next; row = n.store_row ∙ sym n.low_row_is };
+      up = n.low_up;
+      between = n.low_between;
+      row = n.low_row_is;
+      last = omega (arith, n.low_last);
+    };
+    high_ready = record {
+      past = n.past;
+      store = n.high_ready;
+      count = sym n.removed;
+      up = n.high_up;
+      between = n.high_between;
+      row = n.high_row;
+      last = omega (arith, n.high_last);
+    };
+    recv_ready = record { ready = n.recv_ready; row = n.recv_row_is; size = n.recv_size_is };
+    ends = ends_are_ready;
+    packets = n.packets;
+    short = record {
+      low_hand = subst (IsShortHand c.row) (sym n.hands.last) (hand_short c.row dealt (c.row.capacity - 1) all_short);
+      held = subst (All (IsShort c.row)) n.ends.between (All-take (IsShort c.row) (c.row.capacity - 2) (drop 1 dealt) (All-drop (IsShort c.row) 1 dealt all_short));
+      high_hand = subst (IsShortHand c.row) (sym n.hands.first) (hand_short c.row dealt 0 all_short);
+      sent = sent;
+    };
+  }
+
 -- ---- the parts stand ----
 
 -- The world v is one at an opening but for the hands, which the opening fills. This is what of it the
@@ -171,6 +211,7 @@ pub record OpensIn {D : Type 0} (m : Meaning D) (c : Parts D) (v : World) (retur
   pub packet : v.packet ≡ None
   pub taking : v.taking ≡ false
   pub fits : All (λ (x : Payload). length x ≤ c.row.message) v.accepted
+  pub answered : HasAnswered v
   pub low_is : LowStands c.row (length v.accepted) v.removed (live_messages v) (m.reading (low_disk c.low_store))
   pub high_is : HighStands c.row v.removed (m.reading (high_disk c.high_store))
   pub recv_is : RecvStands c.row v.received (m.reading (recv_disk c.receiver))
@@ -279,14 +320,6 @@ module _ {D : Type 0} (m : Meaning D) (told : m.tells) (c : Parts D) (lives : Op
       let same : b ≡ (live v == v.capacity) = all_places (length v.accepted) v.removed v.capacity o.lawful.bounded.within.below in
       λ i. record { count = sym accepted_is i; is_held = (held ∙ same) i }
 
-  low_next : ComesNext (passing v.capacity items) (low_ends.number_offered (low.next_of c.low) (low.hand_of c.low))
-  low_next =
-      let b = length v.accepted == v.removed + v.capacity in
-      let next : low.next_of c.low ≡ length v.accepted = n.next ∙ sym accepted_is in
-      let is : low_ends.number_offered (low.next_of c.low) (low.hand_of c.low) ≡ (if b then length v.accepted - 1 else length v.accepted) =
-      offered (low.hand_of c.low) b (length v.accepted - 1) (low.next_of c.low) fit.last ∙ ap (λ (k : ℕ). if b then length v.accepted - 1 else k) next in
-      passing_next v.capacity v.removed (length v.accepted) _ n.messages wide count within is
-
   pub stand : Stands m c past
   stand = record {
     row = n.row;
@@ -296,6 +329,7 @@ module _ {D : Type 0} (m : Meaning D) (told : m.tells) (c : Parts D) (lives : Op
       lawful = o.lawful;
       fits = o.fits;
       sends = omega arith;
+      answered = o.answered;
     };
     world = holds;
     arrivals = record {
@@ -323,15 +357,7 @@ module _ {D : Type 0} (m : Meaning D) (told : m.tells) (c : Parts D) (lives : Op
       last = omega (arith, n.high_last);
     };
     recv_ready = record { ready = n.recv_ready; row = n.recv_row_is; size = n.recv_size_is };
-    ends = record {
-      low = record new_low { forwarded = passing c.row.capacity (numbered B n.messages) };
-      high = new_high;
-      stand = n.ends;
-      shape = n.shape;
-      times = refl;
-      low_fits = λ up. subst (λ (l : List Item). ComesNext l (low_ends.number_offered (low.next_of c.low) (low.hand_of c.low))) (λ i. passing (o.capacity i) (numbered (removed_is i) n.messages)) low_next;
-      high_fits = record { count = sym n.published; floor = omega arith };
-    };
+    ends = ends_are_ready m c lives n;
     packets = n.packets;
     disks = record {
       low_disk = each_settled m (LowFits c.row w) (low_disk c.low_store) n.low_ready.settled (λ t. inl o.low_is);

@@ -136,8 +136,6 @@ module _ {D : Type 0} (m : Meaning D) (c : Parts D) (n : IsNew m c) where
   not_held : (0 == c.row.capacity) ≡ false
   not_held = ne_eqb 0 c.row.capacity (λ e. absurd (omega (arith, e, (row_capacity c.row n.row).0)))
 
-  pub starts : Stands m c (first_past c.row nothing_found)
-  starts = subst (λ (w : World). Stands m c (fresh w)) (sym is_empty) begins where
   begins : Stands m c (fresh empty)
   begins = record {
     row = n.row;
@@ -191,3 +189,6 @@ module _ {D : Type 0} (m : Meaning D) (c : Parts D) (n : IsNew m c) where
       recv_disk = each_settled m (RecvFits c.row empty) (recv_disk c.receiver) n.recv_ready.settled (λ told. inl n.recv_is);
     };
   }
+
+  pub starts : Stands m c (first_past c.row nothing_found)
+  starts = subst (λ (w : World). Stands m c (fresh w)) (sym is_empty) begins

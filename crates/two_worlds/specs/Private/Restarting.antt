@@ -1,11 +1,11 @@
 -- Both processes of a pump are opened again: what becomes of it, by what is answered.
-use Rattle.std.specs.Prelude.{◌≡◌, ◌⊎◌, ℕ, Bool, ◌&&◌, ◌==◌, nat_le, true, false, [], ◌∷◌, Result, Ok, Err}
+use Rattle.std.specs.Prelude.{◌≡◌, ◌⊎◌, ℕ, Bool, ◌&&◌, ◌==◌, nat_le, if◌then◌else◌, true, false, [], ◌∷◌, Result, Ok, Err}
 use Rattle.disk_model.specs.Disk.{Meaning}
 use Rattle.disk_model.specs.declared.name.Role.{Role}
 use Rattle.disk_model.specs.declared.name.Role.TheVariants as roles
 use Rattle.recovery.specs.Calls.{is_device}
 use Rattle.recovery.specs.declared.why.Why.{Why}
-use Rattle.recovery.specs.declared.why.Why.TheVariants as whys
+use Rattle.recovery.specs.Faults.{why_values}
 use Rattle.script_reader.specs.declared.event.EventHead.{EventHead}
 use Rattle.script_reader.specs.EventHeads.{event_of}
 use Rattle.script_reader.specs.Past.{Past}
@@ -29,15 +29,7 @@ is_due_in (Shut d) session moment = false
 
 -- the reason to stop where this disk is refused
 abbrev pub stop_for : Role → Why → Stop
-stop_for role (whys.Device faults) = Device role faults
-stop_for role (whys.NotABuffer size bytes) = Disk role (whys.NotABuffer size bytes)
-stop_for role (whys.WrongShape field found wanted) = Disk role (whys.WrongShape field found wanted)
-stop_for role (whys.BadRegister first second) = Disk role (whys.BadRegister first second)
-stop_for role (whys.Mismatch removed accepted) = Disk role (whys.Mismatch removed accepted)
-stop_for role (whys.BadSlot number size_of_message) = Disk role (whys.BadSlot number size_of_message)
-stop_for role (whys.Apart count bound) = Disk role (whys.Apart count bound)
-stop_for role (whys.Differs number) = Disk role (whys.Differs number)
-stop_for role (whys.NotEmpty size) = Disk role (whys.NotEmpty size)
+stop_for role why = if is_device why then Device role (why_values why).0 else Disk role why
 
 -- Over disks that tell what they hold, and stood for the past p: both processes begin again and this is
 -- told; or the disk of one of them failed, and nothing has happened.

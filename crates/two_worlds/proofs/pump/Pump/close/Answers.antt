@@ -8,7 +8,7 @@ use Rattle.two_worlds.specs.Disks.{Opens, CrashesOpen, LeaveWorld}
 use Rattle.two_worlds.specs.Pumps.{row_of, disk_at}
 use Rattle.two_worlds.proofs.Disks.LeavesWorld.{pump_leaves}
 use Rattle.two_worlds.proofs.Disks.OpensSurely.{crashes_surely_open, readings_surely_open}
-use Rattle.two_worlds.proofs.Lines.Applied.{none_bad}
+use Rattle.two_worlds.proofs.Lines.Kept.{none_bad}
 use Rattle.two_worlds.proofs.Opening.RowRanges.{short_messages}
 use Rattle.two_worlds.proofs.pump.Pump.close.Goals as goal
 

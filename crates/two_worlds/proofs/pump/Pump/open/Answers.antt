@@ -1,4 +1,4 @@
-use Rattle.two_worlds.proofs.Lines.Applied.{keeps_standing}
+use Rattle.two_worlds.proofs.Lines.Kept.{keeps_standing}
 use Rattle.two_worlds.proofs.pump.Pump.open.Goals as goal
 
 pub invariant_of-result : goal.invariant_of-result

@@ -1,16 +1,12 @@
 -- The line `receiver-restart`: the receiver is opened again, and attaches.
-use Rattle.std.proofs.Common.{◌≡◌, ◌⊎◌, inl, inr, ⊎_elim, ℕ, ◌≤◌, Bool, true, false, ◌&&◌, ◌==◌, nat_le, List, [], ◌++◌, length, Option, Some, None, Result, Ok, Err, refl, sym, ap, ◌∙◌, subst}
+use Rattle.std.proofs.Common.{◌≡◌, inl, ⊎_elim, ℕ, true, ◌&&◌, ◌==◌, nat_le, List, [], Some, Result, Ok, Err, refl, sym, ap, ◌∙◌, subst}
 use Rattle.std.specs.Result.{result_err}
 use Rattle.std.proofs.Math.Logic.{∥∥₁_map}
 use Rattle.disk_model.specs.Disk.{Meaning}
 use Rattle.disk_model.specs.declared.name.Role.{Role}
-use Rattle.disk_model.specs.declared.name.Role.TheVariants as roles
-use Rattle.stable_buffer.specs.Low.{low_disk}
 use Rattle.stable_buffer.specs.High.{high_disk}
-use Rattle.stable_buffer.specs.Stands.{low_size}
 use Rattle.high_receiver.specs.Receiving.{recv_disk}
 use Rattle.high_receiver.specs.declared.receiver.Receiver.{Receiver}
-use Rattle.pump_core.specs.World.{World}
 use Rattle.script_reader.specs.declared.event.Event.{Event}
 use Rattle.script_reader.specs.declared.line.Line.TheVariants as lines
 use Rattle.script_reader.specs.Past.{Past}

@@ -1,8 +1,7 @@
 -- The parts with the receiver that was opened again stand for what they stood for.
-use Rattle.std.proofs.Common.{◌≡◌, ◌⊎◌, inl, inr, ⊎_elim, ℕ, ◌≤◌, Bool, true, false, List, length, Ok, Err, refl, sym, ap, ◌∙◌, subst}
+use Rattle.std.proofs.Common.{◌≡◌, ◌⊎◌, inl, inr, ℕ, Bool, true, false, List, Ok, refl, sym, ap, ◌∙◌, subst}
 use Rattle.std.proofs.Math.Logic.{∥∥₁_map}
-use Rattle.disk_model.specs.Disk.{Meaning, Each, Moves, Same, Leaves}
-use Rattle.disk_model.specs.declared.name.Role.TheVariants as roles
+use Rattle.disk_model.specs.Disk.{Meaning, Each, Moves, Same}
 use Rattle.disk_model.proofs.Run.{each_after, leaves}
 use Rattle.stable_buffer.specs.Low.{low_disk}
 use Rattle.stable_buffer.specs.High.{high_disk}
@@ -16,7 +15,7 @@ use Rattle.script_reader.specs.Highs.{receiver_size}
 use Rattle.two_worlds.specs.declared.pump.parts.Parts.{Parts}
 use Rattle.two_worlds.specs.declared.pump.state.PumpState.TheVariants.{Open}
 use Rattle.two_worlds.specs.Disks.{LowFits, HighFits, RecvFits}
-use Rattle.two_worlds.specs.Doing.{LeavesFit, PartsLeaveFit}
+use Rattle.two_worlds.specs.Doing.{LeavesFit}
 use Rattle.two_worlds.specs.Private.Reopening.{Reopens}
 use Rattle.two_worlds.specs.Rooms.{Serves}
 use Rattle.two_worlds.specs.Standing.{Stands, bare_of}

@@ -1,13 +1,12 @@
 -- The receiver's disk is refused where it is opened again, or its device fails.
-use Rattle.std.proofs.Common.{◌≡◌, ℕ, ◌<◌, ◌≤◌, ◌^◌, Bool, true, false, List, length, Option, Some, None, Ok, Err, refl, sym, ap, ◌∙◌, subst, arith}
+use Rattle.std.proofs.Common.{◌≡◌, ℕ, ◌<◌, ◌≤◌, ◌^◌, Bool, true, false, Some, None, Err, refl, sym, ap, ◌∙◌, subst, arith}
 use Rattle.disk_model.specs.Disk.{Meaning, Moves, Same}
 use Rattle.disk_model.specs.declared.name.Role.TheVariants as roles
 use Rattle.pump_frame.specs.declared.row.SessionRow.{SessionRow}
 use Rattle.stable_buffer.specs.Low.{low_disk}
 use Rattle.stable_buffer.specs.High.{high_disk}
-use Rattle.stable_buffer.specs.Register.{value_of}
 use Rattle.stable_buffer.specs.Stands.{low_size}
-use Rattle.high_receiver.specs.Receiving.{recv_count, recv_end, recv_disk}
+use Rattle.high_receiver.specs.Receiving.{recv_disk}
 use Rattle.recovery.specs.Calls.{Calls, is_device}
 use Rattle.recovery.specs.Refusals.{refused_receiver}
 use Rattle.recovery.specs.declared.why.Why.{Why}

@@ -2,7 +2,6 @@ use Rattle.std.proofs.Common.{◌≡◌, ◌<◌, ◌^◌, arith, false, Some, E
 use Rattle.std.proofs.Math.Logic.{∥∥₁_elim}
 use Rattle.std.proofs.Props.{props}
 use Rattle.disk_model.specs.Disk.{Moves, Same}
-use Rattle.disk_model.specs.declared.name.Role.TheVariants as roles
 use Rattle.high_receiver.specs.Receiving.{recv_disk}
 use Rattle.recovery.specs.Calls.{Calls, is_device}
 use Rattle.recovery.specs.Refusals.{refused_receiver}

@@ -6,7 +6,6 @@ use Rattle.disk_model.specs.Disk.{Meaning}
 use Rattle.disk_model.specs.declared.name.Role.{Role}
 use Rattle.stable_buffer.specs.Low.{low_disk}
 use Rattle.stable_buffer.specs.High.{high_disk}
-use Rattle.stable_buffer.specs.Stands.{low_size}
 use Rattle.high_receiver.specs.Receiving.{recv_disk}
 use Rattle.high_receiver.specs.declared.receiver.Receiver.{Receiver}
 use Rattle.script_reader.specs.declared.event.Event.{Event}
@@ -31,24 +30,11 @@ use Rattle.two_worlds.specs.Standing.{Stands, bare_of}
 use Rattle.two_worlds.specs.States.{disks_in, IsOpenWith, StandsIn}
 use Rattle.two_worlds.specs.Timelines.{IsAtRest}
 use Rattle.two_worlds.specs.Working.{IsAble}
-use Rattle.two_worlds.proofs.Carry.Serves.{serves_alone, behind_alone, recv_has}
 use Rattle.two_worlds.proofs.Disks.Together.{serve_then}
 
 -- between two lines a crash of the receiver changes nothing
 reopened : (p : Past) → IsAtRest p.world → IsReopened p p
 reopened p rest = ((λ i. record p.world { packet = rest.packet i; taking = rest.taking i }), refl)
-
--- ---- a line that cannot be applied ----
-
-pub same_go : {D : Type 0} (m : Meaning D) (s : PumpState D) → IsOpenWith (IsAble m) s
-    → DisksGo m (disks_in s).row (disks_in s).low (disks_in s).high (disks_in s).recv (disks_in s).low (disks_in s).high (disks_in s).recv (Some Line)
-same_go m (Open c) able = record {
-  low_goes = serves_alone m (low_size c.row) (low_disk c.low_store);
-  high_goes = serves_alone m 80 (high_disk c.high_store);
-  recv_goes = inl (refl, refl);
-  behind = behind_alone m c (recv_disk c.receiver) able.stands (recv_has m c);
-}
-same_go m (Shut d) able = absurd able
 
 -- ---- the receiver is not opened ----
 

@@ -6,11 +6,12 @@ use Rattle.two_worlds.specs.Private.Restarting.{is_due_in}
 use Rattle.two_worlds.specs.Private.StateSteps.{StateApplies, StateAppliesOn}
 use Rattle.two_worlds.specs.Rooms.{DisksGo}
 use Rattle.two_worlds.specs.States.{disks_in}
-use Rattle.two_worlds.proofs.Reopening.Attached.{same_go, stopped, stopped_on, able_again, applied, applied_on, disks_go}
+use Rattle.two_worlds.proofs.Lines.Restarts.{state_still}
+use Rattle.two_worlds.proofs.Reopening.Attached.{stopped, stopped_on, able_again, applied, applied_on, disks_go}
 use Rattle.two_worlds.proofs.pump.state.PumpState.restart_receiver.Goals as goal
 
 pub returns-then-not-is_due-clause-serve : goal.returns-then-not-is_due-clause-serve
-returns-then-not-is_due-clause-serve g c = same_go g.D.Disk.told c.args.self.now c.requires.able
+returns-then-not-is_due-clause-serve g c = state_still g.D.Disk.told c.args.self.now c.requires.able
 
 pub returns-in-Err-clause-applies : goal.returns-in-Err-clause-applies
 returns-in-Err-clause-applies g c = λ told p s.

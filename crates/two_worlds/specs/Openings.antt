@@ -61,7 +61,7 @@ IsLeft m row role old new is_fault =
 
 -- no call of the disk was made, or calls were made of which one failed or none; they fit where it has
 -- room for its format
-pub record GoesOn {D : Type 0} (m : Meaning D) (row : SessionRow) (role : Role) (old new : D) (is_fault : Bool) : Type 0 where
+pub record LeavesDisk {D : Type 0} (m : Meaning D) (row : SessionRow) (role : Role) (old new : D) (is_fault : Bool) : Type 0 where
   pub serves : Serves m (size_of row role) old new is_fault
   pub left : IsLeft m row role old new is_fault
 
@@ -83,9 +83,9 @@ failed_at role e = is_for_device e.why && is_role role e.role
 -- The disks that come back. A call of one of them failed; or they are refused for the first cause that
 -- there is; or memory was wanting, and none was called.
 pub record ComeBack {D : Type 0} (m : Meaning D) (row : SessionRow) (low high recv : D) (e : NotOpen D) : Type 0 where
-  pub low_disk : GoesOn m row roles.Low low e.low (failed_at roles.Low e)
-  pub high_disk : GoesOn m row roles.High high e.high (failed_at roles.High e)
-  pub recv_disk : GoesOn m row roles.Recv recv e.recv (failed_at roles.Recv e)
+  pub low_disk : LeavesDisk m row roles.Low low e.low (failed_at roles.Low e)
+  pub high_disk : LeavesDisk m row roles.High high e.high (failed_at roles.High e)
+  pub recv_disk : LeavesDisk m row roles.Recv recv e.recv (failed_at roles.Recv e)
   pub counted : IfSome e.why (λ why. is_device why ≡ true → why ≡ Device (m.count (disk_back e.role e)))
   pub refused : IfSome e.why (λ why. is_device why ≡ false → m.tells → IsRefused row (readied row roles.Low (m.reading low))
       (readied row roles.High (m.reading high)) (readied row roles.Recv (m.reading recv)) e.role why)

@@ -39,7 +39,7 @@ impl<D: Disk> Pump<D> {
     ghost use Rattle.std.specs.Prelude.{◌≡◌, true, false, [], length, None, IfOk, IfErr, IfSome};
     ghost use Rattle.disk_model.specs.declared.name.Role.TheVariants as roles;
     ghost use Rattle.pump_frame.specs.Rows.{IsLawfulRow};
-    ghost use Rattle.two_worlds.specs.Openings.{DisksStandFor, GoesOn, ComeBack};
+    ghost use Rattle.two_worlds.specs.Openings.{DisksStandFor, LeavesDisk, ComeBack};
     ghost use Rattle.script_reader.specs.Lawful.{IsLawfulLine};
     ghost use Rattle.script_reader.specs.Heads.{line_with, CanHoldLine};
     ghost use Rattle.two_worlds.specs.Printing.{lines_in};
@@ -69,9 +69,9 @@ impl<D: Disk> Pump<D> {
             → IfOk result (λ pump. StandsFor D.told pump (first_past row.now nothing_found)) }
         ensures row { IfOk result (λ pump. row_of pump ≡ row.now) }
         ensures up { IfOk result (λ pump. is_down pump ≡ false) }
-        ensures low { IfOk result (λ pump. GoesOn D.told row.now roles.Low low (disk_at roles.Low pump) false) }
-        ensures high { IfOk result (λ pump. GoesOn D.told row.now roles.High high (disk_at roles.High pump) false) }
-        ensures recv { IfOk result (λ pump. GoesOn D.told row.now roles.Recv recv (disk_at roles.Recv pump) false) }
+        ensures low { IfOk result (λ pump. LeavesDisk D.told row.now roles.Low low (disk_at roles.Low pump) false) }
+        ensures high { IfOk result (λ pump. LeavesDisk D.told row.now roles.High high (disk_at roles.High pump) false) }
+        ensures recv { IfOk result (λ pump. LeavesDisk D.told row.now roles.Recv recv (disk_at roles.Recv pump) false) }
         ensures back { IfErr result (λ e. ComeBack D.told row.now low high recv e) }
         ensures stops { IfErr result (λ e. D.told.tells → (f : Found) → DisksStandFor D.told row.now low high recv f
             → IfSome e.why (λ why. is_device why ≡ true)) }

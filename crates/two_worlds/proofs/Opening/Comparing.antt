@@ -22,7 +22,7 @@ use Rattle.recovery.specs.declared.why.Why.{Why}
 use Rattle.recovery.specs.Agreement.{SlotsAgree}
 use Rattle.recovery.specs.declared.pump.Opened.{Opened}
 use Rattle.script_reader.specs.Openings.{Found}
-use Rattle.two_worlds.specs.Openings.{GoesOn, StandForFound, IsRefused}
+use Rattle.two_worlds.specs.Openings.{LeavesDisk, StandForFound, IsRefused}
 use Rattle.two_worlds.specs.Rooms.{Serves, IsFree, is_role}
 use Rattle.two_worlds.specs.Private.Readied.{PumpOpens, ReceiverOpens, role_blamed}
 use Rattle.two_worlds.proofs.Disks.Together.{serves_then}
@@ -130,7 +130,7 @@ module _ {D : Type 0} (m : Meaning D) where
     disarmed = a.disarmed;
   })
 
-  pub goes_on : (row : SessionRow) (role : Role) (old mid new : D) (b : Bool) → GoesOn m row role old mid false → Serves m 0 mid new b → Moves m Same mid new → GoesOn m row role old new b
+  pub goes_on : (row : SessionRow) (role : Role) (old mid new : D) (b : Bool) → LeavesDisk m row role old mid false → Serves m 0 mid new b → Moves m Same mid new → LeavesDisk m row role old new b
   goes_on row role old mid new b first serves moves = record {
     serves = serves_then m (size_of row role) old mid new b first.serves (any_room (size_of row role) mid new b serves);
     left = elim first.left [

@@ -4,7 +4,6 @@ use Rattle.std.specs.Result.{result_err}
 use Rattle.std.proofs.Math.Logic.{∥∥₁_map}
 use Rattle.disk_model.specs.Disk.{Meaning}
 use Rattle.disk_model.specs.declared.name.Role.{Role}
-use Rattle.stable_buffer.specs.Low.{low_disk}
 use Rattle.stable_buffer.specs.High.{high_disk}
 use Rattle.high_receiver.specs.Receiving.{recv_disk}
 use Rattle.high_receiver.specs.declared.receiver.Receiver.{Receiver}

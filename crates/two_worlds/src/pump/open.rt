@@ -14,7 +14,7 @@ ghost use Rattle.high_receiver.specs.Receiving.{recv_disk};
 ghost use Rattle.recovery.specs.Calls.{is_device};
 ghost use Rattle.recovery.specs.declared.why.Why.TheVariants.{Device};
 ghost use Rattle.script_reader.specs.Openings.{Found, first_past};
-ghost use Rattle.two_worlds.specs.Openings.{IsRefused, DisksStandFor, GoesOn, ComeBack, disk_back};
+ghost use Rattle.two_worlds.specs.Openings.{IsRefused, DisksStandFor, LeavesDisk, ComeBack, disk_back};
 ghost use Rattle.two_worlds.specs.Private.Readied.{PumpOpens, ReceiverOpens, disk_after, fails_at, role_blamed};
 ghost use Rattle.two_worlds.specs.Private.Opened.{AreOpened};
 ghost use Rattle.two_worlds.specs.Connections.{unused};
@@ -195,9 +195,9 @@ impl<D: Disk> Parts<D> {
         ensures stands { IfOk result (λ parts. D.told.tells → (f : Found) → DisksStandFor D.told row.now low high recv f
             → Stands D.told parts (first_past row.now f)) }
         ensures row { IfOk result (λ parts. parts.row ≡ row.now) }
-        ensures low { IfOk result (λ parts. GoesOn D.told row.now roles.Low low (disk_at roles.Low parts) false) }
-        ensures high { IfOk result (λ parts. GoesOn D.told row.now roles.High high (disk_at roles.High parts) false) }
-        ensures recv { IfOk result (λ parts. GoesOn D.told row.now roles.Recv recv (disk_at roles.Recv parts) false) }
+        ensures low { IfOk result (λ parts. LeavesDisk D.told row.now roles.Low low (disk_at roles.Low parts) false) }
+        ensures high { IfOk result (λ parts. LeavesDisk D.told row.now roles.High high (disk_at roles.High parts) false) }
+        ensures recv { IfOk result (λ parts. LeavesDisk D.told row.now roles.Recv recv (disk_at roles.Recv parts) false) }
         ensures back { IfErr result (λ e. ComeBack D.told row.now low high recv e) }
     {
         let Ok(mut memory) = reserve(alloc, row) else {

@@ -6,7 +6,7 @@ ghost use Rattle.disk_model.specs.declared.name.Role.TheVariants as roles;
 ghost use Rattle.pump_frame.specs.Rows.{IsLawfulRow};
 ghost use Rattle.stable_buffer.specs.Format.{size_of};
 ghost use Rattle.two_worlds.specs.Private.Readied.{readied_disk};
-ghost use Rattle.two_worlds.specs.Openings.{readied, IsLeft, GoesOn, ComeBack};
+ghost use Rattle.two_worlds.specs.Openings.{readied, IsLeft, LeavesDisk, ComeBack};
 
 use crate::not_open::NotOpen;
 use disk_model::{Disk, DiskFault, Role};
@@ -59,9 +59,9 @@ pub fn ready_all<D: Disk>(
         → (D.told.reading disks.low ≡ readied row.now roles.Low (D.told.reading low))
         × (D.told.reading disks.high ≡ readied row.now roles.High (D.told.reading high))
         × (D.told.reading disks.recv ≡ readied row.now roles.Recv (D.told.reading recv))) }
-    ensures low { IfOk result (λ disks. GoesOn D.told row.now roles.Low low disks.low false) }
-    ensures high { IfOk result (λ disks. GoesOn D.told row.now roles.High high disks.high false) }
-    ensures recv { IfOk result (λ disks. GoesOn D.told row.now roles.Recv recv disks.recv false) }
+    ensures low { IfOk result (λ disks. LeavesDisk D.told row.now roles.Low low disks.low false) }
+    ensures high { IfOk result (λ disks. LeavesDisk D.told row.now roles.High high disks.high false) }
+    ensures recv { IfOk result (λ disks. LeavesDisk D.told row.now roles.Recv recv disks.recv false) }
     ensures back { IfErr result (λ e. ComeBack D.told row.now low high recv e) }
 {
     let low = match ready_disk(low, row, Role::Low) {

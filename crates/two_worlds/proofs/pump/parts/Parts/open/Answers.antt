@@ -8,7 +8,7 @@ use Rattle.pump_core.specs.History.{first_life}
 use Rattle.stable_buffer.specs.Low.{low_disk}
 use Rattle.stable_buffer.specs.High.{high_disk}
 use Rattle.high_receiver.specs.Receiving.{recv_disk}
-use Rattle.two_worlds.specs.Openings.{StandForFound, GoesOn, ComeBack, readied, failed_at}
+use Rattle.two_worlds.specs.Openings.{StandForFound, LeavesDisk, ComeBack, readied, failed_at}
 use Rattle.script_reader.specs.Openings.{first_past}
 use Rattle.two_worlds.specs.Standing.{Stands, disk_at}
 use Rattle.two_worlds.specs.Working.{IsPacket}
@@ -83,18 +83,18 @@ returns-clause-low g c =
     let m = g.D.Disk.told in
     let o = c.in_ok-pump.ensures in
     let d = c.in_ok-disks.disks in
-    subst (λ k. GoesOn m c.args.row.now roles.Low c.args.low k false) (sym c.assemble.ensures.low) (goes_on m c.args.row.now roles.Low c.args.low d.low (low_disk c.in_ok-pump.pump.low) false c.in_ok-disks.ensures.low o.low o.moves_low)
+    subst (λ k. LeavesDisk m c.args.row.now roles.Low c.args.low k false) (sym c.assemble.ensures.low) (goes_on m c.args.row.now roles.Low c.args.low d.low (low_disk c.in_ok-pump.pump.low) false c.in_ok-disks.ensures.low o.low o.moves_low)
 
 pub returns-clause-high : goal.returns-clause-high
 returns-clause-high g c =
     let m = g.D.Disk.told in
     let o = c.in_ok-pump.ensures in
     let d = c.in_ok-disks.disks in
-    subst (λ k. GoesOn m c.args.row.now roles.High c.args.high k false) (sym c.assemble.ensures.high) (goes_on m c.args.row.now roles.High c.args.high d.high (high_disk c.in_ok-pump.pump.high) false c.in_ok-disks.ensures.high o.high o.moves_high)
+    subst (λ k. LeavesDisk m c.args.row.now roles.High c.args.high k false) (sym c.assemble.ensures.high) (goes_on m c.args.row.now roles.High c.args.high d.high (high_disk c.in_ok-pump.pump.high) false c.in_ok-disks.ensures.high o.high o.moves_high)
 
 pub returns-clause-recv : goal.returns-clause-recv
 returns-clause-recv g c =
     let m = g.D.Disk.told in
     let o = c.in_ok-pump.ensures in
     let d = c.in_ok-disks.disks in
-    subst (λ k. GoesOn m c.args.row.now roles.Recv c.args.recv k false) (sym c.assemble.ensures.recv) (goes_on m c.args.row.now roles.Recv c.args.recv d.recv (recv_disk c.in_ok-pump.receiver) false c.in_ok-disks.ensures.recv o.recv o.moves_recv)
+    subst (λ k. LeavesDisk m c.args.row.now roles.Recv c.args.recv k false) (sym c.assemble.ensures.recv) (goes_on m c.args.row.now roles.Recv c.args.recv d.recv (recv_disk c.in_ok-pump.receiver) false c.in_ok-disks.ensures.recv o.recv o.moves_recv)

@@ -136,6 +136,7 @@ pub returns-in-Err : goal.returns-in-Err
 returns-in-Err g c =
     let m = g.D.Disk.told in
     let s = c.args.self in
+    let small : s.row.id < 2 ^ 32 = omega arith in
     let e = c.in-Err.ensures in
     let r = c.in-Err.refused in
     let were : (c.into_disk.result, c.into_disk-2.result) ≡ (low_disk s.low_store, high_disk s.high_store) = λ i. (c.into_disk.ensures i, c.into_disk-2.ensures i) in
@@ -147,7 +148,6 @@ returns-in-Err g c =
       low_same = subst (λ (x : _). Moves m Same x r.low) c.into_disk.ensures e.moves_low;
       high_same = subst (λ (x : _). Moves m Same x r.high) c.into_disk-2.ensures e.moves_high;
     } in
-    let small : s.row.id < 2 ^ 32 = omega arith in
     let is : (c.stop_for-stop.result, c.into_disk-in-Err.result) ≡ (stop_for r.role r.why, recv_disk s.receiver) = λ i. (c.stop_for-stop.ensures i, c.into_disk-in-Err.ensures i) in
     let shut : _ → BareDisks _ = λ recv. record { row = s.row; low = r.low; high = r.high; recv = recv } in
     record {

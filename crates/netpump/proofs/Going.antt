@@ -87,7 +87,7 @@ module _ {D : Type 0} {g : Ghosts D} (d : Meaning D) (tells : d.tells) (id : ℕ
   timely_so : is_timely (pump.row_of p) s.past line ≡ true → is_timely s.row s.past line ≡ true
   timely_so h = subst (λ (r : SessionRow). is_timely r s.past line ≡ true) row h
 
-  whole_does : (stop : Option Stop) → pump.is_down t ≡ low_pump.is_device stop → pump.Applies d p t line s.past printed stop
+  whole_does : (stop : Option Stop) → pump.is_down t ≡ low_pump.stops_at_disk stop → pump.Applies d p t line s.past printed stop
       → SessionApplies d (Whole s) line (sessions.Whole id t) printed stop
   whole_does None down h =
       let step : LineStep s.row s.past line h.1.0 printed = subst (λ (r : SessionRow). LineStep r s.past line h.1.0 printed) row h.1.1 in
@@ -101,7 +101,7 @@ module _ {D : Type 0} {g : Ghosts D} (d : Meaning D) (tells : d.tells) (id : ℕ
   whole_does (Some (stops.Device role count)) down h =
       let breaks : Breaks s.row s.past line role h.1.0 printed = subst (λ (r : SessionRow). Breaks r s.past line role h.1.0 printed) row h.1.1 in
       (timely_so h.0, (h.1.0, breaks, id_is, (id_is, same ∙ row, inr (role, count, h.1.2))))
-  whole_does (Some (stops.Disk role why)) down h = h tells
+  whole_does (Some (stops.Disk role why)) down h = absurd h
   whole_does (Some (stops.Full end length size)) down h =
       let over : Overfills s.row s.past line h.1.0 printed end length size = subst (λ (r : SessionRow). Overfills r s.past line h.1.0 printed end length size) row h.1.1 in
       let after : Option Begun = Some (Whole (record { row = s.row; past = h.1.0 })) in
@@ -110,7 +110,7 @@ module _ {D : Type 0} {g : Ghosts D} (d : Meaning D) (tells : d.tells) (id : ℕ
 -- a line was given to the pump of a whole session
 pub whole_applies : {D : Type 0} {g : Ghosts D} (d : Meaning D) → d.tells → (before : Session D g) (id : ℕ) (p t : Pump D g) (line : Line) (printed : List Event) (stop : Option Stop) → before ≡ sessions.Whole id p → line ≢ lines.Skip
     → ((q : Past) → pump.StandsFor d p q → pump.Applies d p t line q printed stop)
-    → pump.is_down t ≡ low_pump.is_device stop → pump.row_of t ≡ pump.row_of p → (running : Begun) → StandsFor d before running → SessionApplies d running line (sessions.Whole id t) printed stop
+    → pump.is_down t ≡ low_pump.stops_at_disk stop → pump.row_of t ≡ pump.row_of p → (running : Begun) → StandsFor d before running → SessionApplies d running line (sessions.Whole id t) printed stop
 whole_applies {D} {g} d tells before id p t line printed stop is some applies down same running h = whole_runs running (subst (λ (s : Session D g). StandsFor d s running) is h)
   where
     whole_runs : (running : Begun) → StandsFor d (sessions.Whole id p) running → SessionApplies d running line (sessions.Whole id t) printed stop
@@ -145,7 +145,7 @@ module _ {D : Type 0} (g : Ghosts D) (d : Meaning D) (id : ℕ) (p t : LowPump) 
   abbrev now : Session D g
   now = sessions.Alone id t
 
-  alone_does : (stop : Option Stop) → low_pump.low_is_down t ≡ low_pump.is_device stop → low_pump.AppliesAlone p t line s.past printed stop
+  alone_does : (stop : Option Stop) → low_pump.low_is_down t ≡ low_pump.stops_at_disk stop → low_pump.AppliesAlone p t line s.past printed stop
       → SessionApplies d (Alone s) line now printed stop
   alone_does None down h =
       let timely : is_timely_alone s.row s.past line ≡ true = subst (λ (r : SessionRow). is_timely_alone r s.past line ≡ true) row h.0 in
@@ -170,7 +170,7 @@ module _ {D : Type 0} (g : Ghosts D) (d : Meaning D) (id : ℕ) (p t : LowPump) 
 -- a line was given to the pump of a low side alone
 pub alone_applies : {D : Type 0} {g : Ghosts D} (d : Meaning D) (before : Session D g) (id : ℕ) (p t : LowPump) (line : Line) (printed : List Event) (stop : Option Stop) → before ≡ sessions.Alone id p → line ≢ lines.Skip
     → ((q : PastAlone) → low_pump.LowStandsFor p q → low_pump.AppliesAlone p t line q printed stop)
-    → low_pump.low_is_down t ≡ low_pump.is_device stop → low_pump.low_row_of t ≡ low_pump.low_row_of p
+    → low_pump.low_is_down t ≡ low_pump.stops_at_disk stop → low_pump.low_row_of t ≡ low_pump.low_row_of p
     → (running : Begun) → StandsFor d before running → SessionApplies {g = g} d running line (sessions.Alone id t) printed stop
 alone_applies {D} {g} d before id p t line printed stop is some applies down same running h = alone_runs running (subst (λ (s : Session D g). StandsFor d s running) is h)
   where

@@ -10,7 +10,8 @@ use Rattle.script_reader.specs.Readouts.{low_lines, row_of, history_of, Sound}
 use Rattle.script_reader.proofs.LowFunction.{same_told_so_far, same_full_so_far}
 use Rattle.script_reader.proofs.Replying.{low-append}
 use Rattle.script_reader.proofs.Soundness.{sound_lead, sound_so, fronts_so}
-use Rattle.netpump.proofs.Stub.{script_events, script_runs}
+use Rattle.two_worlds.proofs.Timeline.Alone.{script_events}
+use Rattle.two_worlds.proofs.Timeline.Scripts.{script_runs}
 use Rattle.netpump.specs.Replays.{AreSound, IsTimed, KeepLaws}
 
 each_sound : (o : Openings) (lines : List Line) (after : Option Begun) (printed : List Event) → ComesTo o lines after printed → AreSound o lines printed

@@ -9,5 +9,4 @@ pub mod Shelving
 pub mod SoFar
 pub mod Stopping
 pub mod Stops
-pub mod Stub
 pub mod Turns

@@ -20,7 +20,7 @@ use Rattle.script_reader.specs.declared.line.Line.{Line}
 use Rattle.script_reader.specs.declared.line.Line.TheVariants as lines
 use Rattle.script_reader.specs.Openings.{Found, Openings, first_past}
 use Rattle.script_reader.specs.Scripts.{Begun, Whole}
-use Rattle.two_worlds.specs.Openings.{readied, StandForFound, DisksStandFor, IsRefused, GoesOn, ComeBack, is_for_device, failed_at}
+use Rattle.two_worlds.specs.Openings.{readied, StandForFound, DisksStandFor, IsRefused, LeavesDisk, ComeBack, is_for_device, failed_at}
 use Rattle.two_worlds.specs.Rooms.{is_role}
 use Rattle.two_worlds.specs.Pumps as pump
 use Rattle.two_worlds.specs.declared.not_open.NotOpen.{NotOpen}
@@ -43,7 +43,7 @@ module _ {D : Type 0} (g : Ghosts D) (d : Meaning D) (before now : Places) (row 
 
   module _ (low_out : IsOutAt now row.id roles.Low (d.count low)) (high_out : IsOutAt now row.id roles.High (d.count high)) (recv_out : IsOutAt now row.id roles.Recv (d.count recv))
       (others : LeavesOtherSessions before now row.id)
-      (low_goes : GoesOn d row roles.Low low (pump.disk_at roles.Low p) false) (high_goes : GoesOn d row roles.High high (pump.disk_at roles.High p) false) (recv_goes : GoesOn d row roles.Recv recv (pump.disk_at roles.Recv p) false) where
+      (low_goes : LeavesDisk d row roles.Low low (pump.disk_at roles.Low p) false) (high_goes : LeavesDisk d row roles.High high (pump.disk_at roles.High p) false) (recv_goes : LeavesDisk d row roles.Recv recv (pump.disk_at roles.Recv p) false) where
     out_so : (role : Role) → IsOutAt now row.id role (d.count (pump.disk_at role p))
     out_so roles.Low = out_still now row.id roles.Low _ _ (counts_more d _ _ _ _ low_goes.serves) low_out
     out_so roles.High = out_still now row.id roles.High _ _ (counts_more d _ _ _ _ high_goes.serves) high_out

@@ -10,7 +10,7 @@ use Rattle.disk_model.specs.Shelf.{Whereabouts, OnShelf, Out, Nowhere, IsOut, re
 use Rattle.pump_frame.specs.Counts.{raised, Rose}
 use Rattle.pump_frame.specs.declared.row.SessionRow.{SessionRow}
 use Rattle.stable_buffer.specs.Format.{new_bytes, size_of}
-use Rattle.two_worlds.specs.Openings.{GoesOn, IsLeft}
+use Rattle.two_worlds.specs.Openings.{LeavesDisk}
 use Rattle.two_worlds.specs.Rooms.{Serves}
 use Rattle.netpump.specs.Lending.{ReadAt, IsOutAt, RisesAt, AreOnShelf}
 use Rattle.netpump.specs.Shelves.{Places, disk_name, reading_in, reading_at, LeavesOtherSessions, AllAreBack, Spares, Readies}
@@ -80,13 +80,13 @@ module _ (before mid now : Places) (id : ℕ) (taken : LeavesOtherSessions befor
 -- ---- what an opening leaves ----
 
 module _ {D : Type 0} (d : Meaning D) (tells : d.tells) (row : SessionRow) (role : Role) (old new : D) (is_fault : Bool) where
-  pub spared_by : GoesOn d row role old new is_fault → (d.reading old ≡ [] → ⊥) → d.reading new ≡ d.reading old
+  pub spared_by : LeavesDisk d row role old new is_fault → (d.reading old ≡ [] → ⊥) → d.reading new ≡ d.reading old
   spared_by h some = elim h.left [
     | inl same ↦ same.reads tells
     | inr fresh ↦ absurd (some (fresh tells).0)
   ]
 
-  pub left_by : is_fault ≡ false → GoesOn d row role old new is_fault → (d.reading new ≡ d.reading old) ⊎ ((d.reading old ≡ []) × (d.reading new ≡ new_bytes row role 0))
+  pub left_by : is_fault ≡ false → LeavesDisk d row role old new is_fault → (d.reading new ≡ d.reading old) ⊎ ((d.reading old ≡ []) × (d.reading new ≡ new_bytes row role 0))
   left_by fine h = elim h.left [
     | inl same ↦ inl (same.reads tells)
     | inr fresh ↦ inr ((fresh tells).0, (fresh tells).1 fine)

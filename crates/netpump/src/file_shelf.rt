@@ -11,9 +11,9 @@ use std::io::{self, ErrorKind};
 use std::os::unix::fs::{FileExt, OpenOptionsExt};
 
 /// The current folder as a shelf. The disks of session S are its files `S.low`, `S.high` and
-/// `S.recv`, which are made where they aren't there, for their user alone to read and write. A disk
-/// that is off the shelf is locked: it can't be taken a second time, by this process or another, until
-/// it is kept or this process ends. No call takes memory.
+/// `S.recv`. One that isn't there is made, for its user alone to read and write. A disk that is off
+/// the shelf is locked: until it is kept or this process ends, neither this process nor another can
+/// take it. No call takes memory.
 #[derive(Drop)]
 pub struct FileShelf<R> {
     files: R,
@@ -22,7 +22,7 @@ pub struct FileShelf<R> {
     is_in_use: bool,
 }
 
-// Ten digits and five letters at most.
+// Ten digits, a dot and four letters at most.
 fn file_name(name: DiskName) -> ArrayString<15> {
     let ending = match name.role {
         Role::Low => "low",
@@ -34,8 +34,8 @@ fn file_name(name: DiskName) -> ArrayString<15> {
     text
 }
 
-// A file without bytes may be new. Its folder is synced before any byte of it is, so that a file which
-// has some outlives a crash.
+// A file without bytes may be new. Its folder is synced before it is handed out, so that a file that
+// has bytes outlives a crash.
 fn open_disk<R: Files<File = File>>(files: &R, name: &str) -> io::Result<FileDisk>
     ensures { IfOk result (λ disk. disk.faults ≡ 0) }
 {

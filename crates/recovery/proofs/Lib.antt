@@ -4,7 +4,7 @@ pub mod Comparing
 pub mod Dealing
 pub mod Image
 pub mod Readings
-mod Refill
+pub mod Refill
 pub mod Rows
 pub mod Shapes
 pub mod Slots

@@ -41,6 +41,7 @@ fn is_same<D: Disk>(low: &mut LowStore<D>, n: u64, receiver: &mut Receiver<D>) -
     ensures device_receiver { IfErr result (λ why. recv_is_open receiver.new ≡ false
         → why ≡ Device (D.told.count (recv_disk receiver.new))) }
     ensures shut { IfErr result (λ why. (low_is_open low.new ≡ false) ⊎ (recv_is_open receiver.new ≡ false)) }
+    ensures one { IfErr result (λ why. low_is_open low.new ≡ false → recv_is_open receiver.new ≡ true) }
     ensures calls_low { Calls D.told (low_disk low.old) (low_disk low.new) (not (low_is_open low.new)) }
     ensures calls_receiver { CallsReceiver D.told (low_row low.old) n (low_disk low.old) receiver.old receiver.new }
     ensures called { IfOk result (λ b. b ≡ true → Calls D.told (recv_disk receiver.old) (recv_disk receiver.new) false
@@ -80,7 +81,7 @@ fn is_same<D: Disk>(low: &mut LowStore<D>, n: u64, receiver: &mut Receiver<D>) -
 
 /// Whether the receiver has what low's disk has: no fewer messages than are removed, no more than
 /// are accepted, and those that are on both disks the same. `Device` is told by the one of the two
-/// that is no longer open.
+/// that is no longer open; the other one is open still.
 pub fn agree<D: Disk>(
     low: &mut LowStore<D>,
     removed: u64,
@@ -104,6 +105,7 @@ pub fn agree<D: Disk>(
         → why ≡ Device (D.told.count (recv_disk receiver.new))) }
     ensures shut { IfErr result (λ why. is_device why ≡ true
         → (low_is_open low.new ≡ false) ⊎ (recv_is_open receiver.new ≡ false)) }
+    ensures one { IfErr result (λ why. low_is_open low.new ≡ false → recv_is_open receiver.new ≡ true) }
 
     // The disks are called where there is a message to compare, and else are as they were.
     ensures idle { (recv_count receiver.old ≤ removed) ⊎ (low_count low.old < recv_count receiver.old)

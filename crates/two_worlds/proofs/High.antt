@@ -1,4 +1,5 @@
 -- A high look of a pump.
+pub mod Attaching
 pub mod Disks
 pub mod Failing
 pub mod Fetching

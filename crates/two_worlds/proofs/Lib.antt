@@ -1,3 +1,4 @@
+pub mod Answered
 pub mod Arriving
 pub mod Carry
 pub mod Disks
@@ -5,6 +6,7 @@ pub mod High
 pub mod Lines
 pub mod Low
 pub mod Opening
+pub mod Reopening
 pub mod Runs
 pub mod Timeline
 pub mod Told

@@ -2,6 +2,8 @@
 pub mod Applied
 pub mod DoesMore
 pub mod Done
+pub mod Kept
 pub mod On
+pub mod Restarts
 pub mod Runs
 pub mod Timely

@@ -1,7 +1,12 @@
--- New parts, and what parts that work have ready.
+-- What an opening leaves, and what parts that work have ready.
+pub mod Comparing
 pub mod Ends
-pub mod Formatted
+pub mod Founds
+pub mod Lives
+pub mod NewDisks
+pub mod Opened
 pub mod Ready
+pub mod Refusing
+pub mod Restarting
 pub mod RowRanges
-pub mod Starts
 pub mod Working

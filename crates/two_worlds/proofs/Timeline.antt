@@ -7,6 +7,8 @@ pub mod Highs
 pub mod Looks
 pub mod Lows
 pub mod Removals
+pub mod Restarts
+pub mod Returns
 pub mod Scripts
 pub mod Sendings
 pub mod Stands

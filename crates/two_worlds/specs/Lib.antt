@@ -1,4 +1,5 @@
 pub mod Agreement
+pub mod Answered
 pub mod Connections
 pub mod Disks
 pub mod Doing
@@ -12,6 +13,7 @@ pub mod Private
 pub mod Pumps
 pub mod Rooms
 pub mod Standing
+pub mod States
 pub mod Timelines
 pub mod TimelinesAlone
 pub mod Timely

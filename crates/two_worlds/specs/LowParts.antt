@@ -101,6 +101,7 @@ module _ (Bars : Type 0) (Does : Bool → PastAlone → List Event → Type 0) w
   EndsBy c d printed (Some (stops.Device roles.High faults)) = ⊥
   EndsBy c d printed (Some (stops.Device roles.Recv faults)) = ⊥
   EndsBy c d printed (Some (stops.Full end size_of_message size)) = ⊥
+  EndsBy c d printed (Some (stops.Disk role why)) = ⊥
 
 -- so for every past that the parts stood for
 abbrev pub Ends : LowParts → LowParts → (PastAlone → Type 0) → (PastAlone → Bool → PastAlone → List Event → Type 0) → List Event → Option Stop → Type 0

@@ -43,10 +43,12 @@ AppliesAlone old new line p printed (Some (stops.Device roles.Low faults)) =
 AppliesAlone old new line p printed (Some (stops.Device roles.High faults)) = ⊥
 AppliesAlone old new line p printed (Some (stops.Device roles.Recv faults)) = ⊥
 AppliesAlone old new line p printed (Some (stops.Full end size_of_message size)) = ⊥
+AppliesAlone old new line p printed (Some (stops.Disk role why)) = ⊥
 
--- a device stopped the line
-abbrev pub is_device : Option Stop → Bool
-is_device (Some (stops.Device role faults)) = true
-is_device (Some stops.Line) = false
-is_device (Some (stops.Full end size_of_message size)) = false
-is_device None = false
+-- a disk stopped the line: a call of it failed, or it was refused
+abbrev pub stops_at_disk : Option Stop → Bool
+stops_at_disk (Some (stops.Device role faults)) = true
+stops_at_disk (Some (stops.Disk role why)) = true
+stops_at_disk (Some stops.Line) = false
+stops_at_disk (Some (stops.Full end size_of_message size)) = false
+stops_at_disk None = false

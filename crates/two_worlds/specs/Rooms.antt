@@ -8,7 +8,7 @@ use Rattle.stable_buffer.specs.Stands.{low_size}
 use Rattle.low_process.specs.Storing.{outcome}
 use Rattle.script_reader.specs.Highs.{receiver_size}
 use Rattle.two_worlds.specs.declared.applied.Stop.{Stop}
-use Rattle.two_worlds.specs.declared.applied.Stop.TheVariants.{Line, Device, Full}
+use Rattle.two_worlds.specs.declared.applied.Stop.TheVariants.{Line, Device, Full, Disk}
 use Rattle.two_worlds.specs.Disks.{RemovesBehind}
 
 -- the disk is not armed, and may grow to this size
@@ -34,6 +34,7 @@ stops_at role None = false
 stops_at role (Some Line) = false
 stops_at role (Some (Device other faults)) = is_role role other
 stops_at role (Some (Full end length size)) = false
+stops_at role (Some (Disk other why)) = false
 
 -- no call of the disk was made; or calls were made of which one failed or none, and they fit where its
 -- room is not smaller than this

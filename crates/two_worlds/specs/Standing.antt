@@ -9,7 +9,6 @@ use Rattle.pump_frame.specs.Rows.{IsLawfulRow}
 use Rattle.pump_frame.specs.declared.row.SessionRow.{SessionRow}
 use Rattle.pump_frame.specs.declared.payload.Payload.{Payload}
 use Rattle.pump_frame.specs.declared.frame.Item.{Item}
-use Rattle.pump_frame.specs.declared.frame.Kind.TheVariants.{Taken}
 use Rattle.stable_buffer.specs.Low.{low_disk}
 use Rattle.stable_buffer.specs.High.{IsHighReady, high_count, high_disk}
 use Rattle.high_receiver.specs.Receiving.{IsRecvReady, recv_count, recv_end, recv_row, recv_size, recv_disk, recv_is_open}
@@ -25,18 +24,17 @@ use Rattle.high_process.specs.States as high
 use Rattle.high_process.specs.Past as high_past
 use Rattle.high_process.specs.Looks.{StandsFor as HighStandsFor}
 use Rattle.high_process.specs.Ends as high_ends
+pub use Rattle.recovery.specs.Deals.{number_of}
 use Rattle.script_reader.specs.Past.{Past}
 use Rattle.script_reader.specs.Highs.{log_end, receiver_size}
+use Rattle.two_worlds.specs.Answered.{HasAnswered}
 use Rattle.two_worlds.specs.Connections.{waits_of, is_broken_of, reading_of}
 use Rattle.two_worlds.specs.Disks.{DisksFit}
 use Rattle.two_worlds.specs.Timelines.{IsAtRest}
 use Rattle.two_worlds.specs.declared.pump.parts.Parts.{Parts}
+use Rattle.two_worlds.specs.declared.pump.state.BareDisks.{BareDisks}
 
 -- ---- the world ----
-
-abbrev pub number_of : Option Item → Option ℕ
-number_of None = None
-number_of (Some item) = Some item.number
 
 -- the item has the payload of the accepted message of its number
 abbrev pub IsAccepted : List Payload → Item → Type 0
@@ -140,11 +138,11 @@ pub record EndsAreReady {D : Type 0} (c : Parts D) (published : List ℕ) : Type
   pub low_fits : low_ends.FitsEnd c.low low
   pub high_fits : high_ends.FitsEnd c.high high
 
--- what was sent last is kept, 64 packets in each direction, and a TAKEN of the session is at hand
+-- what was sent last is kept, 64 packets in each direction, and a frame of the session is at hand
 pub record KeepsPackets {D : Type 0} (c : Parts D) : Type 0 where
   pub sent : c.sent.capacity ≡ 64
   pub returned : c.returned.capacity ≡ 64
-  pub taken : (c.taken.kind ≡ Taken) × (c.taken.session ≡ c.row.id)
+  pub taken : c.taken.session ≡ c.row.id
 
 -- what waits on the connection is kept, at most 64 arrivals, and how far its bytes were read
 pub record KeepsArrivals {D : Type 0} (c : Parts D) (p : Past) : Type 0 where
@@ -161,6 +159,8 @@ pub record IsSound (row : SessionRow) (p : Past) : Type 0 where
   pub fits : All (λ (x : Payload). length x ≤ row.message) p.world.accepted
   -- each sending since the opening sent a packet
   pub sends : length p.sends ≤ length p.world.sent
+  -- the TAKEN of the last message that the receiver took was sent
+  pub answered : HasAnswered p.world
 
 -- the parts stand for what the session has been through
 pub record Stands {D : Type 0} (m : Meaning D) (c : Parts D) (p : Past) : Type 0 where
@@ -183,7 +183,14 @@ StandsForSome m c = (p : Past) × Stands m c p
 abbrev pub is_down : {D : Type 0} → Parts D → Bool
 is_down c = low.is_down c.low || high.is_down c.high || not (recv_is_open c.receiver)
 
+-- the disks of the parts, bare
+abbrev pub bare_of : {D : Type 0} → Parts D → BareDisks D
+bare_of c = record { row = c.row; low = low_disk c.low_store; high = high_disk c.high_store; recv = recv_disk c.receiver }
+
+abbrev pub bare_disk : {D : Type 0} → Role → BareDisks D → D
+bare_disk roles.Low d = d.low
+bare_disk roles.High d = d.high
+bare_disk roles.Recv d = d.recv
+
 abbrev pub disk_at : {D : Type 0} → Role → Parts D → D
-disk_at roles.Low c = low_disk c.low_store
-disk_at roles.High c = high_disk c.high_store
-disk_at roles.Recv c = recv_disk c.receiver
+disk_at role c = bare_disk role (bare_of c)

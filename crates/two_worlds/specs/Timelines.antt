@@ -1,9 +1,9 @@
 -- What a script's session has been through, as a timed run: its lines are looks, arrivals and events of
 -- the world, and what it was told, it was told by the run.
-use Rattle.std.specs.Prelude.{◌≡◌, ℕ, ◌+◌, ◌≤◌, nat_lt, Bool, true, false, if◌then◌else◌, List, [], ◌∷◌, ◌++◌, length, map, take, drop, reverse, Option, Some, None}
+use Rattle.std.specs.Prelude.{◌≡◌, ℕ, zero, suc, ◌+◌, ◌≤◌, nat_lt, Bool, true, false, if◌then◌else◌, List, [], ◌∷◌, ◌++◌, length, map, take, drop, reverse, slice_get, Option, Some, None}
 use Rattle.std.specs.List.{list_any}
 use Rattle.pump_frame.specs.declared.row.SessionRow.{SessionRow}
-use Rattle.pump_core.specs.declared.event.Event.TheVariants.{TakeUp, Send, CarryData, TakeBegin, TakeEnd, ReturnTaken, RemoveBegin, RemoveEnd}
+use Rattle.pump_core.specs.declared.event.Event.TheVariants.{TakeUp, Send, CarryData, TakeBegin, TakeEnd, ReturnTaken, RemoveBegin, RemoveEnd, Crash}
 use Rattle.pump_core.specs.History.{Arrival, History}
 use Rattle.pump_core.specs.Exchanges.{Part, IsCut}
 use Rattle.pump_core.specs.Comings.{Coming, is_broken, comings, arrival_of_coming}
@@ -15,7 +15,9 @@ use Rattle.script_reader.specs.declared.line.Line.{Line}
 use Rattle.script_reader.specs.declared.line.Line.TheVariants as lines
 use Rattle.script_reader.specs.declared.event.Event.{Event}
 use Rattle.script_reader.specs.Past.{Past}
+use Rattle.script_reader.specs.Openings.{Openings}
 use Rattle.script_reader.specs.Highs.{IsHighLook, IsCarried, is_ahead, place}
+use Rattle.script_reader.specs.Restarts.{IsReopened}
 use Rattle.script_reader.specs.Steps as script
 use Rattle.script_reader.specs.Scripts.{Running, Whole as WholeSession, GoesWhole, LeadTo}
 
@@ -95,6 +97,12 @@ high_steps m back p q =
 abbrev pub return_steps : ℕ → ℕ → Past → Past → List Step
 return_steps m k p q = if is_ahead p.world k then HighLook m ∷ [] else high_steps m (Some k) p q
 
+-- .. and of one in which a receiver with so many messages attaches: the TAKEN of the last of them comes
+-- back, if it has any
+abbrev pub AreAttachSteps : ℕ → ℕ → Past → Past → List Step → Type 0
+AreAttachSteps m zero p q steps = steps ≡ high_steps m None p q
+AreAttachSteps m (suc n) p q steps = (k : ℕ) × (slice_get p.world.returned k ≡ Some n) × (steps ≡ return_steps m k p q)
+
 -- a DATA is carried, and taken where it was the receiver's next
 abbrev pub carry_steps : ℕ → Past → Past → List Step
 carry_steps back p q =
@@ -134,6 +142,11 @@ AreSteps row p (lines.Done session m time) q steps =
     (mid : Past) × (printed : List Event) × IsHighLook row p m None mid printed
     × ((later : List Step) × AreDoneSteps row mid.world.high_hand mid (m + time) q later
     × (steps ≡ later ++ high_steps m None p mid))
+AreSteps row p (lines.Restart session m) q steps = steps ≡ Occurs (Crash (Some (false, false)) None) ∷ []
+AreSteps row p (lines.ReceiverRestart session m) q steps =
+    (mid : Past) × IsReopened p mid
+    × ((of_look : List Step) × AreAttachSteps m (length mid.world.received) mid q of_look
+    × (steps ≡ of_look ++ Occurs (Crash None (Some false)) ∷ []))
 
 -- the session of the past p, which has this timed run, came to the past q by this line: the run goes on by
 -- the line's steps
@@ -150,8 +163,8 @@ LinesAreSteps = (s : Running) (line : Line) (q : Past) (printed : List Event) (s
     → GoesWhole s line (Some (WholeSession (record { row = s.row; past = q }))) printed
     → IsTimeline s.row s.past steps t → RunGoesOn s.row s.past line steps q
 
--- what a script's session has been through is a timed run
+-- what a script's session has been through is a timed run, whatever its disks were found to hold
 abbrev pub ScriptsAreTimedRuns : Type 0
-ScriptsAreTimedRuns = (script : List Line) (s : Running) (printed : List Event)
-    → LeadTo None script (Some (WholeSession s)) printed
+ScriptsAreTimedRuns = (o : Openings) (script : List Line) (s : Running) (printed : List Event)
+    → LeadTo o None script (Some (WholeSession s)) printed
     → (steps : List Step) × (t : Point) × IsTimeline s.row s.past steps t

@@ -9,6 +9,7 @@ use Rattle.script_reader.specs.declared.line.Line.TheVariants as lines
 use Rattle.script_reader.specs.declared.event.Event.{Event}
 use Rattle.script_reader.specs.Steps as script
 use Rattle.script_reader.specs.Alone.{PastAlone}
+use Rattle.script_reader.specs.Openings.{Openings}
 use Rattle.script_reader.specs.Scripts.{RunningAlone, Alone, GoesAlone, LeadTo}
 use Rattle.two_worlds.specs.Timelines.{arrived, AreLeft}
 
@@ -45,5 +46,5 @@ LowLinesAreEvents = (s : RunningAlone) (line : Line) (q : PastAlone) (printed : 
 
 -- what came to a script's low side alone, and the looks that it made
 abbrev pub LowScriptsAreTimed : Type 0
-LowScriptsAreTimed = (script : List Line) (s : RunningAlone) (printed : List Event)
-    → LeadTo None script (Some (Alone s)) printed → (events : List Timed) × IsTimelineAlone s.row s.past events
+LowScriptsAreTimed = (o : Openings) (script : List Line) (s : RunningAlone) (printed : List Event)
+    → LeadTo o None script (Some (Alone s)) printed → (events : List Timed) × IsTimelineAlone s.row s.past events

@@ -21,11 +21,28 @@ is_timely_by c (lines.Told session m w fault told a) = false
 is_timely_by c (lines.Look session m w a) = session == c.row.id && nat_le c.moment m
 is_timely_by c (lines.Gone session m) = session == c.row.id && nat_le c.moment m
 is_timely_by c (lines.High session m) = session == c.row.id && nat_le c.moment m
+is_timely_by c (lines.Restart session m) = session == c.row.id && nat_le c.moment m
+is_timely_by c (lines.ReceiverRestart session m) = session == c.row.id && nat_le c.moment m
 is_timely_by c (lines.Carry session back) = session == c.row.id && nat_lt back (length c.sent.items)
 is_timely_by c (lines.Return session m back) =
     session == c.row.id && (nat_le c.moment m && nat_lt back (length c.returned.items))
 is_timely_by c (lines.Done session m t) =
     session == c.row.id && (nat_le c.moment m && (not (goes_on_by c) || nat_le (m + t) (2 ^ 62)))
+
+-- the line opens disks again
+abbrev pub opens_again : ScriptLine → Bool
+opens_again lines.Skip = false
+opens_again (lines.Session other) = false
+opens_again (lines.LowSession other next held) = false
+opens_again (lines.Told session m w fault told a) = false
+opens_again (lines.Look session m w a) = false
+opens_again (lines.Gone session m) = false
+opens_again (lines.High session m) = false
+opens_again (lines.Carry session back) = false
+opens_again (lines.Return session m back) = false
+opens_again (lines.Done session m t) = false
+opens_again (lines.Restart session m) = true
+opens_again (lines.ReceiverRestart session m) = true
 
 -- as `IsCrowded`: with what comes with the line, more than 64 arrivals would wait
 abbrev pub IsCrowdedBy : {D : Type 0} → Parts D → ScriptLine → Type 0

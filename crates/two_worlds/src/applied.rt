@@ -1,5 +1,6 @@
 use arrayvec::ArrayVec;
 use disk_model::Role;
+use recovery::Why;
 use script_reader::Event;
 
 /// Why a line stopped a session.
@@ -12,6 +13,8 @@ pub enum Stop {
     /// A message of `length` bytes does not fit on the receiver's disk of `size` bytes, whose records
     /// end at `end`. The receiver is as before.
     Full { end: u64, length: u32, size: u64 },
+    /// What this disk holds is refused where it is opened again. The pump is shut.
+    Disk { role: Role, why: Why },
 }
 
 /// What a line printed, at most four lines, and whether it stopped the session.

@@ -2,6 +2,7 @@
 //! whose contract is the law; calling it does nothing.
 
 ghost use Rattle.two_worlds.specs.Laws.{EventsAreCertain, EveryWorldIsLawful, ForgedWorldsAreBounded, TimedWorldsAreLawful, RunsHaveReplies, PairsAgree, AcknowledgedIsAccepted, ThinnedHistoriesAgree, AcceptedOutlives, AcknowledgedOutlives};
+ghost use Rattle.two_worlds.specs.Answered.{EveryWorldHasAnswered, TimedWorldsHaveAnswered, SessionsKeepAnswers};
 ghost use Rattle.two_worlds.specs.Timelines.{LinesAreSteps, ScriptsAreTimedRuns};
 ghost use Rattle.two_worlds.specs.TimelinesAlone.{LowLinesAreEvents, LowScriptsAreTimed};
 
@@ -20,6 +21,23 @@ pub fn every_world_is_lawful()
 /// Whatever comes back to it, forged or not, the pump keeps its bounds.
 pub fn forged_worlds_are_bounded()
     ensures { ForgedWorldsAreBounded }
+{}
+
+/// Whatever happens, the receiver has answered the last message that it took: that TAKEN was sent, since
+/// the session began or before.
+pub fn every_world_has_answered()
+    ensures { EveryWorldHasAnswered }
+{}
+
+/// So it has in the world to which a timed run comes.
+pub fn timed_worlds_have_answered()
+    ensures { TimedWorldsHaveAnswered }
+{}
+
+/// So it has in each session of a script, with restarts of the processes and of the receiver, whatever
+/// its disks were found to hold.
+pub fn sessions_keep_answers()
+    ensures { SessionsKeepAnswers }
 {}
 
 /// The world to which a timed run comes is lawful.
@@ -67,14 +85,16 @@ pub fn acknowledged_outlives()
     ensures { AcknowledgedOutlives }
 {}
 
-/// A line of a script goes on with any timed run of its session, by the steps that stand for it.
+/// A line of a script goes on with any timed run of its session, by the steps that stand for it: those of
+/// the looks, the carried packets and the openings that it makes, and no others.
 pub fn lines_are_steps()
     ensures { LinesAreSteps }
 {}
 
-/// What the session of a script has been through is a timed run, whatever the script's lines are: what
-/// its looks were told is the feedback of that run, what they were offered is what came on the
-/// connections, and its world is the one to which the run came.
+/// What the session of a script has been through is a timed run, whatever the script's lines are and
+/// whatever its disks were found to hold: what its looks were told is the feedback of that run, what they
+/// were offered is what came on the connections, and its world is the one to which the run came. A
+/// restart is a crash of the pump, after which the run has a new life.
 pub fn scripts_are_timed_runs()
     ensures { ScriptsAreTimedRuns }
 {}

@@ -34,7 +34,7 @@ impl LowPump {
     ghost use Rattle.two_worlds.specs.Printing.{lines_in};
     ghost use Rattle.script_reader.specs.Scripts.{IsEndAlone};
     ghost use Rattle.script_reader.specs.Alone.{PastAlone, fresh_alone};
-    ghost use Rattle.two_worlds.specs.LowPumps.{low_row_of, low_is_down, is_device, LowStandsFor, AppliesAlone};
+    ghost use Rattle.two_worlds.specs.LowPumps.{low_row_of, low_is_down, stops_at_disk, LowStandsFor, AppliesAlone};
 
     /// The low side of a lawful row before its first line, with `next` messages stored, at most 2^48.
     /// Where it is held, the last one, without bytes, is in the low hand; then `next` is at least 1.
@@ -63,7 +63,7 @@ impl LowPump {
         requires up { low_is_down self.old ≡ false }
         ensures applies { (p : PastAlone) → LowStandsFor self.old p
             → AppliesAlone self.old self.new line.now p result.events.items result.stop }
-        ensures down { low_is_down self.new ≡ is_device result.stop }
+        ensures down { low_is_down self.new ≡ stops_at_disk result.stop }
         ensures row { low_row_of self.new ≡ low_row_of self.old }
     {
         let mut heads = ArrayVec::new();
@@ -87,7 +87,7 @@ impl LowPump {
         requires up { low_is_down self.old ≡ false }
         ensures applies { (p : PastAlone) → LowStandsFor self.old p
             → AppliesAlone self.old self.new (line_with bytes.now line.now) p (lines_in events.new.items) result }
-        ensures down { low_is_down self.new ≡ is_device result }
+        ensures down { low_is_down self.new ≡ stops_at_disk result }
         ensures row { low_row_of self.new ≡ low_row_of self.old }
     {
         self.parts.apply(line, bytes, events)

@@ -1,13 +1,15 @@
 use disk_model::Role;
-use stable_buffer::Device;
+use recovery::Why;
 
-/// Why a pump was not opened. The three disks come back.
+/// Why a pump was not opened. The three disks come back: one that was empty may be formatted, and each
+/// other is as it was.
 #[derive(Drop)]
 pub struct NotOpen<D> {
-    /// The disk whose call failed; low's where memory was wanting.
+    /// The disk that is the cause; low's where memory was wanting.
     pub role: Role,
-    /// How often that disk has failed; none where memory was wanting, and then no disk was called.
-    pub why: Option<Device>,
+    /// The first cause in the order of `docs/formats.md`, "Disks"; none where memory was wanting, and
+    /// then no disk was called.
+    pub why: Option<Why>,
     pub low: D,
     pub high: D,
     pub recv: D,

@@ -1,13 +1,15 @@
 //! The whole pump of a session over three disks, on one thread.
 
 mod carry;
-mod close;
-mod formatted;
 mod high_look;
 mod lines;
 mod low_look;
 mod open;
 mod parts;
+mod readied;
+mod reopen;
+mod restart;
+mod state;
 #[cfg(test)]
 mod tests;
 
@@ -19,34 +21,39 @@ use disk_model::Disk;
 use parts::Parts;
 use pump_frame::SessionRow;
 use script_reader::{EventHead, Line, LineHead};
+use state::PumpState;
 use std::alloc::Global;
 
 /// A whole session: its processes, its passage, its receiver, over three disks.
 #[derive(Drop)]
 pub struct Pump<D: Disk> {
-    parts: Parts<D>,
-    // Until a call of a disk fails the parts work. What is read of disks that tell what they hold, and
-    // what a crash leaves of them, is a lawful world's, for which the parts stand until then.
-    ghost keeps: { ∥ Keeps D.told parts ∥₁ },
+    state: PumpState<D>,
+    // Until it is down its parts work. What is read of disks that tell what they hold, and what a crash
+    // leaves of them, is a lawful world's, for which the parts stand until then.
+    ghost keeps: { ∥ Keeps D.told state ∥₁ },
 }
 
 ghost use Rattle.two_worlds.specs.Keeping.{Keeps};
 
 impl<D: Disk> Pump<D> {
-    ghost use Rattle.std.specs.Prelude.{◌≡◌, false, [], length, None, IfOk, IfErr};
+    ghost use Rattle.std.specs.Prelude.{◌≡◌, true, false, [], length, None, IfOk, IfErr, IfSome};
     ghost use Rattle.disk_model.specs.declared.name.Role.TheVariants as roles;
     ghost use Rattle.pump_frame.specs.Rows.{IsLawfulRow};
-    ghost use Rattle.two_worlds.specs.Openings.{ComeBack};
+    ghost use Rattle.two_worlds.specs.Openings.{DisksStandFor, LeavesDisk, ComeBack};
     ghost use Rattle.script_reader.specs.Lawful.{IsLawfulLine};
     ghost use Rattle.script_reader.specs.Heads.{line_with, CanHoldLine};
     ghost use Rattle.two_worlds.specs.Printing.{lines_in};
-    ghost use Rattle.script_reader.specs.Past.{Past, fresh};
+    ghost use Rattle.script_reader.specs.Past.{Past};
+    ghost use Rattle.script_reader.specs.Openings.{Found, first_past, nothing_found};
     ghost use Rattle.two_worlds.specs.Disks.{Opens, CrashesOpen, LeaveWorld};
-    ghost use Rattle.two_worlds.specs.LowPumps.{is_device};
+    ghost use Rattle.recovery.specs.Calls.{is_device};
+    ghost use Rattle.two_worlds.specs.LowPumps.{stops_at_disk};
     ghost use Rattle.two_worlds.specs.Pumps.{row_of, StandsFor, StandsOrFails, is_down, disk_at, Applies, AppliesOn};
     ghost use Rattle.two_worlds.specs.Rooms.{HasRoom, DisksGo};
 
-    /// The pump of a lawful row over three disks of size 0, which tell what they hold.
+    /// The pump of a lawful row over three disks. Each that is empty is formatted first. Where they tell
+    /// what they hold, the session begins on what they stand for, and where they stand for nothing they
+    /// are refused, for the first cause in the order of `docs/formats.md`, "Disks".
     pub fn open(
         alloc: Global,
         row: &SessionRow,
@@ -55,20 +62,30 @@ impl<D: Disk> Pump<D> {
         recv: D,
     ) -> Result<Pump<D>, NotOpen<D>>
         requires lawful { IsLawfulRow row.now }
-        requires tells { D.told.tells }
-        requires low { D.told.reading low ≡ [] }
-        requires high { D.told.reading high ≡ [] }
-        requires recv { D.told.reading recv ≡ [] }
-        ensures fresh { IfOk result (λ pump. StandsFor D.told pump (fresh row.now)) }
+        ensures opens { IfOk result (λ pump. D.told.tells → (f : Found) × DisksStandFor D.told row.now low high recv f) }
+        ensures stands { IfOk result (λ pump. D.told.tells → (f : Found) → DisksStandFor D.told row.now low high recv f
+            → StandsFor D.told pump (first_past row.now f)) }
+        ensures fresh { D.told.tells → D.told.reading low ≡ [] → D.told.reading high ≡ [] → D.told.reading recv ≡ []
+            → IfOk result (λ pump. StandsFor D.told pump (first_past row.now nothing_found)) }
         ensures row { IfOk result (λ pump. row_of pump ≡ row.now) }
         ensures up { IfOk result (λ pump. is_down pump ≡ false) }
+        ensures low { IfOk result (λ pump. LeavesDisk D.told row.now roles.Low low (disk_at roles.Low pump) false) }
+        ensures high { IfOk result (λ pump. LeavesDisk D.told row.now roles.High high (disk_at roles.High pump) false) }
+        ensures recv { IfOk result (λ pump. LeavesDisk D.told row.now roles.Recv recv (disk_at roles.Recv pump) false) }
+        ensures back { IfErr result (λ e. ComeBack D.told row.now low high recv e) }
+        ensures stops { IfErr result (λ e. D.told.tells → (f : Found) → DisksStandFor D.told row.now low high recv f
+            → IfSome e.why (λ why. is_device why ≡ true)) }
         ensures room { D.told.tells_plan → HasRoom D.told row.now low high recv
             → IfOk result (λ pump. HasRoom D.told row.now (disk_at roles.Low pump) (disk_at roles.High pump) (disk_at roles.Recv pump)) }
-        ensures back { IfErr result (λ e. ComeBack D.told row.now low high recv e) }
-        ensures never { D.told.tells_plan → HasRoom D.told row.now low high recv → IfErr result (λ e. e.why ≡ None) }
+        ensures never { D.told.tells_plan → HasRoom D.told row.now low high recv
+            → D.told.reading low ≡ [] → D.told.reading high ≡ [] → D.told.reading recv ≡ [] → IfErr result (λ e. e.why ≡ None) }
     {
-        let parts = Parts::fresh(alloc, row, low, high, recv)?;
-        Ok(Pump { parts })
+        // It is read so that it is known to be in the range of its type.
+        let _id = row.id;
+        let parts = Parts::open(alloc, row, low, high, recv)?;
+        Ok(Pump {
+            state: PumpState::Open(parts),
+        })
     }
 
     /// A line of the script: what it prints, and whether it stops the session. Until a call of a disk
@@ -76,12 +93,12 @@ impl<D: Disk> Pump<D> {
     pub fn apply(&mut self, line: &Line) -> Applied
         requires lawful { IsLawfulLine line.now }
         requires up { is_down self.old ≡ false }
-        ensures applies { (p : Past) → StandsFor D.told self.old p
+        ensures applies { D.told.tells → (p : Past) → StandsFor D.told self.old p
             → Applies D.told self.old self.new line.now p result.events.items result.stop }
         ensures on { AppliesOn D.told self.old self.new line.now result.events.items result.stop }
         ensures serve { DisksGo D.told (row_of self.old) (disk_at roles.Low self.old) (disk_at roles.High self.old) (disk_at roles.Recv self.old)
             (disk_at roles.Low self.new) (disk_at roles.High self.new) (disk_at roles.Recv self.new) result.stop }
-        ensures down { is_down self.new ≡ is_device result.stop }
+        ensures down { is_down self.new ≡ stops_at_disk result.stop }
         ensures row { row_of self.new ≡ row_of self.old }
     {
         let mut heads = ArrayVec::new();
@@ -103,27 +120,30 @@ impl<D: Disk> Pump<D> {
         requires lawful { IsLawfulLine (line_with bytes.now line.now) }
         requires room { CanHoldLine line.now bytes.now }
         requires up { is_down self.old ≡ false }
-        ensures applies { (p : Past) → StandsFor D.told self.old p
+        ensures applies { D.told.tells → (p : Past) → StandsFor D.told self.old p
             → Applies D.told self.old self.new (line_with bytes.now line.now) p (lines_in events.new.items) result }
         ensures on { AppliesOn D.told self.old self.new (line_with bytes.now line.now) (lines_in events.new.items) result }
         ensures serve { DisksGo D.told (row_of self.old) (disk_at roles.Low self.old) (disk_at roles.High self.old) (disk_at roles.Recv self.old)
             (disk_at roles.Low self.new) (disk_at roles.High self.new) (disk_at roles.Recv self.new) result }
-        ensures down { is_down self.new ≡ is_device result }
+        ensures down { is_down self.new ≡ stops_at_disk result }
         ensures row { row_of self.new ≡ row_of self.old }
     {
-        self.parts.apply(line, bytes, events)
+        self.state.apply(line, bytes, events)
     }
 
-    /// How many messages were accepted, removed, and taken by the receiver.
+    /// How many messages were accepted, removed, and taken by the receiver; 0 of a pump that is shut.
     pub fn counts(&self) -> (u64, u64, u64)
         ensures { (p : Past) → StandsFor D.told self.now p
             → result ≡ (length p.world.accepted, p.world.removed, length p.world.received) }
     {
-        (
-            self.parts.low.next(),
-            self.parts.high.removed(),
-            self.parts.receiver.count(),
-        )
+        match &self.state {
+            PumpState::Open(parts) => (
+                parts.low.next(),
+                parts.high.removed(),
+                parts.receiver.count(),
+            ),
+            PumpState::Shut(_) => (0, 0, 0),
+        }
     }
 
     /// The low, the high and the receiver's disk, with no further call. What is read of them stands for
@@ -137,6 +157,7 @@ impl<D: Disk> Pump<D> {
         ensures open { CrashesOpen D.told (row_of self) result.0 result.1 result.2 }
         ensures read { D.told.tells → Opens (row_of self) (D.told.reading result.0) (D.told.reading result.1) (D.told.reading result.2) }
     {
-        self.parts.close()
+        let disks = self.state.into_disks();
+        (disks.low, disks.high, disks.recv)
     }
 }

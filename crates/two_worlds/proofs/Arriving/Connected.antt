@@ -21,7 +21,7 @@ module _ {D : Type 0} (m : Meaning D) (c : Parts D) (k : Connected) where
     row = s.row;
     arrivals = record { waits = w; broken = b; reading = r; few = few };
     world = s.world;
-    sound = record { rest = s.sound.rest; lawful = s.sound.lawful; fits = s.sound.fits; sends = s.sound.sends };
+    sound = record { rest = s.sound.rest; lawful = s.sound.lawful; fits = s.sound.fits; sends = s.sound.sends; answered = s.sound.answered };
     moment = s.moment;
     low_ready = record { history = s.low_ready.history; store = s.low_ready.store; up = s.low_ready.up; between = s.low_ready.between; row = s.low_ready.row; last = s.low_ready.last };
     high_ready = record {

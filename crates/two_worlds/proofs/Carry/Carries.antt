@@ -32,7 +32,7 @@ use Rattle.script_reader.specs.Breaks.{IsUntaken}
 use Rattle.two_worlds.specs.declared.pump.parts.Parts.{Parts}
 use Rattle.two_worlds.specs.Private.Carrying.{printed_taken}
 use Rattle.two_worlds.specs.Disks.{DisksFit, LowFits, HighFits, RecvFits}
-use Rattle.two_worlds.specs.Doing.{Fails, LeavesFit}
+use Rattle.two_worlds.specs.Doing.{PartsFail, PartsLeaveFit}
 use Rattle.two_worlds.specs.Standing.{kept_of, HoldsWorld, Stands, is_down, disk_at}
 use Rattle.two_worlds.specs.Timelines.{IsAtRest}
 use Rattle.two_worlds.proofs.Disks.Images.{low_alone, high_alone, all_alone}
@@ -40,6 +40,8 @@ use Rattle.two_worlds.proofs.Disks.LeavesWorld.{fits_row}
 use Rattle.two_worlds.proofs.Carry.Answered.{AnsweredWith, in_store, full, took as took_by, repeated}
 use Rattle.two_worlds.proofs.Carry.Carried as led
 use Rattle.two_worlds.proofs.Opening.Ready.{recv_reading}
+use Rattle.two_worlds.specs.Answered.{HasAnswered}
+use Rattle.two_worlds.proofs.Answered.{twice, event_goes, perhaps_goes}
 
 -- the numbers that are kept, and one more
 abbrev pub Returns : Buffer ℕ → ℕ → Buffer ℕ → Type 0
@@ -51,21 +53,26 @@ returned old new n capacity is =
 
 -- the carry led to this
 abbrev pub Leads : {D : Type 0} → Meaning D → Parts D → Past → ℕ → List Event → List Event → Parts D → Type 0
-Leads m c p back out now d = (q : Past) × (printed : List Event) × IsCarried c.row p back q printed × (now ≡ out ++ printed) × Stands m d q × LeavesFit m c d p q
+Leads m c p back out now d = (q : Past) × (printed : List Event) × IsCarried c.row p back q printed × (now ≡ out ++ printed) × Stands m d q × PartsLeaveFit m c d p q
 
 module _ {D : Type 0} (m : Meaning D) (c : Parts D) (p : Past) (back : ℕ) (packet : Item) (stands : Stands m c p) (less : back < length c.sent.items)
     (at : cond (nat_lt back (length c.sent.items)) (slice_get c.sent.items (length c.sent.items - back - 1)) None ≡ Some packet) (new : Receiver D) where
   abbrev E : ℕ
   E = recv_end c.receiver
 
+  -- the receiver has answered what it took
+  answered_then : (v u : World) → Happens p.world (CarryData (place p.world.sent back)) v → Perhaps v TakeBegin (TakeEnd ∷ []) u → HasAnswered u
+  answered_then v u carries takes =
+      (twice p.world v u (event_goes p.world (CarryData (place p.world.sent back)) v carries) (perhaps_goes v TakeBegin (TakeEnd ∷ []) u takes)).answered stands.sound.answered
+
   -- the parts stand for the world that this leads to
   stands_on : (returned : Buffer ℕ) (u : World) → returned.capacity ≡ c.returned.capacity
       → HoldsWorld (record (kept_of p.returned_before c) { returned = returned.items; received = recv_count new; end = recv_end new }) u
-      → IsAtRest u → IsLawful u → u.accepted ≡ p.world.accepted → u.sent ≡ p.world.sent
+      → IsAtRest u → IsLawful u → HasAnswered u → u.accepted ≡ p.world.accepted → u.sent ≡ p.world.sent
       → IsRecvReady m new → recv_row new ≡ c.row → recv_size new ≡ receiver_size
       → DisksFit m c.row (low_disk c.low_store) (high_disk c.high_store) (recv_disk new) u
       → Stands m (record c { receiver = new; returned = returned }) (record p { world = u })
-  stands_on returned u capacity holds rest lawful accepted sent ready row size disks = record {
+  stands_on returned u capacity holds rest lawful answered accepted sent ready row size disks = record {
     row = stands.row;
     arrivals = record {
       waits = stands.arrivals.waits;
@@ -79,6 +86,7 @@ module _ {D : Type 0} (m : Meaning D) (c : Parts D) (p : Past) (back : ℕ) (pac
       lawful = lawful;
       fits = subst (All (λ (x : Payload). length x ≤ c.row.message)) (sym accepted) stands.sound.fits;
       sends = subst (λ (l : List Item). length p.sends ≤ length l) (sym sent) stands.sound.sends;
+      answered = answered;
     };
     moment = stands.moment;
     low_ready = record { history = stands.low_ready.history; store = stands.low_ready.store; up = stands.low_ready.up; between = stands.low_ready.between; row = stands.low_ready.row; last = stands.low_ready.last };
@@ -93,7 +101,7 @@ module _ {D : Type 0} (m : Meaning D) (c : Parts D) (p : Past) (back : ℕ) (pac
       → overfills p.world packet ≡ false → Happens p.world (CarryData (place p.world.sent back)) v → Perhaps v TakeBegin (TakeEnd ∷ []) u
       → printed_taken c.row.id packet.number taken ≡ printed_carry c.row.id p.world packet
       → Stands m (record c { receiver = new; returned = returned }) (record p { world = u })
-      → LeavesFit m c (record c { receiver = new; returned = returned }) p (record p { world = u })
+      → PartsLeaveFit m c (record c { receiver = new; returned = returned }) p (record p { world = u })
       → Leads m c p back out (out ++ printed_taken c.row.id packet.number taken ∷ []) (record c { receiver = new; returned = returned })
   leads returned v u taken out fits carries takes prints standing leave = (
     record p { world = u },
@@ -122,7 +130,8 @@ module _ {D : Type 0} (m : Meaning D) (c : Parts D) (p : Past) (back : ℕ) (pac
       leads returned u u answers.Repeat out (led.no_overfill_again m c p back packet stands less at a.0) (led.carries_again m c p back packet stands less at a.0)
       (led.takes_nothing m c p back packet stands less at) (prints_by true answers.Repeat test refl)
       (stands_on returned u is.1 (subst (λ (r : Receiver D). HoldsWorld (record (kept_of p.returned_before c) { returned = returned.items; received = recv_count r; end = recv_end r }) u) (sym a.1) (led.holds_again m c p back packet stands less at returned.items is.0))
-      (led.rest_again m c p back packet stands less at) (led.lawful_again m c p back packet stands less at a.0) refl refl
+      (led.rest_again m c p back packet stands less at) (led.lawful_again m c p back packet stands less at a.0)
+      (answered_then u u (led.carries_again m c p back packet stands less at a.0) (led.takes_nothing m c p back packet stands less at)) refl refl
       (subst (λ (r : Receiver D). IsRecvReady m r) (sym a.1) stands.recv_ready.ready) (ap (λ (r : Receiver D). recv_row r) a.1 ∙ stands.recv_ready.row) (ap (λ (r : Receiver D). recv_size r) a.1 ∙ stands.recv_ready.size)
       (subst (λ (r : Receiver D). DisksFit m c.row (low_disk c.low_store) (high_disk c.high_store) (recv_disk r) u) (sym a.1) disks))
       (all_alone m c p stands (record c { receiver = new; returned = returned }) (record p { world = u }) refl refl (ap (λ (r : Receiver D). recv_disk r) a.1))
@@ -136,7 +145,7 @@ module _ {D : Type 0} (m : Meaning D) (c : Parts D) (p : Past) (back : ℕ) (pac
   -- a crash at any moment of a taking leaves the messages from before, or this one too
   taking_fits : (d : Parts D) (q : Past) (result : Result Taken TakeFault) → Stores m packet.payload c.receiver new result
       → disk_at roles.Low d ≡ disk_at roles.Low c → disk_at roles.High d ≡ disk_at roles.High c → disk_at roles.Recv d ≡ recv_disk new
-      → ((x : List ℕ) → RecvStands c.row (p.world.received ++ packet.payload ∷ []) x → RecvFits c.row q.world x) → LeavesFit m c d p q
+      → ((x : List ℕ) → RecvStands c.row (p.world.received ++ packet.payload ∷ []) x → RecvFits c.row q.world x) → PartsLeaveFit m c d p q
   taking_fits d q result s low high recv more = record {
     low = low_alone m c p stands (LowFits c.row q.world) (disk_at roles.Low d) low;
     high = high_alone m c p stands (HighFits c.row q.world) (disk_at roles.High d) high;
@@ -169,7 +178,8 @@ module _ {D : Type 0} (m : Meaning D) (c : Parts D) (p : Past) (back : ℕ) (pac
       leads returned (led.waits m c p back packet stands less at) u answers.Took out (led.no_overfill_next m c p back packet stands less at a.0 fits) (led.carries_next m c p back packet stands less at a.0)
       (led.takes_next m c p back packet stands less at) (prints_by false answers.Took test refl)
       (stands_on returned u is.1 (led.holds_taken m c p back packet stands less at returned.items (recv_count new) (recv_end new) a.0 is.0 s.count s.end)
-      (led.rest_taken m c p back packet stands less at) (led.lawful_taken m c p back packet stands less at a.0) refl refl s.ready (same_row ∙ row_is) (same_size ∙ stands.recv_ready.size) disks)
+      (led.rest_taken m c p back packet stands less at) (led.lawful_taken m c p back packet stands less at a.0)
+      (answered_then (led.waits m c p back packet stands less at) u (led.carries_next m c p back packet stands less at a.0) (led.takes_next m c p back packet stands less at)) refl refl s.ready (same_row ∙ row_is) (same_size ∙ stands.recv_ready.size) disks)
       (taking_fits (record c { receiver = new; returned = returned }) (record p { world = u }) (Ok answers.Took) s refl refl refl (λ x is. inl is))
 
   pub leads_by : (taken : Taken) (returned : Buffer ℕ) (out : List Event) → Returns c.returned packet.number returned → recv_row new ≡ recv_row c.receiver → recv_size new ≡ recv_size c.receiver
@@ -184,7 +194,7 @@ module _ {D : Type 0} (m : Meaning D) (c : Parts D) (p : Past) (back : ℕ) (pac
       (λ i. stands.low_ready.up i || stands.high_ready.up i || not (closed i))
 
   pub breaks : (count : ℕ) → AnsweredWith m packet.payload packet.number (recv_count c.receiver) E (recv_size c.receiver) c.receiver new (Err (faults.Device count))
-      → (q : Past) × IsUntaken p back q × Fails m (record c { receiver = new }) q roles.Recv count × LeavesFit m c (record c { receiver = new }) p q
+      → (q : Past) × IsUntaken p back q × PartsFail m (record c { receiver = new }) q roles.Recv count × PartsLeaveFit m c (record c { receiver = new }) p q
   breaks count answered =
       let a = in_store m packet.payload packet.number (recv_count c.receiver) E (recv_size c.receiver) c.receiver new count answered in
       let s = a.2 in
@@ -193,32 +203,34 @@ module _ {D : Type 0} (m : Meaning D) (c : Parts D) (p : Past) (back : ℕ) (pac
       let fits : E + 2 + length packet.payload ≤ receiver_size = subst (λ (n : ℕ). E + 2 + length packet.payload ≤ n) stands.recv_ready.size a.1 in (
         record p { world = u },
         record { packet = packet; at = led.at_world m c p back packet stands less at; fits = led.no_overfill_next m c p back packet stands less at a.0 fits; begins = led.runs_to_taking m c p back packet stands less at a.0; rest = refl },
-        record {
-          down = fails_down s.closed;
-          counted = cc;
-          lawful = led.lawful_taking m c p back packet stands less at a.0;
-          fits = record {
-            capacity = stands.world.capacity;
-            count = (fits_row m c p stands).count;
-            end = omega (arith, fits, led.log_end_push p.world.received packet.payload, stands.world.end);
-          };
-          disks = record {
-            low_disk = stands.disks.low_disk;
-            high_disk = stands.disks.high_disk;
-            recv_disk = each_after m (RecvFits c.row p.world) (RecvFits c.row u) (MayTake (recv_row c.receiver) packet.payload) (recv_disk c.receiver) (recv_disk new) stands.disks.recv_disk
-                (λ old now fit may. ⊎_elim
-                (λ stays. inl (subst (λ (r : SessionRow). RecvStands r p.world.received now) row_is stays))
-                (λ more. inr (packet.payload, refl, refl, subst (λ (r : SessionRow). RecvStands r (p.world.received ++ packet.payload ∷ []) now) row_is more))
-                (may.either p.world.received (was old fit)))
-                s.moves;
-          };
-        },
+        (
+          fails_down s.closed,
+          record {
+            counted = cc;
+            lawful = led.lawful_taking m c p back packet stands less at a.0;
+            fits = record {
+              capacity = stands.world.capacity;
+              count = (fits_row m c p stands).count;
+              end = omega (arith, fits, led.log_end_push p.world.received packet.payload, stands.world.end);
+            };
+            disks = record {
+              low_disk = stands.disks.low_disk;
+              high_disk = stands.disks.high_disk;
+              recv_disk = each_after m (RecvFits c.row p.world) (RecvFits c.row u) (MayTake (recv_row c.receiver) packet.payload) (recv_disk c.receiver) (recv_disk new) stands.disks.recv_disk
+                  (λ old now fit may. ⊎_elim
+                  (λ stays. inl (subst (λ (r : SessionRow). RecvStands r p.world.received now) row_is stays))
+                  (λ more. inr (packet.payload, refl, refl, subst (λ (r : SessionRow). RecvStands r (p.world.received ++ packet.payload ∷ []) now) row_is more))
+                  (may.either p.world.received (was old fit)))
+                  s.moves;
+            };
+          },
+        ),
         taking_fits (record c { receiver = new }) (record p { world = u }) (Err (faults.Device count)) s refl refl refl (λ x is. inr (packet.payload, refl, refl, is)),
       )
 
   -- the message does not fit
   pub overfull : (end size_of_message size : ℕ) → AnsweredWith m packet.payload packet.number (recv_count c.receiver) E (recv_size c.receiver) c.receiver new (Err (faults.LogFull end size_of_message size))
-      → IsOverfull p.world back end size_of_message size × Stands m (record c { receiver = new }) p × LeavesFit m c (record c { receiver = new }) p p
+      → IsOverfull p.world back end size_of_message size × Stands m (record c { receiver = new }) p × PartsLeaveFit m c (record c { receiver = new }) p p
   overfull end k size answered =
       let a = full m packet.payload packet.number (recv_count c.receiver) E (recv_size c.receiver) c.receiver new end k size answered in
       let over : receiver_size < E + 2 + length packet.payload = subst (λ (n : ℕ). n < E + 2 + length packet.payload) stands.recv_ready.size a.over in (

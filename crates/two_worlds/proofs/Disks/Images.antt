@@ -25,7 +25,7 @@ use Rattle.high_process.specs.Storing.{LeavesCounted}
 use Rattle.script_reader.specs.Past.{Past}
 use Rattle.two_worlds.specs.declared.pump.parts.Parts.{Parts}
 use Rattle.two_worlds.specs.Disks.{live_messages, LowFits, HighFits, RecvFits}
-use Rattle.two_worlds.specs.Doing.{LeavesFit, Fails}
+use Rattle.two_worlds.specs.Doing.{PartsLeaveFit, PartsFail}
 use Rattle.two_worlds.specs.Standing.{Stands, disk_at, number_of}
 use Rattle.two_worlds.proofs.Low.Disks.{live_push}
 use Rattle.two_worlds.proofs.Low.Grows.{Grows}
@@ -49,7 +49,7 @@ module _ {D : Type 0} (m : Meaning D) (c : Parts D) (p : Past) (stands : Stands 
   recv_alone Q new same = left_alone m (λ x. RecvFits c.row p.world x ⊎ Q x) (disk_at roles.Recv c) new (λ told x image. inl (stands.disks.recv_disk.images told x image)) same
 
   -- no call was made
-  pub all_alone : (d : Parts D) (q : Past) → disk_at roles.Low d ≡ disk_at roles.Low c → disk_at roles.High d ≡ disk_at roles.High c → disk_at roles.Recv d ≡ disk_at roles.Recv c → LeavesFit m c d p q
+  pub all_alone : (d : Parts D) (q : Past) → disk_at roles.Low d ≡ disk_at roles.Low c → disk_at roles.High d ≡ disk_at roles.High c → disk_at roles.Recv d ≡ disk_at roles.Recv c → PartsLeaveFit m c d p q
   all_alone d q low high recv = record {
     low = low_alone (LowFits c.row q.world) (disk_at roles.Low d) low;
     high = high_alone (HighFits c.row q.world) (disk_at roles.High d) high;
@@ -124,7 +124,7 @@ module _ {D : Type 0} (m : Meaning D) (c d : Parts D) (p : Past) (moment word : 
   recv_same = ap (λ (t : Parts D). recv_disk t.receiver) did.rest
 
   -- it went well
-  pub grown_fits : (q : Past) → Grows p.world q.world (option_to_list (message_in c.low a)) → LeavesFit m c d p q
+  pub grown_fits : (q : Past) → Grows p.world q.world (option_to_list (message_in c.low a)) → PartsLeaveFit m c d p q
   unfolding Stored
   grown_fits q grows = record {
     low = leaves_by (LowFits c.row q.world) (message_in c.low a) refl did.step.keeps
@@ -134,7 +134,7 @@ module _ {D : Type 0} (m : Meaning D) (c d : Parts D) (p : Past) (moment word : 
   }
 
   -- the device failed in the store of a message
-  pub lost_fits : (q : Past) (message stored : Payload) → message_in c.low a ≡ Some message → message ≡ stored → q.world ≡ record p.world { storing = Some stored } → LeavesFit m c d p q
+  pub lost_fits : (q : Past) (message stored : Payload) → message_in c.low a ≡ Some message → message ≡ stored → q.world ≡ record p.world { storing = Some stored } → PartsLeaveFit m c d p q
   unfolding Stored
   lost_fits q message stored e same world = record {
     low = leaves_by (LowFits c.row q.world) (message_in c.low a) refl did.step.keeps
@@ -179,8 +179,8 @@ pub record Reads {D : Type 0} (m : Meaning D) (d : Parts D) (q : Past) : Type 0 
 pub stands_reads : {D : Type 0} (m : Meaning D) (d : Parts D) (q : Past) → Stands m d q → Reads m d q
 stands_reads m d q s = record { high = s.disks.high_disk.reading; recv = s.disks.recv_disk.reading }
 
-pub fails_reads : {D : Type 0} (m : Meaning D) (d : Parts D) (q : Past) (role : Role) (faults : ℕ) → Fails m d q role faults → Reads m d q
-fails_reads m d q role faults f = record { high = f.disks.high_disk.reading; recv = f.disks.recv_disk.reading }
+pub fails_reads : {D : Type 0} (m : Meaning D) (d : Parts D) (q : Past) (role : Role) (faults : ℕ) → PartsFail m d q role faults → Reads m d q
+fails_reads m d q role faults f = record { high = f.1.disks.high_disk.reading; recv = f.1.disks.recv_disk.reading }
 
 module _ {D : Type 0} (m : Meaning D) (c e d : Parts D) (p mid q : Past) (stands : Stands m c p) (stands_mid : Stands m e mid) (row : e.row ≡ c.row) where
   -- what fits in the middle, fits before where the disk was left alone until then
@@ -201,7 +201,7 @@ module _ {D : Type 0} (m : Meaning D) (c e d : Parts D) (p mid q : Past) (stands
       recv_onto c.row mid.world q.world (m.reading (disk_at roles.Recv e)) x stands_mid.sound.rest.packet (subst (λ (r : SessionRow). RecvFits r mid.world (m.reading (disk_at roles.Recv e))) row (stands_mid.disks.recv_disk.reading told)) is fits
 
   -- the first part called no disk, and the second not the low one
-  pub later_fits : disk_at roles.Low d ≡ disk_at roles.Low c → disk_at roles.High e ≡ disk_at roles.High c → disk_at roles.Recv e ≡ disk_at roles.Recv c → LeavesFit m e d mid q → LeavesFit m c d p q
+  pub later_fits : disk_at roles.Low d ≡ disk_at roles.Low c → disk_at roles.High e ≡ disk_at roles.High c → disk_at roles.Recv e ≡ disk_at roles.Recv c → PartsLeaveFit m e d mid q → PartsLeaveFit m c d p q
   later_fits low high recv fits = record {
     low = low_alone m c p stands (LowFits c.row q.world) (disk_at roles.Low d) low;
     high = λ told x since. ⊎_elim
@@ -216,7 +216,7 @@ module _ {D : Type 0} (m : Meaning D) (c e d : Parts D) (p mid q : Past) (stands
 
   -- the first part called the receiver's disk alone, and the second the high one alone
   pub both_fit : disk_at roles.Low d ≡ disk_at roles.Low c → disk_at roles.High e ≡ disk_at roles.High c → disk_at roles.Recv d ≡ disk_at roles.Recv e → d.row ≡ e.row → Reads m d q
-      → LeavesFit m c e p mid → LeavesFit m e d mid q → LeavesFit m c d p q
+      → PartsLeaveFit m c e p mid → PartsLeaveFit m e d mid q → PartsLeaveFit m c d p q
   both_fit low high recv row' reads first second = record {
     low = low_alone m c p stands (LowFits c.row q.world) (disk_at roles.Low d) low;
     high = λ told x since. ⊎_elim

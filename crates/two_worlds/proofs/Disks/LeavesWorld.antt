@@ -1,8 +1,7 @@
 -- What crashes leave of the disks of a pump stands for its world, with each unfinished call kept or lost.
-use Rattle.std.proofs.Common.{◌≡◌, ◌⊎◌, inl, inr, ℕ, ◌≤◌, ◌<◌, Bool, true, false, List, [], ◌∷◌, length, Option, Some, None, refl, ap, arith, length-append}
+use Rattle.std.proofs.Common.{◌≡◌, inl, inr, ℕ, ◌≤◌, ◌<◌, Bool, true, false, List, [], ◌∷◌, length, Option, Some, None, refl, ap, arith, length-append}
 use Rattle.std.specs.Prelude.{◌&&◌}
 use Rattle.disk_model.specs.Disk.{Meaning}
-use Rattle.disk_model.specs.declared.name.Role.{Role}
 use Rattle.disk_model.specs.declared.name.Role.TheVariants as roles
 use Rattle.pump_frame.specs.declared.row.SessionRow.{SessionRow}
 use Rattle.pump_frame.specs.declared.payload.Payload.{Payload}
@@ -15,8 +14,12 @@ use Rattle.script_reader.specs.Past.{Past}
 use Rattle.script_reader.specs.Highs.{log_end}
 use Rattle.two_worlds.specs.declared.pump.parts.Parts.{Parts}
 use Rattle.two_worlds.specs.Disks.{LowFits, HighFits, RecvFits, DisksFit, FitsRow, StandForLeft, LeaveWorld}
-use Rattle.two_worlds.specs.Doing.{Fails}
-use Rattle.two_worlds.specs.Standing.{Stands, disk_at}
+use Rattle.two_worlds.specs.declared.pump.Pump.{Pump}
+use Rattle.two_worlds.specs.declared.pump.state.PumpState.{PumpState}
+use Rattle.two_worlds.specs.declared.pump.state.PumpState.TheVariants.{Open, Shut}
+use Rattle.two_worlds.specs.Pumps.{StandsOrFails, row_of, disk_at}
+use Rattle.two_worlds.specs.Standing.{Stands}
+use Rattle.two_worlds.specs.States.{disks_in, StandsIn}
 use Rattle.two_worlds.proofs.Carry.Carried.{log_end_push}
 use Rattle.two_worlds.proofs.Disks.Crashes.{low_case, high_case, recv_case, low_from, kept_longer, prefix_length, and_right}
 
@@ -79,8 +82,13 @@ fits_row m c p s = record {
       omega (arith, e, within, s.world.end, s.recv_ready.size));
 }
 
--- the parts stand for this, or came to this when a disk failed
-pub parts_leave : {D : Type 0} (m : Meaning D) (c : Parts D) (p : Past) → Stands m c p ⊎ ((role : Role) × (faults : ℕ) × Fails m c p role faults)
-    → LeaveWorld m c.row p.world (disk_at roles.Low c) (disk_at roles.High c) (disk_at roles.Recv c)
-parts_leave m c p (inl s) = leaves_world m c.row p.world _ _ _ s.sound.lawful (fits_row m c p s) s.disks
-parts_leave m c p (inr f) = leaves_world m c.row p.world _ _ _ f.2.lawful f.2.fits f.2.disks
+standing_leaves : {D : Type 0} (m : Meaning D) (s : PumpState D) (p : Past) → StandsIn m s p
+    → LeaveWorld m (disks_in s).row p.world (disks_in s).low (disks_in s).high (disks_in s).recv
+standing_leaves m (Open c) p s = leaves_world m c.row p.world _ _ _ s.sound.lawful (fits_row m c p s) s.disks
+standing_leaves m (Shut d) p s = absurd s
+
+-- the pump stands for this, or came to this when a disk failed
+pub pump_leaves : {D : Type 0} {g : _} (m : Meaning D) (s : Pump D g) (p : Past) → StandsOrFails m s p
+    → LeaveWorld m (row_of s) p.world (disk_at roles.Low s) (disk_at roles.High s) (disk_at roles.Recv s)
+pump_leaves m s p (inl stands) = standing_leaves m s.state p stands
+pump_leaves m s p (inr f) = leaves_world m (row_of s) p.world _ _ _ f.2.1.lawful f.2.1.fits f.2.1.disks

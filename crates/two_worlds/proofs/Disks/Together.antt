@@ -66,7 +66,7 @@ received_at : (row : SessionRow) (w : World) (disk : List ℕ) → w.packet ≡ 
 received_at row w disk none fit = ap (λ (v : ℕ × ℕ). v.0) (recv_reading row w disk none fit).value
 
 module _ {D : Type 0} (m : Meaning D) (c : Parts D) (able : IsAble m c) where
-  still_behind : RemovesBehind m (disk_at roles.High c) (disk_at roles.High c) (disk_at roles.Recv c)
+  pub still_behind : RemovesBehind m (disk_at roles.High c) (disk_at roles.High c) (disk_at roles.Recv c)
   still_behind = λ told b since d image. ∥∥₁_elim (able.stands (m.images_tell told)) le_prop (λ s.
       let high = removed_at c.row s.0.world b s.1.sound.rest.removing (s.1.disks.high_disk.images told b (m.only_now told (disk_at roles.High c) b since)) in
       let recv = received_at c.row s.0.world d s.1.sound.rest.packet (s.1.disks.recv_disk.images told d image) in

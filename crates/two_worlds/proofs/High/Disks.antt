@@ -1,5 +1,5 @@
 -- What a high look leaves of the three disks.
-use Rattle.std.proofs.Common.{◌≡◌, ◌⊎◌, inl, inr, ⊎_elim, ℕ, ◌+◌, ◌≤◌, ◌<◌, List, [], ◌∷◌, length, drop, Option, Some, None, Result, Ok, Err, refl, sym, ap, ◌∙◌, subst, arith, length-drop, suc}
+use Rattle.std.proofs.Common.{◌≡◌, ◌⊎◌, inl, inr, ⊎_elim, Bool, true, false, ℕ, ◌+◌, ◌≤◌, ◌<◌, List, [], ◌∷◌, length, drop, Option, Some, None, Result, Ok, Err, refl, sym, ap, ◌∙◌, subst, arith, length-drop, suc}
 use Rattle.std.specs.Prelude.{slice_index_or}
 use Rattle.disk_model.specs.Disk.{Meaning, Each}
 use Rattle.pump_frame.specs.declared.frame.Frame.{Frame}
@@ -105,22 +105,25 @@ module _ {D : Type 0} (m : Meaning D) (c : Parts D) (p : Past) (stands : Stands 
 
   -- ---- no more is removed than taken ----
 
-  given_below : (frame : Option Frame) (back : Option ℕ) (session : ℕ) → ComesBack c.row.id w frame back → GivenBack session (high.removed_of c.high) frame → high.removed_of c.high + 1 ≤ length w.received
-  given_below None back session comes given = absurd given
-  given_below (Some f) None session comes given = absurd comes
-  given_below (Some f) (Some k) session comes given =
+  given_below : (attaches : Bool) (frame : Option Frame) (back : Option ℕ) (session : ℕ) → ComesBack c.row.id w attaches frame back → GivenBack session (high.removed_of c.high) frame → high.removed_of c.high + 1 ≤ length w.received
+  given_below attaches None back session comes given = absurd given
+  given_below true (Some f) back session comes given =
+      let count = comes.2 in
+      ⊎_elim (λ t. (let a = t.0 in let b = comes.0 in absurd (cc))) (λ t. omega (arith, count, t.1)) given.1
+  given_below false (Some f) None session comes given = absurd comes
+  given_below false (Some f) (Some k) session comes given =
       let below : f.number < length w.received = All-at (λ n. n < length w.received) w.returned k f.number stands.sound.lawful.delivered.returned comes.2 in
       ⊎_elim (λ t. omega (arith, below, t.1)) (λ t. (let a = t.0 in let b = comes.0 in absurd (cc))) given.1
 
-  high_below : (frame : Option Frame) (back : Option ℕ) (session : ℕ) (disk : List ℕ) → ComesBack c.row.id w frame back
+  high_below : (attaches : Bool) (frame : Option Frame) (back : Option ℕ) (session : ℕ) (disk : List ℕ) → ComesBack c.row.id w attaches frame back
       → StandsOrRemoved c.row session (high.removed_of c.high) frame disk → (value_of disk).0 ≤ length w.received
-  high_below frame back session disk comes (inl is) = omega (arith, ap (λ (v : ℕ × ℕ). v.0) is.value, stands.world.removed, stands.sound.lawful.delivered.removed)
-  high_below frame back session disk comes (inr (given, is)) = omega (arith, given_below frame back session comes given, ap (λ (v : ℕ × ℕ). v.0) is.value)
+  high_below attaches frame back session disk comes (inl is) = omega (arith, ap (λ (v : ℕ × ℕ). v.0) is.value, stands.world.removed, stands.sound.lawful.delivered.removed)
+  high_below attaches frame back session disk comes (inr (given, is)) = omega (arith, given_below attaches frame back session comes given, ap (λ (v : ℕ × ℕ). v.0) is.value)
 
-  pub behind : (frame : Option Frame) (back : Option ℕ) → ComesBack c.row.id w frame back → LeavesCounted m c.high c.high_store store frame
+  pub behind : (attaches : Bool) (frame : Option Frame) (back : Option ℕ) → ComesBack c.row.id w attaches frame back → LeavesCounted m c.high c.high_store store frame
       → RemovesBehind m (high_disk c.high_store) (high_disk store) (recv_disk c.receiver)
-  behind frame back comes leaves = λ told b left d image.
+  behind attaches frame back comes leaves = λ told b left d image.
       let reads : m.tells → HighStands c.row (high.removed_of c.high) (m.reading (high_disk c.high_store)) = λ t. subst (λ n. HighStands c.row n (m.reading (high_disk c.high_store))) stands.world.removed (was.reading t) in
-      let low = high_below frame back (high.row_of c.high).id b comes (leaves c.row reads told b left) in
+      let low = high_below attaches frame back (high.row_of c.high).id b comes (leaves c.row reads told b left) in
       let high = recv_value c.row w d stands.sound.rest.packet (stands.disks.recv_disk.images told d image) in
       omega (arith, low, high)

@@ -24,7 +24,7 @@ use Rattle.script_reader.specs.Past.{Past}
 use Rattle.script_reader.specs.Highs.{IsReturnBy}
 use Rattle.two_worlds.specs.Standing.{Stands}
 use Rattle.two_worlds.specs.Disks.{LowFits, HighFits, RecvFits}
-use Rattle.two_worlds.specs.Doing.{Fails, LeavesFit}
+use Rattle.two_worlds.specs.Doing.{PartsFail, PartsLeaveFit}
 use Rattle.two_worlds.specs.Private.HighLooks.{ComesBack, LeadsWith, BreaksWith}
 use Rattle.two_worlds.specs.declared.pump.parts.Parts.{Parts}
 use Rattle.two_worlds.proofs.Disks.Images.{low_alone, recv_alone, all_alone, high_leaves}
@@ -44,13 +44,13 @@ or_true true b = refl
 or_true false b = refl
 
 module _ {D : Type 0} (m : Meaning D) (c : Parts D) (p : Past) (stands : Stands m c p) (moment : ℕ) (order : c.moment ≤ moment)
-    (q : HighProcess) (store : HighStore D) (ends : PlainEnds) where
+    (q : HighProcess) (store : HighStore D) (ends : PlainEnds) (attaches : Bool) where
   -- what a look leads to in which the high disk fails
   pub record Broken (back : Option ℕ) (faults : ℕ) : Type 0 where
     pub end : Past
     pub breaks : BreaksWith moment back roles.High p end []
-    pub fails : Fails m (broken_parts c moment q store ends) end roles.High faults
-    pub fits : LeavesFit m c (broken_parts c moment q store ends) p end
+    pub fails : PartsFail m (broken_parts c moment q store ends) end roles.High faults
+    pub fits : PartsLeaveFit m c (broken_parts c moment q store ends) p end
 
   breaks_removing : (frame : Option Frame) → LeavesCounted m c.high c.high_store store frame → (k faults : ℕ) → TakesHand c p k → Fares m Remove c.high q c.high_store store (failed (Device faults)) → Broken (Some k) faults
   breaks_removing frame leaves k faults takes fares = record {
@@ -60,14 +60,16 @@ module _ {D : Type 0} (m : Meaning D) (c : Parts D) (p : Past) (stands : Stands 
       record { answered = with_due p.world; returns = takes.returns; begins = (refl, stands.sound.rest.removing, refl); rest = refl },
       refl,
     );
-    fails = record {
-      down = ap (λ (b : Bool). (low.is_down c.low || b) || not (recv_is_open c.receiver)) fares.1 ∙ or_true (low.is_down c.low) (not (recv_is_open c.receiver));
-      counted = same_count faults (m.count (high_disk store)) fares.0.fault;
-      lawful = runs_lawfully p.world (ReturnTaken k ∷ RemoveBegin ∷ []) (with_begun p.world) stands.sound.lawful
-          (with_due p.world, takes.returns, (with_begun p.world, (refl, stands.sound.rest.removing, refl), refl));
-      fits = (let f = fits_row m c p stands in record { capacity = f.capacity; count = f.count; end = f.end });
-      disks = broken_disks m c p stands store (Device faults) fares.0;
-    };
+    fails = (
+      ap (λ (b : Bool). (low.is_down c.low || b) || not (recv_is_open c.receiver)) fares.1 ∙ or_true (low.is_down c.low) (not (recv_is_open c.receiver)),
+      record {
+        counted = same_count faults (m.count (high_disk store)) fares.0.fault;
+        lawful = runs_lawfully p.world (ReturnTaken k ∷ RemoveBegin ∷ []) (with_begun p.world) stands.sound.lawful
+            (with_due p.world, takes.returns, (with_begun p.world, (refl, stands.sound.rest.removing, refl), refl));
+        fits = (let f = fits_row m c p stands in record { capacity = f.capacity; count = f.count; end = f.end });
+        disks = broken_disks m c p stands store (Device faults) fares.0;
+      },
+    );
     fits = record {
       low = low_alone m c p stands (LowFits c.row (with_begun p.world)) (low_disk c.low_store) refl;
       high = high_leaves m c p stands (HighFits c.row (with_begun p.world)) store frame leaves (λ x is. inr (refl, is));
@@ -84,18 +86,18 @@ module _ {D : Type 0} (m : Meaning D) (c : Parts D) (p : Past) (stands : Stands 
   breaks_by frame leaves (Refuse (Behind n next)) (Some k) faults asked fares = absurd asked
   breaks_by frame leaves (Refuse (Device n)) (Some k) faults asked fares = absurd asked
 
-  pub breaks : (frame : Option Frame) (back : Option ℕ) (faults : ℕ) → ComesBack c.row.id p.world frame back
+  pub breaks : (frame : Option Frame) (back : Option ℕ) (faults : ℕ) → ComesBack c.row.id p.world attaches frame back
       → Fares m (high.task_at c.high frame) c.high q c.high_store store (failed (Device faults)) → LeavesCounted m c.high c.high_store store frame → Broken back faults
-  breaks frame back faults comes fares leaves = breaks_by frame leaves (high.task_at c.high frame) back faults (asks m c p stands frame back comes) fares
+  breaks frame back faults comes fares leaves = breaks_by frame leaves (high.task_at c.high frame) back faults (asks m c p stands attaches frame back comes) fares
 
   -- ---- a TAKEN that is refused ----
 
   -- what a look leads to that does nothing
   pub record Refused (back : Option ℕ) : Type 0 where
     pub end : Past
-    pub leads : LeadsWith c.row moment back p end []
+    pub leads : LeadsWith c.row moment attaches back p end []
     pub stand : Stands m (broken_parts c moment q store ends) end
-    pub fits : LeavesFit m c (broken_parts c moment q store ends) p end
+    pub fits : PartsLeaveFit m c (broken_parts c moment q store ends) p end
 
   waits : Stands m (record c { moment = moment }) (record p { moment = moment })
   waits = record {
@@ -107,7 +109,7 @@ module _ {D : Type 0} (m : Meaning D) (c : Parts D) (p : Past) (stands : Stands 
       few = stands.arrivals.few;
     };
     world = stands.world;
-    sound = record { rest = stands.sound.rest; lawful = stands.sound.lawful; fits = stands.sound.fits; sends = stands.sound.sends };
+    sound = record { rest = stands.sound.rest; lawful = stands.sound.lawful; fits = stands.sound.fits; sends = stands.sound.sends; answered = stands.sound.answered };
     moment = refl;
     low_ready = record {
       history = stands.low_ready.history;
@@ -146,16 +148,16 @@ module _ {D : Type 0} (m : Meaning D) (c : Parts D) (p : Past) (stands : Stands 
   refused_by (Refuse e) None n next asked fares same = absurd asked
   refused_by (Refuse (Ahead k e)) (Some back) n next asked fares same = record {
     end = record p { moment = moment };
-    leads = subst (λ (b : Bool). IsReturnBy b c.row p moment back (record p { moment = moment }) []) (sym asked) (refl, refl);
+    leads = subst (λ (b : Bool). IsReturnBy b c.row attaches p moment back (record p { moment = moment }) []) (sym asked) (refl, refl);
     stand = subst (λ (d : Parts D). Stands m d (record p { moment = moment })) (λ i. record c { high = sym fares.1 i; high_store = sym fares.2 i; ends = sym same i; moment = moment }) waits;
     fits = all_alone m c p stands (broken_parts c moment q store ends) (record p { moment = moment }) refl (ap high_disk fares.2) refl;
   }
   refused_by (Refuse (Behind k e)) (Some back) n next asked fares same = absurd asked
   refused_by (Refuse (Device k)) (Some back) n next asked fares same = absurd asked
 
-  pub refused : (frame : Option Frame) (back : Option ℕ) (n next : ℕ) → ComesBack c.row.id p.world frame back
+  pub refused : (frame : Option Frame) (back : Option ℕ) (n next : ℕ) → ComesBack c.row.id p.world attaches frame back
       → Fares m (high.task_at c.high frame) c.high q c.high_store store (failed (Ahead n next)) → ends ≡ c.ends → Refused back
-  refused frame back n next comes fares same = refused_by (high.task_at c.high frame) back n next (asks m c p stands frame back comes) fares same
+  refused frame back n next comes fares same = refused_by (high.task_at c.high frame) back n next (asks m c p stands attaches frame back comes) fares same
 
   behind_by : (task : Task) (back : Option ℕ) (n removed : ℕ) → Asks c p back task → Fares m task c.high q c.high_store store (failed (Behind n removed)) → ⊥
   behind_by Keep back n removed asked fares = fares.0
@@ -165,10 +167,10 @@ module _ {D : Type 0} (m : Meaning D) (c : Parts D) (p : Past) (stands : Stands 
   behind_by (Refuse (Behind k e)) (Some back) n removed asked fares = asked
   behind_by (Refuse (Device k)) (Some back) n removed asked fares = asked
 
-  -- no TAKEN is behind
-  pub never_behind : (frame : Option Frame) (back : Option ℕ) (n removed : ℕ) → ComesBack c.row.id p.world frame back
+  -- no TAKEN is behind, nor does a receiver attach with fewer messages than were removed
+  pub never_behind : (frame : Option Frame) (back : Option ℕ) (n removed : ℕ) → ComesBack c.row.id p.world attaches frame back
       → Fares m (high.task_at c.high frame) c.high q c.high_store store (failed (Behind n removed)) → ⊥
-  never_behind frame back n removed comes fares = behind_by (high.task_at c.high frame) back n removed (asks m c p stands frame back comes) fares
+  never_behind frame back n removed comes fares = behind_by (high.task_at c.high frame) back n removed (asks m c p stands attaches frame back comes) fares
 
 -- what becomes of the store, by the fault that was answered
 pub fared : {D : Type 0} (m : Meaning D) (task : Task) (p q : HighProcess) (old new : HighStore D) (result : Result HighLook HighFault) (e : HighFault)

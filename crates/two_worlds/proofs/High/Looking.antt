@@ -18,6 +18,7 @@ use Rattle.high_process.specs.States as high
 use Rattle.high_process.specs.Past as high_past
 use Rattle.high_process.specs.Ends.{TakesUp, told_time, StandsFitting}
 use Rattle.high_process.specs.Looks.{StandsFor as HighStandsFor, Looked}
+use Rattle.high_process.specs.Tasks.{attaches_in}
 use Rattle.high_process.specs.Storing.{Removing, Fares, LeavesCounted}
 use Rattle.high_process.specs.declared.process.HighProcess.{HighProcess}
 use Rattle.high_process.specs.declared.values.HighLook.{HighLook}
@@ -26,17 +27,17 @@ use Rattle.high_process.specs.declared.values.Task.TheVariants.{Refuse, Remove, 
 use Rattle.script_reader.specs.declared.event.Event.{Event}
 use Rattle.pump_core.specs.HighLooks.{Returns}
 use Rattle.script_reader.specs.Past.{Past}
-use Rattle.script_reader.specs.Highs.{IsHighLook, IsReturnBy, is_ahead}
+use Rattle.script_reader.specs.Highs.{IsWholeLook, IsReturnBy, is_ahead}
 use Rattle.two_worlds.specs.Standing.{HoldsWorld, Stands, kept_of, high_past_of}
 use Rattle.two_worlds.specs.Working.{Works}
 use Rattle.two_worlds.specs.Timelines.{IsAtRest}
 use Rattle.stable_buffer.specs.Stands.{HighStands}
 use Rattle.two_worlds.specs.Disks.{LowFits, HighFits, RecvFits, DisksFit}
-use Rattle.two_worlds.specs.Doing.{LeavesFit}
+use Rattle.two_worlds.specs.Doing.{PartsLeaveFit}
 use Rattle.two_worlds.specs.Private.HighLooks.{ComesBack, LeadsWith, most_lines, removed_line, sent_line, printed_look}
 use Rattle.two_worlds.specs.declared.pump.parts.Parts.{Parts}
 use Rattle.two_worlds.proofs.Disks.Images.{low_alone, recv_alone, all_alone, high_leaves}
-use Rattle.two_worlds.proofs.High.Removals.{Asks, TakesHand, without_first, with_due, asks, attaches_not, keeps, removes, removal, time_in}
+use Rattle.two_worlds.proofs.High.Removals.{Asks, TakesHand, without_first, with_due, asks, attaches_is, keeps, removes, removal, time_in}
 use Rattle.two_worlds.proofs.High.Fetching.{FetchedBy, fetched_by}
 use Rattle.two_worlds.proofs.High.Disks.{went, removed_disks}
 use Rattle.two_worlds.proofs.High.Standing.{looked_parts, ended}
@@ -81,54 +82,54 @@ abbrev IsFine : World → Option ℕ → Type 0
 IsFine w None = Unit {0}
 IsFine w (Some k) = is_ahead w k ≡ false
 
-leads_fine : (row : SessionRow) (p : Past) (m : ℕ) (back : Option ℕ) (q : Past) (printed : List Event) → IsFine p.world back → IsHighLook row p m back q printed → LeadsWith row m back p q printed
-leads_fine row p m None q printed fine leads = leads
-leads_fine row p m (Some k) q printed fine leads = subst (λ (b : Bool). IsReturnBy b row p m k q printed) (sym fine) leads
+leads_fine : (row : SessionRow) (attaches : Bool) (p : Past) (m : ℕ) (back : Option ℕ) (q : Past) (printed : List Event) → IsFine p.world back → IsWholeLook row attaches p m back q printed → LeadsWith row m attaches back p q printed
+leads_fine row attaches p m None q printed fine leads = leads
+leads_fine row attaches p m (Some k) q printed fine leads = subst (λ (b : Bool). IsReturnBy b row attaches p m k q printed) (sym fine) leads
 
 module _ {D : Type 0} (m : Meaning D) (c : Parts D) (p : Past) (stands : Stands m c p) (moment : ℕ) (order : c.moment ≤ moment)
-    (q : HighProcess) (store : HighStore D) (ends : PlainEnds) where
+    (q : HighProcess) (store : HighStore D) (ends : PlainEnds) (attaches : Bool) where
   -- what a look leads to that printed this
   pub record Leads (back : Option ℕ) (look : HighLook) : Type 0 where
     pub end : Past
     pub printed : List Event
-    pub leads : LeadsWith c.row moment back p end printed
+    pub leads : LeadsWith c.row moment attaches back p end printed
     pub printed_is : printed ≡ printed_look c.row.id moment look
     pub stand : Stands m (looked_parts m c moment q store ends look.sent) end
-    pub fits : LeavesFit m c (looked_parts m c moment q store ends look.sent) p end
+    pub fits : PartsLeaveFit m c (looked_parts m c moment q store ends look.sent) p end
 
   -- .. in the words of a part of a line
   pub led : (back : Option ℕ) (look : HighLook) → Leads back look → (out now : List Event) → now ≡ out ++ printed_look c.row.id moment look
       → (d : Parts D) → d ≡ looked_parts m c moment q store ends look.sent
-      → (end : Past) × (printed : List Event) × LeadsWith c.row moment back p end printed × (now ≡ out ++ printed) × Stands m d end × LeavesFit m c d p end
+      → (end : Past) × (printed : List Event) × LeadsWith c.row moment attaches back p end printed × (now ≡ out ++ printed) × Stands m d end × PartsLeaveFit m c d p end
   led back look l out now told d is =
-      (l.end, l.printed, l.leads, told ∙ ap (λ (more : List Event). out ++ more) (sym l.printed_is), subst (λ (e : Parts D). Stands m e l.end) (sym is) l.stand, subst (λ (e : Parts D). LeavesFit m c e p l.end) (sym is) l.fits)
+      (l.end, l.printed, l.leads, told ∙ ap (λ (more : List Event). out ++ more) (sym l.printed_is), subst (λ (e : Parts D). Stands m e l.end) (sym is) l.stand, subst (λ (e : Parts D). PartsLeaveFit m c e p l.end) (sym is) l.fits)
 
   abbrev past : high_past.ProcessPast
   past = high_past_of c p
 
   -- what was seen of the process and the end, from the past after the first part on
   abbrev Seen : ℕ → Bool → Option ℕ → Option ℕ → high_past.ProcessPast → Type 0
-  Seen resend attaches time sent u =
+  Seen resend with_receiver time sent u =
       (got : _) × TakesUp (shape_of c.ends) true (StandsFitting (EndsStand ends) q) stands.ends.low (told_time time stands.ends.high) (high_past.wants u) u.removed got
-      × HighStandsFor q (high_past.finished resend attaches (high_past.taken_up u got) moment)
-      × (sent ≡ high_past.sent_in resend attaches (high_past.taken_up u got) moment)
+      × HighStandsFor q (high_past.finished resend with_receiver (high_past.taken_up u got) moment)
+      × (sent ≡ high_past.sent_in resend with_receiver (high_past.taken_up u got) moment)
 
   module _ (look : HighLook) (ready : IsHighReady m store) (count : high_count store ≡ high.removed_of q) (up : high.is_down q ≡ false) (between : high.IsBetweenLooks q)
       (row : high.row_of q ≡ high.row_of c.high) (shape : shape_of ends ≡ shape_of c.ends) where
     -- nothing is removed
     looks_keeping : (back : Option ℕ) → Returns p.world back p.world → IsFine p.world back → store ≡ c.high_store → look.removed ≡ None → look.published ≡ None
-        → Seen c.row.resend false None look.sent past → Leads back look
+        → Seen c.row.resend attaches None look.sent past → Leads back look
     looks_keeping back returns fine same removed published (got, takes, stood, sent) =
         let fetched = fetched_by (shape_of c.ends) c.ends ends q stands.ends.low stands.ends.high None (high_past.wants past) past.removed got stands.ends.stand takes in
         let times : stands.ends.high.times ++ [] ≡ p.times = append-nil stands.ends.high.times ∙ stands.ends.times in
         let disks : DisksFit m c.row (low_disk c.low_store) (high_disk store) (recv_disk c.receiver) p.world =
         subst (λ (s : HighStore D). DisksFit m c.row (low_disk c.low_store) (high_disk s) (recv_disk c.receiver) p.world) (sym same) stands.disks in
-        let e = ended m c p stands moment order q store ends look.sent ready count up between row shape past.removed past.hand p.world p.times stands.world stands.sound.rest stands.sound.lawful stands.sound.fits stands.sound.sends disks
+        let e = ended m c p stands moment order q store ends attaches look.sent ready count up between row shape past.removed past.hand p.world p.times stands.world stands.sound.rest stands.sound.lawful stands.sound.fits stands.sound.sends stands.sound.answered disks
         got (subst (λ (l : List ℕ). FetchedBy ends q stands.ends.low l (held_in c.ends) (high_past.wants past) got) times fetched) stood sent in
         record {
           end = e.end;
           printed = e.printed;
-          leads = leads_fine c.row p moment back e.end e.printed fine (p, [], e.printed, keeps m c p stands moment back returns, e.is_sending, refl);
+          leads = leads_fine c.row attaches p moment back e.end e.printed fine (p, [], e.printed, keeps m c p stands moment back returns, e.is_sending, refl);
           printed_is = e.printed_is ∙ sym (ap (λ (t : Option ℕ × Option ℕ). removed_line c.row.id moment t.0 t.1 ++ sent_line c.row.id moment look.sent) (λ i. (removed i, published i)));
           stand = e.stand;
           fits = all_alone m c p stands (looked_parts m c moment q store ends look.sent) e.end refl (ap high_disk same) refl;
@@ -169,20 +170,20 @@ module _ {D : Type 0} (m : Meaning D) (c : Parts D) (p : Past) (stands : Stands 
       next_is = refl
 
       looks_removing : (frame : Option Frame) → LeavesCounted m c.high c.high_store store frame → is_ahead p.world k ≡ false → Removing m c.high_store store (went look) → look.removed ≡ Some past.removed → look.published ≡ time
-          → Seen c.row.resend false time look.sent (high_past.begun Remove past moment) → Leads (Some k) look
+          → Seen c.row.resend attaches time look.sent (high_past.begun Remove past moment) → Leads (Some k) look
       looks_removing frame leaves fine removing removed published seen =
-          let (got, takes, stood, sent) = subst (Seen c.row.resend false time look.sent) next_is seen in
+          let (got, takes, stood, sent) = subst (Seen c.row.resend attaches time look.sent) next_is seen in
           let fetched = fetched_by (shape_of c.ends) c.ends ends q stands.ends.low stands.ends.high time (high_past.wants next) next.removed got stands.ends.stand takes in
           let times : stands.ends.high.times ++ option_to_list time ≡ p.times ++ option_to_list time = ap (λ (l : List ℕ). l ++ option_to_list time) stands.ends.times in
           let lawful = runs_lawfully p.world (ReturnTaken k ∷ RemoveBegin ∷ RemoveEnd ∷ []) u stands.sound.lawful (with_due p.world, takes_hand.returns, removal m c p stands) in
           let disks = removed_disks m c p stands store look k takes_hand ready removing in
-          let e = ended m c p stands moment order q store ends look.sent ready count up between row shape next.removed None u next.times kept at_rest lawful stands.sound.fits stands.sound.sends disks
+          let e = ended m c p stands moment order q store ends attaches look.sent ready count up between row shape next.removed None u next.times kept at_rest lawful stands.sound.fits stands.sound.sends stands.sound.answered disks
           got (subst (λ (l : List ℕ). FetchedBy ends q stands.ends.low l (held_in c.ends) (high_past.wants next) got) times fetched) stood sent in
           let first = removed_line c.row.id moment (Some past.removed) time in
           record {
             end = e.end;
             printed = first ++ e.printed;
-            leads = leads_fine c.row p moment (Some k) e.end (first ++ e.printed) fine
+            leads = leads_fine c.row attaches p moment (Some k) e.end (first ++ e.printed) fine
                 (record p { world = u; times = next.times }, first, e.printed, removes m c p stands moment k takes_hand, e.is_sending, refl);
             printed_is = ap (λ (l : List Event). first ++ l) e.printed_is ∙ sym (ap (λ (t : Option ℕ × Option ℕ). removed_line c.row.id moment t.0 t.1 ++ sent_line c.row.id moment look.sent) (λ i. (removed i, published i)));
             stand = e.stand;
@@ -194,25 +195,26 @@ module _ {D : Type 0} (m : Meaning D) (c : Parts D) (p : Past) (stands : Stands 
           }
 
     abbrev LookedBy : Task → Bool → ℕ → Type 0
-    LookedBy task attaches resend =
+    LookedBy task with_receiver resend =
         (look.removed ≡ high_past.removed_in task past) × (look.published ≡ high_past.published_in task past moment)
-        × Seen resend attaches (high_past.published_in task past moment) look.sent (high_past.begun task past moment)
+        × Seen resend with_receiver (high_past.published_in task past moment) look.sent (high_past.begun task past moment)
 
-    by_task : (frame : Option Frame) → LeavesCounted m c.high c.high_store store frame → (task : Task) (back : Option ℕ) → Asks c p back task → Fares m task c.high q c.high_store store (went look) → LookedBy task false c.row.resend → Leads back look
+    by_task : (frame : Option Frame) → LeavesCounted m c.high c.high_store store frame → (task : Task) (back : Option ℕ) → Asks c p back task → Fares m task c.high q c.high_store store (went look) → LookedBy task attaches c.row.resend → Leads back look
     by_task frame leaves Keep None asked fares (a, b, seen) = looks_keeping None refl tt fares.1 a b seen
     by_task frame leaves Keep (Some k) asked fares (a, b, seen) = looks_keeping (Some k) asked.0 asked.1 fares.1 a b seen
     by_task frame leaves Remove None asked fares seen = absurd asked
     by_task frame leaves Remove (Some k) asked fares (a, b, seen) = looks_removing k asked.0 frame leaves asked.1 fares.0 a b seen
     by_task frame leaves (Refuse e) back asked fares seen = let no = fares.0 in absurd (cc)
 
-    pub looks : (frame : Option Frame) (back : Option ℕ) → ComesBack c.row.id p.world frame back
+    pub looks : (frame : Option Frame) (back : Option ℕ) → ComesBack c.row.id p.world attaches frame back
         → Fares m (high.task_at c.high frame) c.high q c.high_store store (went look)
         → Looked (shape_of c.ends) true (StandsFitting (EndsStand ends) q) stands.ends.low stands.ends.high c.high q past moment (high.task_at c.high frame) (high.attaches_at c.high frame) look
         → LeavesCounted m c.high c.high_store store frame → Leads back look
     looks frame back comes fares looked leaves =
-        let attaches : high.attaches_at c.high frame ≡ false = attaches_not (high.row_of c.high).id c.row.id p.world frame back comes in
+        let same : high.attaches_at c.high frame ≡ attaches =
+        ap (λ (r : SessionRow). attaches_in r.id frame) stands.high_ready.row ∙ attaches_is c.row.id p.world attaches frame back comes in
         let resend : (high.row_of c.high).resend ≡ c.row.resend = ap (λ (r : SessionRow). r.resend) stands.high_ready.row in
         let task = high.task_at c.high frame in
         let seen : LookedBy task (high.attaches_at c.high frame) (high.row_of c.high).resend =
         (ap (λ (l : HighLook). l.removed) looked.is, ap (λ (l : HighLook). l.published) looked.is, (looked.got, looked.ends, looked.stands, ap (λ (l : HighLook). l.sent) looked.is)) in
-        by_task frame leaves task back (asks m c p stands frame back comes) fares (subst (λ (t : Bool × ℕ). LookedBy task t.0 t.1) (λ i. (attaches i, resend i)) seen)
+        by_task frame leaves task back (asks m c p stands attaches frame back comes) fares (subst (λ (t : Bool × ℕ). LookedBy task t.0 t.1) (λ i. (same i, resend i)) seen)

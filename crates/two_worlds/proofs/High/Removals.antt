@@ -1,12 +1,12 @@
 -- The first part of a high look: what comes back, and a removal.
-use Rattle.std.proofs.Common.{◌≡◌, inl, inr, ℕ, ◌+◌, ◌<◌, Bool, true, false, cond, [], ◌∷◌, ◌++◌, Option, Some, None, refl, sym, ap, ◌∙◌, subst, arith, nat_lt, append-nil, eq-eqb, ne_eqb, lt-ltb}
+use Rattle.std.proofs.Common.{◌≡◌, inl, inr, ℕ, zero, suc, ◌+◌, ◌-◌, ◌<◌, ◌≤◌, Bool, true, false, cond, [], ◌∷◌, ◌++◌, Option, Some, None, refl, sym, ap, ◌∙◌, subst, arith, nat_lt, append-nil, eq-eqb, ne_eqb, lt-ltb}
 use Rattle.std.specs.Prelude.{slice_get, option_to_list, nat_le, ◌==◌, ◌&&◌, is_some}
 use Rattle.std.proofs.lemmas.Bool.Decides.{nat_tests}
 use Rattle.disk_model.specs.Disk.{Meaning}
 use Rattle.pump_frame.specs.declared.frame.Frame.{Frame}
 use Rattle.pump_frame.specs.declared.frame.Item.{Item}
 use Rattle.pump_frame.specs.declared.frame.Kind.{Kind}
-use Rattle.pump_frame.specs.declared.frame.Kind.TheVariants.{Taken}
+use Rattle.pump_frame.specs.declared.frame.Kind.TheVariants.{Attach, Taken}
 use Rattle.pump_core.specs.declared.event.Event.TheVariants.{ReturnTaken, RemoveBegin, RemoveEnd}
 use Rattle.pump_core.specs.World.{World}
 use Rattle.pump_core.specs.Events.{Happens, Run, holds, answered}
@@ -23,7 +23,7 @@ use Rattle.script_reader.specs.declared.event.Event.TheVariants.{Removed}
 use Rattle.script_reader.specs.Past.{Past}
 use Rattle.script_reader.specs.Highs.{IsRemoval, is_not_below, is_ahead}
 use Rattle.two_worlds.specs.Standing.{Stands, number_of, high_past_of}
-use Rattle.two_worlds.specs.Private.HighLooks.{ComesBack, removed_line}
+use Rattle.two_worlds.specs.Private.HighLooks.{IsOfLast, ComesBack, removed_line}
 use Rattle.two_worlds.specs.declared.pump.parts.Parts.{Parts}
 
 -- ---- what a number asks ----
@@ -89,15 +89,17 @@ Asks c p (Some k) (Refuse (Behind n next)) = ⊥
 Asks c p (Some k) (Refuse (Device faults)) = ⊥
 Asks c p (Some k) Remove = TakesHand c p k × (is_ahead p.world k ≡ false)
 
--- it comes from no receiver that attaches
-pub attaches_not : (session other : ℕ) (w : World) (frame : Option Frame) (back : Option ℕ) → ComesBack other w frame back → attaches_in session frame ≡ false
-attaches_not session other w None back comes = refl
-attaches_not session other w (Some f) None comes = absurd comes
-attaches_not session other w (Some f) (Some k) comes = (let e = ap is_attach comes.0 in by_and (f.session == session) (is_attach f.kind) e)
-  where
-    by_and : (b c : Bool) → c ≡ false → (b && c) ≡ false
-    by_and true c e = e
-    by_and false c e = refl
+by_and : (b c : Bool) → c ≡ false → (b && c) ≡ false
+by_and true c e = e
+by_and false c e = refl
+
+-- whether it comes from a receiver that attaches
+pub attaches_is : (session : ℕ) (w : World) (attaches : Bool) (frame : Option Frame) (back : Option ℕ) → ComesBack session w attaches frame back → attaches_in session frame ≡ attaches
+attaches_is session w false None back comes = refl
+attaches_is session w false (Some f) None comes = absurd comes
+attaches_is session w false (Some f) (Some k) comes = by_and (f.session == session) (is_attach f.kind) (ap is_attach comes.0)
+attaches_is session w true None back comes = absurd comes
+attaches_is session w true (Some f) back comes = ap (λ (t : Bool × Bool). t.0 && t.1) (λ i. (eq-eqb f.session session comes.1 i, ap is_attach comes.0 i))
 
 module _ {D : Type 0} (m : Meaning D) (c : Parts D) (p : Past) (stands : Stands m c p) where
   abbrev w : World
@@ -143,16 +145,45 @@ module _ {D : Type 0} (m : Meaning D) (c : Parts D) (p : Past) (stands : Stands 
         (λ e. ahead_is ∙ e)
         (λ x hand same e. (takes_hand x hand same, ahead_is ∙ e))
 
-  task_same : (f : Frame) → f.kind ≡ Taken → f.session ≡ c.row.id → high.task_at c.high (Some f) ≡ task_taken f.number removed (expected removed (high.hand_of c.high))
-  task_same f kind session =
-      let e : (f.session == (high.row_of c.high).id) ≡ true = eq-eqb f.session (high.row_of c.high).id (session ∙ sym (ap (λ r. r.id) stands.high_ready.row)) in
-      ap (λ (t : Bool × Kind). cond t.0 (task_in t.1 f.number removed (expected removed (high.hand_of c.high))) Keep) (λ i. (e i, kind i))
+  -- the first number that was not sent
+  abbrev next : ℕ
+  next = expected removed (high.hand_of c.high)
 
-  pub asks : (frame : Option Frame) (back : Option ℕ) → ComesBack c.row.id w frame back → Asks c p back (high.task_at c.high frame)
-  asks None None comes = tt
-  asks None (Some k) comes = absurd comes
-  asks (Some f) None comes = absurd comes
-  asks (Some f) (Some k) comes = subst (Asks c p (Some k)) (sym (task_same f comes.0 comes.1)) (asks_number k f.number comes.2)
+  task_same : (f : Frame) (kind : Kind) → f.kind ≡ kind → f.session ≡ c.row.id → high.task_at c.high (Some f) ≡ task_in kind f.number removed next
+  task_same f kind is session =
+      let e : (f.session == (high.row_of c.high).id) ≡ true = eq-eqb f.session (high.row_of c.high).id (session ∙ sym (ap (λ r. r.id) stands.high_ready.row)) in
+      ap (λ (t : Bool × Kind). cond t.0 (task_in t.1 f.number removed next) Keep) (λ i. (e i, is i))
+
+  -- ---- a receiver that attaches ----
+
+  not_behind : (n : ℕ) → removed ≤ n → nat_lt n removed ≡ false
+  not_behind n le = grind (arith, nat_tests)
+
+  attach_none : removed ≤ 0 → task_in Attach 0 removed next ≡ Keep
+  attach_none le = ap (λ (b : Bool). cond b (Refuse (Behind 0 removed)) Keep) (not_behind 0 le)
+
+  attach_some : (n : ℕ) → removed ≤ suc n → task_in Attach (suc n) removed next ≡ task_taken n removed next
+  attach_some n le =
+      let some : (suc n == 0) ≡ false = ne_eqb (suc n) 0 (λ e. omega (arith, e)) in
+      let last : suc n - 1 ≡ n = omega arith in
+      ap (λ (t : Bool × Bool × ℕ). cond t.0 (Refuse (Behind (suc n) removed)) (cond t.1 Keep (task_taken t.2 removed next))) (λ i. (not_behind (suc n) le i, some i, last i))
+
+  asks_attach : (n : ℕ) (back : Option ℕ) → removed ≤ n → IsOfLast w n back → Asks c p back (task_in Attach n removed next)
+  asks_attach zero None le is = subst (Asks c p None) (sym (attach_none le)) tt
+  asks_attach zero (Some k) le is = absurd is
+  asks_attach (suc n) None le is = absurd is
+  asks_attach (suc n) (Some k) le is = subst (Asks c p (Some k)) (sym (attach_some n le)) (asks_number k n is)
+
+  pub asks : (attaches : Bool) (frame : Option Frame) (back : Option ℕ) → ComesBack c.row.id w attaches frame back → Asks c p back (high.task_at c.high frame)
+  asks false None None comes = tt
+  asks false None (Some k) comes = absurd comes
+  asks false (Some f) None comes = absurd comes
+  asks false (Some f) (Some k) comes = subst (Asks c p (Some k)) (sym (task_same f Taken comes.0 comes.1)) (asks_number k f.number comes.2)
+  asks true None back comes = absurd comes
+  asks true (Some f) back comes =
+      let count = comes.2 in
+      let le : removed ≤ f.number = omega (arith, count, stands.world.removed, stands.sound.lawful.delivered.removed) in
+      subst (Asks c p back) (sym (task_same f Attach comes.0 comes.1)) (asks_attach f.number back le comes.3)
 
   -- nothing is removed
   pub keeps : (moment : ℕ) (back : Option ℕ) → Returns w back w → IsRemoval c.row p moment back p []

@@ -1,9 +1,11 @@
 -- The TAKEN that comes back: it is among those that were sent, and is put into the frame at hand.
-use Rattle.std.proofs.Common.{◌≡◌, ℕ, ◌+◌, ◌-◌, ◌<◌, List, Some, length, drop, sym, ap, ◌∙◌, subst, arith, length-drop}
+use Rattle.std.proofs.Common.{◌≡◌, ℕ, ◌+◌, ◌-◌, ◌<◌, false, List, Some, length, drop, refl, sym, ap, ◌∙◌, subst, arith, length-drop}
 use Rattle.std.specs.Prelude.{slice_get}
 use Rattle.std.proofs.Math.Logic.{∥∥₁_map}
 use Rattle.circular_buffer.specs.Buffer.{keep_last}
 use Rattle.disk_model.specs.Disk.{Meaning}
+use Rattle.pump_frame.specs.declared.frame.Kind.{Kind}
+use Rattle.pump_frame.specs.declared.frame.Kind.TheVariants.{Taken}
 use Rattle.script_reader.specs.Past.{Past}
 use Rattle.script_reader.specs.Highs.{place}
 use Rattle.two_worlds.specs.Private.HighLooks.{ComesBack}
@@ -26,16 +28,16 @@ number_comes m c p s back n less at =
 
 -- ---- the frame at hand ----
 
--- the parts with this number in the frame at hand
-abbrev pub numbered : {D : Type 0} → Parts D → ℕ → Parts D
-numbered c n = record c { taken = record c.taken { number = n } }
+-- the parts with this kind and this number in the frame at hand
+abbrev pub numbered : {D : Type 0} → Parts D → Kind → ℕ → Parts D
+numbered c kind n = record c { taken = record c.taken { kind = kind; number = n } }
 
-pub stands_numbered : {D : Type 0} (m : Meaning D) (c : Parts D) (n : ℕ) (p : Past) → Stands m c p → Stands m (numbered c n) p
-stands_numbered m c n p s = record {
+pub stands_numbered : {D : Type 0} (m : Meaning D) (c : Parts D) (kind : Kind) (n : ℕ) (p : Past) → Stands m c p → Stands m (numbered c kind n) p
+stands_numbered m c kind n p s = record {
   row = s.row;
   arrivals = record { waits = s.arrivals.waits; broken = s.arrivals.broken; reading = s.arrivals.reading; few = s.arrivals.few };
   world = s.world;
-  sound = record { rest = s.sound.rest; lawful = s.sound.lawful; fits = s.sound.fits; sends = s.sound.sends };
+  sound = record { rest = s.sound.rest; lawful = s.sound.lawful; fits = s.sound.fits; sends = s.sound.sends; answered = s.sound.answered };
   moment = s.moment;
   low_ready = record { history = s.low_ready.history; store = s.low_ready.store; up = s.low_ready.up; between = s.low_ready.between; row = s.low_ready.row; last = s.low_ready.last };
   high_ready = record {
@@ -61,8 +63,8 @@ stands_numbered m c n p s = record {
   disks = s.disks;
 }
 
-works_numbered : {D : Type 0} (m : Meaning D) (c : Parts D) (n : ℕ) → Works m c → Works m (numbered c n)
-works_numbered m c n w = record {
+works_numbered : {D : Type 0} (m : Meaning D) (c : Parts D) (kind : Kind) (n : ℕ) → Works m c → Works m (numbered c kind n)
+works_numbered m c kind n w = record {
   row = w.row;
   history = w.history;
   past = w.past;
@@ -75,13 +77,13 @@ works_numbered m c n w = record {
   short = record { low_hand = w.short.low_hand; held = w.short.held; high_hand = w.short.high_hand; sent = w.short.sent };
 }
 
-pub able_numbered : {D : Type 0} (m : Meaning D) (c : Parts D) (n : ℕ) → IsAble m c → IsAble m (numbered c n)
-able_numbered m c n able = record {
-  works = ∥∥₁_map able.works (works_numbered m c n);
-  stands = λ told. ∥∥₁_map (able.stands told) (λ s. (s.0, stands_numbered m c n s.0 s.1));
+pub able_numbered : {D : Type 0} (m : Meaning D) (c : Parts D) (kind : Kind) (n : ℕ) → IsAble m c → IsAble m (numbered c kind n)
+able_numbered m c kind n able = record {
+  works = ∥∥₁_map able.works (works_numbered m c kind n);
+  stands = λ told. ∥∥₁_map (able.stands told) (λ s. (s.0, stands_numbered m c kind n s.0 s.1));
 }
 
 -- so it is the session's TAKEN that comes back
 pub comes_numbered : {D : Type 0} (m : Meaning D) (c : Parts D) (p : Past) → Stands m c p → (back n : ℕ) → back < length c.returned.items
-    → slice_get c.returned.items (place c.returned.items back) ≡ Some n → ComesBack c.row.id p.world (Some (numbered c n).taken) (Some (place p.world.returned back))
-comes_numbered m c p s back n less at = (s.packets.taken.0, s.packets.taken.1, number_comes m c p s back n less at)
+    → slice_get c.returned.items (place c.returned.items back) ≡ Some n → ComesBack c.row.id p.world false (Some (numbered c Taken n).taken) (Some (place p.world.returned back))
+comes_numbered m c p s back n less at = (refl, s.packets.taken, number_comes m c p s back n less at)

@@ -1,6 +1,6 @@
 -- The second part of a high look: a message is taken up, and the hand is sent.
 use Rattle.std.proofs.Common.{◌≡◌, inl, inr, ℕ, ◌-◌, ◌^◌, ◌≤◌, ◌<◌, Bool, true, false, List, [], ◌∷◌, ◌++◌, length, map, Option, Some, None, refl, sym, ap, ◌∙◌, subst, arith, nat_lt, length-append}
-use Rattle.std.specs.Prelude.{if◌then◌else◌, slice_get, option_to_list}
+use Rattle.std.specs.Prelude.{◌||◌, if◌then◌else◌, slice_get, option_to_list}
 use Rattle.std.specs.List.{AllByRecursion}
 use Rattle.std.proofs.lemmas.Bool.Decides.{nat_tests}
 use Rattle.circular_buffer.specs.Buffer.{Buffer, keep_last}
@@ -45,12 +45,12 @@ numbers_of held = map (λ (x : Item). x.number) held
 abbrev with_hand : World → Option Item → List Item → World
 with_hand w hand held = record w { high_hand = number_of hand; held = numbers_of held }
 
-module _ (row : SessionRow) (p : Past) (m : ℕ) (k : Kept) (packets : Buffer Item) where
+module _ (row : SessionRow) (attaches : Bool) (p : Past) (m : ℕ) (k : Kept) (packets : Buffer Item) where
   -- what the second part leads to, where this is in the hand then, that is held, and it is sent or not
   pub record Second (hand : Option Item) (held : List Item) (b : Bool) : Type 0 where
     pub end : Past
     pub printed : List Event
-    pub is_sending : IsSending row p m end printed
+    pub is_sending : IsSending row attaches p m end printed
     pub printed_is : printed ≡ sent_line row.id m (if b then Some k.removed else None)
     pub same : end ≡ record p { world = record p.world { high_hand = number_of hand; held = numbers_of held; sent = end.world.sent }; sends = end.sends; moment = m }
     pub holds : HoldsWorld (record k { high_hand = hand; held = held; sent = (packets_after (if b then Some k.removed else None) hand packets).items }) end.world
@@ -59,10 +59,10 @@ module _ (row : SessionRow) (p : Past) (m : ℕ) (k : Kept) (packets : Buffer It
     pub sends : end.sends ≡ (if b then record { number = k.removed; moment = m } ∷ p.sends else p.sends)
     pub few : length p.sends ≤ length p.world.sent → length end.sends ≤ length end.world.sent
 
-module _ (row : SessionRow) (p : Past) (m : ℕ) (k : Kept) (packets : Buffer Item) (times : List ℕ) (old : ℕ)
+module _ (row : SessionRow) (attaches : Bool) (p : Past) (m : ℕ) (k : Kept) (packets : Buffer Item) (times : List ℕ) (old : ℕ)
     (holds : HoldsWorld (record k { sent = packets.items }) p.world) (rest : IsAtRest p.world) (lawful : IsLawful p.world) (capacity : packets.capacity ≡ 64) where
   abbrev is_sent : Option Item → Bool
-  is_sent hand = high.is_sent row.resend false (record (past_of k p times old) { hand = hand }) m
+  is_sent hand = high.is_sent row.resend attaches (record (past_of k p times old) { hand = hand }) m
 
   holds_with : (hand : Option Item) (held : List Item) → IsAcceptedHand p.world.accepted hand → AllByRecursion (IsAccepted p.world.accepted) held
       → HoldsWorld (record k { high_hand = hand; held = held; sent = packets.items }) (with_hand p.world hand held)
@@ -88,7 +88,7 @@ module _ (row : SessionRow) (p : Past) (m : ℕ) (k : Kept) (packets : Buffer It
     w = with_hand p.world hand held
 
     -- nothing is sent
-    quiet : false ≡ sends_hand row.resend false p.sends m w.high_hand → Second row p m k packets hand held false
+    quiet : false ≡ sends_hand row.resend attaches p.sends m w.high_hand → Second row attaches p m k packets hand held false
     quiet cause = record {
       end = record p { world = w; moment = m };
       printed = [];
@@ -111,10 +111,10 @@ module _ (row : SessionRow) (p : Past) (m : ℕ) (k : Kept) (packets : Buffer It
     number : x.number ≡ k.removed
     number = (in_hand taken x.number lawful_then.bounded refl).0 ∙ holds.removed
 
-    cause_is : is_sent (Some x) ≡ sends_hand row.resend false p.sends m (Some x.number)
-    cause_is = ap (λ (n : ℕ). is_due row.resend (last_sending n p.sends) m) (sym number)
+    cause_is : is_sent (Some x) ≡ sends_hand row.resend attaches p.sends m (Some x.number)
+    cause_is = ap (λ (n : ℕ). attaches || is_due row.resend (last_sending n p.sends) m) (sym number)
 
-    sends : true ≡ sends_hand row.resend false p.sends m (Some x.number) → Second row p m k packets (Some x) held true
+    sends : true ≡ sends_hand row.resend attaches p.sends m (Some x.number) → Second row attaches p m k packets (Some x) held true
     sends cause =
         let v : World = record taken { sent = p.world.sent ++ x ∷ [] } in
         let happens : Happens taken Send v = (x.number, x.payload, refl, rest.removing, kept.high_payload, refl) in
@@ -148,7 +148,7 @@ module _ (row : SessionRow) (p : Past) (m : ℕ) (k : Kept) (packets : Buffer It
 
   -- by what is in the hand
   finish : (hand : Option Item) (held : List Item) (b : Bool) → is_sent hand ≡ b → Perhaps p.world TakeUp [] (with_hand p.world hand held)
-      → HoldsWorld (record k { high_hand = hand; held = held; sent = packets.items }) (with_hand p.world hand held) → IsLawful (with_hand p.world hand held) → Second row p m k packets hand held b
+      → HoldsWorld (record k { high_hand = hand; held = held; sent = packets.items }) (with_hand p.world hand held) → IsLawful (with_hand p.world hand held) → Second row attaches p m k packets hand held b
   finish None held true e takes kept l = absurd (cc)
   finish None held false e takes kept l = quiet None held takes kept l refl
   finish (Some x) held false e takes kept l = quiet (Some x) held takes kept l (sym e ∙ cause_is x held takes kept l)
@@ -159,7 +159,7 @@ module _ (row : SessionRow) (p : Past) (m : ℕ) (k : Kept) (packets : Buffer It
     unmoved : with_hand p.world k.high_hand k.held ≡ p.world
     unmoved = λ i. record p.world { high_hand = sym holds.high_hand i; held = sym holds.held i }
 
-    stays : Second row p m k packets k.high_hand k.held (is_sent k.high_hand)
+    stays : Second row attaches p m k packets k.high_hand k.held (is_sent k.high_hand)
     stays = finish k.high_hand k.held (is_sent k.high_hand) refl (inr (none, unmoved))
         (holds_with k.high_hand k.held holds.high_payload holds.held_payloads) (subst IsLawful (sym unmoved) lawful)
 
@@ -186,7 +186,7 @@ module _ (row : SessionRow) (p : Past) (m : ℕ) (k : Kept) (packets : Buffer It
     payloads : AllByRecursion (IsAccepted p.world.accepted) (x ∷ after)
     payloads = subst (AllByRecursion (IsAccepted p.world.accepted)) is holds.held_payloads
 
-    took : Second row p m k packets (Some y) after (is_sent (Some y))
+    took : Second row attaches p m k packets (Some y) after (is_sent (Some y))
     took = finish (Some y) after (is_sent (Some y)) refl (inl (with_hand p.world (Some y) after, takes_it, refl))
         (holds_with (Some y) after (subst (λ (n : ℕ). slice_get p.world.accepted n ≡ Some x.payload) first_number payloads.0) payloads.1)
         (stays_lawful p.world TakeUp (with_hand p.world (Some y) after) lawful takes_it)
@@ -213,24 +213,24 @@ module _ (row : SessionRow) (p : Past) (m : ℕ) (k : Kept) (packets : Buffer It
   hand_after hand (Some x) = Some (record { number = k.removed; payload = x.payload })
 
   by_wants : k.accepted ≤ 2 ^ 48 → k.high_hand ≡ None → (b : Bool) → nat_lt k.removed (2 ^ 48) ≡ b → (got : Option Item) (after : List Item) → Fetched b k.held got after
-      → Second row p m k packets (hand_after k.high_hand got) after (is_sent (hand_after k.high_hand got))
+      → Second row attaches p m k packets (hand_after k.high_hand got) after (is_sent (hand_after k.high_hand got))
   by_wants few empty true e (Some x) after is = took x after empty is
   by_wants few empty true e None after is =
-      subst (λ (l : List Item). Second row p m k packets k.high_hand l (is_sent k.high_hand)) (is.0 ∙ sym is.1) (stays (nothing_held is.0))
+      subst (λ (l : List Item). Second row attaches p m k packets k.high_hand l (is_sent k.high_hand)) (is.0 ∙ sym is.1) (stays (nothing_held is.0))
   by_wants few empty false e None after is =
-      subst (λ (l : List Item). Second row p m k packets k.high_hand l (is_sent k.high_hand)) (sym is.1) (stays (nothing_held (all_removed few e empty k.held refl)))
+      subst (λ (l : List Item). Second row attaches p m k packets k.high_hand l (is_sent k.high_hand)) (sym is.1) (stays (nothing_held (all_removed few e empty k.held refl)))
   by_wants few empty false e (Some x) after is = let no = is.0 in absurd (cc)
 
   by_hand : k.accepted ≤ 2 ^ 48 → (hand : Option Item) → k.high_hand ≡ hand → (got : Option Item) (after : List Item)
       → Fetched (high.wants (record (past_of k p times old) { hand = hand })) k.held got after
-      → Second row p m k packets (hand_after k.high_hand got) after (is_sent (hand_after k.high_hand got))
+      → Second row attaches p m k packets (hand_after k.high_hand got) after (is_sent (hand_after k.high_hand got))
   by_hand few None empty got after is = by_wants few empty (nat_lt k.removed (2 ^ 48)) refl got after is
   by_hand few (Some x) full None after is =
-      subst (λ (l : List Item). Second row p m k packets k.high_hand l (is_sent k.high_hand)) (sym is.1) (stays (full_takes_none x full))
+      subst (λ (l : List Item). Second row attaches p m k packets k.high_hand l (is_sent k.high_hand)) (sym is.1) (stays (full_takes_none x full))
   by_hand few (Some x) full (Some y) after is = let no = is.0 in absurd (cc)
 
   -- the second part, with what the passage gave
   pub second : k.accepted ≤ 2 ^ 48 → (got : Option Item) (after : List Item) → Fetched (high.wants (past_of k p times old)) k.held got after
-      → Second row p m k packets (hand_after k.high_hand got) after (high.is_sent row.resend false (high.taken_up (past_of k p times old) got) m)
+      → Second row attaches p m k packets (hand_after k.high_hand got) after (high.is_sent row.resend attaches (high.taken_up (past_of k p times old) got) m)
   second few None after is = by_hand few k.high_hand refl None after is
   second few (Some x) after is = by_hand few k.high_hand refl (Some x) after is

@@ -13,7 +13,7 @@ use Rattle.pump_frame.specs.declared.frame.Frame.{Frame}
 use Rattle.script_reader.specs.Past.{Past}
 use Rattle.stable_buffer.specs.High.{high_disk, removal_end}
 use Rattle.stable_buffer.specs.declared.high.HighStore.{HighStore}
-use Rattle.std.proofs.Common.{Ok, Option, ap, arith, false, inl, inr, le_trans, refl, subst, sym, true, ℕ, ◌≡◌, ◌≤◌}
+use Rattle.std.proofs.Common.{Bool, Ok, Option, ap, arith, false, inl, inr, le_trans, refl, subst, sym, true, ℕ, ◌≡◌, ◌≤◌}
 use Rattle.std.proofs.Math.Logic.{∥∥₁_elim}
 use Rattle.std.specs.Coded.{le_prop}
 use Rattle.two_worlds.proofs.High.Disks.{behind, failed, went}
@@ -71,11 +71,11 @@ module _ {D : Type 0} (m : Meaning D) (c : Parts D) (q : HighProcess) (store : H
   refused_serves Remove e fine fares = let no = ap is_device fares.0.fault in absurd (cc)
   refused_serves (Refuse f) e fine fares = inl (ap high_disk fares.2, refl)
 
-  module _ (able : IsAble m c) (comes : (p : Past) → Stands m c p → (back : Option ℕ) × ComesBack c.row.id p.world frame back) where
+  module _ (able : IsAble m c) (comes : (p : Past) → Stands m c p → (attaches : Bool) × (back : Option ℕ) × ComesBack c.row.id p.world attaches frame back) where
     -- whatever comes back, no crash leaves more removed than taken
     pub removes_behind : LeavesCounted m c.high c.high_store store frame → RemovesBehind m (high_disk c.high_store) (high_disk store) (recv_disk c.receiver)
     removes_behind leaves = λ told b left d image.
-        ∥∥₁_elim (able.stands (m.images_tell told)) le_prop (λ s. (let back = comes s.0 s.1 in behind m c s.0 s.1 store frame back.0 back.1 leaves told b left d image))
+        ∥∥₁_elim (able.stands (m.images_tell told)) le_prop (λ s. (let back = comes s.0 s.1 in behind m c s.0 s.1 store back.0 frame back.1 back.2 leaves told b left d image))
 
 -- after a look that went well
 pub looked_serves : {D : Type 0} (m : Meaning D) (c : Parts D) (moment : ℕ) (q : HighProcess) (store : HighStore D) (ends : PlainEnds) (look : HighLook) (task : Task)

@@ -21,6 +21,7 @@ use Rattle.high_process.specs.declared.process.HighProcess.{HighProcess}
 use Rattle.script_reader.specs.declared.event.Event.{Event}
 use Rattle.script_reader.specs.Past.{Past}
 use Rattle.script_reader.specs.Highs.{IsSending}
+use Rattle.two_worlds.specs.Answered.{HasAnswered}
 use Rattle.two_worlds.specs.Standing.{Kept, HoldsWorld, Stands, kept_of, number_of}
 use Rattle.two_worlds.specs.Timelines.{IsAtRest}
 use Rattle.two_worlds.specs.Disks.{DisksFit}
@@ -40,12 +41,12 @@ module _ {D : Type 0} (m : Meaning D) (c : Parts D) (moment : ℕ) (q : HighProc
   looked_parts = record c { high = q; high_store = store; ends = ends; sent = packets_after sent (high.hand_of q) c.sent; moment = moment }
 
 module _ {D : Type 0} (m : Meaning D) (c : Parts D) (p : Past) (stands : Stands m c p) (moment : ℕ) (order : c.moment ≤ moment)
-    (q : HighProcess) (store : HighStore D) (ends : PlainEnds) (sent : Option ℕ)
+    (q : HighProcess) (store : HighStore D) (ends : PlainEnds) (attaches : Bool) (sent : Option ℕ)
     (ready : IsHighReady m store) (count : high_count store ≡ high.removed_of q) (up : high.is_down q ≡ false) (between : high.IsBetweenLooks q)
     (row : high.row_of q ≡ high.row_of c.high) (shape : shape_of ends ≡ shape_of c.ends)
     (removed : ℕ) (hand : Option Item) (w : World) (times : List ℕ)
     (kept : HoldsWorld (record (kept_of p.returned_before c) { removed = removed; high_hand = hand }) w) (rest : IsAtRest w) (lawful : IsLawful w)
-    (fits : All (λ (x : Payload). length x ≤ c.row.message) w.accepted) (few_sends : length p.sends ≤ length w.sent)
+    (fits : All (λ (x : Payload). length x ≤ c.row.message) w.accepted) (few_sends : length p.sends ≤ length w.sent) (answered : HasAnswered w)
     (disks : DisksFit m c.row (low_disk c.low_store) (high_disk store) (recv_disk c.receiver) w) where
   -- what the first part left
   abbrev mid : Past
@@ -64,14 +65,14 @@ module _ {D : Type 0} (m : Meaning D) (c : Parts D) (p : Past) (stands : Stands 
   pub record Ended : Type 0 where
     pub end : Past
     pub printed : List Event
-    pub is_sending : IsSending c.row mid moment end printed
+    pub is_sending : IsSending c.row attaches mid moment end printed
     pub printed_is : printed ≡ sent_line c.row.id moment sent
     pub removed_is : end.world.removed ≡ w.removed
     pub stand : Stands m parts end
 
-  module _ (got : Option Item) (b : Bool) (b_is : b ≡ high_past.is_sent c.row.resend false (high_past.taken_up past got) moment)
+  module _ (got : Option Item) (b : Bool) (b_is : b ≡ high_past.is_sent c.row.resend attaches (high_past.taken_up past got) moment)
       (fetched : FetchedBy ends q stands.ends.low times (held_in c.ends) (high_past.wants past) got)
-      (now : Option Item) (s : Second c.row mid moment k c.sent now (held_in ends) b)
+      (now : Option Item) (s : Second c.row attaches mid moment k c.sent now (held_in ends) b)
       (stood : HighStandsFor q (record past { hand = now; sends = (if b then record { number = removed; moment = moment } ∷ past.sends else past.sends); moment = moment }))
       (sent_is : sent ≡ (if b then Some removed else None)) where
     abbrev kept_by : Option Item → ℕ → Option ℕ → Kept
@@ -107,6 +108,7 @@ module _ {D : Type 0} (m : Meaning D) (c : Parts D) (p : Past) (stands : Stands 
           lawful = subst (λ (e : Past). IsLawful e.world) same s.lawful;
           fits = fits;
           sends = subst (λ (e : Past). length e.sends ≤ length e.world.sent) same (s.few few_sends);
+          answered = answered;
         };
         moment = refl;
         low_ready = record {
@@ -155,12 +157,12 @@ module _ {D : Type 0} (m : Meaning D) (c : Parts D) (p : Past) (stands : Stands 
 
   pub ended : (got : Option Item)
       → FetchedBy ends q stands.ends.low times (held_in c.ends) (high_past.wants past) got
-      → HighStandsFor q (high_past.finished c.row.resend false (high_past.taken_up past got) moment)
-      → sent ≡ high_past.sent_in c.row.resend false (high_past.taken_up past got) moment
+      → HighStandsFor q (high_past.finished c.row.resend attaches (high_past.taken_up past got) moment)
+      → sent ≡ high_past.sent_in c.row.resend attaches (high_past.taken_up past got) moment
       → Ended
   ended None fetched stood sent_is =
-      concludes None (high_past.is_sent c.row.resend false (high_past.taken_up past None) moment) refl fetched hand
-      (second c.row mid moment k c.sent times (high.last_of c.high) kept rest lawful stands.packets.sent few None (held_in ends) fetched.fetched) stood sent_is
+      concludes None (high_past.is_sent c.row.resend attaches (high_past.taken_up past None) moment) refl fetched hand
+      (second c.row attaches mid moment k c.sent times (high.last_of c.high) kept rest lawful stands.packets.sent few None (held_in ends) fetched.fetched) stood sent_is
   ended (Some x) fetched stood sent_is =
-      concludes (Some x) (high_past.is_sent c.row.resend false (high_past.taken_up past (Some x)) moment) refl fetched (Some (record { number = removed; payload = x.payload }))
-      (second c.row mid moment k c.sent times (high.last_of c.high) kept rest lawful stands.packets.sent few (Some x) (held_in ends) fetched.fetched) stood sent_is
+      concludes (Some x) (high_past.is_sent c.row.resend attaches (high_past.taken_up past (Some x)) moment) refl fetched (Some (record { number = removed; payload = x.payload }))
+      (second c.row attaches mid moment k c.sent times (high.last_of c.high) kept rest lawful stands.packets.sent few (Some x) (held_in ends) fetched.fetched) stood sent_is

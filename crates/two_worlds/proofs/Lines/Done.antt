@@ -15,9 +15,9 @@ use Rattle.script_reader.specs.Highs.{IsHighLook, IsCarried, IsReturn, IsOverful
 use Rattle.script_reader.specs.Steps.{IsCarriedBack}
 use Rattle.script_reader.specs.Breaks.{IsUntaken, IsUnremoved, BreaksOff}
 use Rattle.two_worlds.specs.declared.applied.Stop.{Stop}
-use Rattle.two_worlds.specs.declared.applied.Stop.TheVariants.{Line, Device, Full}
+use Rattle.two_worlds.specs.declared.applied.Stop.TheVariants.{Line, Device, Full, Disk}
 use Rattle.two_worlds.specs.declared.pump.parts.Parts.{Parts}
-use Rattle.two_worlds.specs.Doing.{Does, LeavesFit, LeavesAlone, NeverBreaks, NeverOverfills}
+use Rattle.two_worlds.specs.Doing.{Does, PartsLeaveFit, LeavesAlone, NeverBreaks, NeverOverfills}
 use Rattle.two_worlds.specs.Standing.{Stands, number_of}
 use Rattle.two_worlds.specs.Private.LineSteps.{IsOverfullSent, Runs}
 use Rattle.two_worlds.proofs.Disks.Images.{Reads, stands_reads, fails_reads, both_fit, later_fits}
@@ -66,6 +66,7 @@ module _ {D : Type 0} (m : Meaning D) (c d : Parts D) (moment : ℕ) (out now : 
       let a = carry p s in
       (a.0, a.1, subst (λ (r : Role). BreaksOff c.row p moment r a.0 a.1) (sym a.2.0) (a.2.1, a.2.2), a.3, a.4, a.5)
   carry_ends (Full end k size) carry p s = carry p s
+  carry_ends (Disk role why) carry p s = carry p s
 
   -- the receiver's disk alone is called until e, and the high one alone from there on
   pub record Between (e : Parts D) : Type 0 where
@@ -76,7 +77,7 @@ module _ {D : Type 0} (m : Meaning D) (c d : Parts D) (moment : ℕ) (out now : 
     pub recv_after : LeavesAlone roles.Recv e d
     pub row_after : d.row ≡ e.row
 
-  both : (e : Parts D) (p mid q : Past) → Between e → Stands m c p → Stands m e mid → Reads m d q → LeavesFit m c e p mid → LeavesFit m e d mid q → LeavesFit m c d p q
+  both : (e : Parts D) (p mid q : Past) → Between e → Stands m c p → Stands m e mid → Reads m d q → PartsLeaveFit m c e p mid → PartsLeaveFit m e d mid q → PartsLeaveFit m c d p q
   both e p mid q b s s' reads first second = both_fit m c e d p mid q s s' b.row (b.low_after ∙ b.low) b.high b.recv_after b.row_after reads first second
 
   -- the TAKEN comes back
@@ -92,6 +93,7 @@ module _ {D : Type 0} (m : Meaning D) (c d : Parts D) (moment : ℕ) (out now : 
       let nothing : now ≡ mid = b.3 ∙ ap (λ l. mid ++ l) b.2.2 ∙ append-nil mid in
       (b.0, a.1, subst (λ (r : Role). BreaksOff c.row p moment r b.0 a.1) (sym b.2.0) (a.0, a.2, b.2.1), nothing ∙ a.3, b.4, both e p a.0 b.0 between s a.4 (fails_reads m d b.0 role faults b.4) a.5 b.5)
   carry_back e mid (Err (Full end k size)) between carry back p s = (let a = carry p s in absurd (back a.0 a.4).2)
+  carry_back e mid (Err (Disk role why)) between carry back p s = (let a = carry p s in back a.0 a.4)
 
 -- ---- the whole line ----
 
@@ -126,7 +128,7 @@ module _ {D : Type 0} (m : Meaning D) (c d : Parts D) (moment time : ℕ) (out n
     pub row : e.row ≡ c.row
     pub low_after : LeavesAlone roles.Low e d
 
-  later : (e : Parts D) (p mid q : Past) → Before e → Stands m c p → Stands m e mid → LeavesFit m e d mid q → LeavesFit m c d p q
+  later : (e : Parts D) (p mid q : Past) → Before e → Stands m c p → Stands m e mid → PartsLeaveFit m e d mid q → PartsLeaveFit m c d p q
   later e p mid q b s s' fits = later_fits m c e d p mid q s s' b.row (b.low_after ∙ b.low) b.high b.recv fits
 
   -- its message goes on
@@ -144,6 +146,7 @@ module _ {D : Type 0} (m : Meaning D) (c d : Parts D) (moment time : ℕ) (out n
       let n = hand_is m e a.0 a.4 some in
       let b = does a.0 a.4 in
       (b.0, a.1 ++ b.1, (a.0, n.0, a.1, b.1, a.2, n.1, b.2, refl), b.3 ∙ ap (λ l. l ++ b.1) a.3 ∙ append_assoc out a.1 b.1, b.4, later e p a.0 b.0 before s a.4 b.5)
+  done_on e mid (Err (Disk role why)) before looks some does p s = (let a = looks p s in absurd (does a.0 a.4))
   done_on e mid (Err (Full end k size)) before looks some does p s =
       let a = looks p s in
       let n = hand_is m e a.0 a.4 some in

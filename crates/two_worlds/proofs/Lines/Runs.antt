@@ -13,10 +13,10 @@ use Rattle.script_reader.specs.Highs.{IsHighLook, IsCarried, IsReturn, IsOverful
 use Rattle.script_reader.specs.Steps.{joined, lost, IsOfferedLook, IsLowLook, LineStep, Overfills}
 use Rattle.script_reader.specs.Breaks.{IsLost, IsUntaken, IsUnremoved, Breaks}
 use Rattle.two_worlds.specs.declared.applied.Stop.{Stop}
-use Rattle.two_worlds.specs.declared.applied.Stop.TheVariants.{Line, Device, Full}
+use Rattle.two_worlds.specs.declared.applied.Stop.TheVariants.{Line, Device, Full, Disk}
 use Rattle.two_worlds.specs.Connections.{Connected, unused, Joins}
 use Rattle.two_worlds.specs.declared.pump.parts.Parts.{Parts}
-use Rattle.two_worlds.specs.Doing.{DoesFrom, Does, LeavesFit, NeverBreaks, NeverOverfills}
+use Rattle.two_worlds.specs.Doing.{DoesFrom, Does, PartsLeaveFit, NeverBreaks, NeverOverfills}
 use Rattle.two_worlds.specs.Private.LineSteps.{RunsFrom, Runs}
 use Rattle.two_worlds.proofs.Arriving.Connected.{stands_joined, stands_lost, arrives_at, few_at, many_at}
 
@@ -26,12 +26,13 @@ pub runs_from : {D : Type 0} (m : Meaning D) (c c' d : Parts D) (line : ScriptLi
     → ((q : Past) (printed : List Event) → Leads from q printed → LineStep c.row p line q printed)
     → ((role : Role) (q : Past) (printed : List Event) → Cuts role from q printed → Breaks c.row p line role q printed)
     → ((q : Past) (printed : List Event) (end k size : ℕ) → Over from q printed end k size → Overfills c.row p line q printed end k size)
-    → ((q : Past) → LeavesFit m c' d from q → LeavesFit m c d p q)
+    → ((q : Past) → PartsLeaveFit m c' d from q → PartsLeaveFit m c d p q)
     → DoesFrom Leads Cuts Over m c' d out now from result → RunsFrom m c d line out now p result
 runs_from m c c' d line out now Leads Cuts Over p from (Ok done) f g h k r = (r.0, r.1, f r.0 r.1 r.2, r.3, r.4, k r.0 r.5)
 runs_from m c c' d line out now Leads Cuts Over p from (Err Line) f g h k r = absurd r
 runs_from m c c' d line out now Leads Cuts Over p from (Err (Device role faults)) f g h k r = (r.0, r.1, g role r.0 r.1 r.2, r.3, r.4, k r.0 r.5)
 runs_from m c c' d line out now Leads Cuts Over p from (Err (Full end n size)) f g h k r = (r.0, r.1, h r.0 r.1 end n size r.2, r.3, r.4, k r.0 r.5)
+runs_from m c c' d line out now Leads Cuts Over p from (Err (Disk role why)) f g h k r = absurd r
 
 -- ---- looks of the low side ----
 

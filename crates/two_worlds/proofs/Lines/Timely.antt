@@ -15,7 +15,7 @@ use Rattle.script_reader.specs.declared.line.Line.TheVariants as lines
 use Rattle.script_reader.specs.Past.{Past}
 use Rattle.script_reader.specs.Steps.{goes_on, kept, is_timely}
 use Rattle.two_worlds.specs.declared.applied.Stop.{Stop}
-use Rattle.two_worlds.specs.declared.applied.Stop.TheVariants.{Line, Device, Full}
+use Rattle.two_worlds.specs.declared.applied.Stop.TheVariants.{Line, Device, Full, Disk}
 use Rattle.two_worlds.specs.declared.pump.parts.Parts.{Parts}
 use Rattle.two_worlds.specs.Standing.{Stands, number_of}
 use Rattle.two_worlds.specs.Private.LineSteps.{Runs, Attempts}
@@ -53,6 +53,8 @@ module _ {D : Type 0} (m : Meaning D) (c : Parts D) (p : Past) where
   timely_is (lines.Carry session back) s = ap (λ (n : ℕ). session == c.row.id && nat_lt back n) (kept_length 0 p.world.sent c.sent.items s.world.sent)
   timely_is (lines.Return session moment back) s =
       ap (λ (t : ℕ × ℕ). session == c.row.id && (nat_le t.0 moment && nat_lt back t.1)) (λ i. (s.moment i, kept_length p.returned_before p.world.returned c.returned.items s.world.returned.1 i))
+  timely_is (lines.Restart session moment) s = ap (λ (n : ℕ). session == c.row.id && nat_le n moment) s.moment
+  timely_is (lines.ReceiverRestart session moment) s = ap (λ (n : ℕ). session == c.row.id && nat_le n moment) s.moment
   timely_is (lines.Done session moment time) s =
       ap (λ (t : ℕ × Bool). session == c.row.id && (nat_le t.0 moment && (not t.1 || nat_le (moment + time) (2 ^ 62)))) (λ i. (s.moment i, goes_is m c p s i))
 
@@ -66,6 +68,7 @@ module _ {D : Type 0} (m : Meaning D) (c : Parts D) (line : ScriptLine) (out : L
   attempted d now (Err Line) timely runs p s = (let r = runs p s in (r.0, r.1, inr r.2))
   attempted d now (Err (Device role faults)) timely runs p s = (sym (timely_is m c p line s) ∙ timely, runs p s)
   attempted d now (Err (Full end k size)) timely runs p s = (sym (timely_is m c p line s) ∙ timely, runs p s)
+  attempted d now (Err (Disk role why)) timely runs p s = absurd (runs p s)
 
 -- ---- what the code asks ----
 

@@ -18,7 +18,7 @@ use Rattle.script_reader.specs.Steps.{IsLowLook, IsOfferedLook}
 use Rattle.script_reader.specs.Breaks.{IsLost, IsLostLook}
 use Rattle.two_worlds.specs.declared.applied.Stop.{Stop}
 use Rattle.two_worlds.specs.declared.pump.parts.Parts.{Parts}
-use Rattle.two_worlds.specs.Doing.{DoesFrom, Fails, LeavesFit, NeverBreaks, NeverOverfills}
+use Rattle.two_worlds.specs.Doing.{DoesFrom, PartsFail, PartsLeaveFit, NeverBreaks, NeverOverfills}
 use Rattle.two_worlds.specs.Private.LowLooks.{stop_of}
 use Rattle.two_worlds.specs.Printing.{look_prints}
 use Rattle.two_worlds.specs.Standing.{Stands}
@@ -44,13 +44,13 @@ module _ {D : Type 0} (m : Meaning D) (c d : Parts D) (moment word : ℕ) (a : A
   in_store (Some t) e s = (t, e)
 
   offered_fine : a ≡ first_of p.is_broken p.waits → Looked m c d moment word a false l
-      → (q : Past) × (printed : List Event) × IsOfferedLook c.row p moment word q printed × (now ≡ out ++ printed) × Stands m d q × LeavesFit m c d p q
+      → (q : Past) × (printed : List Event) × IsOfferedLook c.row p moment word q printed × (now ≡ out ++ printed) × Stands m d q × PartsLeaveFit m c d p q
   offered_fine first did =
       let r = look_leads m c d p moment word a l did stands order in
       (r.0, look_prints c.row.id moment l, subst (λ (t : Arrival). IsLowLook c.row p moment word t r.0 (look_prints c.row.id moment l)) first (l.feedback, r.1), prints, r.2, r.3)
 
   offered_lost : a ≡ first_of p.is_broken p.waits → Looked m c d moment word a true l
-      → (q : Past) × (printed : List Event) × ((roles.Low ≡ roles.Low) × IsLost c.row p moment word q printed) × (now ≡ out ++ printed) × Fails m d q roles.Low (m.count (low_disk d.low_store)) × LeavesFit m c d p q
+      → (q : Past) × (printed : List Event) × ((roles.Low ≡ roles.Low) × IsLost c.row p moment word q printed) × (now ≡ out ++ printed) × PartsFail m d q roles.Low (m.count (low_disk d.low_store)) × PartsLeaveFit m c d p q
   offered_lost first did =
       let t = in_store (message_in c.low a) refl did.step.keeps in
       let r = look_loses m c d p moment word a l did stands order t.0 t.1 in (
@@ -72,7 +72,7 @@ module _ {D : Type 0} (m : Meaning D) (c d : Parts D) (moment word : ℕ) (a : A
       (sym (stops false result did stop)) (offered_fine first did)
 
   gone_fine : a ≡ Gone → Looked m c d moment word a false l
-      → (q : Past) × (printed : List Event) × IsLowLook c.row p moment word Gone q printed × (now ≡ out ++ printed) × Stands m d q × LeavesFit m c d p q
+      → (q : Past) × (printed : List Event) × IsLowLook c.row p moment word Gone q printed × (now ≡ out ++ printed) × Stands m d q × PartsLeaveFit m c d p q
   gone_fine gone did =
       let r = look_leads m c d p moment word a l did stands order in
       (r.0, look_prints c.row.id moment l, subst (λ (t : Arrival). IsLowLook c.row p moment word t r.0 (look_prints c.row.id moment l)) gone (l.feedback, r.1), prints, r.2, r.3)

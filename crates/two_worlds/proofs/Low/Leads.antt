@@ -34,7 +34,7 @@ use Rattle.script_reader.specs.Lows.{is_bad, comes_again, feedback, offers, stor
 use Rattle.two_worlds.specs.Connections.{waits_of, is_broken_of}
 use Rattle.two_worlds.specs.declared.pump.parts.Parts.{Parts}
 use Rattle.two_worlds.specs.Disks.{LowFits, DisksFit}
-use Rattle.two_worlds.specs.Doing.{LeavesFit}
+use Rattle.two_worlds.specs.Doing.{PartsLeaveFit}
 use Rattle.two_worlds.specs.Printing.{printed_reply, look_prints}
 use Rattle.two_worlds.specs.Standing.{kept_of, HoldsWorld, number_of, Stands}
 use Rattle.two_worlds.proofs.Disks.Images.{grown_fits}
@@ -48,6 +48,7 @@ use Rattle.pump_core.proofs.MayTake.{may_take_is}
 use Rattle.two_worlds.proofs.Low.Told.{LookHead, is_passing, moves, owed_is, told_by, told_in, passing_is, hears_room, feedback_is}
 use Rattle.two_worlds.proofs.Low.Wants.{taking, hand_is_empty, is_short, stored_is}
 use Rattle.two_worlds.proofs.Low.Worlds.{Led, led_by, hand_by, held_by, passed_is, empty_hand, room_is, full_number}
+use Rattle.two_worlds.proofs.Answered.{run_goes}
 
 prints_reply : (session m w : ℕ) (a : Arrival) (f : Feedback) (r : Option Frame) → printed_reply session m r ≡ printed_replies session (sent (look_of m w a false f) r)
 prints_reply session m w a f None = refl
@@ -258,6 +259,7 @@ module _ {D : Type 0} (m : Meaning D) (c d : Parts D) (p : Past) (moment word : 
       lawful = runs_lawfully p.world _ led.end stands.sound.lawful led.run;
       fits = fits;
       sends = subst (λ (items : List Item). length p.sends ≤ length items) (sym grows.sent) stands.sound.sends;
+      answered = (run_goes p.world _ led.end led.run).answered stands.sound.answered;
     };
     moment = refl;
     low_ready = record {
@@ -295,5 +297,5 @@ module _ {D : Type 0} (m : Meaning D) (c d : Parts D) (p : Past) (moment word : 
     disks = disks;
   }
 
-  pub look_leads : (q : Past) × IsLook c.row p (look_of moment word a false l.feedback) q (look_prints c.row.id moment l) × Stands m d q × LeavesFit m c d p q
+  pub look_leads : (q : Past) × IsLook c.row p (look_of moment word a false l.feedback) q (look_prints c.row.id moment l) × Stands m d q × PartsLeaveFit m c d p q
   look_leads = (q, is_look_of_row, subst (λ (t : Parts D). Stands m t q) (sym did.rest) stands_then, grown_fits m c d p moment word a false l did stands q grows)

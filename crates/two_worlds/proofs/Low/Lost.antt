@@ -30,7 +30,7 @@ use Rattle.script_reader.specs.Lows.{printed_store, printed_feedback}
 use Rattle.script_reader.specs.Breaks.{IsLostLook}
 use Rattle.two_worlds.specs.declared.pump.parts.Parts.{Parts}
 use Rattle.two_worlds.specs.Disks.{LowFits}
-use Rattle.two_worlds.specs.Doing.{Fails, LeavesFit}
+use Rattle.two_worlds.specs.Doing.{PartsFail, PartsLeaveFit}
 use Rattle.two_worlds.specs.Printing.{printed_reply, look_prints}
 use Rattle.two_worlds.specs.Standing.{number_of, Stands}
 use Rattle.two_worlds.proofs.Disks.Images.{lost_fits}
@@ -170,20 +170,22 @@ module _ {D : Type 0} (m : Meaning D) (c d : Parts D) (p : Past) (moment word : 
   abbrev d' : Parts D
   d' = record c { low = d.low; low_store = d.low_store; ends = d.ends; connection = d.connection; moment = moment }
 
-  fails_then : Fails m d' lost_past roles.Low (m.count (low_disk d.low_store))
-  fails_then = record {
-    down = rw down refl;
-    counted = refl;
-    lawful = stays_lawful p.world (StoreBegin t.frame.payload) world_then stands.sound.lawful begins;
-    fits = record {
-      capacity = stands.world.capacity;
-      count =
-          let few = small_next row s.next s.greeted t.frame (comes_next c.low a message t) in
-          omega (arith, few, stands.world.accepted, length-append p.world.accepted (t.frame.payload ∷ []));
-      end = (fits_row m c p stands).end;
-    };
-    disks = record { low_disk = low_fits; high_disk = stands.disks.high_disk; recv_disk = stands.disks.recv_disk };
-  }
+  fails_then : PartsFail m d' lost_past roles.Low (m.count (low_disk d.low_store))
+  fails_then = (
+    rw down refl,
+    record {
+      counted = refl;
+      lawful = stays_lawful p.world (StoreBegin t.frame.payload) world_then stands.sound.lawful begins;
+      fits = record {
+        capacity = stands.world.capacity;
+        count =
+            let few = small_next row s.next s.greeted t.frame (comes_next c.low a message t) in
+            omega (arith, few, stands.world.accepted, length-append p.world.accepted (t.frame.payload ∷ []));
+        end = (fits_row m c p stands).end;
+      };
+      disks = record { low_disk = low_fits; high_disk = stands.disks.high_disk; recv_disk = stands.disks.recv_disk };
+    },
+  )
 
-  pub look_loses : (q : Past) × IsLostLook c.row p (look_of moment word a true Quiet) q (look_prints c.row.id moment l) × Fails m d q roles.Low (m.count (low_disk d.low_store)) × LeavesFit m c d p q
-  look_loses = (lost_past, is_lost, subst (λ (u : Parts D). Fails m u lost_past roles.Low (m.count (low_disk d.low_store))) (sym did.rest) fails_then, lost_fits m c d p moment word a true l did stands lost_past message t.frame.payload is t.is_message refl)
+  pub look_loses : (q : Past) × IsLostLook c.row p (look_of moment word a true Quiet) q (look_prints c.row.id moment l) × PartsFail m d q roles.Low (m.count (low_disk d.low_store)) × PartsLeaveFit m c d p q
+  look_loses = (lost_past, is_lost, subst (λ (u : Parts D). PartsFail m u lost_past roles.Low (m.count (low_disk d.low_store))) (sym did.rest) fails_then, lost_fits m c d p moment word a true l did stands lost_past message t.frame.payload is t.is_message refl)

@@ -14,6 +14,7 @@ use Rattle.script_reader.specs.declared.line.Line.TheVariants as lines
 use Rattle.script_reader.specs.declared.line.ToldFeedback.{ToldFeedback}
 use Rattle.script_reader.specs.declared.event.Event.{Event}
 use Rattle.script_reader.specs.Lows.{first_of}
+use Rattle.script_reader.specs.Openings.{Openings}
 use Rattle.script_reader.specs.Alone.{PastAlone, fresh_alone, joined_alone, lost_alone, IsToldLook, StepAlone}
 use Rattle.script_reader.specs.Scripts.{RunningAlone, Begun, Whole, Alone, GoesAlone, GoesOn, Leads, LeadTo}
 use Rattle.script_reader.proofs.Leading.{IsNew, led}
@@ -127,6 +128,8 @@ low_line_goes row p (lines.High session m) q printed events h i = absurd h
 low_line_goes row p (lines.Carry session back) q printed events h i = absurd h
 low_line_goes row p (lines.Return session m back) q printed events h i = absurd h
 low_line_goes row p (lines.Done session m time) q printed events h i = absurd h
+low_line_goes row p (lines.Restart session m) q printed events h i = absurd h
+low_line_goes row p (lines.ReceiverRestart session m) q printed events h i = absurd h
 low_line_goes row p (lines.Gone session m) q printed events (f, look) i =
     (Looks (made_with m 0 true (uncounted f)) ∷ [], lost_on row p events m 0 f _ q printed i look, (uncounted f, refl))
 low_line_goes row p (lines.Told session m w fault told a) q printed events (c, arrives, (few, (f, look))) i =
@@ -154,23 +157,23 @@ goes_on_events (Alone s) line after printed (timely, (q, step, e)) (events, i) =
     let (more, j, are) = low_line_goes s.row s.past line q printed events step i in
     subst HasEvents (sym e) (more ++ events, j)
 
-new_events : (s : Begun) → IsNew s → HasEvents (Some s)
-new_events (Whole s) new = tt
-new_events (Alone s) (next, held, e) =
+new_events : (o : Openings) (s : Begun) → IsNew o s → HasEvents (Some s)
+new_events o (Whole s) new = tt
+new_events o (Alone s) (next, held, e) =
     let begun : (events : List Timed) × IsTimelineAlone s.row (fresh_alone next held) events =
     ([], record { sides = (refl, (0, refl), tt); waits = record { came_before = omega arith; rest = refl; behind = refl } }) in
     subst (λ (p : PastAlone). (events : List Timed) × IsTimelineAlone s.row p events) (sym e) begun
 
-leads_events : (running after : Option Begun) (line : Line) (printed : List Event) → Leads running line after printed → HasEvents running → HasEvents after
-leads_events running after line printed h k =
-    led running line after printed h
+leads_events : (o : Openings) (running after : Option Begun) (line : Line) (printed : List Event) → Leads o running line after printed → HasEvents running → HasEvents after
+leads_events o running after line printed h k =
+    led o running line after printed h
     (λ skip same none. subst HasEvents (sym same) k)
-    (λ s none new e printed_none. subst HasEvents (sym e) (new_events s new))
+    (λ s none new e printed_none. subst HasEvents (sym e) (new_events o s new))
     (λ s e goes. goes_on_events s line after printed goes (subst HasEvents e k))
 
-pub script_events : (running : Option Begun) (script : List Line) (after : Option Begun) (printed : List Event) → LeadTo running script after printed → HasEvents running → HasEvents after
-script_events running [] after printed (e, f) k = subst HasEvents (sym e) k
-script_events running (line ∷ script) after printed (mid, first, second, h, rest, e) k = script_events mid script after second rest (leads_events running mid line first h k)
+pub script_events : (o : Openings) (running : Option Begun) (script : List Line) (after : Option Begun) (printed : List Event) → LeadTo o running script after printed → HasEvents running → HasEvents after
+script_events o running [] after printed (e, f) k = subst HasEvents (sym e) k
+script_events o running (line ∷ script) after printed (mid, first, second, h, rest, e) k = script_events o mid script after second rest (leads_events o running mid line first h k)
 
 -- the low side, or else this one
 abbrev low_in : RunningAlone → Option Begun → RunningAlone

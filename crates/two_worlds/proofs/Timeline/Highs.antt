@@ -12,7 +12,7 @@ use Rattle.pump_core.specs.Sendings.{Sending}
 use Rattle.pump_core.specs.Timed.{Step, HighLook, Publish, Occurs, Point, high_looking, LeadsTo}
 use Rattle.script_reader.specs.declared.event.Event.{Event}
 use Rattle.script_reader.specs.Past.{Past}
-use Rattle.script_reader.specs.Highs.{IsHighLook}
+use Rattle.script_reader.specs.Highs.{IsWholeLook}
 use Rattle.two_worlds.specs.Timelines.{taken_in, AreLeft, IsTimeline, only_if, come_back, high_steps}
 use Rattle.two_worlds.proofs.Timeline.Looks.{timeline, HasMore}
 use Rattle.two_worlds.proofs.Timeline.Stands.{at, Stands, Settled, returned}
@@ -53,8 +53,9 @@ module _ (row : SessionRow) (p : Past) (steps : List Step) (t : Point) (m : ℕ)
   times_grow times None = ap (λ (b : Bool). only_if b (Publish ∷ [])) (sym (le-ltb (length times) (length (times ++ [])) (omega (arith, length-append times []))))
   times_grow times (Some τ) = ap (λ (b : Bool). only_if b (Publish ∷ [])) (sym (lt-ltb (length times) (length (times ++ τ ∷ [])) (omega (arith, length-append times (τ ∷ [])))))
 
-  pub high_look : (back : Option ℕ) (q : Past) (printed : List Event) → IsHighLook row p m back q printed → HasMore row q steps (high_steps m back p q)
-  high_look back q printed (mid, first, second, r, k, e) =
+  -- a receiver attaches in it, or none does
+  pub high_look : (attaches : Bool) (back : Option ℕ) (q : Past) (printed : List Event) → IsWholeLook row attaches p m back q printed → HasMore row q steps (high_steps m back p q)
+  high_look attaches back q printed (mid, first, second, r, k, e) =
       let f = r.look in
       let g = k.look in
       let a = returned row steps t m p.times p.sends (HighLook m ∷ []) p.world f.answered back began i.rest f.returns in

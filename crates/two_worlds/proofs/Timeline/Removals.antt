@@ -1,7 +1,7 @@
 -- A removal in a high look, and the time that is published with it.
-use Rattle.std.proofs.Common.{◌≡◌, ⊎_elim, ℕ, ◌+◌, ◌≤◌, Bool, true, false, List, [], ◌∷◌, ◌++◌, Option, Some, None, refl, sym, ap, ◌∙◌, subst, arith, append-nil}
-use Rattle.std.specs.Prelude.{if◌then◌else◌, nat_lt, ◌==◌, option_to_list}
-use Rattle.std.proofs.lemmas.Bool.{eqb-true, le-ltb, lt-ltb}
+use Rattle.std.proofs.Common.{◌≡◌, ⊎_elim, ℕ, ◌+◌, Bool, true, false, List, [], ◌∷◌, ◌++◌, Option, Some, None, refl, sym, ap, ◌∙◌, subst, arith, append-nil}
+use Rattle.std.specs.Prelude.{if◌then◌else◌, nat_lt, option_to_list}
+use Rattle.std.proofs.lemmas.Bool.{le-ltb, lt-ltb}
 use Rattle.pump_frame.specs.declared.row.SessionRow.{SessionRow}
 use Rattle.pump_core.specs.declared.event.Event.TheVariants.{RemoveBegin, RemoveEnd}
 use Rattle.pump_core.specs.World.{World}
@@ -13,12 +13,6 @@ use Rattle.two_worlds.specs.Timelines.{IsAtRest, only_if}
 use Rattle.two_worlds.proofs.Timeline.Stands.{at, IsReady, rests, Stands, Settled}
 
 -- ---- a removal ----
-
-pub different : (a b : ℕ) → a + 1 ≤ b → (a == b) ≡ false
-different a b h = elim (a == b) as (λ t. (a == b) ≡ t → (a == b) ≡ false) [
-  | true ↦ λ e. let is : a ≡ b = eqb-true a b e in absurd (omega (arith, is, h))
-  | false ↦ λ e. e
-] refl
 
 less_by_one : (a b : ℕ) → b ≡ a + 1 → nat_lt a b ≡ true
 less_by_one a b e = lt-ltb a b (omega (arith, e))

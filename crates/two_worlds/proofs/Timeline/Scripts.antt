@@ -1,64 +1,37 @@
 -- What a script's session has been through is a timed run: line by line.
 use Rattle.std.proofs.Common.{◌≡◌, ℕ, ◌+◌, ◌≤◌, Bool, true, false, List, [], ◌∷◌, ◌++◌, map, Option, Some, None, refl, sym, ap, subst, arith, append_assoc}
-use Rattle.std.specs.Prelude.{◌==◌, ◌&&◌, ◌||◌, ◌^◌, nat_le, not, if◌then◌else◌, reverse}
+use Rattle.std.specs.Prelude.{◌==◌, ◌&&◌, ◌||◌, ◌^◌, nat_le, not, reverse}
 use Rattle.std.proofs.lemmas.Bool.{and_parts}
 use Rattle.std.proofs.lemmas.Bool.Decides.{nat_tests}
 use Rattle.pump_frame.specs.declared.frame.Frame.{Frame}
 use Rattle.pump_frame.specs.declared.row.SessionRow.{SessionRow}
 use Rattle.pump_frame.specs.Readings.{Reading, Within, Stopped}
-use Rattle.pump_frame.specs.Rows.{IsLawfulRow}
-use Rattle.pump_core.specs.History.{Arrival, Look, History, first_life}
+use Rattle.pump_core.specs.declared.event.Event.TheVariants.{Crash}
+use Rattle.pump_core.specs.History.{Arrival, Look, History}
 use Rattle.pump_core.specs.Exchanges.{IsCut}
 use Rattle.pump_core.specs.Runs.{steps_in}
 use Rattle.pump_core.specs.Comings.{Coming, Whole, Broken}
-use Rattle.pump_core.specs.World as worlds
-use Rattle.pump_core.specs.World.{live}
-use Rattle.pump_core.specs.Events.{Empty}
-use Rattle.pump_core.specs.Timed.{Step, Arrives, LowLook, HighLook, Point, opens, high_looking}
+use Rattle.pump_core.specs.Timed.{Step, Arrives, LowLook, Occurs, Point, opens}
 use Rattle.script_reader.specs.declared.line.Arriving.{Arriving}
 use Rattle.script_reader.specs.declared.line.Arriving.TheVariants as arriving
 use Rattle.script_reader.specs.declared.line.Line.{Line}
 use Rattle.script_reader.specs.declared.line.Line.TheVariants as lines
 use Rattle.script_reader.specs.declared.event.Event.{Event}
-use Rattle.script_reader.specs.Past.{Past, fresh}
-use Rattle.script_reader.specs.Highs.{IsHighLook, IsReturn, IsReturnBy, is_ahead, place}
+use Rattle.script_reader.specs.Past.{Past}
+use Rattle.script_reader.specs.Openings.{Openings, opened_world, first_past}
+use Rattle.script_reader.specs.Highs.{IsHighLook, place}
 use Rattle.script_reader.specs.Lows.{IsLook}
 use Rattle.script_reader.specs.Steps as coming
 use Rattle.script_reader.specs.Steps.{bad_of, came, IsRead, Arrives as ArrivesWith, joined, lost, goes_on, is_timely, IsCarriedBack as CarriesOn, LineStep}
 use Rattle.script_reader.specs.Scripts.{Running, Begun, Whole as WholeSession, Alone, GoesWhole, GoesOn as GoesOn, Leads, LeadTo}
-use Rattle.script_reader.proofs.Fresh.{row_capacity}
 use Rattle.script_reader.proofs.Leading.{IsNew, led}
 use Rattle.two_worlds.specs.Timelines.{arrived, IsTimeline, high_steps, return_steps, carry_steps, AreLookSteps, AreDoneSteps, AreSteps, RunGoesOn}
-use Rattle.two_worlds.proofs.Timeline.Looks.{timeline, HasMore, both, all_come, offered_look, lost_look}
+use Rattle.two_worlds.proofs.Timeline.Looks.{HasMore, both, all_come, offered_look, lost_look}
 use Rattle.two_worlds.proofs.Timeline.Highs.{high_look}
 use Rattle.two_worlds.proofs.Timeline.Lows.{done_steps}
-use Rattle.two_worlds.proofs.Timeline.Removals.{different}
+use Rattle.two_worlds.proofs.Timeline.Returns.{HasSome, return_look}
+use Rattle.two_worlds.proofs.Timeline.Restarts.{opened_timeline, restarts, receiver_restarts}
 use Rattle.two_worlds.proofs.Timeline.Carries.{carry}
-
--- ---- the beginning ----
-
--- an opening with this held flag, before its first look
-abbrev begun : Bool → History
-begun held = first_life (record { count = 0; is_held = held })
-
-pub fresh_timeline : (row : SessionRow) → IsLawfulRow row → IsTimeline row (fresh row) [] (opens (worlds.empty row.capacity))
-fresh_timeline row lawful =
-    let size = row_capacity row lawful in
-    let few = size.0 in
-    let full : Bool = live (worlds.empty row.capacity) == row.capacity in
-    let empty : full ≡ false = different 0 row.capacity (omega (arith, few)) in
-    timeline row (fresh row) [] (opens (worlds.empty row.capacity)) (begun full) (ap begun (sym empty))
-    (record {
-      leads = (worlds.empty row.capacity, Empty row.capacity size.0 size.1, refl, refl);
-      low = (refl, (0, refl), tt);
-      feedback = refl;
-      places = (tt, tt);
-    })
-    refl
-    (record { storing = refl; due = refl; removing = refl; packet = refl; taking = refl })
-    (record { times = refl; sends = refl; nothing_left = refl })
-    (record { came_before = omega arith; rest = refl; behind = refl })
-    (omega arith) (omega arith)
 
 -- ---- what comes with a line ----
 
@@ -101,39 +74,6 @@ later session id p m e = let k = (and_parts (session == id) (nat_le p m) e).1 in
 high_moment : (row : SessionRow) (p : Past) (m : ℕ) (back : Option ℕ) (q : Past) (printed : List Event) → IsHighLook row p m back q printed → q.moment ≡ m
 high_moment row p m back q printed (mid, first, second, r, k, e) = ap (λ (x : Past). x.moment) k.rest
 
--- a high look that refuses what comes back
-refused_look : (row : SessionRow) (p : Past) (steps : List Step) (t : Point) (m : ℕ) → IsTimeline row p steps t → p.moment ≤ m
-    → HasMore row (record p { moment = m }) steps (HighLook m ∷ [])
-refused_look row p steps t m i le =
-    let low = i.low_moment in
-    let high = i.high_moment in (
-      record t { high = high_looking t.high m },
-      record {
-        run = record { leads = (t, i.run.leads, (omega (arith, high, le), i.high.nothing_left, refl)); low = i.run.low; feedback = i.run.feedback; places = i.run.places };
-        world = i.world;
-        rest = i.rest;
-        high = record { times = i.high.times; sends = i.high.sends; nothing_left = i.high.nothing_left };
-        waits = i.waits;
-        low_moment = omega (arith, low, le);
-        high_moment = omega arith;
-      },
-    )
-
-return_by : (ahead : Bool) (row : SessionRow) (p : Past) (steps : List Step) (t : Point) (m k : ℕ) (q : Past) (printed : List Event)
-    → IsTimeline row p steps t → p.moment ≤ m → IsReturnBy ahead row p m k q printed → HasMore row q steps (if ahead then HighLook m ∷ [] else high_steps m (Some k) p q)
-return_by true row p steps t m k q printed i le (e, none) =
-    subst (λ (x : Past). HasMore row x steps (HighLook m ∷ [])) (sym e) (refused_look row p steps t m i le)
-return_by false row p steps t m k q printed i le h = high_look row p steps t m i le (Some k) q printed h
-
--- a TAKEN that comes back
-return_look : (row : SessionRow) (p : Past) (steps : List Step) (t : Point) (m k : ℕ) (q : Past) (printed : List Event)
-    → IsTimeline row p steps t → p.moment ≤ m → IsReturn row p m k q printed → HasMore row q steps (return_steps m k p q)
-return_look row p steps t m k q printed i le h = return_by (is_ahead p.world k) row p steps t m k q printed i le h
-
--- the session's timed run goes on by steps that are these
-abbrev HasSome : SessionRow → Past → List Step → (List Step → Type 0) → Type 0
-HasSome row q steps Are = (more : List Step) × HasMore row q steps more × Are more
-
 -- after the high look of `done`
 done_on : (row : SessionRow) (hand : Option ℕ) (p : Past) (steps : List Step) (t : Point) (m : ℕ) (q : Past) (printed : List Event)
     → IsTimeline row p steps t → p.moment ≤ m → CarriesOn row hand p m q printed → HasSome row q steps (AreDoneSteps row hand p m q)
@@ -164,7 +104,7 @@ line_goes row p (lines.Session other) q printed steps t timely h i = absurd h
 line_goes row p (lines.LowSession other next held) q printed steps t timely h i = absurd h
 line_goes row p (lines.Told session m w fault told a) q printed steps t timely h i = absurd h
 line_goes row p (lines.High session m) q printed steps t timely h i =
-    goes_by row p (lines.High session m) steps q (high_steps m None p q) (high_look row p steps t m i (later session row.id p.moment m timely) None q printed h) refl
+    goes_by row p (lines.High session m) steps q (high_steps m None p q) (high_look row p steps t m i (later session row.id p.moment m timely) false None q printed h) refl
 line_goes row p (lines.Carry session back) q printed steps t timely h i =
     goes_by row p (lines.Carry session back) steps q (carry_steps back p q) (carry row p steps t back q printed i h) refl
 line_goes row p (lines.Return session m back) q printed steps t timely h i =
@@ -190,11 +130,16 @@ line_goes row p (lines.Done session m time) q printed steps t timely (mid, first
     let k = (and_parts (nat_le p.moment m) (not (goes_on p.world) || nat_le (m + time) (2 ^ 62)) parts).0 in
     let le : p.moment ≤ m = grind (arith, nat_tests) in
     let at = high_moment row p m None mid first h in
-    let (u, j) = high_look row p steps t m i le None mid first h in
+    let (u, j) = high_look row p steps t m i le false None mid first h in
     let (more, on, are) = done_on row mid.world.high_hand mid (high_steps m None p mid ++ steps) u (m + time) q second j (omega (arith, at)) g in
     goes_by row p (lines.Done session m time) steps q (more ++ high_steps m None p mid)
     (on.0, subst (λ (l : List Step). IsTimeline row q l on.0) (sym (append_assoc more (high_steps m None p mid) steps)) on.1)
     (mid, first, h, (more, are, refl))
+line_goes row p (lines.Restart session m) q printed steps t timely h i =
+    goes_by row p (lines.Restart session m) steps q (Occurs (Crash (Some (false, false)) None) ∷ [])
+    (restarts row p steps t i m q printed (later session row.id p.moment m timely) h) refl
+line_goes row p (lines.ReceiverRestart session m) q printed steps t timely h i =
+    receiver_restarts row p steps t i session m q printed (later session row.id p.moment m timely) h
 
 -- ---- a script ----
 
@@ -213,22 +158,23 @@ goes_on_run : (s : Begun) (line : Line) (after : Option Begun) (printed : List E
 goes_on_run (WholeSession s) line after printed h k = goes_run s line after printed h k
 goes_on_run (Alone s) line after printed (timely, (q, step, e)) k = subst HasRun (sym e) tt
 
-new_run : (s : Begun) → IsNew s → HasRun (Some s)
-new_run (WholeSession s) (lawful, e) =
-    let begun : (steps : List Step) × (t : Point) × IsTimeline s.row (fresh s.row) steps t = ([], opens (worlds.empty s.row.capacity), fresh_timeline s.row lawful) in
+new_run : (o : Openings) (s : Begun) → IsNew o s → HasRun (Some s)
+new_run o (WholeSession s) (lawful, can, e) =
+    let f = o s.row.id in
+    let begun : (steps : List Step) × (t : Point) × IsTimeline s.row (first_past s.row f) steps t = ([], opens (opened_world s.row f), opened_timeline s.row f lawful can) in
     subst (λ (p : Past). (steps : List Step) × (t : Point) × IsTimeline s.row p steps t) (sym e) begun
-new_run (Alone s) new = tt
+new_run o (Alone s) new = tt
 
-leads_run : (running after : Option Begun) (line : Line) (printed : List Event) → Leads running line after printed → HasRun running → HasRun after
-leads_run running after line printed h k =
-    led running line after printed h
+leads_run : (o : Openings) (running after : Option Begun) (line : Line) (printed : List Event) → Leads o running line after printed → HasRun running → HasRun after
+leads_run o running after line printed h k =
+    led o running line after printed h
     (λ skip same none. subst HasRun (sym same) k)
-    (λ s none new e printed_none. subst HasRun (sym e) (new_run s new))
+    (λ s none new e printed_none. subst HasRun (sym e) (new_run o s new))
     (λ s e goes. goes_on_run s line after printed goes (subst HasRun e k))
 
-pub script_runs : (running : Option Begun) (script : List Line) (after : Option Begun) (printed : List Event) → LeadTo running script after printed → HasRun running → HasRun after
-script_runs running [] after printed (e, f) k = subst HasRun (sym e) k
-script_runs running (line ∷ script) after printed (mid, first, second, h, rest, e) k = script_runs mid script after second rest (leads_run running mid line first h k)
+pub script_runs : (o : Openings) (running : Option Begun) (script : List Line) (after : Option Begun) (printed : List Event) → LeadTo o running script after printed → HasRun running → HasRun after
+script_runs o running [] after printed (e, f) k = subst HasRun (sym e) k
+script_runs o running (line ∷ script) after printed (mid, first, second, h, rest, e) k = script_runs o mid script after second rest (leads_run o running mid line first h k)
 
 -- the session, or else this one
 abbrev session_in : Running → Option Begun → Running

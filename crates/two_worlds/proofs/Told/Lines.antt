@@ -41,6 +41,7 @@ ends_after Bars Does More c e d events (Some (stops.Device roles.Low faults)) f 
 ends_after Bars Does More c e d events (Some (stops.Device roles.High faults)) f h = absurd h
 ends_after Bars Does More c e d events (Some (stops.Device roles.Recv faults)) f h = absurd h
 ends_after Bars Does More c e d events (Some (stops.Full end size_of_message size)) f h = absurd h
+ends_after Bars Does More c e d events (Some (stops.Disk role why)) f h = absurd h
 
 pub ends_as : (Bars Bars' : Type 0) (Does More : Bool → PastAlone → List Event → Type 0) (c d : LowParts) (events : List Event) (stop : Option Stop)
     → (Bars → Bars') → ((fault : Bool) (q : PastAlone) (printed : List Event) → Does fault q printed → More fault q printed)
@@ -51,6 +52,7 @@ ends_as Bars Bars' Does More c d events (Some (stops.Device roles.Low faults)) b
 ends_as Bars Bars' Does More c d events (Some (stops.Device roles.High faults)) b f h = absurd h
 ends_as Bars Bars' Does More c d events (Some (stops.Device roles.Recv faults)) b f h = absurd h
 ends_as Bars Bars' Does More c d events (Some (stops.Full end size_of_message size)) b f h = absurd h
+ends_as Bars Bars' Does More c d events (Some (stops.Disk role why)) b f h = absurd h
 
 -- nothing was done
 pub ends_barred : (Bars : Type 0) (Does : Bool → PastAlone → List Event → Type 0) (c d : LowParts) (events : List Event) (stop : Option Stop)

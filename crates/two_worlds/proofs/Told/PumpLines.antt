@@ -9,7 +9,7 @@ use Rattle.script_reader.specs.declared.event.Event.{Event}
 use Rattle.script_reader.specs.declared.line.Line.{Line}
 use Rattle.script_reader.specs.Alone.{PastAlone, is_timely_alone, IsRefusedAlone, StepAlone}
 use Rattle.two_worlds.specs.LowParts.{PartsStand, StandsForSome, EndsBy, Ends}
-use Rattle.two_worlds.specs.LowPumps.{low_row_of, AppliesAlone, is_device}
+use Rattle.two_worlds.specs.LowPumps.{low_row_of, AppliesAlone, stops_at_disk}
 use Rattle.two_worlds.specs.declared.applied.Stop.{Stop}
 use Rattle.two_worlds.specs.declared.applied.Stop.TheVariants as stops
 use Rattle.two_worlds.specs.declared.low_pump.parts.LowParts.{LowParts}
@@ -37,18 +37,20 @@ applies_low old new line p printed (Some (stops.Device roles.Low faults)) h = (h
 applies_low old new line p printed (Some (stops.Device roles.High faults)) h = absurd h
 applies_low old new line p printed (Some (stops.Device roles.Recv faults)) h = absurd h
 applies_low old new line p printed (Some (stops.Full end size_of_message size)) h = absurd h
+applies_low old new line p printed (Some (stops.Disk role why)) h = absurd h
 
 module _ (c d : LowParts) (Bars : PastAlone → Type 0) (Does : PastAlone → Bool → PastAlone → List Event → Type 0) where
-  down_by : (p : PastAlone) (printed : List Event) (stop : Option Stop) → PartsStand c p → EndsBy (Bars p) (Does p) c d printed stop → is_down d.process ≡ is_device stop
+  down_by : (p : PastAlone) (printed : List Event) (stop : Option Stop) → PartsStand c p → EndsBy (Bars p) (Does p) c d printed stop → is_down d.process ≡ stops_at_disk stop
   down_by p printed None was h = h.2.up
   down_by p printed (Some stops.Line) was h = ap (λ (t : LowParts). is_down t.process) h.2 ∙ was.up
   down_by p printed (Some (stops.Device roles.Low faults)) was h = h.1
   down_by p printed (Some (stops.Device roles.High faults)) was h = absurd h
   down_by p printed (Some (stops.Device roles.Recv faults)) was h = absurd h
   down_by p printed (Some (stops.Full end size_of_message size)) was h = absurd h
+  down_by p printed (Some (stops.Disk role why)) was h = absurd h
 
   -- the process is down exactly where a device stopped the line
-  pub down_after : (printed : List Event) (stop : Option Stop) → ∥ StandsForSome c ∥₁ → Ends c d Bars Does printed stop → is_down d.process ≡ is_device stop
+  pub down_after : (printed : List Event) (stop : Option Stop) → ∥ StandsForSome c ∥₁ → Ends c d Bars Does printed stop → is_down d.process ≡ stops_at_disk stop
   down_after printed stop some ends = ∥∥₁_elim some (hlevel props) (λ s. down_by s.0 printed stop s.1 (ends s.0 s.1))
 
   stands_by : (p : PastAlone) (printed : List Event) (stop : Option Stop) → PartsStand c p → EndsBy (Bars p) (Does p) c d printed stop → Holds d
@@ -58,6 +60,7 @@ module _ (c d : LowParts) (Bars : PastAlone → Type 0) (Does : PastAlone → Bo
   stands_by p printed (Some (stops.Device roles.High faults)) was h up = absurd h
   stands_by p printed (Some (stops.Device roles.Recv faults)) was h up = absurd h
   stands_by p printed (Some (stops.Full end size_of_message size)) was h up = absurd h
+  stands_by p printed (Some (stops.Disk role why)) was h up = absurd h
 
   pub still_holds : (printed : List Event) (stop : Option Stop) → ∥ StandsForSome c ∥₁ → Ends c d Bars Does printed stop → Holds d
   still_holds printed stop some ends up = ∥∥₁_elim some (hlevel props) (λ s. stands_by s.0 printed stop s.1 (ends s.0 s.1) up)

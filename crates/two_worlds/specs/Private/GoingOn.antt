@@ -2,7 +2,7 @@
 use Rattle.std.specs.Prelude.{◌≡◌, true, Result, Ok, Err}
 use Rattle.disk_model.specs.Disk.{Meaning}
 use Rattle.two_worlds.specs.declared.applied.Stop.{Stop}
-use Rattle.two_worlds.specs.declared.applied.Stop.TheVariants.{Line, Device, Full}
+use Rattle.two_worlds.specs.declared.applied.Stop.TheVariants.{Line, Device, Full, Disk}
 use Rattle.two_worlds.specs.declared.pump.parts.Parts.{Parts}
 use Rattle.two_worlds.specs.Standing.{is_down, disk_at}
 use Rattle.two_worlds.specs.Working.{Works, IsTooLong}
@@ -15,3 +15,4 @@ WorksOn m d (Err Line) = ⊥
 WorksOn m d (Err (Device role faults)) = (is_down d ≡ true) × (faults ≡ m.count (disk_at role d))
 WorksOn m d (Err (Full end size_of_message size)) =
     ∥ Works m d ∥₁ × IsTooLong d end size_of_message size
+WorksOn m d (Err (Disk role why)) = ⊥

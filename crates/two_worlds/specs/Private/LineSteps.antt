@@ -8,7 +8,7 @@ use Rattle.script_reader.specs.Highs.{IsOverfull}
 use Rattle.script_reader.specs.Steps.{is_timely, IsCrowded, IsRefusedWhole, LineStep, Overfills}
 use Rattle.script_reader.specs.Breaks.{Breaks}
 use Rattle.two_worlds.specs.declared.applied.Stop.{Stop}
-use Rattle.two_worlds.specs.declared.applied.Stop.TheVariants.{Line, Device, Full}
+use Rattle.two_worlds.specs.declared.applied.Stop.TheVariants.{Line, Device, Full, Disk}
 use Rattle.two_worlds.specs.declared.pump.parts.Parts.{Parts}
 use Rattle.two_worlds.specs.Standing.{Stands}
 use Rattle.two_worlds.specs.Doing.{DoesFrom}
@@ -40,6 +40,7 @@ RunsFrom m c d line out now p (Ok done) = LineDoes m c d line out now p (Ok done
 RunsFrom m c d line out now p (Err Line) = (d ≡ c) × (now ≡ out) × IsCrowded p line
 RunsFrom m c d line out now p (Err (Device role faults)) = LineDoes m c d line out now p (Err (Device role faults))
 RunsFrom m c d line out now p (Err (Full end size_of_message size)) = LineDoes m c d line out now p (Err (Full end size_of_message size))
+RunsFrom m c d line out now p (Err (Disk role why)) = ⊥
 
 abbrev pub Runs : {D : Type 0} → Meaning D → Parts D → Parts D → ScriptLine → List Event → List Event → Result (Unit {0}) Stop → Type 0
 Runs m c d line out now result = (p : Past) → Stands m c p → RunsFrom m c d line out now p result
@@ -52,6 +53,7 @@ AttemptsFrom m c d line out now p (Err (Device role faults)) =
     (is_timely c.row p line ≡ true) × LineDoes m c d line out now p (Err (Device role faults))
 AttemptsFrom m c d line out now p (Err (Full end size_of_message size)) =
     (is_timely c.row p line ≡ true) × LineDoes m c d line out now p (Err (Full end size_of_message size))
+AttemptsFrom m c d line out now p (Err (Disk role why)) = ⊥
 
 abbrev pub Attempts : {D : Type 0} → Meaning D → Parts D → Parts D → ScriptLine → List Event → List Event → Result (Unit {0}) Stop → Type 0
 Attempts m c d line out now result = (p : Past) → Stands m c p → AttemptsFrom m c d line out now p result
@@ -65,6 +67,7 @@ RunsOn m c d line out now (Ok done) = IsUncrowdedBy c line × WorksOn m d (Ok do
 RunsOn m c d line out now (Err Line) = (d ≡ c) × (now ≡ out) × IsCrowdedBy c line
 RunsOn m c d line out now (Err (Device role faults)) = IsUncrowdedBy c line × WorksOn m d (Err (Device role faults))
 RunsOn m c d line out now (Err (Full end size_of_message size)) = IsUncrowdedBy c line × WorksOn m d (Err (Full end size_of_message size))
+RunsOn m c d line out now (Err (Disk role why)) = ⊥
 
 -- any line: it can be applied, and the parts go on from what it did; or it can't, and nothing has changed
 abbrev pub AttemptsOn : {D : Type 0} → Meaning D → Parts D → Parts D → ScriptLine → List Event → List Event → Result (Unit {0}) Stop → Type 0
@@ -72,6 +75,7 @@ AttemptsOn m c d line out now (Ok done) = CanApply c line × WorksOn m d (Ok don
 AttemptsOn m c d line out now (Err Line) = (d ≡ c) × (now ≡ out) × CannotApply c line
 AttemptsOn m c d line out now (Err (Device role faults)) = CanApply c line × WorksOn m d (Err (Device role faults))
 AttemptsOn m c d line out now (Err (Full end size_of_message size)) = CanApply c line × WorksOn m d (Err (Full end size_of_message size))
+AttemptsOn m c d line out now (Err (Disk role why)) = ⊥
 
 -- ---- an answer, as the reason to stop that it gives ----
 

@@ -1,6 +1,6 @@
 //! A high look of a pump.
 
-ghost use Rattle.std.specs.Prelude.{◌≡◌, ℕ, ◌+◌, ◌^◌, ◌<◌, ◌≤◌, ◌++◌, true, is_some, [], Option, None, Some, length, slice_get};
+ghost use Rattle.std.specs.Prelude.{◌≡◌, ℕ, Bool, ◌+◌, ◌^◌, ◌<◌, ◌≤◌, ◌++◌, true, is_some, [], Option, None, Some, length, slice_get};
 ghost use Rattle.disk_model.specs.declared.name.Role.TheVariants as roles;
 ghost use Rattle.high_process.specs.States as high;
 ghost use Rattle.high_process.specs.Tasks.{frame_of};
@@ -14,7 +14,7 @@ ghost use Rattle.two_worlds.specs.Private.GoingOn.{WorksOn};
 ghost use Rattle.two_worlds.specs.Private.Serving.{DisksServe};
 ghost use Rattle.two_worlds.specs.Timely.{goes_on_by};
 ghost use Rattle.two_worlds.specs.Printing.{lines_in};
-ghost use Rattle.two_worlds.specs.Private.HighLooks.{ComesBack, LeadsWith, BreaksWith, frame_when, most_lines, printed_look, packets_after};
+ghost use Rattle.two_worlds.specs.Private.HighLooks.{ComesBack, LeadsWith, BreaksWith, Attaches, BreaksAttaching, frame_when, most_lines, printed_look, packets_after};
 
 use crate::applied::Stop;
 use crate::printing::put;
@@ -22,7 +22,7 @@ use crate::pump::parts::Parts;
 use arrayvec::ArrayVec;
 use disk_model::{Disk, Role};
 use high_process::{HighFault, HighLook};
-use pump_frame::Frame;
+use pump_frame::{Frame, Kind};
 use script_reader::EventHead;
 
 /// The frame, where it comes back.
@@ -68,7 +68,7 @@ impl<D: Disk> Parts<D> {
         }
     }
 
-    /// A high look at this moment, to which the TAKEN at hand comes back or nothing.
+    /// A high look at this moment, to which the TAKEN or the ATTACH at hand comes back or nothing.
     fn look_with(
         &mut self,
         moment: u64,
@@ -79,11 +79,11 @@ impl<D: Disk> Parts<D> {
         requires order { self.old.moment ≤ moment }
         requires moment { moment ≤ 2 ^ 62 }
         requires back { (p : Past) → Stands D.told self.old p
-            → (back : Option ℕ) × ComesBack self.old.row.id p.world (frame_when comes_back self.old.taken) back }
+            → (attaches : Bool) × (back : Option ℕ) × ComesBack self.old.row.id p.world attaches (frame_when comes_back self.old.taken) back }
         requires out { length out.old.items + most_lines (frame_when comes_back self.old.taken) ≤ 4 }
         ensures does { (p : Past) → Stands D.told self.old p
-            → (back : Option ℕ) → ComesBack self.old.row.id p.world (frame_when comes_back self.old.taken) back
-            → DoesFrom (LeadsWith self.old.row moment back) (BreaksWith moment back) NeverOverfills
+            → (attaches : Bool) (back : Option ℕ) → ComesBack self.old.row.id p.world attaches (frame_when comes_back self.old.taken) back
+            → DoesFrom (LeadsWith self.old.row moment attaches back) (BreaksWith moment back) NeverOverfills
             D.told self.old self.new (lines_in out.old.items) (lines_in out.new.items) p result }
         ensures works { WorksOn D.told self.new result }
         ensures goes { is_some (high.hand_of self.new.high) ≡ true → goes_on_by self.old ≡ true }
@@ -109,9 +109,9 @@ impl<D: Disk> Parts<D> {
                 role: Role::High,
                 faults,
             }),
-            // A TAKEN of a message that was not sent is refused.
+            // A TAKEN of a message that was not sent is refused, and so is an ATTACH that counts one.
             Err(HighFault::Ahead { .. }) => Ok(()),
-            // Only a receiver that attaches can be behind.
+            // Only over disks that do not agree has a receiver fewer messages than were removed.
             Err(HighFault::Behind { .. }) => Ok(()),
         }
     }
@@ -170,7 +170,39 @@ impl<D: Disk> Parts<D> {
         ensures recv { LeavesAlone roles.Recv self.old self.new }
         ensures row { self.new.row ≡ self.old.row }
     {
+        self.taken.kind = Kind::Taken;
         self.taken.number = self.number_back(back);
+        self.look_with(moment, true, out)
+    }
+
+    /// A high look at this moment, to which the receiver's ATTACH comes: it brings back the TAKEN of
+    /// the last message that the receiver has, and what is then in the hand is sent. Where that
+    /// message was not sent it is refused, and the look does nothing. `Stop::Device` says that the
+    /// high disk failed in the removal; the high process is then down.
+    pub fn attach(&mut self, moment: u64, out: &mut ArrayVec<EventHead, 4>) -> Result<(), Stop>
+        requires able { IsAble D.told self.old }
+        requires order { self.old.moment ≤ moment }
+        requires moment { moment ≤ 2 ^ 62 }
+        requires out { length out.old.items ≤ 1 }
+        ensures does { Does (Attaches self.old.row moment) (BreaksAttaching self.old.row moment)
+            NeverOverfills D.told self.old self.new (lines_in out.old.items) (lines_in out.new.items) result }
+        ensures works { WorksOn D.told self.new result }
+        ensures serve { DisksServe D.told self.old self.new result }
+        ensures low { LeavesAlone roles.Low self.old self.new }
+        ensures recv { LeavesAlone roles.Recv self.old self.new }
+        ensures row { self.new.row ≡ self.old.row }
+    {
+        let count = self.receiver.count();
+        put(
+            EventHead::Attach {
+                session: self.row.id,
+                moment,
+                count,
+            },
+            out,
+        );
+        self.taken.kind = Kind::Attach;
+        self.taken.number = count;
         self.look_with(moment, true, out)
     }
 }

@@ -1,6 +1,6 @@
 //! The lines of a script.
 
-ghost use Rattle.std.specs.Prelude.{◌≡◌, ℕ, ◌+◌, ◌^◌, ◌<◌, ◌≤◌, Bool, true, [], length, Some};
+ghost use Rattle.std.specs.Prelude.{◌≡◌, ℕ, ◌+◌, ◌^◌, ◌<◌, ◌≤◌, Bool, true, false, [], length, Some};
 ghost use Rattle.disk_model.specs.declared.name.Role.TheVariants as roles;
 ghost use Rattle.script_reader.specs.Lawful.{IsLawfulLine, IsLawfulArriving};
 ghost use Rattle.script_reader.specs.declared.line.Line.TheVariants as lines;
@@ -16,7 +16,7 @@ ghost use Rattle.two_worlds.specs.Doing.{Does, LeavesAlone};
 ghost use Rattle.two_worlds.specs.Private.GoingOn.{WorksOn};
 ghost use Rattle.two_worlds.specs.Private.Serving.{DisksServe};
 ghost use Rattle.two_worlds.specs.Private.LineSteps.{IsOverfullSent, Runs, RunsOn, Attempts, AttemptsOn, answer_of};
-ghost use Rattle.two_worlds.specs.Timely.{goes_on_by, is_timely_by};
+ghost use Rattle.two_worlds.specs.Timely.{goes_on_by, is_timely_by, opens_again};
 
 use crate::applied::Stop;
 use crate::pump::parts::Parts;
@@ -53,7 +53,9 @@ impl<D: Disk> Parts<D> {
                 ..
             }
             | LineHead::Gone { session, moment }
-            | LineHead::High { session, moment } => {
+            | LineHead::High { session, moment }
+            | LineHead::Restart { session, moment }
+            | LineHead::ReceiverRestart { session, moment } => {
                 *session == self.row.id && self.moment <= *moment
             }
             LineHead::Carry { session, back } => {
@@ -188,6 +190,7 @@ impl<D: Disk> Parts<D> {
         requires able { IsAble D.told self.old }
         requires lawful { IsLawfulLine (line_with bytes.now line.now) }
         requires room { CanHoldLine line.now bytes.now }
+        requires stays { opens_again (line_with bytes.now line.now) ≡ false }
         requires timely { is_timely_by self.old (line_with bytes.now line.now) ≡ true }
         requires out { length out.old.items ≤ 0 }
         ensures runs { Runs D.told self.old self.new (line_with bytes.now line.now) (lines_in out.old.items) (lines_in out.new.items) result }
@@ -199,7 +202,9 @@ impl<D: Disk> Parts<D> {
             LineHead::Skip
             | LineHead::Session(_)
             | LineHead::LowSession { .. }
-            | LineHead::Told { .. } => { Err(Stop::Line) }
+            | LineHead::Told { .. }
+            | LineHead::Restart { .. }
+            | LineHead::ReceiverRestart { .. } => { Err(Stop::Line) }
             LineHead::Look {
                 moment,
                 word,
@@ -224,6 +229,7 @@ impl<D: Disk> Parts<D> {
         requires able { IsAble D.told self.old }
         requires lawful { IsLawfulLine (line_with bytes.now line.now) }
         requires room { CanHoldLine line.now bytes.now }
+        requires stays { opens_again (line_with bytes.now line.now) ≡ false }
         requires out { length out.old.items ≤ 0 }
         ensures attempts { Attempts D.told self.old self.new (line_with bytes.now line.now) (lines_in out.old.items) (lines_in out.new.items) result }
         ensures on { AttemptsOn D.told self.old self.new (line_with bytes.now line.now) (lines_in out.old.items) (lines_in out.new.items) result }
@@ -247,6 +253,7 @@ impl<D: Disk> Parts<D> {
         requires able { IsAble D.told self.old }
         requires lawful { IsLawfulLine (line_with bytes.now line.now) }
         requires room { CanHoldLine line.now bytes.now }
+        requires stays { opens_again (line_with bytes.now line.now) ≡ false }
         ensures attempts { Attempts D.told self.old self.new (line_with bytes.now line.now) [] (lines_in out.new.items) (answer_of result) }
         ensures on { AttemptsOn D.told self.old self.new (line_with bytes.now line.now) [] (lines_in out.new.items) (answer_of result) }
         ensures serve { DisksGo D.told self.old.row (disk_at roles.Low self.old) (disk_at roles.High self.old) (disk_at roles.Recv self.old)

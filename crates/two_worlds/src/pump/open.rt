@@ -1,23 +1,31 @@
-//! A new pump.
+//! A pump is opened on its disks.
 
-ghost use Rattle.std.specs.Prelude.{◌≡◌, ◌≤◌, [], None, length, IfOk, IfErr};
+ghost use Rattle.std.specs.Prelude.{◌≡◌, ◌≤◌, [], false, true, None, Some, is_some, length, IfOk, IfErr, IfSome};
 ghost use Rattle.circular_buffer.specs.Buffer.{buffer};
+ghost use Rattle.disk_model.specs.Disk.{Moves, Same};
 ghost use Rattle.disk_model.specs.declared.name.Role.TheVariants as roles;
+ghost use Rattle.pump_core.specs.History.{first_life};
 ghost use Rattle.pump_core.specs.Passage.{new_low, new_high, shape_of_row};
 ghost use Rattle.pump_frame.specs.Rows.{IsLawfulRow};
 ghost use Rattle.passage.specs.Plain.{shape_of, StandsFor as EndsStand};
-ghost use Rattle.stable_buffer.specs.Format.{size_of};
-ghost use Rattle.stable_buffer.specs.Register.{register_disk};
-ghost use Rattle.script_reader.specs.Past.{fresh};
-ghost use Rattle.two_worlds.specs.Openings.{IsCalled, IsFormatted, ComeBack};
+ghost use Rattle.stable_buffer.specs.Low.{low_disk, low_is_open};
+ghost use Rattle.stable_buffer.specs.High.{high_disk};
+ghost use Rattle.high_receiver.specs.Receiving.{recv_disk};
+ghost use Rattle.recovery.specs.Calls.{is_device};
+ghost use Rattle.recovery.specs.declared.why.Why.TheVariants.{Device};
+ghost use Rattle.script_reader.specs.Openings.{Found, first_past};
+ghost use Rattle.two_worlds.specs.Openings.{IsRefused, DisksStandFor, LeavesDisk, ComeBack, disk_back};
+ghost use Rattle.two_worlds.specs.Private.Readied.{PumpOpens, ReceiverOpens, disk_after, fails_at, role_blamed};
+ghost use Rattle.two_worlds.specs.Private.Opened.{AreOpened};
 ghost use Rattle.two_worlds.specs.Connections.{unused};
-ghost use Rattle.two_worlds.specs.Rooms.{IsFree};
+ghost use Rattle.two_worlds.specs.Rooms.{Serves};
 ghost use Rattle.two_worlds.specs.Standing.{Stands, disk_at};
+ghost use Rattle.two_worlds.specs.Working.{Works};
 
 use crate::connection::Connection;
 use crate::not_open::NotOpen;
-use crate::pump::formatted::{Registers, format_all};
 use crate::pump::parts::Parts;
+use crate::pump::readied::{Disks, ready_all};
 use circular_buffer::HeapCircularBuffer;
 use disk_model::{Disk, Role};
 use high_process::HighProcess;
@@ -25,7 +33,8 @@ use high_receiver::Receiver;
 use low_process::LowProcess;
 use passage::PlainEnds;
 use pump_frame::{Frame, Item, Kind, OutOfMemory, Payload, SessionRow};
-use stable_buffer::{HighStore, LowStore, RECEIVER_SIZE};
+use recovery::{Opened, Why, agree, open_pump, open_receiver};
+use stable_buffer::{LowStore, RECEIVER_SIZE};
 use std::alloc::Global;
 
 /// How many packets are kept in each direction.
@@ -56,34 +65,109 @@ fn reserve(alloc: Global, row: &SessionRow) -> Result<Memory, OutOfMemory>
     })
 }
 
+// Whose disk a comparison blames.
+fn blamed<D: Disk>(low: &LowStore<D>) -> Role
+    ensures { result ≡ role_blamed (low_is_open low.now) }
+{
+    if low.is_open() { Role::Recv } else { Role::Low }
+}
+
+fn refused<D: Disk>(role: Role, why: Why, pump: Opened<D>, recv: D) -> NotOpen<D>
+    ensures { result ≡ record { role = role; why = Some why; low = low_disk pump.low; high = high_disk pump.high; recv = recv } }
+{
+    NotOpen {
+        role,
+        why: Some(why),
+        low: pump.low.into_disk(),
+        high: pump.high.into_disk(),
+        recv,
+    }
+}
+
+// The pump's disks are opened, then the receiver's, and then these are compared.
+fn open_all<D: Disk>(
+    row: &SessionRow,
+    disks: Disks<D>,
+    ends: &mut PlainEnds,
+) -> Result<(Opened<D>, Receiver<D>), NotOpen<D>>
+    requires lawful { IsLawfulRow row.now }
+    requires fresh { EndsStand ends.old new_low new_high }
+    requires shape { shape_of ends.old ≡ shape_of_row row.now }
+    ensures pump { IfOk result (λ s. PumpOpens D.told row.now (D.told.reading disks.low) (D.told.reading disks.high)
+        s.0 ends.new) }
+    ensures receiver { IfOk result (λ s. ReceiverOpens D.told row.now (D.told.reading disks.low) (D.told.reading disks.recv)
+        s.0.removed s.0.next s.1) }
+    ensures refused { IfErr result (λ e. IfSome e.why (λ why. is_device why ≡ false → D.told.tells
+        → IsRefused row.now (D.told.reading disks.low) (D.told.reading disks.high) (D.told.reading disks.recv) e.role why)) }
+    ensures device { IfErr result (λ e. IfSome e.why (λ why. is_device why ≡ true
+        → why ≡ Device (D.told.count (disk_back e.role e)))) }
+    ensures some { IfErr result (λ e. is_some e.why ≡ true) }
+    ensures low { Serves D.told 0 disks.low (disk_after roles.Low result) (fails_at roles.Low result) }
+    ensures high { Serves D.told 0 disks.high (disk_after roles.High result) (fails_at roles.High result) }
+    ensures recv { Serves D.told 0 disks.recv (disk_after roles.Recv result) (fails_at roles.Recv result) }
+    ensures moves_low { Moves D.told Same disks.low (disk_after roles.Low result) }
+    ensures moves_high { Moves D.told Same disks.high (disk_after roles.High result) }
+    ensures moves_recv { Moves D.told Same disks.recv (disk_after roles.Recv result) }
+{
+    let mut pump = match open_pump(disks.low, disks.high, row, ends) {
+        Ok(pump) => pump,
+        Err(refused) => {
+            return Err(NotOpen {
+                role: refused.role,
+                why: Some(refused.why),
+                low: refused.low,
+                high: refused.high,
+                recv: disks.recv,
+            });
+        }
+    };
+    let mut receiver = match open_receiver(disks.recv, row, RECEIVER_SIZE) {
+        Ok(receiver) => receiver,
+        Err((recv, why)) => return Err(refused(Role::Recv, why, pump, recv)),
+    };
+    match agree(&mut pump.low, pump.removed, &mut receiver) {
+        Ok(()) => Ok((pump, receiver)),
+        Err(why) => {
+            let role = blamed(&pump.low);
+            Err(refused(role, why, pump, receiver.into_disk()))
+        }
+    }
+}
+
 impl<D: Disk> Parts<D> {
-    // The parts over new disks.
-    fn assemble(row: &SessionRow, memory: Memory, registers: Registers<D>) -> Parts<D>
-        requires tells { D.told.tells }
+    // The parts over what was opened.
+    fn assemble(
+        row: &SessionRow,
+        memory: Memory,
+        pump: Opened<D>,
+        receiver: Receiver<D>,
+    ) -> Parts<D>
         requires lawful { IsLawfulRow row.now }
         requires connection { memory.connection ≡ unused }
-        requires ends { EndsStand memory.ends new_low new_high }
-        requires shape { shape_of memory.ends ≡ shape_of_row row.now }
         requires sent { memory.sent ≡ buffer [] 64 }
         requires returned { memory.returned ≡ buffer [] 64 }
-        requires low { (old : D) × IsFormatted D.told row.now roles.Low old registers.low }
-        requires high { (old : D) × IsFormatted D.told row.now roles.High old registers.high }
-        requires recv { (old : D) × IsFormatted D.told row.now roles.Recv old registers.recv }
-        ensures stands { Stands D.told result (fresh row.now) }
+        requires pump { PumpOpens D.told row.now (D.told.reading (low_disk pump.low)) (D.told.reading (high_disk pump.high))
+            pump memory.ends }
+        requires receiver { ReceiverOpens D.told row.now (D.told.reading (low_disk pump.low)) (D.told.reading (recv_disk receiver))
+            pump.removed pump.next receiver }
+        ensures opened { AreOpened D.told result first_life }
+        ensures start { result.moment ≡ 0 }
+        ensures sent { result.sent.items ≡ [] }
+        ensures returned { result.returned.items ≡ [] }
         ensures row { result.row ≡ row.now }
-        ensures low { disk_at roles.Low result ≡ register_disk registers.low }
-        ensures high { disk_at roles.High result ≡ register_disk registers.high }
-        ensures recv { disk_at roles.Recv result ≡ register_disk registers.recv }
+        ensures low { disk_at roles.Low result ≡ low_disk pump.low }
+        ensures high { disk_at roles.High result ≡ high_disk pump.high }
+        ensures recv { disk_at roles.Recv result ≡ recv_disk receiver }
     {
         Parts {
             row: *row,
             connection: memory.connection,
-            low: LowProcess::open(row, 0, None),
-            low_store: LowStore::over(registers.low, row),
+            low: LowProcess::open(row, pump.next, pump.low_hand),
+            low_store: pump.low,
             ends: memory.ends,
-            high: HighProcess::open(row, 0, None),
-            high_store: HighStore::over(registers.high),
-            receiver: Receiver::over(registers.recv, row, RECEIVER_SIZE),
+            high: HighProcess::open(row, pump.removed, pump.high_hand),
+            high_store: pump.high,
+            receiver,
             sent: memory.sent,
             returned: memory.returned,
             taken: Frame {
@@ -96,32 +180,27 @@ impl<D: Disk> Parts<D> {
         }
     }
 
-    /// The parts of a session before its first line, over three disks of size 0. All memory is taken
-    /// first; then the disks are formatted. Where the plan is told, a disk that is not armed and has
-    /// room for its format does not fail.
-    pub fn fresh(
+    /// The parts of a session before its first line. All memory is taken first; then each disk that is
+    /// empty is formatted, and then they are opened and compared.
+    pub fn open(
         alloc: Global,
         row: &SessionRow,
         low: D,
         high: D,
         recv: D,
     ) -> Result<Parts<D>, NotOpen<D>>
-        requires tells { D.told.tells }
         requires lawful { IsLawfulRow row.now }
-        requires low { D.told.reading low ≡ [] }
-        requires high { D.told.reading high ≡ [] }
-        requires recv { D.told.reading recv ≡ [] }
-        ensures stands { IfOk result (λ parts. Stands D.told parts (fresh row.now)) }
+        ensures works { IfOk result (λ parts. Works D.told parts) }
+        ensures opens { IfOk result (λ parts. D.told.tells → (f : Found) × DisksStandFor D.told row.now low high recv f) }
+        ensures stands { IfOk result (λ parts. D.told.tells → (f : Found) → DisksStandFor D.told row.now low high recv f
+            → Stands D.told parts (first_past row.now f)) }
         ensures row { IfOk result (λ parts. parts.row ≡ row.now) }
-        ensures low { IfOk result (λ parts. IsCalled D.told low (disk_at roles.Low parts)) }
-        ensures high { IfOk result (λ parts. IsCalled D.told high (disk_at roles.High parts)) }
-        ensures recv { IfOk result (λ parts. IsCalled D.told recv (disk_at roles.Recv parts)) }
+        ensures low { IfOk result (λ parts. LeavesDisk D.told row.now roles.Low low (disk_at roles.Low parts) false) }
+        ensures high { IfOk result (λ parts. LeavesDisk D.told row.now roles.High high (disk_at roles.High parts) false) }
+        ensures recv { IfOk result (λ parts. LeavesDisk D.told row.now roles.Recv recv (disk_at roles.Recv parts) false) }
         ensures back { IfErr result (λ e. ComeBack D.told row.now low high recv e) }
-        ensures never { IfErr result (λ e. D.told.tells_plan
-            → IsFree D.told (size_of row.now roles.Low) low → IsFree D.told (size_of row.now roles.High) high
-            → IsFree D.told (size_of row.now roles.Recv) recv → e.why ≡ None) }
     {
-        let Ok(memory) = reserve(alloc, row) else {
+        let Ok(mut memory) = reserve(alloc, row) else {
             return Err(NotOpen {
                 role: Role::Low,
                 why: None,
@@ -130,9 +209,8 @@ impl<D: Disk> Parts<D> {
                 recv,
             });
         };
-        match format_all(row, low, high, recv) {
-            Ok(registers) => Ok(Parts::assemble(row, memory, registers)),
-            Err(not_open) => Err(not_open),
-        }
+        let disks = ready_all(row, low, high, recv)?;
+        let (pump, receiver) = open_all(row, disks, &mut memory.ends)?;
+        Ok(Parts::assemble(row, memory, pump, receiver))
     }
 }

@@ -25,8 +25,8 @@ pub struct Parts<D> {
     pub sent: HeapCircularBuffer<Item>,
     /// The numbers of the TAKEN that were sent last, at most 64.
     pub returned: HeapCircularBuffer<u64>,
-    /// The TAKEN that comes back, whose number is set each time: a frame has more than 1 KB, so one
-    /// serves the session.
+    /// The TAKEN or the ATTACH that comes back, whose kind and number are set each time: a frame has
+    /// more than 1 KB, so one serves the session.
     pub taken: Frame,
     /// The moment of the last line that had one.
     pub moment: u64,

@@ -1,6 +1,6 @@
 ghost use Rattle.std.specs.Prelude.{◌≡◌, ◌<◌, ◌≤◌, [], false, IfSome, IfOk};
 ghost use Rattle.pump_frame.specs.Rows.{IsLawfulRow};
-ghost use Rattle.two_worlds.specs.LowPumps.{is_device};
+ghost use Rattle.two_worlds.specs.LowPumps.{stops_at_disk};
 ghost use Rattle.two_worlds.specs.Pumps.{is_down};
 
 use crate::{Pump, Stop};
@@ -56,7 +56,7 @@ fn play<D: Disk>(
     output: &mut Vec<u8>,
 ) -> Result<Option<Stop>, Fail>
     requires up { is_down pump.old ≡ false }
-    ensures down { IfOk result (λ stop. is_down pump.new ≡ is_device stop) }
+    ensures down { IfOk result (λ stop. is_down pump.new ≡ stops_at_disk stop) }
 {
     let mut text = ArrayVec::new();
     for line in script {
@@ -113,7 +113,37 @@ fn packets_are_lost_or_come_again(rt: HostRuntime) -> Result<(), Fail> {
         "carry 1 0",
         "look 1 178 00000000",
     ];
+    // The receiver is opened again: its ATTACH brings back the TAKEN that was lost.
+    let taken: &[&str] = &[
+        HELLO,
+        "look 1 100 00000000 data 0 61",
+        "look 1 100 00000000",
+        "high 1 110",
+        "carry 1 0",
+        "receiver-restart 1 160",
+    ];
+    // It has nothing, so what is in the hand is sent again; a moment that is over is refused.
+    let lost: &[&str] = &[
+        HELLO,
+        "look 1 100 00000000 data 0 61",
+        "look 1 100 00000000",
+        "high 1 110",
+        "receiver-restart 1 160",
+        "receiver-restart 1 159",
+    ];
     for (script, wanted, stop, counts) in [
+        (
+            taken,
+            "low 1 10 welcome 0\nstored 1 100 0\npassed 1 100 0 20000\nsent 1 110 0\ntook 1 0\nattach 1 160 1\nremoved 1 160 0 50\n",
+            None,
+            (1, 1, 1),
+        ),
+        (
+            lost,
+            "low 1 10 welcome 0\nstored 1 100 0\npassed 1 100 0 20000\nsent 1 110 0\nattach 1 160 0\nsent 1 160 0\n",
+            Some(Stop::Line),
+            (1, 0, 0),
+        ),
         (
             again,
             "low 1 10 welcome 0\nstored 1 100 0\npassed 1 100 0 20000\nsent 1 110 0\ntook 1 0\nagain 1 0\nremoved 1 160 0 50\nlow 1 178 ack 0\n",

@@ -5,9 +5,6 @@ use Rattle.netpump.proofs.Opened.{lends_so, begins_so, unopened_goes, unopened_r
 use Rattle.netpump.proofs.Shelving.{rose_more}
 use Rattle.netpump.proofs.replay.begin_whole.Goals as goal
 
-pub open-requires-clause-cheat : goal.open-requires-clause-cheat
-open-requires-clause-cheat g c = ?
-
 pub returns-in-Ok-open-clause-goes : goal.returns-in-Ok-open-clause-goes
 returns-in-Ok-open-clause-goes g c = λ told tells.
     let o = c.in-Ok-open.ensures in

@@ -4,4 +4,4 @@ use Rattle.two_worlds.proofs.Timeline.Alone.{script_events}
 use Rattle.two_worlds.proofs.laws.low_scripts_are_timed.Goals as goal
 
 pub returns : goal.returns
-returns c = λ script s printed h. script_events None script (Some (Alone s)) printed h tt
+returns c = λ o script s printed h. script_events o None script (Some (Alone s)) printed h tt

@@ -3,9 +3,3 @@ use Rattle.netpump.proofs.session.Session.end.Goals as goal
 
 pub returns-in-Alone : goal.returns-in-Alone
 returns-in-Alone g c = alone_ends _ c.args.self.now c.in-Alone.id c.in-Alone.pump c.next.result c.in-Alone.is c.next.ensures
-
-pub counts-accepted-requires : goal.counts-accepted-requires
-counts-accepted-requires g c = ?
-
-pub next-requires : goal.next-requires
-next-requires g c = ?

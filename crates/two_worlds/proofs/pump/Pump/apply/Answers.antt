@@ -6,7 +6,7 @@ use Rattle.two_worlds.specs.Pumps.{Applies}
 use Rattle.two_worlds.proofs.pump.Pump.apply.Goals as goal
 
 pub returns-clause-applies : goal.returns-clause-applies
-returns-clause-applies g c = λ p s.
+returns-clause-applies g c = λ told p s.
     let e : line_with c.bytes.result.now c.head.result ≡ c.args.line.now = rw c.bytes.ensures c.head.ensures.value in
     subst (λ (t : Line × List Event). Applies g.D.Disk.told c.args.self.now c.apply_head-stop.new.self t.0 p t.1 c.apply_head-stop.result)
-    (λ i. (e i, sym c.events_of.ensures i)) (c.apply_head-stop.ensures.applies p s)
+    (λ i. (e i, sym c.events_of.ensures i)) (c.apply_head-stop.ensures.applies told p s)

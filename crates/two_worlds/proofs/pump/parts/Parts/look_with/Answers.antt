@@ -51,13 +51,13 @@ tell_high-requires g c = record {
 }
 
 pub returns-in-Ok-clause-does : goal.returns-in-Ok-clause-does
-returns-in-Ok-clause-does g c = λ p s back given.
+returns-in-Ok-clause-does g c = λ p s attaches back given.
     let m = g.D.Disk.told in
-    let comes = subst (λ f. ComesBack c.args.self.now.row.id p.world f back) (sym c.frame_back-frame.ensures) given in
+    let comes = subst (λ f. ComesBack c.args.self.now.row.id p.world attaches f back) (sym c.frame_back-frame.ensures) given in
     let d = c.args.self.now in
     let looked = c.in-Ok.ensures.looks s.ends.low s.ends.high (high_past_of d p) (s.ends.stand, s.ends.high_fits) s.high_ready.past in
-    led m d p s c.args.moment c.requires.order c.look.new.self c.look.new.store c.look.new.ends back c.in-Ok.look
-    (looks m d p s c.args.moment c.requires.order c.look.new.self c.look.new.store c.look.new.ends c.in-Ok.look c.in-Ok.ensures.store c.in-Ok.ensures.count c.in-Ok.ensures.up c.look.ensures.between c.look.ensures.row c.look.ensures.shape (frame_of c.frame_back-frame.result) back comes c.in-Ok.ensures.fares looked c.look.ensures.images)
+    led m d p s c.args.moment c.requires.order c.look.new.self c.look.new.store c.look.new.ends attaches back c.in-Ok.look
+    (looks m d p s c.args.moment c.requires.order c.look.new.self c.look.new.store c.look.new.ends attaches c.in-Ok.look c.in-Ok.ensures.store c.in-Ok.ensures.count c.in-Ok.ensures.up c.look.ensures.between c.look.ensures.row c.look.ensures.shape (frame_of c.frame_back-frame.result) back comes c.in-Ok.ensures.fares looked c.look.ensures.images)
     (lines_in c.args.out.now.items) (lines_in c.tell_high.new.out.items) c.tell_high.ensures.out c.tell_high.new.self c.tell_high.ensures.rest
 
 pub returns-in-Ok-clause-serve : goal.returns-in-Ok-clause-serve
@@ -66,7 +66,7 @@ returns-in-Ok-clause-serve g c =
     let d = c.args.self.now in
     let frame = frame_of c.frame_back-frame.result in
     looked_serves m d c.args.moment c.look.new.self c.look.new.store c.look.new.ends c.in-Ok.look (task_at d.high frame) c.in-Ok.ensures.fares
-    (removes_behind m d c.look.new.self c.look.new.store frame c.requires.able (λ p s. (let b = c.requires.back p s in (b.0, subst (λ f. ComesBack c.args.self.now.row.id p.world f b.0) (sym c.frame_back-frame.ensures) b.1))) c.look.ensures.images) c.tell_high.new.self c.tell_high.ensures.rest
+    (removes_behind m d c.look.new.self c.look.new.store frame c.requires.able (λ p s. (let b = c.requires.back p s in (b.0, b.1, subst (λ f. ComesBack c.args.self.now.row.id p.world b.0 f b.1) (sym c.frame_back-frame.ensures) b.2))) c.look.ensures.images) c.tell_high.new.self c.tell_high.ensures.rest
 
 pub returns-in-Ok-clause-out : goal.returns-in-Ok-clause-out
 returns-in-Ok-clause-out g c = ∥∥₁_elim c.requires.able.works le_prop (λ w.
@@ -75,13 +75,13 @@ returns-in-Ok-clause-out g c = ∥∥₁_elim c.requires.able.works le_prop (λ 
     omega (arith, few, ap most_lines c.frame_back-frame.ensures, ap length c.tell_high.ensures.out, length-append (lines_in c.args.out.now.items) (printed_look d.row.id c.args.moment c.in-Ok.look), length-map c.args.out.now.items event_of, length-map c.tell_high.new.out.items event_of))
 
 pub returns-in-Err-Device-clause-does : goal.returns-in-Err-Device-clause-does
-returns-in-Err-Device-clause-does g c = λ p s back given.
+returns-in-Err-Device-clause-does g c = λ p s attaches back given.
     let m = g.D.Disk.told in
-    let comes = subst (λ f. ComesBack c.args.self.now.row.id p.world f back) (sym c.frame_back-frame.ensures) given in
+    let comes = subst (λ f. ComesBack c.args.self.now.row.id p.world attaches f back) (sym c.frame_back-frame.ensures) given in
     let d = c.args.self.now in
     let task = task_at d.high (frame_of c.frame_back-frame.result) in
     let fares = fared m task d.high c.look.new.self d.high_store c.look.new.store c.look.result (Device c.in-Err-Device.faults) (c.in-Err-Device.is ∙ ap (λ f. Err f) c.in-Err-Device.field-0-is) c.look.ensures.fares in
-    let b = breaks m d p s c.args.moment c.requires.order c.look.new.self c.look.new.store c.look.new.ends (frame_of c.frame_back-frame.result) back c.in-Err-Device.faults comes fares c.look.ensures.images in
+    let b = breaks m d p s c.args.moment c.requires.order c.look.new.self c.look.new.store c.look.new.ends attaches (frame_of c.frame_back-frame.result) back c.in-Err-Device.faults comes fares c.look.ensures.images in
     (b.end, [], b.breaks, sym (append-nil (lines_in c.args.out.now.items)), b.fails, b.fits)
 
 pub returns-in-Err-Device-clause-serve : goal.returns-in-Err-Device-clause-serve
@@ -95,18 +95,18 @@ returns-in-Err-Device-clause-serve g c =
       low_goes = inl (refl, refl);
       high_goes = broken_serves m d c.look.new.self c.look.new.store frame task c.in-Err-Device.faults fares (asks_no_fault d.high frame c.in-Err-Device.faults);
       recv_goes = inl (refl, refl);
-      behind = removes_behind m d c.look.new.self c.look.new.store frame c.requires.able (λ p s. (let b = c.requires.back p s in (b.0, subst (λ f. ComesBack c.args.self.now.row.id p.world f b.0) (sym c.frame_back-frame.ensures) b.1))) c.look.ensures.images;
+      behind = removes_behind m d c.look.new.self c.look.new.store frame c.requires.able (λ p s. (let b = c.requires.back p s in (b.0, b.1, subst (λ f. ComesBack c.args.self.now.row.id p.world b.0 f b.1) (sym c.frame_back-frame.ensures) b.2))) c.look.ensures.images;
     }
 
 pub returns-in-Err-Ahead-clause-does : goal.returns-in-Err-Ahead-clause-does
-returns-in-Err-Ahead-clause-does g c = λ p s back given.
+returns-in-Err-Ahead-clause-does g c = λ p s attaches back given.
     let m = g.D.Disk.told in
-    let comes = subst (λ f. ComesBack c.args.self.now.row.id p.world f back) (sym c.frame_back-frame.ensures) given in
+    let comes = subst (λ f. ComesBack c.args.self.now.row.id p.world attaches f back) (sym c.frame_back-frame.ensures) given in
     let d = c.args.self.now in
     let task = task_at d.high (frame_of c.frame_back-frame.result) in
     let fares = fared m task d.high c.look.new.self d.high_store c.look.new.store c.look.result (Ahead c.in-Err-Ahead.field-0-0 c.in-Err-Ahead.field-0-1) (c.in-Err-Ahead.is ∙ ap (λ f. Err f) c.in-Err-Ahead.field-0-is) c.look.ensures.fares in
     let same = subst (λ r. OnErr r (c.look.new.ends ≡ d.ends)) c.in-Err-Ahead.is c.look.ensures.refused in
-    let b = refused m d p s c.args.moment c.requires.order c.look.new.self c.look.new.store c.look.new.ends (frame_of c.frame_back-frame.result) back c.in-Err-Ahead.field-0-0 c.in-Err-Ahead.field-0-1 comes fares same in
+    let b = refused m d p s c.args.moment c.requires.order c.look.new.self c.look.new.store c.look.new.ends attaches (frame_of c.frame_back-frame.result) back c.in-Err-Ahead.field-0-0 c.in-Err-Ahead.field-0-1 comes fares same in
     (b.end, [], b.leads, sym (append-nil (lines_in c.args.out.now.items)), b.stand, b.fits)
 
 pub returns-in-Err-Ahead-clause-serve : goal.returns-in-Err-Ahead-clause-serve
@@ -120,18 +120,18 @@ returns-in-Err-Ahead-clause-serve g c =
       low_goes = inl (refl, refl);
       high_goes = refused_serves m d c.look.new.self c.look.new.store frame task (Ahead c.in-Err-Ahead.field-0-0 c.in-Err-Ahead.field-0-1) refl fares;
       recv_goes = inl (refl, refl);
-      behind = removes_behind m d c.look.new.self c.look.new.store frame c.requires.able (λ p s. (let b = c.requires.back p s in (b.0, subst (λ f. ComesBack c.args.self.now.row.id p.world f b.0) (sym c.frame_back-frame.ensures) b.1))) c.look.ensures.images;
+      behind = removes_behind m d c.look.new.self c.look.new.store frame c.requires.able (λ p s. (let b = c.requires.back p s in (b.0, b.1, subst (λ f. ComesBack c.args.self.now.row.id p.world b.0 f b.1) (sym c.frame_back-frame.ensures) b.2))) c.look.ensures.images;
     }
 
 pub returns-in-Err-Behind-clause-does : goal.returns-in-Err-Behind-clause-does
-returns-in-Err-Behind-clause-does g c = λ p s back given.
+returns-in-Err-Behind-clause-does g c = λ p s attaches back given.
     let m = g.D.Disk.told in
     let d = c.args.self.now in
     let frame = frame_of c.frame_back-frame.result in
-    let comes = subst (λ f. ComesBack c.args.self.now.row.id p.world f back) (sym c.frame_back-frame.ensures) given in
+    let comes = subst (λ f. ComesBack c.args.self.now.row.id p.world attaches f back) (sym c.frame_back-frame.ensures) given in
     let e = Behind c.in-Err-Behind.field-0-0 c.in-Err-Behind.field-0-1 in
     let fares = fared m (task_at d.high frame) d.high c.look.new.self d.high_store c.look.new.store c.look.result e (c.in-Err-Behind.is ∙ ap (λ f. Err f) c.in-Err-Behind.field-0-is) c.look.ensures.fares in
-    absurd (never_behind m d p s c.args.moment c.requires.order c.look.new.self c.look.new.store c.look.new.ends frame back c.in-Err-Behind.field-0-0 c.in-Err-Behind.field-0-1 comes fares)
+    absurd (never_behind m d p s c.args.moment c.requires.order c.look.new.self c.look.new.store c.look.new.ends attaches frame back c.in-Err-Behind.field-0-0 c.in-Err-Behind.field-0-1 comes fares)
 
 pub returns-in-Err-Behind-clause-serve : goal.returns-in-Err-Behind-clause-serve
 returns-in-Err-Behind-clause-serve g c =
@@ -144,7 +144,7 @@ returns-in-Err-Behind-clause-serve g c =
       low_goes = inl (refl, refl);
       high_goes = refused_serves m d c.look.new.self c.look.new.store frame (task_at d.high frame) e refl fares;
       recv_goes = inl (refl, refl);
-      behind = removes_behind m d c.look.new.self c.look.new.store frame c.requires.able (λ p s. (let b = c.requires.back p s in (b.0, subst (λ f. ComesBack c.args.self.now.row.id p.world f b.0) (sym c.frame_back-frame.ensures) b.1))) c.look.ensures.images;
+      behind = removes_behind m d c.look.new.self c.look.new.store frame c.requires.able (λ p s. (let b = c.requires.back p s in (b.0, b.1, subst (λ f. ComesBack c.args.self.now.row.id p.world b.0 f b.1) (sym c.frame_back-frame.ensures) b.2))) c.look.ensures.images;
     }
 
 -- ---- whatever the disks tell ----

@@ -1,0 +1,37 @@
+use Rattle.std.proofs.Common.{true}
+use Rattle.pump_frame.specs.declared.frame.Kind.TheVariants.{Attach}
+use Rattle.script_reader.specs.declared.event.Event.TheVariants.{Attach as AttachLine}
+use Rattle.two_worlds.specs.Private.HighLooks.{LeadsWith, BreaksWith, Attaches, BreaksAttaching}
+use Rattle.two_worlds.proofs.Lines.DoesMore.{does_after}
+use Rattle.two_worlds.proofs.High.Returning.{numbered, stands_numbered, able_numbered}
+use Rattle.two_worlds.proofs.High.Attaching.{count_is, attach_comes, leads_attaching, breaks_attaching}
+use Rattle.two_worlds.specs.Printing.{lines_in}
+use Rattle.two_worlds.proofs.pump.parts.Parts.attach.Goals as goal
+
+pub look_with-requires-clause-able : goal.look_with-requires-clause-able
+look_with-requires-clause-able g c = able_numbered g.D.Disk.told c.args.self.now Attach c.count-count.result c.requires.able
+
+pub look_with-requires-clause-back : goal.look_with-requires-clause-back
+look_with-requires-clause-back g c = λ p s.
+    (let comes = attach_comes g.D.Disk.told (numbered c.args.self.now Attach c.count-count.result) p s c.count-count.result c.count-count.ensures in (true, comes.0, comes.1))
+
+pub returns-clause-does : goal.returns-clause-does
+returns-clause-does g c = λ p s.
+    let m = g.D.Disk.told in
+    let d = c.args.self.now in
+    let row = d.row in
+    let moment = c.args.moment in
+    let n = c.count-count.result in
+    let now = numbered d Attach n in
+    let comes = attach_comes m d p s n c.count-count.ensures in
+    let count = count_is m d p s n c.count-count.ensures in
+    let last = comes.1.3 in
+    does_after m d now c.look_with.new.self (lines_in c.args.out.now.items) (lines_in c.put.new.out.items) (lines_in c.look_with.new.out.items) (AttachLine row.id moment n) p
+    (LeadsWith row moment true comes.0) (Attaches row moment) (BreaksWith moment comes.0) (BreaksAttaching row moment) c.look_with.result c.put.ensures.items
+    (λ q more leads. leads_attaching row p moment n comes.0 q more count last leads)
+    (λ role q more breaks. breaks_attaching row p moment n comes.0 role q more count last breaks)
+    (λ q f. record { low = f.low; high = f.high; recv = f.recv })
+    (c.look_with.ensures.does p (stands_numbered m d Attach n p s) true comes.0 comes.1)
+
+pub returns-clause-serve : goal.returns-clause-serve
+returns-clause-serve g c = c.look_with.ensures.serve

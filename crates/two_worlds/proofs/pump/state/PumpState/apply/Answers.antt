@@ -1,0 +1,26 @@
+use Rattle.std.proofs.Common.{refl, sym, ap, subst}
+use Rattle.script_reader.specs.Heads.{line_with}
+use Rattle.script_reader.specs.declared.line.Line.{Line}
+use Rattle.two_worlds.specs.declared.pump.state.PumpState.{PumpState}
+use Rattle.two_worlds.specs.Printing.{lines_in}
+use Rattle.two_worlds.specs.Private.StateSteps.{StateApplies}
+use Rattle.two_worlds.specs.States.{StandsIn}
+use Rattle.two_worlds.proofs.Lines.Applied.{applied, applied_on}
+use Rattle.two_worlds.proofs.pump.state.PumpState.apply.Goals as goal
+
+pub returns-in-Restart-clause-applies : goal.returns-in-Restart-clause-applies
+returns-in-Restart-clause-applies g c = λ told p s.
+    subst (λ (l : Line). StateApplies g.D.Disk.told c.args.self.now c.restart.new.self l p (lines_in c.restart.new.out.items) c.restart.result) (sym (ap (line_with c.args.bytes.now) c.in-Restart.is)) (c.restart.ensures.applies told p s)
+
+pub returns-in-ReceiverRestart-clause-applies : goal.returns-in-ReceiverRestart-clause-applies
+returns-in-ReceiverRestart-clause-applies g c = λ told p s.
+    subst (λ (l : Line). StateApplies g.D.Disk.told c.args.self.now c.restart_receiver.new.self l p (lines_in c.restart_receiver.new.out.items) c.restart_receiver.result) (sym (ap (line_with c.args.bytes.now) c.in-ReceiverRestart.is)) (c.restart_receiver.ensures.applies told p s)
+
+pub returns-in-Open-clause-applies : goal.returns-in-Open-clause-applies
+returns-in-Open-clause-applies g c = λ told p s.
+    applied g.D.Disk.told c.args.self.now _ c.in-Open.parts c.apply.new.self c.in-Open.is refl (line_with c.args.bytes.now c.args.line.now) p (lines_in c.apply.new.out.items) c.apply.result
+    (c.apply.ensures.attempts p (subst (λ (x : PumpState _). StandsIn g.D.Disk.told x p) c.in-Open.is s))
+
+pub returns-in-Open-clause-on : goal.returns-in-Open-clause-on
+returns-in-Open-clause-on g c =
+    applied_on g.D.Disk.told c.args.self.now _ c.in-Open.parts c.apply.new.self c.in-Open.is refl (line_with c.args.bytes.now c.args.line.now) (lines_in c.apply.new.out.items) c.apply.result c.apply.ensures.on

@@ -1,0 +1,28 @@
+-- A pump that is open, and one that is shut.
+use Rattle.std.specs.Prelude.{Bool, true}
+use Rattle.disk_model.specs.Disk.{Meaning}
+use Rattle.script_reader.specs.Past.{Past}
+use Rattle.two_worlds.specs.declared.pump.parts.Parts.{Parts}
+use Rattle.two_worlds.specs.declared.pump.state.BareDisks.{BareDisks}
+use Rattle.two_worlds.specs.declared.pump.state.PumpState.{PumpState}
+use Rattle.two_worlds.specs.declared.pump.state.PumpState.TheVariants.{Open, Shut}
+use Rattle.two_worlds.specs.Standing.{Stands, bare_of, is_down}
+
+-- its disks
+abbrev pub disks_in : {D : Type 0} → PumpState D → BareDisks D
+disks_in (Open c) = bare_of c
+disks_in (Shut d) = d
+
+-- a pump that is shut is down
+abbrev pub is_down_in : {D : Type 0} → PumpState D → Bool
+is_down_in (Open c) = is_down c
+is_down_in (Shut d) = true
+
+-- it is open, and this holds of its parts
+abbrev pub IsOpenWith : {D : Type 0} → (Parts D → Type 0) → PumpState D → Type 0
+IsOpenWith P (Open c) = P c
+IsOpenWith P (Shut d) = ⊥
+
+-- it stands for what a session has been through
+abbrev pub StandsIn : {D : Type 0} → Meaning D → PumpState D → Past → Type 0
+StandsIn m s p = IsOpenWith (λ c. Stands m c p) s

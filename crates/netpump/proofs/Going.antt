@@ -93,11 +93,14 @@ module _ {D : Type 0} {g : Ghosts D} (d : Meaning D) (tells : d.tells) (id : ℕ
       let step : LineStep s.row s.past line h.1.0 printed = subst (λ (r : SessionRow). LineStep r s.past line h.1.0 printed) row h.1.1 in
       let after : Option Begun = Some (Whole (record { row = s.row; past = h.1.0 })) in
       (after, (timely_so h.0, (h.1.0, step, refl)), record { up = down; is_of = (id_is, same ∙ row, h.1.2) })
-  whole_does (Some stops.Line) down h =
-      (refused_whole s line some (subst (λ (r : SessionRow). IsRefusedWhole r s.past line) row h.0), h.1, record {
-        up = subst (λ q. pump.is_down q ≡ false) (sym h.2) before_up;
-        is_of = (id_is, same ∙ row, subst (λ q. pump.StandsFor d q s.past) (sym h.2) before_stands);
-      })
+  whole_does (Some stops.Line) down h = (
+    refused_whole s line some (subst (λ (r : SessionRow). IsRefusedWhole r s.past line) row h.0),
+    h.1,
+    record {
+      up = subst (λ q. pump.is_down q ≡ false) (sym h.2) before_up;
+      is_of = (id_is, same ∙ row, subst (λ q. pump.StandsFor d q s.past) (sym h.2) before_stands);
+    },
+  )
   whole_does (Some (stops.Device role count)) down h =
       let breaks : Breaks s.row s.past line role h.1.0 printed = subst (λ (r : SessionRow). Breaks r s.past line role h.1.0 printed) row h.1.1 in
       (timely_so h.0, (h.1.0, breaks, id_is, (id_is, same ∙ row, inr (role, count, h.1.2))))
@@ -152,11 +155,14 @@ module _ {D : Type 0} (g : Ghosts D) (d : Meaning D) (id : ℕ) (p t : LowPump) 
       let step : StepAlone s.row s.past line false h.1.0 printed = subst (λ (r : SessionRow). StepAlone r s.past line false h.1.0 printed) row h.1.1 in
       let after : Option Begun = Some (Alone (record { row = s.row; past = h.1.0 })) in
       (after, (timely, (h.1.0, step, refl)), record { up = down; is_of = (id_is, same ∙ row, h.1.2) })
-  alone_does (Some stops.Line) down h =
-      (refused_alone s line some (subst (λ (r : SessionRow). IsRefusedAlone r s.past line) row h.0), h.1, record {
-        up = subst (λ q. low_pump.low_is_down q ≡ false) (sym h.2) before_up;
-        is_of = (id_is, same ∙ row, subst (λ q. low_pump.LowStandsFor q s.past) (sym h.2) before_stands);
-      })
+  alone_does (Some stops.Line) down h = (
+    refused_alone s line some (subst (λ (r : SessionRow). IsRefusedAlone r s.past line) row h.0),
+    h.1,
+    record {
+      up = subst (λ q. low_pump.low_is_down q ≡ false) (sym h.2) before_up;
+      is_of = (id_is, same ∙ row, subst (λ q. low_pump.LowStandsFor q s.past) (sym h.2) before_stands);
+    },
+  )
   alone_does (Some (stops.Device roles.Low count)) down h =
       let timely : is_timely_alone s.row s.past line ≡ true = subst (λ (r : SessionRow). is_timely_alone r s.past line ≡ true) row h.0 in
       let step : StepAlone s.row s.past line true h.1.0 printed = subst (λ (r : SessionRow). StepAlone r s.past line true h.1.0 printed) row h.1.1 in

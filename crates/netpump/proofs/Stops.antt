@@ -207,15 +207,18 @@ module _ {D : Type 0} (g : Ghosts D) (d : Meaning D) (told : Type 0) (bef mid : 
             (keeps_stop d told bef mid session o f.0 (events ++ printed) hands f.2 (subst (λ (e : Option Begun). HasComeTo d session e) f.1 come));
       })
   end_of printed fault (inr (inl (q, b, come))) =
-      subst (λ (x : Fault). EndOf shelf rest x before_it (output_of printed x)) (sym b.fault_is) (inr (inl (b.role, record {
-        next = record { few = few; line = line; left = to_come to rest; spelled = spelled; session = b.session; running_is = b.running_is; timely = b.timely; past = q; printed = printed; breaks = b.breaks };
-        taken = near;
-        output_is = sym (stopped_text events printed (Device b.session.row.id b.role));
-        disks = (subst (λ (x : Option Begun). Finds bef o x) b.running_is found, come);
-      })))
+      subst (λ (x : Fault). EndOf shelf rest x before_it (output_of printed x)) (sym b.fault_is) (inr (inl (
+        b.role,
+        record {
+          next = record { few = few; line = line; left = to_come to rest; spelled = spelled; session = b.session; running_is = b.running_is; timely = b.timely; past = q; printed = printed; breaks = b.breaks };
+          taken = near;
+          output_is = sym (stopped_text events printed (Device b.session.row.id b.role));
+          disks = (subst (λ (x : Option Begun). Finds bef o x) b.running_is found, come);
+        },
+      )))
   end_of printed fault (inr (inr b)) =
       let next : Beginning (to_come from left) (length lines) running b.row =
-        record { few = few; left = to_come to rest; spelled = subst (λ (x : Line). AreLines (to_come from left) (x ∷ []) (to_come to rest)) b.line_is spelled; none = b.none; lawful = b.lawful } in
+      record { few = few; left = to_come to rest; spelled = subst (λ (x : Line). AreLines (to_come from left) (x ∷ []) (to_come to rest)) b.line_is spelled; none = b.none; lawful = b.lawful } in
       let quiet : (f : Fault) → text events ++ (text printed ++ fault_line f) ≡ text events ++ fault_line f = λ f. ap (λ (x : List Event). text events ++ (text x ++ fault_line f)) b.silent in
       elim b.cause [
         | inl c ↦ subst (λ (x : Fault). EndOf shelf rest x before_it (output_of printed x)) (sym c.1)

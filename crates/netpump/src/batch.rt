@@ -53,7 +53,7 @@ pub fn batch<S: Shelf, I: Source, O: Sink>(
     // Words that are no command: nothing of the shelf and the script is touched, and the fault is all that is written.
     ensures untouched { (IsReplay (map string_bytes words.now.items) → ⊥) → (script.new ≡ script.old) × (shelf.new ≡ shelf.old) }
     ensures words { (IsReplay (map string_bytes words.now.items) → ⊥) → TellsWords (O.written out.old) (O.written out.new) result }
-    ensures replay { IsReplay (map string_bytes words.now.items) → (result ≡ 2 → ⊥) }
+    ensures replay { IsReplay (map string_bytes words.now.items) → S.told.tells → S.Disk.told.tells → (result ≡ 2 → ⊥) }
     // Whatever the status is, every disk is back on the shelf.
     ensures back { S.told.tells → AllAreBack (S.told.disk shelf.old) (S.told.disk shelf.new) }
     // A disk fails only where the shelf's count rose, or a line tells so.

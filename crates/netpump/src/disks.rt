@@ -41,10 +41,7 @@ fn take_one<S: Shelf>(shelf: &mut S, session: u32, role: Role) -> Result<S::Disk
 
 /// Takes the three disks of a session off the shelf, low's first. Where one can't be taken, those
 /// before it are put back.
-pub fn take_disks<S: Shelf>(
-    shelf: &mut S,
-    session: u32,
-) -> Result<TakenDisks<S::Disk>, NotTaken>
+pub fn take_disks<S: Shelf>(shelf: &mut S, session: u32) -> Result<TakenDisks<S::Disk>, NotTaken>
     ensures low { IfOk result (λ disks. S.told.tells → ReadAt (S.told.disk shelf.old) session roles.Low (S.Disk.told.reading disks.low)) }
     ensures high { IfOk result (λ disks. S.told.tells → ReadAt (S.told.disk shelf.old) session roles.High (S.Disk.told.reading disks.high)) }
     ensures recv { IfOk result (λ disks. S.told.tells → ReadAt (S.told.disk shelf.old) session roles.Recv (S.Disk.told.reading disks.recv)) }

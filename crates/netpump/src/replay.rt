@@ -334,11 +334,7 @@ fn write_last<O: Sink>(
 }
 
 /// The script is at its end.
-fn finish<D: Disk, O: Sink>(
-    session: &Option<Session<D>>,
-    output: &mut Output,
-    out: &mut O,
-) -> Ended
+fn finish<D: Disk, O: Sink>(session: &Option<Session<D>>, output: &mut Output, out: &mut O) -> Ended
     ensures ends { (running : Option Begun) → StandsForRunning D.told session.now running → (last : List Printed) × Ends running last
         × Closes (O.written out.old) (O.written out.new) (O.faults out.old) (O.faults out.new) (held_of output.old ++ text last) Ended.Done result }
     ensures cause { result ≡ Ended.Write → Rose (O.faults out.old) (O.faults out.new) }

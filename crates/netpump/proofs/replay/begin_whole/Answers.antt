@@ -33,7 +33,7 @@ returns-in-Err-open-clause-goes g c = λ told tells.
 pub returns-in-Err-open-clause-hands : goal.returns-in-Err-open-clause-hands
 returns-in-Err-open-clause-hands g c =
     none_hands _ _ (g.S.Shelf.told.disk c.args.shelf.now) (g.S.Shelf.told.disk c.put_disks_back.new.shelf) c.args.session.now c.requires.none (λ told.
-      returns_all (g.S.Shelf.told.disk c.args.shelf.now) (g.S.Shelf.told.disk c.take_disks.new.shelf) (g.S.Shelf.told.disk c.put_disks_back.new.shelf) c.args.row.now.id c.take_disks.ensures.others c.put_disks_back.ensures.others _ _ _ (c.put_disks_back.ensures.back told))
+    returns_all (g.S.Shelf.told.disk c.args.shelf.now) (g.S.Shelf.told.disk c.take_disks.new.shelf) (g.S.Shelf.told.disk c.put_disks_back.new.shelf) c.args.row.now.id c.take_disks.ensures.others c.put_disks_back.ensures.others _ _ _ (c.put_disks_back.ensures.back told))
 
 pub returns-in-Err-open-clause-device : goal.returns-in-Err-open-clause-device
 returns-in-Err-open-clause-device g c = λ is.

@@ -14,11 +14,11 @@ use Rattle.netpump.proofs.replay.run.Given as goal
 abbrev pub invariant-turns : goal.invariant-turns
 invariant-turns g l =
     (g.S.Shelf.told.tells → g.S.Disk.Disk.told.tells → (lines : List Line) × (events : List Event) × (running : Option Begun) × (o : Openings)
-      × IsSoFar o (g.I.Source.left l.fn.script) (to_come l.lines (g.I.Source.left l.script)) lines events running
-      × Gathers [] (held_of l.output) (g.O.Sink.written l.fn.out) (g.O.Sink.written l.out) (text events)
-      × StandsForRunning g.S.Disk.Disk.told l.session running
-      × Finds (g.S.Shelf.told.disk l.fn.shelf) o running
-      × (length lines ≡ l.lines.number))
+    × IsSoFar o (g.I.Source.left l.fn.script) (to_come l.lines (g.I.Source.left l.script)) lines events running
+    × Gathers [] (held_of l.output) (g.O.Sink.written l.fn.out) (g.O.Sink.written l.out) (text events)
+    × StandsForRunning g.S.Disk.Disk.told l.session running
+    × Finds (g.S.Shelf.told.disk l.fn.shelf) o running
+    × (length lines ≡ l.lines.number))
     × (Lends g.S.Disk.Disk.told (g.S.Shelf.told.disk l.fn.shelf) (g.S.Shelf.told.disk l.shelf) l.session × AreUp l.session)
     × (length l.lines.held ≤ 4096)
     × (l.lines.number < 2 ^ 32)

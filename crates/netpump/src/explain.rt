@@ -34,10 +34,10 @@ pub fn explain(rt: &HostRuntime, status: u8, last: &[u8]) -> io::Result<()> {
             "netpump: standard output could not be written; see that its reader is there, or that its disk has room, and replay the script again"
         ),
         7 => eprintln!(rt;
-            "netpump: the device of the low disk fails in a store, as a line with the word fault tells; write fine in its place to go on. What was said until then is answered above"
+            "netpump: a call of a disk failed. The last line of the output has the session and the disk, which is the file of that number and ending (low, high or recv) in this folder: see that its device has room, that you may read and write it, and that no other process works on it, and replay what the output does not answer. Where a line told the device of a low side alone to fail, write fine in its place"
         ),
         8 => eprintln!(rt;
-            "netpump: a disk of a session holds what its row can't open; the last line of the output has the session and the disk, the number of the cause, and what was found and wanted"
+            "netpump: the disks of a session can't be opened for its row. The last line of the output has the session and the disk, which is the file of that number and ending (low, high or recv) in this folder, the number of the cause, and what was found (docs/formats.md, \"Disks\", lists the causes): use the row that the disks were made with, restore the file, or move the session's three files away to begin with new ones"
         ),
         10 => eprintln!(rt;
             "netpump: a message does not fit on the receiver's disk; replay fewer messages, or shorter ones. The last line of the output has the session, where its records end, the length of the message and the size of the disk"

@@ -1,6 +1,7 @@
 ghost use Rattle.std.specs.Prelude.{◌<◌};
 
 use crate::batch::batch;
+use disk_model::{Disk, DiskName, MemShelf, PlainDisk, Role};
 use pump_link::{MemSink, MemSource};
 use std::alloc::{AllocError, Global};
 use std::test::Fail;
@@ -27,7 +28,35 @@ fn joined(alloc: Global, parts: &[&str]) -> Result<Vec<u8>, AllocError> {
     Ok(bytes)
 }
 
-/// The status and the output of a command over a script that comes in pieces.
+/// A shelf with new disks for session 1, on which these calls fail.
+fn new_shelf(alloc: Global, fails: &[u64]) -> Result<MemShelf<PlainDisk>, Fail> {
+    let mut disks = Vec::new(alloc);
+    for (role, room) in [
+        (Role::Low, 65_744),
+        (Role::High, 80),
+        (Role::Recv, 16_777_216),
+    ] {
+        disks.push((DiskName { session: 1, role }, PlainDisk::new(alloc, room)?))?;
+    }
+    let fails = Vec::from_slice(alloc, fails)?;
+    Ok(MemShelf::new(disks, Vec::new(alloc), fails))
+}
+
+/// The status and the output of a replay that goes on with the disks of a shelf.
+fn run_on<D: Disk>(
+    alloc: Global,
+    shelf: &mut MemShelf<D>,
+    parts: &[&str],
+) -> Result<(u8, Vec<u8>), AllocError> {
+    let mut words = Vec::new(alloc);
+    words.push(String::from_str(alloc, "replay")?)?;
+    let mut source = MemSource::new(joined(alloc, parts)?, 7, Vec::new(alloc));
+    let mut sink = MemSink::new(vec![in alloc; 0; 4096]?, 4096, Vec::new(alloc));
+    let status = batch(alloc, &words, shelf, &mut source, &mut sink);
+    Ok((status, Vec::from_slice(alloc, sink.written())?))
+}
+
+/// The status and the output of a command over a script that comes in pieces, and new disks.
 fn run(
     alloc: Global,
     word: &str,
@@ -35,20 +64,21 @@ fn run(
     piece: usize,
     read_fails: &[u64],
     write_fails: &[u64],
-) -> Result<(u8, Vec<u8>), AllocError>
+) -> Result<(u8, Vec<u8>), Fail>
     requires { 0 < piece }
 {
+    let mut shelf = new_shelf(alloc, &[])?;
     let mut words = Vec::new(alloc);
     words.push(String::from_str(alloc, word)?)?;
     let mut source = MemSource::new(script, piece, Vec::from_slice(alloc, read_fails)?);
     let room = vec![in alloc; 0; 4096]?;
     let mut sink = MemSink::new(room, 4096, Vec::from_slice(alloc, write_fails)?);
-    let status = batch(alloc, &words, &mut source, &mut sink);
+    let status = batch(alloc, &words, &mut shelf, &mut source, &mut sink);
     Ok((status, Vec::from_slice(alloc, sink.written())?))
 }
 
 /// Whether the replay of the parts ends with this status and writes this.
-fn replays(alloc: Global, parts: &[&str], status: u8, output: &[&str]) -> Result<bool, AllocError> {
+fn replays(alloc: Global, parts: &[&str], status: u8, output: &[&str]) -> Result<bool, Fail> {
     let wanted = joined(alloc, output)?;
     let (ended, written) = run(alloc, "replay", joined(alloc, parts)?, 7, &[], &[])?;
     Ok(ended == status && written.as_slice() == wanted.as_slice())
@@ -374,6 +404,62 @@ fn replays_restarts(rt: HostRuntime) -> Result<(), Fail> {
     Ok(())
 }
 
+/// Whether the three disks of session 1 are on the shelf.
+fn are_back<D: Disk>(shelf: &MemShelf<D>) -> bool {
+    [Role::Low, Role::High, Role::Recv].iter().all(|role| shelf
+        .home(DiskName {
+            session: 1,
+            role: *role,
+        })
+        .is_some())
+}
+
+#[test]
+fn goes_on_with_the_disks_of_the_last_replay(rt: HostRuntime) -> Result<(), Fail> {
+    let alloc = rt.alloc();
+    let mut shelf = new_shelf(alloc, &[])?;
+    let first = [P, H, STORE, SENT, "carry 1 0\nhigh 1 5\n"];
+    let (status, written) = run_on(alloc, &mut shelf, &first)?;
+    assert_eq!(rt; status, 5);
+    assert!(rt; written.as_slice().ends_with(b"took 1 0\nfault script 7\n"));
+    assert!(rt; are_back(&shelf));
+    let second = [
+        P,
+        "look 1 1 00000000 hello weather watch\nreceiver-restart 1 9\n",
+    ];
+    let (status, written) = run_on(alloc, &mut shelf, &second)?;
+    assert_eq!(rt; status, 0);
+    assert_eq!(rt;
+        written.as_slice(),
+        b"low 1 1 welcome 1\nattach 1 9 1\nremoved 1 9 0 -\nend 1 1 1 1\n".as_slice()
+    );
+    assert!(rt; are_back(&shelf));
+    // Another row's disks are refused, and stay as they are.
+    let other = "session 1 4 8 2 20000 100000 500000 weather watch\n";
+    let (status, written) = run_on(alloc, &mut shelf, &[other])?;
+    assert_eq!(rt; status, 8);
+    assert_eq!(rt; written.as_slice(), b"fault disk 1 low 3 3 4\n".as_slice());
+    assert!(rt; are_back(&shelf));
+    Ok(())
+}
+
+#[test]
+fn stops_where_a_disk_is_not_there(rt: HostRuntime) -> Result<(), Fail> {
+    let alloc = rt.alloc();
+    for (call, line) in [
+        (0, "fault device 1 low\n"),
+        (1, "fault device 1 high\n"),
+        (2, "fault device 1 recv\n"),
+    ] {
+        let mut shelf = new_shelf(alloc, &[call])?;
+        let (status, written) = run_on(alloc, &mut shelf, &[P, H])?;
+        assert_eq!(rt; status, 7);
+        assert_eq!(rt; written.as_slice(), line.as_bytes());
+        assert!(rt; are_back(&shelf));
+    }
+    Ok(())
+}
+
 /// A low side alone, but for how much it has stored.
 const L: &str = "low-session 1 3 8 2 20000 100000 500000 weather watch ";
 
@@ -460,7 +546,7 @@ fn ends(
     read_fails: &[u64],
     write_fails: &[u64],
     wanted: (u8, &str),
-) -> Result<bool, AllocError>
+) -> Result<bool, Fail>
     requires { 0 < piece }
 {
     let script = joined(alloc, parts)?;

@@ -5,6 +5,7 @@ pub mod Gathered
 pub mod Going
 pub mod Kept
 pub mod Left
+pub mod OneStatus
 pub mod OneWord
 pub mod Opened
 pub mod Shelving

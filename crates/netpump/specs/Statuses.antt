@@ -6,7 +6,7 @@ use Rattle.script_reader.specs.declared.fault.Fault.{Fault}
 use Rattle.script_reader.specs.declared.fault.Fault.TheVariants.{Words, Read, Script, Device, Disk, Full}
 use Rattle.script_reader.specs.Openings.{Openings}
 use Rattle.script_reader.specs.Scripts.{Begun}
-use Rattle.netpump.specs.Replays.{IsSoFar, IsFaultyAt, fault_after, Stopping}
+use Rattle.netpump.specs.Replays.{Replayed, IsSoFar, IsFaultyAt, fault_after, Stopping}
 
 -- after so many lines, with no fault nothing is left; with one the next line is faulty, or it stops the script
 abbrev pub IsEnd : List ℕ → ℕ → Option Begun → Option Fault → Type 0
@@ -33,3 +33,7 @@ status_of (Some (Script number)) = 5
 status_of (Some (Device session role)) = 7
 status_of (Some (Disk session role number first second)) = 8
 status_of (Some (Full session end size_of_message size)) = 10
+
+-- whatever the bytes of the script end with, on the disks that were found, this is its status
+abbrev pub HasStatus : ℕ → {all : Option (List ℕ)} → Replayed all → List ℕ → Type 0
+HasStatus status {all} r output = (bytes : List ℕ) (end : Option Fault) → all ≡ Some bytes → EndsWith r.openings bytes end → status ≡ status_of end

@@ -2,6 +2,7 @@ ghost use Rattle.std.specs.Prelude.{◌≡◌, ℕ, ◌≤◌, ◌↔◌, ◌⊎
 ghost use Rattle.std.specs.Io.KnownBytes.{Appends};
 ghost use Rattle.pump_frame.specs.Counts.{Rose};
 ghost use Rattle.script_reader.specs.declared.fault.Fault.{Fault as Cause};
+ghost use Rattle.netpump.specs.Statuses.{HasStatus};
 ghost use Rattle.netpump.specs.Shelves.{AllAreBack, shelved};
 ghost use Rattle.netpump.specs.Replays.{IsReplay, TellsWords, IsFinished, IsUnread, IsFaulted, IsFailed, IsDown, IsBarred, IsOverfilled, IsCutOff, Wrote, WroteFront};
 
@@ -60,15 +61,15 @@ pub fn batch<S: Shelf, I: Source, O: Sink>(
     ensures device { result ≡ 7 → Rose (S.told.disk_faults shelf.old) (S.told.disk_faults shelf.new)
         ⊎ (S.told.tells → S.Disk.told.tells → Wrote (I.left script.old) (O.written out.old) (O.written out.new) (IsFailed (shelved (S.told.disk shelf.old) (S.told.disk shelf.new)) (I.left script.new))) }
     ensures unwritten { result ≡ 4 → Rose (O.faults out.old) (O.faults out.new) }
-    // How a replay ends.
-    ensures done { result ≡ 0 → S.told.tells → S.Disk.told.tells → Wrote (I.left script.old) (O.written out.old) (O.written out.new) (IsFinished (shelved (S.told.disk shelf.old) (S.told.disk shelf.new))) }
+    // How a replay ends; at 0, 5 and 10 the bytes of the script have no other status on the disks that were found.
+    ensures done { result ≡ 0 → S.told.tells → S.Disk.told.tells → Wrote (I.left script.old) (O.written out.old) (O.written out.new) (λ r output. IsFinished (shelved (S.told.disk shelf.old) (S.told.disk shelf.new)) r output × HasStatus 0 r output) }
     ensures memory { result ≡ 1 → S.told.tells → S.Disk.told.tells → Appends (O.written out.old) (O.written out.new) [] }
     ensures unread { result ≡ 3 → S.told.tells → S.Disk.told.tells → Wrote (I.left script.old) (O.written out.old) (O.written out.new) (IsUnread (shelved (S.told.disk shelf.old) (S.told.disk shelf.new)) (I.left script.new) (I.faults script.old) (I.faults script.new)) }
     ensures cut_off { result ≡ 4 → IsReplay (map string_bytes words.now.items) → S.told.tells → S.Disk.told.tells → WroteFront (I.left script.old) (O.written out.old) (O.written out.new) (IsCutOff (shelved (S.told.disk shelf.old) (S.told.disk shelf.new)) (I.left script.new) (I.faults script.old) (I.faults script.new)) }
-    ensures faulted { result ≡ 5 → S.told.tells → S.Disk.told.tells → Wrote (I.left script.old) (O.written out.old) (O.written out.new) (IsFaulted (shelved (S.told.disk shelf.old) (S.told.disk shelf.new)) (I.left script.new)) }
+    ensures faulted { result ≡ 5 → S.told.tells → S.Disk.told.tells → Wrote (I.left script.old) (O.written out.old) (O.written out.new) (λ r output. IsFaulted (shelved (S.told.disk shelf.old) (S.told.disk shelf.new)) (I.left script.new) r output × HasStatus 5 r output) }
     ensures down { result ≡ 7 → S.told.tells → S.Disk.told.tells → Wrote (I.left script.old) (O.written out.old) (O.written out.new) (IsDown (shelved (S.told.disk shelf.old) (S.told.disk shelf.new)) (I.left script.new)) }
     ensures barred { result ≡ 8 → S.told.tells → S.Disk.told.tells → Wrote (I.left script.old) (O.written out.old) (O.written out.new) (IsBarred (shelved (S.told.disk shelf.old) (S.told.disk shelf.new)) (I.left script.new)) }
-    ensures full { result ≡ 10 → S.told.tells → S.Disk.told.tells → Wrote (I.left script.old) (O.written out.old) (O.written out.new) (IsOverfilled (shelved (S.told.disk shelf.old) (S.told.disk shelf.new)) (I.left script.new)) }
+    ensures full { result ≡ 10 → S.told.tells → S.Disk.told.tells → Wrote (I.left script.old) (O.written out.old) (O.written out.new) (λ r output. IsOverfilled (shelved (S.told.disk shelf.old) (S.told.disk shelf.new)) (I.left script.new) r output × HasStatus 10 r output) }
     ensures status { (result ≤ 5) ⊎ ((result ≡ 7) ⊎ ((result ≡ 8) ⊎ (result ≡ 10))) }
 {
     if !is_replay(words) {

@@ -1,4 +1,14 @@
+use Rattle.netpump.proofs.OneStatus.{done_only, faulted_only, full_only}
 use Rattle.netpump.proofs.batch.batch.Goals as goal
 
 pub returns-in-Stopped-Device-clause-device : goal.returns-in-Stopped-Device-clause-device
 returns-in-Stopped-Device-clause-device g c = λ is. (rw c.in-Stopped-Device.field-0-is at c.in-Stopped-Device.ensures.device) tt
+
+pub returns-in-Done-clause-done : goal.returns-in-Done-clause-done
+returns-in-Done-clause-done g c = λ is told tells. done_only _ _ _ _ (c.in-Done.ensures.ends told tells)
+
+pub returns-in-Stopped-Script-clause-faulted : goal.returns-in-Stopped-Script-clause-faulted
+returns-in-Stopped-Script-clause-faulted g c = λ is told tells. faulted_only _ _ _ _ _ ((rw c.in-Stopped-Script.field-0-is at c.in-Stopped-Script.ensures.ends) told tells)
+
+pub returns-in-Stopped-Full-clause-full : goal.returns-in-Stopped-Full-clause-full
+returns-in-Stopped-Full-clause-full g c = λ is told tells. full_only _ _ _ _ _ ((rw c.in-Stopped-Full.field-0-is at c.in-Stopped-Full.ensures.ends) told tells)

@@ -4,6 +4,7 @@ use Rattle.pump_core.specs.Replies.{Sent, LowReplies}
 use Rattle.script_reader.specs.declared.event.Event.{Event}
 use Rattle.script_reader.specs.declared.fault.Fault.{Fault}
 use Rattle.script_reader.specs.declared.line.Line.{Line}
+use Rattle.script_reader.specs.Openings.{Openings}
 use Rattle.script_reader.specs.Scripts.{Begun, Whole, Alone, LeadTo, Stops, ComesTo, Ends}
 use Rattle.script_reader.specs.Readouts.{low_lines, row_of, history_of, Sound}
 use Rattle.script_reader.proofs.LowFunction.{same_told_so_far, same_full_so_far}
@@ -13,23 +14,23 @@ use Rattle.two_worlds.proofs.Timeline.Alone.{script_events}
 use Rattle.two_worlds.proofs.Timeline.Scripts.{script_runs}
 use Rattle.netpump.specs.Replays.{AreSound, IsTimed, KeepLaws}
 
-each_sound : (lines : List Line) (after : Option Begun) (printed : List Event) → ComesTo lines after printed → AreSound lines printed
-each_sound lines after printed comes = λ before line later is.
-    let f = fronts_so before line later after printed (subst (λ (ls : List Line). ComesTo ls after printed) is comes) in
-    (f.0, f.1, f.2, f.3, f.4, sound_lead before f.0 f.1 f.3)
+each_sound : (o : Openings) (lines : List Line) (after : Option Begun) (printed : List Event) → ComesTo o lines after printed → AreSound o lines printed
+each_sound o lines after printed comes = λ before line later is.
+    let f = fronts_so o before line later after printed (subst (λ (ls : List Line). ComesTo o ls after printed) is comes) in
+    (f.0, f.1, f.2, f.3, f.4, sound_lead o before f.0 f.1 f.3)
 
-pub keep_laws : (lines : List Line) (after : Option Begun) (printed : List Event) → ComesTo lines after printed → KeepLaws lines after printed
-keep_laws lines after printed comes = record {
-  sound = sound_so lines after printed comes;
-  each = each_sound lines after printed comes;
-  low = λ others other events h side told. same_told_so_far lines others after other printed events comes h side told;
-  by_moments = λ others other events h side own full averages. same_full_so_far lines others after other printed events comes h side own full averages;
+pub keep_laws : (o : Openings) (lines : List Line) (after : Option Begun) (printed : List Event) → ComesTo o lines after printed → KeepLaws o lines after printed
+keep_laws o lines after printed comes = record {
+  sound = sound_so o lines after printed comes;
+  each = each_sound o lines after printed comes;
+  low = λ p others other events h opens side told. same_told_so_far o p lines others after other printed events comes h opens side told;
+  by_moments = λ p others other events h opens side own full restart averages. same_full_so_far o p lines others after other printed events comes h opens side own full restart averages;
 }
 
-pub timed_so : (lines : List Line) (running : Option Begun) (events : List Event) → LeadTo None lines running events → IsTimed running
-timed_so lines None events leads = tt
-timed_so lines (Some (Whole s)) events leads = script_runs None lines (Some (Whole s)) events leads tt
-timed_so lines (Some (Alone s)) events leads = script_events None lines (Some (Alone s)) events leads tt
+pub timed_so : (o : Openings) (lines : List Line) (running : Option Begun) (events : List Event) → LeadTo o None lines running events → IsTimed running
+timed_so o lines None events leads = tt
+timed_so o lines (Some (Whole s)) events leads = script_runs o None lines (Some (Whole s)) events leads tt
+timed_so o lines (Some (Alone s)) events leads = script_events o None lines (Some (Alone s)) events leads tt
 
 -- ---- the end of a session ----
 
@@ -52,10 +53,10 @@ sound_end (Some s) events last ends sound = record {
 
 -- ---- a line that stops the script ----
 
-pub laws_at_stop : (lines : List Line) (running : Option Begun) (events : List Event) (line : Line) (after : Option Begun) (printed : List Event) (fault : Fault)
-    → LeadTo None lines running events → Stops running line after printed fault → KeepLaws (lines ++ line ∷ []) after (events ++ printed)
-laws_at_stop lines running events line after printed fault leads stops =
-    keep_laws (lines ++ line ∷ []) after (events ++ printed) (inr (record {
+pub laws_at_stop : (o : Openings) (lines : List Line) (running : Option Begun) (events : List Event) (line : Line) (after : Option Begun) (printed : List Event) (fault : Fault)
+    → LeadTo o None lines running events → Stops running line after printed fault → KeepLaws o (lines ++ line ∷ []) after (events ++ printed)
+laws_at_stop o lines running events line after printed fault leads stops =
+    keep_laws o (lines ++ line ∷ []) after (events ++ printed) (inr (record {
       before = lines;
       line = line;
       script_is = refl;

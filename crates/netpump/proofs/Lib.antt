@@ -1,11 +1,13 @@
 pub mod Compared
+pub mod Ending
 pub mod Finished
 pub mod Gathered
 pub mod Going
 pub mod Kept
-pub mod OneStatus
+pub mod Left
 pub mod OneWord
-pub mod Rooms
+pub mod Opened
+pub mod Shelving
 pub mod SoFar
 pub mod Stopping
 pub mod Stops

@@ -10,6 +10,7 @@ use Rattle.script_reader.specs.declared.fault.Fault.TheVariants.{Read, Script}
 use Rattle.script_reader.specs.declared.lines.Lined.TheVariants as lined
 use Rattle.script_reader.specs.Grammar.{IsLine}
 use Rattle.script_reader.specs.Lines.{LineReading, to_come, AreLines, IsUnended, IsNextLine}
+use Rattle.script_reader.specs.Openings.{Openings}
 use Rattle.script_reader.specs.Transcript.{text, fault_line}
 use Rattle.script_reader.specs.Scripts.{Begun, Whole, Alone, GoesOn, Leads, LeadTo, IsRefused, Ends}
 use Rattle.script_reader.proofs.Leading.{led}
@@ -20,8 +21,9 @@ use Rattle.netpump.specs.Outputs.{Gathers}
 use Rattle.netpump.specs.Runners.{Closes, EndsAs}
 use Rattle.netpump.specs.declared.replay.Ended.{Ended}
 use Rattle.netpump.specs.declared.replay.Ended.TheVariants as ended
-use Rattle.netpump.specs.Replays.{IsSoFar, Replayed, IsFaultyAt, Stopping, fault_after, IsNear, IsWithinLine, IsNearLast, IsFinished, IsUnread, IsFaulted, IsStopped, IsOutput, IsCutOff, Wrote, WroteFront}
-use Rattle.netpump.proofs.Kept.{keep_laws, timed_so, sound_end, laws_at_stop}
+use Rattle.netpump.specs.Replays.{IsSoFar, Replayed, IsFaultyAt, Stopping, fault_after, IsNear, IsWithinLine, IsNearLast, IsFinished, IsUnread, IsFaulted, IsOutput, IsCutOff, Wrote, WroteFront}
+use Rattle.netpump.specs.Shelves.{Shelved}
+use Rattle.netpump.proofs.Kept.{keep_laws, timed_so, sound_end}
 use Rattle.netpump.proofs.Gathered.{text-more, gathers_then, appends_then, front_then, front_more}
 
 -- ---- the lines ----
@@ -52,46 +54,46 @@ AreLines-more all mid rest (first ∷ lines) line bytes h u i c = (h.0, h.1, h.2
 -- ---- what they do ----
 
 -- one more line at the end
-lead_more : (from to next : Option Begun) (lines : List Line) (line : Line) (events more : List Event) → LeadTo from lines to events → Leads to line next more → LeadTo from (lines ++ line ∷ []) next (events ++ more)
-lead_more from to next [] line events more h step =
-    (next, more, [], subst (λ r. Leads r line next more) h.0 step, (refl, refl), ap (λ z. z ++ more) h.1 ∙ sym (append-nil more))
-lead_more from to next (first ∷ lines) line events more h step =
-    (h.0, h.1, h.2 ++ more, h.3, lead_more h.0 to next lines line h.2 more h.4 step, ap (λ z. z ++ more) h.5 ∙ append_assoc h.1 h.2 more)
+lead_more : (o : Openings) (from to next : Option Begun) (lines : List Line) (line : Line) (events more : List Event) → LeadTo o from lines to events → Leads o to line next more → LeadTo o from (lines ++ line ∷ []) next (events ++ more)
+lead_more o from to next [] line events more h step =
+    (next, more, [], subst (λ r. Leads o r line next more) h.0 step, (refl, refl), ap (λ z. z ++ more) h.1 ∙ sym (append-nil more))
+lead_more o from to next (first ∷ lines) line events more h step =
+    (h.0, h.1, h.2 ++ more, h.3, lead_more o h.0 to next lines line h.2 more h.4 step, ap (λ z. z ++ more) h.5 ∙ append_assoc h.1 h.2 more)
 
 goes_somewhere : (s : Begun) (line : Line) (printed : List Event) → GoesOn s line None printed → ⊥
 goes_somewhere (Whole s) line printed h = cc h.1.2
 goes_somewhere (Alone s) line printed h = cc h.1.2
 
 -- a session that has begun goes on, and nothing is printed before one begins
-led_on : (running : Option Begun) (line : Line) (printed : List Event) → Leads running line None printed → (running ≡ None) × (printed ≡ [])
-led_on running line printed h =
-    led running line None printed h
+led_on : (o : Openings) (running : Option Begun) (line : Line) (printed : List Event) → Leads o running line None printed → (running ≡ None) × (printed ≡ [])
+led_on o running line printed h =
+    led o running line None printed h
     (λ skip after silent. (sym after, silent))
     (λ s none new after silent. (none, silent))
     (λ s some goes. absurd (goes_somewhere s line printed goes))
 
-stays_begun : (s : Begun) (lines : List Line) (events : List Event) → LeadTo (Some s) lines None events → ⊥
-stays_begun s [] events h = cc h.0
-stays_begun s (line ∷ later) events (None, first, second, step, more, e) = let none : Some s ≡ None = (led_on (Some s) line first step).0 in cc
-stays_begun s (line ∷ later) events (Some t, first, second, step, more, e) = stays_begun t later second more
+pub stays_begun : (o : Openings) (s : Begun) (lines : List Line) (events : List Event) → LeadTo o (Some s) lines None events → ⊥
+stays_begun o s [] events h = cc h.0
+stays_begun o s (line ∷ later) events (None, first, second, step, more, e) = let none : Some s ≡ None = (led_on o (Some s) line first step).0 in cc
+stays_begun o s (line ∷ later) events (Some t, first, second, step, more, e) = stays_begun o t later second more
 
 -- nothing is printed before the session begins
-pub silent : (lines : List Line) (events : List Event) → LeadTo None lines None events → events ≡ []
-silent [] events h = h.1
-silent (line ∷ later) events (None, first, second, step, more, e) =
-    e ∙ ap (λ z. z ++ second) (led_on None line first step).1 ∙ silent later second more
-silent (line ∷ later) events (Some t, first, second, step, more, e) = absurd (stays_begun t later second more)
+pub silent : (o : Openings) (lines : List Line) (events : List Event) → LeadTo o None lines None events → events ≡ []
+silent o [] events h = h.1
+silent o (line ∷ later) events (None, first, second, step, more, e) =
+    e ∙ ap (λ z. z ++ second) (led_on o None line first step).1 ∙ silent o later second more
+silent o (line ∷ later) events (Some t, first, second, step, more, e) = absurd (stays_begun o t later second more)
 
 -- ---- so far ----
 
-pub so_far_more : (all mid rest : Option (List ℕ)) (lines : List Line) (events more : List Event) (running next : Option Begun) (line : Line) (bytes : List ℕ)
-    → IsSoFar all mid lines events running → IsUnended bytes → IsLine line bytes → Consumes mid rest (bytes ++ 10 ∷ []) → Leads running line next more
-    → IsSoFar all rest (lines ++ line ∷ []) (events ++ more) next
-so_far_more all mid rest lines events more running next line bytes s u i c step =
-    record { spelled = AreLines-more all mid rest lines line bytes s.spelled u i c; leads = lead_more None running next lines line events more s.leads step }
+pub so_far_more : (o : Openings) (all mid rest : Option (List ℕ)) (lines : List Line) (events more : List Event) (running next : Option Begun) (line : Line) (bytes : List ℕ)
+    → IsSoFar o all mid lines events running → IsUnended bytes → IsLine line bytes → Consumes mid rest (bytes ++ 10 ∷ []) → Leads o running line next more
+    → IsSoFar o all rest (lines ++ line ∷ []) (events ++ more) next
+so_far_more o all mid rest lines events more running next line bytes s u i c step =
+    record { spelled = AreLines-more all mid rest lines line bytes s.spelled u i c; leads = lead_more o None running next lines line events more s.leads step }
 
-pub so_far_kept : (all mid rest : Option (List ℕ)) (lines : List Line) (events : List Event) (running : Option Begun) → IsSoFar all mid lines events running → Keeps mid rest → IsSoFar all rest lines events running
-so_far_kept all mid rest lines events running s k = record { spelled = AreLines-kept all mid rest lines s.spelled k; leads = s.leads }
+pub so_far_kept : (o : Openings) (all mid rest : Option (List ℕ)) (lines : List Line) (events : List Event) (running : Option Begun) → IsSoFar o all mid lines events running → Keeps mid rest → IsSoFar o all rest lines events running
+so_far_kept o all mid rest lines events running s k = record { spelled = AreLines-kept all mid rest lines s.spelled k; leads = s.leads }
 
 pub fresh_gathers : (held : List ℕ) (a : Option (List ℕ)) → held ≡ [] → Gathers [] held a a (text [])
 fresh_gathers held a e = ([], Appends-none a, sym e)
@@ -109,104 +111,92 @@ no_front [] ys e = refl
 no_front (x ∷ xs) ys e = cc
 
 -- nothing was written yet
-pub unwritten : (held : List ℕ) (a b : Option (List ℕ)) (lines : List Line) (events : List Event) (running : Option Begun) → running ≡ None → LeadTo None lines running events
+pub unwritten : (o : Openings) (held : List ℕ) (a b : Option (List ℕ)) (lines : List Line) (events : List Event) (running : Option Begun) → running ≡ None → LeadTo o None lines running events
     → Gathers [] held a b (text events) → Appends a b []
-unwritten held a b lines events (Some r) e h p = cc
-unwritten held a b lines events None e h p =
-    let nothing : [] ≡ p.0 ++ held = ap text (sym (silent lines events h)) ∙ p.2 in
+unwritten o held a b lines events (Some r) e h p = cc
+unwritten o held a b lines events None e h p =
+    let nothing : [] ≡ p.0 ++ held = ap text (sym (silent o lines events h)) ∙ p.2 in
     subst (λ z. Appends a b z) (no_front p.0 held nothing) p.1
 
-stopped_text : (events printed : List Event) (fault : Fault) → text (events ++ printed) ++ fault_line fault ≡ text events ++ (text printed ++ fault_line fault)
+pub stopped_text : (events printed : List Event) (fault : Fault) → text (events ++ printed) ++ fault_line fault ≡ text events ++ (text printed ++ fault_line fault)
 stopped_text events printed fault = ap (λ t. t ++ fault_line fault) (text-more events printed) ∙ append_assoc (text events) (text printed) (fault_line fault)
 
 -- ---- the ends ----
 
 -- so far it was replayed
-abbrev pub replayed : (all rest : Option (List ℕ)) (lines : List Line) (events : List Event) (running : Option Begun) → IsSoFar all rest lines events running → length lines < 2 ^ 32 → Replayed all
-replayed all rest lines events running s few =
-    record { lines = lines; events = events; running = running; rest = rest; so_far = s; few = few; laws = keep_laws lines running events (inl s.leads); timed = timed_so lines running events s.leads }
+abbrev pub replayed : (o : Openings) (all rest : Option (List ℕ)) (lines : List Line) (events : List Event) (running : Option Begun) → IsSoFar o all rest lines events running → length lines < 2 ^ 32 → Replayed all
+replayed o all rest lines events running s few =
+    record { openings = o; lines = lines; events = events; running = running; rest = rest; so_far = s; few = few; laws = keep_laws o lines running events (inl s.leads); timed = timed_so o lines running events s.leads }
 
-module _ (all rest left old now new : Option (List ℕ)) (before after : ℕ) (lines : List Line) (events : List Event) (running : Option Begun)
-    (s : IsSoFar all rest lines events running) (few : length lines < 2 ^ 32) (held : List ℕ) (w : Gathers [] held old now (text events)) where
+module _ (shelf : Shelved) (o : Openings) (all rest left old now new : Option (List ℕ)) (before after : ℕ) (lines : List Line) (events : List Event) (running : Option Begun)
+    (s : IsSoFar o all rest lines events running) (few : length lines < 2 ^ 32) (held : List ℕ) (w : Gathers [] held old now (text events)) where
   abbrev r : Replayed all
-  r = replayed all rest lines events running s few
+  r = replayed o all rest lines events running s few
 
   -- with these bytes behind what was printed the output ends so, and was written
-  wrote : (End : Replayed all → List ℕ → Type 0) (x : List ℕ) → End r (text events ++ x) → Appends now new (held ++ x) → Wrote all old new End
+  pub wrote : (End : Replayed all → List ℕ → Type 0) (x : List ℕ) → End r (text events ++ x) → Appends now new (held ++ x) → Wrote all old new End
   wrote End x e a = (r, text events ++ x, e, appends_then [] held old now new (text events) x w a)
 
-  wrote_front : (x : List ℕ) → IsNearLast rest left → IsOutput left before after r (text events ++ x) → AppendsFront now new (held ++ x) → WroteFront all old new (IsCutOff left before after)
+  pub wrote_front : (x : List ℕ) → IsNearLast rest left → IsOutput shelf left before after r (text events ++ x) → AppendsFront now new (held ++ x) → WroteFront all old new (IsCutOff shelf left before after)
   wrote_front x near e a = (r, text events ++ x, (near, e), front_then [] held old now new (text events) x w a)
 
-  done : (last : List Event) → IsAtEnd rest → Ends running last → IsFinished r (text events ++ text last)
-  done last e ends = record {
+  done : (last : List Event) → IsAtEnd rest → Ends running last → shelf.keeps o running (events ++ last) → IsFinished shelf r (text events ++ text last)
+  done last e ends disks = record {
     ended = e;
     printed = events ++ last;
     transcript = (running, events, last, s.leads, ends, refl);
-    sound = sound_end running events last ends (sound_lead lines running events s.leads);
+    sound = sound_end running events last ends (sound_lead o lines running events s.leads);
     output_is = sym (text-more events last);
+    disks = disks;
   }
 
-  faulted : (number : ℕ) → IsNear rest left → IsFaultyAt (length lines) rest running → Script number ≡ fault_after (length lines) → IsFaulted left r (text events ++ fault_line (Script number))
-  faulted number near f e = record { faulty = f; taken = near; output_is = ap (λ x. text events ++ fault_line x) e }
+  module _ (disks : shelf.keeps o running events) where
+    faulted : (number : ℕ) → IsNear rest left → IsFaultyAt (length lines) rest running → Script number ≡ fault_after (length lines) → IsFaulted shelf left r (text events ++ fault_line (Script number))
+    faulted number near f e = record { faulty = f; taken = near; output_is = ap (λ x. text events ++ fault_line x) e; disks = disks }
 
-  unread : IsWithinLine rest left → Rose before after → IsUnread left before after r (text events ++ fault_line Read)
-  unread within rose = record { rose = rose; taken = within; output_is = refl }
+    unread : IsWithinLine rest left → Rose before after → IsUnread shelf left before after r (text events ++ fault_line Read)
+    unread within rose = record { rose = rose; taken = within; output_is = refl; disks = disks }
 
-  stops : (fault : Fault) (next : Stopping rest (length lines) running fault) → IsNear rest left → IsStopped left fault r (text events ++ (text next.printed ++ fault_line fault))
-  stops fault next near = record {
-    next = next;
-    laws = laws_at_stop lines running events next.line next.after next.printed fault s.leads next.stops;
-    taken = near;
-    output_is = sym (stopped_text events next.printed fault);
-  }
+    -- what is held could not be handed on
+    pub unshown : IsNear rest left → AppendsFront now new held → WroteFront all old new (IsCutOff shelf left before after)
+    unshown near a = wrote_front [] (inr (inl near)) (inl (append-nil (text events), disks)) (front_more now new held [] a)
 
-  -- what is held could not be handed on
-  pub unshown : IsNear rest left → AppendsFront now new held → WroteFront all old new (IsCutOff left before after)
-  unshown near a = wrote_front [] (inr (inl near)) (inl (append-nil (text events))) (front_more now new held [] a)
+    -- what is written last was written or not
+    pub refused : (result : Ended) (number rose risen : ℕ) → IsNear rest left → IsFaultyAt (length lines) rest running → Script number ≡ fault_after (length lines)
+        → Closes now new rose risen (held ++ fault_line (Script number)) (ended.Stopped (Script number)) result → EndsAs shelf all left old new before after result
+    refused result number rose risen near f e c =
+        elim c [
+          | inl is ↦ rw is.0 (wrote (λ r output. IsFaulted shelf left r output) (fault_line (Script number)) (faulted number near f e) is.1)
+          | inr is ↦ rw is.0 (wrote_front (fault_line (Script number)) (inr (inl near)) (inr (inr (inl (faulted number near f e)))) is.1)
+        ]
 
-  -- what is written last was written or not
-  pub refused : (result : Ended) (number rose risen : ℕ) → IsNear rest left → IsFaultyAt (length lines) rest running → Script number ≡ fault_after (length lines)
-      → Closes now new rose risen (held ++ fault_line (Script number)) (ended.Stopped (Script number)) result → EndsAs all left old new before after result
-  refused result number rose risen near f e c =
+    pub failed : (result : Ended) (rose risen : ℕ) → IsWithinLine rest left → Rose before after
+        → Closes now new rose risen (held ++ fault_line Read) (ended.Stopped Read) result → EndsAs shelf all left old new before after result
+    failed result rose risen within because c =
+        elim c [
+          | inl is ↦ rw is.0 (wrote (λ r output. IsUnread shelf left before after r output) (fault_line Read) (unread within because) is.1)
+          | inr is ↦ rw is.0 (wrote_front (fault_line Read) (inr (inl (within.0, within.1, within.2))) (inr (inr (inr (inl (unread within because))))) is.1)
+        ]
+
+  pub finished : (result : Ended) (rose risen : ℕ) (last : List Event) → IsAtEnd rest → Ends running last → shelf.keeps o running (events ++ last)
+      → Closes now new rose risen (held ++ text last) ended.Done result → EndsAs shelf all left old new before after result
+  finished result rose risen last e ends disks c =
       elim c [
-        | inl is ↦ rw is.0 (wrote (λ r output. IsFaulted left r output) (fault_line (Script number)) (faulted number near f e) is.1)
-        | inr is ↦ rw is.0 (wrote_front (fault_line (Script number)) (inr (inl near)) (inr (inr (inl (faulted number near f e)))) is.1)
+        | inl is ↦ rw is.0 (wrote (λ r output. IsFinished shelf r output) (text last) (done last e ends disks) is.1)
+        | inr is ↦ rw is.0 (wrote_front (text last) (inl e) (inr (inl (done last e ends disks))) is.1)
       ]
-
-  pub failed : (result : Ended) (rose risen : ℕ) → IsWithinLine rest left → Rose before after
-      → Closes now new rose risen (held ++ fault_line Read) (ended.Stopped Read) result → EndsAs all left old new before after result
-  failed result rose risen within because c =
-      elim c [
-        | inl is ↦ rw is.0 (wrote (λ r output. IsUnread left before after r output) (fault_line Read) (unread within because) is.1)
-        | inr is ↦ rw is.0 (wrote_front (fault_line Read) (inr (inl (within.0, within.1, within.2))) (inr (inr (inr (inl (unread within because))))) is.1)
-      ]
-
-  pub finished : (result : Ended) (rose risen : ℕ) (last : List Event) → IsAtEnd rest → Ends running last
-      → Closes now new rose risen (held ++ text last) ended.Done result → EndsAs all left old new before after result
-  finished result rose risen last e ends c =
-      elim c [
-        | inl is ↦ rw is.0 (wrote (λ r output. IsFinished r output) (text last) (done last e ends) is.1)
-        | inr is ↦ rw is.0 (wrote_front (text last) (inl e) (inr (inl (done last e ends))) is.1)
-      ]
-
-  -- the next line stops the script
-  pub stopped : (fault : Fault) (next : Stopping rest (length lines) running fault) → IsNear rest left → Appends now new (held ++ (text next.printed ++ fault_line fault)) → Wrote all old new (λ r output. IsStopped left fault r output)
-  stopped fault next near a = wrote (λ r output. IsStopped left fault r output) (text next.printed ++ fault_line fault) (stops fault next near) a
-
-  pub stopped_front : (fault : Fault) (next : Stopping rest (length lines) running fault) → IsNear rest left → AppendsFront now new (held ++ (text next.printed ++ fault_line fault)) → WroteFront all old new (IsCutOff left before after)
-  stopped_front fault next near a = wrote_front (text next.printed ++ fault_line fault) (inr (inl near)) (inr (inr (inr (inr (fault, stops fault next near))))) a
 
 -- what a line prints could not be handed on
-pub unprinted : (all mid rest left old now new : Option (List ℕ)) (before after : ℕ) (lines : List Line) (events more : List Event) (running next : Option Begun) (line : Line) (bytes held : List ℕ)
-    → IsSoFar all mid lines events running → length lines + 1 < 2 ^ 32 → IsUnended bytes → IsLine line bytes → Consumes mid rest (bytes ++ 10 ∷ []) → Leads running line next more
-    → IsNear mid left → Gathers [] held old now (text events) → AppendsFront now new (held ++ text more) → WroteFront all old new (IsCutOff left before after)
-unprinted all mid rest left old now new before after lines events more running next line bytes held s few u i c step near w a =
-    let so_far = so_far_more all mid rest lines events more running next line bytes s u i c step in
+pub unprinted : (shelf : Shelved) (o : Openings) (all mid rest left old now new : Option (List ℕ)) (before after : ℕ) (lines : List Line) (events more : List Event) (running next : Option Begun) (line : Line) (bytes held : List ℕ)
+    → IsSoFar o all mid lines events running → length lines + 1 < 2 ^ 32 → IsUnended bytes → IsLine line bytes → Consumes mid rest (bytes ++ 10 ∷ []) → Leads o running line next more
+    → shelf.keeps o next (events ++ more)
+    → IsNear mid left → Gathers [] held old now (text events) → AppendsFront now new (held ++ text more) → WroteFront all old new (IsCutOff shelf left before after)
+unprinted shelf o all mid rest left old now new before after lines events more running next line bytes held s few u i c step disks near w a =
+    let so_far = so_far_more o all mid rest lines events more running next line bytes s u i c step in
     let counted : length (lines ++ line ∷ []) < 2 ^ 32 = omega (arith, few, length-append lines (line ∷ [])) in (
-      replayed all rest (lines ++ line ∷ []) (events ++ more) next so_far counted,
+      replayed o all rest (lines ++ line ∷ []) (events ++ more) next so_far counted,
       text events ++ text more,
-      (inr (inr (line, mid, (bytes, rest, u, i, c, Keeps-same rest), near)), inl (sym (text-more events more))),
+      (inr (inr (line, mid, (bytes, rest, u, i, c, Keeps-same rest), near)), inl (sym (text-more events more), disks)),
       front_then [] held old now new (text events) (text more) w a,
     )
 

@@ -23,6 +23,8 @@ crowded_overfills s p (lines.High session moment) q printed end n size h k = k
 crowded_overfills s p (lines.Carry session back) q printed end n size h k = h
 crowded_overfills s p (lines.Return session moment back) q printed end n size h k = k
 crowded_overfills s p (lines.Done session moment time) q printed end n size h k = h
+crowded_overfills s p (lines.Restart session moment) q printed end n size h k = k
+crowded_overfills s p (lines.ReceiverRestart session moment) q printed end n size h k = k
 
 crowded_stores : (s : SessionRow) (p : PastAlone) (line : Line) (q : PastAlone) (printed : List Event) → IsCrowdedAlone p line → StepAlone s p line true q printed → ⊥
 crowded_stores s p lines.Skip q printed h k = h
@@ -37,6 +39,8 @@ crowded_stores s p (lines.High session moment) q printed h k = h
 crowded_stores s p (lines.Carry session back) q printed h k = h
 crowded_stores s p (lines.Return session moment back) q printed h k = h
 crowded_stores s p (lines.Done session moment time) q printed h k = h
+crowded_stores s p (lines.Restart session moment) q printed h k = h
+crowded_stores s p (lines.ReceiverRestart session moment) q printed h k = h
 
 whole_refuses : (s : Running) (line : Line) → IsRefused (Some (Whole s)) line → IsRefusedWhole s.row s.past line
 whole_refuses s lines.Skip h = absurd h
@@ -49,6 +53,8 @@ whole_refuses s (lines.High session moment) h = h
 whole_refuses s (lines.Carry session back) h = h
 whole_refuses s (lines.Return session moment back) h = h
 whole_refuses s (lines.Done session moment time) h = h
+whole_refuses s (lines.Restart session moment) h = h
+whole_refuses s (lines.ReceiverRestart session moment) h = h
 
 alone_refuses : (s : RunningAlone) (line : Line) → IsRefused (Some (Alone s)) line → IsRefusedAlone s.row s.past line
 alone_refuses s lines.Skip h = absurd h
@@ -61,6 +67,8 @@ alone_refuses s (lines.High session moment) h = h
 alone_refuses s (lines.Carry session back) h = h
 alone_refuses s (lines.Return session moment back) h = h
 alone_refuses s (lines.Done session moment time) h = h
+alone_refuses s (lines.Restart session moment) h = h
+alone_refuses s (lines.ReceiverRestart session moment) h = h
 
 pub stops_refused : (running : Option Begun) (line : Line) (after : Option Begun) (printed : List Event) (fault : Fault) → Stops running line after printed fault → IsRefused running line → ⊥
 stops_refused None line after printed fault h r = h

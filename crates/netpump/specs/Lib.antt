@@ -1,6 +1,8 @@
 pub mod Files
+pub mod Lending
 pub mod Outputs
 pub mod Replays
 pub mod Runners
 pub mod Sessions
+pub mod Shelves
 pub mod Statuses

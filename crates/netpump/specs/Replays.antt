@@ -1,6 +1,6 @@
 -- What the replay of a script writes, by how it ends, and how much of the script it has taken then. `all` and `left` are
 -- what the source had at the call and has after it, `old` and `new` what the sink had and has, each where it tells.
-use Rattle.std.specs.Prelude.{◌≡◌, ℕ, ◌+◌, ◌-◌, ◌^◌, ◌<◌, ◌≤◌, min, ◌⊎◌, List, [], ◌∷◌, ◌++◌, length, Option, None, Some, IfSome, codes}
+use Rattle.std.specs.Prelude.{◌≡◌, ℕ, ◌+◌, ◌-◌, ◌^◌, ◌<◌, ◌≤◌, min, ◌⊎◌, true, List, [], ◌∷◌, ◌++◌, length, Option, None, Some, IfSome, codes}
 use Rattle.std.specs.Io.KnownBytes.{Consumes, Appends, IsAtEnd}
 use Rattle.pump_frame.specs.Counts.{Rose}
 use Rattle.pump_link.specs.Causes.{AppendsFront}
@@ -9,16 +9,27 @@ use Rattle.pump_core.specs.Timed.{Step, Point}
 use Rattle.script_reader.specs.declared.line.Line.{Line}
 use Rattle.script_reader.specs.declared.event.Event.{Event}
 use Rattle.script_reader.specs.declared.fault.Fault.{Fault}
-use Rattle.script_reader.specs.declared.fault.Fault.TheVariants.{Words, Read, Script, Device, Full}
+use Rattle.script_reader.specs.declared.fault.Fault.TheVariants.{Words, Read, Script, Device, Disk, Full}
+use Rattle.script_reader.specs.declared.line.Line.TheVariants.{Session}
+use Rattle.disk_model.specs.declared.name.Role.{Role}
+use Rattle.pump_frame.specs.declared.row.SessionRow.{SessionRow}
+use Rattle.pump_frame.specs.Rows.{IsLawfulRow}
+use Rattle.recovery.specs.declared.why.Why.{Why}
+use Rattle.recovery.specs.Faults.{why_number, why_values}
+use Rattle.script_reader.specs.Breaks.{Breaks}
+use Rattle.script_reader.specs.Past.{Past}
+use Rattle.script_reader.specs.Steps.{is_timely}
 use Rattle.disk_model.specs.declared.name.Role.TheVariants as roles
 use Rattle.script_reader.specs.Faults.{IsFaulty}
 use Rattle.script_reader.specs.Lines.{AreLines, IsUnended, IsSome}
+use Rattle.script_reader.specs.Openings.{Openings}
 use Rattle.script_reader.specs.Readouts.{low_lines, Sound}
-use Rattle.script_reader.specs.Scripts.{Begun, Whole, Alone, LeadTo, Stops, ComesTo, IsTranscript}
-use Rattle.script_reader.specs.Sides.{low_side_of, told_to_low, full_moments, averages, HaveOwnMoments}
+use Rattle.script_reader.specs.Scripts.{Running, Begun, Whole, Alone, LeadTo, Stops, ComesTo, IsTranscript}
+use Rattle.script_reader.specs.Sides.{low_side_of, told_to_low, full_moments, averages, restarts_in, HaveOwnMoments, OpenAlike}
 use Rattle.script_reader.specs.Transcript.{text, fault_line}
 use Rattle.two_worlds.specs.Timelines.{IsTimeline}
 use Rattle.two_worlds.specs.TimelinesAlone.{IsTimelineAlone}
+use Rattle.netpump.specs.Shelves.{Shelved}
 
 -- ---- the words ----
 
@@ -34,31 +45,36 @@ TellsWords old new status =
 -- ---- what the laws say ----
 
 -- before each of these lines, what was printed until then is sound
-abbrev pub AreSound : List Line → List Event → Type 0
-AreSound lines printed = (before : List Line) (line : Line) (later : List Line) → lines ≡ before ++ line ∷ later
+abbrev pub AreSound : Openings → List Line → List Event → Type 0
+AreSound o lines printed = (before : List Line) (line : Line) (later : List Line) → lines ≡ before ++ line ∷ later
     → (running : Option Begun) × (first : List Event) × (rest : List Event)
-    × LeadTo None before running first × (printed ≡ first ++ rest) × Sound running first
+    × LeadTo o None before running first × (printed ≡ first ++ rest) × Sound running first
 
--- whatever other lines do: with the same low side, to which the same was told, they print the same `low` lines
-abbrev pub DecideLow : List Line → List Event → Type 0
-DecideLow lines printed = (others : List Line) (after : Option Begun) (events : List Event) → ComesTo others after events
+-- whatever other lines do, on whatever disks: with the same low side, which opens alike and to which the same was told,
+-- they print the same `low` lines
+abbrev pub DecideLow : Openings → List Line → List Event → Type 0
+DecideLow o lines printed = (p : Openings) (others : List Line) (after : Option Begun) (events : List Event)
+    → ComesTo p others after events → OpenAlike o p lines
     → low_side_of lines ≡ low_side_of others → told_to_low printed ≡ told_to_low events → low_lines printed ≡ low_lines events
 
--- .. and where no two of its looks have one moment, with the same moments of a full buffer and the same averages
-abbrev pub DecideLowByMoments : List Line → List Event → Type 0
-DecideLowByMoments lines printed = (others : List Line) (after : Option Begun) (events : List Event) → ComesTo others after events
+-- .. and where no two of its looks have one moment, with the same moments of a full buffer, the same averages, and a
+-- buffer that each restart finds full in both or in none
+abbrev pub DecideLowByMoments : Openings → List Line → List Event → Type 0
+DecideLowByMoments o lines printed = (p : Openings) (others : List Line) (after : Option Begun) (events : List Event)
+    → ComesTo p others after events → OpenAlike o p lines
     → low_side_of lines ≡ low_side_of others → HaveOwnMoments (low_side_of lines)
-    → full_moments printed ≡ full_moments events → averages printed ≡ averages events → low_lines printed ≡ low_lines events
+    → full_moments printed ≡ full_moments events → restarts_in printed ≡ restarts_in events → averages printed ≡ averages events
+    → low_lines printed ≡ low_lines events
 
 -- What holds of these lines, which came to `after` and printed this, and the last of which may have stopped the script.
 -- At their end, and before each of them: the `low` lines are the replies of the low history, each with its moment; no more
 -- messages are live than there are places, no more are held than lie between the hands, the receiver's list is a front of
 -- the accepted one, and at most 64 arrivals wait. And what Low was told decides its `low` lines
-pub record KeepLaws (lines : List Line) (after : Option Begun) (printed : List Event) : Type 0 where
+pub record KeepLaws (o : Openings) (lines : List Line) (after : Option Begun) (printed : List Event) : Type 0 where
   pub sound : Sound after printed
-  pub each : AreSound lines printed
-  pub low : DecideLow lines printed
-  pub by_moments : DecideLowByMoments lines printed
+  pub each : AreSound o lines printed
+  pub low : DecideLow o lines printed
+  pub by_moments : DecideLowByMoments o lines printed
 
 -- what the session has been through is a timed run, of which its looks were told; to a low side alone its arrivals came
 -- as they come on a connection
@@ -69,20 +85,23 @@ IsTimed (Some (Alone s)) = (events : List Timed) × IsTimelineAlone s.row s.past
 
 -- ---- the lines so far ----
 
--- these lines were read, all could be applied, and they print these events; what is left of the script is `rest`
-pub record IsSoFar (all rest : Option (List ℕ)) (lines : List Line) (events : List Event) (running : Option Begun) : Type 0 where
+-- these lines were read, all could be applied on disks that were found so, and they print these events; what is left of
+-- the script is `rest`
+pub record IsSoFar (o : Openings) (all rest : Option (List ℕ)) (lines : List Line) (events : List Event) (running : Option Begun) : Type 0 where
   pub spelled : AreLines all lines rest
-  pub leads : LeadTo None lines running events
+  pub leads : LeadTo o None lines running events
 
--- the lines of a script that were replayed, what they print, and the session and the rest that they leave
+-- the lines of a script that were replayed, what the disks were found to hold, what the lines print, and the session and
+-- the rest that they leave
 pub record Replayed (all : Option (List ℕ)) : Type 0 where
+  pub openings : Openings
   pub lines : List Line
   pub events : List Event
   pub running : Option Begun
   pub rest : Option (List ℕ)
-  pub so_far : IsSoFar all rest lines events running
+  pub so_far : IsSoFar openings all rest lines events running
   pub few : length lines < 2 ^ 32
-  pub laws : KeepLaws lines running events
+  pub laws : KeepLaws openings lines running events
   pub timed : IsTimed running
 
 -- after so many lines: the next one is outside the grammar or can't be applied, or would have the number 2^32
@@ -99,6 +118,28 @@ pub record Stopping (rest : Option (List ℕ)) (number : ℕ) (running : Option 
   pub after : Option Begun
   pub printed : List Event
   pub stops : Stops running line after printed fault
+
+-- after so many lines: the next one can be applied, has a number below 2^32, and is cut short by the device of this disk
+-- of the session, after it has led to `past`, in which a call may be unfinished, and printed this
+pub record Breaking (rest : Option (List ℕ)) (number : ℕ) (running : Option Begun) (role : Role) : Type 0 where
+  pub few : number + 1 < 2 ^ 32
+  pub line : Line
+  pub left : Option (List ℕ)
+  pub spelled : AreLines rest (line ∷ []) left
+  pub session : Running
+  pub running_is : running ≡ Some (Whole session)
+  pub timely : is_timely session.row session.past line ≡ true
+  pub past : Past
+  pub printed : List Event
+  pub breaks : Breaks session.row session.past line role past printed
+
+-- after so many lines, which began no session: the next one is to begin that of this row, and has a number below 2^32
+pub record Beginning (rest : Option (List ℕ)) (number : ℕ) (running : Option Begun) (row : SessionRow) : Type 0 where
+  pub few : number + 1 < 2 ^ 32
+  pub left : Option (List ℕ)
+  pub spelled : AreLines rest (Session row ∷ []) left
+  pub none : running ≡ None
+  pub lawful : IsLawfulRow row
 
 -- the fault of the line after so many
 abbrev pub fault_after : ℕ → Fault
@@ -121,52 +162,90 @@ IsNearLast rest left = IsAtEnd rest ⊎ (IsNear rest left ⊎ ((line : Line) × 
 -- ---- the ends of a replay ----
 
 -- the script is at its end: the output is its transcript
-pub record IsFinished {all : Option (List ℕ)} (r : Replayed all) (output : List ℕ) : Type 0 where
+pub record IsFinished (shelf : Shelved) {all : Option (List ℕ)} (r : Replayed all) (output : List ℕ) : Type 0 where
   pub ended : IsAtEnd r.rest
   pub printed : List Event
-  pub transcript : IsTranscript r.lines printed
+  pub transcript : IsTranscript r.openings r.lines printed
   pub sound : Sound r.running printed
   pub output_is : output ≡ text printed
+  pub disks : shelf.keeps r.openings r.running printed
 
 -- a read failed, and every whole line that was taken was replayed: the output is what they print, and the fault
-pub record IsUnread {all : Option (List ℕ)} (left : Option (List ℕ)) (before now : ℕ) (r : Replayed all) (output : List ℕ) : Type 0 where
+pub record IsUnread (shelf : Shelved) {all : Option (List ℕ)} (left : Option (List ℕ)) (before now : ℕ) (r : Replayed all) (output : List ℕ) : Type 0 where
   pub rose : Rose before now
   pub taken : IsWithinLine r.rest left
   pub output_is : output ≡ text r.events ++ fault_line Read
+  pub disks : shelf.keeps r.openings r.running r.events
 
 -- the next line is faulty: the output is what the lines before it print, and the fault with its number. At most 4,096
 -- bytes were taken from the faulty line on
-pub record IsFaulted {all : Option (List ℕ)} (left : Option (List ℕ)) (r : Replayed all) (output : List ℕ) : Type 0 where
+pub record IsFaulted (shelf : Shelved) {all : Option (List ℕ)} (left : Option (List ℕ)) (r : Replayed all) (output : List ℕ) : Type 0 where
   pub faulty : IsFaultyAt (length r.lines) r.rest r.running
   pub taken : IsNear r.rest left
   pub output_is : output ≡ text r.events ++ fault_line (fault_after (length r.lines))
+  pub disks : shelf.keeps r.openings r.running r.events
 
 -- the next line stops the script: the output is what the lines before it print, what it prints up to its stop, and the
 -- fault, and the laws hold of all that is printed. At most 4,096 bytes were taken from that line on
-pub record IsStopped {all : Option (List ℕ)} (left : Option (List ℕ)) (fault : Fault) (r : Replayed all) (output : List ℕ) : Type 0 where
+pub record IsStopped (shelf : Shelved) {all : Option (List ℕ)} (left : Option (List ℕ)) (fault : Fault) (r : Replayed all) (output : List ℕ) : Type 0 where
   pub next : Stopping r.rest (length r.lines) r.running fault
-  pub laws : KeepLaws (r.lines ++ next.line ∷ []) next.after (r.events ++ next.printed)
+  pub laws : KeepLaws r.openings (r.lines ++ next.line ∷ []) next.after (r.events ++ next.printed)
   pub taken : IsNear r.rest left
   pub output_is : output ≡ text (r.events ++ next.printed) ++ fault_line fault
+  pub disks : shelf.keeps r.openings next.after (r.events ++ next.printed)
 
 -- .. the device of its low disk fails in a store, as the line tells
-abbrev pub IsFailed : {all : Option (List ℕ)} → Option (List ℕ) → Replayed all → List ℕ → Type 0
-IsFailed left r output = (session : ℕ) × IsStopped left (Device session roles.Low) r output
+abbrev pub IsFailed : Shelved → {all : Option (List ℕ)} → Option (List ℕ) → Replayed all → List ℕ → Type 0
+IsFailed shelf left r output = (session : ℕ) × IsStopped shelf left (Device session roles.Low) r output
 
 -- .. a message does not fit on the receiver's disk
-abbrev pub IsOverfilled : {all : Option (List ℕ)} → Option (List ℕ) → Replayed all → List ℕ → Type 0
-IsOverfilled left r output = (session end size_of_message size : ℕ) × IsStopped left (Full session end size_of_message size) r output
+abbrev pub IsOverfilled : Shelved → {all : Option (List ℕ)} → Option (List ℕ) → Replayed all → List ℕ → Type 0
+IsOverfilled shelf left r output = (session end size_of_message size : ℕ) × IsStopped shelf left (Full session end size_of_message size) r output
+
+-- a disk of the session fails in the next line: the output is what the lines before it print, what it prints up to then,
+-- and the fault
+pub record IsBroken (shelf : Shelved) {all : Option (List ℕ)} (left : Option (List ℕ)) (role : Role) (r : Replayed all) (output : List ℕ) : Type 0 where
+  pub next : Breaking r.rest (length r.lines) r.running role
+  pub taken : IsNear r.rest left
+  pub output_is : output ≡ text (r.events ++ next.printed) ++ fault_line (Device next.session.row.id role)
+  pub disks : shelf.breaks r.openings (record { row = next.session.row; past = next.past })
+
+-- a disk can't be taken off the shelf, or fails when it is opened for the session that the next line is to begin
+pub record IsUnopened (shelf : Shelved) {all : Option (List ℕ)} (left : Option (List ℕ)) (role : Role) (r : Replayed all) (output : List ℕ) : Type 0 where
+  pub row : SessionRow
+  pub next : Beginning r.rest (length r.lines) r.running row
+  pub taken : IsNear r.rest left
+  pub output_is : output ≡ text r.events ++ fault_line (Device row.id role)
+  pub disks : shelf.spares
+
+-- the disks are refused that are opened for the session which the next line is to begin: the fault has the first cause
+pub record IsBarred (shelf : Shelved) {all : Option (List ℕ)} (left : Option (List ℕ)) (r : Replayed all) (output : List ℕ) : Type 0 where
+  pub row : SessionRow
+  pub next : Beginning r.rest (length r.lines) r.running row
+  pub taken : IsNear r.rest left
+  pub role : Role
+  pub why : Why
+  pub output_is : output ≡ text r.events ++ fault_line (Disk row.id role (why_number why) (why_values why).0 (why_values why).1)
+  pub disks : shelf.refuses row role why
+
+-- a device stops the script: as a line tells, in a line of a whole session, or when its disks are opened
+abbrev pub IsDown : Shelved → {all : Option (List ℕ)} → Option (List ℕ) → Replayed all → List ℕ → Type 0
+IsDown shelf left r output = IsFailed shelf left r output
+    ⊎ (((role : Role) × IsBroken shelf left role r output)
+    ⊎ ((role : Role) × IsUnopened shelf left role r output))
 
 -- the output is what a replay that has come so far writes, or begins with
-abbrev pub IsOutput : {all : Option (List ℕ)} → Option (List ℕ) → ℕ → ℕ → Replayed all → List ℕ → Type 0
-IsOutput left before now r output = (output ≡ text r.events)
-    ⊎ (IsFinished r output
-    ⊎ (IsFaulted left r output
-    ⊎ (IsUnread left before now r output
-    ⊎ ((fault : Fault) × IsStopped left fault r output))))
+abbrev pub IsOutput : Shelved → {all : Option (List ℕ)} → Option (List ℕ) → ℕ → ℕ → Replayed all → List ℕ → Type 0
+IsOutput shelf left before now r output = ((output ≡ text r.events) × shelf.keeps r.openings r.running r.events)
+    ⊎ (IsFinished shelf r output
+    ⊎ (IsFaulted shelf left r output
+    ⊎ (IsUnread shelf left before now r output
+    ⊎ (IsOverfilled shelf left r output
+    ⊎ (IsDown shelf left r output
+    ⊎ IsBarred shelf left r output)))))
 
-abbrev pub IsCutOff : {all : Option (List ℕ)} → Option (List ℕ) → ℕ → ℕ → Replayed all → List ℕ → Type 0
-IsCutOff left before now r output = IsNearLast r.rest left × IsOutput left before now r output
+abbrev pub IsCutOff : Shelved → {all : Option (List ℕ)} → Option (List ℕ) → ℕ → ℕ → Replayed all → List ℕ → Type 0
+IsCutOff shelf left before now r output = IsNearLast r.rest left × IsOutput shelf left before now r output
 
 -- ---- what was written ----
 

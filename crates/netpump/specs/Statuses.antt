@@ -3,7 +3,8 @@ use Rattle.std.specs.Prelude.{◌≡◌, ◌⊎◌, ℕ, ◌^◌, ◌<◌, List,
 use Rattle.script_reader.specs.declared.line.Line.{Line}
 use Rattle.script_reader.specs.declared.event.Event.{Event}
 use Rattle.script_reader.specs.declared.fault.Fault.{Fault}
-use Rattle.script_reader.specs.declared.fault.Fault.TheVariants.{Words, Read, Script, Device, Full}
+use Rattle.script_reader.specs.declared.fault.Fault.TheVariants.{Words, Read, Script, Device, Disk, Full}
+use Rattle.script_reader.specs.Openings.{Openings}
 use Rattle.script_reader.specs.Scripts.{Begun}
 use Rattle.netpump.specs.Replays.{IsSoFar, IsFaultyAt, fault_after, Stopping}
 
@@ -13,13 +14,13 @@ IsEnd rest number running None = rest ≡ []
 IsEnd rest number running (Some fault) = (IsFaultyAt number (Some rest) running × (fault ≡ fault_after number))
     ⊎ Stopping (Some rest) number running fault
 
--- the bytes begin with lines that can all be applied, fewer than 2^32, and end so after them
-pub record EndsWith (bytes : List ℕ) (end : Option Fault) : Type 0 where
+-- the bytes begin with lines that can all be applied on disks that were found so, fewer than 2^32, and end so after them
+pub record EndsWith (o : Openings) (bytes : List ℕ) (end : Option Fault) : Type 0 where
   pub lines : List Line
   pub events : List Event
   pub running : Option Begun
   pub rest : List ℕ
-  pub so_far : IsSoFar (Some bytes) (Some rest) lines events running
+  pub so_far : IsSoFar o (Some bytes) (Some rest) lines events running
   pub few : length lines < 2 ^ 32
   pub is_end : IsEnd rest (length lines) running end
 
@@ -30,4 +31,5 @@ status_of (Some Words) = 2
 status_of (Some Read) = 3
 status_of (Some (Script number)) = 5
 status_of (Some (Device session role)) = 7
+status_of (Some (Disk session role number first second)) = 8
 status_of (Some (Full session end size_of_message size)) = 10

@@ -36,6 +36,9 @@ pub fn explain(rt: &HostRuntime, status: u8, last: &[u8]) -> io::Result<()> {
         7 => eprintln!(rt;
             "netpump: the device of the low disk fails in a store, as a line with the word fault tells; write fine in its place to go on. What was said until then is answered above"
         ),
+        8 => eprintln!(rt;
+            "netpump: a disk of a session holds what its row can't open; the last line of the output has the session and the disk, the number of the cause, and what was found and wanted"
+        ),
         10 => eprintln!(rt;
             "netpump: a message does not fit on the receiver's disk; replay fewer messages, or shorter ones. The last line of the output has the session, where its records end, the length of the message and the size of the disk"
         ),

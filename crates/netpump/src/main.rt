@@ -2,6 +2,7 @@
 #![tactic(auto)]
 
 mod batch;
+mod disks;
 mod explain;
 mod file_disk;
 mod file_shelf;
@@ -14,6 +15,7 @@ mod tests;
 
 use batch::batch;
 use explain::explain;
+use file_shelf::FileShelf;
 use standard::{StdSink, StdSource};
 use std::process::ExitCode;
 use std::{env, io};
@@ -33,9 +35,10 @@ fn main(rt: HostRuntime) -> ExitCode {
         // Words that can't be told are no command.
         Err(_) => Vec::new(rt.alloc()),
     };
+    let mut shelf = FileShelf::new(&rt);
     let mut script = StdSource::new(rt.stdin());
     let mut out = StdSink::new(rt.stdout());
-    let status = batch(rt.alloc(), &words, &mut script, &mut out);
+    let status = batch(rt.alloc(), &words, &mut shelf, &mut script, &mut out);
     // The status tells it too, where standard error can't be written.
     let _ = explain(&rt, status, out.last());
     ExitCode::from(status)

@@ -1,7 +1,11 @@
-ghost use Rattle.std.specs.Prelude.{◌≡◌, ◌≢◌, ◌≤◌, [], ◌++◌, List, option_to_list, Option, None, Some, OnOk, OnErr, MatchResult};
+ghost use Rattle.std.specs.Prelude.{◌≡◌, ◌≢◌, ◌≤◌, ◌⊎◌, [], ◌++◌, List, option_to_list, Option, None, Some, OnOk, OnErr};
 ghost use Rattle.std.specs.Io.KnownBytes.{Appends};
+ghost use Rattle.disk_model.specs.declared.name.Role.{Role as DiskRole};
 ghost use Rattle.pump_frame.specs.Counts.{Rose};
+ghost use Rattle.pump_frame.specs.Rows.{IsLawfulRow};
 ghost use Rattle.pump_link.specs.Causes.{HasCause, AppendsFront};
+ghost use Rattle.recovery.specs.Faults.{why_number, why_values};
+ghost use Rattle.script_reader.specs.Grammar.{IsCount};
 ghost use Rattle.script_reader.specs.Lawful.{IsLawfulLine};
 ghost use Rattle.script_reader.specs.Heads.{line_with, CanHoldLine};
 ghost use Rattle.script_reader.specs.Lines.{LineIsReady};
@@ -9,18 +13,24 @@ ghost use Rattle.script_reader.specs.Scripts.{Begun, Ends};
 ghost use Rattle.script_reader.specs.declared.event.Event.{Event as Printed};
 ghost use Rattle.script_reader.specs.Transcript.{text, fault_line};
 ghost use Rattle.two_worlds.specs.Printing.{lines_in};
-ghost use Rattle.netpump.specs.Sessions.{IsUp, StandsFor, StandsForRunning};
+ghost use Rattle.netpump.specs.Sessions.{IsUp, StandsFor, StandsForRunning, Lends, GoesOnWith, FailedWith, HasFailed};
 ghost use Rattle.netpump.specs.Outputs.{held_of, Gathers};
-ghost use Rattle.netpump.specs.Runners.{AreUp, outcome_of, TurnGoes, TurnDoes, Closes, EndsAs};
+ghost use Rattle.netpump.specs.Replays.{IsFailed, Wrote};
+ghost use Rattle.netpump.specs.Shelves.{Places, AllAreBack, shelved};
+ghost use Rattle.netpump.specs.Runners.{AreUp, fault_of, outcome_of, outcome_at, TurnGoes, TurnDoes, TurnLeaves, HandsOver, LeftAs, IsAloneOr, lent, Closes, EndsAs, IsDeviceFault, IsDeviceOutcome};
 
+use crate::disks::{NotTaken, put_disks_back, take_disks};
 use crate::output::Output;
 use crate::session::Session;
 use arrayvec::ArrayVec;
-use pump_frame::OutOfMemory;
+use disk_model::{Disk, Role, Shelf, ShelfFault};
+use pump_frame::SessionRow;
 use pump_link::{Sink, Source, WriteFault};
+use recovery::Why;
 use script_reader::{Body, EventHead, Fault, Line, LineHead, LinedHead, Lines};
 use std::alloc::Global;
-use two_worlds::Stop;
+use std::mem;
+use two_worlds::{Pump, Stop};
 
 /// How a replay ends.
 #[derive(Clone, Copy)]
@@ -44,13 +54,119 @@ pub enum Outcome {
     Unwritten,
 }
 
-/// Keeps the session that was opened.
-fn keep(opened: Result<Session, OutOfMemory>, session: &mut Option<Session>) -> Outcome
-    ensures { MatchResult opened (λ begun. (session.new ≡ Some begun) × (result ≡ Outcome.Applied)) (λ e. result ≡ Outcome.Memory) }
+// Keeps the session that has begun.
+fn hold<D: Disk>(session: &mut Option<Session<D>>, begun: Session<D>)
+    requires { session.old ≡ None }
+    ensures { session.new ≡ Some begun }
 {
-    match opened {
+    match mem::replace(session, Some(begun)) {
+        None => {}
+        Some(_) => unreachable!(),
+    }
+}
+
+// The fault of a disk that is refused.
+fn refusal_of(session: u32, role: Role, why: &Why) -> Fault
+    ensures { result ≡ Fault.Disk session role (why_number why.now) (why_values why.now).0 (why_values why.now).1 }
+{
+    let (first, second) = why.values();
+    Fault::Disk {
+        session,
+        role,
+        number: why.number(),
+        first,
+        second,
+    }
+}
+
+// .. or whose call failed.
+fn fault_of(session: u32, role: Role, why: &Why) -> Fault
+    ensures { result ≡ fault_of session role why.now }
+{
+    match why {
+        Why::Device { .. } => Fault::Device { session, role },
+        _ => refusal_of(session, role, why),
+    }
+}
+
+fn outcome_at(session: u32, role: Role, why: &Option<Why>) -> Outcome
+    ensures { result ≡ outcome_at session role why.now }
+{
+    match why {
+        None => Outcome::Memory,
+        Some(why) => Outcome::Stopped(fault_of(session, role, why)),
+    }
+}
+
+// What becomes of a line whose disks can't be taken off the shelf.
+fn untaken(session: u32, not_taken: NotTaken) -> Outcome
+    ensures memory { not_taken.fault ≡ ShelfFault.Memory → result ≡ Outcome.Memory }
+    ensures failed { not_taken.fault ≡ ShelfFault.Failed → result ≡ Outcome.Stopped (Fault.Device session not_taken.role) }
+{
+    match not_taken.fault {
+        ShelfFault::Memory => Outcome::Memory,
+        ShelfFault::Failed => Outcome::Stopped(Fault::Device {
+            session,
+            role: not_taken.role,
+        }),
+    }
+}
+
+/// Opens the session of a row over its three disks. They come off the shelf, and are back on it where
+/// it is not opened.
+fn begin_whole<S: Shelf>(
+    alloc: Global,
+    row: &SessionRow,
+    shelf: &mut S,
+    session: &mut Option<Session<S::Disk>>,
+) -> Outcome
+    requires lawful { IsLawfulRow row.now }
+    requires none { session.old ≡ None }
+    ensures goes { S.told.tells → S.Disk.told.tells
+        → TurnGoes S.Disk.told (S.told.disk shelf.old) (S.told.disk shelf.new) None (Line.Session row.now) session.new [] result }
+    ensures begun { result ≡ Outcome.Applied → Lends S.Disk.told (S.told.disk shelf.old) (S.told.disk shelf.new) session.new × AreUp session.new }
+    ensures hands { HandsOver S.told.tells S.Disk.told (S.told.disk shelf.old) (S.told.disk shelf.new) session.new }
+    ensures refused { result ≡ Outcome.Refused → ⊥ }
+    ensures written { result ≡ Outcome.Unwritten → ⊥ }
+    ensures device { IsDeviceOutcome result → Rose (S.told.disk_faults shelf.old) (S.told.disk_faults shelf.new) }
+    ensures later { S.told.disk_faults shelf.old ≤ S.told.disk_faults shelf.new }
+{
+    let disks = match take_disks(shelf, row.id) {
+        Ok(disks) => disks,
+        Err(not_taken) => return untaken(row.id, not_taken),
+    };
+    match Pump::open(alloc, row, disks.low, disks.high, disks.recv) {
+        Ok(pump) => {
+            hold(session, Session::Whole { id: row.id, pump });
+            Outcome::Applied
+        }
+        Err(failed) => {
+            put_disks_back(shelf, row.id, failed.low, failed.high, failed.recv);
+            outcome_at(row.id, failed.role, &failed.why)
+        }
+    }
+}
+
+fn begin_alone<D: Disk>(
+    alloc: Global,
+    row: &SessionRow,
+    next: u64,
+    held: bool,
+    session: &mut Option<Session<D>>,
+) -> Outcome
+    requires lawful { IsLawfulRow row.now }
+    requires count { IsCount next held }
+    requires none { session.old ≡ None }
+    ensures goes { (before : Places) → TurnGoes D.told before before None (Line.LowSession row.now next held) session.new [] result }
+    ensures lends { (before : Places) → Lends D.told before before session.new }
+    ensures up { AreUp session.new }
+    ensures refused { result ≡ Outcome.Refused → ⊥ }
+    ensures written { result ≡ Outcome.Unwritten → ⊥ }
+    ensures device { IsDeviceOutcome result → ⊥ }
+{
+    match Session::alone(alloc, row, next, held) {
         Ok(begun) => {
-            *session = Some(begun);
+            hold(session, begun);
             Outcome::Applied
         }
         Err(_) => Outcome::Memory,
@@ -58,20 +174,34 @@ fn keep(opened: Result<Session, OutOfMemory>, session: &mut Option<Session>) -> 
 }
 
 /// The line that is to begin the session.
-fn begin(alloc: Global, session: &mut Option<Session>, line: &LineHead, body: &Body) -> Outcome
+fn begin<S: Shelf>(
+    alloc: Global,
+    shelf: &mut S,
+    session: &mut Option<Session<S::Disk>>,
+    line: &LineHead,
+    body: &Body,
+) -> Outcome
     requires lawful { IsLawfulLine (line_with body.now line.now) }
     requires some { line_with body.now line.now ≢ Line.Skip }
-    ensures { TurnGoes None (line_with body.now line.now) session.new [] result }
+    requires none { session.old ≡ None }
+    ensures goes { S.told.tells → S.Disk.told.tells
+        → TurnGoes S.Disk.told (S.told.disk shelf.old) (S.told.disk shelf.new) None (line_with body.now line.now) session.new [] result }
+    ensures begun { result ≡ Outcome.Applied → Lends S.Disk.told (S.told.disk shelf.old) (S.told.disk shelf.new) session.new × AreUp session.new }
+    ensures hands { HandsOver S.told.tells S.Disk.told (S.told.disk shelf.old) (S.told.disk shelf.new) session.new }
+    ensures written { result ≡ Outcome.Unwritten → ⊥ }
+    ensures refused { result ≡ Outcome.Refused → (S.told.disk shelf.new ≡ S.told.disk shelf.old) × (session.new ≡ None) }
+    ensures device { IsDeviceOutcome result → Rose (S.told.disk_faults shelf.old) (S.told.disk_faults shelf.new) }
+    ensures later { S.told.disk_faults shelf.old ≤ S.told.disk_faults shelf.new }
 {
     // What begins a session has no body.
     let _bytes = body;
     match line {
         LineHead::Session(row) => match row.first_bad() {
-            None => keep(Session::whole(alloc, row), session),
+            None => begin_whole(alloc, row, shelf, session),
             Some(_) => Outcome::Refused,
         },
         LineHead::LowSession { row, next, held } => match row.first_bad() {
-            None => keep(Session::alone(alloc, row, *next, *held), session),
+            None => begin_alone(alloc, row, *next, *held, session),
             Some(_) => Outcome::Refused,
         },
         _ => Outcome::Refused,
@@ -95,12 +225,13 @@ fn outcome_of(id: u32, stop: &Option<Stop>) -> Outcome
             length: *length,
             size: *size,
         }),
+        Some(Stop::Disk { role, why }) => Outcome::Stopped(refusal_of(id, *role, why)),
     }
 }
 
 /// A line of the session that has begun. The list is for what it prints.
-fn go_on<O: Sink>(
-    session: &mut Session,
+fn go_on<D: Disk, O: Sink>(
+    session: &mut Session<D>,
     line: &LineHead,
     body: &Body,
     events: &mut ArrayVec<EventHead, 4>,
@@ -111,8 +242,11 @@ fn go_on<O: Sink>(
     requires room { CanHoldLine line.now body.now }
     requires some { line_with body.now line.now ≢ Line.Skip }
     requires up { IsUp session.old }
-    ensures does { (running : Begun) → StandsFor session.old running
-        → TurnDoes (Some running) (line_with body.now line.now) (Some session.new) (held_of output.old) (held_of output.new) (O.written out.old) (O.written out.new) result }
+    ensures does { D.told.tells → (before now : Places) (running : Begun) → StandsFor D.told session.old running
+        → TurnDoes D.told before now (Some running) (line_with body.now line.now) (Some session.new) (held_of output.old) (held_of output.new) (O.written out.old) (O.written out.new) result }
+    ensures up { result ≡ Outcome.Applied → IsUp session.new }
+    ensures with { GoesOnWith D.told session.old session.new }
+    ensures device { IsDeviceOutcome result → (role : DiskRole) × FailedWith D.told session.old session.new role }
     ensures later { O.faults out.old ≤ O.faults out.new }
     ensures cause { result ≡ Outcome.Unwritten → Rose (O.faults out.old) (O.faults out.new) }
 {
@@ -124,9 +258,10 @@ fn go_on<O: Sink>(
 }
 
 /// A line of the script. The list is for what it prints.
-fn turn<O: Sink>(
+fn turn<S: Shelf, O: Sink>(
     alloc: Global,
-    session: &mut Option<Session>,
+    shelf: &mut S,
+    session: &mut Option<Session<S::Disk>>,
     line: &LineHead,
     body: &Body,
     events: &mut ArrayVec<EventHead, 4>,
@@ -136,8 +271,14 @@ fn turn<O: Sink>(
     requires lawful { IsLawfulLine (line_with body.now line.now) }
     requires room { CanHoldLine line.now body.now }
     requires up { AreUp session.old }
-    ensures does { (running : Option Begun) → StandsForRunning session.old running
-        → TurnDoes running (line_with body.now line.now) session.new (held_of output.old) (held_of output.new) (O.written out.old) (O.written out.new) result }
+    ensures does { S.told.tells → S.Disk.told.tells → (before : Places) → Lends S.Disk.told before (S.told.disk shelf.old) session.old
+        → (running : Option Begun) → StandsForRunning S.Disk.told session.old running
+        → TurnDoes S.Disk.told before (S.told.disk shelf.new) running (line_with body.now line.now) session.new (held_of output.old) (held_of output.new) (O.written out.old) (O.written out.new) result }
+    ensures goes { (before : Places) → Lends S.Disk.told before (S.told.disk shelf.old) session.old
+        → TurnLeaves S.told.tells S.Disk.told before (S.told.disk shelf.new) session.new result }
+    ensures device { IsDeviceOutcome result → (before : Places) → Lends S.Disk.told before (S.told.disk shelf.old) session.old
+        → Rose (S.told.disk_faults shelf.old) (S.told.disk_faults shelf.new) ⊎ HasFailed S.Disk.told (S.told.disk shelf.new) session.new }
+    ensures disks_later { S.told.disk_faults shelf.old ≤ S.told.disk_faults shelf.new }
     ensures later { O.faults out.old ≤ O.faults out.new }
     ensures cause { result ≡ Outcome.Unwritten → Rose (O.faults out.old) (O.faults out.new) }
 {
@@ -145,7 +286,7 @@ fn turn<O: Sink>(
         LineHead::Skip => Outcome::Applied,
         _ => match session.as_mut() {
             Some(begun) => go_on(begun, line, body, events, output, out),
-            None => begin(alloc, session, line, body),
+            None => begin(alloc, shelf, session, line, body),
         },
     }
 }
@@ -164,8 +305,8 @@ fn show<O: Sink>(lines: &Lines, output: &mut Output, out: &mut O) -> Result<(), 
 }
 
 /// What the end of the script prints.
-fn last_of(session: &Option<Session>) -> Option<EventHead>
-    ensures { (running : Option Begun) → StandsForRunning session.now running → Ends running (lines_in (option_to_list result)) }
+fn last_of<D: Disk>(session: &Option<Session<D>>) -> Option<EventHead>
+    ensures { (running : Option Begun) → StandsForRunning D.told session.now running → Ends running (lines_in (option_to_list result)) }
 {
     match session {
         None => None,
@@ -193,9 +334,11 @@ fn write_last<O: Sink>(
 }
 
 /// The script is at its end.
-fn finish<O: Sink>(session: &Option<Session>, output: &mut Output, out: &mut O) -> Ended
-    ensures { (running : Option Begun) → StandsForRunning session.now running → (last : List Printed) × Ends running last
+fn finish<D: Disk, O: Sink>(session: &Option<Session<D>>, output: &mut Output, out: &mut O) -> Ended
+    ensures ends { (running : Option Begun) → StandsForRunning D.told session.now running → (last : List Printed) × Ends running last
         × Closes (O.written out.old) (O.written out.new) (O.faults out.old) (O.faults out.new) (held_of output.old ++ text last) Ended.Done result }
+    ensures cause { result ≡ Ended.Write → Rose (O.faults out.old) (O.faults out.new) }
+    ensures other { IsDeviceFault result → ⊥ }
 {
     match write_last(&last_of(session), output, out) {
         Ok(()) => Ended::Done,
@@ -220,16 +363,26 @@ fn refuse<O: Sink>(number: u32, output: &mut Output, out: &mut O) -> Ended
     stop(Fault::Script { line: number }, output, out)
 }
 
-/// Applies the lines of the script, and writes what they print.
-pub fn replay<I: Source, O: Sink>(alloc: Global, script: &mut I, out: &mut O) -> Ended
-    ensures ends { EndsAs (I.left script.old) (I.left script.new) (O.written out.old) (O.written out.new) (I.faults script.old) (I.faults script.new) result }
+/// Applies the lines of the script, and writes what they print. The session is left with its disks.
+fn run<S: Shelf, I: Source, O: Sink>(
+    alloc: Global,
+    shelf: &mut S,
+    session: &mut Option<Session<S::Disk>>,
+    script: &mut I,
+    out: &mut O,
+) -> Ended
+    requires none { session.old ≡ None }
+    ensures ends { S.told.tells → S.Disk.told.tells → EndsAs (lent S.Disk.told (S.told.disk shelf.old) (S.told.disk shelf.new) session.new)
+        (I.left script.old) (I.left script.new) (O.written out.old) (O.written out.new) (I.faults script.old) (I.faults script.new) result }
+    ensures hands { HandsOver S.told.tells S.Disk.told (S.told.disk shelf.old) (S.told.disk shelf.new) session.new }
+    ensures device { IsDeviceFault result → Rose (S.told.disk_faults shelf.old) (S.told.disk_faults shelf.new) ⊎ HasFailed S.Disk.told (S.told.disk shelf.new) session.new }
+    ensures later { S.told.disk_faults shelf.old ≤ S.told.disk_faults shelf.new }
     ensures write { result ≡ Ended.Write → Rose (O.faults out.old) (O.faults out.new) }
 {
     let mut lines = Lines::new();
     let mut body = Body::new();
     let mut events = ArrayVec::new();
     let mut output = Output::new();
-    let mut session = None;
     'turns: loop {
         match show(&lines, &mut output, out) {
             Ok(()) => {}
@@ -238,7 +391,8 @@ pub fn replay<I: Source, O: Sink>(alloc: Global, script: &mut I, out: &mut O) ->
         match lines.next_head(script, &mut body) {
             LinedHead::Line(line) => match turn(
                 alloc,
-                &mut session,
+                shelf,
+                session,
                 &line,
                 &body,
                 &mut events,
@@ -253,7 +407,43 @@ pub fn replay<I: Source, O: Sink>(alloc: Global, script: &mut I, out: &mut O) ->
             },
             LinedHead::Bad => return refuse(lines.number(), &mut output, out),
             LinedHead::Failed => return stop(Fault::Read, &mut output, out),
-            LinedHead::End => return finish(&session, &mut output, out),
+            LinedHead::End => return finish(session, &mut output, out),
         }
     }
+}
+
+/// Puts the disks of a session back on the shelf, if it has any.
+fn leave<S: Shelf>(session: Option<Session<S::Disk>>, shelf: &mut S)
+    requires hands { (before : Places) × HandsOver S.told.tells S.Disk.told before (S.told.disk shelf.old) session }
+    ensures back { S.told.tells → (before : Places) → HandsOver S.told.tells S.Disk.told before (S.told.disk shelf.old) session → AllAreBack before (S.told.disk shelf.new) }
+    ensures keeps { S.told.tells → S.Disk.told.tells → (before : Places) → HandsOver S.told.tells S.Disk.told before (S.told.disk shelf.old) session
+        → LeftAs S.Disk.told before (S.told.disk shelf.old) (S.told.disk shelf.new) session }
+    ensures failed { HasFailed S.Disk.told (S.told.disk shelf.old) session → IsAloneOr session (Rose (S.told.disk_faults shelf.old) (S.told.disk_faults shelf.new)) }
+    ensures later { S.told.disk_faults shelf.old ≤ S.told.disk_faults shelf.new }
+{
+    if let Some(Session::Whole { id, pump }) = session {
+        let (low, high, recv) = pump.close();
+        put_disks_back(shelf, id, low, high, recv);
+    }
+}
+
+/// Applies the lines of the script, and writes what they print. The disks that a session line takes off
+/// the shelf are back on it at the end.
+pub fn replay<S: Shelf, I: Source, O: Sink>(
+    alloc: Global,
+    shelf: &mut S,
+    script: &mut I,
+    out: &mut O,
+) -> Ended
+    ensures ends { S.told.tells → S.Disk.told.tells → EndsAs (shelved (S.told.disk shelf.old) (S.told.disk shelf.new))
+        (I.left script.old) (I.left script.new) (O.written out.old) (O.written out.new) (I.faults script.old) (I.faults script.new) result }
+    ensures back { S.told.tells → AllAreBack (S.told.disk shelf.old) (S.told.disk shelf.new) }
+    ensures device { IsDeviceFault result → Rose (S.told.disk_faults shelf.old) (S.told.disk_faults shelf.new)
+        ⊎ (S.told.tells → S.Disk.told.tells → Wrote (I.left script.old) (O.written out.old) (O.written out.new) (IsFailed (shelved (S.told.disk shelf.old) (S.told.disk shelf.new)) (I.left script.new))) }
+    ensures write { result ≡ Ended.Write → Rose (O.faults out.old) (O.faults out.new) }
+{
+    let mut session = None;
+    let ended = run(alloc, shelf, &mut session, script, out);
+    leave(session, shelf);
+    ended
 }

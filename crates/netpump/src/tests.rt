@@ -313,6 +313,67 @@ fn replays_packets(rt: HostRuntime) -> Result<(), Fail> {
     Ok(())
 }
 
+/// Message 0 is passed on and sent.
+const SENT: &str = "high 1 110\n";
+
+#[test]
+fn replays_restarts(rt: HostRuntime) -> Result<(), Fail> {
+    let alloc = rt.alloc();
+    // The low process numbers on from what its disk counts, and the message in its hand outlives.
+    assert!(rt;
+        replays(
+            alloc,
+            &[
+                P,
+                H,
+                "look 1 100 00000000 data 0 61\nrestart 1 150\n",
+                "look 1 160 00000000 hello weather watch\nlook 1 200 00000000 data 0 61\n",
+                "look 1 278 00000000\ndone 1 300 50\n",
+            ],
+            0,
+            &[
+                WELCOME,
+                "stored 1 100 0\nrestart 1 150 1 0 0\nlow 1 160 welcome 1\nrepeat 1 200 0 20000\n",
+                "low 1 278 ack 0\nsent 1 300 0\ntook 1 0\nremoved 1 350 0 50\nend 1 1 1 1\n",
+            ],
+        )?
+    );
+    // A receiver that is opened again attaches with its count, and is sent what it has not taken.
+    assert!(rt;
+        replays(
+            alloc,
+            &[
+                P,
+                H,
+                STORE,
+                SENT,
+                "receiver-restart 1 120\ncarry 1 0\nreturn 1 160 0\nlook 1 178 00000000\n",
+            ],
+            0,
+            &[
+                WELCOME,
+                STORED,
+                "sent 1 110 0\nattach 1 120 0\nsent 1 120 0\ntook 1 0\nremoved 1 160 0 50\n",
+                "low 1 178 ack 0\nend 1 1 1 1\n",
+            ],
+        )?
+    );
+    // With its count it says that it took a message whose TAKEN was lost.
+    assert!(rt;
+        replays(
+            alloc,
+            &[P, H, STORE, SENT, "carry 1 0\nreceiver-restart 1 200\n"],
+            0,
+            &[
+                WELCOME,
+                STORED,
+                "sent 1 110 0\ntook 1 0\nattach 1 200 1\nremoved 1 200 0 90\nend 1 1 1 1\n",
+            ],
+        )?
+    );
+    Ok(())
+}
+
 /// A low side alone, but for how much it has stored.
 const L: &str = "low-session 1 3 8 2 20000 100000 500000 weather watch ";
 

@@ -1,15 +1,18 @@
-use Rattle.std.proofs.Common.{[], refl, ap}
+use Rattle.std.proofs.Common.{[], None, sym, ap, subst}
+use Rattle.script_reader.specs.declared.line.Line.{Line}
 use Rattle.script_reader.specs.Heads.{line_with}
-use Rattle.netpump.proofs.Turns.{opens, begins, begins_alone}
+use Rattle.netpump.specs.Runners.{TurnGoes}
+use Rattle.netpump.proofs.Turns.{hands_of}
 use Rattle.netpump.proofs.replay.begin.Goals as goal
 
-pub returns-in-None : goal.returns-in-None
-returns-in-None c =
-    opens c.whole.result c.keep.new.session c.keep.result (line_with c.args.body.now c.args.line.now) _ [] c.keep.ensures c.whole.ensures
-    (begins (line_with c.args.body.now c.args.line.now) c.in-Session.row c.first_bad.result (ap (line_with c.args.body.now) c.in-Session.is) c.first_bad.ensures c.in-None.is) refl
+pub returns-in-None-first_bad-clause-goes : goal.returns-in-None-first_bad-clause-goes
+returns-in-None-first_bad-clause-goes g c = λ told tells.
+    subst (λ (l : Line). TurnGoes g.S.Disk.Disk.told (g.S.Shelf.told.disk c.args.shelf.now) (g.S.Shelf.told.disk c.args.shelf.now) None l c.begin_alone.new.session [] c.begin_alone.result)
+    (sym (ap (line_with c.args.body.now) c.in-LowSession.is)) (c.begin_alone.ensures.goes (g.S.Shelf.told.disk c.args.shelf.now))
 
-pub returns-in-None-first_bad : goal.returns-in-None-first_bad
-returns-in-None-first_bad c =
-    opens c.alone.result c.keep-in-None-first_bad.new.session c.keep-in-None-first_bad.result (line_with c.args.body.now c.args.line.now) _ [] c.keep-in-None-first_bad.ensures c.alone.ensures
-    (begins_alone (line_with c.args.body.now c.args.line.now) c.in-LowSession.row c.in-LowSession.next c.in-LowSession.held c.first_bad-in-LowSession.result (ap (line_with c.args.body.now) c.in-LowSession.is) c.first_bad-in-LowSession.ensures c.in-None-first_bad.is)
-    refl
+pub returns-in-None-first_bad-clause-begun : goal.returns-in-None-first_bad-clause-begun
+returns-in-None-first_bad-clause-begun g c = λ is. (c.begin_alone.ensures.lends (g.S.Shelf.told.disk c.args.shelf.now), c.begin_alone.ensures.up)
+
+pub returns-in-None-first_bad-clause-hands : goal.returns-in-None-first_bad-clause-hands
+returns-in-None-first_bad-clause-hands g c =
+    hands_of g.S.Disk.Disk.told _ (g.S.Shelf.told.disk c.args.shelf.now) (g.S.Shelf.told.disk c.args.shelf.now) c.begin_alone.new.session (c.begin_alone.ensures.lends (g.S.Shelf.told.disk c.args.shelf.now))

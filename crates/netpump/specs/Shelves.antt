@@ -1,0 +1,124 @@
+-- What is read of a shelf's disks before a replay and after it. `before` and `after` say where each disk is.
+use Rattle.std.specs.Prelude.{◌≡◌, ◌⊎◌, ℕ, List, [], Option, None, Some}
+use Rattle.std.specs.List.{AllByRecursion}
+use Rattle.disk_model.specs.declared.name.DiskName.{DiskName}
+use Rattle.disk_model.specs.declared.name.Role.{Role}
+use Rattle.disk_model.specs.declared.name.Role.TheVariants as roles
+use Rattle.disk_model.specs.Shelf.{Whereabouts, OnShelf, Out, Nowhere, IsOut}
+use Rattle.pump_frame.specs.declared.row.SessionRow.{SessionRow}
+use Rattle.stable_buffer.specs.Format.{new_bytes}
+use Rattle.pump_core.specs.Replies.{Sent}
+use Rattle.pump_core.specs.World.{World}
+use Rattle.recovery.specs.declared.why.Why.{Why}
+use Rattle.script_reader.specs.declared.event.Event.{Event}
+use Rattle.script_reader.specs.Openings.{Found, Openings}
+use Rattle.script_reader.specs.Readouts.{low_lines}
+use Rattle.script_reader.specs.Scripts.{Running, Begun, Whole, Alone}
+use Rattle.two_worlds.specs.Disks.{StandFor, StandForLeft}
+use Rattle.two_worlds.specs.Laws.{KeepMessages, AckOutlives}
+use Rattle.two_worlds.specs.Openings.{readied, StandForFound, IsRefused}
+
+-- ---- the disks of a shelf ----
+
+-- where each disk is
+abbrev pub Places : Type 0
+Places = DiskName → Whereabouts
+
+abbrev pub disk_name : ℕ → Role → DiskName
+disk_name session role = record { session = session; role = role }
+
+-- what a disk reads: one that was never on the shelf reads nothing
+abbrev pub reading_in : Whereabouts → List ℕ
+reading_in (OnShelf reading) = reading
+reading_in (Out given) = []
+reading_in Nowhere = []
+
+abbrev pub reading_at : Places → ℕ → Role → List ℕ
+reading_at places session role = reading_in (places (disk_name session role))
+
+-- what is said of three readings holds of the session's disks
+abbrev pub OfDisks : Places → ℕ → (List ℕ → List ℕ → List ℕ → Type 0) → Type 0
+OfDisks places session Holds = Holds (reading_at places session roles.Low) (reading_at places session roles.High) (reading_at places session roles.Recv)
+
+-- .. once each that is empty is formatted
+abbrev pub OfReadied : SessionRow → (List ℕ → List ℕ → List ℕ → Type 0) → List ℕ → List ℕ → List ℕ → Type 0
+OfReadied row Holds low high recv = Holds (readied row roles.Low low) (readied row roles.High high) (readied row roles.Recv recv)
+
+-- ---- the disks of a session ----
+
+-- they are found to hold f
+abbrev pub HasFound : Places → SessionRow → Found → Type 0
+HasFound places row f = OfDisks places row.id (OfReadied row (StandForFound row f))
+
+-- they can't be opened: the first cause is this disk's
+abbrev pub IsRefusedFor : Places → SessionRow → Role → Why → Type 0
+IsRefusedFor places row role why = OfDisks places row.id (OfReadied row (λ low high recv. IsRefused row low high recv role why))
+
+-- they stand for this world; or for it with each call that is unfinished kept or lost
+abbrev pub HoldsWorld : Places → SessionRow → World → Type 0
+HoldsWorld places row w = OfDisks places row.id (StandFor row w)
+
+abbrev pub HoldsLeft : Places → SessionRow → World → Type 0
+HoldsLeft places row w = OfDisks places row.id (StandForLeft row w)
+
+-- ---- before and after ----
+
+-- every disk of another session is where it was
+abbrev pub LeavesOtherSessions : Places → Places → ℕ → Type 0
+LeavesOtherSessions before after session = (name : DiskName) → (name.session ≡ session → ⊥) → after name ≡ before name
+
+-- no disk is off the shelf that was not before
+abbrev pub AllAreBack : Places → Places → Type 0
+AllAreBack before after = (name : DiskName) → IsOut (after name) → IsOut (before name)
+
+-- every disk that was not empty reads as it did
+abbrev pub Spares : Places → Places → Type 0
+Spares before after = (name : DiskName) → (reading_in (before name) ≡ [] → ⊥) → reading_in (after name) ≡ reading_in (before name)
+
+-- .. and one that was is so still, or is a new disk of the row
+abbrev pub Readies : Places → Places → SessionRow → Type 0
+Readies before after row = (name : DiskName) → (reading_in (after name) ≡ reading_in (before name))
+    ⊎ ((name.session ≡ row.id) × (reading_in (before name) ≡ []) × (reading_in (after name) ≡ new_bytes row name.role 0))
+
+-- Of a session that began on what its disks were found to hold: they stand for the world that it came to; the receiver's
+-- list is a front of the accepted one, and every accepted message is in it or in the live slots of the low disk; so is, with
+-- the payload that was accepted, every message whose acknowledgement was printed. Other disks are as they were
+pub record KeepsSession (before after : Places) (s : Running) (f : Found) (printed : List Event) : Type 0 where
+  pub found : HasFound before s.row f
+  pub holds : HoldsWorld after s.row s.past.world
+  pub prefix : OfDisks after s.row.id (KeepMessages s.row s.past.world)
+  pub outlives : AllByRecursion (λ (x : Sent). AckOutlives s.row s.past.world.accepted prefix.received
+      (reading_at after s.row.id roles.Low) (reading_at after s.row.id roles.High) x.reply) (low_lines printed)
+  pub others : LeavesOtherSessions before after s.row.id
+
+-- so of the session that a script has begun, if it has a shelf's disks; else all disks are where they were
+abbrev pub IsKept : Places → Places → Openings → Option Begun → List Event → Type 0
+IsKept before after o (Some (Whole s)) printed = KeepsSession before after s (o s.row.id) printed
+IsKept before after o (Some (Alone s)) printed = after ≡ before
+IsKept before after o None printed = after ≡ before
+
+-- .. of one whose last line was cut short by the device of a disk
+pub record BreaksSession (before after : Places) (s : Running) (f : Found) : Type 0 where
+  pub found : HasFound before s.row f
+  pub holds : HoldsLeft after s.row s.past.world
+  pub others : LeavesOtherSessions before after s.row.id
+
+-- ---- all that is said of a shelf, by how a replay ends ----
+
+pub record Shelved : Type 1 where
+  -- the session came to this, and this was printed
+  pub keeps : Openings → Option Begun → List Event → Type 0
+  -- its last line was cut short by the device of a disk
+  pub breaks : Openings → Running → Type 0
+  -- a disk could not be taken off the shelf, or failed when it was to be opened
+  pub spares : Type 0
+  -- the disks were refused
+  pub refuses : SessionRow → Role → Why → Type 0
+
+abbrev pub shelved : Places → Places → Shelved
+shelved before after = record {
+  keeps = IsKept before after;
+  breaks = λ o s. BreaksSession before after s (o s.row.id);
+  spares = Spares before after;
+  refuses = λ row role why. IsRefusedFor before row role why × Readies before after row;
+}

@@ -14,7 +14,8 @@ mod standard;
 mod tests;
 
 use batch::batch;
-use explain::explain;
+use disk_model::Shelf;
+use explain::{Trouble, explain};
 use file_shelf::FileShelf;
 use standard::{StdSink, StdSource};
 use std::process::ExitCode;
@@ -39,7 +40,14 @@ fn main(rt: HostRuntime) -> ExitCode {
     let mut script = StdSource::new(rt.stdin());
     let mut out = StdSink::new(rt.stdout());
     let status = batch(rt.alloc(), &words, &mut shelf, &mut script, &mut out);
+    let trouble = if shelf.is_in_use() {
+        Trouble::InUse
+    } else if shelf.disk_faults() > 0 {
+        Trouble::Failed
+    } else {
+        Trouble::Told
+    };
     // The status tells it too, where standard error can't be written.
-    let _ = explain(&rt, status, out.last());
+    let _ = explain(&rt, status, out.last(), trouble);
     ExitCode::from(status)
 }

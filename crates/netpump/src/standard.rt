@@ -40,13 +40,16 @@ impl<R: Read> Source for StdSource<R> {
     }
 }
 
+/// More than the longest line of a fault.
+const LAST: usize = 128;
+
 /// A writer of std as a sink. A write that takes nothing is a fault.
 #[derive(Drop)]
 pub struct StdSink<W> {
     inner: W,
     faults: u64,
     /// The last bytes that were written, from which `main` tells what was wrong; zeros before the first.
-    last: [u8; 64],
+    last: [u8; LAST],
 }
 
 impl<W> StdSink<W> {
@@ -54,11 +57,11 @@ impl<W> StdSink<W> {
         StdSink {
             inner,
             faults: 0,
-            last: [0; 64],
+            last: [0; LAST],
         }
     }
 
-    /// The last 64 bytes that were written, with zeros before the first.
+    /// The last 128 bytes that were written, with zeros before the first.
     pub fn last(&self) -> &[u8] {
         &self.last
     }
@@ -67,9 +70,9 @@ impl<W> StdSink<W> {
         ensures inner { self.new.inner ≡ self.old.inner }
         ensures faults { self.new.faults ≡ self.old.faults }
     {
-        let end = &piece[piece.len().saturating_sub(64)..];
+        let end = &piece[piece.len().saturating_sub(LAST)..];
         self.last.rotate_left(end.len());
-        self.last[64 - end.len()..].copy_from_slice(end);
+        self.last[LAST - end.len()..].copy_from_slice(end);
     }
 }
 

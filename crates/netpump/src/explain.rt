@@ -61,13 +61,27 @@ fn explain_disk(rt: &HostRuntime, last: &[u8]) -> io::Result<()> {
     let first = field(line, 5);
     let second = field(line, 6);
     match field(line, 4) {
-        "2" => eprintln!(rt; "netpump: the file {session}.{role} is no disk of netpump's: it has {first} bytes, and does not begin as one"),
-        "3" => eprintln!(rt; "netpump: the file {session}.{role} was made with other numbers than those of the session line, or is another disk: {first} stands where {second} is wanted"),
-        "4" => eprintln!(rt; "netpump: the register of the file {session}.{role} has {first} and {second}, which no such disk has"),
-        "5" => eprintln!(rt; "netpump: the files {session}.low and {session}.high are not of one time: {first} messages are removed, and {second} accepted"),
-        "6" => eprintln!(rt; "netpump: message {first} in the file {session}.{role} has {second} bytes, which is more than the session line allows"),
-        "7" => eprintln!(rt; "netpump: the files of session {session} are not of one time: the receiver has {first} messages, and the bound is {second}"),
-        _ => eprintln!(rt; "netpump: the files of session {session} are not of one time: message {first} is another one in {session}.low than in {session}.recv"),
+        "2" => eprintln!(rt;
+            "netpump: the file {session}.{role} is no disk of netpump's: it has {first} bytes, and does not begin as one"
+        ),
+        "3" => eprintln!(rt;
+            "netpump: the file {session}.{role} was made with other numbers than those of the session line, or is another disk: {first} stands where {second} is wanted"
+        ),
+        "4" => eprintln!(rt;
+            "netpump: the register of the file {session}.{role} has {first} and {second}, which no such disk has"
+        ),
+        "5" => eprintln!(rt;
+            "netpump: the files {session}.low and {session}.high are not of one time: {first} messages are removed, and {second} accepted"
+        ),
+        "6" => eprintln!(rt;
+            "netpump: message {first} in the file {session}.{role} has {second} bytes, which is more than the session line allows"
+        ),
+        "7" => eprintln!(rt;
+            "netpump: the files of session {session} are not of one time: the receiver has {first} messages, and the bound is {second}"
+        ),
+        _ => eprintln!(rt;
+            "netpump: the files of session {session} are not of one time: message {first} is another one in {session}.low than in {session}.recv"
+        ),
     }
 }
 

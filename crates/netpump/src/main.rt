@@ -14,8 +14,8 @@ mod standard;
 mod tests;
 
 use batch::batch;
-use explain::{Trouble, explain};
 use disk_model::Shelf;
+use explain::{Trouble, explain};
 use file_shelf::FileShelf;
 use standard::{StdSink, StdSource};
 use std::process::ExitCode;

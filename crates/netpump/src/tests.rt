@@ -1,7 +1,7 @@
-ghost use Rattle.std.specs.Prelude.{◌<◌};
+ghost use Rattle.std.specs.Prelude.{◌<◌, ◌≤◌};
 
 use crate::batch::batch;
-use disk_model::{Disk, DiskName, MemShelf, PlainDisk, Role};
+use disk_model::{Disk, DiskName, MemDisk, MemShelf, PlainDisk, Role};
 use pump_link::{MemSink, MemSource};
 use std::alloc::{AllocError, Global};
 use std::test::Fail;
@@ -444,6 +444,33 @@ fn goes_on_with_the_disks_of_the_last_replay(rt: HostRuntime) -> Result<(), Fail
 }
 
 #[test]
+fn refuses_the_disks_of_another_session(rt: HostRuntime) -> Result<(), Fail> {
+    let alloc = rt.alloc();
+    for (change, removed, line) in [
+        ((3, 0), 0, "fault disk 1 low 2 110 1313883136\n"),
+        ((4, 0x48), 0, "fault disk 1 low 3 72 76\n"),
+        ((79, 1), 0, "fault disk 1 low 4 1 1\n"),
+        ((0, 0x4e), 3, "fault disk 1 high 5 3 1\n"),
+        ((81, 9), 0, "fault disk 1 low 6 0 9\n"),
+        ((0, 0x4e), 1, "fault disk 1 recv 7 0 1\n"),
+    ] {
+        let mut disks = Vec::new(alloc);
+        let low = old_disk(alloc, b'L', 1, 110, change)?;
+        let high = old_disk(alloc, b'H', removed, 110, (0, 0x4e))?;
+        let recv = PlainDisk::new(alloc, 4096)?;
+        for (role, disk) in [(Role::Low, low), (Role::High, high), (Role::Recv, recv)] {
+            disks.push((DiskName { session: 1, role }, disk))?;
+        }
+        let mut shelf = MemShelf::new(disks, Vec::new(alloc), Vec::new(alloc));
+        let (status, written) = run_on(alloc, &mut shelf, &[P, H])?;
+        assert_eq!(rt; status, 8);
+        assert_eq!(rt; written.as_slice(), line.as_bytes());
+        assert!(rt; are_back(&shelf));
+    }
+    Ok(())
+}
+
+#[test]
 fn stops_where_a_disk_is_not_there(rt: HostRuntime) -> Result<(), Fail> {
     let alloc = rt.alloc();
     for (call, line) in [
@@ -458,6 +485,73 @@ fn stops_where_a_disk_is_not_there(rt: HostRuntime) -> Result<(), Fail> {
         assert!(rt; are_back(&shelf));
     }
     Ok(())
+}
+
+/// The shelf with a low disk that fails in this call, counted from the first.
+fn failing_shelf(alloc: Global, call: u64) -> Result<MemShelf<MemDisk>, Fail> {
+    let mut disks = Vec::new(alloc);
+    for (role, room) in [(Role::Low, 110), (Role::High, 80), (Role::Recv, 4096)] {
+        let fails = match role {
+            Role::Low => vec![in alloc; call]?,
+            _ => Vec::new(alloc),
+        };
+        let disk = MemDisk::new(alloc, room, 64, fails)?;
+        disks.push((DiskName { session: 1, role }, disk))?;
+    }
+    Ok(MemShelf::new(disks, Vec::new(alloc), Vec::new(alloc)))
+}
+
+#[test]
+fn stops_where_a_call_of_a_disk_fails(rt: HostRuntime) -> Result<(), Fail> {
+    let alloc = rt.alloc();
+    // In the opening, or in one of the five calls of the store of message 0.
+    let opening = b"fault device 1 low\n".as_slice();
+    let store = b"low 1 10 welcome 0\nlow 1 100 refuse 5 0\nfault device 1 low\n".as_slice();
+    let mut stores = 0u32;
+    for call in 0..40 {
+        let mut shelf = failing_shelf(alloc, call)?;
+        let (status, written) = run_on(alloc, &mut shelf, &[P, H, STORE])?;
+        let is_store = written.as_slice() == store;
+        let is_fault = is_store || written.as_slice() == opening;
+        assert_eq!(rt; status, if is_fault { 7 } else { 0 });
+        assert!(rt; are_back(&shelf));
+        if is_store {
+            stores = stores.saturating_add(1);
+            // What the disks hold opens again.
+            let (status, _) = run_on(alloc, &mut shelf, &[P])?;
+            assert_eq!(rt; status, 0);
+        }
+    }
+    assert_eq!(rt; stores, 5);
+    Ok(())
+}
+
+/// A low disk with message 0, `a`, or a high disk with so many messages removed, of session 1.
+fn old_disk(
+    alloc: Global,
+    letter: u8,
+    count: u8,
+    size: usize,
+    change: (usize, u8),
+) -> Result<PlainDisk, Fail>
+    requires { 110 ≤ size }
+{
+    let mut bytes = vec![in alloc; 0; size]?;
+    bytes[..20].copy_from_slice(b"NPD1L\x01\0\0\0\0\0\x01\0\0\0\x03\0\0\0\x08");
+    bytes[4] = letter;
+    bytes[32] = 1;
+    bytes[71] = count;
+    bytes[81] = 1;
+    bytes[82] = b'a';
+    if let Some(byte) = bytes.get_mut(change.0) {
+        *byte = change.1;
+    }
+    let mut disk = PlainDisk::new(alloc, 4096)?;
+    let kept = if letter == b'L' { size } else { 80 };
+    match disk.write_at(0, &bytes[..kept]) {
+        Ok(()) => Ok(disk),
+        Err(_) => Err(Fail::new("no room")),
+    }
 }
 
 /// A low side alone, but for how much it has stored.

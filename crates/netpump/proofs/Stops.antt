@@ -24,7 +24,7 @@ use Rattle.script_reader.specs.Transcript.{text, fault_line}
 use Rattle.netpump.specs.Outputs.{Gathers}
 use Rattle.netpump.specs.Shelves.{Places, Shelved, AllAreBack}
 use Rattle.netpump.specs.Sessions.{StandsFor, StandsForRunning, CameTo, HasComeTo, Lends}
-use Rattle.netpump.specs.Runners.{Finds, IsWhere, lent, LeadsFrom, BreaksOff, BeginsNone, TurnGoes, TurnStops, TurnLeaves, HandsOver, Closes, EndsAs, IsDeviceFault, IsDeviceOutcome}
+use Rattle.netpump.specs.Runners.{Finds, IsWhere, lent, LeadsFrom, BreaksOff, BeginsNone, TurnGoes, TurnStops, TurnLeaves, HandsOver, Closes, EndsAs, IsDeviceFault, IsDeviceOutcome, IsLineFault}
 use Rattle.netpump.specs.declared.session.Session.{Session}
 use Rattle.netpump.specs.declared.session.Session.TheVariants as sessions
 use Rattle.netpump.specs.declared.replay.Outcome.{Outcome}
@@ -274,3 +274,15 @@ closed_device old new before now bytes fault result c h = elim c [
 
 pub stop_device : (first mid last : ℕ) (P : Type 0) → first ≤ mid → Rose mid last ⊎ P → Rose first last ⊎ P
 stop_device first mid last P low h = elim h [ inl rose ↦ inl (omega (arith, low, rose)) | inr p ↦ inr p ]
+
+-- ---- the other faults ----
+
+-- the end is this fault, or a failed write
+pub closed_not : (old new : Option (List ℕ)) (before now : ℕ) (bytes : List ℕ) (fault other : Fault) (result : Ended) → Closes old new before now bytes (ended.Stopped fault) result → (fault ≡ other → ⊥) → result ≡ ended.Stopped other → ⊥
+closed_not old new before now bytes fault other result c apart e = elim c [ inl is ↦ apart (same fault other (sym is.0 ∙ e)) | inr is ↦ cc (sym is.0 ∙ e) ]
+  where
+    same : (a b : Fault) → ended.Stopped a ≡ ended.Stopped b → a ≡ b
+    same a b e = cc
+
+pub line_fault : (fault other : Fault) → IsLineFault fault → (IsLineFault other → ⊥) → fault ≡ other → ⊥
+line_fault fault other line none e = none (subst IsLineFault e line)

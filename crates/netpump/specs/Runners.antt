@@ -46,6 +46,18 @@ abbrev pub fault_of : ℕ → Role → Why → Fault
 fault_of id role (whys.Device count) = faults.Device id role
 fault_of id role why = faults.Disk id role (why_number why) (why_values why).0 (why_values why).1
 
+-- it is a disk's, or of a message that does not fit
+abbrev pub IsLineFault : Fault → Type 0
+IsLineFault (faults.Device session role) = Unit {0}
+IsLineFault (faults.Disk session role number first second) = Unit {0}
+IsLineFault (faults.Full session end size_of_message size) = Unit {0}
+IsLineFault fault = ⊥
+
+-- only with such a fault does a line that can be applied stop a script
+abbrev pub StopsByLine : Outcome → Type 0
+StopsByLine (outcomes.Stopped fault) = IsLineFault fault
+StopsByLine outcome = Unit {0}
+
 -- what becomes of a line by why it stops the session of this number, if it does
 abbrev pub outcome_of : ℕ → Option Stop → Outcome
 outcome_of id None = outcomes.Applied

@@ -54,12 +54,14 @@ pub fn batch<S: Shelf, I: Source, O: Sink>(
     // Words that are no command: nothing of the shelf and the script is touched, and the fault is all that is written.
     ensures untouched { (IsReplay (map string_bytes words.now.items) → ⊥) → (script.new ≡ script.old) × (shelf.new ≡ shelf.old) }
     ensures words { (IsReplay (map string_bytes words.now.items) → ⊥) → TellsWords (O.written out.old) (O.written out.new) result }
-    ensures replay { IsReplay (map string_bytes words.now.items) → S.told.tells → S.Disk.told.tells → (result ≡ 2 → ⊥) }
+    ensures replay { IsReplay (map string_bytes words.now.items) → (result ≡ 2 → ⊥) }
     // Whatever the status is, every disk is back on the shelf.
     ensures back { S.told.tells → AllAreBack (S.told.disk shelf.old) (S.told.disk shelf.new) }
     // A disk fails only where the shelf's count rose, or a line tells so.
     ensures device { result ≡ 7 → Rose (S.told.disk_faults shelf.old) (S.told.disk_faults shelf.new)
         ⊎ (S.told.tells → S.Disk.told.tells → Wrote (I.left script.old) (O.written out.old) (O.written out.new) (IsFailed (shelved (S.told.disk shelf.old) (S.told.disk shelf.new)) (I.left script.new))) }
+    // A read fails, and a write, only where the source's or the sink's count rose.
+    ensures read { result ≡ 3 → Rose (I.faults script.old) (I.faults script.new) }
     ensures unwritten { result ≡ 4 → Rose (O.faults out.old) (O.faults out.new) }
     // How a replay ends; at 0, 5 and 10 the bytes of the script have no other status on the disks that were found.
     ensures done { result ≡ 0 → S.told.tells → S.Disk.told.tells → Wrote (I.left script.old) (O.written out.old) (O.written out.new) (λ r output. IsFinished (shelved (S.told.disk shelf.old) (S.told.disk shelf.new)) r output × HasStatus 0 r output) }

@@ -17,7 +17,7 @@ ghost use Rattle.netpump.specs.Sessions.{IsUp, StandsFor, StandsForRunning, Lend
 ghost use Rattle.netpump.specs.Outputs.{held_of, Gathers};
 ghost use Rattle.netpump.specs.Replays.{IsFailed, Wrote};
 ghost use Rattle.netpump.specs.Shelves.{Places, AllAreBack, shelved};
-ghost use Rattle.netpump.specs.Runners.{AreUp, fault_of, outcome_of, outcome_at, TurnGoes, TurnDoes, TurnLeaves, HandsOver, LeftAs, IsAloneOr, lent, Closes, EndsAs, IsDeviceFault, IsDeviceOutcome};
+ghost use Rattle.netpump.specs.Runners.{AreUp, fault_of, outcome_of, outcome_at, TurnGoes, TurnDoes, TurnLeaves, HandsOver, LeftAs, IsAloneOr, lent, Closes, EndsAs, IsDeviceFault, IsDeviceOutcome, IsLineFault, StopsByLine};
 
 use crate::disks::{NotTaken, put_disks_back, take_disks};
 use crate::output::Output;
@@ -67,7 +67,8 @@ fn hold<D: Disk>(session: &mut Option<Session<D>>, begun: Session<D>)
 
 // The fault of a disk that is refused.
 fn refusal_of(session: u32, role: Role, why: &Why) -> Fault
-    ensures { result ≡ Fault.Disk session role (why_number why.now) (why_values why.now).0 (why_values why.now).1 }
+    ensures line { IsLineFault result }
+    ensures is { result ≡ Fault.Disk session role (why_number why.now) (why_values why.now).0 (why_values why.now).1 }
 {
     let (first, second) = why.values();
     Fault::Disk {
@@ -81,7 +82,8 @@ fn refusal_of(session: u32, role: Role, why: &Why) -> Fault
 
 // .. or whose call failed.
 fn fault_of(session: u32, role: Role, why: &Why) -> Fault
-    ensures { result ≡ fault_of session role why.now }
+    ensures line { IsLineFault result }
+    ensures is { result ≡ fault_of session role why.now }
 {
     match why {
         Why::Device { .. } => Fault::Device { session, role },
@@ -90,7 +92,8 @@ fn fault_of(session: u32, role: Role, why: &Why) -> Fault
 }
 
 fn outcome_at(session: u32, role: Role, why: &Option<Why>) -> Outcome
-    ensures { result ≡ outcome_at session role why.now }
+    ensures line { StopsByLine result }
+    ensures is { result ≡ outcome_at session role why.now }
 {
     match why {
         None => Outcome::Memory,
@@ -100,6 +103,7 @@ fn outcome_at(session: u32, role: Role, why: &Option<Why>) -> Outcome
 
 // What becomes of a line whose disks can't be taken off the shelf.
 fn untaken(session: u32, not_taken: NotTaken) -> Outcome
+    ensures line { StopsByLine result }
     ensures memory { not_taken.fault ≡ ShelfFault.Memory → result ≡ Outcome.Memory }
     ensures failed { not_taken.fault ≡ ShelfFault.Failed → result ≡ Outcome.Stopped (Fault.Device session not_taken.role) }
 {
@@ -127,6 +131,7 @@ fn begin_whole<S: Shelf>(
     ensures begun { result ≡ Outcome.Applied → Lends S.Disk.told (S.told.disk shelf.old) (S.told.disk shelf.new) session.new × AreUp session.new }
     ensures hands { HandsOver S.told.tells S.Disk.told (S.told.disk shelf.old) (S.told.disk shelf.new) session.new }
     ensures refused { result ≡ Outcome.Refused → ⊥ }
+    ensures line { StopsByLine result }
     ensures written { result ≡ Outcome.Unwritten → ⊥ }
     ensures device { IsDeviceOutcome result → Rose (S.told.disk_faults shelf.old) (S.told.disk_faults shelf.new) }
     ensures later { S.told.disk_faults shelf.old ≤ S.told.disk_faults shelf.new }
@@ -161,6 +166,7 @@ fn begin_alone<D: Disk>(
     ensures lends { (before : Places) → Lends D.told before before session.new }
     ensures up { AreUp session.new }
     ensures refused { result ≡ Outcome.Refused → ⊥ }
+    ensures line { StopsByLine result }
     ensures written { result ≡ Outcome.Unwritten → ⊥ }
     ensures device { IsDeviceOutcome result → ⊥ }
 {
@@ -188,6 +194,7 @@ fn begin<S: Shelf>(
         → TurnGoes S.Disk.told (S.told.disk shelf.old) (S.told.disk shelf.new) None (line_with body.now line.now) session.new [] result }
     ensures begun { result ≡ Outcome.Applied → Lends S.Disk.told (S.told.disk shelf.old) (S.told.disk shelf.new) session.new × AreUp session.new }
     ensures hands { HandsOver S.told.tells S.Disk.told (S.told.disk shelf.old) (S.told.disk shelf.new) session.new }
+    ensures line { StopsByLine result }
     ensures written { result ≡ Outcome.Unwritten → ⊥ }
     ensures refused { result ≡ Outcome.Refused → (S.told.disk shelf.new ≡ S.told.disk shelf.old) × (session.new ≡ None) }
     ensures device { IsDeviceOutcome result → Rose (S.told.disk_faults shelf.old) (S.told.disk_faults shelf.new) }
@@ -210,7 +217,8 @@ fn begin<S: Shelf>(
 
 /// What becomes of a line, by why it stops the session with this number, if it does.
 fn outcome_of(id: u32, stop: &Option<Stop>) -> Outcome
-    ensures { result ≡ outcome_of id stop.now }
+    ensures line { StopsByLine result }
+    ensures is { result ≡ outcome_of id stop.now }
 {
     match stop {
         None => Outcome::Applied,
@@ -246,6 +254,7 @@ fn go_on<D: Disk, O: Sink>(
         → TurnDoes D.told before now (Some running) (line_with body.now line.now) (Some session.new) (held_of output.old) (held_of output.new) (O.written out.old) (O.written out.new) result }
     ensures up { result ≡ Outcome.Applied → IsUp session.new }
     ensures with { GoesOnWith D.told session.old session.new }
+    ensures line { StopsByLine result }
     ensures device { IsDeviceOutcome result → (role : DiskRole) × FailedWith D.told session.old session.new role }
     ensures later { O.faults out.old ≤ O.faults out.new }
     ensures cause { result ≡ Outcome.Unwritten → Rose (O.faults out.old) (O.faults out.new) }
@@ -276,6 +285,7 @@ fn turn<S: Shelf, O: Sink>(
         → TurnDoes S.Disk.told before (S.told.disk shelf.new) running (line_with body.now line.now) session.new (held_of output.old) (held_of output.new) (O.written out.old) (O.written out.new) result }
     ensures goes { (before : Places) → Lends S.Disk.told before (S.told.disk shelf.old) session.old
         → TurnLeaves S.told.tells S.Disk.told before (S.told.disk shelf.new) session.new result }
+    ensures line { StopsByLine result }
     ensures device { IsDeviceOutcome result → (before : Places) → Lends S.Disk.told before (S.told.disk shelf.old) session.old
         → Rose (S.told.disk_faults shelf.old) (S.told.disk_faults shelf.new) ⊎ HasFailed S.Disk.told (S.told.disk shelf.new) session.new }
     ensures disks_later { S.told.disk_faults shelf.old ≤ S.told.disk_faults shelf.new }
@@ -339,6 +349,8 @@ fn finish<D: Disk, O: Sink>(session: &Option<Session<D>>, output: &mut Output, o
         × Closes (O.written out.old) (O.written out.new) (O.faults out.old) (O.faults out.new) (held_of output.old ++ text last) Ended.Done result }
     ensures cause { result ≡ Ended.Write → Rose (O.faults out.old) (O.faults out.new) }
     ensures other { IsDeviceFault result → ⊥ }
+    ensures words { result ≡ Ended.Stopped Fault.Words → ⊥ }
+    ensures read { result ≡ Ended.Stopped Fault.Read → ⊥ }
 {
     match write_last(&last_of(session), output, out) {
         Ok(()) => Ended::Done,
@@ -378,6 +390,8 @@ fn run<S: Shelf, I: Source, O: Sink>(
     ensures device { IsDeviceFault result → Rose (S.told.disk_faults shelf.old) (S.told.disk_faults shelf.new) ⊎ HasFailed S.Disk.told (S.told.disk shelf.new) session.new }
     ensures later { S.told.disk_faults shelf.old ≤ S.told.disk_faults shelf.new }
     ensures write { result ≡ Ended.Write → Rose (O.faults out.old) (O.faults out.new) }
+    ensures words { result ≡ Ended.Stopped Fault.Words → ⊥ }
+    ensures read { result ≡ Ended.Stopped Fault.Read → Rose (I.faults script.old) (I.faults script.new) }
 {
     let mut lines = Lines::new();
     let mut body = Body::new();
@@ -441,6 +455,8 @@ pub fn replay<S: Shelf, I: Source, O: Sink>(
     ensures device { IsDeviceFault result → Rose (S.told.disk_faults shelf.old) (S.told.disk_faults shelf.new)
         ⊎ (S.told.tells → S.Disk.told.tells → Wrote (I.left script.old) (O.written out.old) (O.written out.new) (IsFailed (shelved (S.told.disk shelf.old) (S.told.disk shelf.new)) (I.left script.new))) }
     ensures write { result ≡ Ended.Write → Rose (O.faults out.old) (O.faults out.new) }
+    ensures words { result ≡ Ended.Stopped Fault.Words → ⊥ }
+    ensures read { result ≡ Ended.Stopped Fault.Read → Rose (I.faults script.old) (I.faults script.new) }
 {
     let mut session = None;
     let ended = run(alloc, shelf, &mut session, script, out);

@@ -1,3 +1,4 @@
+use Rattle.std.proofs.Common.{refl}
 use Rattle.netpump.proofs.OneStatus.{done_only, faulted_only, full_only}
 use Rattle.netpump.proofs.batch.batch.Goals as goal
 
@@ -12,3 +13,9 @@ returns-in-Stopped-Script-clause-faulted g c = λ is told tells. faulted_only _ 
 
 pub returns-in-Stopped-Full-clause-full : goal.returns-in-Stopped-Full-clause-full
 returns-in-Stopped-Full-clause-full g c = λ is told tells. full_only _ _ _ _ _ ((rw c.in-Stopped-Full.field-0-is at c.in-Stopped-Full.ensures.ends) told tells)
+
+pub returns-in-Stopped-Words-clause-replay : goal.returns-in-Stopped-Words-clause-replay
+returns-in-Stopped-Words-clause-replay g c = λ words two. (rw c.in-Stopped-Words.field-0-is at c.in-Stopped-Words.ensures.words) refl
+
+pub returns-in-Stopped-Read-clause-read : goal.returns-in-Stopped-Read-clause-read
+returns-in-Stopped-Read-clause-read g c = λ three. (rw c.in-Stopped-Read.field-0-is at c.in-Stopped-Read.ensures.read) refl

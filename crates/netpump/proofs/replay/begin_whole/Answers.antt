@@ -26,7 +26,7 @@ returns-in-Ok-open-clause-hands g c =
 pub returns-in-Err-open-clause-goes : goal.returns-in-Err-open-clause-goes
 returns-in-Err-open-clause-goes g c = λ told tells.
     let t = c.in-Ok.ensures in
-    rw c.outcome_at.ensures (unopened_goes _ _ (g.S.Shelf.told.disk c.args.shelf.now) (g.S.Shelf.told.disk c.take_disks.new.shelf) (g.S.Shelf.told.disk c.put_disks_back.new.shelf) c.args.row.now _ _ _ c.in-Err-open.failed c.in-Err-open.ensures.back
+    rw c.outcome_at.ensures.is (unopened_goes _ _ (g.S.Shelf.told.disk c.args.shelf.now) (g.S.Shelf.told.disk c.take_disks.new.shelf) (g.S.Shelf.told.disk c.put_disks_back.new.shelf) c.args.row.now _ _ _ c.in-Err-open.failed c.in-Err-open.ensures.back
     c.take_disks.ensures.others c.put_disks_back.ensures.others tells
     (t.low told) (t.high told) (t.recv told) (c.put_disks_back.ensures.back told) _ c.args.session.now c.requires.none c.requires.lawful refl)
 
@@ -42,10 +42,10 @@ returns-in-Err-open-clause-device g c = λ is.
     let e = c.in-Err-open.failed in
     rose_more (g.S.Shelf.told.disk_faults c.args.shelf.now) (g.S.Shelf.told.disk_faults c.take_disks.new.shelf) (g.S.Shelf.told.disk_faults c.put_disks_back.new.shelf) c.take_disks.ensures.later
     (unopened_rises _ (g.S.Shelf.told.disk c.take_disks.new.shelf) c.args.row.now _ _ _ e c.in-Err-open.ensures.back _ _ t.low_out t.high_out t.recv_out b.low_rises b.high_rises b.recv_rises e.why refl
-    (rw (← c.outcome_at.ensures) is))
+    (rw (← c.outcome_at.ensures.is) is))
 
 pub returns-in-Err-open-clause-refused : goal.returns-in-Err-open-clause-refused
-returns-in-Err-open-clause-refused g c = never_refused _ _ c.in-Err-open.failed.why c.outcome_at.result c.outcome_at.ensures
+returns-in-Err-open-clause-refused g c = never_refused _ _ c.in-Err-open.failed.why c.outcome_at.result c.outcome_at.ensures.is
 
 pub returns-in-Err-open-clause-written : goal.returns-in-Err-open-clause-written
-returns-in-Err-open-clause-written g c = never_unwritten _ _ c.in-Err-open.failed.why c.outcome_at.result c.outcome_at.ensures
+returns-in-Err-open-clause-written g c = never_unwritten _ _ c.in-Err-open.failed.why c.outcome_at.result c.outcome_at.ensures.is

@@ -4,7 +4,7 @@ use Rattle.script_reader.specs.Openings.{new_disks}
 use Rattle.script_reader.proofs.LineLaws.{lawful_line}
 use Rattle.netpump.specs.Outputs.{held_of}
 use Rattle.netpump.specs.Runners.{lent}
-use Rattle.netpump.proofs.Stops.{advance, keeps_so, stops, barred, cut_off, stop_device, closed_device}
+use Rattle.netpump.proofs.Stops.{advance, keeps_so, stops, barred, cut_off, stop_device, closed_device, closed_not, line_fault}
 use Rattle.netpump.proofs.Turns.{hands_of}
 use Rattle.netpump.proofs.SoFar.{Keeps-fresh, fresh_gathers, so_far_more, so_far_kept, shown, printed, unwritten, one_left, refused, failed, finished, closed, unshown, faulty_line, faulty_bad, line_number, bad_number, near_now, near_bad, within_failed, near_next}
 use Rattle.netpump.proofs.replay.run.Goals as goal
@@ -171,3 +171,27 @@ returns-in-End-clause-ends g c = λ told tells.
     let f = c.finish.ensures.ends t.2 t.6 in
     let w = shown (held_of c.turns.output) (held_of c.show.new.output) _ _ _ _ t.5 c.in-Ok.ensures.ok in
     finished (lent g.S.Disk.Disk.told (g.S.Shelf.told.disk c.args.shelf.now) (g.S.Shelf.told.disk c.turns.shelf) c.turns.session) t.3 _ _ _ _ _ _ _ _ t.0 t.1 t.2 t.4 (omega (arith, t.8, i.3)) (held_of c.show.new.output) w c.finish.result _ _ f.0 n.1 f.1 (keeps_so g.S.Disk.Disk.told (g.S.Shelf.told.disk c.args.shelf.now) (g.S.Shelf.told.disk c.turns.shelf) c.turns.session t.3 t.2 (t.1 ++ f.0) i.1.0 t.7 t.6) f.2
+
+pub returns-in-Refused-clause-words : goal.returns-in-Refused-clause-words
+returns-in-Refused-clause-words g c = closed_not _ _ _ _ _ _ _ c.refuse.result c.refuse.ensures (λ e. cc)
+
+pub returns-in-Refused-clause-read : goal.returns-in-Refused-clause-read
+returns-in-Refused-clause-read g c = λ e. absurd (closed_not _ _ _ _ _ _ _ c.refuse.result c.refuse.ensures (λ e. cc) e)
+
+pub returns-in-Stopped-clause-words : goal.returns-in-Stopped-clause-words
+returns-in-Stopped-clause-words g c = closed_not _ _ _ _ _ _ _ c.stop.result c.stop.ensures (line_fault c.in-Stopped.fault _ c.in-Stopped.ensures.line (λ h. h))
+
+pub returns-in-Stopped-clause-read : goal.returns-in-Stopped-clause-read
+returns-in-Stopped-clause-read g c = λ e. absurd (closed_not _ _ _ _ _ _ _ c.stop.result c.stop.ensures (line_fault c.in-Stopped.fault _ c.in-Stopped.ensures.line (λ h. h)) e)
+
+pub returns-in-Bad-clause-words : goal.returns-in-Bad-clause-words
+returns-in-Bad-clause-words g c = closed_not _ _ _ _ _ _ _ c.refuse-in-Bad.result c.refuse-in-Bad.ensures (λ e. cc)
+
+pub returns-in-Bad-clause-read : goal.returns-in-Bad-clause-read
+returns-in-Bad-clause-read g c = λ e. absurd (closed_not _ _ _ _ _ _ _ c.refuse-in-Bad.result c.refuse-in-Bad.ensures (λ e. cc) e)
+
+pub returns-in-Failed-clause-words : goal.returns-in-Failed-clause-words
+returns-in-Failed-clause-words g c = closed_not _ _ _ _ _ _ _ c.stop-in-Failed.result c.stop-in-Failed.ensures (λ e. cc)
+
+pub returns-in-Failed-clause-read : goal.returns-in-Failed-clause-read
+returns-in-Failed-clause-read g c = λ e. omega (arith, c.in-Failed.ensures.failed refl, c.turns.invariant.4)

@@ -18,6 +18,7 @@ returns-in-Some g c =
       goes = λ before lends. begun_leaves d g.S.Shelf.told.tells before now c.args.session.now c.in-Some.begun.now c.go_on.new.session c.go_on.result is c.go_on.ensures.with c.go_on.ensures.up lends;
       device = λ failed before lends. inr (begun_failed d before now c.args.session.now c.in-Some.begun.now c.go_on.new.session is c.go_on.ensures.with (c.go_on.ensures.device failed) lends);
       disks_later = omega arith;
+      line = c.go_on.ensures.line;
       later = c.go_on.ensures.later;
       cause = c.go_on.ensures.cause;
     }
@@ -33,6 +34,7 @@ returns-in-None g c =
           none_does d before mid now c.args.session.now c.begin.new.session running (line_with c.args.body.now c.args.line.now) _ _ c.begin.result is lends (c.begin.ensures.goes told tells) h;
       goes = λ before lends. none_leaves d g.S.Shelf.told.tells before mid now c.args.session.now c.begin.new.session c.begin.result is lends c.begin.ensures.begun c.begin.ensures.hands c.begin.ensures.refused c.begin.ensures.written;
       device = λ failed before lends. inl (c.begin.ensures.device failed);
+      line = c.begin.ensures.line;
       disks_later = c.begin.ensures.later;
       later = omega arith;
       cause = λ e. absurd (c.begin.ensures.written e);

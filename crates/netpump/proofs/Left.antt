@@ -26,7 +26,10 @@ use Rattle.two_worlds.specs.Laws.{KeepMessages, AckOutlives}
 use Rattle.two_worlds.specs.Pumps as pump
 use Rattle.two_worlds.specs.Timelines.{IsAtRest, IsTimeline}
 use Rattle.two_worlds.specs.declared.pump.Pump.{Pump}
-use Rattle.two_worlds.proofs.Runs.Outliving.{run_keeps}
+use Rattle.two_worlds.specs.States.{StandsIn}
+use Rattle.two_worlds.specs.declared.pump.state.PumpState.{PumpState}
+use Rattle.two_worlds.specs.declared.pump.state.PumpState.TheVariants.{Open, Shut}
+use Rattle.two_worlds.proofs.Runs.Outliving.{keeps_messages, run_keeps}
 use Rattle.two_worlds.proofs.Runs.Worlds.{leads_lawfully}
 use Rattle.two_worlds.proofs.Timeline.Scripts.{HasRun}
 use Rattle.netpump.specs.Lending.{AreOnShelf}
@@ -89,6 +92,14 @@ Kept row w low high recv replies = (kept : KeepMessages row w low high recv) × 
 read_for : {D : Type 0} {g : Ghosts D} (now : Places) (id : ℕ) (p : Pump D g) (s : Running) → id ≡ s.row.id → pump.row_of p ≡ s.row → OfDisks now id (StandForLeft (pump.row_of p) s.past.world) → OfDisks now s.row.id (StandForLeft s.row s.past.world)
 read_for now id p s id_is row_is h = subst (λ (i : ℕ). OfDisks now i (StandForLeft s.row s.past.world)) id_is (subst (λ (r : SessionRow). OfDisks now id (StandForLeft r s.past.world)) row_is h)
 
+lawful_in : {D : Type 0} (d : Meaning D) (s : PumpState D) (q : Past) → StandsIn d s q → IsLawful q.world
+lawful_in d (Open c) q h = h.sound.lawful
+lawful_in d (Shut disks) q h = absurd h
+
+came_lawfully : {D : Type 0} {g : Ghosts D} (d : Meaning D) (p : Pump D g) (q : Past) → pump.StandsOrFails d p q → IsLawful q.world
+came_lawfully d p q (inl h) = lawful_in d _ q h
+came_lawfully d p q (inr (role, faults, failed)) = failed.1.lawful
+
 module _ {D : Type 0} {g : Ghosts D} (d : Meaning D) (before mid now : Places) (session : Option (Session D g)) (left : LeftAs d before mid now session) where
   pub keeps_to : (o : Openings) (running : Option Begun) (printed : List Event) → HasRun running → Sound running printed → (lent d before mid session).keeps o running printed → IsKept before now o running printed
   keeps_to o None printed timed sound (found, come, same) = nowhere session left come ∙ same
@@ -130,8 +141,11 @@ module _ {D : Type 0} {g : Ghosts D} (d : Meaning D) (before mid now : Places) (
       whole : (x : Option (Session D g)) → LeftAs d before mid now x → HasComeTo d x (Some (Whole s)) → BreaksSession before now s (o s.row.id)
       whole None l c = absurd c
       whole (Some (sessions.Alone id p)) l c = absurd c
-      whole (Some (sessions.Whole id p)) l (id_is, row_is, stands) = record {
-        found = found;
-        holds = read_for now id p s id_is row_is (l.1 s.past stands);
-        others = subst (λ (i : ℕ). LeavesOtherSessions before now i) id_is l.0;
-      }
+      whole (Some (sessions.Whole id p)) l (id_is, row_is, stands) =
+          let stand : OfDisks now s.row.id (StandForLeft s.row s.past.world) = read_for now id p s id_is row_is (l.1 s.past stands) in
+          record {
+            found = found;
+            holds = stand;
+            prefix = keeps_messages s.row s.past.world _ _ _ (came_lawfully d p s.past stands) stand;
+            others = subst (λ (i : ℕ). LeavesOtherSessions before now i) id_is l.0;
+          }

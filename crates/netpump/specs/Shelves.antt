@@ -97,10 +97,12 @@ IsKept before after o (Some (Whole s)) printed = KeepsSession before after s (o 
 IsKept before after o (Some (Alone s)) printed = after ≡ before
 IsKept before after o None printed = after ≡ before
 
--- .. of one whose last line was cut short by the device of a disk
+-- .. of one whose last line was cut short by the device of a disk: the unfinished call was kept or lost, and no message
+-- that was accepted or acknowledged is lost
 pub record BreaksSession (before after : Places) (s : Running) (f : Found) : Type 0 where
   pub found : HasFound before s.row f
   pub holds : HoldsLeft after s.row s.past.world
+  pub prefix : OfDisks after s.row.id (KeepMessages s.row s.past.world)
   pub others : LeavesOtherSessions before after s.row.id
 
 -- ---- all that is said of a shelf, by how a replay ends ----

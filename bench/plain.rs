@@ -1,8 +1,7 @@
 // A plain, unproved Rust program that does `netpump replay` for whole sessions (session, look, done, high, carry
 // and return lines): what a user would write instead. For timing only.
-//   rustc -O plain.rs -o plain; ./plain --mem < SCRIPT
-// With --mem its disks are in memory, as the program's are; without it they are files in the current folder, with the
-// same syncs.
+//   rustc -O plain.rs -o plain; ./plain < SCRIPT
+// Its disks are files in the current folder, written and synced as the program's are; with --mem they are in memory.
 use std::collections::{BTreeMap, VecDeque};
 use std::fs::{File, OpenOptions};
 use std::io::{self, BufRead, BufWriter, Write};

@@ -4,7 +4,7 @@ ghost use Rattle.session_table.specs.Faults.{fault_number, fault_row};
 use pump_frame::RowKey;
 
 /// Why a document is no table of sessions: the first thing that is wrong with it. Rows are counted
-/// from 1, and row 0 is the top level. `Display` says in a sentence what to mend.
+/// from 1, and the number 0 stands for the top level. `Display` says in a sentence what to mend.
 #[derive(Clone, Copy, PartialEq, Eq, Debug)]
 pub enum TableFault {
     /// The bytes are no TOML document.
@@ -18,8 +18,8 @@ pub enum TableFault {
     UnknownKey {
         row: u32,
     },
-    /// The value is no whole number, or this one, which is outside the range of its key. At row 0:
-    /// `session` is no array of tables.
+    /// The value is no whole number, or this one, which is outside the range of its key. At the
+    /// top level: `session` is no array of tables.
     OutOfRange {
         row: u32,
         key: RowKey,

@@ -120,6 +120,7 @@ module _ {D : Type 0} {g : Ghosts D} (d : Meaning D) (before mid now : Places) (
       next = h.next;
       taken = h.taken;
       output_is = h.output_is;
+      replies = h.replies;
       disks = breaks_to d before mid now session left r.openings (record { row = h.next.session.row; past = h.next.past }) h.disks;
     }
 

@@ -146,6 +146,7 @@ module _ {D : Type 0} {g : Ghosts D} (d : Meaning D) (before mid now : Places) (
           record {
             found = found;
             holds = stand;
+            lawful = came_lawfully d p s.past stands;
             prefix = keeps_messages s.row s.past.world _ _ _ (came_lawfully d p s.past stands) stand;
             others = subst (λ (i : ℕ). LeavesOtherSessions before now i) id_is l.0;
           }

@@ -1,8 +1,10 @@
+pub mod Broken
 pub mod Compared
 pub mod Ending
 pub mod Finished
 pub mod Gathered
 pub mod Going
+pub mod Headline
 pub mod Kept
 pub mod Left
 pub mod OneStatus

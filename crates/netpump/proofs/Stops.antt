@@ -21,6 +21,11 @@ use Rattle.script_reader.specs.Openings.{Openings}
 use Rattle.script_reader.specs.Past.{Past}
 use Rattle.script_reader.specs.Scripts.{Running, Begun, Whole, Alone, Leads, LeadTo, Stops}
 use Rattle.script_reader.specs.Transcript.{text, fault_line}
+use Rattle.pump_core.specs.Replies.{LowReplies}
+use Rattle.script_reader.specs.Readouts.{low_lines, Sound}
+use Rattle.script_reader.proofs.Replying.{low-append}
+use Rattle.script_reader.proofs.Soundness.{sound_lead}
+use Rattle.netpump.proofs.Broken.{breaks_grows}
 use Rattle.netpump.specs.Outputs.{Gathers}
 use Rattle.netpump.specs.Shelves.{Places, Shelved, AllAreBack}
 use Rattle.netpump.specs.Sessions.{StandsFor, StandsForRunning, CameTo, HasComeTo, Lends}
@@ -213,6 +218,9 @@ module _ {D : Type 0} (g : Ghosts D) (d : Meaning D) (told : Type 0) (bef mid : 
           next = record { few = few; line = line; left = to_come to rest; spelled = spelled; session = b.session; running_is = b.running_is; timely = b.timely; past = q; printed = printed; breaks = b.breaks };
           taken = near;
           output_is = sym (stopped_text events printed (Device b.session.row.id b.role));
+          replies = subst (LowReplies b.session.row q.history) (sym (low-append events printed))
+              (breaks_grows b.session.row b.session.past line b.role q printed b.breaks (low_lines events)
+              (subst (λ (x : Option Begun). Sound x events) b.running_is (sound_lead o lines running events s.leads)).replies);
           disks = (subst (λ (x : Option Begun). Finds bef o x) b.running_is found, come);
         },
       )))

@@ -5,6 +5,7 @@ use Rattle.std.specs.Io.KnownBytes.{Consumes, Appends, IsAtEnd}
 use Rattle.pump_frame.specs.Counts.{Rose}
 use Rattle.pump_link.specs.Causes.{AppendsFront}
 use Rattle.pump_core.specs.Comings.{Timed}
+use Rattle.pump_core.specs.Replies.{LowReplies}
 use Rattle.pump_core.specs.Timed.{Step, Point}
 use Rattle.script_reader.specs.declared.line.Line.{Line}
 use Rattle.script_reader.specs.declared.event.Event.{Event}
@@ -29,7 +30,7 @@ use Rattle.script_reader.specs.Sides.{low_side_of, told_to_low, full_moments, av
 use Rattle.script_reader.specs.Transcript.{text, fault_line}
 use Rattle.two_worlds.specs.Timelines.{IsTimeline}
 use Rattle.two_worlds.specs.TimelinesAlone.{IsTimelineAlone}
-use Rattle.netpump.specs.Shelves.{Shelved}
+use Rattle.netpump.specs.Shelves.{Places, Shelved, AcknowledgedOutlive, ReceiverHasFront}
 
 -- ---- the words ----
 
@@ -203,11 +204,12 @@ abbrev pub IsOverfilled : Shelved → {all : Option (List ℕ)} → Option (List
 IsOverfilled shelf left r output = (session end size_of_message size : ℕ) × IsStopped shelf left (Full session end size_of_message size) r output
 
 -- a disk of the session fails in the next line: the output is what the lines before it print, what it prints up to then,
--- and the fault
+-- and the fault; its `low` lines are the replies of the low history, the refusal of a look whose store failed with them
 pub record IsBroken (shelf : Shelved) {all : Option (List ℕ)} (left : Option (List ℕ)) (role : Role) (r : Replayed all) (output : List ℕ) : Type 0 where
   pub next : Breaking r.rest (length r.lines) r.running role
   pub taken : IsNear r.rest left
   pub output_is : output ≡ text (r.events ++ next.printed) ++ fault_line (Device next.session.row.id role)
+  pub replies : LowReplies next.session.row next.past.history (low_lines (r.events ++ next.printed))
   pub disks : shelf.breaks r.openings (record { row = next.session.row; past = next.past })
 
 -- a disk can't be taken off the shelf, or fails when it is opened for the session that the next line is to begin
@@ -256,3 +258,14 @@ Wrote all old new End = (r : Replayed all) × (output : List ℕ) × End r outpu
 -- .. a front of its output was
 abbrev pub WroteFront : (all old new : Option (List ℕ)) → (Replayed all → List ℕ → Type 0) → Type 0
 WroteFront all old new End = (r : Replayed all) × (output : List ℕ) × End r output × AppendsFront old new output
+
+-- ---- the headline, by what is read of the disks at the return ----
+
+-- the output begins with these lines' text, and each message that they acknowledge is on the disks
+abbrev pub HasOutlived : Places → {all : Option (List ℕ)} → Replayed all → List ℕ → Type 0
+HasOutlived after r output =
+    (printed : List Event) × (last : List ℕ) × (output ≡ text printed ++ last) × AcknowledgedOutlive after r.running printed
+
+-- the receiver has a front of what was accepted, each message once and in order
+abbrev pub IsReceived : Places → {all : Option (List ℕ)} → Replayed all → List ℕ → Type 0
+IsReceived after r output = ReceiverHasFront after r.running

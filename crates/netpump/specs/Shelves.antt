@@ -5,8 +5,11 @@ use Rattle.disk_model.specs.declared.name.DiskName.{DiskName}
 use Rattle.disk_model.specs.declared.name.Role.{Role}
 use Rattle.disk_model.specs.declared.name.Role.TheVariants as roles
 use Rattle.disk_model.specs.Shelf.{Whereabouts, OnShelf, Out, Nowhere, IsOut}
+use Rattle.pump_frame.specs.declared.payload.Payload.{Payload}
 use Rattle.pump_frame.specs.declared.row.SessionRow.{SessionRow}
 use Rattle.stable_buffer.specs.Format.{new_bytes}
+use Rattle.stable_buffer.specs.Log.{RecvStands}
+use Rattle.pump_core.specs.Lawful.{IsLawful, IsPrefixOf}
 use Rattle.pump_core.specs.Replies.{Sent}
 use Rattle.pump_core.specs.World.{World}
 use Rattle.recovery.specs.declared.why.Why.{Why}
@@ -91,16 +94,38 @@ pub record KeepsSession (before after : Places) (s : Running) (f : Found) (print
       (reading_at after s.row.id roles.Low) (reading_at after s.row.id roles.High) x.reply) (low_lines printed)
   pub others : LeavesOtherSessions before after s.row.id
 
+-- ---- what the headline says of the disks ----
+
+-- each message whose acknowledgement was printed outlives the call: the receiver's disk has it, or its slot of the low disk
+abbrev pub AcknowledgedOutlive : Places → Option Begun → List Event → Type 0
+AcknowledgedOutlive after (Some (Whole s)) printed =
+    (received : List Payload) × RecvStands s.row received (reading_at after s.row.id roles.Recv)
+    × AllByRecursion (λ (x : Sent). AckOutlives s.row s.past.world.accepted received
+      (reading_at after s.row.id roles.Low) (reading_at after s.row.id roles.High) x.reply) (low_lines printed)
+AcknowledgedOutlive after (Some (Alone s)) printed = Unit {0}
+AcknowledgedOutlive after None printed = Unit {0}
+
+-- the receiver's list is a front of the accepted one
+abbrev pub ReceiverHasFront : Places → Option Begun → Type 0
+ReceiverHasFront after (Some (Whole s)) =
+    (received : List Payload) × RecvStands s.row received (reading_at after s.row.id roles.Recv)
+    × IsPrefixOf received s.past.world.accepted
+ReceiverHasFront after (Some (Alone s)) = Unit {0}
+ReceiverHasFront after None = Unit {0}
+
+-- ---- the session of a script ----
+
 -- so of the session that a script has begun, if it has a shelf's disks; else all disks are where they were
 abbrev pub IsKept : Places → Places → Openings → Option Begun → List Event → Type 0
 IsKept before after o (Some (Whole s)) printed = KeepsSession before after s (o s.row.id) printed
 IsKept before after o (Some (Alone s)) printed = after ≡ before
 IsKept before after o None printed = after ≡ before
 
--- .. of one whose last line was cut short by the device of a disk: the unfinished call was kept or lost, and no message
--- that was accepted or acknowledged is lost
+-- .. of one whose last line was cut short by the device of a disk: its world keeps all bounds, the unfinished call was
+-- kept or lost, and no message that was accepted or acknowledged is lost
 pub record BreaksSession (before after : Places) (s : Running) (f : Found) : Type 0 where
   pub found : HasFound before s.row f
+  pub lawful : IsLawful s.past.world
   pub holds : HoldsLeft after s.row s.past.world
   pub prefix : OfDisks after s.row.id (KeepMessages s.row s.past.world)
   pub others : LeavesOtherSessions before after s.row.id

@@ -4,7 +4,7 @@ ghost use Rattle.pump_frame.specs.Counts.{Rose};
 ghost use Rattle.script_reader.specs.declared.fault.Fault.{Fault as Cause};
 ghost use Rattle.netpump.specs.Statuses.{HasStatus};
 ghost use Rattle.netpump.specs.Shelves.{AllAreBack, shelved};
-ghost use Rattle.netpump.specs.Replays.{IsReplay, TellsWords, IsFinished, IsUnread, IsFaulted, IsFailed, IsDown, IsBarred, IsOverfilled, IsCutOff, Wrote, WroteFront};
+ghost use Rattle.netpump.specs.Replays.{IsReplay, TellsWords, IsFinished, IsUnread, IsFaulted, IsFailed, IsDown, IsBarred, IsOverfilled, IsCutOff, Wrote, WroteFront, HasOutlived, IsReceived};
 
 use crate::output::Output;
 use crate::replay::{Ended, replay, stop};
@@ -63,6 +63,10 @@ pub fn batch<S: Shelf, I: Source, O: Sink>(
     // A read fails, and a write, only where the source's or the sink's count rose.
     ensures read { result ≡ 3 → Rose (I.faults script.old) (I.faults script.new) }
     ensures unwritten { result ≡ 4 → Rose (O.faults out.old) (O.faults out.new) }
+    // The headline, by what is read of the disks then: each message whose acknowledgement was written is on them, and the
+    // receiver has a front of what was accepted.
+    ensures outlives { (result ≡ 0) ⊎ ((result ≡ 3) ⊎ (result ≡ 5)) → S.told.tells → S.Disk.told.tells → Wrote (I.left script.old) (O.written out.old) (O.written out.new) (HasOutlived (S.told.disk shelf.new)) }
+    ensures prefix { (result ≡ 0) ⊎ ((result ≡ 3) ⊎ (result ≡ 5)) → S.told.tells → S.Disk.told.tells → Wrote (I.left script.old) (O.written out.old) (O.written out.new) (IsReceived (S.told.disk shelf.new)) }
     // How a replay ends; at 0, 5 and 10 the bytes of the script have no other status on the disks that were found.
     ensures done { result ≡ 0 → S.told.tells → S.Disk.told.tells → Wrote (I.left script.old) (O.written out.old) (O.written out.new) (λ r output. IsFinished (shelved (S.told.disk shelf.old) (S.told.disk shelf.new)) r output × HasStatus 0 r output) }
     ensures memory { result ≡ 1 → S.told.tells → S.Disk.told.tells → Appends (O.written out.old) (O.written out.new) [] }

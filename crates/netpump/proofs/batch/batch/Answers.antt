@@ -1,4 +1,5 @@
 use Rattle.std.proofs.Common.{refl}
+use Rattle.netpump.proofs.Headline.{finished_outlives, finished_front, unread_outlives, unread_front, faulted_outlives, faulted_front}
 use Rattle.netpump.proofs.OneStatus.{done_only, faulted_only, full_only}
 use Rattle.netpump.proofs.batch.batch.Goals as goal
 
@@ -19,3 +20,21 @@ returns-in-Stopped-Words-clause-replay g c = λ words two. (rw c.in-Stopped-Word
 
 pub returns-in-Stopped-Read-clause-read : goal.returns-in-Stopped-Read-clause-read
 returns-in-Stopped-Read-clause-read g c = λ three. (rw c.in-Stopped-Read.field-0-is at c.in-Stopped-Read.ensures.read) refl
+
+pub returns-in-Done-clause-outlives : goal.returns-in-Done-clause-outlives
+returns-in-Done-clause-outlives g c = λ is told tells. finished_outlives _ _ _ _ _ (c.in-Done.ensures.ends told tells)
+
+pub returns-in-Done-clause-prefix : goal.returns-in-Done-clause-prefix
+returns-in-Done-clause-prefix g c = λ is told tells. finished_front _ _ _ _ _ (c.in-Done.ensures.ends told tells)
+
+pub returns-in-Stopped-Read-clause-outlives : goal.returns-in-Stopped-Read-clause-outlives
+returns-in-Stopped-Read-clause-outlives g c = λ is told tells. unread_outlives _ _ _ _ _ _ _ _ ((rw c.in-Stopped-Read.field-0-is at c.in-Stopped-Read.ensures.ends) told tells)
+
+pub returns-in-Stopped-Read-clause-prefix : goal.returns-in-Stopped-Read-clause-prefix
+returns-in-Stopped-Read-clause-prefix g c = λ is told tells. unread_front _ _ _ _ _ _ _ _ ((rw c.in-Stopped-Read.field-0-is at c.in-Stopped-Read.ensures.ends) told tells)
+
+pub returns-in-Stopped-Script-clause-outlives : goal.returns-in-Stopped-Script-clause-outlives
+returns-in-Stopped-Script-clause-outlives g c = λ is told tells. faulted_outlives _ _ _ _ _ _ ((rw c.in-Stopped-Script.field-0-is at c.in-Stopped-Script.ensures.ends) told tells)
+
+pub returns-in-Stopped-Script-clause-prefix : goal.returns-in-Stopped-Script-clause-prefix
+returns-in-Stopped-Script-clause-prefix g c = λ is told tells. faulted_front _ _ _ _ _ _ ((rw c.in-Stopped-Script.field-0-is at c.in-Stopped-Script.ensures.ends) told tells)

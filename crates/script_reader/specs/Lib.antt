@@ -17,6 +17,7 @@ pub mod Past
 pub mod Readouts
 pub mod Restarts
 pub mod Scripts
+pub mod Sessions
 pub mod Sides
 pub mod Steps
 pub mod Transcript

@@ -1,4 +1,6 @@
 pub mod Accepting
+pub mod Apart
+pub mod Beside
 pub mod Bounds
 pub mod DigitLaws
 pub mod FieldChains
@@ -14,12 +16,14 @@ pub mod LowAlone
 pub mod LowAside
 pub mod LowFunction
 pub mod MomentLaws
+pub mod Named
 pub mod NextLaws
 pub mod One
 pub mod OneEnd
 pub mod OneLow
 pub mod OneReading
 pub mod OneScript
+pub mod OneWhole
 pub mod Opened
 pub mod ReadLaws
 pub mod Replying

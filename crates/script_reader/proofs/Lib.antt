@@ -1,6 +1,7 @@
 pub mod Accepting
 pub mod Apart
 pub mod Beside
+pub mod BesideStop
 pub mod Bounds
 pub mod DigitLaws
 pub mod FieldChains
@@ -10,6 +11,7 @@ pub mod Heads
 pub mod Leading
 pub mod LineEnds
 pub mod LineLaws
+pub mod LoneSession
 pub mod LookLaws
 pub mod LowAlike
 pub mod LowAlone
@@ -28,6 +30,7 @@ pub mod Opened
 pub mod ReadLaws
 pub mod Replying
 pub mod SessionLaws
+pub mod SoundSessions
 pub mod Soundness
 pub mod Splits
 pub mod Stopping

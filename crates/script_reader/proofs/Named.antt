@@ -4,6 +4,8 @@ use Rattle.std.specs.Prelude.{if◌then◌else◌}
 use Rattle.std.specs.List.{AllByRecursion}
 use Rattle.std.proofs.lemmas.Bool.{eq-eqb, ne_eqb}
 use Rattle.std.proofs.lemmas.Option.{same_Some}
+use Rattle.disk_model.specs.declared.name.Role.{Role}
+use Rattle.disk_model.specs.declared.name.Role.TheVariants as roles
 use Rattle.pump_frame.specs.declared.row.SessionRow.{SessionRow}
 use Rattle.pump_core.specs.declared.feedback.Feedback.{Feedback}
 use Rattle.pump_core.specs.declared.feedback.Feedback.TheVariants.{Quiet, Full, Passed, Released, Repeat}
@@ -15,6 +17,7 @@ use Rattle.script_reader.specs.declared.line.Line.TheVariants as lines
 use Rattle.script_reader.specs.declared.fault.Fault.{Fault}
 use Rattle.script_reader.specs.declared.event.Event.{Event}
 use Rattle.script_reader.specs.declared.event.Event.TheVariants as prints
+use Rattle.script_reader.specs.Breaks.{Breaks, BreaksOff}
 use Rattle.script_reader.specs.Past.{Past}
 use Rattle.script_reader.specs.Openings.{Openings}
 use Rattle.script_reader.specs.Lows.{printed_store, printed_feedback, printed_replies, IsLook}
@@ -68,7 +71,7 @@ of_look : (n m : ℕ) (st : Option ℕ) (f : Feedback) (new : List Sent) → Are
 of_look n m st f new = of_both n (printed_store n m st) _ (of_store n m st) (of_both n (printed_feedback n m f) _ (of_feedback n m f) (of_replies n new))
 
 -- what is printed is of the row's session
-abbrev Names : SessionRow → List Event → Type 0
+abbrev pub Names : SessionRow → List Event → Type 0
 Names s printed = AreOf s.id printed
 
 names : (s : SessionRow) (printed lines : List Event) → printed ≡ lines → Names s lines → Names s printed
@@ -179,6 +182,38 @@ overfills_names s p (lines.High session m) q printed end n size h = absurd h
 overfills_names s p (lines.Return session m back) q printed end n size h = absurd h
 overfills_names s p (lines.Restart session m) q printed end n size h = absurd h
 overfills_names s p (lines.ReceiverRestart session m) q printed end n size h = absurd h
+
+-- ---- a line that the device of a disk cuts short ----
+
+off_names : (s : SessionRow) (p : Past) (m : ℕ) (role : Role) (q : Past) (printed : List Event) → BreaksOff s p m role q printed → Names s printed
+off_names s p m roles.Low q printed h = absurd h
+off_names s p m roles.Recv q printed h = names s printed [] h.1 tt
+off_names s p m roles.High q printed (far, carried, unremoved) = carry_names s p 0 far printed carried
+
+pub breaks_names : (s : SessionRow) (p : Past) (line : Line) (role : Role) (q : Past) (printed : List Event) → Breaks s p line role q printed → Names s printed
+breaks_names s p lines.Skip role q printed h = absurd h
+breaks_names s p (lines.Session other) role q printed h = absurd h
+breaks_names s p (lines.LowSession other next held) role q printed h = absurd h
+breaks_names s p (lines.Told session m w fault told a) role q printed h = absurd h
+breaks_names s p (lines.Gone session m) role q printed h = absurd h
+breaks_names s p (lines.High session m) role q printed h = absurd h
+breaks_names s p (lines.Look session m w a) roles.Low q printed (c, comes, few, lost) = names s printed _ lost.printed_is (refl, tt)
+breaks_names s p (lines.Look session m w a) roles.High q printed h = absurd h
+breaks_names s p (lines.Look session m w a) roles.Recv q printed h = absurd h
+breaks_names s p (lines.Carry session back) roles.Recv q printed h = names s printed [] h.1 tt
+breaks_names s p (lines.Carry session back) roles.Low q printed h = absurd h
+breaks_names s p (lines.Carry session back) roles.High q printed h = absurd h
+breaks_names s p (lines.Return session m back) roles.High q printed h = names s printed [] h.1 tt
+breaks_names s p (lines.Return session m back) roles.Low q printed h = absurd h
+breaks_names s p (lines.Return session m back) roles.Recv q printed h = absurd h
+breaks_names s p (lines.Done session m t) role q printed (mid, n, first, second, high, hand, off, e) =
+    names_both s first second printed e (high_names s false p m None mid first high) (off_names s mid (m + t) role q second off)
+breaks_names s p (lines.Restart session m) roles.Low q printed h = names s printed [] h.1 tt
+breaks_names s p (lines.Restart session m) roles.High q printed h = names s printed [] h.1 tt
+breaks_names s p (lines.Restart session m) roles.Recv q printed h = absurd h
+breaks_names s p (lines.ReceiverRestart session m) roles.Recv q printed h = names s printed [] h.1 tt
+breaks_names s p (lines.ReceiverRestart session m) roles.High q printed (mid, reopened, unattached, f) = names s printed _ f (refl, tt)
+breaks_names s p (lines.ReceiverRestart session m) roles.Low q printed h = absurd h
 
 -- ---- what a line leads its session to ----
 

@@ -128,7 +128,8 @@ pub fn low_sides_have_one_transcript()
 /// also where a line has stopped the script (`so_far`), and over a whole script (`whole`). So every law
 /// over scripts of one session holds of each session of a script, by the lines that name it and the lines
 /// of the transcript that are its own. That script alone has a transcript as well, and it is those lines
-/// of the transcript: with the others left out, each line is still in its turn (`alone`).
+/// of the transcript: with the others left out, each line is still in its turn (`alone`). So it has
+/// printed as much so far (`alone_so_far`).
 pub fn sessions_stand_alone()
     ensures lead { (o : Openings) (script : List Line) (t : Sessions) (printed : List Printed) →
         ScriptLeadsTo o no_sessions script t printed → (number : ℕ) →
@@ -142,12 +143,28 @@ pub fn sessions_stand_alone()
     ensures alone { (o : Openings) (script : List Line) (printed : List Printed) →
         IsScriptTranscript o script printed → (number : ℕ) →
         IsScriptTranscript o (lines_of number script) (events_of number printed) }
+    ensures alone_so_far { (o : Openings) (script : List Line) (t : Sessions) (printed : List Printed) →
+        ScriptComesTo o script t printed → (number : ℕ) →
+        (u : Sessions) × ScriptComesTo o (lines_of number script) u (events_of number printed) }
 {}
 
 /// The numbers of a script's sessions rise, so that no two have one number, and there are at most 16.
 pub fn sessions_rise()
     ensures { (o : Openings) (script : List Line) (t : Sessions) (printed : List Printed) →
         ScriptLeadsTo o no_sessions script t printed → AreRising t.begun × (length t.begun ≤ 16) }
+{}
+
+/// What a script of several sessions has printed of each of them is sound at each of its lines, also where
+/// the last one stops it, whichever session it is of: the session's `low` lines are the replies of its
+/// low history, and it keeps its bounds.
+pub fn whole_transcripts_are_sound()
+    ensures end { (o : Openings) (script : List Line) (t : Sessions) (printed : List Printed) → ScriptComesTo o script t printed →
+        (number : ℕ) → Sound (session_at number t.begun) (events_of number printed) }
+    ensures each { (o : Openings) (before : List Line) (line : Line) (later : List Line) (t : Sessions) (printed : List Printed) →
+        ScriptComesTo o (before ++ line ∷ later) t printed →
+        (mid : Sessions) × (first : List Printed) × (rest : List Printed) ×
+        ScriptLeadsTo o no_sessions before mid first × (printed ≡ first ++ rest) ×
+        ((number : ℕ) → Sound (session_at number mid.begun) (events_of number first)) }
 {}
 
 /// A script of several sessions has one transcript at most, for what its disks were found to hold.

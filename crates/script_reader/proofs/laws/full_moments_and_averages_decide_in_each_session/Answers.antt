@@ -1,6 +1,7 @@
 use Rattle.script_reader.specs.Sessions.{session_at, lines_of, events_of}
 use Rattle.script_reader.proofs.LowFunction.{same_full, same_full_so_far}
-use Rattle.script_reader.proofs.Beside.{own_transcript, own_so_far}
+use Rattle.script_reader.proofs.Beside.{own_transcript}
+use Rattle.script_reader.proofs.BesideStop.{own_so_far}
 use Rattle.script_reader.proofs.laws.full_moments_and_averages_decide_in_each_session.Goals as goal
 
 pub returns-clause-whole : goal.returns-clause-whole

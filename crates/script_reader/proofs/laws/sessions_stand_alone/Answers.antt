@@ -1,5 +1,7 @@
 use Rattle.script_reader.specs.Sessions.{no_sessions}
-use Rattle.script_reader.proofs.Beside.{one_of, own_so_far, own_transcript, alone_transcript}
+use Rattle.script_reader.proofs.Beside.{one_of, own_transcript}
+use Rattle.script_reader.proofs.BesideStop.{own_so_far}
+use Rattle.script_reader.proofs.LoneSession.{alone_transcript, alone_so_far}
 use Rattle.script_reader.proofs.laws.sessions_stand_alone.Goals as goal
 
 pub returns-clause-lead : goal.returns-clause-lead
@@ -13,3 +15,6 @@ returns-clause-whole c = own_transcript
 
 pub returns-clause-alone : goal.returns-clause-alone
 returns-clause-alone c = alone_transcript
+
+pub returns-clause-alone_so_far : goal.returns-clause-alone_so_far
+returns-clause-alone_so_far c = alone_so_far

@@ -7,7 +7,7 @@ use Rattle.script_reader.specs.declared.line.Line.TheVariants as lines
 use Rattle.script_reader.specs.Grammar.{IsLine}
 use Rattle.script_reader.specs.Lines.{AreLines, IsUnended}
 use Rattle.script_reader.specs.Scripts.{Running, RunningAlone, Begun, Whole, Alone, GoesWhole, GoesAlone, Leads, LeadTo, IsRefused, IsTranscript}
-use Rattle.script_reader.specs.Faults.{IsFaulty}
+use Rattle.script_reader.specs.Faults.{IsFaultyBy, IsFaulty}
 use Rattle.script_reader.proofs.LineEnds.{one_front}
 use Rattle.script_reader.proofs.LineLaws.{one_line}
 use Rattle.script_reader.proofs.OneReading.{taken, not_nothing}
@@ -99,51 +99,68 @@ refused_leads o (Some (Alone s)) (lines.Done session m t) mid printed r h = refu
 refused_leads o (Some (Alone s)) (lines.Restart session m) mid printed r h = refused_low s (lines.Restart session m) mid printed r h
 refused_leads o (Some (Alone s)) (lines.ReceiverRestart session m) mid printed r h = refused_low s (lines.ReceiverRestart session m) mid printed r h
 
--- no line stands at the end
-end_is_fine : (running : Option Begun) (rest : List ℕ) → rest ≡ [] → IsFaulty (Some rest) running → ⊥
-end_is_fine running rest e f =
-    elim f [
-      | inl bad ↦ bad.some e
-      | inr r ↦
-          let t = taken rest r.2.0 r.2.1 r.2.4 in
-          not_nothing r.2.0 t.0 (sym t.2 ∙ e)
-    ]
+-- ---- a script with a faulty line ----
 
--- the next line is the one that there is
-next_is_fine : (o : Openings) (running mid : Option Begun) (rest bytes left : List ℕ) (line : Line) (printed : List Event) → rest ≡ bytes ++ 10 ∷ left → IsUnended bytes → IsLine line bytes
-    → Leads o running line mid printed → IsFaulty (Some rest) running → ⊥
-next_is_fine o running mid rest bytes left line printed e u i h f =
-    elim f [
-      | inl bad ↦ bad.bad line bytes left (record { unended = u; spelled = i; whole = e })
-      | inr r ↦
-          let t = taken rest r.2.0 r.2.1 r.2.4 in
-          let same = one_front bytes r.2.0 left t.0 u r.2.2 (sym e ∙ t.2) in
-          let line_is : line ≡ r.0 = one_line bytes line r.0 i (rw same.0 r.2.3) in
-          refused_leads o running line mid printed (subst (λ l. IsRefused running l) (sym line_is) r.3) h
-    ]
+-- these lines lead from one state to another, one after another
+abbrev pub GoTo : {S : Type 0} → (S → Line → S → List Event → Type 0) → S → List Line → S → Type 0
+GoTo Goes s [] t = t ≡ s
+GoTo {S} Goes s (line ∷ later) t = (mid : S) × (printed : List Event) × Goes s line mid printed × GoTo Goes mid later t
 
-both_end : (o : Openings) (all rest : List ℕ) (ls script : List Line) (from running after : Option Begun) (events body : List Event)
-    → AreLines (Some all) ls (Some rest) → LeadTo o from ls running events → IsFaulty (Some rest) running
-    → AreLines (Some all) script (Some []) → LeadTo o from script after body → ⊥
-both_end o all rest [] [] from running after events body p h f q k =
-    end_is_fine running rest (p ∙ sym q) f
-both_end o all rest [] (x ∷ xs) from running after events body p h f q k =
-    let t = taken all q.0 q.1 q.4 in
-    next_is_fine o from k.0 rest q.0 t.0 x k.1 (p ∙ t.2) q.2 q.3 k.3 (subst (λ r. IsFaulty (Some rest) r) h.0 f)
-both_end o all rest (x ∷ xs) [] from running after events body p h f q k =
-    let t = taken all p.0 p.1 p.4 in
-    not_nothing p.0 t.0 (sym t.2 ∙ sym q)
-both_end o all rest (x ∷ xs) (y ∷ ys) from running after events body p h f q k =
-    let t = taken all p.0 p.1 p.4 in
-    let u = taken all q.0 q.1 q.4 in
-    let same = one_front p.0 q.0 t.0 u.0 p.2 q.2 (sym t.2 ∙ u.2) in
-    let first : x ≡ y = one_line q.0 x y (rw same.0 at p.3) q.3 in
-    let left : AreLines (Some u.0) xs (Some rest) = rw (t.1, same.1) at p.5 in
-    let right : AreLines (Some u.0) ys (Some []) = rw u.1 at q.5 in
-    let led = leads_one o from x h.0 k.0 h.1 k.1 h.3 (subst (λ l. Leads o from l k.0 k.1) (sym first) k.3) in
-    both_end o u.0 rest xs ys h.0 running after h.2 k.2 left h.4 f right (subst (λ r. LeadTo o r ys after k.2) (sym led.after) k.4)
+-- a line leads to one state, and a refused one to none
+module _ {S : Type 0} (Goes : S → Line → S → List Event → Type 0) (Refuses : S → Line → Type 0)
+    (one : (s : S) (line : Line) (a b : S) (xs ys : List Event) → Goes s line a xs → Goes s line b ys → a ≡ b)
+    (refused : (s : S) (line : Line) (a : S) (xs : List Event) → Refuses s line → Goes s line a xs → ⊥) where
+  -- no line stands at the end
+  end_is_fine : (s : S) (rest : List ℕ) → rest ≡ [] → IsFaultyBy (Refuses s) (Some rest) → ⊥
+  end_is_fine s rest e f =
+      elim f [
+        | inl bad ↦ bad.some e
+        | inr r ↦
+            let t = taken rest r.2.0 r.2.1 r.2.4 in
+            not_nothing r.2.0 t.0 (sym t.2 ∙ e)
+      ]
+
+  -- the next line is the one that there is
+  next_is_fine : (s mid : S) (rest bytes left : List ℕ) (line : Line) (printed : List Event) → rest ≡ bytes ++ 10 ∷ left → IsUnended bytes → IsLine line bytes
+      → Goes s line mid printed → IsFaultyBy (Refuses s) (Some rest) → ⊥
+  next_is_fine s mid rest bytes left line printed e u i h f =
+      elim f [
+        | inl bad ↦ bad.bad line bytes left (record { unended = u; spelled = i; whole = e })
+        | inr r ↦
+            let t = taken rest r.2.0 r.2.1 r.2.4 in
+            let same = one_front bytes r.2.0 left t.0 u r.2.2 (sym e ∙ t.2) in
+            let line_is : line ≡ r.0 = one_line bytes line r.0 i (rw same.0 r.2.3) in
+            refused s line mid printed (subst (λ l. Refuses s l) (sym line_is) r.3) h
+      ]
+
+  pub both_end : (all rest : List ℕ) (ls script : List Line) (from running after : S)
+      → AreLines (Some all) ls (Some rest) → GoTo Goes from ls running → IsFaultyBy (Refuses running) (Some rest)
+      → AreLines (Some all) script (Some []) → GoTo Goes from script after → ⊥
+  both_end all rest [] [] from running after p h f q k =
+      end_is_fine running rest (p ∙ sym q) f
+  both_end all rest [] (x ∷ xs) from running after p h f q k =
+      let t = taken all q.0 q.1 q.4 in
+      next_is_fine from k.0 rest q.0 t.0 x k.1 (p ∙ t.2) q.2 q.3 k.2 (subst (λ s. IsFaultyBy (Refuses s) (Some rest)) h f)
+  both_end all rest (x ∷ xs) [] from running after p h f q k =
+      let t = taken all p.0 p.1 p.4 in
+      not_nothing p.0 t.0 (sym t.2 ∙ sym q)
+  both_end all rest (x ∷ xs) (y ∷ ys) from running after p h f q k =
+      let t = taken all p.0 p.1 p.4 in
+      let u = taken all q.0 q.1 q.4 in
+      let same = one_front p.0 q.0 t.0 u.0 p.2 q.2 (sym t.2 ∙ u.2) in
+      let first : x ≡ y = one_line q.0 x y (rw same.0 at p.3) q.3 in
+      let left : AreLines (Some u.0) xs (Some rest) = rw (t.1, same.1) at p.5 in
+      let right : AreLines (Some u.0) ys (Some []) = rw u.1 at q.5 in
+      let led = one from x h.0 k.0 h.1 k.1 h.2 (subst (λ l. Goes from l k.0 k.1) (sym first) k.2) in
+      both_end u.0 rest xs ys h.0 running after left h.3 f right (subst (λ s. GoTo Goes s ys after) (sym led) k.3)
+
+leads_go : (o : Openings) (running : Option Begun) (script : List Line) (after : Option Begun) (events : List Event) → LeadTo o running script after events → GoTo (Leads o) running script after
+leads_go o running [] after events h = h.0
+leads_go o running (line ∷ later) after events (mid, first, second, h, rest, e) = (mid, first, h, leads_go o mid later after second rest)
 
 pub faulty_scripts : (o : Openings) (all rest : List ℕ) (ls script : List Line) (running : Option Begun) (events printed : List Event)
     → AreLines (Some all) ls (Some rest) → LeadTo o None ls running events → IsFaulty (Some rest) running
     → AreLines (Some all) script (Some []) → IsTranscript o script printed → ⊥
-faulty_scripts o all rest ls script running events printed p h f q k = both_end o all rest ls script None running k.0 events k.1 p h f q k.3
+faulty_scripts o all rest ls script running events printed p h f q k =
+    both_end (Leads o) IsRefused (λ s line a b xs ys h k. (leads_one o s line a b xs ys h k).after) (refused_leads o)
+    all rest ls script None running k.0 p (leads_go o None ls running events h) f q (leads_go o None script k.0 k.1 k.3)

@@ -64,7 +64,7 @@ lead_one o running (line ∷ script) a b xs ys (mid, c, d, h, t, e) (mid', c', d
     let y = lead_one o mid script a b d d' t (subst (λ (u : Option Begun). LeadTo o u script b d') (sym x.after) t') in
     record { after = y.after; printed = e ∙ (λ i. x.printed i ++ y.printed i) ∙ sym e' }
 
-ends_one : (running : Option Begun) (xs ys : List Event) → Ends running xs → Ends running ys → xs ≡ ys
+pub ends_one : (running : Option Begun) (xs ys : List Event) → Ends running xs → Ends running ys → xs ≡ ys
 ends_one None xs ys h k = h ∙ sym k
 ends_one (Some (Whole s)) xs ys h k = h ∙ sym k
 ends_one (Some (Alone s)) xs ys (x, (parts, cut, e), f) (y, (parts', cut', e'), f') =

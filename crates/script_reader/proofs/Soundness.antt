@@ -124,10 +124,10 @@ sound_so o script after printed h = ⊎_elim (λ (l : LeadTo o None script after
 -- ---- at each line ----
 
 -- a front of a list whose last element is split off
-abbrev Fronts : List Line → List Line → List Line → Line → Type 0
+abbrev pub Fronts : List Line → List Line → List Line → Line → Type 0
 Fronts before later lines line = (more : List Line) × (lines ≡ before ++ more)
 
-front_of : (before : List Line) (x : Line) (later lines : List Line) (line : Line) → before ++ x ∷ later ≡ lines ++ line ∷ [] → Fronts before (x ∷ later) lines line
+pub front_of : (before : List Line) (x : Line) (later lines : List Line) (line : Line) → before ++ x ∷ later ≡ lines ++ line ∷ [] → Fronts before (x ∷ later) lines line
 front_of [] x later lines line e = (lines, refl)
 front_of (y ∷ before) x later [] line e = absurd (nothing_behind before x later (tail_is e))
   where

@@ -1,7 +1,8 @@
 -- The transcript of a whole script, which may have up to 16 sessions of either kind. What a line does to its own session
 -- stands in Scripts, as if the script had this session alone. Here each line finds its session by the number that it
 -- names; the lines that begin sessions stand before all others; and no moment falls, whichever session's line has it.
-use Rattle.std.specs.Prelude.{◌≡◌, ◌⊎◌, ℕ, Bool, true, false, ◌&&◌, ◌||◌, ◌==◌, not, nat_lt, nat_le, max, if◌then◌else◌, List, [], ◌∷◌, ◌++◌, length, filter, find, Option, Some, None}
+use Rattle.std.specs.Prelude.{◌≡◌, ◌⊎◌, ℕ, ◌<◌, Bool, true, false, ◌&&◌, ◌||◌, ◌==◌, not, nat_lt, nat_le, max, if◌then◌else◌, List, [], ◌∷◌, ◌++◌, length, filter, find, Option, Some, None}
+use Rattle.std.specs.List.{AllByRecursion}
 use Rattle.script_reader.specs.declared.line.Line.{Line}
 use Rattle.script_reader.specs.declared.line.Line.TheVariants as lines
 use Rattle.script_reader.specs.declared.fault.Fault.{Fault}
@@ -66,6 +67,11 @@ with_session s [] = s ∷ []
 with_session s (t ∷ later) =
     if nat_lt (session_number s) (session_number t) then s ∷ t ∷ later
     else (if session_number s == session_number t then s ∷ later else t ∷ with_session s later)
+
+-- their numbers rise, so that no two have one number
+abbrev pub AreRising : List Begun → Type 0
+AreRising [] = Unit {0}
+AreRising (s ∷ later) = AllByRecursion (λ t. session_number s < session_number t) later × AreRising later
 
 -- what a script has come to: its sessions, the moment of the last line of any of them that had one, and whether a line came
 -- that began none

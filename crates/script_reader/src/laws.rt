@@ -1,11 +1,12 @@
-ghost use Rattle.std.specs.Prelude.{◌≡◌, ℕ, Bool, List, [], ◌∷◌, ◌++◌, Option, None, Some};
+ghost use Rattle.std.specs.Prelude.{◌≡◌, ℕ, ◌≤◌, Bool, List, [], ◌∷◌, ◌++◌, length, Option, None, Some};
 ghost use Rattle.script_reader.specs.declared.line.Line.{Line};
 ghost use Rattle.script_reader.specs.Lines.{AreLines};
 ghost use Rattle.pump_core.specs.Replies.{LowReplies};
 ghost use Rattle.script_reader.specs.declared.event.Event.{Event as Printed};
 ghost use Rattle.script_reader.specs.Openings.{Openings, nothing_found, CanOpen, opened_world};
 ghost use Rattle.script_reader.specs.Scripts.{Begun, LeadTo, Stops, ComesTo, IsTranscript};
-ghost use Rattle.script_reader.specs.Faults.{IsFaulty};
+ghost use Rattle.script_reader.specs.Faults.{IsFaulty, IsScriptFaulty};
+ghost use Rattle.script_reader.specs.Sessions.{session_at, AreRising, Sessions, no_sessions, ScriptLeadsTo, ScriptStops, IsScriptTranscript, ScriptComesTo, lines_of, events_of};
 ghost use Rattle.script_reader.specs.Readouts.{row_of, history_of, low_lines, KeepsBounds, Sound};
 ghost use Rattle.script_reader.specs.declared.fault.Fault.{Fault};
 ghost use Rattle.script_reader.specs.Sides.{low_side_of, told_to_low, full_moments, averages, restarts_in, HaveOwnMoments, OpenAlike};
@@ -120,4 +121,112 @@ pub fn low_sides_have_one_transcript()
         IsTranscript o script xs → IsTranscript p other ys →
         low_side_of script ≡ LowSession row next held ∷ later → low_side_of other ≡ LowSession row next held ∷ later →
         xs ≡ ys }
+{}
+
+/// In a script of several sessions each one stands alone: what its lines lead it to and print is what
+/// they do in the script of its lines alone, in the words of a script of one session (`lead`), so far
+/// also where a line has stopped the script (`so_far`), and over a whole script (`whole`). So every law
+/// over scripts of one session holds of each session of a script, by the lines that name it and the lines
+/// of the transcript that are its own. That script alone has a transcript as well, and it is those lines
+/// of the transcript: with the others left out, each line is still in its turn (`alone`). So it has
+/// printed as much so far (`alone_so_far`).
+pub fn sessions_stand_alone()
+    ensures lead { (o : Openings) (script : List Line) (t : Sessions) (printed : List Printed) →
+        ScriptLeadsTo o no_sessions script t printed → (number : ℕ) →
+        LeadTo o None (lines_of number script) (session_at number t.begun) (events_of number printed) }
+    ensures so_far { (o : Openings) (script : List Line) (t : Sessions) (printed : List Printed) →
+        ScriptComesTo o script t printed → (number : ℕ) →
+        ComesTo o (lines_of number script) (session_at number t.begun) (events_of number printed) }
+    ensures whole { (o : Openings) (script : List Line) (printed : List Printed) →
+        IsScriptTranscript o script printed → (number : ℕ) →
+        IsTranscript o (lines_of number script) (events_of number printed) }
+    ensures alone { (o : Openings) (script : List Line) (printed : List Printed) →
+        IsScriptTranscript o script printed → (number : ℕ) →
+        IsScriptTranscript o (lines_of number script) (events_of number printed) }
+    ensures alone_so_far { (o : Openings) (script : List Line) (t : Sessions) (printed : List Printed) →
+        ScriptComesTo o script t printed → (number : ℕ) →
+        (u : Sessions) × ScriptComesTo o (lines_of number script) u (events_of number printed) }
+{}
+
+/// The numbers of a script's sessions rise, so that no two have one number, and there are at most 16.
+pub fn sessions_rise()
+    ensures { (o : Openings) (script : List Line) (t : Sessions) (printed : List Printed) →
+        ScriptLeadsTo o no_sessions script t printed → AreRising t.begun × (length t.begun ≤ 16) }
+{}
+
+/// What a script of several sessions has printed of each of them is sound at each of its lines, also where
+/// the last one stops it, whichever session it is of: the session's `low` lines are the replies of its
+/// low history, and it keeps its bounds.
+pub fn whole_transcripts_are_sound()
+    ensures end { (o : Openings) (script : List Line) (t : Sessions) (printed : List Printed) → ScriptComesTo o script t printed →
+        (number : ℕ) → Sound (session_at number t.begun) (events_of number printed) }
+    ensures each { (o : Openings) (before : List Line) (line : Line) (later : List Line) (t : Sessions) (printed : List Printed) →
+        ScriptComesTo o (before ++ line ∷ later) t printed →
+        (mid : Sessions) × (first : List Printed) × (rest : List Printed) ×
+        ScriptLeadsTo o no_sessions before mid first × (printed ≡ first ++ rest) ×
+        ((number : ℕ) → Sound (session_at number mid.begun) (events_of number first)) }
+{}
+
+/// A script of several sessions has one transcript at most, for what its disks were found to hold.
+pub fn scripts_have_one_transcript()
+    ensures { (o : Openings) (script : List Line) (xs ys : List Printed) →
+        IsScriptTranscript o script xs → IsScriptTranscript o script ys → xs ≡ ys }
+{}
+
+/// A script of several sessions with a line that is outside the grammar, or can't be applied after the
+/// lines before it, whichever sessions they name, has no transcript.
+pub fn faulty_whole_scripts_have_no_transcript()
+    ensures { (o : Openings) (all rest : List ℕ) (lines script : List Line) (t : Sessions) (events printed : List Printed) →
+        AreLines (Some all) lines (Some rest) → ScriptLeadsTo o no_sessions lines t events → IsScriptFaulty (Some rest) t →
+        AreLines (Some all) script (Some []) → IsScriptTranscript o script printed → ⊥ }
+{}
+
+/// A script of several sessions with a line that stops it, after lines that can all be applied, has no
+/// transcript, and what the line leads to, what it prints and its fault are settled.
+pub fn lines_stop_whole_scripts_in_one_way()
+    ensures apart { (o : Openings) (lines : List Line) (line : Line) (later : List Line) (t u : Sessions) (events first printed : List Printed) (fault : Fault) →
+        ScriptLeadsTo o no_sessions lines t events → ScriptStops t line u first fault → IsScriptTranscript o (lines ++ line ∷ later) printed → ⊥ }
+    ensures one { (o : Openings) (lines : List Line) (line : Line) (t v u w : Sessions) (events more first second : List Printed) (fault stop : Fault) →
+        ScriptLeadsTo o no_sessions lines t events → ScriptStops t line u first fault →
+        ScriptLeadsTo o no_sessions lines v more → ScriptStops v line w second stop →
+        (u ≡ w) × (events ++ first ≡ more ++ second) × (fault ≡ stop) }
+{}
+
+/// In scripts of several sessions the replies to the Low of a session are a function of this low's own
+/// lines, of where its own buffer was full, and of its own averages: two scripts with the same low side of
+/// the session, whose transcripts tell this Low the same in the same order, have the same `low` lines of
+/// the session, whatever its High, its network and its receiver do in each, and whatever other sessions
+/// there are and do. Only the session's own disks have to open alike. So it is with what two scripts have
+/// printed so far, where a line of any session may have stopped them.
+pub fn low_lines_are_a_function_in_each_session()
+    ensures whole { (o p : Openings) (script other : List Line) (xs ys : List Printed) (number : ℕ) →
+        IsScriptTranscript o script xs → IsScriptTranscript p other ys → OpenAlike o p (lines_of number script) →
+        low_side_of (lines_of number script) ≡ low_side_of (lines_of number other) →
+        told_to_low (events_of number xs) ≡ told_to_low (events_of number ys) →
+        low_lines (events_of number xs) ≡ low_lines (events_of number ys) }
+    ensures so_far { (o p : Openings) (script other : List Line) (t u : Sessions) (xs ys : List Printed) (number : ℕ) →
+        ScriptComesTo o script t xs → ScriptComesTo p other u ys → OpenAlike o p (lines_of number script) →
+        low_side_of (lines_of number script) ≡ low_side_of (lines_of number other) →
+        told_to_low (events_of number xs) ≡ told_to_low (events_of number ys) →
+        low_lines (events_of number xs) ≡ low_lines (events_of number ys) }
+{}
+
+/// Where no two low looks of the session have one moment, the moments at which its own buffer was full,
+/// what each of its restarts finds of it, and its averages alone decide the `low` lines of a low side,
+/// whatever other sessions there are and do.
+pub fn full_moments_and_averages_decide_in_each_session()
+    ensures whole { (o p : Openings) (script other : List Line) (xs ys : List Printed) (number : ℕ) →
+        IsScriptTranscript o script xs → IsScriptTranscript p other ys → OpenAlike o p (lines_of number script) →
+        low_side_of (lines_of number script) ≡ low_side_of (lines_of number other) → HaveOwnMoments (low_side_of (lines_of number script)) →
+        full_moments (events_of number xs) ≡ full_moments (events_of number ys) →
+        restarts_in (events_of number xs) ≡ restarts_in (events_of number ys) →
+        averages (events_of number xs) ≡ averages (events_of number ys) →
+        low_lines (events_of number xs) ≡ low_lines (events_of number ys) }
+    ensures so_far { (o p : Openings) (script other : List Line) (t u : Sessions) (xs ys : List Printed) (number : ℕ) →
+        ScriptComesTo o script t xs → ScriptComesTo p other u ys → OpenAlike o p (lines_of number script) →
+        low_side_of (lines_of number script) ≡ low_side_of (lines_of number other) → HaveOwnMoments (low_side_of (lines_of number script)) →
+        full_moments (events_of number xs) ≡ full_moments (events_of number ys) →
+        restarts_in (events_of number xs) ≡ restarts_in (events_of number ys) →
+        averages (events_of number xs) ≡ averages (events_of number ys) →
+        low_lines (events_of number xs) ≡ low_lines (events_of number ys) }
 {}

@@ -14,7 +14,7 @@ use Rattle.two_worlds.specs.declared.applied.Stop.TheVariants.{Line, Device, Ful
 use Rattle.two_worlds.specs.declared.pump.Pump.{Pump}
 use Rattle.two_worlds.specs.declared.pump.state.BareDisks.{BareDisks}
 use Rattle.two_worlds.specs.Standing.{bare_disk}
-use Rattle.two_worlds.specs.States.{disks_in, is_down_in, IsOpenWith, StandsIn}
+use Rattle.two_worlds.specs.States.{disks_in, is_down_in, kept_moment_in, IsOpenWith, StandsIn}
 use Rattle.two_worlds.specs.Doing.{Fails, LeavesFit}
 use Rattle.two_worlds.specs.Timelines.{IsTimeline, RunGoesOn}
 use Rattle.two_worlds.specs.Timely as timely
@@ -36,6 +36,10 @@ StandsFor m s p = StandsIn m s.state p
 -- a call of one of its disks failed, or the pump is shut
 abbrev pub is_down : {D : Type 0} {g : _} → Pump D g → Bool
 is_down s = is_down_in s.state
+
+-- the moment of the last line that had one, whatever the disks tell
+abbrev pub kept_moment : {D : Type 0} {g : _} → Pump D g → ℕ
+kept_moment s = kept_moment_in s.state
 
 -- the disk of a role
 abbrev pub disk_at : {D : Type 0} {g : _} → Role → Pump D g → D

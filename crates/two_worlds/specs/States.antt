@@ -1,5 +1,5 @@
 -- A pump that is open, and one that is shut.
-use Rattle.std.specs.Prelude.{Bool, true}
+use Rattle.std.specs.Prelude.{ℕ, Bool, true}
 use Rattle.disk_model.specs.Disk.{Meaning}
 use Rattle.script_reader.specs.Past.{Past}
 use Rattle.two_worlds.specs.declared.pump.parts.Parts.{Parts}
@@ -17,6 +17,11 @@ disks_in (Shut d) = d
 abbrev pub is_down_in : {D : Type 0} → PumpState D → Bool
 is_down_in (Open c) = is_down c
 is_down_in (Shut d) = true
+
+-- the moment of the last line that had one; 0 where it is shut
+abbrev pub kept_moment_in : {D : Type 0} → PumpState D → ℕ
+kept_moment_in (Open c) = c.moment
+kept_moment_in (Shut d) = 0
 
 -- it is open, and this holds of its parts
 abbrev pub IsOpenWith : {D : Type 0} → (Parts D → Type 0) → PumpState D → Type 0

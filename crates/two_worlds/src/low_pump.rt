@@ -93,6 +93,13 @@ impl LowPump {
         self.parts.apply(line, bytes, events)
     }
 
+    /// The moment of the last line that had one, in microseconds; 0 before the first one.
+    pub fn moment(&self) -> u64
+        ensures { (p : PastAlone) → LowStandsFor self.now p → result ≡ p.moment }
+    {
+        self.parts.moment
+    }
+
     /// How many messages are stored.
     pub fn next(&self) -> u64
         ensures { (p : PastAlone) → LowStandsFor self.now p

@@ -48,7 +48,7 @@ impl<D: Disk> Pump<D> {
     ghost use Rattle.two_worlds.specs.Disks.{Opens, CrashesOpen, LeaveWorld};
     ghost use Rattle.recovery.specs.Calls.{is_device};
     ghost use Rattle.two_worlds.specs.LowPumps.{stops_at_disk};
-    ghost use Rattle.two_worlds.specs.Pumps.{row_of, StandsFor, StandsOrFails, is_down, disk_at, Applies, AppliesOn};
+    ghost use Rattle.two_worlds.specs.Pumps.{row_of, StandsFor, StandsOrFails, is_down, kept_moment, disk_at, Applies, AppliesOn};
     ghost use Rattle.two_worlds.specs.Rooms.{HasRoom, DisksGo};
 
     /// The pump of a lawful row over three disks. Each that is empty is formatted first. Where they tell
@@ -143,6 +143,18 @@ impl<D: Disk> Pump<D> {
                 parts.receiver.count(),
             ),
             PumpState::Shut(_) => (0, 0, 0),
+        }
+    }
+
+    /// The moment of the last line that had one, in microseconds: 0 before the first one, and of a pump
+    /// that is shut.
+    pub fn moment(&self) -> u64
+        ensures stands { (p : Past) → StandsFor D.told self.now p → result ≡ p.moment }
+        ensures kept { result ≡ kept_moment self.now }
+    {
+        match &self.state {
+            PumpState::Open(parts) => parts.moment,
+            PumpState::Shut(_) => 0,
         }
     }
 

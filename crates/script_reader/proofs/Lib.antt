@@ -25,6 +25,7 @@ pub mod ReadLaws
 pub mod Replying
 pub mod SessionLaws
 pub mod Soundness
+pub mod Spellings
 pub mod Splits
 pub mod Stopping
 pub mod Telling

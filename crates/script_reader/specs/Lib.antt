@@ -18,5 +18,7 @@ pub mod Readouts
 pub mod Restarts
 pub mod Scripts
 pub mod Sides
+pub mod Spelling
 pub mod Steps
 pub mod Transcript
+pub mod Typed

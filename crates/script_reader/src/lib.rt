@@ -10,6 +10,7 @@ mod fields;
 mod head;
 mod laws;
 mod line;
+mod line_printing;
 mod lines;
 mod printing;
 mod reading;
@@ -24,6 +25,7 @@ pub use laws::{
     transcripts_are_bounded, transcripts_are_one, transcripts_are_sound,
 };
 pub use line::{Arriving, Line, ToldFeedback};
+pub use line_printing::print_line;
 pub use lines::{Lined, Lines};
 pub use printing::{append_fault, append_head, print_event, print_fault, print_head};
 pub use reading::{read_head, read_line};

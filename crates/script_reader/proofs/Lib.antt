@@ -28,6 +28,7 @@ pub mod Soundness
 pub mod Spellings
 pub mod Splits
 pub mod Stopping
+pub mod Takings
 pub mod Telling
 pub mod ToldLaws
 pub mod Waiting

@@ -5,6 +5,8 @@ pub mod EventHeads
 pub mod Faults
 pub mod Fields
 pub mod Fronts
+pub mod Generated
+pub mod Generating
 pub mod Grammar
 pub mod Heads
 pub mod Highs

@@ -7,6 +7,7 @@ mod digits;
 mod event;
 mod fault;
 mod fields;
+mod generator;
 mod head;
 mod laws;
 mod line;
@@ -18,6 +19,7 @@ mod reading;
 pub use body::Body;
 pub use event::{Event, EventHead};
 pub use fault::Fault;
+pub use generator::Generator;
 pub use head::{ArrivingHead, LineHead, LinedHead};
 pub use laws::{
     faulty_scripts_have_no_transcript, full_moments_and_averages_decide, low_lines_are_a_function,

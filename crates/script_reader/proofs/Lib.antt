@@ -32,8 +32,10 @@ pub mod Replying
 pub mod SessionLaws
 pub mod SoundSessions
 pub mod Soundness
+pub mod Spellings
 pub mod Splits
 pub mod Stopping
+pub mod Takings
 pub mod Telling
 pub mod ToldLaws
 pub mod Waiting

@@ -5,6 +5,8 @@ pub mod EventHeads
 pub mod Faults
 pub mod Fields
 pub mod Fronts
+pub mod Generated
+pub mod Generating
 pub mod Grammar
 pub mod Heads
 pub mod Highs
@@ -19,5 +21,7 @@ pub mod Restarts
 pub mod Scripts
 pub mod Sessions
 pub mod Sides
+pub mod Spelling
 pub mod Steps
 pub mod Transcript
+pub mod Typed

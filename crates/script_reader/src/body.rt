@@ -1,4 +1,4 @@
-ghost use Rattle.std.specs.Prelude.{◌≡◌, ◌≤◌, [], length, Some, None, if◌then◌else◌};
+ghost use Rattle.std.specs.Prelude.{◌≡◌, ◌<◌, ◌≤◌, [], ◌∷◌, ◌++◌, length, Some, None, if◌then◌else◌};
 ghost use Rattle.script_reader.specs.Parsing.{bytes_from};
 ghost use Rattle.hex.specs.Hex.{decode_sized};
 
@@ -46,6 +46,14 @@ impl Body {
         ensures { self.new ≡ [] }
     {
         self.len = 0;
+    }
+
+    pub(crate) fn push(&mut self, byte: u8)
+        requires { length self.old < 1042 }
+        ensures { self.new ≡ self.old ++ byte ∷ [] }
+    {
+        self.cells[self.len] = byte;
+        self.len += 1;
     }
 
     /// Holds so many bytes, each of two digits; false where they are not so many digits.

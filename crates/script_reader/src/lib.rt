@@ -7,9 +7,11 @@ mod digits;
 mod event;
 mod fault;
 mod fields;
+mod generator;
 mod head;
 mod laws;
 mod line;
+mod line_printing;
 mod lines;
 mod printing;
 mod reading;
@@ -17,6 +19,7 @@ mod reading;
 pub use body::Body;
 pub use event::{Event, EventHead};
 pub use fault::Fault;
+pub use generator::Generator;
 pub use head::{ArrivingHead, LineHead, LinedHead};
 pub use laws::{
     faulty_scripts_have_no_transcript, full_moments_and_averages_decide, low_lines_are_a_function,
@@ -24,6 +27,7 @@ pub use laws::{
     transcripts_are_bounded, transcripts_are_one, transcripts_are_sound,
 };
 pub use line::{Arriving, Line, ToldFeedback};
+pub use line_printing::print_line;
 pub use lines::{Lined, Lines};
 pub use printing::{append_fault, append_head, print_event, print_fault, print_head};
 pub use reading::{read_head, read_line};

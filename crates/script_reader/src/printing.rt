@@ -15,7 +15,7 @@ use pump_frame::{Frame, Kind};
 // A printed line goes behind what a room holds. None of them has more than 256 bytes: at most a word
 // of 40 bytes and five numbers of 40.
 
-fn put<const N: usize>(into: &mut ArrayVec<u8, N>, text: &[u8])
+pub(crate) fn put<const N: usize>(into: &mut ArrayVec<u8, N>, text: &[u8])
     requires { array_vec_len into.old + length text.now ≤ N }
     ensures items { into.new.items ≡ into.old.items ++ text.now }
     ensures len { array_vec_len into.new ≡ array_vec_len into.old + length text.now }
@@ -23,7 +23,7 @@ fn put<const N: usize>(into: &mut ArrayVec<u8, N>, text: &[u8])
     into.try_extend_from_slice(text).unwrap();
 }
 
-fn put_number<const N: usize>(into: &mut ArrayVec<u8, N>, number: u64)
+pub(crate) fn put_number<const N: usize>(into: &mut ArrayVec<u8, N>, number: u64)
     requires { array_vec_len into.old + 40 ≤ N }
     ensures items { into.new.items ≡ into.old.items ++ decimal number }
     ensures len { array_vec_len into.new ≤ array_vec_len into.old + 40 }
@@ -33,7 +33,7 @@ fn put_number<const N: usize>(into: &mut ArrayVec<u8, N>, number: u64)
 }
 
 /// A space and a number.
-fn put_field<const N: usize>(into: &mut ArrayVec<u8, N>, number: u64)
+pub(crate) fn put_field<const N: usize>(into: &mut ArrayVec<u8, N>, number: u64)
     requires { array_vec_len into.old + 41 ≤ N }
     ensures items { into.new.items ≡ into.old.items ++ 32 ∷ decimal number }
     ensures len { array_vec_len into.new ≤ array_vec_len into.old + 41 }

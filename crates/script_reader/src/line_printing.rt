@@ -1,0 +1,234 @@
+ghost use Rattle.std.specs.Prelude.{◌≡◌, ℕ, ◌+◌, ◌*◌, ◌≤◌, ◌<◌, ◌^◌, [], ◌∷◌, ◌++◌, length, decimal};
+ghost use Rattle.arrayvec.specs.ArrayVec.{array_vec_len};
+ghost use Rattle.pump_frame.specs.Names.{IsName};
+ghost use Rattle.script_reader.specs.Grammar.{IsWord, IsLine, row_fields, outcome_field, held_field};
+ghost use Rattle.script_reader.specs.Lawful.{IsLawfulLine};
+ghost use Rattle.script_reader.specs.Spelling.{word_field, hex_field, arriving_fields, feedback_field, line_spelling, line_text};
+ghost use Rattle.script_reader.specs.Typed.{behind, IsPrinted, IsTypedRow, IsTypedArriving, IsTypedFeedback, IsTypedLine};
+
+use crate::line::{Arriving, Line, ToldFeedback};
+use crate::printing::{put, put_field, put_number};
+use arrayvec::ArrayVec;
+use pump_frame::{Name, SessionRow};
+
+// A printed line has at most 2,273 bytes: the longest is a `told` line with raw bytes, whose numbers
+// are counted with 40 bytes each.
+type Room = ArrayVec<u8, 2400>;
+
+/// A space and the name.
+fn put_name(into: &mut Room, name: &Name)
+    requires { array_vec_len into.old + 33 ≤ 2400 }
+    ensures items { into.new.items ≡ into.old.items ++ 32 ∷ name.now }
+    ensures len { array_vec_len into.new ≤ array_vec_len into.old + 33 }
+    ensures name { IsName name.now }
+{
+    put(into, b" ");
+    put(into, name.as_slice());
+}
+
+/// A space and the word in eight digits.
+fn put_word(into: &mut Room, word: u32)
+    requires { array_vec_len into.old + 9 ≤ 2400 }
+    ensures items { into.new.items ≡ into.old.items ++ 32 ∷ word_field word }
+    ensures len { array_vec_len into.new ≤ array_vec_len into.old + 9 }
+    ensures word { IsWord word (word_field word) }
+{
+    let mut digits = [0; 8];
+    hex::encode_to_slice(word.to_be_bytes().as_slice(), &mut digits).unwrap();
+    put(into, b" ");
+    put(into, &digits);
+}
+
+/// A space and two digits for each byte, or a dash for none.
+fn put_hex(into: &mut Room, bytes: &[u8])
+    requires few { length bytes.now ≤ 1042 }
+    requires room { array_vec_len into.old + 2 + 2 * length bytes.now ≤ 2400 }
+    ensures items { into.new.items ≡ into.old.items ++ 32 ∷ hex_field bytes.now }
+    ensures len { array_vec_len into.new ≤ array_vec_len into.old + 2 + 2 * length bytes.now }
+    ensures printed { IsPrinted bytes.now }
+{
+    if bytes.is_empty() {
+        put(into, b" -");
+        return;
+    }
+    let mut digits = [0; 2084];
+    let digits = &mut digits[..2 * bytes.len()];
+    hex::encode_to_slice(bytes, digits).unwrap();
+    put(into, b" ");
+    put(into, digits);
+}
+
+/// The nine fields of a row.
+fn put_row(into: &mut Room, row: &SessionRow)
+    requires { array_vec_len into.old + 353 ≤ 2400 }
+    ensures items { into.new.items ≡ into.old.items ++ behind (row_fields row.now) }
+    ensures len { array_vec_len into.new ≤ array_vec_len into.old + 353 }
+    ensures typed { IsTypedRow row.now }
+{
+    put_field(into, u64::from(row.id));
+    put_field(into, u64::from(row.capacity));
+    put_field(into, u64::from(row.message));
+    put_field(into, u64::from(row.window));
+    put_field(into, u64::from(row.start));
+    put_field(into, u64::from(row.longest));
+    put_field(into, u64::from(row.resend));
+    put_name(into, &row.low);
+    put_name(into, &row.high);
+}
+
+/// What comes with a look.
+fn put_arriving(into: &mut Room, arrival: &Arriving)
+    requires { array_vec_len into.old + 2099 ≤ 2400 }
+    ensures items { into.new.items ≡ into.old.items ++ behind (arriving_fields arrival.now) }
+    ensures len { array_vec_len into.new ≤ array_vec_len into.old + 2099 }
+    ensures typed { IsTypedArriving arrival.now }
+{
+    match arrival {
+        Arriving::Nothing => {}
+        Arriving::Hello { low, high } => {
+            put(into, b" hello");
+            put_name(into, low);
+            put_name(into, high);
+        }
+        Arriving::Data { number, payload } => {
+            put(into, b" data");
+            put_field(into, *number);
+            put_hex(into, payload.as_slice());
+        }
+        Arriving::Raw(bytes) => {
+            let _count = bytes.len();
+            put(into, b" raw");
+            put_hex(into, bytes.as_slice());
+        }
+    }
+}
+
+/// A space and whether the next device call fails.
+fn put_outcome(into: &mut Room, fault: bool)
+    requires { array_vec_len into.old + 6 ≤ 2400 }
+    ensures items { into.new.items ≡ into.old.items ++ 32 ∷ outcome_field fault }
+    ensures len { array_vec_len into.new ≤ array_vec_len into.old + 6 }
+{
+    if fault {
+        put(into, b" fault");
+    } else {
+        put(into, b" fine");
+    }
+}
+
+/// A space and what is told of the passage.
+fn put_feedback(into: &mut Room, feedback: ToldFeedback)
+    requires { array_vec_len into.old + 82 ≤ 2400 }
+    ensures items { into.new.items ≡ into.old.items ++ 32 ∷ feedback_field feedback }
+    ensures len { array_vec_len into.new ≤ array_vec_len into.old + 82 }
+    ensures typed { IsTypedFeedback feedback }
+{
+    match feedback {
+        ToldFeedback::Quiet => put(into, b" -"),
+        ToldFeedback::Full => put(into, b" full"),
+        ToldFeedback::Pair { count, average } => {
+            put_field(into, u64::from(count));
+            put(into, b"/");
+            put_number(into, u64::from(average));
+        }
+    }
+}
+
+/// A word and two numbers.
+fn put_pair(into: &mut Room, word: &[u8], first: u64, second: u64)
+    requires room { array_vec_len into.old + 100 ≤ 2400 }
+    requires short { length word.now ≤ 16 }
+    ensures items { into.new.items ≡ into.old.items ++ word.now ++ behind (decimal first ∷ decimal second ∷ []) }
+    ensures len { array_vec_len into.new ≤ array_vec_len into.old + 98 }
+{
+    put(into, word);
+    put_field(into, first);
+    put_field(into, second);
+}
+
+/// The line without its line end.
+fn put_line(into: &mut Room, line: &Line)
+    requires { into.old.items ≡ [] }
+    ensures items { into.new.items ≡ line_spelling line.now }
+    ensures len { array_vec_len into.new < 2400 }
+    ensures typed { IsTypedLine line.now }
+{
+    match line {
+        Line::Skip => {}
+        Line::Session(row) => {
+            put(into, b"session");
+            put_row(into, row);
+        }
+        Line::LowSession { row, next, held } => {
+            put(into, b"low-session");
+            put_row(into, row);
+            put_field(into, *next);
+            put(into, if *held { b" 1" } else { b" 0" });
+        }
+        Line::Look {
+            session,
+            moment,
+            word,
+            arrival,
+        } => {
+            put_pair(into, b"look", u64::from(*session), *moment);
+            put_word(into, *word);
+            put_arriving(into, arrival);
+        }
+        Line::Told {
+            session,
+            moment,
+            word,
+            fault,
+            feedback,
+            arrival,
+        } => {
+            put_pair(into, b"told", u64::from(*session), *moment);
+            put_word(into, *word);
+            put_outcome(into, *fault);
+            put_feedback(into, *feedback);
+            put_arriving(into, arrival);
+        }
+        Line::Gone { session, moment } => put_pair(into, b"gone", u64::from(*session), *moment),
+        Line::High { session, moment } => put_pair(into, b"high", u64::from(*session), *moment),
+        Line::Carry { session, back } => put_pair(into, b"carry", u64::from(*session), *back),
+        Line::Return {
+            session,
+            moment,
+            back,
+        } => {
+            put_pair(into, b"return", u64::from(*session), *moment);
+            put_field(into, *back);
+        }
+        Line::Done {
+            session,
+            moment,
+            time,
+        } => {
+            put_pair(into, b"done", u64::from(*session), *moment);
+            put_field(into, u64::from(*time));
+        }
+        Line::Restart { session, moment } => {
+            put_pair(into, b"restart", u64::from(*session), *moment)
+        }
+        Line::ReceiverRestart { session, moment } => {
+            put_pair(into, b"receiver-restart", u64::from(*session), *moment)
+        }
+    }
+}
+
+/// The room then holds the line in its one spelling, with its line end: digits in lower case, and `-`
+/// for no bytes; `docs/formats.md`, "Scripts", has the lines. A `Skip` is the line end alone.
+pub fn print_line(line: &Line, into: &mut ArrayVec<u8, 2400>)
+    ensures line { into.new.items ≡ line_text line.now }
+    // What stands before the line end is this line, so `read_line` gives it back. A line is lawful
+    // where a reader can have given it.
+    ensures reads { IsLawfulLine line.now → IsLine line.now (line_spelling line.now) }
+{
+    into.clear();
+    put_line(into, line);
+    put(into, b"\n");
+}
+
+#[cfg(test)]
+mod tests;

@@ -1,9 +1,9 @@
 use Rattle.std.proofs.Common.{le_refl}
 use Rattle.pump_core.specs.Passage.{takes}
-use Rattle.passage.proofs.tests.Both.ask.Goals as goal
+use Rattle.passage.proofs.tests.PlainBench.ask.Goals as goal
 
 pub returns-in-Got : goal.returns-in-Got
-returns-in-Got c =
+returns-in-Got g c =
     let r = c.requires in
     record {
       l = r.l;

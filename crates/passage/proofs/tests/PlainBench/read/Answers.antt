@@ -1,8 +1,8 @@
 use Rattle.pump_core.specs.Passage.{read_pair}
-use Rattle.passage.proofs.tests.Both.read.Goals as goal
+use Rattle.passage.proofs.tests.PlainBench.read.Goals as goal
 
 pub returns : goal.returns
-returns c =
+returns g c =
     let r = c.requires in
     record {
       l = read_pair r.l _ _;

@@ -1,10 +1,10 @@
 use Rattle.std.proofs.Common.{[], ◌∷◌, arith}
 use Rattle.std.proofs.lemmas.List.{length-append}
 use Rattle.pump_core.specs.Passage.{publishes}
-use Rattle.passage.proofs.tests.Both.publish.Goals as goal
+use Rattle.passage.proofs.tests.PlainBench.publish.Goals as goal
 
-pub returns : goal.returns
-returns c =
+pub returns-then-may_publish : goal.returns-then-may_publish
+returns-then-may_publish g c =
     let r = c.requires in
     record {
       l = r.l;

@@ -3,7 +3,9 @@
 #![tactic(auto)]
 
 mod ask;
+mod ask_waiting;
 mod look;
+mod look_waiting;
 mod process;
 mod task;
 mod values;

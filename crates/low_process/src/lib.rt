@@ -5,6 +5,7 @@
 
 mod frames;
 mod look;
+mod look_waiting;
 mod process;
 mod store;
 mod values;

@@ -20,7 +20,7 @@ use pump_frame::Item;
 use stable_buffer::LowStore;
 
 // What stands in an answer whose average nobody needs.
-const UNREAD: Seen = Seen {
+pub(crate) const UNREAD: Seen = Seen {
     count: 0,
     average: 0,
 };

@@ -10,3 +10,17 @@ pub record Ready (stands : Low → High → Type 0) (next removed published : �
   pub follows : ComesNext l.forwarded next
   pub above : h.floor ≤ removed
   pub count : length h.times ≡ published
+
+-- the same of two ends that know nothing of each other
+pub record LowReady (stands : Low → High → Type 0) (next : ℕ) : Type 0 where
+  pub l : Low
+  pub h : High
+  pub stand : stands l h
+  pub follows : ComesNext l.forwarded next
+
+pub record HighReady (stands : Low → High → Type 0) (removed published : ℕ) : Type 0 where
+  pub l : Low
+  pub h : High
+  pub stand : stands l h
+  pub above : h.floor ≤ removed
+  pub count : length h.times ≡ published

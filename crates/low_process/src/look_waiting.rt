@@ -1,0 +1,139 @@
+// A look over an end whose calls may wait: `look` with the handle.
+ghost use Rattle.std.specs.Prelude.{◌≡◌, ℕ, ◌+◌, ◌^◌, ◌<◌, ◌≤◌, Bool, true, false, Option, Some, None, IfSome};
+ghost use Rattle.stable_buffer.specs.Low.{low_disk};
+ghost use Rattle.pump_frame.specs.Frames.{IsLawful as IsLawfulFrame};
+ghost use Rattle.pump_core.specs.ReplyFrames.{IsLawfulReply};
+ghost use Rattle.pump_core.specs.History.{Arrival as Offered};
+ghost use Rattle.pump_core.specs.Passage.{Low, High, ComesNext};
+ghost use Rattle.low_process.specs.declared.values.Asking.TheVariants.{Forward as AsksForward};
+ghost use Rattle.low_process.specs.Looks.{IsAnswerTo, IsBetweenLooks, AsksToForward, AsksFor, IsLawful, Looks, HandBegins, arrival_of, look_of, row_of, next_of, last_of, is_down, owes, hand_of, hand_after, hand_passed};
+ghost use Rattle.low_process.specs.Heads.{look_with, ask_with};
+ghost use Rattle.low_process.specs.Ends.{OfferStep, EndStep, FitsEnd, StandsFitting};
+ghost use Rattle.low_process.specs.Whole.{HasStore, BeginStep, LookStep, KeepsAcknowledged, LeavesStored, reply_in};
+
+use crate::LowProcess;
+use crate::look::UNREAD;
+use crate::values::{Answer, Arrival, AskHead, LookHead, LowLook};
+use disk_model::Disk;
+use passage::{Forwarded, WaitLowEnd};
+use pump_frame::Item;
+use stable_buffer::LowStore;
+use std::sync::Wait;
+
+// As `offer`, of an end whose calls may wait.
+fn offer_waiting<L: WaitLowEnd, R: Wait>(rt: &R, item: Item, is_owed: bool, ends: &mut L) -> Answer
+    requires ends { (l : Low) × (h : High)
+        × L.stands ends.old l h × ComesNext l.forwarded item.number }
+    requires number { item.number < 2 ^ 48 }
+    ensures shape { L.shape ends.new ≡ L.shape ends.old }
+    ensures place { L.place ends.new ≡ L.place ends.old }
+    ensures fits { IsAnswerTo AsksForward result }
+    ensures step { (l : Low) (h : High) → L.stands ends.old l h → ComesNext l.forwarded item.number
+        → OfferStep (L.shape ends.old) L.on_one_thread (L.stands ends.new) l h item is_owed result }
+{
+    match ends.forward(rt, item) {
+        Forwarded::Full(_) => Answer::Full,
+        Forwarded::Passed => {
+            if is_owed {
+                Answer::Passed(ends.average(rt))
+            } else {
+                Answer::Passed(UNREAD)
+            }
+        }
+    }
+}
+
+impl LowProcess {
+    /// As `look_waiting`, into the look's head.
+    pub fn look_waiting_into<D: Disk, L: WaitLowEnd, R: Wait>(
+        &mut self,
+        rt: &R,
+        moment: u64,
+        word: u32,
+        arrival: Arrival,
+        store: &mut LowStore<D>,
+        ends: &mut L,
+        head: &mut LookHead,
+    )
+        requires between { IsBetweenLooks self.old }
+        requires order { last_of self.old ≤ moment }
+        requires moment { moment ≤ 2 ^ 62 }
+        requires lawful { IsLawful (arrival_of arrival) }
+        requires store { HasStore D.told self.old store.old }
+        requires ends { (l : Low) × (h : High) × StandsFitting (L.stands ends.old) self.old l h }
+
+        ensures looks { (is_fault : Bool) × LookStep D.told self.old self.new store.old store.new
+            moment word (arrival_of arrival.entry) is_fault (look_with (row_of self.old) head.new) }
+        ensures store { HasStore D.told self.new store.new }
+        ensures images { LeavesStored D.told self.old store.old store.new
+            (arrival_of arrival.entry) }
+        ensures still { is_down self.old ≡ true → store.new ≡ store.old }
+        ensures silent { is_down self.old ≡ true → (look_with (row_of self.old) head.new).reply ≡ None }
+        ensures acknowledged { KeepsAcknowledged D.told (row_of self.old) (look_with (row_of self.old) head.new).reply
+            (low_disk store.new) }
+        ensures lawful { IfSome head.new.reply IsLawfulReply }
+
+        ensures hand { hand_of self.new
+            ≡ hand_after (hand_of self.old) (arrival_of arrival.entry) (look_with (row_of self.old) head.new) }
+        ensures row { row_of self.new ≡ row_of self.old }
+        ensures last { last_of self.new ≡ moment }
+        ensures shape { L.shape ends.new ≡ L.shape ends.old }
+        ensures place { L.place ends.new ≡ L.place ends.old }
+        ensures ends { (l : Low) (h : High) → StandsFitting (L.stands ends.old) self.old l h
+            → EndStep (L.shape ends.old) L.on_one_thread (StandsFitting (L.stands ends.new) self.new) l h
+            (hand_of self.old) head.new.feedback }
+    {
+        match self.begin_into(moment, word, arrival, store, head) {
+            AskHead::Done => {}
+            AskHead::Forward => {
+                let item = self.item();
+                let answer = offer_waiting(rt, item, self.owes(), ends);
+                self.finish_into(answer, head);
+            }
+            AskHead::Average => self.finish_into(Answer::Average(ends.average(rt)), head),
+        }
+    }
+
+    /// As `look`, over an end whose calls may wait for the other thread.
+    pub fn look_waiting<D: Disk, L: WaitLowEnd, R: Wait>(
+        &mut self,
+        rt: &R,
+        moment: u64,
+        word: u32,
+        arrival: Arrival,
+        store: &mut LowStore<D>,
+        ends: &mut L,
+    ) -> LowLook
+        requires between { IsBetweenLooks self.old }
+        requires order { last_of self.old ≤ moment }
+        requires moment { moment ≤ 2 ^ 62 }
+        requires lawful { IsLawful (arrival_of arrival) }
+        requires store { HasStore D.told self.old store.old }
+        requires ends { (l : Low) × (h : High) × StandsFitting (L.stands ends.old) self.old l h }
+
+        ensures looks { (is_fault : Bool) × LookStep D.told self.old self.new store.old store.new
+            moment word (arrival_of arrival.entry) is_fault result }
+        ensures store { HasStore D.told self.new store.new }
+        ensures images { LeavesStored D.told self.old store.old store.new
+            (arrival_of arrival.entry) }
+        ensures still { is_down self.old ≡ true → store.new ≡ store.old }
+        ensures silent { is_down self.old ≡ true → result.reply ≡ None }
+        ensures acknowledged { KeepsAcknowledged D.told (row_of self.old) result.reply
+            (low_disk store.new) }
+        ensures lawful { IfSome result.reply IsLawfulFrame }
+
+        ensures hand { hand_of self.new
+            ≡ hand_after (hand_of self.old) (arrival_of arrival.entry) result }
+        ensures row { row_of self.new ≡ row_of self.old }
+        ensures last { last_of self.new ≡ moment }
+        ensures shape { L.shape ends.new ≡ L.shape ends.old }
+        ensures place { L.place ends.new ≡ L.place ends.old }
+        ensures ends { (l : Low) (h : High) → StandsFitting (L.stands ends.old) self.old l h
+            → EndStep (L.shape ends.old) L.on_one_thread (StandsFitting (L.stands ends.new) self.new) l h
+            (hand_of self.old) result.feedback }
+    {
+        let mut head = LookHead::new();
+        self.look_waiting_into(rt, moment, word, arrival, store, ends, &mut head);
+        self.whole(&head)
+    }
+}

@@ -1,0 +1,156 @@
+// The steps on high's cell.
+ghost use Rattle.std.specs.Prelude.{◌≡◌, ℕ, ◌+◌, ◌≤◌, ◌++◌, ◌∷◌, [], true, false, length};
+ghost use Rattle.crossbeam_queue.specs.Passes.{view};
+ghost use Rattle.crossbeam_utils.specs.Seq.{cell_view, IsSamePass};
+ghost use Rattle.pump_frame.specs.Averages.{average_of};
+ghost use Rattle.passage.specs.HighRule.{averaging_told, with_row, with_try, with_pair, PairsUpTo, with_taken, with_time, high_first};
+
+use crate::high_cell::{
+    FindsPair, FindsTaken, HighCell, HighPass, HighWord, LowTry, RowTold, TellsRow, TellsTaken,
+    TellsTime, TimeTold,
+};
+use crate::queue::QueuePass;
+use std::marker::Brand;
+use std::sync::Wait;
+
+impl LowTry for Brand {
+    ghost forwarded = { 0 };
+}
+
+impl TimeTold for Brand {
+    ghost micros = { 0 };
+}
+
+impl RowTold for Brand {
+    ghost places = { 0 };
+
+    ghost window = { 0 };
+
+    ghost start = { 0 };
+}
+
+fn load_taken<K: LowTry, R: Wait>(
+    rt: &R,
+    cell: &HighCell,
+    pass: &mut HighPass,
+    forwarded: u64,
+) -> HighWord
+    requires cell { pass.old.table_id ≡ cell.now.table.shared.table_id }
+    requires role { ((cell_view pass.old).writes ≡ false) × ((cell_view pass.old).reads ≡ true) }
+    requires forwarded { forwarded ≡ K.forwarded }
+    ensures cell { IsSamePass pass.old pass.new }
+    ensures rule { cell_view pass.new ≡ with_try forwarded (cell_view pass.old) result.taken }
+    ensures up { (cell_view pass.old).found ≤ result.taken }
+{
+    cell.load_as::<FindsTaken<K>, R>(rt, pass)
+}
+
+/// The low end's load for a try, where it has forwarded so many.
+pub fn find_taken<R: Wait>(rt: &R, cell: &HighCell, pass: &mut HighPass, forwarded: u64) -> HighWord
+    requires cell { pass.old.table_id ≡ cell.now.table.shared.table_id }
+    requires role { ((cell_view pass.old).writes ≡ false) × ((cell_view pass.old).reads ≡ true) }
+    ensures cell { IsSamePass pass.old pass.new }
+    ensures rule { cell_view pass.new ≡ with_try forwarded (cell_view pass.old) result.taken }
+    ensures up { (cell_view pass.old).found ≤ result.taken }
+{
+    load_taken::<Brand, R>(rt, cell, pass, forwarded)
+}
+
+/// The low end's load for a pair.
+pub fn find_pair<R: Wait>(rt: &R, cell: &HighCell, pass: &mut HighPass) -> HighWord
+    requires cell { pass.old.table_id ≡ cell.now.table.shared.table_id }
+    requires role { ((cell_view pass.old).writes ≡ false) × ((cell_view pass.old).reads ≡ true) }
+    ensures cell { IsSamePass pass.old pass.new }
+    ensures rule { cell_view pass.new ≡ with_pair (cell_view pass.old) result.count result.average }
+    ensures up { PairsUpTo (cell_view pass.old) result.count }
+{
+    cell.load_as::<FindsPair, R>(rt, pass)
+}
+
+/// The high end's swap, after a pop: no number is told before so many were popped.
+pub fn tell_taken<R: Wait>(
+    rt: &R,
+    cell: &HighCell,
+    pass: &mut HighPass,
+    word: HighWord,
+    _popped: &QueuePass,
+)
+    requires popped { word.taken ≡ length (view _popped.now).taken }
+    requires cell { pass.old.table_id ≡ cell.now.table.shared.table_id }
+    requires role { ((cell_view pass.old).writes ≡ true) × ((cell_view pass.old).reads ≡ false) }
+    requires taken { word.taken ≡ (cell_view pass.old).taken + 1 }
+    requires count { word.count ≡ length (cell_view pass.old).times }
+    requires average { word.average ≡ average_of (averaging_told (cell_view pass.old)) (cell_view pass.old).times }
+    ensures cell { IsSamePass pass.old pass.new }
+    ensures rule { cell_view pass.new ≡ with_taken (cell_view pass.old) }
+{
+    cell.swap_as::<TellsTaken, R>(rt, pass, word);
+}
+
+fn swap_time<K: TimeTold, R: Wait>(
+    rt: &R,
+    cell: &HighCell,
+    pass: &mut HighPass,
+    word: HighWord,
+    micros: u32,
+)
+    requires cell { pass.old.table_id ≡ cell.now.table.shared.table_id }
+    requires role { ((cell_view pass.old).writes ≡ true) × ((cell_view pass.old).reads ≡ false) }
+    requires taken { word.taken ≡ (cell_view pass.old).taken }
+    requires count { word.count ≡ length ((cell_view pass.old).times ++ micros ∷ []) }
+    requires average { word.average ≡ average_of (averaging_told (cell_view pass.old)) ((cell_view pass.old).times ++ micros ∷ []) }
+    requires time { micros ≡ K.micros }
+    ensures cell { IsSamePass pass.old pass.new }
+    ensures rule { cell_view pass.new ≡ with_time (cell_view pass.old) micros }
+{
+    cell.swap_as::<TellsTime<K>, R>(rt, pass, word);
+}
+
+/// The high end's swap where it publishes this time.
+pub fn tell_time<R: Wait>(rt: &R, cell: &HighCell, pass: &mut HighPass, word: HighWord, micros: u32)
+    requires cell { pass.old.table_id ≡ cell.now.table.shared.table_id }
+    requires role { ((cell_view pass.old).writes ≡ true) × ((cell_view pass.old).reads ≡ false) }
+    requires taken { word.taken ≡ (cell_view pass.old).taken }
+    requires count { word.count ≡ length ((cell_view pass.old).times ++ micros ∷ []) }
+    requires average { word.average ≡ average_of (averaging_told (cell_view pass.old)) ((cell_view pass.old).times ++ micros ∷ []) }
+    ensures cell { IsSamePass pass.old pass.new }
+    ensures rule { cell_view pass.new ≡ with_time (cell_view pass.old) micros }
+{
+    swap_time::<Brand, R>(rt, cell, pass, word, micros);
+}
+
+fn swap_row<K: RowTold, R: Wait>(
+    rt: &R,
+    cell: &HighCell,
+    pass: &mut HighPass,
+    places: u64,
+    window: u32,
+    word: HighWord,
+)
+    requires cell { pass.old.table_id ≡ cell.now.table.shared.table_id }
+    requires fresh { cell_view pass.old ≡ high_first }
+    requires word { (word.count ≡ 0) × (word.taken ≡ 0) }
+    requires row { (places ≡ K.places) × (window ≡ K.window) × (word.average ≡ K.start) }
+    ensures cell { IsSamePass pass.old pass.new }
+    ensures rule { cell_view pass.new ≡ with_row (cell_view pass.old) places window word.average }
+{
+    cell.swap_as::<TellsRow<K>, R>(rt, pass, word);
+}
+
+/// The first swap, under the pass that is not parted yet. Its word has the row's start as average.
+pub fn tell_row<R: Wait>(
+    rt: &R,
+    cell: &HighCell,
+    pass: &mut HighPass,
+    places: u64,
+    window: u32,
+    word: HighWord,
+)
+    requires cell { pass.old.table_id ≡ cell.now.table.shared.table_id }
+    requires fresh { cell_view pass.old ≡ high_first }
+    requires word { (word.count ≡ 0) × (word.taken ≡ 0) }
+    ensures cell { IsSamePass pass.old pass.new }
+    ensures rule { cell_view pass.new ≡ with_row (cell_view pass.old) places window word.average }
+{
+    swap_row::<Brand, R>(rt, cell, pass, places, window, word);
+}

@@ -1,0 +1,4 @@
+pub mod Plain
+pub mod Sole
+pub mod Taken
+pub mod Texts

@@ -1,0 +1,27 @@
+-- What clap is told of the commands.
+use Rattle.std.specs.Prelude.{codes, true}
+use Rattle.clap.specs.Walk.{Rule, Text}
+use Rattle.clap.specs.Simple.{App, new_app, new_rule, with_rule, with_subcommand}
+
+-- a value that has to be there
+abbrev pub value_rule : Text → Rule
+value_rule id = record (new_rule id) { required = true }
+
+-- a command of its name alone, and one with two values
+abbrev pub leaf_none : Text → App
+leaf_none name = new_app name
+
+abbrev pub leaf_two : Text → Text → Text → App
+leaf_two name a b = with_rule (with_rule (leaf_none name) (value_rule a)) (value_rule b)
+
+-- the program without its commands
+abbrev pub bare : App
+bare = let a = new_app (codes "netpump") in record a { top = record a.top { no_binary_name = true; disable_help_flag = true; disable_help_subcommand = true } }
+
+abbrev pub program : App
+program =
+    with_subcommand (with_subcommand (with_subcommand (with_subcommand bare
+    (leaf_none (codes "replay")).top)
+    (leaf_two (codes "format") (codes "TABLE") (codes "S")).top)
+    (leaf_two (codes "show") (codes "TABLE") (codes "S")).top)
+    (leaf_two (codes "exercise") (codes "SEED") (codes "COUNT")).top

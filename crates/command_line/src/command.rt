@@ -1,0 +1,38 @@
+use crate::TableName;
+
+/// What the words ask for.
+#[derive(Clone, Copy)]
+pub enum Command {
+    /// Replays the script.
+    Replay,
+    /// Formats the three empty disks of a session of the table.
+    Format {
+        /// The file with the table.
+        table: TableName,
+        /// The id of its row.
+        session: u32,
+    },
+    /// Shows what the disks of a session of the table stand for.
+    Show {
+        /// The file with the table.
+        table: TableName,
+        /// The id of its row.
+        session: u32,
+    },
+    /// Runs lines that are made from a number.
+    Exercise {
+        /// The number that they are made from.
+        seed: u32,
+        /// How many messages they have, 1 to 100000.
+        count: u32,
+    },
+}
+
+/// Why the words give no command.
+#[derive(Clone, Copy, PartialEq, Eq, Debug)]
+pub enum WordsFault {
+    /// No command is spelled so.
+    NoCommand,
+    /// Memory ran out while they were read.
+    Memory,
+}

@@ -1,0 +1,59 @@
+use crate::{Command, WordsFault, command_of};
+use std::alloc::AllocError;
+use std::test::Fail;
+
+fn answer(rt: &HostRuntime, line: &str) -> Result<&'static str, AllocError> {
+    let mut words = Vec::new(rt.alloc());
+    for word in line.split(' ') {
+        words.push(String::from_str(rt.alloc(), word)?)?;
+    }
+    match command_of(rt.alloc(), words.as_slice()) {
+        Ok(Command::Replay) => Ok("replay"),
+        Ok(Command::Format { .. }) => Ok("format"),
+        Ok(Command::Show { .. }) => Ok("show"),
+        Ok(Command::Exercise { .. }) => Ok("exercise"),
+        Err(WordsFault::NoCommand) => Ok("none"),
+        Err(WordsFault::Memory) => Ok("memory"),
+    }
+}
+
+#[test]
+fn command_lines(rt: HostRuntime) -> Result<(), Fail> {
+    let long = "show a234567890123456789012345678901234567890123456789012345678901234 1";
+    let longer = "show a2345678901234567890123456789012345678901234567890123456789012345 1";
+    let lines = [
+        ("replay", "replay"),
+        ("replay now", "none"),
+        ("format t.toml 1", "format"),
+        ("format 0 0", "format"),
+        ("format t.toml 01", "none"),
+        ("format t.toml +1", "none"),
+        ("format t.toml 4294967295", "format"),
+        ("format t.toml 4294967296", "none"),
+        ("format .toml 1", "none"),
+        ("format a/b 1", "none"),
+        ("format -- t.toml 1", "none"),
+        ("format t.toml -- 1", "none"),
+        ("format t.toml", "none"),
+        ("show t.toml 1", "show"),
+        (long, "show"),
+        (longer, "none"),
+        ("sho t.toml 1", "none"),
+        ("exercise 0 1", "exercise"),
+        ("exercise 4294967295 100000", "exercise"),
+        ("exercise 0 0", "none"),
+        ("exercise 0 100001", "none"),
+        ("exercise -1 1", "none"),
+        ("help", "none"),
+        ("help replay", "none"),
+        ("--help", "none"),
+        ("-h", "none"),
+        ("replay --help", "none"),
+        ("--version", "none"),
+        ("", "none"),
+    ];
+    for (line, wanted) in lines {
+        assert_eq!(rt; answer(&rt, line)?, wanted);
+    }
+    Ok(())
+}

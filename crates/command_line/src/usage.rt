@@ -1,0 +1,7 @@
+/// What the commands are: each with its words, and a line on what it does.
+pub const USAGE: &str = "type one of these after the program's name:
+  replay               reads a script from standard input and prints its transcript, as in: netpump replay < SCRIPT
+  format TABLE S       formats the three empty disks of session S, which has a row in the file TABLE
+  show TABLE S         prints the counts of session S, and the messages on its low disk that are not removed
+  exercise SEED COUNT  runs COUNT messages (1 to 100000) that are made from the number SEED, and prints a summary
+TABLE is the name of a file in this folder: 1 to 64 letters, digits, dots, underscores and dashes, the first a letter or a digit. Numbers are written without a sign and without zeros before them, and are below 2^32";

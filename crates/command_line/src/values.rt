@@ -1,0 +1,113 @@
+ghost use Rattle.std.specs.Prelude.{◌≡◌, ℕ, ◌≤◌, ◌<◌, ◌^◌, List, [], ◌∷◌, true, codes, option_map, decimal, IfSome, IsSomeAnd, Some};
+ghost use Rattle.clap.specs.Words.{found_of};
+ghost use Rattle.clap.specs.Walk.{rows_of, first_of};
+ghost use Rattle.command_line.specs.Commands.{IsCommand};
+ghost use Rattle.command_line.specs.TableNames.{is_table_name};
+ghost use Rattle.command_line.specs.Found.{Gives};
+ghost use Rattle.command_line.specs.declared.command.Command.{Command as Commands};
+
+use crate::{Command, TableName};
+use clap::ArgMatches;
+
+fn parsed(text: &str) -> Option<u32>
+    ensures { (n : ℕ) → n < 2 ^ 32 → text.now ≡ decimal n → result ≡ Some n }
+{
+    text.parse::<u32>().ok()
+}
+
+/// A number from `low` to `high`, both included.
+fn number(text: &str, low: u32, high: u32) -> Option<u32>
+    ensures within { IfSome result (λ n. (low ≤ n) × (n ≤ high)) }
+    ensures read { (n : ℕ) → low ≤ n → n ≤ high → text.now ≡ decimal n → result ≡ Some n }
+{
+    let n = parsed(text)?;
+    if n < low || high < n {
+        return None;
+    }
+    Some(n)
+}
+
+fn text<'a>(matches: &ArgMatches<'a>, id: &str) -> Option<&'a str>
+    ensures { option_map (λ s. s.now) result ≡ first_of id.now (rows_of (found_of matches.now)) }
+{
+    matches.get_str(id)
+}
+
+fn number_in(matches: &ArgMatches, id: &str, low: u32, high: u32) -> Option<u32>
+    ensures within { IfSome result (λ n. (low ≤ n) × (n ≤ high)) }
+    ensures read { (n : ℕ) → low ≤ n → n ≤ high → first_of id.now (rows_of (found_of matches.now)) ≡ Some (decimal n) → result ≡ Some n }
+{
+    match text(matches, id) {
+        Some(text) => number(text, low, high),
+        None => None,
+    }
+}
+
+fn table_in(matches: &ArgMatches, id: &str) -> Option<TableName>
+    ensures sound { IfSome result (λ t. is_table_name t ≡ true) }
+    ensures read { (t : List ℕ) → is_table_name t ≡ true → first_of id.now (rows_of (found_of matches.now)) ≡ Some t → result ≡ Some t }
+{
+    match text(matches, id) {
+        Some(text) => TableName::from_text(text),
+        None => None,
+    }
+}
+
+fn format_in(matches: &ArgMatches) -> Option<Command>
+    ensures sound { IfSome result IsCommand }
+    ensures all { (t : List ℕ) (n : ℕ) → is_table_name t ≡ true → n < 2 ^ 32
+        → first_of (codes "TABLE") (rows_of (found_of matches.now)) ≡ Some t → first_of (codes "S") (rows_of (found_of matches.now)) ≡ Some (decimal n)
+        → result ≡ Some (Command.Format t n) }
+{
+    match table_in(matches, "TABLE") {
+        Some(table) => match number_in(matches, "S", 0, u32::MAX) {
+            Some(session) => Some(Command::Format { table, session }),
+            None => None,
+        },
+        None => None,
+    }
+}
+
+fn show_in(matches: &ArgMatches) -> Option<Command>
+    ensures sound { IfSome result IsCommand }
+    ensures all { (t : List ℕ) (n : ℕ) → is_table_name t ≡ true → n < 2 ^ 32
+        → first_of (codes "TABLE") (rows_of (found_of matches.now)) ≡ Some t → first_of (codes "S") (rows_of (found_of matches.now)) ≡ Some (decimal n)
+        → result ≡ Some (Command.Show t n) }
+{
+    match table_in(matches, "TABLE") {
+        Some(table) => match number_in(matches, "S", 0, u32::MAX) {
+            Some(session) => Some(Command::Show { table, session }),
+            None => None,
+        },
+        None => None,
+    }
+}
+
+fn exercise_in(matches: &ArgMatches) -> Option<Command>
+    ensures sound { IfSome result IsCommand }
+    ensures all { (m n : ℕ) → m < 2 ^ 32 → 1 ≤ n → n ≤ 100000
+        → first_of (codes "SEED") (rows_of (found_of matches.now)) ≡ Some (decimal m) → first_of (codes "COUNT") (rows_of (found_of matches.now)) ≡ Some (decimal n)
+        → result ≡ Some (Command.Exercise m n) }
+{
+    match number_in(matches, "SEED", 0, u32::MAX) {
+        Some(seed) => match number_in(matches, "COUNT", 1, 100_000) {
+            Some(count) => Some(Command::Exercise { seed, count }),
+            None => None,
+        },
+        None => None,
+    }
+}
+
+/// The command of this name, with the values that clap found.
+pub(crate) fn with_values(name: &str, matches: &ArgMatches) -> Option<Command>
+    ensures sound { IfSome result IsCommand }
+    ensures all { (c : Commands) → IsCommand c → Gives c name.now (rows_of (found_of matches.now)) → result ≡ Some c }
+{
+    match name {
+        "replay" => Some(Command::Replay),
+        "format" => format_in(matches),
+        "show" => show_in(matches),
+        "exercise" => exercise_in(matches),
+        _ => None,
+    }
+}

@@ -1,14 +1,17 @@
 pub mod Accepting
 pub mod Bounds
 pub mod DigitLaws
+pub mod DoneSteps
 pub mod FieldChains
 pub mod FieldLaws
 pub mod FreeFields
+pub mod Generating
 pub mod Heads
 pub mod Leading
 pub mod LineEnds
 pub mod LineLaws
 pub mod LookLaws
+pub mod LookSteps
 pub mod LowAlike
 pub mod LowAlone
 pub mod LowAside

@@ -65,23 +65,23 @@ run_stays : (w : World) (es : List WorldEvent) (v : World) → Run w es v → v.
 run_stays w [] v e = ap cap e
 run_stays w (e ∷ es) v (u, h, r) = run_stays u es v r ∙ event_stays w e u h
 
-stays_by : (n : ℕ) (w : World) (es : List WorldEvent) (v : World) → Stays n w → Run w es v → Stays n v
+pub stays_by : (n : ℕ) (w : World) (es : List WorldEvent) (v : World) → Stays n w → Run w es v → Stays n v
 stays_by n w es v s r = record { lawful = runs_lawfully w es v s.lawful r; capacity = run_stays w es v r ∙ s.capacity }
 
 stays_one : (n : ℕ) (w : World) (e : WorldEvent) (v : World) → Stays n w → Happens w e v → Stays n v
 stays_one n w e v s h = stays_by n w (e ∷ []) v s (v, h, refl)
 
-perhaps_lawful : (n : ℕ) (w : World) (e : WorldEvent) (es : List WorldEvent) (v : World) → (Stays n) w → Perhaps w e es v → (Stays n) v
+pub perhaps_lawful : (n : ℕ) (w : World) (e : WorldEvent) (es : List WorldEvent) (v : World) → (Stays n) w → Perhaps w e es v → (Stays n) v
 perhaps_lawful n w e es v l h = ⊎_elim
     (λ (r : Run w (e ∷ es) v). stays_by n w (e ∷ es) v l r)
     (λ (o : ((x : World) → Happens w e x → ⊥) × (v ≡ w)). subst (Stays n) (sym o.1) l)
     h
 
-returns_lawful : (n : ℕ) (w : World) (back : Option ℕ) (v : World) → (Stays n) w → Returns w back v → (Stays n) v
+pub returns_lawful : (n : ℕ) (w : World) (back : Option ℕ) (v : World) → (Stays n) w → Returns w back v → (Stays n) v
 returns_lawful n w None v l e = subst (Stays n) (sym e) l
 returns_lawful n w (Some k) v l h = stays_one n w (ReturnTaken k) v l h
 
-sends_lawful : (n : ℕ) (b : Bool) (w v : World) → (Stays n) w → IsSent b w v → (Stays n) v
+pub sends_lawful : (n : ℕ) (b : Bool) (w v : World) → (Stays n) w → IsSent b w v → (Stays n) v
 sends_lawful n true w v l h = stays_one n w Send v l h
 sends_lawful n false w v l e = subst (Stays n) (sym e) l
 
@@ -106,7 +106,7 @@ attach_lawful n s p m (suc k) q printed l (i, at, h) = return_by_lawful (is_ahea
 receiver_lawful : (n : ℕ) (s : SessionRow) (p : Past) (m : ℕ) (q : Past) (printed : List Event) → (Stays n) p.world → IsReceiverRestart s p m q printed → (Stays n) q.world
 receiver_lawful n s p m q printed l (mid, (h, is), (more, t, e)) = attach_lawful n s mid m (length mid.world.received) q more (stays_one n p.world (Crash None (Some false)) mid.world l h) t
 
-carry_lawful : (n : ℕ) (s : SessionRow) (p : Past) (back : ℕ) (q : Past) (printed : List Event) → (Stays n) p.world → IsCarried s p back q printed → (Stays n) q.world
+pub carry_lawful : (n : ℕ) (s : SessionRow) (p : Past) (back : ℕ) (q : Past) (printed : List Event) → (Stays n) p.world → IsCarried s p back q printed → (Stays n) q.world
 carry_lawful n s p back q printed l c = perhaps_lawful n c.carried TakeBegin (TakeEnd ∷ []) q.world (stays_one n p.world (CarryData (place p.world.sent back)) c.carried l c.carries) c.takes
 
 goes_lawful : (n : ℕ) (s : SessionRow) (hand : Option ℕ) (p : Past) (m : ℕ) (q : Past) (printed : List Event) → (Stays n) p.world → IsCarriedBack s hand p m q printed → (Stays n) q.world

@@ -1,4 +1,5 @@
 pub mod Alone
+pub mod Applying
 pub mod Breaks
 pub mod DigitValues
 pub mod EventHeads

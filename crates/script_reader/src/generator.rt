@@ -1,3 +1,5 @@
+mod laws;
+
 ghost use Rattle.std.specs.Prelude.{◌≡◌, ℕ, ◌+◌, ◌/◌, ◌%◌, ◌^◌, ◌<◌, ◌≤◌, [], ◌∷◌, length, MatchOption, IfSome, IsTrue, ◌↔◌};
 ghost use Rattle.script_reader.specs.Generated.{drawn, counting, time_of, is_seventh, generated_row, generated};
 ghost use Rattle.script_reader.specs.Heads.{line_with, CanHoldLine};
@@ -6,6 +8,7 @@ ghost use Rattle.script_reader.specs.Lawful.{IsLawfulLine};
 use crate::body::Body;
 use crate::head::{ArrivingHead, LineHead};
 use crate::line::Line;
+pub use laws::generated_lines_apply;
 use pump_frame::{Name, SessionRow};
 use std::marker::Model;
 

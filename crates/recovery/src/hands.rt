@@ -11,7 +11,7 @@ ghost use Rattle.recovery.specs.Deals.{numbered, Fills, InSlots, IsDealt};
 ghost use Rattle.recovery.specs.declared.why.Why.TheVariants.{Device};
 
 use crate::Why;
-use crate::pass::Takes;
+use crate::pass::Offers;
 use disk_model::Disk;
 use passage::{Forwarded, LowSide};
 use pump_frame::{Item, Payload, SessionRow};
@@ -62,11 +62,12 @@ fn read_live<D: Disk>(low: &mut LowStore<D>, n: u64, row: &SessionRow) -> Result
 }
 
 // Forwards the messages from one number to before another, which the passage has places for.
-fn fill<D: Disk, L: Takes>(
+fn fill<D: Disk, L: LowSide, O: Offers<L>>(
     low: &mut LowStore<D>,
     from: u64,
     to: u64,
     row: &SessionRow,
+    how: &O,
     ends: &mut L,
 ) -> Result<(), Why>
     requires ready { IsLowReady D.told low.old }
@@ -97,7 +98,7 @@ fn fill<D: Disk, L: Takes>(
 {
     for n in from..to {
         let item = read_live(low, n, row)?;
-        match ends.offer(item) {
+        match how.offer(item, ends) {
             Forwarded::Passed => {}
             Forwarded::Full(_) => unreachable!(),
         }
@@ -106,10 +107,11 @@ fn fill<D: Disk, L: Takes>(
 }
 
 /// Gives the messages from `removed` on to the hands and the passage.
-pub fn deal<D: Disk, L: Takes>(
+pub fn deal<D: Disk, L: LowSide, O: Offers<L>>(
     low: &mut LowStore<D>,
     removed: u64,
     row: &SessionRow,
+    how: &O,
     ends: &mut L,
 ) -> Result<Hands, Why>
     requires ready { IsLowReady D.told low.old }
@@ -145,7 +147,7 @@ pub fn deal<D: Disk, L: Takes>(
     }
     let first = read_live(low, removed, row)?;
     let last = removed + row.capacity as u64 - 1;
-    fill(low, removed + 1, next.min(last), row, ends)?;
+    fill(low, removed + 1, next.min(last), row, how, ends)?;
     if next <= last {
         return Ok(Hands {
             high: Some(first),

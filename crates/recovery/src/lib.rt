@@ -19,7 +19,7 @@ pub use law::{
     disks_tell_messages, each_triple_opens, each_world_opens, openings_refill, removed_images,
     stored_images, taken_images,
 };
-pub use pump::{NotOpened, Opened, open_pump};
+pub use pump::{NotOpened, Opened, open_pump, open_pump_waiting};
 pub use receiver::open_receiver;
 pub use why::Why;
 

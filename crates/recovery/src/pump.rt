@@ -14,10 +14,12 @@ ghost use Rattle.recovery.specs.declared.why.Why.TheVariants.{Device};
 use crate::Why;
 use crate::hands::deal;
 use crate::kept::{open_high, open_low};
+use crate::pass::{AtOnce, Offers, Waits};
 use disk_model::{Disk, Role};
-use passage::{LowEnd, LowSide};
+use passage::{LowEnd, LowSide, WaitLowEnd};
 use pump_frame::{Item, SessionRow};
 use stable_buffer::{HighStore, LowStore};
+use std::sync::Wait;
 
 /// The two stores of a pump, how many messages are accepted and removed, and what is in the hands
 /// of the two processes.
@@ -51,13 +53,12 @@ fn refused<D>(role: Role, why: Why, low: D, high: D) -> NotOpened<D>
     }
 }
 
-/// Opens the two stores of a pump, and deals out its messages: the first to the high hand, the next
-/// ones to the passage, in which nothing was forwarded yet, and where all places are full the last
-/// to the low hand. After a refusal the passage may have some of them: clear it.
-pub fn open_pump<D: Disk, L: LowEnd>(
+// Opens a pump, whose messages are offered to the end in this way.
+fn open_pump_by<D: Disk, L: LowSide, O: Offers<L>>(
     low: D,
     high: D,
     row: &SessionRow,
+    how: &O,
     ends: &mut L,
 ) -> Result<Opened<D>, NotOpened<D>>
     requires lawful { IsLawfulRow row.now }
@@ -110,7 +111,7 @@ pub fn open_pump<D: Disk, L: LowEnd>(
         };
         return Err(refused(Role::High, why, low.into_disk(), high.into_disk()));
     }
-    match deal(&mut low, removed, row, ends) {
+    match deal(&mut low, removed, row, how, ends) {
         Ok(hands) => Ok(Opened {
             low,
             high,
@@ -124,4 +125,95 @@ pub fn open_pump<D: Disk, L: LowEnd>(
             Err(refused(Role::Low, why, disks.0, disks.1))
         }
     }
+}
+
+/// Opens the two stores of a pump, and deals out its messages: the first to the high hand, the next
+/// ones to the passage, in which nothing was forwarded yet, and where all places are full the last
+/// to the low hand. After a refusal the passage may have some of them: clear it.
+pub fn open_pump<D: Disk, L: LowEnd>(
+    low: D,
+    high: D,
+    row: &SessionRow,
+    ends: &mut L,
+) -> Result<Opened<D>, NotOpened<D>>
+    requires lawful { IsLawfulRow row.now }
+    requires shape { (L.shape ends.old).places ≡ row.now.capacity - 2 }
+    requires fresh { (l : Low) × (h : High) × L.stands ends.old l h × (l.forwarded ≡ []) }
+
+    ensures ready_low { IfOk result (λ o. IsLowReady D.told o.low) }
+    ensures ready_high { IfOk result (λ o. IsHighReady D.told o.high) }
+    ensures row { IfOk result (λ o. low_row o.low ≡ row.now) }
+    ensures counts { IfOk result (λ o. (low_count o.low ≡ o.next) × (high_count o.high ≡ o.removed)) }
+    ensures dealt { IfOk result (λ o. (messages : List (List ℕ))
+        × (D.told.tells → LowStands row.now o.next o.removed messages (D.told.reading low))
+        × IsDealt row.now o.removed o.next messages o.high_hand o.low_hand
+        (L.stands ends.old) (L.stands ends.new)) }
+    ensures hands { IfOk result (λ o.
+        HandsFit row.now.capacity o.removed o.next o.high_hand o.low_hand) }
+    ensures removed { IfOk result (λ o. D.told.tells
+        → HighStands row.now o.removed (D.told.reading high)) }
+
+    // The first refusal in the order, and nothing else but a device.
+    ensures fine { OnOk result (D.told.tells
+        → refused_pump row.now (D.told.reading low) (D.told.reading high) ≡ None) }
+    ensures exact { IfErr result (λ e. is_device e.why ≡ false → D.told.tells
+        → refused_pump row.now (D.told.reading low) (D.told.reading high) ≡ Some (e.role, e.why)) }
+    ensures device_low { IfErr result (λ e. is_device e.why ≡ true → e.role ≡ LowRole
+        → e.why ≡ Device (D.told.count e.low)) }
+    ensures device_high { IfErr result (λ e. is_device e.why ≡ true → e.role ≡ HighRole
+        → e.why ≡ Device (D.told.count e.high)) }
+    ensures role { IfErr result (λ e. (e.role ≡ LowRole) ⊎ (e.role ≡ HighRole)) }
+    ensures calls_low { Calls D.told low (low_left result) (low_failed result) }
+    ensures calls_high { CallsHigh D.told row.now low high (high_left result) (high_failed result) }
+
+    ensures moves_low { Moves D.told Same low (low_left result) }
+    ensures moves_high { Moves D.told Same high (high_left result) }
+    ensures ends { (L.shape ends.new ≡ L.shape ends.old) × (L.place ends.new ≡ L.place ends.old) }
+{
+    open_pump_by(low, high, row, &AtOnce, ends)
+}
+
+/// As `open_pump`, over an end whose calls may wait for the other thread.
+pub fn open_pump_waiting<D: Disk, L: WaitLowEnd, R: Wait>(
+    rt: &R,
+    low: D,
+    high: D,
+    row: &SessionRow,
+    ends: &mut L,
+) -> Result<Opened<D>, NotOpened<D>>
+    requires lawful { IsLawfulRow row.now }
+    requires shape { (L.shape ends.old).places ≡ row.now.capacity - 2 }
+    requires fresh { (l : Low) × (h : High) × L.stands ends.old l h × (l.forwarded ≡ []) }
+
+    ensures ready_low { IfOk result (λ o. IsLowReady D.told o.low) }
+    ensures ready_high { IfOk result (λ o. IsHighReady D.told o.high) }
+    ensures row { IfOk result (λ o. low_row o.low ≡ row.now) }
+    ensures counts { IfOk result (λ o. (low_count o.low ≡ o.next) × (high_count o.high ≡ o.removed)) }
+    ensures dealt { IfOk result (λ o. (messages : List (List ℕ))
+        × (D.told.tells → LowStands row.now o.next o.removed messages (D.told.reading low))
+        × IsDealt row.now o.removed o.next messages o.high_hand o.low_hand
+        (L.stands ends.old) (L.stands ends.new)) }
+    ensures hands { IfOk result (λ o.
+        HandsFit row.now.capacity o.removed o.next o.high_hand o.low_hand) }
+    ensures removed { IfOk result (λ o. D.told.tells
+        → HighStands row.now o.removed (D.told.reading high)) }
+
+    // The first refusal in the order, and nothing else but a device.
+    ensures fine { OnOk result (D.told.tells
+        → refused_pump row.now (D.told.reading low) (D.told.reading high) ≡ None) }
+    ensures exact { IfErr result (λ e. is_device e.why ≡ false → D.told.tells
+        → refused_pump row.now (D.told.reading low) (D.told.reading high) ≡ Some (e.role, e.why)) }
+    ensures device_low { IfErr result (λ e. is_device e.why ≡ true → e.role ≡ LowRole
+        → e.why ≡ Device (D.told.count e.low)) }
+    ensures device_high { IfErr result (λ e. is_device e.why ≡ true → e.role ≡ HighRole
+        → e.why ≡ Device (D.told.count e.high)) }
+    ensures role { IfErr result (λ e. (e.role ≡ LowRole) ⊎ (e.role ≡ HighRole)) }
+    ensures calls_low { Calls D.told low (low_left result) (low_failed result) }
+    ensures calls_high { CallsHigh D.told row.now low high (high_left result) (high_failed result) }
+
+    ensures moves_low { Moves D.told Same low (low_left result) }
+    ensures moves_high { Moves D.told Same high (high_left result) }
+    ensures ends { (L.shape ends.new ≡ L.shape ends.old) × (L.place ends.new ≡ L.place ends.old) }
+{
+    open_pump_by(low, high, row, &Waits { rt }, ends)
 }

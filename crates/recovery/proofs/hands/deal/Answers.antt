@@ -8,7 +8,7 @@ use Rattle.recovery.specs.Refusals.{bad_slot}
 use Rattle.recovery.specs.Deals.{InSlots}
 use Rattle.pump_frame.specs.Rows.{IsLawfulRow}
 use Rattle.recovery.proofs.Rows.{row_capacity}
-use Rattle.recovery.proofs.Dealing.{some_dealt, all_dealt}
+use Rattle.recovery.proofs.Dealing.{none_dealt, some_dealt, all_dealt}
 use Rattle.recovery.proofs.hands.deal.Goals as goal
 
 pub returns-in_err-fill-clause-exact : goal.returns-in_err-fill-clause-exact
@@ -120,3 +120,10 @@ pub returns-clause-moves : goal.returns-clause-moves
 returns-clause-moves g c =
     let m = g.D.Disk.told in
     goes_on_same m Same _ _ _ (goes_on_same m Same _ _ _ c.read_live.ensures.moves c.fill.ensures.moves) c.read_live-2.ensures.moves
+
+pub returns-then-removed-next-clause-dealt : goal.returns-then-removed-next-clause-dealt
+returns-then-removed-next-clause-dealt g c =
+    let m = g.D.Disk.told in
+    let low = c.args.low.now in
+    let stands = g.L.LowSide.stands c.args.ends.now in
+    none_dealt c.args.row.now c.args.removed low.register.first m.tells (m.reading low.register.disk) stands stands (c.if-removed-next.true ∙ c.accepted-next.ensures) (λ l h stood. stood)

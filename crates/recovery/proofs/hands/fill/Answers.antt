@@ -80,7 +80,7 @@ loop-n-preserved g c =
       fills = λ l h stood empty.
           let past : Low = record l { forwarded = numbered from ms } in
           let passed = c.in-Passed.ensures.step past h (i.fills l h stood empty) (subst (λ k. ComesNext (numbered from ms) k) at (comes_all from ms)) in
-          subst (λ (z : List Item). g.L.LowSide.stands c.offer.new.self (record l { forwarded = z }) h) same passed.1;
+          subst (λ (z : List Item). g.L.LowSide.stands c.offer.new.ends (record l { forwarded = z }) h) same passed.1;
       same = (c.offer.ensures.shape ∙ i.same.0, c.offer.ensures.place ∙ i.same.1);
       rest = λ told k le.
           let j = from + k - n in

@@ -6,7 +6,7 @@ use Rattle.recovery.specs.Deals.{InSlots}
 use Rattle.recovery.proofs.Calls.{gone_on, stopped}
 use Rattle.recovery.proofs.Refill.{hands_fit}
 use Rattle.recovery.proofs.Rows.{row_capacity}
-use Rattle.recovery.proofs.pump.open_pump.Goals as goal
+use Rattle.recovery.proofs.pump.open_pump_by.Goals as goal
 
 pub returns-in-Err-clause-calls_high : goal.returns-in-Err-clause-calls_high
 returns-in-Err-clause-calls_high g c =

@@ -6,10 +6,11 @@ ghost use Rattle.high_process.specs.Ready.{Ready};
 
 use crate::{HighFault, HighLook, HighProcess};
 use disk_model::{Disk, MemDisk, PlainDisk, Role};
-use passage::{Forwarded, LowEnd, PlainEnds};
+use passage::{Calm, Forwarded, LowEnd, PlainEnds};
 use pump_frame::{Frame, Item, Kind, Name, Payload, SessionRow};
 use stable_buffer::{HighStore, Register, format};
 use std::alloc::Global;
+use std::sync::Wait;
 use std::test::Fail;
 
 // Session 1: a message is sent again after half a second.
@@ -74,7 +75,7 @@ fn frame(kind: Kind, number: u64) -> Option<Frame> {
 struct Bench<D> {
     process: HighProcess,
     store: HighStore<D>,
-    ends: PlainEnds,
+    ends: Calm<PlainEnds>,
 }
 
 // A process that found this count, with the next message in its hand or without, and one message in
@@ -86,7 +87,7 @@ fn set_up<D: Disk + Drop>(
     is_full: bool,
 ) -> Result<Bench<D>, Fail>
     requires empty { D.told.tells → D.told.reading disk ≡ [] }
-    ensures { IfOk result (λ b. Ready D.told b.process b.store (EndsStandFor b.ends)) }
+    ensures { IfOk result (λ b. Ready D.told b.process b.store (EndsStandFor b.ends.0)) }
 {
     if count > 1000 {
         return Err(Fail::new("no count"));
@@ -107,7 +108,7 @@ fn set_up<D: Disk + Drop>(
         Forwarded::Passed => Ok(Bench {
             process: HighProcess::open(&row, count, hand),
             store,
-            ends,
+            ends: Calm(ends),
         }),
         Forwarded::Full(_) => Err(Fail::new("no room")),
     }
@@ -116,16 +117,39 @@ fn set_up<D: Disk + Drop>(
 impl<D: Disk + Drop> Bench<D> {
     // A look, at a moment that is not below the last.
     fn look(&mut self, moment: u64, frame: Option<&Frame>) -> Option<Result<HighLook, HighFault>>
-        requires { Ready D.told self.old.process self.old.store (EndsStandFor self.old.ends) }
+        requires { Ready D.told self.old.process self.old.store (EndsStandFor self.old.ends.0) }
         ensures { IfSome result (λ look. OnOk look
-            (Ready D.told self.new.process self.new.store (EndsStandFor self.new.ends))) }
+            (Ready D.told self.new.process self.new.store (EndsStandFor self.new.ends.0))) }
     {
         if moment < self.process.last() || moment > 1 << 62 {
             return None;
         }
         match self
             .process
-            .look(moment, frame, &mut self.store, &mut self.ends)
+            .look(moment, frame, &mut self.store, &mut self.ends.0)
+        {
+            Ok(look) => Some(Ok(look)),
+            Err(fault) => Some(Err(fault)),
+        }
+    }
+
+    // As `look`, of an end that may wait.
+    fn look_waiting<R: Wait>(
+        &mut self,
+        rt: &R,
+        moment: u64,
+        frame: Option<&Frame>,
+    ) -> Option<Result<HighLook, HighFault>>
+        requires { Ready D.told self.old.process self.old.store (EndsStandFor self.old.ends.0) }
+        ensures { IfSome result (λ look. OnOk look
+            (Ready D.told self.new.process self.new.store (EndsStandFor self.new.ends.0))) }
+    {
+        if moment < self.process.last() || moment > 1 << 62 {
+            return None;
+        }
+        match self
+            .process
+            .look_waiting(rt, moment, frame, &mut self.store, &mut self.ends)
         {
             Ok(look) => Some(Ok(look)),
             Err(fault) => Some(Err(fault)),
@@ -199,7 +223,7 @@ fn a_message_is_sent_until_it_is_taken(rt: HostRuntime) -> Result<(), Fail> {
             None,
         ),
     ] {
-        let Some(Ok(look)) = bench.look(moment, frame.as_ref()) else {
+        let Some(Ok(look)) = bench.look_waiting(&rt, moment, frame.as_ref()) else {
             return Err(Fail::new("no look"));
         };
         let wanted = HighLook {

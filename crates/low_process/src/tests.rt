@@ -6,11 +6,12 @@ ghost use Rattle.low_process.specs.Ready.{Ready};
 
 use crate::{Arrival, LookHead, LowLook, LowProcess};
 use disk_model::{Disk, MemDisk, PlainDisk, Role};
-use passage::PlainEnds;
+use passage::{Calm, PlainEnds};
 use pump_core::{Feedback, Refusal, Reply, Seen};
 use pump_frame::{Frame, Kind, Name, Payload, SessionRow};
 use stable_buffer::{LowStore, Register, format};
 use std::alloc::Global;
+use std::sync::Wait;
 use std::test::Fail;
 
 // Session 1: capacity 3, message size 8, window 2, start 20000, longest delay 100000.
@@ -58,14 +59,14 @@ fn new_store<D: Disk + Drop>(mut disk: D, row: &SessionRow, count: u64) -> Optio
 struct Bench<D> {
     process: LowProcess,
     store: LowStore<D>,
-    ends: PlainEnds,
+    ends: Calm<PlainEnds>,
 }
 
 // A process that found this count.
 fn set_up<D: Disk + Drop>(alloc: Global, disk: D, count: u64) -> Result<Bench<D>, Fail>
     requires empty { D.told.tells → D.told.reading disk ≡ [] }
     requires count { count ≤ 2 ^ 48 }
-    ensures { IfOk result (λ b. Ready D.told b.process b.store (EndsStandFor b.ends)) }
+    ensures { IfOk result (λ b. Ready D.told b.process b.store (EndsStandFor b.ends.0)) }
 {
     let Some(row) = row() else {
         return Err(Fail::new("no row"));
@@ -73,7 +74,7 @@ fn set_up<D: Disk + Drop>(alloc: Global, disk: D, count: u64) -> Result<Bench<D>
     let Some(store) = new_store(disk, &row, count) else {
         return Err(Fail::new("no store"));
     };
-    let ends = PlainEnds::new(alloc, &row)?;
+    let ends = Calm(PlainEnds::new(alloc, &row)?);
     Ok(Bench {
         process: LowProcess::open(&row, count, None),
         store,
@@ -84,8 +85,8 @@ fn set_up<D: Disk + Drop>(alloc: Global, disk: D, count: u64) -> Result<Bench<D>
 impl<D: Disk + Drop> Bench<D> {
     // A look, at a moment that is not below the last.
     fn look(&mut self, moment: u64, word: u32, frame: Option<&Frame>) -> Option<LowLook>
-        requires { Ready D.told self.old.process self.old.store (EndsStandFor self.old.ends) }
-        ensures { Ready D.told self.new.process self.new.store (EndsStandFor self.new.ends) }
+        requires { Ready D.told self.old.process self.old.store (EndsStandFor self.old.ends.0) }
+        ensures { Ready D.told self.new.process self.new.store (EndsStandFor self.new.ends.0) }
     {
         if moment < self.process.last() || moment > 1 << 62 {
             return None;
@@ -101,14 +102,43 @@ impl<D: Disk + Drop> Bench<D> {
         };
         Some(
             self.process
-                .look(moment, word, arrival, &mut self.store, &mut self.ends),
+                .look(moment, word, arrival, &mut self.store, &mut self.ends.0),
+        )
+    }
+
+    // As `look`, of an end that may wait.
+    fn look_waiting<R: Wait>(
+        &mut self,
+        rt: &R,
+        moment: u64,
+        word: u32,
+        frame: Option<&Frame>,
+    ) -> Option<LowLook>
+        requires { Ready D.told self.old.process self.old.store (EndsStandFor self.old.ends.0) }
+        ensures { Ready D.told self.new.process self.new.store (EndsStandFor self.new.ends.0) }
+    {
+        if moment < self.process.last() || moment > 1 << 62 {
+            return None;
+        }
+        let arrival = match frame {
+            None => Arrival::Nothing,
+            Some(frame) => {
+                if frame.number >= 1 << 48 {
+                    return None;
+                }
+                Arrival::Frame(frame)
+            }
+        };
+        Some(
+            self.process
+                .look_waiting(rt, moment, word, arrival, &mut self.store, &mut self.ends),
         )
     }
 
     // As `look`, into a head that may hold another look.
     fn look_into(&mut self, moment: u64, frame: Option<&Frame>, head: &mut LookHead) -> bool
-        requires { Ready D.told self.old.process self.old.store (EndsStandFor self.old.ends) }
-        ensures { Ready D.told self.new.process self.new.store (EndsStandFor self.new.ends) }
+        requires { Ready D.told self.old.process self.old.store (EndsStandFor self.old.ends.0) }
+        ensures { Ready D.told self.new.process self.new.store (EndsStandFor self.new.ends.0) }
     {
         if moment < self.process.last() || moment > 1 << 62 {
             return false;
@@ -122,15 +152,14 @@ impl<D: Disk + Drop> Bench<D> {
                 Arrival::Frame(frame)
             }
         };
-        self.process
-            .look_into(moment, 0, arrival, &mut self.store, &mut self.ends, head);
+        self.process.look_into(moment, 0, arrival, &mut self.store, &mut self.ends.0, head);
         true
     }
 
     // The reply to the HELLO of the row's two parties.
     fn greet(&mut self, moment: u64) -> Option<(Kind, u64)>
-        requires { Ready D.told self.old.process self.old.store (EndsStandFor self.old.ends) }
-        ensures { Ready D.told self.new.process self.new.store (EndsStandFor self.new.ends) }
+        requires { Ready D.told self.old.process self.old.store (EndsStandFor self.old.ends.0) }
+        ensures { Ready D.told self.new.process self.new.store (EndsStandFor self.new.ends.0) }
     {
         let low = Name::from_slice(b"weather")?;
         let high = Name::from_slice(b"watch")?;
@@ -192,7 +221,7 @@ fn a_message_is_stored_passed_and_acknowledged(rt: HostRuntime) -> Result<(), Fa
             Some(number) => data(number),
             None => None,
         };
-        let Some(look) = bench.look(moment, word, frame.as_ref()) else {
+        let Some(look) = bench.look_waiting(&rt, moment, word, frame.as_ref()) else {
             return Err(Fail::new("no look"));
         };
         assert_eq!(rt; look.stored, stored, "at {moment}");

@@ -1,9 +1,9 @@
 ghost use Rattle.std.specs.Prelude.{◌≡◌, IfSome};
 ghost use Rattle.pump_frame.specs.Rows.{IsLawfulRow};
 
-use crate::{Why, agree, open_pump, open_receiver};
+use crate::{Why, agree, open_pump, open_pump_waiting, open_receiver};
 use disk_model::{Disk, PlainDisk, Role};
-use passage::PlainEnds;
+use passage::{Calm, PlainEnds};
 use pump_frame::{Item, Name, SessionRow};
 use std::alloc::Global;
 use std::test::Fail;
@@ -176,9 +176,9 @@ fn full_disks_are_dealt_out_and_agree(rt: HostRuntime) -> Result<(), Fail> {
     let Some(row) = row() else {
         return Err(Fail::new("no row"));
     };
-    let mut ends = PlainEnds::new(rt.alloc(), &row)?;
+    let mut ends = Calm(PlainEnds::new(rt.alloc(), &row)?);
     let disks = (disk(rt.alloc(), &low(3))?, disk(rt.alloc(), &high(0))?);
-    let Ok(mut opened) = open_pump(disks.0, disks.1, &row, &mut ends) else {
+    let Ok(mut opened) = open_pump_waiting(&rt, disks.0, disks.1, &row, &mut ends) else {
         return Err(Fail::new("not opened"));
     };
     assert_eq!(rt; (opened.next, opened.removed), (3, 0));
@@ -186,7 +186,7 @@ fn full_disks_are_dealt_out_and_agree(rt: HostRuntime) -> Result<(), Fail> {
         (number(&opened.high_hand), number(&opened.low_hand)),
         (Some(0), Some(2))
     );
-    assert_eq!(rt; ends.held(), 1);
+    assert_eq!(rt; ends.0.held(), 1);
     let Ok(mut taker) = open_receiver(disk(rt.alloc(), &receiver())?, &row, 86) else {
         return Err(Fail::new("no receiver"));
     };

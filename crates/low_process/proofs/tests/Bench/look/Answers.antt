@@ -9,5 +9,5 @@ pub returns : goal.returns
 returns g c =
     let was = c.requires in
     let e = c.look.ensures in
-    let some = stands_for_some (shape_of c.args.self.now.ends) true (StandsFitting (StandsFor c.look.new.ends) c.look.new.self) was.l was.h (hand_of c.args.self.now.process) c.look.result.feedback (e.ends was.l was.h was.fitting) in
+    let some = stands_for_some (shape_of c.args.self.now.ends.0) true (StandsFitting (StandsFor c.look.new.ends) c.look.new.self) was.l was.h (hand_of c.args.self.now.process) c.look.result.feedback (e.ends was.l was.h was.fitting) in
     record { between = e.looks.1.looks.asking; of = e.store; l = some.0; h = some.1.0; fitting = some.1.1 }

@@ -1,5 +1,6 @@
 pub mod Compared
 pub mod Ending
+pub mod Exercised
 pub mod Finished
 pub mod Gathered
 pub mod Going
@@ -12,4 +13,5 @@ pub mod Shelving
 pub mod SoFar
 pub mod Stopping
 pub mod Stops
+pub mod Tallies
 pub mod Turns

@@ -27,7 +27,7 @@ use Rattle.two_worlds.specs.Pumps.{row_of, StandsFor, is_down, disk_at, Applies}
 use Rattle.two_worlds.specs.Rooms.{HasRoom, IsFree, Serves, stops_at, DisksGo}
 use Rattle.netpump.specs.declared.exercise.Tally.{Tally}
 use Rattle.netpump.specs.Exercises.{LeadEach, in_all, IsSummary, summary_of}
-use Rattle.netpump.specs.Exercising.{Counts, IsWithin, HasCounted, HasApplied, IsReady, IsUnderWay, CanGo, CanGoOn, LeadsPump, HasRun, tally_line}
+use Rattle.netpump.specs.Exercising.{Counts, IsAtMost, HasCounted, HasApplied, CannotFail, IsUnderWay, CanGo, CanGoOn, LeadsPump, HasRun, tally_line}
 use Rattle.netpump.proofs.Going.{leads_from}
 use Rattle.netpump.proofs.Tallies.{counted_more, script_length}
 
@@ -92,7 +92,7 @@ begins seed count tally few e = subst (λ t. HasApplied seed count (first_past g
 })
 
 -- the numbers stay small
-pub small : (seed count : ℕ) (p : Past) (tally : Tally) (left : List Line) → count ≤ 100000 → HasApplied seed count p tally left → IsWithin (2 ^ 60) tally
+pub small : (seed count : ℕ) (p : Past) (tally : Tally) (left : List Line) → count ≤ 100000 → HasApplied seed count p tally left → IsAtMost (2 ^ 60) tally
 small seed count p tally left few h =
     let all = ap length h.script in
     let parts = length-append h.lines left in
@@ -149,7 +149,7 @@ stays_free size old new b free (inl same) = subst (IsFree plain_meaning size) (s
 stays_free size old new b free (inr answers) = record { unarmed = answers.disarmed tt; room = omega (arith, answers.room tt, free.room) }
 
 -- no disk fails, no line is refused, and no message overfills the receiver's disk
-pub never_stops : {g : Ghosts Plain} (s t : Pump Plain g) (line : Line) (p : Past) (printed : List Event) (stop : Stop) → IsReady s → CanGo p line
+pub never_stops : {g : Ghosts Plain} (s t : Pump Plain g) (line : Line) (p : Past) (printed : List Event) (stop : Stop) → CannotFail s → CanGo p line
     → Applies plain_meaning s t line p printed (Some stop)
     → DisksGo plain_meaning (row_of s) (disk_at roles.Low s) (disk_at roles.High s) (disk_at roles.Recv s) (disk_at roles.Low t) (disk_at roles.High t) (disk_at roles.Recv t) (Some stop) → ⊥
 never_stops s t line p printed stops.Line ready can (refused, none, same) go =
@@ -168,6 +168,6 @@ never_stops s t line p printed (stops.Full end length size) ready can (timely, (
     can.fits q printed end length size (subst (λ r. Overfills r p line q printed end length size) ready.1 over)
 never_stops s t line p printed (stops.Disk role why) ready can h go = absurd h
 
-pub leads_pump : {g : Ghosts Plain} (s t : Pump Plain g) (line : Line) (p : Past) (printed : List Event) → IsReady s → Applies plain_meaning s t line p printed None → LeadsPump p line printed t
+pub leads_pump : {g : Ghosts Plain} (s t : Pump Plain g) (line : Line) (p : Past) (printed : List Event) → CannotFail s → Applies plain_meaning s t line p printed None → LeadsPump p line printed t
 leads_pump s t line p printed ready (timely, (q, step, stands, fit, run)) =
     (q, subst (λ r. LineStep r p line q printed) ready.1 step, stands)

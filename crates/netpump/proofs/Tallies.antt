@@ -13,11 +13,11 @@ use Rattle.script_reader.specs.declared.event.Event.{Event}
 use Rattle.script_reader.specs.declared.event.Event.TheVariants.{Full, Passed, Low, Removed}
 use Rattle.script_reader.specs.declared.line.Line.{Line}
 use Rattle.script_reader.specs.declared.line.Line.TheVariants.{Look}
-use Rattle.script_reader.specs.Generated.{Mark, timed, is_seventh, takings, message_lines, after_message, messages_from, generated, first_mark, early_lines, due_at, late_count, begun, word_at, empty_look}
+use Rattle.script_reader.specs.Generated.{Mark, timed, is_seventh, takings, message_lines, after_message, messages_from, generated, first_mark, early_lines, due_at, late_count, after_draws, message_word, empty_look}
 use Rattle.two_worlds.specs.Printing.{lines_in}
 use Rattle.netpump.specs.declared.exercise.Tally.{Tally}
 use Rattle.netpump.specs.Exercises.{in_all, look_word, look_count, ack_kind_count, ack_count, full_count, removal_count, delay_in, delays_in}
-use Rattle.netpump.specs.Exercising.{Adds, Counts, IsWithin, HasCounted}
+use Rattle.netpump.specs.Exercising.{AddsEvents, Counts, IsAtMost, HasCounted}
 
 -- ---- how much an event counts ----
 
@@ -49,7 +49,7 @@ sum_most : (f : Event → ℕ) (k : ℕ) → ((e : Event) → f e ≤ k) → (ev
 sum_most f k most [] = omega arith
 sum_most f k most (e ∷ events) = omega (arith, sum_by-cons f e events, most e, sum_most f k most events)
 
-pub adds_within : (old new : Tally) (word : ℕ) (events : List Event) (n : ℕ) → Adds old new word events → length events ≤ 4 → IsWithin n old → IsWithin (n + 400000) new
+pub adds_within : (old new : Tally) (word : ℕ) (events : List Event) (n : ℕ) → AddsEvents old new word events → length events ≤ 4 → IsAtMost n old → IsAtMost (n + 400000) new
 adds_within old new word events n a few within = record {
   looks = omega (arith, a.looks, within.looks);
   acks = omega (arith, a.acks, within.acks, sum_most ack_count 1 ack_most events, few);
@@ -58,7 +58,7 @@ adds_within old new word events n a few within = record {
   delay = omega (arith, a.delay, within.delay, sum_most (delay_in word) 100000 (delay_most word) events, few);
 }
 
-pub within_more : (tally : Tally) (n k : ℕ) → n ≤ k → IsWithin n tally → IsWithin k tally
+pub within_more : (tally : Tally) (n k : ℕ) → n ≤ k → IsAtMost n tally → IsAtMost k tally
 within_more tally n k le w = record {
   looks = omega (arith, w.looks, le);
   acks = omega (arith, w.acks, le);
@@ -69,10 +69,10 @@ within_more tally n k le w = record {
 
 -- ---- the events of a line ----
 
-pub adds_none : (tally : Tally) (word : ℕ) → Adds tally tally word []
+pub adds_none : (tally : Tally) (word : ℕ) → AddsEvents tally tally word []
 adds_none tally word = record { looks = refl; acks = omega arith; full = omega arith; removed = omega arith; delay = omega arith }
 
-adds_both : (old mid new : Tally) (word : ℕ) (events : List Event) (e : Event) → Adds old mid word events → Adds mid new word (e ∷ []) → Adds old new word (events ++ e ∷ [])
+adds_both : (old mid new : Tally) (word : ℕ) (events : List Event) (e : Event) → AddsEvents old mid word events → AddsEvents mid new word (e ∷ []) → AddsEvents old new word (events ++ e ∷ [])
 adds_both old mid new word events e a b = record {
   looks = b.looks ∙ a.looks;
   acks = omega (arith, a.acks, b.acks, sum_by-append ack_count events (e ∷ []));
@@ -82,11 +82,11 @@ adds_both old mid new word events e a b = record {
 }
 
 pub adds_more : (old mid new : Tally) (word : ℕ) (heads : List EventHead) (i : ℕ) (d : EventHead) → i < length heads
-    → Adds old mid word (lines_in (take i heads)) → Adds mid new word (event_of (get_or heads i d) ∷ []) → Adds old new word (lines_in (take (i + 1) heads))
+    → AddsEvents old mid word (lines_in (take i heads)) → AddsEvents mid new word (event_of (get_or heads i d) ∷ []) → AddsEvents old new word (lines_in (take (i + 1) heads))
 adds_more old mid new word heads i d below a b =
     let e : lines_in (take (i + 1) heads) ≡ lines_in (take i heads) ++ event_of (get_or heads i d) ∷ [] =
     ap lines_in (take_more heads i d below) ∙ map-append event_of (take i heads) (get_or heads i d ∷ []) in
-    subst (Adds old new word) (sym e) (adds_both old mid new word (lines_in (take i heads)) (event_of (get_or heads i d)) a b)
+    subst (AddsEvents old new word) (sym e) (adds_both old mid new word (lines_in (take i heads)) (event_of (get_or heads i d)) a b)
 
 -- ---- the lines so far ----
 
@@ -140,9 +140,9 @@ late_most false = omega arith
 message_length : (number : ℕ) (at : Mark) → length (message_lines number at) ≤ 11
 message_length number at =
     let late = takings (late_count number) (due_at number at) in
-    let early = early_lines number (word_at at) (begun at) in
-    let few = early_length (is_seventh number) (takings 1 (begun at) ++ empty_look (timed (begun at)).moment (word_at at) ∷ []) (omega arith) in
-    omega (arith, few, length-append early (empty_look (due_at number at).moment (word_at at) ∷ late), takings_length (late_count number) (due_at number at), late_most (is_seventh number))
+    let early = early_lines number (message_word at) (after_draws at) in
+    let few = early_length (is_seventh number) (takings 1 (after_draws at) ++ empty_look (timed (after_draws at)).moment (message_word at) ∷ []) (omega arith) in
+    omega (arith, few, length-append early (empty_look (due_at number at).moment (message_word at) ∷ late), takings_length (late_count number) (due_at number at), late_most (is_seventh number))
 
 pub script_length : (n number : ℕ) (at : Mark) → length (messages_from n number at) ≤ 11 * n
 script_length zero number at = omega arith

@@ -19,7 +19,7 @@ use Rattle.netpump.specs.declared.exercise.Tally.{Tally}
 use Rattle.netpump.specs.Exercises.{LeadEach, in_all, look_word, look_count, ack_count, full_count, removal_count, delay_in, delays_in}
 
 -- the tally after a line's events: they add what they count
-pub record Adds (old new : Tally) (word : ℕ) (events : List Event) : Type 0 where
+pub record AddsEvents (old new : Tally) (word : ℕ) (events : List Event) : Type 0 where
   pub looks : new.looks ≡ old.looks
   pub acks : new.acks ≡ old.acks + sum_by ack_count events
   pub full : new.full ≡ old.full + sum_by full_count events
@@ -36,7 +36,7 @@ pub record Counts (old new : Tally) (line : Line) (events : List Event) : Type 0
   pub few : length events ≤ 4
 
 -- no number of the tally is greater than this
-pub record IsWithin (most : ℕ) (tally : Tally) : Type 0 where
+pub record IsAtMost (most : ℕ) (tally : Tally) : Type 0 where
   pub looks : tally.looks ≤ most
   pub acks : tally.acks ≤ most
   pub full : tally.full ≤ most
@@ -50,7 +50,7 @@ pub record HasCounted (tally : Tally) (lines : List Line) (printed : List (List 
   pub full : tally.full ≡ sum_by full_count (in_all printed)
   pub removed : tally.removed ≡ sum_by removal_count (in_all printed)
   pub delay : tally.delay ≡ delays_in lines printed
-  pub within : IsWithin (400000 * length lines) tally
+  pub within : IsAtMost (400000 * length lines) tally
 
 -- the lines so far led to this past, and each of those that are left can be applied
 pub record HasApplied (seed count : ℕ) (past : Past) (tally : Tally) (left : List Line) : Type 0 where
@@ -62,12 +62,12 @@ pub record HasApplied (seed count : ℕ) (past : Past) (tally : Tally) (left : L
   pub counted : HasCounted tally lines printed
 
 -- the pump is the generated row's, and no call of its disks can fail
-abbrev pub IsReady : {g : _} → Pump Plain g → Type 0
-IsReady pump = (is_down pump ≡ false) × (row_of pump ≡ generated_row)
+abbrev pub CannotFail : {g : _} → Pump Plain g → Type 0
+CannotFail pump = (is_down pump ≡ false) × (row_of pump ≡ generated_row)
     × HasRoom plain_meaning generated_row (disk_at roles.Low pump) (disk_at roles.High pump) (disk_at roles.Recv pump)
 
 abbrev pub IsUnderWay : {g : _} → ℕ → ℕ → Pump Plain g → Tally → List Line → Type 0
-IsUnderWay seed count pump tally left = IsReady pump × ((past : Past) × StandsFor plain_meaning pump past × HasApplied seed count past tally left)
+IsUnderWay seed count pump tally left = CannotFail pump × ((past : Past) × StandsFor plain_meaning pump past × HasApplied seed count past tally left)
 
 -- the line can be applied, and its message does not overfill the receiver's disk
 pub record CanGo (past : Past) (line : Line) : Type 0 where

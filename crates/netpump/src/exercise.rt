@@ -16,7 +16,7 @@ ghost use Rattle.script_reader.specs.Past.{Past};
 ghost use Rattle.two_worlds.specs.Printing.{lines_in};
 ghost use Rattle.two_worlds.specs.Pumps.{StandsFor};
 ghost use Rattle.netpump.specs.Exercises.{look_word, look_count, IsSummary};
-ghost use Rattle.netpump.specs.Exercising.{Adds, Counts, IsWithin, IsReady, CanGoOn, LeadsPump, HasRun, tally_line};
+ghost use Rattle.netpump.specs.Exercising.{AddsEvents, Counts, IsAtMost, CannotFail, CanGoOn, LeadsPump, HasRun, tally_line};
 
 use crate::replay::Ended;
 use arrayvec::ArrayVec;
@@ -91,8 +91,8 @@ impl Tally {
 
     /// An event that a line with this word prints.
     fn event(&mut self, word: u32, event: &EventHead)
-        requires { IsWithin (2 ^ 62) self.old }
-        ensures { Adds self.old self.new word (event_of event.now ∷ []) }
+        requires { IsAtMost (2 ^ 62) self.old }
+        ensures { AddsEvents self.old self.new word (event_of event.now ∷ []) }
     {
         match event {
             EventHead::Low {
@@ -113,8 +113,8 @@ impl Tally {
     /// The events that a line with this word prints.
     fn events(&mut self, word: u32, events: &[EventHead])
         requires few { length events.now ≤ 4 }
-        requires small { IsWithin (2 ^ 61) self.old }
-        ensures { Adds self.old self.new word (lines_in events.now) }
+        requires small { IsAtMost (2 ^ 61) self.old }
+        ensures { AddsEvents self.old self.new word (lines_in events.now) }
     {
         'each: for event in events {
             self.event(word, event);
@@ -124,7 +124,7 @@ impl Tally {
     /// A line, and what it prints.
     fn line(&mut self, line: &LineHead, events: &[EventHead])
         requires few { length events.now ≤ 4 }
-        requires small { IsWithin (2 ^ 60) self.old }
+        requires small { IsAtMost (2 ^ 60) self.old }
         ensures { (bytes : List ℕ) → Counts self.old self.new (line_with bytes line.now) (lines_in events.now) }
     {
         self.events(word_of(line), events);
@@ -155,7 +155,7 @@ const RECEIVER_ROOM: u64 = 16_777_216;
 fn open(alloc: Global, row: &SessionRow) -> Result<Pump<PlainDisk>, OutOfMemory>
     requires { row.now ≡ generated_row }
     ensures stands { IfOk result (λ pump. StandsFor plain_meaning pump (first_past generated_row nothing_found)) }
-    ensures ready { IfOk result (λ pump. IsReady pump) }
+    ensures ready { IfOk result (λ pump. CannotFail pump) }
 {
     let low = PlainDisk::new(alloc, LOW_ROOM)?;
     let high = PlainDisk::new(alloc, LOW_ROOM)?;
@@ -176,9 +176,9 @@ fn apply(
 )
     requires lawful { IsLawfulLine (line_with bytes.now line.now) }
     requires room { CanHoldLine line.now bytes.now }
-    requires ready { IsReady pump.old }
+    requires ready { CannotFail pump.old }
     requires can { CanGoOn pump.old (line_with bytes.now line.now) }
-    ensures ready { IsReady pump.new }
+    ensures ready { CannotFail pump.new }
     ensures leads { (past : Past) → StandsFor plain_meaning pump.old past → LeadsPump past (line_with bytes.now line.now) (lines_in events.new.items) pump.new }
 {
     match pump.apply_head(line, bytes, events) {

@@ -1,6 +1,7 @@
 pub mod Broken
 pub mod Compared
 pub mod Ending
+pub mod Exercised
 pub mod Finished
 pub mod Gathered
 pub mod Going
@@ -14,4 +15,5 @@ pub mod Shelving
 pub mod SoFar
 pub mod Stopping
 pub mod Stops
+pub mod Tallies
 pub mod Turns

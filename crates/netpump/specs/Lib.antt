@@ -1,3 +1,5 @@
+pub mod Exercises
+pub mod Exercising
 pub mod Files
 pub mod Lending
 pub mod Outputs

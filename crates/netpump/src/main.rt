@@ -3,6 +3,7 @@
 
 mod batch;
 mod disks;
+mod exercise;
 mod explain;
 mod file_disk;
 mod file_shelf;

@@ -14,8 +14,8 @@ use Rattle.script_reader.specs.declared.line.Arriving.TheVariants.{Nothing, Hell
 use Rattle.script_reader.specs.declared.line.Line.{Line}
 use Rattle.script_reader.specs.declared.line.Line.TheVariants as lines
 use Rattle.script_reader.specs.Applying.{AllApply}
-use Rattle.script_reader.specs.Generated.{Mark, drawn, time_of, payload_of, later as later_mark, timed, timed_by, takings, empty_look, word_at, begun, messages_from, message_lines, after_message, is_seventh, generated_row, generated, first_mark}
-use Rattle.script_reader.specs.Generating.{latest}
+use Rattle.script_reader.specs.Generated.{Mark, drawn, taking_time, payload_of, later as later_mark, timed, timed_by, takings, empty_look, message_word, after_draws, messages_from, message_lines, after_message, is_seventh, generated_row, generated, first_mark}
+use Rattle.script_reader.specs.Generating.{moment_bound}
 use Rattle.script_reader.specs.Lows.{first_of, IsLook}
 use Rattle.script_reader.specs.Openings.{nothing_found, first_past}
 use Rattle.script_reader.specs.Past.{Past}
@@ -126,7 +126,7 @@ done_applies p low k r m t s later h one few end next =
 
 -- ---- times ----
 
-time_below : (x : ℕ) → time_of (drawn x) < 4096
+time_below : (x : ℕ) → taking_time (drawn x) < 4096
 time_below x = omega arith
 
 timed_moment : (n : ℕ) (at : Mark) → (timed_by n at).moment ≤ at.moment + n * 4096
@@ -140,7 +140,7 @@ takings_apply zero at p k r rest h some few end next =
     let e : r ≡ r + 0 = omega arith in
     next p (subst (λ x. Stands p [] None k x at.moment (idle k)) e h)
 takings_apply (suc n) at p k r rest h some few end next =
-    let time = time_of (drawn at.draw) in
+    let time = taking_time (drawn at.draw) in
     let below = time_below at.draw in
     done_applies p None k r at.moment time (idle k) (takings n (timed at) ++ rest) h (omega (arith, some)) few (omega (arith, end, below))
     (λ q s.
@@ -205,30 +205,30 @@ pub record Between (p : Past) (number removed : ℕ) (at : Mark) : Type 0 where
   pub stands : Stands p [] None number removed at.moment (idle number)
   pub high : p.world.high_hand ≡ None
   pub removed_are : removed + number % 7 ≡ number
-  pub moment : at.moment ≤ latest number
+  pub moment : at.moment ≤ moment_bound number
 
 -- a message's lines, by whether it is a seventh
 abbrev lines_by : Bool → ℕ → Mark → List Line
 lines_by seventh number at =
-    let word = word_at at in
-    let due = later_mark 100000 (if seventh then timed (begun at) else begun at) in
-    lines.Look 1 at.moment word (Data number (payload_of number (begun at).draw))
+    let word = message_word at in
+    let due = later_mark 100000 (if seventh then timed (after_draws at) else after_draws at) in
+    lines.Look 1 at.moment word (Data number (payload_of number (after_draws at).draw))
     ∷ empty_look at.moment word
-    ∷ ((if seventh then takings 1 (begun at) ++ empty_look (timed (begun at)).moment word ∷ [] else [])
+    ∷ ((if seventh then takings 1 (after_draws at) ++ empty_look (timed (after_draws at)).moment word ∷ [] else [])
     ++ empty_look due.moment word ∷ takings (if seventh then 6 else 0) due)
 
 abbrev after_by : Bool → Mark → Mark
-after_by seventh at = later_mark 1000 (timed_by (if seventh then 6 else 0) (later_mark 100000 (if seventh then timed (begun at) else begun at)))
+after_by seventh at = later_mark 1000 (timed_by (if seventh then 6 else 0) (later_mark 100000 (if seventh then timed (after_draws at) else after_draws at)))
 
 message_applies : (seventh : Bool) (number removed : ℕ) (at : Mark) (p : Past) (rest : List Line) → (number % 7 == 6) ≡ seventh → number < 100000 → Between p number removed at
     → ((q : Past) (r : ℕ) → Between q (number + 1) r (after_by seventh at) → AllApply generated_row q rest)
     → AllApply generated_row p (lines_by seventh number at ++ rest)
 message_applies false k r at p rest e few h next =
     let other : k % 7 ≡ 6 → ⊥ = eqb-false (k % 7) 6 e in
-    let word = word_at at in
+    let word = message_word at in
     let acks : List Line = empty_look (at.moment + 100000) word ∷ rest in
     let passes : List Line = empty_look at.moment word ∷ acks in
-    offer_applies p k r at.moment word (begun at).draw passes h.stands few (λ q s high.
+    offer_applies p k r at.moment word (after_draws at).draw passes h.stands few (λ q s high.
     pass_applies q k r at.moment word acks s (omega (arith, other, h.removed_are)) (λ q2 due le s2 high2.
     ack_applies q2 k r at.moment (at.moment + 100000) word due rest s2 le (omega arith) (λ q3 s3 high3.
     next q3 r (record {
@@ -240,8 +240,8 @@ message_applies false k r at p rest e few h next =
 message_applies true k r at p rest e few h next =
     let seventh : k % 7 ≡ 6 = eqb-true (k % 7) 6 e in
     let six : k ≡ r + 6 = omega (arith, seventh, h.removed_are) in
-    let word = word_at at in
-    let first = begun at in
+    let word = message_word at in
+    let first = after_draws at in
     let then_at = timed first in
     let due_mark = later_mark 100000 then_at in
     let below = time_below first.draw in
@@ -249,11 +249,11 @@ message_applies true k r at p rest e few h next =
     let takes : List Line = takings 6 due_mark ++ rest in
     let acks : List Line = empty_look due_mark.moment word ∷ takes in
     let passes : List Line = empty_look then_at.moment word ∷ acks in
-    let dones : List Line = lines.Done 1 at.moment (time_of (drawn first.draw)) ∷ passes in
+    let dones : List Line = lines.Done 1 at.moment (taking_time (drawn first.draw)) ∷ passes in
     let fulls : List Line = empty_look at.moment word ∷ dones in
     offer_applies p k r at.moment word first.draw fulls h.stands few (λ q s high.
     full_applies q k r at.moment word dones s six (high ∙ h.high) (λ q2 s2.
-    done_applies q2 (Some k) (k + 1) r at.moment (time_of (drawn first.draw)) (passing k) passes s2 (omega (arith, six)) (omega (arith, few)) (omega (arith, h.moment, few, below)) (λ q3 s3.
+    done_applies q2 (Some k) (k + 1) r at.moment (taking_time (drawn first.draw)) (passing k) passes s2 (omega (arith, six)) (omega (arith, few)) (omega (arith, h.moment, few, below)) (λ q3 s3.
     pass_applies q3 k (r + 1) then_at.moment word acks s3 (omega (arith, six)) (λ q4 due le s4 high4.
     ack_applies q4 k (r + 1) then_at.moment due_mark.moment word due takes s4 le (omega arith) (λ q5 s5 high5.
     takings_apply 6 due_mark q5 (k + 1) (r + 1) rest s5 (omega (arith, six)) (omega (arith, few)) (omega (arith, h.moment, few, below)) (λ q6 s6.

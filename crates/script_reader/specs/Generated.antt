@@ -12,8 +12,8 @@ abbrev pub drawn : ℕ → ℕ
 drawn x = (x * 1664525 + 1013904223) % 2 ^ 32
 
 -- the time that a receiver takes, of a draw's highest 12 bits: below 4096 microseconds
-abbrev pub time_of : ℕ → ℕ
-time_of draw = draw / 2 ^ 20
+abbrev pub taking_time : ℕ → ℕ
+taking_time draw = draw / 2 ^ 20
 
 -- so many bytes that count up from this number
 abbrev pub counting : ℕ → ℕ → List ℕ
@@ -36,7 +36,7 @@ later time at = record { draw = at.draw; moment = at.moment + time }
 
 -- a time is drawn, and passes
 abbrev pub timed : Mark → Mark
-timed at = record { draw = drawn at.draw; moment = at.moment + time_of (drawn at.draw) }
+timed at = record { draw = drawn at.draw; moment = at.moment + taking_time (drawn at.draw) }
 
 -- so many times one after another
 abbrev pub timed_by : ℕ → Mark → Mark
@@ -46,7 +46,7 @@ timed_by (suc n) at = timed_by n (timed at)
 -- the receiver takes so many messages, each after a time that is drawn
 abbrev pub takings : ℕ → Mark → List Line
 takings zero at = []
-takings (suc n) at = Done 1 at.moment (time_of (drawn at.draw)) ∷ takings n (timed at)
+takings (suc n) at = Done 1 at.moment (taking_time (drawn at.draw)) ∷ takings n (timed at)
 
 -- a look to which nothing comes
 abbrev pub empty_look : ℕ → ℕ → Line
@@ -67,22 +67,22 @@ abbrev pub late_count : ℕ → ℕ
 late_count number = if is_seventh number then 6 else 0
 
 -- the word of a message's looks is the next draw, and its payload is of the one after that
-abbrev pub word_at : Mark → ℕ
-word_at at = drawn at.draw
+abbrev pub message_word : Mark → ℕ
+message_word at = drawn at.draw
 
-abbrev pub begun : Mark → Mark
-begun at = record { draw = drawn (word_at at); moment = at.moment }
+abbrev pub after_draws : Mark → Mark
+after_draws at = record { draw = drawn (message_word at); moment = at.moment }
 
 -- 100000 microseconds after it was passed on its acknowledgement is due
 abbrev pub due_at : ℕ → Mark → Mark
-due_at number at = later 100000 (early number (begun at))
+due_at number at = later 100000 (early number (after_draws at))
 
 abbrev pub message_lines : ℕ → Mark → List Line
 message_lines number at =
-    Look 1 at.moment (word_at at) (Data number (payload_of number (begun at).draw))
-    ∷ empty_look at.moment (word_at at)
-    ∷ (early_lines number (word_at at) (begun at)
-    ++ empty_look (due_at number at).moment (word_at at) ∷ takings (late_count number) (due_at number at))
+    Look 1 at.moment (message_word at) (Data number (payload_of number (after_draws at).draw))
+    ∷ empty_look at.moment (message_word at)
+    ∷ (early_lines number (message_word at) (after_draws at)
+    ++ empty_look (due_at number at).moment (message_word at) ∷ takings (late_count number) (due_at number at))
 
 -- where the next message begins
 abbrev pub after_message : ℕ → Mark → Mark

@@ -33,18 +33,18 @@ left_at Acknowledge count number word at = acknowledge_on count number word at
 left_at (Takings n) count number word at = takings_on count number n at
 
 -- a message's first moment is at most this
-abbrev pub latest : ℕ → ℕ
-latest number = 1000 + 130000 * number
+abbrev pub moment_bound : ℕ → ℕ
+moment_bound number = 1000 + 130000 * number
 
 abbrev pub Reaches : Turn → ℕ → ℕ → Mark → Type 0
 Reaches Session count number at = (number ≡ 0) × (at.moment ≡ 1000)
 Reaches Hello count number at = (number ≡ 0) × (at.moment ≡ 1000)
-Reaches Offer count number at = (number ≤ count) × (at.moment ≤ latest number)
-Reaches Pass count number at = (number < count) × (at.moment ≤ latest number)
-Reaches Take count number at = (number < count) × (at.moment ≤ latest number)
-Reaches Taken count number at = (number < count) × (at.moment ≤ latest number + 4096)
-Reaches Acknowledge count number at = (number < count) × (at.moment ≤ latest number + 4096)
-Reaches (Takings n) count number at = (number < count) × (0 < n) × (n ≤ 6) × (at.moment + n * 4096 ≤ latest number + 128672)
+Reaches Offer count number at = (number ≤ count) × (at.moment ≤ moment_bound number)
+Reaches Pass count number at = (number < count) × (at.moment ≤ moment_bound number)
+Reaches Take count number at = (number < count) × (at.moment ≤ moment_bound number)
+Reaches Taken count number at = (number < count) × (at.moment ≤ moment_bound number + 4096)
+Reaches Acknowledge count number at = (number < count) × (at.moment ≤ moment_bound number + 4096)
+Reaches (Takings n) count number at = (number < count) × (0 < n) × (n ≤ 6) × (at.moment + n * 4096 ≤ moment_bound number + 128672)
 
 abbrev pub mark_of : Progress → Mark
 mark_of p = record { draw = p.draw; moment = p.moment }

@@ -1,7 +1,7 @@
 mod laws;
 
 ghost use Rattle.std.specs.Prelude.{◌≡◌, ℕ, ◌+◌, ◌/◌, ◌%◌, ◌^◌, ◌<◌, ◌≤◌, [], ◌∷◌, length, MatchOption, IfSome, IsTrue, ◌↔◌};
-ghost use Rattle.script_reader.specs.Generated.{drawn, counting, time_of, is_seventh, generated_row, generated};
+ghost use Rattle.script_reader.specs.Generated.{drawn, counting, taking_time, is_seventh, generated_row, generated};
 ghost use Rattle.script_reader.specs.Heads.{line_with, CanHoldLine};
 ghost use Rattle.script_reader.specs.Lawful.{IsLawfulLine};
 
@@ -125,8 +125,8 @@ impl Progress {
     /// The receiver takes a message, after a time that is drawn and passes.
     fn done(&mut self) -> LineHead
         requires { self.old.moment ≤ 2 ^ 62 }
-        ensures line { result ≡ LineHead.Done 1 self.old.moment (time_of (drawn self.old.draw)) }
-        ensures after { self.new ≡ record self.old { draw = drawn self.old.draw; moment = self.old.moment + time_of (drawn self.old.draw) } }
+        ensures line { result ≡ LineHead.Done 1 self.old.moment (taking_time (drawn self.old.draw)) }
+        ensures after { self.new ≡ record self.old { draw = drawn self.old.draw; moment = self.old.moment + taking_time (drawn self.old.draw) } }
     {
         let moment = self.moment;
         self.draw = next_draw(self.draw);

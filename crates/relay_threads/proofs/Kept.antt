@@ -10,7 +10,7 @@ use Rattle.pump_core.specs.Step.{after, reply_at, takes_at, is_full}
 use Rattle.pump_core.specs.Standing.{State, StandsAt, last_moment, end_of}
 use Rattle.pump_core.proofs.Cuts.{one_cut}
 use Rattle.pump_core.proofs.Standings.{stands_after, replies_after, newest_after}
-use Rattle.relay_threads.specs.Records.{Made, looks_made, replies_made, life_made, history_made, IsMade, AreMade, passes_on, was_full, is_recorded, recorded, made_of, kept}
+use Rattle.relay_threads.specs.Records.{Made, looks_made, replies_made, life_made, history_made, IsMade, AreMade, passes_on, was_full, is_recorded, recorded, made_of, record_of}
 use Rattle.relay_threads.proofs.Machine.{Led, led, reply_led, stays}
 
 module _ (row : SessionRow) (o : Opening) where
@@ -21,10 +21,10 @@ module _ (row : SessionRow) (o : Opening) where
     pub whole : StandsAt row (end_of row o parts) (last_moment (looks_made made)) (history_made o made)
     pub replies : LowReplies row (history_made o made) (replies_made made)
     pub last : ℕ
-    pub thin : StandsAt row (end_of row o parts) last (history_made o (kept made))
+    pub thin : StandsAt row (end_of row o parts) last (history_made o (record_of made))
     pub le : last ≤ last_moment (looks_made made)
-    pub thin_replies : LowReplies row (history_made o (kept made)) (replies_made (kept made))
-    pub are_made : AreMade row o (kept made)
+    pub thin_replies : LowReplies row (history_made o (record_of made)) (replies_made (record_of made))
+    pub are_made : AreMade row o (record_of made)
 
   begin : StandsAt row (end_of row o []) 0 (first_life o)
   begin = record { earlier = tt; parts = []; cut = record { are_parts = tt; looks = refl }; state = refl; newest = refl; ordered = tt }
@@ -58,7 +58,7 @@ module _ (row : SessionRow) (o : Opening) where
     whole_now = subst (λ (z : State). StandsAt row z x.moment (history_made o (m ∷ before))) (sym step.state) (stands_after row s (last_moment (looks_made before)) (history_made o before) x step.fits t.whole is.order)
 
     abbrev fewer : List Made
-    fewer = kept before
+    fewer = record_of before
 
     thin_now : StandsAt row (after row s x) x.moment (history_made o (m ∷ fewer))
     thin_now = stands_after row s t.last (history_made o fewer) x step.fits t.thin (le_trans t.le is.order)
@@ -128,22 +128,22 @@ silent : (x : Look) (rs : List Sent) (r : Option Frame) → is_some r ≡ false 
 silent x rs None e = append-nil rs
 silent x rs (Some f) e = absurd (cc)
 
-recorded_at : (m : Made) (before : List Made) (b : Bool) → is_recorded before m ≡ b → kept (m ∷ before) ≡ made_of (if b then record { number = length before; made = m } ∷ recorded before else recorded before)
+recorded_at : (m : Made) (before : List Made) (b : Bool) → is_recorded before m ≡ b → record_of (m ∷ before) ≡ made_of (if b then record { number = length before; made = m } ∷ recorded before else recorded before)
 recorded_at m before b e = ap (λ (b : Bool). made_of (if b then record { number = length before; made = m } ∷ recorded before else recorded before)) e
 
-same_at : (m : Made) (before : List Made) (b : Bool) → is_recorded before m ≡ b → replies_made (kept before) ≡ replies_made before → replies_made (kept (m ∷ before)) ≡ replies_made before ++ sent m.look m.reply
+same_at : (m : Made) (before : List Made) (b : Bool) → is_recorded before m ≡ b → replies_made (record_of before) ≡ replies_made before → replies_made (record_of (m ∷ before)) ≡ replies_made before ++ sent m.look m.reply
 same_at m before true e same = ap replies_made (recorded_at m before true e) ∙ ap (λ (rs : List Sent). rs ++ sent m.look m.reply) same
 same_at m before false e same =
     ap replies_made (recorded_at m before false e) ∙ same
     ∙ sym (silent m.look (replies_made before) m.reply (second_false m.taken (is_some m.reply) (passes_on m.look.feedback || (is_full m.look.feedback && not (was_full before))) e))
 
 -- the recorded looks have all the replies
-pub same_replies : (made : List Made) → replies_made (kept made) ≡ replies_made made
+pub same_replies : (made : List Made) → replies_made (record_of made) ≡ replies_made made
 same_replies [] = refl
 same_replies (m ∷ before) = same_at m before (is_recorded before m) refl (same_replies before)
 
 -- they end where all looks end
-pub same_end : (row : SessionRow) (o : Opening) (made : List Made) (parts parts' : List Part) → AreMade row o made → IsCut row (life_made o made) parts → IsCut row (life_made o (kept made)) parts' → end_of row o parts' ≡ end_of row o parts
+pub same_end : (row : SessionRow) (o : Opening) (made : List Made) (parts parts' : List Part) → AreMade row o made → IsCut row (life_made o made) parts → IsCut row (life_made o (record_of made)) parts' → end_of row o parts' ≡ end_of row o parts
 same_end row o made parts parts' are c c' =
     let t = thin_of row o made are in
-    ap (end_of row o) (one_cut row (life_made o (kept made)) parts' t.thin.parts c' t.thin.cut) ∙ sym t.thin.state ∙ ap (end_of row o) (one_cut row (life_made o made) t.parts parts t.cut c)
+    ap (end_of row o) (one_cut row (life_made o (record_of made)) parts' t.thin.parts c' t.thin.cut) ∙ sym t.thin.state ∙ ap (end_of row o) (one_cut row (life_made o made) t.parts parts t.cut c)

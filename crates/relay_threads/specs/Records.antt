@@ -77,5 +77,5 @@ made_of [] = []
 made_of (s ∷ before) = s.made ∷ made_of before
 
 -- the looks that are recorded
-abbrev pub kept : List Made → List Made
-kept made = made_of (recorded made)
+abbrev pub record_of : List Made → List Made
+record_of made = made_of (recorded made)

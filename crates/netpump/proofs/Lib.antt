@@ -7,6 +7,8 @@ pub mod Going
 pub mod Headline
 pub mod Kept
 pub mod Left
+pub mod Listed
+pub mod Numbered
 pub mod OneStatus
 pub mod OneWord
 pub mod Opened
@@ -15,3 +17,4 @@ pub mod SoFar
 pub mod Stopping
 pub mod Stops
 pub mod Turns
+pub mod Widened

@@ -10,7 +10,7 @@ use Rattle.script_reader.specs.declared.fault.Fault.{Fault}
 use Rattle.script_reader.specs.declared.fault.Fault.TheVariants.{Read, Full}
 use Rattle.script_reader.proofs.Beside.{alone_transcript}
 use Rattle.netpump.specs.Shelves.{Places, IsKept, AreKept, AcknowledgedOutlive, ReceiverHasFront, shelved}
-use Rattle.netpump.specs.Replays.{Replayed, IsFinished, AreAlone, IsUnread, IsFaulted, IsStopped, IsOverfilled, Wrote, CameTo, HasOutlived, IsReceived, fault_after}
+use Rattle.netpump.specs.Replays.{Replayed, IsFinished, StandAlone, IsUnread, IsFaulted, IsStopped, IsOverfilled, Wrote, IsLeftWith, HasOutlived, IsReceived, fault_after}
 
 kept_outlives : (before after : Places) (number : ℕ) (o : Openings) (running : Option Begun) (printed : List Event) → IsKept before after number o running printed → AcknowledgedOutlive after running printed
 kept_outlives before after number o (Some (Whole s)) printed k = (k.prefix.received, k.prefix.recv_is, k.outlives)
@@ -22,7 +22,7 @@ kept_front before after number o (Some (Whole s)) printed k = (k.prefix.received
 kept_front before after number o (Some (Alone s)) printed k = tt
 kept_front before after number o None printed k = tt
 
-module _ (before after : Places) {all : Option (List ℕ)} (r : Replayed all) (t : Sessions) (came : CameTo r t) (printed : List Event) (kept : AreKept before after r.openings t.begun printed) where
+module _ (before after : Places) {all : Option (List ℕ)} (r : Replayed all) (t : Sessions) (came : IsLeftWith r t) (printed : List Event) (kept : AreKept before after r.openings t.begun printed) where
   outlives : (last output : List ℕ) → output ≡ text printed ++ last → HasOutlived after r output
   outlives last output is = (t, came, printed, last, is, λ number. kept_outlives before after number r.openings (session_at number t.begun) (events_of number printed) (kept number))
 
@@ -30,7 +30,7 @@ module _ (before after : Places) {all : Option (List ℕ)} (r : Replayed all) (t
   front output = (t, came, λ number. kept_front before after number r.openings (session_at number t.begun) (events_of number printed) (kept number))
 
 -- the next line stopped the script
-stopped : {all : Option (List ℕ)} (before after : Places) (left : Option (List ℕ)) (fault : Fault) (r : Replayed all) (output : List ℕ) (end : IsStopped (shelved before after) left fault r output) → CameTo r end.next.after
+stopped : {all : Option (List ℕ)} (before after : Places) (left : Option (List ℕ)) (fault : Fault) (r : Replayed all) (output : List ℕ) (end : IsStopped (shelved before after) left fault r output) → IsLeftWith r end.next.after
 stopped before after left fault r output end = inr (fault, end.next, refl)
 
 module _ (before after : Places) (all old new : Option (List ℕ)) where
@@ -41,7 +41,7 @@ module _ (before after : Places) (all old new : Option (List ℕ)) where
   pub finished_front : Wrote all old new (IsFinished (shelved before after)) → Wrote all old new (IsReceived after)
   finished_front (r, output, end, appends) = (r, output, front before after r r.sessions (inl refl) end.printed end.disks output, appends)
 
-  pub finished_alone : Wrote all old new (IsFinished (shelved before after)) → Wrote all old new AreAlone
+  pub finished_alone : Wrote all old new (IsFinished (shelved before after)) → Wrote all old new StandAlone
   finished_alone (r, output, end, appends) = (r, output, (end.printed, end.output_is, alone_transcript r.openings r.lines end.printed end.transcript), appends)
 
   module _ (left : Option (List ℕ)) where

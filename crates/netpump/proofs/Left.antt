@@ -88,8 +88,8 @@ pub record LeftSoFar {D : Type 0} {g : Ghosts D} (told : Type 0) (d : Meaning D)
   pub failed : (number : ℕ) → found_at number rest ≡ None → HasFailed d mid (found_at number all) → IsAloneOr (found_at number all) (Rose first last)
   pub later : first ≤ last
 
-left_same : (mid now then : Places) (number other : ℕ) → (number ≡ other → ⊥) → LeavesOtherSessions now then other → LeavesSession mid now number → LeavesSession mid then number
-left_same mid now then number other apart returned h role = returned (disk_name number role) apart ∙ h role
+left_same : (mid now gone : Places) (number other : ℕ) → (number ≡ other → ⊥) → LeavesOtherSessions now gone other → LeavesSession mid now number → LeavesSession mid gone number
+left_same mid now gone number other apart returned h role = returned (disk_name number role) apart ∙ h role
 
 module _ {D : Type 0} {g : Ghosts D} (told : Type 0) (d : Meaning D) (mid : Places) (first : ℕ) (all : List (Session D g)) where
   pub none_left : Rise all → LeftSoFar told d mid mid first first all all
@@ -104,42 +104,42 @@ module _ {D : Type 0} {g : Ghosts D} (told : Type 0) (d : Meaning D) (mid : Plac
       still number None = λ role. refl
       still number (Some s) = (refl, λ role. refl)
 
-  module _ (now then : Places) (last end : ℕ) (rest : List (Session D g)) (s : Session D g) (h : LeftSoFar told d mid now first last all (rest ++ s ∷ [])) where
+  module _ (now gone : Places) (last end : ℕ) (rest : List (Session D g)) (s : Session D g) (h : LeftSoFar told d mid now first last all (rest ++ s ∷ [])) where
     its_own : (found_at (id_of s) all ≡ Some s) × LeavesSession mid now (id_of s)
     its_own = subst (λ (x : Option (Session D g)). StillOr told d mid now (id_of s) (found_at (id_of s) all) x) (found_last rest s h.rise) (h.each (id_of s))
 
     out_one : (x : Session D g) → LeavesSession mid now (id_of x) → AreOut mid (Some x) → AreOut now (Some x)
-    out_one (sessions.Whole id p) same out role = subst IsOut (sym (same role)) (out role)
+    out_one (sessions.Whole id p) same out = λ role. subst IsOut (sym (same role)) (out role)
     out_one (sessions.Alone id p) same out = tt
 
     pub is_out_now : AllAreOut mid all → AreOut now (Some s)
     is_out_now out = out_one s its_own.1 (subst (λ (x : Option (Session D g)). AreOut mid x) its_own.0 (out (id_of s)))
 
-    module _ (returned : LeavesOtherSessions now then (id_of s)) (left : LeftAs told d now then (id_of s) (Some s)) (rises : HasFailed d now (Some s) → IsAloneOr (Some s) (Rose last end)) (more : last ≤ end) where
-      own_left : (x : Session D g) → LeavesSession mid now (id_of x) → LeftAs told d now then (id_of x) (Some x) → LeftAs told d mid then (id_of x) (Some x)
+    module _ (returned : LeavesOtherSessions now gone (id_of s)) (left : LeftAs told d now gone (id_of s) (Some s)) (rises : HasFailed d now (Some s) → IsAloneOr (Some s) (Rose last end)) (more : last ≤ end) where
+      own_left : (x : Session D g) → LeavesSession mid now (id_of x) → LeftAs told d now gone (id_of x) (Some x) → LeftAs told d mid gone (id_of x) (Some x)
       own_left (sessions.Whole id p) same h = h
       own_left (sessions.Alone id p) same h = λ role. h role ∙ same role
 
-      other_left : (number : ℕ) (x : Option (Session D g)) → ((y : Session D g) → x ≡ Some y → id_of y ≡ number) → (number ≡ id_of s → ⊥) → LeftAs told d mid now number x → LeftAs told d mid then number x
-      other_left number None of apart h = left_same mid now then number (id_of s) apart returned h
-      other_left number (Some (sessions.Alone id p)) of apart h = left_same mid now then number (id_of s) apart returned h
+      other_left : (number : ℕ) (x : Option (Session D g)) → ((y : Session D g) → x ≡ Some y → id_of y ≡ number) → (number ≡ id_of s → ⊥) → LeftAs told d mid now number x → LeftAs told d mid gone number x
+      other_left number None of apart h = left_same mid now gone number (id_of s) apart returned h
+      other_left number (Some (sessions.Alone id p)) of apart h = left_same mid now gone number (id_of s) apart returned h
       other_left number (Some (sessions.Whole id p)) of apart h =
-          let same : (role : Role) → then (disk_name id role) ≡ now (disk_name id role) = λ role. returned (disk_name id role) (λ e. apart (sym (of (sessions.Whole id p) refl) ∙ e)) in (
+          let same : (role : Role) → gone (disk_name id role) ≡ now (disk_name id role) = λ role. returned (disk_name id role) (λ e. apart (sym (of (sessions.Whole id p) refl) ∙ e)) in (
             λ t role out. h.0 t role (subst IsOut (same role) out),
             λ t tells q stands. rw (ap reading_in (same roles.Low), ap reading_in (same roles.High), ap reading_in (same roles.Recv)) (h.1 t tells q stands),
           )
 
-      other_still : (number : ℕ) (x y : Option (Session D g)) → ((z : Session D g) → x ≡ Some z → id_of z ≡ number) → (number ≡ id_of s → ⊥) → StillOr told d mid now number x y → StillOr told d mid then number x y
-      other_still number x (Some y) of apart h = (h.0, left_same mid now then number (id_of s) apart returned h.1)
+      other_still : (number : ℕ) (x y : Option (Session D g)) → ((z : Session D g) → x ≡ Some z → id_of z ≡ number) → (number ≡ id_of s → ⊥) → StillOr told d mid now number x y → StillOr told d mid gone number x y
+      other_still number x (Some y) of apart h = (h.0, left_same mid now gone number (id_of s) apart returned h.1)
       other_still number x None of apart h = other_left number x of apart h
 
-      each_left : (number : ℕ) → StillOr told d mid then number (found_at number all) (found_at number rest)
-      each_left number = elim (number == id_of s) as (λ b. (number == id_of s) ≡ b → StillOr told d mid then number (found_at number all) (found_at number rest)) [
+      each_left : (number : ℕ) → StillOr told d mid gone number (found_at number all) (found_at number rest)
+      each_left number = elim (number == id_of s) as (λ b. (number == id_of s) ≡ b → StillOr told d mid gone number (found_at number all) (found_at number rest)) [
         | true ↦ λ e.
             let is = sym (eqb-true number (id_of s) e) in
-            subst (λ (n : ℕ). StillOr told d mid then n (found_at n all) (found_at n rest)) is
-            (subst (λ (x : Option (Session D g)). StillOr told d mid then (id_of s) (found_at (id_of s) all) x) (sym (last_alone rest s h.rise))
-            (subst (λ (x : Option (Session D g)). LeftAs told d mid then (id_of s) x) (sym its_own.0) (own_left s its_own.1 left)))
+            subst (λ (n : ℕ). StillOr told d mid gone n (found_at n all) (found_at n rest)) is
+            (subst (λ (x : Option (Session D g)). StillOr told d mid gone (id_of s) (found_at (id_of s) all) x) (sym (last_alone rest s h.rise))
+            (subst (λ (x : Option (Session D g)). LeftAs told d mid gone (id_of s) x) (sym its_own.0) (own_left s its_own.1 left)))
         | false ↦ λ e.
             let apart = eqb-false number (id_of s) e in
             other_still number (found_at number all) (found_at number rest) (λ z is. found_id number all z is) apart
@@ -171,7 +171,7 @@ module _ {D : Type 0} {g : Ghosts D} (told : Type 0) (d : Meaning D) (mid : Plac
             rose_on (found_at number all) (h.failed number (without_last number rest s apart ∙ none) failed)
       ] refl
 
-      pub one_left : LeftSoFar told d mid then first end all rest
+      pub one_left : LeftSoFar told d mid gone first end all rest
       one_left = record { rise = rise_without rest s h.rise; each = each_left; failed = failed_left; later = let low = h.later in omega (arith, low, more) }
 
   -- and none is left out
@@ -182,7 +182,7 @@ module _ {D : Type 0} {g : Ghosts D} (told : Type 0) (d : Meaning D) (mid : Plac
     λ number failed. h.failed number (ap (λ (l : List (Session D g)). found_at number l) none) failed,
   )
 
--- ---- what is read then ----
+-- ---- what is read gone ----
 
 kept_none : (b : Bool) (p : Option Payload) (ps : List Payload) → p ≡ None → with_kept b p ps ≡ ps
 kept_none false p ps e = refl

@@ -12,6 +12,7 @@ pub mod Numbered
 pub mod OneStatus
 pub mod OneWord
 pub mod Opened
+pub mod Quiet
 pub mod Shelving
 pub mod SoFar
 pub mod Stopping

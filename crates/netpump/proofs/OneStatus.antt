@@ -8,7 +8,7 @@ use Rattle.script_reader.specs.declared.fault.Fault.{Fault}
 use Rattle.script_reader.specs.declared.fault.Fault.TheVariants.{Script, Device, Full}
 use Rattle.script_reader.specs.Faults.{IsScriptFaulty}
 use Rattle.script_reader.specs.Openings.{Openings}
-use Rattle.script_reader.specs.Sessions.{Sessions, ScriptRefuses, ScriptStops}
+use Rattle.script_reader.specs.Sessions.{Sessions, no_sessions, ScriptRefuses, ScriptStops}
 use Rattle.script_reader.proofs.OneWhole.{script_refused_leads, script_stops_leads, script_stops_one}
 use Rattle.netpump.specs.Replays.{IsSoFar, Replayed, IsFaultyAt, fault_after, Stopping, IsFinished, IsFaulted, IsStopped, IsOverfilled, Wrote}
 use Rattle.netpump.specs.Shelves.{Shelved}
@@ -82,7 +82,7 @@ module _ (o : Openings) (bytes : List ℕ) (end : Option Fault) (e : EndsWith o 
       → IsEnd rest (length lines) running other → end ≡ other
   ends_at lines events running rest other s few is =
       let fewer = e.few in
-      compare o bytes e.rest rest e.lines lines None e.sessions running e.events events e.so_far.spelled e.so_far.leads s.spelled s.leads
+      compare o bytes e.rest rest e.lines lines no_sessions e.sessions running e.events events e.so_far.spelled e.so_far.leads s.spelled s.leads
       (λ same after number. one_end rest (length lines) running end other
       (subst (λ (n : ℕ). IsEnd rest n running end) number (subst (λ (b : Sessions). IsEnd rest (length e.lines) b end) after (subst (λ (r : List ℕ). IsEnd r (length e.lines) e.sessions end) same e.is_end))) is)
       (λ goes less. absurd (end_goes o e.rest (length e.lines) e.sessions end e.is_end (omega (arith, less, few)) goes))

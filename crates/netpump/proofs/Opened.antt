@@ -127,9 +127,9 @@ session_readied : (before now : Places) (row : SessionRow) → Readies before no
 session_readied before now row readies role = elim (readies (disk_name row.id role)) [ inl same ↦ inl same | inr fresh ↦ inr (fresh.1, fresh.2) ]
 
 -- a disk can't be taken off the shelf
-pub untaken_goes : {D : Type 0} {g : Ghosts D} (d : Meaning D) (before now : Places) (row : SessionRow) (role : Role) → IsLawfulRow row → Spares before now
+pub untaken_goes : {D : Type 0} (g : Ghosts D) (d : Meaning D) (before now : Places) (row : SessionRow) (role : Role) → IsLawfulRow row → Spares before now
     → Begins {g = g} d before now (lines.Session row) (Err (outcomes.Stopped (faults.Device row.id role)))
-untaken_goes d before now row role lawful spares = (row, refl, lawful, inl (role, refl, session_spared before now row.id spares))
+untaken_goes g d before now row role lawful spares = (row, refl, lawful, inl (role, refl, session_spared before now row.id spares))
 
 pub returns_all : (before mid now : Places) (id : ℕ) → LeavesOtherSessions before mid id → LeavesOtherSessions mid now id → (low high recv : List ℕ) → AreOnShelf now id low high recv → AllAreBack before now
 returns_all before mid now id taken returned low high recv on = all_back before mid now id taken returned low high recv on
@@ -176,7 +176,7 @@ module _ {D : Type 0} (g : Ghosts D) (d : Meaning D) (before mid now : Places) (
     unopened_some : (why : Why) → IsLawfulRow row → e.why ≡ Some why → (b : Bool) → is_device why ≡ b
         → Begins {g = g} d before now (lines.Session row) (Err (outcomes.Stopped (fault_of row.id e.role why)))
     unopened_some why lawful is true b =
-        subst (λ (x : Fault). Begins {g = g} d before now (lines.Session row) (Err (outcomes.Stopped x))) (sym (device_fault row.id e.role why b)) (untaken_goes d before now row e.role lawful spares)
+        subst (λ (x : Fault). Begins {g = g} d before now (lines.Session row) (Err (outcomes.Stopped x))) (sym (device_fault row.id e.role why b)) (untaken_goes g d before now row e.role lawful spares)
     unopened_some why lawful is false b =
         subst (λ (x : Fault). Begins {g = g} d before now (lines.Session row) (Err (outcomes.Stopped x))) (sym (disk_fault row.id e.role why b)) (barred_goes why lawful is b)
 

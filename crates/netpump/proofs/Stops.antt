@@ -43,7 +43,7 @@ use Rattle.netpump.proofs.Kept.{each_sound, laws_at_stop}
 use Rattle.netpump.proofs.Numbered.{stands_at}
 use Rattle.netpump.proofs.SoFar.{replayed, next_line, near_next, shown, wrote, wrote_front, unshown, unprinted, stopped_text}
 use Rattle.netpump.proofs.Widened.{advance, led_there, led_beside}
-use Rattle.netpump.specs.Replays.{Replayed, IsSoFar, Stopping, BreaksOff, Beginning, IsNear, IsStopped, IsOverfilled, IsBroken, IsBarred, IsDownAt, IsOutput, IsCutOff, Wrote, WroteFront}
+use Rattle.netpump.specs.Replays.{Replayed, IsSoFar, Stopping, BreaksLine, Beginning, IsNear, IsStopped, IsOverfilled, IsBroken, IsBarred, IsDownAt, IsOutput, IsCutOff, Wrote, WroteFront}
 
 -- ---- the disks ----
 
@@ -195,7 +195,7 @@ module _ {D : Type 0} (g : Ghosts D) (d : Meaning D) (bef mid : Places) (begun :
   abbrev output_of : List Event → Fault → List ℕ
   output_of printed fault = text events ++ (text printed ++ fault_line fault)
 
-  broken_of : (printed : List Event) (b : BreaksOff t line printed) → AllHaveComeTo d begun (with_session (Whole (record { row = b.session.row; past = b.past })) t.begun) → AllLend d bef mid begun
+  broken_of : (printed : List Event) (b : BreaksLine t line printed) → AllHaveComeTo d begun (with_session (Whole (record { row = b.session.row; past = b.past })) t.begun) → AllLend d bef mid begun
       → IsBroken shelf rest b.session.row.id before_it (output_of printed (Device b.session.row.id b.role))
   broken_of printed b come lends =
       let id = b.session.row.id in
@@ -255,7 +255,7 @@ module _ {D : Type 0} (g : Ghosts D) (d : Meaning D) (bef mid : Places) (begun :
       ]
 
   -- what it prints could not be written
-  pub cut_off : (new : Option (List ℕ)) (printed : List Event) (outcome : Outcome) → TurnGoes d bef mid t line session printed outcome → AppendsFront now new (held ++ text printed) → WroteFront all old new (IsCutOff shelf rest before after)
+  pub cut_off : (new : Option (List ℕ)) (printed : List Event) (outcome : Outcome) → TurnGoes d bef mid t line begun printed outcome → AppendsFront now new (held ++ text printed) → WroteFront all old new (IsCutOff shelf rest before after)
   cut_off new printed outcomes.Applied (u, leads, stand, lends) p =
       let a = advance bef o all (to_come from left) lines events t line u printed s found leads in
       unprinted shelf a.openings all (to_come from left) (to_come to rest) rest old now new before after lines events printed t u line n.0 held a.so_far few n.1 n.2 n.3 a.leads

@@ -36,7 +36,7 @@ use Rattle.netpump.specs.Lending.{IsOutAt}
 use Rattle.netpump.specs.Shelves.{Places, disk_name, reading_in, reading_at, HasFound, IsRefusedFor, LeavesSession, LeavesOtherSessions, SparesSession, ReadiesSession, AllAreBack}
 use Rattle.netpump.specs.Sessions.{id_of, IsUp, StandsFor, StandsForRunning, CameTo, HasComeTo, IsCutShort, SessionApplies, LendsNew, Lends, GoesOnWith, FailedWith, HasFailed, found_at, with_begun, place_in, is_of_number, IsPlaced, Rise, AreInOrder, EachStandsFor, AllStandFor, AllHaveComeTo, AllLend}
 use Rattle.netpump.specs.Outputs.{Gathers}
-use Rattle.netpump.specs.Replays.{BreaksOff}
+use Rattle.netpump.specs.Replays.{BreaksLine}
 use Rattle.netpump.specs.Runners.{AreUp, AllAreUp, outcome_of, Finds, LeadsFrom, OneLeadsFrom, IsNotOpened, Begins, GoesSo, BeginsNone, TurnGoes, TurnStops, IsInStep, BeginDoes, Adds, TurnDoes, HandsOver, AllHandOver, IsDeviceOutcomeOf}
 use Rattle.netpump.proofs.Gathered.{gathers_none}
 use Rattle.netpump.proofs.Going.{leads_from}
@@ -115,6 +115,10 @@ stops_named t line number u printed fault named h = subst (λ (at : Option ℕ).
 leads_named : (before : Places) (t : Script) (line : Line) (number : ℕ) (u : Script) (printed : List Event) → session_in line ≡ Some number → OneLeadsFrom before t line (Some number) u printed → OneLeadsFrom before t line (session_in line) u printed
 leads_named before t line number u printed named h = subst (λ (at : Option ℕ). OneLeadsFrom before t line at u printed) (sym named) h
 
+none_running : {D : Type 0} (g : Ghosts D) (d : Meaning D) (running : Option Begun) → StandsForRunning {g = g} d None running → running ≡ None
+none_running g d None h = refl
+none_running g d (Some r) h = absurd h
+
 module _ {D : Type 0} {g : Ghosts D} (d : Meaning D) where
   -- the disks of one that goes on
   lends_on : (before now : Places) (number : ℕ) (s t : Session D g) → GoesOnWith d s t → Lends d before now number (Some s) → Lends d before now number (Some t)
@@ -143,10 +147,6 @@ module _ {D : Type 0} {g : Ghosts D} (d : Meaning D) where
   running_there s (Some r) h = (r, refl, h)
   running_there s None h = absurd h
 
-  none_running : (running : Option Begun) → StandsForRunning {g = g} d None running → running ≡ None
-  none_running None h = refl
-  none_running (Some r) h = absurd h
-
   -- one is put in the place of its number: of each number this holds still, where it holds of the one
   at_put : (P : ℕ → Option (Session D g) → Type 0) (t : Session D g) (xs : List (Session D g)) → P (id_of t) (Some t) → ((k : ℕ) → (k ≡ id_of t → ⊥) → P k (found_at k xs)) → (k : ℕ) → P k (found_at k (with_begun t xs))
   at_put P t xs own others k = elim (k == id_of t) as (λ b. (k == id_of t) ≡ b → P k (found_at k (with_begun t xs))) [
@@ -165,10 +165,12 @@ module _ {D : Type 0} {g : Ghosts D} (d : Meaning D) where
       (subst (λ (y : Option Begun). P (Some t) y) (sym (session_at-own (id_of t) s ys (sym same))) own)
       (λ k apart. subst (λ (y : Option Begun). P (found_at k xs) y) (sym (session_at-other k s ys (λ e. apart (sym e ∙ sym same)))) (others k))
 
-  stop_number_named : (t : Script) (line : Line) (number : ℕ) (s : Begun) (printed : List Event) (fault : Fault) → Stops (session_at number t.begun) line (Some s) printed fault → session_number s ≡ number
-  stop_number_named t line number s printed fault h = stop_number number t line s printed fault h
-
 -- ---- a line of a session that is there ----
+
+pub up_there : {D : Type 0} {g : Ghosts D} (number place : ℕ) (x : Session D g) (begun : List (Session D g)) → IsPlaced number place begun true → slice_get begun place ≡ Some x → AllAreUp begun → IsUp x
+up_there {D} {g} number place x begun placed at ups =
+    let there = found_there number begun (subst (λ (k : ℕ). is_of_number number (slice_get begun k) ≡ true) placed.0 placed.1) ∙ ap (λ (k : ℕ). slice_get begun k) (sym placed.0) ∙ at in
+    subst (λ (o : Option (Session D g)). AreUp o) there (ups number)
 
 module _ {D : Type 0} {g : Ghosts D} (d : Meaning D) (line : Line) (number place : ℕ) (named : session_in line ≡ Some number) (x : Session D g) (t : Session D g) (goes : GoesOnWith d x t) (first : Sessions D g)
     (placed : IsPlaced number place first.begun.items true) (at : slice_get first.begun.items place ≡ Some x) (rise : Rise first.begun.items) where
@@ -239,7 +241,7 @@ module _ {D : Type 0} {g : Ghosts D} (d : Meaning D) (line : Line) (number place
           inl (
             led_to script line s,
             stops_named script line number (led_to script line s) printed fault named (turn, (s, stops, refl)),
-            come_put s (stop_number_named d script line number s printed fault stops) come,
+            come_put s (stop_number number script line s printed fault stops) come,
             lends_last before now lends,
           )
 
@@ -291,7 +293,7 @@ module _ {D : Type 0} {g : Ghosts D} (d : Meaning D) (line : Line) (number place
       goes_so printed (Some stops.Line) h = refused_so printed h.0 h.1 h.2
       goes_so printed (Some (stops.Device role count)) h = cut_so r printed role refl h
       goes_so printed (Some (stops.Disk role why)) h = absurd h
-      goes_so printed (Some (stops.Full end length size)) h = stops_so printed (faults.Full (id_of t) end length size) h.0 h.1 h.2
+      goes_so printed (Some (stops.Full end n size)) h = stops_so printed (faults.Full (id_of t) end n size) h.0 h.1 h.2
 
       -- what this line leads on is kept in step
       abbrev Moves : Outcome → Type 0
@@ -299,12 +301,13 @@ module _ {D : Type 0} {g : Ghosts D} (d : Meaning D) (line : Line) (number place
 
       does_stop : (held later : List ℕ) (old new : Option (List ℕ)) (printed : List Event) (stop : Option Stop) → SessionApplies d r line t printed stop → Gathers held later old new (text printed)
           → Moves (outcome_of (id_of t) stop) → TurnDoes d before now script line last held later old new (outcome_of (id_of t) stop)
+      unfolding applied_so
       does_stop held later old new printed None (None, goes, h) w moves = absurd h
       does_stop held later old new printed None (Some s, goes, h) w moves = let m = moves refl in ((printed, applied_so printed s goes h, w), in_step s h m.0 m.1)
       does_stop held later old new printed (Some stops.Line) h w moves = (printed, goes_so printed (Some stops.Line) h, w)
       does_stop held later old new printed (Some (stops.Device role count)) h w moves = (printed, goes_so printed (Some (stops.Device role count)) h, w)
       does_stop held later old new printed (Some (stops.Disk role why)) h w moves = absurd h
-      does_stop held later old new printed (Some (stops.Full end length size)) h w moves = (printed, goes_so printed (Some (stops.Full end length size)) h, w)
+      does_stop held later old new printed (Some (stops.Full end n size)) h w moves = (printed, goes_so printed (Some (stops.Full end n size)) h, w)
 
       does_so : (held later : List ℕ) (old new : Option (List ℕ)) (outcome : Outcome) → Moves outcome → GoesSo d r line t held later old new outcome → TurnDoes d before now script line last held later old new outcome
       does_so held later old new outcome moves (printed, stop, h, inl (is, w)) =
@@ -449,7 +452,7 @@ module _ {D : Type 0} {g : Ghosts D} (d : Meaning D) (line : Line) (number place
 
     module _ (script : Script) (stand : AllStandFor d first script) (turn : is_in_turn script line ≡ true) where
       not_running : session_at number script.begun ≡ None
-      not_running = none_running d (session_at number script.begun) (subst (λ (o : Option (Session D g)). StandsForRunning d o (session_at number script.begun)) absent (stands_at d number first.begun.items script.begun stand.each))
+      not_running = none_running g d (session_at number script.begun) (subst (λ (o : Option (Session D g)). StandsForRunning d o (session_at number script.begun)) absent (stands_at d number first.begun.items script.begun stand.each))
 
       -- the disks are not opened
       stops_begin : (fault : Fault) (row : SessionRow) → line ≡ lines.Session row → IsLawfulRow row → IsNotOpened mid now row fault → BeginsNone d before now script line first.begun.items [] fault
@@ -492,8 +495,8 @@ module _ {D : Type 0} {g : Ghosts D} (d : Meaning D) (line : Line) (number place
         (subst (λ (k : ℕ). is_of_number number (slice_get first.begun.items k) ≡ false) placed.0 placed.1))
 
     new_one : (x : Session D g) → id_of x ≡ number → LendsNew d mid now x → LeavesSession before mid number → Lends d before now (id_of x) (Some x)
-    new_one (sessions.Whole id p) e h home = h.out
-    new_one (sessions.Alone id p) e h home = λ role. ap (λ (p : Places). p (disk_name id role)) h ∙ subst (λ (k : ℕ). LeavesSession before mid k) (sym e) home role
+    new_one (sessions.Whole id p) e h same = h.out
+    new_one (sessions.Alone id p) e h same = λ role. ap (λ (p : Places). p (disk_name id role)) h ∙ subst (λ (k : ℕ). LeavesSession before mid k) (sym e) same role
 
     pub lends_begun : AllLend d before mid first.begun.items → AllLend d before now last.begun.items
     lends_begun lends = subst (λ (l : List (Session D g)). AllLend d before now l) (sym put_is)

@@ -131,7 +131,7 @@ pub record Stopping (rest : Option (List ℕ)) (number : ℕ) (sessions : Sessio
 
 -- the line can be applied, and is cut short by the device of a disk of this role of its session, which has led to `past`,
 -- in which a call may be unfinished, and printed this
-pub record BreaksOff (sessions : Sessions) (line : Line) (printed : List Event) : Type 0 where
+pub record BreaksLine (sessions : Sessions) (line : Line) (printed : List Event) : Type 0 where
   pub in_turn : is_in_turn sessions line ≡ true
   pub session : Running
   pub named : session_in line ≡ Some session.row.id
@@ -148,7 +148,7 @@ pub record Breaking (rest : Option (List ℕ)) (number : ℕ) (sessions : Sessio
   pub left : Option (List ℕ)
   pub spelled : AreLines rest (line ∷ []) left
   pub printed : List Event
-  pub off : BreaksOff sessions line printed
+  pub off : BreaksLine sessions line printed
 
 -- after so many lines: the next one is in its turn to begin the session of this row, which isn't there, and has a number
 -- below 2^32
@@ -190,8 +190,8 @@ pub record IsFinished (shelf : Shelved) {all : Option (List ℕ)} (r : Replayed 
   pub disks : shelf.keeps r.openings r.sessions.begun printed
 
 -- the lines of each session are those of the script that has its lines alone
-abbrev pub AreAlone : {all : Option (List ℕ)} → Replayed all → List ℕ → Type 0
-AreAlone r output = (printed : List Event) × (output ≡ text printed)
+abbrev pub StandAlone : {all : Option (List ℕ)} → Replayed all → List ℕ → Type 0
+StandAlone r output = (printed : List Event) × (output ≡ text printed)
     × ((number : ℕ) → IsScriptTranscript r.openings (lines_of number r.lines) (events_of number printed))
 
 -- a read failed, and every whole line that was taken was replayed: the output is what they print, and the fault
@@ -296,15 +296,15 @@ WroteFront all old new End = (r : Replayed all) × (output : List ℕ) × End r 
 -- ---- the headline, by what is read of the disks at the return ----
 
 -- the lines came to these sessions, or the next one did, which stopped the script
-abbrev pub CameTo : {all : Option (List ℕ)} → Replayed all → Sessions → Type 0
-CameTo r t = (t ≡ r.sessions) ⊎ ((fault : Fault) × (next : Stopping r.rest (length r.lines) r.sessions fault) × (t ≡ next.after))
+abbrev pub IsLeftWith : {all : Option (List ℕ)} → Replayed all → Sessions → Type 0
+IsLeftWith r t = (t ≡ r.sessions) ⊎ ((fault : Fault) × (next : Stopping r.rest (length r.lines) r.sessions fault) × (t ≡ next.after))
 
 -- the output begins with these lines' text, and each message that they acknowledge is on the disks of its session
 abbrev pub HasOutlived : Places → {all : Option (List ℕ)} → Replayed all → List ℕ → Type 0
 HasOutlived after r output =
-    (t : Sessions) × CameTo r t × (printed : List Event) × (last : List ℕ) × (output ≡ text printed ++ last)
+    (t : Sessions) × IsLeftWith r t × (printed : List Event) × (last : List ℕ) × (output ≡ text printed ++ last)
     × ((number : ℕ) → AcknowledgedOutlive after (session_at number t.begun) (events_of number printed))
 
 -- the receiver of each session has a front of what the session accepted, each message once and in order
 abbrev pub IsReceived : Places → {all : Option (List ℕ)} → Replayed all → List ℕ → Type 0
-IsReceived after r output = (t : Sessions) × CameTo r t × ((number : ℕ) → ReceiverHasFront after (session_at number t.begun))
+IsReceived after r output = (t : Sessions) × IsLeftWith r t × ((number : ℕ) → ReceiverHasFront after (session_at number t.begun))

@@ -28,7 +28,7 @@ use Rattle.two_worlds.specs.Pumps as pump
 use Rattle.netpump.specs.Sessions.{id_of, IsUp, StandsFor, HasComeTo, SessionApplies, Lends, found_at, EachStandsFor, AllHaveComeTo, AllLend}
 use Rattle.netpump.specs.Shelves.{Places, disk_name, Shelved, HasFound, IsRefusedFor, LeavesSession, SparesSession, ReadiesSession, OfDisks}
 use Rattle.netpump.specs.Outputs.{Gathers}
-use Rattle.netpump.specs.Replays.{BreaksOff, IsFinished, IsUnread, IsFaulted, IsDownAt, IsBarred, IsOverfilled, IsCutOff, Wrote, WroteFront}
+use Rattle.netpump.specs.Replays.{BreaksLine, IsFinished, IsUnread, IsFaulted, IsDownAt, IsBarred, IsOverfilled, IsCutOff, Wrote, WroteFront}
 use Rattle.netpump.specs.declared.session.Session.{Session}
 use Rattle.netpump.specs.declared.session.Session.TheVariants as sessions
 use Rattle.netpump.specs.declared.sessions.Sessions.{Sessions}
@@ -62,8 +62,9 @@ abbrev pub StopsByLine : Outcome → Type 0
 StopsByLine (outcomes.Stopped fault) = IsLineFault fault
 StopsByLine outcome = Unit {0}
 
--- .. and none that begins a session prints
+-- a line that begins no session has this outcome, and prints nothing
 abbrev pub IsOfBeginning : Outcome → Type 0
+IsOfBeginning outcomes.Applied = ⊥
 IsOfBeginning outcomes.Unwritten = ⊥
 IsOfBeginning outcome = Unit {0}
 
@@ -171,7 +172,7 @@ pub record BeginsNone {D : Type 0} {g : _} (d : Meaning D) (before now : Places)
 abbrev pub TurnStops : {D : Type 0} {g : _} → Meaning D → Places → Places → Script → Line → List (Session D g) → List Event → Fault → Type 0
 TurnStops d before now t line begun printed fault =
     ((u : Script) × ScriptStops t line u printed fault × AllHaveComeTo d begun u.begun × AllLend d before now begun)
-    ⊎ (((b : BreaksOff t line printed) × (fault ≡ faults.Device b.session.row.id b.role)
+    ⊎ (((b : BreaksLine t line printed) × (fault ≡ faults.Device b.session.row.id b.role)
     × AllHaveComeTo d begun (with_session (Whole (record { row = b.session.row; past = b.past })) t.begun) × AllLend d before now begun)
     ⊎ BeginsNone d before now t line begun printed fault)
 

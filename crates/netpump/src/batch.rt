@@ -4,7 +4,7 @@ ghost use Rattle.pump_frame.specs.Counts.{Rose};
 ghost use Rattle.script_reader.specs.declared.fault.Fault.{Fault as Cause};
 ghost use Rattle.netpump.specs.Statuses.{HasStatus};
 ghost use Rattle.netpump.specs.Shelves.{AllAreBack, shelved};
-ghost use Rattle.netpump.specs.Replays.{IsReplay, TellsWords, IsFinished, AreAlone, IsUnread, IsFaulted, IsFailed, IsDown, IsBarred, IsOverfilled, IsCutOff, Wrote, WroteFront, HasOutlived, IsReceived};
+ghost use Rattle.netpump.specs.Replays.{IsReplay, TellsWords, IsFinished, StandAlone, IsUnread, IsFaulted, IsFailed, IsDown, IsBarred, IsOverfilled, IsCutOff, Wrote, WroteFront, HasOutlived, IsReceived};
 
 use crate::output::Output;
 use crate::replay::{Ended, replay, stop};
@@ -71,7 +71,7 @@ pub fn batch<S: Shelf, I: Source, O: Sink>(
     ensures done { result ≡ 0 → S.told.tells → S.Disk.told.tells → Wrote (I.left script.old) (O.written out.old) (O.written out.new) (λ r output. IsFinished (shelved (S.told.disk shelf.old) (S.told.disk shelf.new)) r output × HasStatus 0 r output) }
     ensures memory { result ≡ 1 → Appends (O.written out.old) (O.written out.new) [] }
     // .. where nothing stops it, the lines of each session are those of the script with its lines alone.
-    ensures alone { result ≡ 0 → S.told.tells → S.Disk.told.tells → Wrote (I.left script.old) (O.written out.old) (O.written out.new) AreAlone }
+    ensures alone { result ≡ 0 → S.told.tells → S.Disk.told.tells → Wrote (I.left script.old) (O.written out.old) (O.written out.new) StandAlone }
     ensures unread { result ≡ 3 → S.told.tells → S.Disk.told.tells → Wrote (I.left script.old) (O.written out.old) (O.written out.new) (IsUnread (shelved (S.told.disk shelf.old) (S.told.disk shelf.new)) (I.left script.new) (I.faults script.old) (I.faults script.new)) }
     ensures cut_off { result ≡ 4 → IsReplay (map string_bytes words.now.items) → S.told.tells → S.Disk.told.tells → WroteFront (I.left script.old) (O.written out.old) (O.written out.new) (IsCutOff (shelved (S.told.disk shelf.old) (S.told.disk shelf.new)) (I.left script.new) (I.faults script.old) (I.faults script.new)) }
     ensures faulted { result ≡ 5 → S.told.tells → S.Disk.told.tells → Wrote (I.left script.old) (O.written out.old) (O.written out.new) (λ r output. IsFaulted (shelved (S.told.disk shelf.old) (S.told.disk shelf.new)) (I.left script.new) r output × HasStatus 5 r output) }

@@ -263,6 +263,7 @@ fn begin_at<S: Shelf>(
     requires order { AreInOrder sessions.old }
     requires up { AllAreUp sessions.old.begun.items }
     requires place { place ≤ vec_len sessions.old.begun }
+    requires named { (number : ℕ) × (session_in (line_with body.now line.now) ≡ Some number) }
     requires first { begins (line_with body.now line.now) ≡ true → (sessions.old.is_under_way ≡ false) × (length sessions.old.begun.items < 16) }
     requires placed { (number : ℕ) → session_in (line_with body.now line.now) ≡ Some number → IsPlaced number place sessions.old.begun.items false }
     ensures order { AreInOrder sessions.new }
@@ -275,7 +276,8 @@ fn begin_at<S: Shelf>(
         → AllLend S.Disk.told before (S.told.disk shelf.new) sessions.new.begun.items × AllAreUp sessions.new.begun.items }
     ensures waits { sessions.old.is_under_way ≡ true → sessions.new.is_under_way ≡ true }
     ensures memory { result ≡ Outcome.Memory → sessions.old.is_under_way ≡ false }
-    ensures line { StopsByLine result × IsOfBeginning result }
+    ensures line { StopsByLine result }
+    ensures written { result ≡ Outcome.Unwritten → ⊥ }
     ensures device { (number : ℕ) → IsDeviceOutcomeOf number result → Rose (S.told.disk_faults shelf.old) (S.told.disk_faults shelf.new) }
     ensures disks_later { S.told.disk_faults shelf.old ≤ S.told.disk_faults shelf.new }
 {

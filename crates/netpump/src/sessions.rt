@@ -1,6 +1,6 @@
 //! The sessions that a script has begun.
 
-ghost use Rattle.std.specs.Prelude.{◌≡◌, ◌<◌, ◌≤◌, ℕ, ◌||◌, true, false, not, nat_le, max, List, [], length, Some, IfOk, slice_get, vec_len, vec_capacity, position};
+ghost use Rattle.std.specs.Prelude.{◌≡◌, ◌<◌, ◌≤◌, ◌+◌, ℕ, ◌||◌, true, false, not, nat_le, max, List, [], length, Some, IfOk, slice_get, vec_len, vec_capacity, position};
 ghost use Rattle.std.specs.List.{insert as inserted};
 ghost use Rattle.script_reader.specs.Heads.{line_with};
 ghost use Rattle.script_reader.specs.Scripts.{Begun};
@@ -141,6 +141,7 @@ impl<D: Disk> Sessions<D> {
         requires place { place ≤ vec_len self.old.begun }
         requires room { vec_len self.old.begun < vec_capacity self.old.begun }
         ensures items { self.new.begun.items ≡ inserted self.old.begun.items place session }
+        ensures len { vec_len self.new.begun ≡ vec_len self.old.begun + 1 }
         ensures room { vec_capacity self.old.begun ≤ vec_capacity self.new.begun }
         ensures moment { self.new.moment ≡ self.old.moment }
         ensures under_way { self.new.is_under_way ≡ self.old.is_under_way }

@@ -18,7 +18,7 @@ returns-in-Ok-open-clause-lends g c =
 pub returns-in-Err-open-clause-begins : goal.returns-in-Err-open-clause-begins
 returns-in-Err-open-clause-begins g c = λ told tells.
     let t = c.in-Ok.ensures in
-    rw c.outcome_at.ensures.is (unopened_goes _ _ (g.S.Shelf.told.disk c.args.shelf.now) (g.S.Shelf.told.disk c.take_disks.new.shelf) (g.S.Shelf.told.disk c.put_disks_back.new.shelf) c.args.row.now _ _ _ c.in-Err-open.failed c.in-Err-open.ensures.back
+    rw c.outcome_at.ensures.is (unopened_goes g.S.Disk.Disk _ (g.S.Shelf.told.disk c.args.shelf.now) (g.S.Shelf.told.disk c.take_disks.new.shelf) (g.S.Shelf.told.disk c.put_disks_back.new.shelf) c.args.row.now _ _ _ c.in-Err-open.failed c.in-Err-open.ensures.back
     c.take_disks.ensures.others c.put_disks_back.ensures.others tells
     (t.low told) (t.high told) (t.recv told) (c.put_disks_back.ensures.back told) _ c.requires.lawful refl)
 

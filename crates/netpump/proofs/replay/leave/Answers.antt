@@ -1,4 +1,4 @@
-use Rattle.std.proofs.Common.{refl}
+use Rattle.std.proofs.Common.{ap}
 use Rattle.disk_model.specs.declared.name.Role.TheVariants as roles
 use Rattle.netpump.proofs.Left.{out_of, others_of, left_of, failed_of}
 use Rattle.netpump.proofs.replay.leave.Goals as goal
@@ -25,4 +25,8 @@ returns-in-Whole-clause-left g c =
     c.put_disks_back.ensures.back (λ tells q stands. (c.close-low.ensures.left q stands).readings tells)
 
 pub returns-in-Whole-clause-failed : goal.returns-in-Whole-clause-failed
-returns-in-Whole-clause-failed g c = ?
+returns-in-Whole-clause-failed g c =
+    let p = c.put_disks_back.ensures in
+    let same = c.close-low.ensures.disks in
+    failed_of g.S.Disk.Disk.told g.S.Shelf.told.tells (g.S.Shelf.told.disk c.args.shelf.now) (g.S.Shelf.told.disk c.put_disks_back.new.shelf) c.args.session c.in-Whole.id c.in-Whole.pump c.in-Whole.is _ _ _ _ _
+    (ap (λ r. g.S.Disk.Disk.told.count r.0) same) (ap (λ r. g.S.Disk.Disk.told.count r.1) same) (ap (λ r. g.S.Disk.Disk.told.count r.2) same) p.low_rises p.high_rises p.recv_rises

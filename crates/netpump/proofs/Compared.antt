@@ -4,21 +4,21 @@ use Rattle.script_reader.specs.declared.line.Line.{Line}
 use Rattle.script_reader.specs.declared.event.Event.{Event}
 use Rattle.script_reader.specs.Openings.{Openings}
 use Rattle.script_reader.specs.Lines.{AreLines, IsBad}
-use Rattle.script_reader.specs.Scripts.{Begun, Leads, LeadTo}
+use Rattle.script_reader.specs.Sessions.{Sessions, ScriptLeads, ScriptLeadsTo}
 use Rattle.script_reader.proofs.LineEnds.{one_front}
 use Rattle.script_reader.proofs.LineLaws.{one_line}
 use Rattle.script_reader.proofs.OneReading.{taken, not_nothing}
-use Rattle.script_reader.proofs.OneScript.{leads_one}
+use Rattle.script_reader.proofs.OneWhole.{script_leads_one}
 use Rattle.netpump.proofs.SoFar.{Keeps-same}
 
 -- the next line can be applied, and the script goes on
-pub record GoesOn (o : Openings) (rest : List ℕ) (running : Option Begun) : Type 0 where
+pub record GoesOn (o : Openings) (rest : List ℕ) (running : Sessions) : Type 0 where
   pub line : Line
   pub left : Option (List ℕ)
   pub spelled : AreLines (Some rest) (line ∷ []) left
-  pub after : Option Begun
+  pub after : Sessions
   pub printed : List Event
-  pub leads : Leads o running line after printed
+  pub leads : ScriptLeads o running line after printed
 
 -- there is a next line, and one alone
 pub no_line : (rest : List ℕ) (line : Line) (left : Option (List ℕ)) → AreLines (Some rest) (line ∷ []) left → rest ≡ [] → ⊥
@@ -46,20 +46,20 @@ told_rest all (x ∷ xs) rest h =
     let t = taken all h.0 h.1 h.4 in
     told_rest t.0 xs rest (subst (λ (m : Option (List ℕ)). AreLines m xs rest) t.1 h.5)
 
-first_goes : (o : Openings) (all rest : List ℕ) (x : Line) (xs : List Line) (r : List ℕ) (from running after : Option Begun) (events : List Event) → rest ≡ all → running ≡ from
-    → AreLines (Some all) (x ∷ xs) (Some r) → LeadTo o from (x ∷ xs) after events → GoesOn o rest running
+first_goes : (o : Openings) (all rest : List ℕ) (x : Line) (xs : List Line) (r : List ℕ) (from running after : Sessions) (events : List Event) → rest ≡ all → running ≡ from
+    → AreLines (Some all) (x ∷ xs) (Some r) → ScriptLeadsTo o from (x ∷ xs) after events → GoesOn o rest running
 first_goes o all rest x xs r from running after events is same q k = record {
   line = x;
   left = q.1;
   spelled = subst (λ (l : List ℕ). AreLines (Some l) (x ∷ []) q.1) (sym is) (q.0, q.1, q.2, q.3, q.4, Keeps-same q.1);
   after = k.0;
   printed = k.1;
-  leads = subst (λ (b : Option Begun). Leads o b x k.0 k.1) (sym same) k.3;
+  leads = subst (λ (b : Sessions). ScriptLeads o b x k.0 k.1) (sym same) k.3;
 }
 
 -- they are the same, or one goes on where the other ends
-pub compare : {P : Type 0} (o : Openings) (all r1 r2 : List ℕ) (ls ms : List Line) (from a b : Option Begun) (es fs : List Event)
-    → AreLines (Some all) ls (Some r1) → LeadTo o from ls a es → AreLines (Some all) ms (Some r2) → LeadTo o from ms b fs
+pub compare : {P : Type 0} (o : Openings) (all r1 r2 : List ℕ) (ls ms : List Line) (from a b : Sessions) (es fs : List Event)
+    → AreLines (Some all) ls (Some r1) → ScriptLeadsTo o from ls a es → AreLines (Some all) ms (Some r2) → ScriptLeadsTo o from ms b fs
     → (r1 ≡ r2 → a ≡ b → length ls ≡ length ms → P) → (GoesOn o r1 a → length ls < length ms → P) → (GoesOn o r2 b → length ms < length ls → P) → P
 compare o all r1 r2 [] [] from a b es fs p h q k same first second = same (p ∙ sym q) (h.0 ∙ sym k.0) refl
 compare o all r1 r2 [] (y ∷ ys) from a b es fs p h q k same first second = first (first_goes o all r1 y ys r2 from a b fs p h.0 q k) (omega arith)
@@ -71,6 +71,6 @@ compare o all r1 r2 (x ∷ xs) (y ∷ ys) from a b es fs p h q k same first seco
     let line : x ≡ y = one_line q.0 x y (rw one.0 at p.3) q.3 in
     let left : AreLines (Some u.0) xs (Some r1) = rw (t.1, one.1) at p.5 in
     let right : AreLines (Some u.0) ys (Some r2) = rw u.1 at q.5 in
-    let led = leads_one o from x h.0 k.0 h.1 k.1 h.3 (subst (λ (l : Line). Leads o from l k.0 k.1) (sym line) k.3) in
-    compare o u.0 r1 r2 xs ys h.0 a b h.2 k.2 left h.4 right (subst (λ (r : Option Begun). LeadTo o r ys b k.2) (sym led.after) k.4)
+    let led = script_leads_one o from x h.0 k.0 h.1 k.1 h.3 (subst (λ (l : Line). ScriptLeads o from l k.0 k.1) (sym line) k.3) in
+    compare o u.0 r1 r2 xs ys h.0 a b h.2 k.2 left h.4 right (subst (λ (r : Sessions). ScriptLeadsTo o r ys b k.2) (sym led.after) k.4)
     (λ e f n. same e f (omega (arith, n))) (λ g n. first g (omega (arith, n))) (λ g n. second g (omega (arith, n)))

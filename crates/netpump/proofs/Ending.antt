@@ -1,8 +1,9 @@
 -- How a replay ends, once the disks are back.
-use Rattle.std.proofs.Common.{◌≡◌, ◌≤◌, arith, ℕ, true, List, [], ◌∷◌, ◌++◌, Option, None, Some, inl, inr, refl, sym, ap, ◌∙◌, subst, append-nil}
-use Rattle.std.specs.Prelude.{◌⊎◌, ◌==◌, ◌&&◌, nat_le, not, ◌||◌}
-use Rattle.std.proofs.lemmas.Bool.{and_parts}
+use Rattle.std.proofs.Common.{◌≡◌, ◌≤◌, ◌==◌, arith, ℕ, true, false, List, [], ◌∷◌, ◌++◌, Option, None, Some, inl, inr, refl, sym, ap, ◌∙◌, subst, append-nil}
+use Rattle.std.specs.Prelude.{◌⊎◌, ◌&&◌, nat_le, not, ◌||◌}
+use Rattle.std.proofs.lemmas.Bool.{and_parts, eqb-true, eqb-false}
 use Rattle.disk_model.specs.Disk.{Meaning}
+use Rattle.disk_model.specs.Shelf.{IsOut}
 use Rattle.disk_model.specs.declared.disk.Disk.{Ghosts}
 use Rattle.disk_model.specs.declared.name.Role.{Role}
 use Rattle.pump_frame.specs.Counts.{Rose}
@@ -19,15 +20,19 @@ use Rattle.script_reader.specs.Readouts.{Sound}
 use Rattle.script_reader.specs.Steps.{is_timely, Overfills}
 use Rattle.script_reader.specs.Scripts.{Running, Begun, Whole, Alone, Stops}
 use Rattle.two_worlds.proofs.Timeline.Scripts.{HasRun, script_runs}
-use Rattle.netpump.specs.Shelves.{Places, Shelved, shelved, Spares, Readies, IsRefusedFor}
-use Rattle.netpump.specs.Sessions.{IsAlone, CameTo, HasComeTo, HasFailed}
-use Rattle.netpump.specs.Runners.{lent, LeftAs, IsAloneOr, EndsAs, IsDeviceFault}
-use Rattle.netpump.specs.Replays.{IsTimed, Replayed, IsFinished, IsUnread, IsFaulted, IsStopped, IsFailed, IsOverfilled, IsBroken, IsUnopened, IsBarred, IsDown, IsOutput, IsCutOff, Wrote, WroteFront}
+use Rattle.script_reader.specs.Sessions.{Sessions as Script, session_in, session_at, events_of, StopsOne}
+use Rattle.netpump.specs.Shelves.{Places, disk_name, reading_in, reading_at, Shelved, shelved, LeavesSession, SparesSession, ReadiesSession, AreKept, AreOthersKept, AllAreBack}
+use Rattle.netpump.specs.Sessions.{id_of, found_at, HasComeTo, HasFailed}
+use Rattle.netpump.specs.Runners.{lent, AllLent, OthersLent, HandsOver, AllHandOver, AreOut, AllAreOut, LeftAs, AllLeftAs, IsAloneOr, EndsAs, IsDeviceFaultOf}
+use Rattle.netpump.specs.Replays.{IsEachSound, IsTimed, Replayed, IsFinished, IsUnread, IsFaulted, IsStopped, IsFailedAt, IsFailed, IsOverfilled, IsBroken, IsUnopened, IsBarred, IsDownAt, IsDown, IsOutput, IsCutOff, Wrote, WroteFront}
 use Rattle.netpump.specs.declared.session.Session.{Session}
 use Rattle.netpump.specs.declared.session.Session.TheVariants as sessions
 use Rattle.netpump.specs.declared.replay.Ended.{Ended}
 use Rattle.netpump.specs.declared.replay.Ended.TheVariants as ended
-use Rattle.netpump.proofs.Left.{keeps_to, breaks_to}
+use Rattle.netpump.proofs.Left.{keeps_one, breaks_one}
+use Rattle.netpump.proofs.Numbered.{found_id}
+use Rattle.netpump.proofs.Stops.{stop_number}
+use Rattle.netpump.proofs.Widened.{led_there, led_beside}
 
 -- ---- the timed run of a session that stops ----
 
@@ -63,25 +68,53 @@ stop_runs (Some (Alone s)) line after printed fault (timely, (q, step, e, f)) ru
 
 -- ---- each end ----
 
-module _ {D : Type 0} {g : Ghosts D} (d : Meaning D) (before mid now : Places) (session : Option (Session D g)) (left : LeftAs d before mid now session) where
+-- so of each session of a script
+stop_runs_all : (t : Script) (line : Line) (at : Option ℕ) (u : Script) (printed : List Event) (fault : Fault) → StopsOne t line at u printed fault → ((number : ℕ) → HasRun (session_at number t.begun)) → (number : ℕ) → HasRun (session_at number u.begun)
+stop_runs_all t line None u printed fault h runs = absurd h
+stop_runs_all t line (Some n) u printed fault (turn, (s, stops, e)) runs = λ k.
+    let mine = stop_number n t line s printed fault stops in
+    elim (k == n) as (λ b. (k == n) ≡ b → HasRun (session_at k u.begun)) [
+      | true ↦ λ is. subst HasRun (sym (led_there k t line s u e (mine ∙ sym (eqb-true k n is)))) (stop_runs (session_at n t.begun) line (Some s) printed fault stops (runs n))
+      | false ↦ λ is. subst HasRun (sym (led_beside k n t line s u e mine (eqb-false k n is))) (runs k)
+    ] refl
+
+module _ {D : Type 0} {g : Ghosts D} (d : Meaning D) (told : Type 0) (is_told : told) (tells : d.tells) (before mid now : Places) (begun : List (Session D g)) (left : AllLeftAs told d mid now begun) where
   abbrev from : Shelved
-  from = lent d before mid session
+  from = lent d before mid begun
 
   abbrev to : Shelved
   to = shelved before now
 
-  none_left : session ≡ None → now ≡ mid
-  none_left e = subst (λ (s : Option (Session D g)). LeftAs d before mid now s) e left
+  keeps_to : (o : Openings) (running : List Begun) (printed : List Event) → ((number : ℕ) → HasRun (session_at number running)) → IsEachSound running printed → AllLent d before mid begun o running → AreKept before now o running printed
+  keeps_to o running printed runs sound lent number =
+      keeps_one d told is_told tells before mid now number (found_at number begun) (left number) o (session_at number running) (events_of number printed) (runs number) (sound number) (lent number)
 
-  spares_to : from.spares → to.spares
-  spares_to (none, h) = subst (λ (p : Places). Spares before p) (sym (none_left none)) h
+  others_to : (one : ℕ) (o : Openings) (running : List Begun) (printed : List Event) → ((number : ℕ) → HasRun (session_at number running)) → IsEachSound running printed → OthersLent d before mid one begun o running → AreOthersKept before now one o running printed
+  others_to one o running printed runs sound lent number apart =
+      keeps_one d told is_told tells before mid now number (found_at number begun) (left number) o (session_at number running) (events_of number printed) (runs number) (sound number) (lent number apart)
 
-  refuses_to : (row : SessionRow) (role : Role) (why : Why) → from.refuses row role why → to.refuses row role why
-  refuses_to row role why (none, h, k) = (h, subst (λ (p : Places). Readies before p row) (sym (none_left none)) k)
+  -- where no session was the disks are where they were
+  none_there : (number : ℕ) → found_at number begun ≡ None → LeavesSession mid now number
+  none_there number none = subst (λ (s : Option (Session D g)). LeftAs told d mid now number s) none (left number)
+
+  same_reading : (number : ℕ) → found_at number begun ≡ None → (role : Role) → reading_at now number role ≡ reading_at mid number role
+  same_reading number none role = ap reading_in (none_there number none role)
+
+  spares_to : (number : ℕ) → found_at number begun ≡ None → SparesSession before mid number → SparesSession before now number
+  spares_to number none h role some = same_reading number none role ∙ h role some
+
+  readies_to : (row : SessionRow) → found_at row.id begun ≡ None → ReadiesSession before mid row → ReadiesSession before now row
+  readies_to row none h role = elim (h role) [
+    | inl same ↦ inl (same_reading row.id none role ∙ same)
+    | inr fresh ↦ inr (fresh.0, same_reading row.id none role ∙ fresh.1)
+  ]
 
   module _ {all : Option (List ℕ)} (rest : Option (List ℕ)) (first last : ℕ) (r : Replayed all) (output : List ℕ) where
-    kept : from.keeps r.openings r.running r.events → to.keeps r.openings r.running r.events
-    kept h = keeps_to d before mid now session left r.openings r.running r.events (run_of r.running r.timed) r.laws.sound h
+    runs : (number : ℕ) → HasRun (session_at number r.sessions.begun)
+    runs number = run_of (session_at number r.sessions.begun) (r.timed number)
+
+    kept : from.keeps r.openings r.sessions.begun r.events → to.keeps r.openings r.sessions.begun r.events
+    kept h = keeps_to r.openings r.sessions.begun r.events runs r.laws.sound h
 
     finished_to : IsFinished from r output → IsFinished to r output
     finished_to h = record {
@@ -90,7 +123,7 @@ module _ {D : Type 0} {g : Ghosts D} (d : Meaning D) (before mid now : Places) (
       transcript = h.transcript;
       sound = h.sound;
       output_is = h.output_is;
-      disks = keeps_to d before mid now session left r.openings r.running h.printed (run_of r.running r.timed) h.sound h.disks;
+      disks = keeps_to r.openings r.sessions.begun h.printed runs h.sound h.disks;
     }
 
     unread_to : IsUnread from rest first last r output → IsUnread to rest first last r output
@@ -105,35 +138,57 @@ module _ {D : Type 0} {g : Ghosts D} (d : Meaning D) (before mid now : Places) (
       laws = h.laws;
       taken = h.taken;
       output_is = h.output_is;
-      disks = keeps_to d before mid now session left r.openings h.next.after (r.events ++ h.next.printed)
-          (stop_runs r.running h.next.line h.next.after h.next.printed fault h.next.stops (run_of r.running r.timed)) h.laws.sound h.disks;
+      disks = keeps_to r.openings h.next.after.begun (r.events ++ h.next.printed)
+          (stop_runs_all r.sessions h.next.line (session_in h.next.line) h.next.after h.next.printed fault h.next.stops runs) h.laws.sound h.disks;
     }
 
     overfilled_to : IsOverfilled from rest r output → IsOverfilled to rest r output
     overfilled_to (s, end, n, size, h) = (s, end, n, size, stopped_to (faults.Full s end n size) h)
 
-    failed_to : IsFailed from rest r output → IsFailed to rest r output
-    failed_to (s, h) = (s, stopped_to _ h)
+    failed_to : (session : ℕ) → IsFailedAt from rest session r output → IsFailedAt to rest session r output
+    failed_to session h = stopped_to _ h
 
-    broken_to : (role : Role) → IsBroken from rest role r output → IsBroken to rest role r output
-    broken_to role h = record {
+    broken_to : (session : ℕ) → IsBroken from rest session r output → IsBroken to rest session r output
+    broken_to session h =
+        let id = h.next.off.session.row.id in
+        record {
+          next = h.next;
+          session_is = h.session_is;
+          taken = h.taken;
+          output_is = h.output_is;
+          replies = h.replies;
+          disks = (
+            breaks_one d told is_told tells before mid now id (found_at id begun) (left id) r.openings (record { row = h.next.off.session.row; past = h.next.off.past }) h.disks.0 h.disks.1,
+            others_to id r.openings r.sessions.begun r.events runs r.laws.sound h.disks.2,
+          );
+        }
+
+    unopened_to : (session : ℕ) → IsUnopened from rest session r output → IsUnopened to rest session r output
+    unopened_to session h = record {
+      row = h.row;
+      role = h.role;
       next = h.next;
+      session_is = h.session_is;
       taken = h.taken;
       output_is = h.output_is;
-      replies = h.replies;
-      disks = breaks_to d before mid now session left r.openings (record { row = h.next.session.row; past = h.next.past }) h.disks;
+      disks = (spares_to h.row.id h.disks.0 h.disks.1, others_to h.row.id r.openings r.sessions.begun r.events runs r.laws.sound h.disks.2);
     }
 
-    unopened_to : (role : Role) → IsUnopened from rest role r output → IsUnopened to rest role r output
-    unopened_to role h = record { row = h.row; next = h.next; taken = h.taken; output_is = h.output_is; disks = spares_to h.disks }
-
     barred_to : IsBarred from rest r output → IsBarred to rest r output
-    barred_to h = record { row = h.row; next = h.next; taken = h.taken; role = h.role; why = h.why; output_is = h.output_is; disks = refuses_to h.row h.role h.why h.disks }
+    barred_to h = record {
+      row = h.row;
+      next = h.next;
+      taken = h.taken;
+      role = h.role;
+      why = h.why;
+      output_is = h.output_is;
+      disks = (h.disks.1, readies_to h.row h.disks.0 h.disks.2, others_to h.row.id r.openings r.sessions.begun r.events runs r.laws.sound h.disks.3);
+    }
 
-    down_to : IsDown from rest r output → IsDown to rest r output
-    down_to (inl h) = inl (failed_to h)
-    down_to (inr (inl (role, h))) = inr (inl (role, broken_to role h))
-    down_to (inr (inr (role, h))) = inr (inr (role, unopened_to role h))
+    down_to : (session : ℕ) → IsDownAt from rest session r output → IsDownAt to rest session r output
+    down_to session (inl h) = inl (failed_to session h)
+    down_to session (inr (inl h)) = inr (inl (broken_to session h))
+    down_to session (inr (inr h)) = inr (inr (unopened_to session h))
 
     output_to : IsOutput from rest first last r output → IsOutput to rest first last r output
     output_to (inl (e, h)) = inl (e, kept h)
@@ -141,37 +196,38 @@ module _ {D : Type 0} {g : Ghosts D} (d : Meaning D) (before mid now : Places) (
     output_to (inr (inr (inl h))) = inr (inr (inl (faulted_to h)))
     output_to (inr (inr (inr (inl h)))) = inr (inr (inr (inl (unread_to h))))
     output_to (inr (inr (inr (inr (inl h))))) = inr (inr (inr (inr (inl (overfilled_to h)))))
-    output_to (inr (inr (inr (inr (inr (inl h)))))) = inr (inr (inr (inr (inr (inl (down_to h))))))
+    output_to (inr (inr (inr (inr (inr (inl (session, h))))))) = inr (inr (inr (inr (inr (inl (session, down_to session h))))))
     output_to (inr (inr (inr (inr (inr (inr h)))))) = inr (inr (inr (inr (inr (inr (barred_to h))))))
 
   module _ (all rest old new : Option (List ℕ)) (first last : ℕ) where
     pub ends_to : (result : Ended) → EndsAs from all rest old new first last result → EndsAs to all rest old new first last result
     ends_to ended.Done (r, o, h, w) = (r, o, finished_to rest first last r o h, w)
-    ends_to ended.Memory h = h
+    ends_to ended.Memory h = tt
     ends_to ended.Write (r, o, (near, h), w) = (r, o, (near, output_to rest first last r o h), w)
     ends_to (ended.Stopped faults.Words) h = absurd h
     ends_to (ended.Stopped faults.Read) (r, o, h, w) = (r, o, unread_to rest first last r o h, w)
     ends_to (ended.Stopped (faults.Script number)) (r, o, h, w) = (r, o, faulted_to rest first last r o h, w)
-    ends_to (ended.Stopped (faults.Device s role)) (r, o, h, w) = (r, o, down_to rest first last r o h, w)
+    ends_to (ended.Stopped (faults.Device s role)) (r, o, h, w) = (r, o, down_to rest first last r o s h, w)
     ends_to (ended.Stopped (faults.Disk s role number a b)) (r, o, h, w) = (r, o, barred_to rest first last r o h, w)
     ends_to (ended.Stopped (faults.Full s end n size)) (r, o, h, w) = (r, o, overfilled_to rest first last r o h, w)
 
     -- a low side alone fails only where a line tells so
-    alone_failed : (id : ℕ) (p : _) → session ≡ Some (sessions.Alone id p) → (r : Replayed all) (output : List ℕ) → IsDown from rest r output → IsFailed to rest r output
-    alone_failed id p e r output (inl h) = failed_to rest first last r output h
-    alone_failed id p e r output (inr (inl (role, h))) = absurd (subst (λ (s : Option (Session D g)). HasComeTo d s (Some (Whole (record { row = h.next.session.row; past = h.next.past })))) e h.disks.1)
-    alone_failed id p e r output (inr (inr (role, h))) = cc (sym e ∙ h.disks.0)
+    alone_failed : (number id : ℕ) (p : _) → found_at number begun ≡ Some (sessions.Alone id p) → (r : Replayed all) (output : List ℕ) → IsDownAt from rest number r output → IsFailed to rest r output
+    alone_failed number id p e r output (inl h) = (number, failed_to rest first last r output number h)
+    alone_failed number id p e r output (inr (inl h)) =
+        absurd (subst (λ (s : Option (Session D g)). HasComeTo d s (Some (Whole (record { row = h.next.off.session.row; past = h.next.off.past })))) (ap (λ (n : ℕ). found_at n begun) (sym h.session_is) ∙ e) h.disks.1)
+    alone_failed number id p e r output (inr (inr h)) = let none = h.disks.0 in cc (sym e ∙ ap (λ (n : ℕ). found_at n begun) h.session_is ∙ none)
 
-    pub told_to_fail : (id : ℕ) (p : _) → session ≡ Some (sessions.Alone id p) → (result : Ended) → IsDeviceFault result → EndsAs from all rest old new first last result → Wrote all old new (λ r output. IsFailed to rest r output)
-    told_to_fail id p e ended.Done f h = absurd f
-    told_to_fail id p e ended.Memory f h = absurd f
-    told_to_fail id p e ended.Write f h = absurd f
-    told_to_fail id p e (ended.Stopped faults.Words) f h = absurd f
-    told_to_fail id p e (ended.Stopped faults.Read) f h = absurd f
-    told_to_fail id p e (ended.Stopped (faults.Script number)) f h = absurd f
-    told_to_fail id p e (ended.Stopped (faults.Device s role)) f (r, o, h, w) = (r, o, alone_failed id p e r o h, w)
-    told_to_fail id p e (ended.Stopped (faults.Disk s role number a b)) f h = absurd f
-    told_to_fail id p e (ended.Stopped (faults.Full s end n size)) f h = absurd f
+    pub told_to_fail : (number id : ℕ) (p : _) → found_at number begun ≡ Some (sessions.Alone id p) → (result : Ended) → IsDeviceFaultOf number result → EndsAs from all rest old new first last result → Wrote all old new (λ r output. IsFailed to rest r output)
+    told_to_fail number id p e ended.Done f h = absurd f
+    told_to_fail number id p e ended.Memory f h = absurd f
+    told_to_fail number id p e ended.Write f h = absurd f
+    told_to_fail number id p e (ended.Stopped faults.Words) f h = absurd f
+    told_to_fail number id p e (ended.Stopped faults.Read) f h = absurd f
+    told_to_fail number id p e (ended.Stopped (faults.Script line)) f h = absurd f
+    told_to_fail number id p e (ended.Stopped (faults.Device s role)) f (r, o, h, w) = (r, o, alone_failed number id p e r o (subst (λ (n : ℕ). IsDownAt from rest n r o) f h), w)
+    told_to_fail number id p e (ended.Stopped (faults.Disk s role n a b)) f h = absurd f
+    told_to_fail number id p e (ended.Stopped (faults.Full s end n size)) f h = absurd f
 
 -- ---- the cause of status 7 ----
 
@@ -181,3 +237,30 @@ device_so d mid session first middle last P (inl rose) low high back told = inl 
 device_so d mid None first middle last P (inr failed) low high back told = absurd failed
 device_so d mid (Some (sessions.Whole id p)) first middle last P (inr failed) low high back told = inl (let rose = back failed in omega (arith, rose, low))
 device_so d mid (Some (sessions.Alone id p)) first middle last P (inr failed) low high back told = inr (told id p refl)
+
+-- ---- the disks are back ----
+
+back_one : {D : Type 0} {g : Ghosts D} (d : Meaning D) (told : Type 0) (before mid now : Places) (number : ℕ) (session : Option (Session D g)) → told → ((s : Session D g) → session ≡ Some s → id_of s ≡ number)
+    → HandsOver told d before mid number session → LeftAs told d mid now number session → (role : Role) → IsOut (now (disk_name number role)) → IsOut (before (disk_name number role))
+back_one d told before mid now number None t of hands left role out = hands t role (subst IsOut (left role) out)
+back_one d told before mid now number (Some (sessions.Alone id p)) t of hands left role out = subst IsOut (left role ∙ hands role) out
+back_one d told before mid now number (Some (sessions.Whole id p)) t of hands left role out =
+    absurd (left.0 t role (subst (λ (n : ℕ). IsOut (now (disk_name n role))) (sym (of (sessions.Whole id p) refl)) out))
+
+pub all_are_back : {D : Type 0} {g : Ghosts D} (d : Meaning D) (told : Type 0) (before mid now : Places) (begun : List (Session D g)) → told → AllHandOver told d before mid begun → AllLeftAs told d mid now begun → AllAreBack before now
+all_are_back d told before mid now begun t hands left = λ name out.
+    back_one d told before mid now name.session (found_at name.session begun) t (λ s is. found_id name.session begun s is) (hands name.session) (left name.session) name.role out
+
+-- they were out
+out_one : {D : Type 0} {g : Ghosts D} (d : Meaning D) (told : Type 0) (before mid : Places) (number : ℕ) (session : Option (Session D g)) → HandsOver told d before mid number session → AreOut mid session
+out_one d told before mid number None hands = tt
+out_one d told before mid number (Some (sessions.Alone id p)) hands = tt
+out_one d told before mid number (Some (sessions.Whole id p)) hands = λ role. let h = hands role in subst IsOut (sym h.1) tt
+
+pub all_are_out : {D : Type 0} {g : Ghosts D} (d : Meaning D) (told : Type 0) (before mid : Places) (begun : List (Session D g)) → AllHandOver told d before mid begun → AllAreOut mid begun
+all_are_out d told before mid begun hands number = out_one d told before mid number (found_at number begun) (hands number)
+
+-- ---- the session of status 7 ----
+
+pub down_some : (shelf : Shelved) (all old new left : Option (List ℕ)) (session : ℕ) → Wrote all old new (IsDownAt shelf left session) → Wrote all old new (IsDown shelf left)
+down_some shelf all old new left session (r, output, h, w) = (r, output, (session, h), w)

@@ -8,12 +8,16 @@ pub mod Going
 pub mod Headline
 pub mod Kept
 pub mod Left
+pub mod Listed
+pub mod Numbered
 pub mod OneStatus
 pub mod OneWord
 pub mod Opened
+pub mod Quiet
 pub mod Shelving
 pub mod SoFar
 pub mod Stopping
 pub mod Stops
 pub mod Tallies
 pub mod Turns
+pub mod Widened

@@ -6,66 +6,65 @@ use Rattle.script_reader.specs.declared.line.Line.{Line}
 use Rattle.script_reader.specs.declared.event.Event.{Event}
 use Rattle.script_reader.specs.declared.fault.Fault.{Fault}
 use Rattle.script_reader.specs.declared.fault.Fault.TheVariants.{Script, Device, Full}
-use Rattle.script_reader.specs.Faults.{IsFaulty}
+use Rattle.script_reader.specs.Faults.{IsScriptFaulty}
 use Rattle.script_reader.specs.Openings.{Openings}
-use Rattle.script_reader.specs.Scripts.{Begun, IsRefused, Stops}
-use Rattle.script_reader.proofs.Stopping.{stops_leads, stops_one}
-use Rattle.script_reader.proofs.OneEnd.{refused_leads}
+use Rattle.script_reader.specs.Sessions.{Sessions, no_sessions, ScriptRefuses, ScriptStops}
+use Rattle.script_reader.proofs.OneWhole.{script_refused_leads, script_stops_leads, script_stops_one}
 use Rattle.netpump.specs.Replays.{IsSoFar, Replayed, IsFaultyAt, fault_after, Stopping, IsFinished, IsFaulted, IsStopped, IsOverfilled, Wrote}
 use Rattle.netpump.specs.Shelves.{Shelved}
 use Rattle.netpump.specs.Statuses.{IsEnd, EndsWith, status_of, HasStatus}
-use Rattle.netpump.proofs.Stopping.{stops_refused}
+use Rattle.netpump.proofs.Stopping.{script_stops_refused}
 use Rattle.netpump.proofs.Compared.{GoesOn, no_line, good_line, same_line, told_rest, compare}
 
 -- ---- one place ----
 
-refused_goes : (o : Openings) (rest : List ℕ) (running : Option Begun) → IsFaulty (Some rest) running → GoesOn o rest running → ⊥
+refused_goes : (o : Openings) (rest : List ℕ) (running : Sessions) → IsScriptFaulty (Some rest) running → GoesOn o rest running → ⊥
 refused_goes o rest running f g =
     elim f [
       | inl bad ↦ good_line rest g.line g.left g.spelled bad
       | inr r ↦
           let same = same_line rest g.line r.0 g.left r.1 g.spelled r.2 in
-          refused_leads o running g.line g.after g.printed (subst (λ (l : Line). IsRefused running l) (sym same) r.3) g.leads
+          script_refused_leads o running g.line g.after g.printed (subst (λ (l : Line). ScriptRefuses running l) (sym same) r.3) g.leads
     ]
 
-stopping_goes : (o : Openings) (rest : List ℕ) (number : ℕ) (running : Option Begun) (fault : Fault) → Stopping (Some rest) number running fault → GoesOn o rest running → ⊥
+stopping_goes : (o : Openings) (rest : List ℕ) (number : ℕ) (running : Sessions) (fault : Fault) → Stopping (Some rest) number running fault → GoesOn o rest running → ⊥
 stopping_goes o rest number running fault h g =
     let same = same_line rest g.line h.line g.left h.left g.spelled h.spelled in
-    stops_leads o running g.line h.after h.printed fault g.after g.printed (subst (λ (l : Line). Stops running l h.after h.printed fault) (sym same) h.stops) g.leads
+    script_stops_leads o running g.line h.after h.printed fault g.after g.printed (subst (λ (l : Line). ScriptStops running l h.after h.printed fault) (sym same) h.stops) g.leads
 
-refused_stopping : (rest : List ℕ) (number : ℕ) (running : Option Begun) (fault : Fault) → IsFaulty (Some rest) running → Stopping (Some rest) number running fault → ⊥
+refused_stopping : (rest : List ℕ) (number : ℕ) (running : Sessions) (fault : Fault) → IsScriptFaulty (Some rest) running → Stopping (Some rest) number running fault → ⊥
 refused_stopping rest number running fault f h =
     elim f [
       | inl bad ↦ good_line rest h.line h.left h.spelled bad
       | inr r ↦
           let same = same_line rest h.line r.0 h.left r.1 h.spelled r.2 in
-          stops_refused running h.line h.after h.printed fault h.stops (subst (λ (l : Line). IsRefused running l) (sym same) r.3)
+          script_stops_refused running h.line h.after h.printed fault h.stops (subst (λ (l : Line). ScriptRefuses running l) (sym same) r.3)
     ]
 
-stopping_one : (rest : List ℕ) (number : ℕ) (running : Option Begun) (fault stop : Fault) → Stopping (Some rest) number running fault → Stopping (Some rest) number running stop → fault ≡ stop
+stopping_one : (rest : List ℕ) (number : ℕ) (running : Sessions) (fault stop : Fault) → Stopping (Some rest) number running fault → Stopping (Some rest) number running stop → fault ≡ stop
 stopping_one rest number running fault stop h k =
     let same = same_line rest h.line k.line h.left k.left h.spelled k.spelled in
-    let one = stops_one running h.line h.after k.after h.printed k.printed fault stop h.stops (subst (λ (l : Line). Stops running l k.after k.printed stop) (sym same) k.stops) in
+    let one = script_stops_one running h.line h.after k.after h.printed k.printed fault stop h.stops (subst (λ (l : Line). ScriptStops running l k.after k.printed stop) (sym same) k.stops) in
     one.fault_is
 
-nothing_faulty : (rest : List ℕ) (number : ℕ) (running : Option Begun) → rest ≡ [] → IsFaultyAt number (Some rest) running → ⊥
+nothing_faulty : (rest : List ℕ) (number : ℕ) (running : Sessions) → rest ≡ [] → IsFaultyAt number (Some rest) running → ⊥
 nothing_faulty rest number running none (inl (inl bad)) = bad.some none
 nothing_faulty rest number running none (inl (inr r)) = no_line rest r.0 r.1 r.2 none
 nothing_faulty rest number running none (inr (last, some)) = some none
 
-faulty_stopping : (rest : List ℕ) (number : ℕ) (running : Option Begun) (fault : Fault) → IsFaultyAt number (Some rest) running → Stopping (Some rest) number running fault → ⊥
+faulty_stopping : (rest : List ℕ) (number : ℕ) (running : Sessions) (fault : Fault) → IsFaultyAt number (Some rest) running → Stopping (Some rest) number running fault → ⊥
 faulty_stopping rest number running fault (inl f) h = refused_stopping rest number running fault f h
 faulty_stopping rest number running fault (inr (last, some)) h = let few = h.few in omega (arith, few, last)
 
 -- a script does not go on at its end
-end_goes : (o : Openings) (rest : List ℕ) (number : ℕ) (running : Option Begun) (end : Option Fault) → IsEnd rest number running end → number + 1 < 2 ^ 32 → GoesOn o rest running → ⊥
+end_goes : (o : Openings) (rest : List ℕ) (number : ℕ) (running : Sessions) (end : Option Fault) → IsEnd rest number running end → number + 1 < 2 ^ 32 → GoesOn o rest running → ⊥
 end_goes o rest number running None h few g = no_line rest g.line g.left g.spelled h
 end_goes o rest number running (Some fault) (inl (inl f, e)) few g = refused_goes o rest running f g
 end_goes o rest number running (Some fault) (inl (inr (last, some), e)) few g = omega (arith, few, last)
 end_goes o rest number running (Some fault) (inr h) few g = stopping_goes o rest number running fault h g
 
 -- and has one end at one place
-one_end : (rest : List ℕ) (number : ℕ) (running : Option Begun) (a b : Option Fault) → IsEnd rest number running a → IsEnd rest number running b → a ≡ b
+one_end : (rest : List ℕ) (number : ℕ) (running : Sessions) (a b : Option Fault) → IsEnd rest number running a → IsEnd rest number running b → a ≡ b
 one_end rest number running None None h k = refl
 one_end rest number running None (Some y) h (inl k) = absurd (nothing_faulty rest number running h k.0)
 one_end rest number running None (Some y) h (inr k) = absurd (no_line rest k.line k.left k.spelled h)
@@ -79,41 +78,41 @@ one_end rest number running (Some x) (Some y) (inr h) (inr k) = ap Some (stoppin
 -- ---- one script ----
 
 module _ (o : Openings) (bytes : List ℕ) (end : Option Fault) (e : EndsWith o bytes end) where
-  ends_at : (lines : List Line) (events : List Event) (running : Option Begun) (rest : List ℕ) (other : Option Fault) → IsSoFar o (Some bytes) (Some rest) lines events running → length lines < 2 ^ 32
+  ends_at : (lines : List Line) (events : List Event) (running : Sessions) (rest : List ℕ) (other : Option Fault) → IsSoFar o (Some bytes) (Some rest) lines events running → length lines < 2 ^ 32
       → IsEnd rest (length lines) running other → end ≡ other
   ends_at lines events running rest other s few is =
       let fewer = e.few in
-      compare o bytes e.rest rest e.lines lines None e.running running e.events events e.so_far.spelled e.so_far.leads s.spelled s.leads
+      compare o bytes e.rest rest e.lines lines no_sessions e.sessions running e.events events e.so_far.spelled e.so_far.leads s.spelled s.leads
       (λ same after number. one_end rest (length lines) running end other
-      (subst (λ (n : ℕ). IsEnd rest n running end) number (subst (λ (b : Option Begun). IsEnd rest (length e.lines) b end) after (subst (λ (r : List ℕ). IsEnd r (length e.lines) e.running end) same e.is_end))) is)
-      (λ goes less. absurd (end_goes o e.rest (length e.lines) e.running end e.is_end (omega (arith, less, few)) goes))
+      (subst (λ (n : ℕ). IsEnd rest n running end) number (subst (λ (b : Sessions). IsEnd rest (length e.lines) b end) after (subst (λ (r : List ℕ). IsEnd r (length e.lines) e.sessions end) same e.is_end))) is)
+      (λ goes less. absurd (end_goes o e.rest (length e.lines) e.sessions end e.is_end (omega (arith, less, few)) goes))
       (λ goes less. absurd (end_goes o rest (length lines) running other is (omega (arith, less, fewer)) goes))
 
   -- what was replayed, whose rest is told
-  told_so_far : (r : Replayed (Some bytes)) → r.openings ≡ o → (rest : List ℕ) × (r.rest ≡ Some rest) × IsSoFar o (Some bytes) (Some rest) r.lines r.events r.running
+  told_so_far : (r : Replayed (Some bytes)) → r.openings ≡ o → (rest : List ℕ) × (r.rest ≡ Some rest) × IsSoFar o (Some bytes) (Some rest) r.lines r.events r.sessions
   told_so_far r same =
       let told = told_rest bytes r.lines r.rest r.so_far.spelled in (
         told.0,
         told.1,
-        subst (λ (p : Openings). IsSoFar p (Some bytes) (Some told.0) r.lines r.events r.running) same
-            (subst (λ (rest : Option (List ℕ)). IsSoFar r.openings (Some bytes) rest r.lines r.events r.running) told.1 r.so_far),
+        subst (λ (p : Openings). IsSoFar p (Some bytes) (Some told.0) r.lines r.events r.sessions) same
+            (subst (λ (rest : Option (List ℕ)). IsSoFar r.openings (Some bytes) rest r.lines r.events r.sessions) told.1 r.so_far),
       )
 
   done_so : (shelf : Shelved) (r : Replayed (Some bytes)) (output : List ℕ) → r.openings ≡ o → IsFinished shelf r output → end ≡ None
   done_so shelf r output same d =
       let told = told_so_far r same in
-      ends_at r.lines r.events r.running told.0 None told.2 r.few (subst IsAtEnd told.1 d.ended)
+      ends_at r.lines r.events r.sessions told.0 None told.2 r.few (subst IsAtEnd told.1 d.ended)
 
   faulted_so : (shelf : Shelved) (left : Option (List ℕ)) (r : Replayed (Some bytes)) (output : List ℕ) → r.openings ≡ o → IsFaulted shelf left r output → end ≡ Some (fault_after (length r.lines))
   faulted_so shelf left r output same d =
       let told = told_so_far r same in
-      ends_at r.lines r.events r.running told.0 (Some (fault_after (length r.lines))) told.2 r.few
-      (inl (subst (λ (rest : Option (List ℕ)). IsFaultyAt (length r.lines) rest r.running) told.1 d.faulty, refl))
+      ends_at r.lines r.events r.sessions told.0 (Some (fault_after (length r.lines))) told.2 r.few
+      (inl (subst (λ (rest : Option (List ℕ)). IsFaultyAt (length r.lines) rest r.sessions) told.1 d.faulty, refl))
 
   stopped_so : (shelf : Shelved) (left : Option (List ℕ)) (fault : Fault) (r : Replayed (Some bytes)) (output : List ℕ) → r.openings ≡ o → IsStopped shelf left fault r output → end ≡ Some fault
   stopped_so shelf left fault r output same d =
       let told = told_so_far r same in
-      ends_at r.lines r.events r.running told.0 (Some fault) told.2 r.few (inr (subst (λ (rest : Option (List ℕ)). Stopping rest (length r.lines) r.running fault) told.1 d.next))
+      ends_at r.lines r.events r.sessions told.0 (Some fault) told.2 r.few (inr (subst (λ (rest : Option (List ℕ)). Stopping rest (length r.lines) r.sessions fault) told.1 d.next))
 
 -- ---- the statuses ----
 

@@ -1,5 +1,5 @@
 -- A whole session is opened over its disks, or it is not, and they are back on the shelf.
-use Rattle.std.proofs.Common.{◌≡◌, ◌≤◌, ℕ, Bool, true, false, List, [], ◌∷◌, Option, None, Some, inl, inr, refl, sym, ap, ◌∙◌, subst, arith}
+use Rattle.std.proofs.Common.{◌≡◌, ◌≤◌, ℕ, Bool, true, false, List, [], ◌∷◌, Option, None, Some, Result, Ok, Err, inl, inr, refl, sym, ap, ◌∙◌, subst, arith}
 use Rattle.std.specs.Prelude.{◌⊎◌, ◌&&◌, IfSome}
 use Rattle.std.proofs.lemmas.Bool.{cases_eq}
 use Rattle.disk_model.specs.Disk.{Meaning}
@@ -25,10 +25,10 @@ use Rattle.two_worlds.specs.Rooms.{is_role}
 use Rattle.two_worlds.specs.Pumps as pump
 use Rattle.two_worlds.specs.declared.not_open.NotOpen.{NotOpen}
 use Rattle.two_worlds.specs.declared.pump.Pump.{Pump}
-use Rattle.netpump.specs.Lending.{ReadAt, IsOutAt, RisesAt, AreOnShelf}
-use Rattle.netpump.specs.Shelves.{Places, disk_name, reading_in, reading_at, HasFound, IsRefusedFor, LeavesOtherSessions, AllAreBack, Spares, Readies}
-use Rattle.netpump.specs.Sessions.{StandsForRunning, Lends, LendsPump}
-use Rattle.netpump.specs.Runners.{fault_of, outcome_at, HandsOver, lent, BeginsNone, TurnGoes, TurnStops, IsDeviceOutcome}
+use Rattle.netpump.specs.Lending.{ReadAt, IsOutAt, RisesAt, AreOnShelf, Spares, Readies}
+use Rattle.netpump.specs.Shelves.{Places, disk_name, reading_in, reading_at, HasFound, IsRefusedFor, LeavesOtherSessions, AllAreBack, SparesSession, ReadiesSession}
+use Rattle.netpump.specs.Sessions.{LendsNew}
+use Rattle.netpump.specs.Runners.{fault_of, outcome_at, Begins, IsDeviceOutcome, IsOfBeginning}
 use Rattle.netpump.specs.declared.session.Session.{Session}
 use Rattle.netpump.specs.declared.session.Session.TheVariants as sessions
 use Rattle.netpump.specs.declared.replay.Outcome.{Outcome}
@@ -38,8 +38,8 @@ use Rattle.netpump.proofs.Shelving.{read_in, rose_more, others_so, all_back, spa
 -- ---- the session begins ----
 
 module _ {D : Type 0} (g : Ghosts D) (d : Meaning D) (before now : Places) (row : SessionRow) (low high recv : D) (p : Pump D g) where
-  abbrev begun : Option (Session D g)
-  begun = Some (sessions.Whole row.id p)
+  abbrev begun : Session D g
+  begun = sessions.Whole row.id p
 
   module _ (low_out : IsOutAt now row.id roles.Low (d.count low)) (high_out : IsOutAt now row.id roles.High (d.count high)) (recv_out : IsOutAt now row.id roles.Recv (d.count recv))
       (others : LeavesOtherSessions before now row.id)
@@ -49,7 +49,7 @@ module _ {D : Type 0} (g : Ghosts D) (d : Meaning D) (before now : Places) (row 
     out_so roles.High = out_still now row.id roles.High _ _ (counts_more d _ _ _ _ high_goes.serves) high_out
     out_so roles.Recv = out_still now row.id roles.Recv _ _ (counts_more d _ _ _ _ recv_goes.serves) recv_out
 
-    pub lends_so : Lends d before now begun
+    pub lends_so : LendsNew d before now begun
     lends_so = record { out = out_so; others = others }
 
   module _ (lawful : IsLawfulRow row) (low_read : ReadAt before row.id roles.Low (d.reading low)) (high_read : ReadAt before row.id roles.High (d.reading high)) (recv_read : ReadAt before row.id roles.Recv (d.reading recv))
@@ -62,9 +62,9 @@ module _ {D : Type 0} (g : Ghosts D) (d : Meaning D) (before now : Places) (row 
     has_found =
         rw (read_in _ _ low_read, read_in _ _ high_read, read_in _ _ recv_read) found.1
 
-    pub begins_so : TurnGoes d before now None (lines.Session row) begun [] outcomes.Applied
+    pub begins_so : Begins d before now (lines.Session row) (Ok begun)
     begins_so = (
-      Some (Whole (record { row = row; past = first_past row f })),
+      Whole (record { row = row; past = first_past row f }),
       (λ session. f, ((lawful, found.1.can_open, refl), refl), has_found),
       record { up = up; is_of = (refl, same, stands f found.1) },
     )
@@ -119,17 +119,17 @@ turned : (old new a b fresh : List ℕ) → (new ≡ old) ⊎ ((old ≡ []) × (
 turned old new a b fresh (inl same) at on = inl (on ∙ same ∙ sym at)
 turned old new a b fresh (inr made) at on = inr (at ∙ made.0, on ∙ made.1)
 
+-- so of the disks of one session
+session_spared : (before now : Places) (id : ℕ) → Spares before now → SparesSession before now id
+session_spared before now id spares role some = spares (disk_name id role) some
+
+session_readied : (before now : Places) (row : SessionRow) → Readies before now row → ReadiesSession before now row
+session_readied before now row readies role = elim (readies (disk_name row.id role)) [ inl same ↦ inl same | inr fresh ↦ inr (fresh.1, fresh.2) ]
+
 -- a disk can't be taken off the shelf
-pub untaken_goes : {D : Type 0} {g : Ghosts D} (d : Meaning D) (before now : Places) (row : SessionRow) (role : Role) (session : Option (Session D g)) → session ≡ None → IsLawfulRow row → Spares before now
-    → TurnGoes d before now None (lines.Session row) session [] (outcomes.Stopped (faults.Device row.id role))
-untaken_goes d before now row role session none lawful spares =
-    inr (inr (record { row = row; line_is = refl; lawful = lawful; none = refl; silent = refl; cause = inl (role, refl, (none, spares)) }))
-
-pub unremembered : {D : Type 0} {g : Ghosts D} (d : Meaning D) (before now : Places) (row : SessionRow) (session : Option (Session D g)) → session ≡ None → TurnGoes d before now None (lines.Session row) session [] outcomes.Memory
-unremembered {D} {g} d before now row session none = (refl, refl, subst (λ (s : Option (Session D g)). StandsForRunning d s None) (sym none) tt)
-
-pub none_hands : {D : Type 0} {g : Ghosts D} (told : Type 0) (d : Meaning D) (before now : Places) (session : Option (Session D g)) → session ≡ None → (told → AllAreBack before now) → HandsOver told d before now session
-none_hands {D} {g} told d before now session none back = subst (λ (s : Option (Session D g)). HandsOver told d before now s) (sym none) back
+pub untaken_goes : {D : Type 0} (g : Ghosts D) (d : Meaning D) (before now : Places) (row : SessionRow) (role : Role) → IsLawfulRow row → Spares before now
+    → Begins {g = g} d before now (lines.Session row) (Err (outcomes.Stopped (faults.Device row.id role)))
+untaken_goes g d before now row role lawful spares = (row, refl, lawful, inl (role, refl, session_spared before now row.id spares))
 
 pub returns_all : (before mid now : Places) (id : ℕ) → LeavesOtherSessions before mid id → LeavesOtherSessions mid now id → (low high recv : List ℕ) → AreOnShelf now id low high recv → AllAreBack before now
 returns_all before mid now id taken returned low high recv on = all_back before mid now id taken returned low high recv on
@@ -167,29 +167,22 @@ module _ {D : Type 0} (g : Ghosts D) (d : Meaning D) (before mid now : Places) (
     refused_at : (why : Why) → IsRefused row (readied row roles.Low (d.reading low)) (readied row roles.High (d.reading high)) (readied row roles.Recv (d.reading recv)) e.role why → IsRefusedFor before row e.role why
     refused_at why h = rw (at_low, at_high, at_recv) h
 
-    barred_goes : (why : Why) (session : Option (Session D g)) → session ≡ None → IsLawfulRow row → e.why ≡ Some why → is_device why ≡ false
-        → TurnGoes d before now None (lines.Session row) session [] (outcomes.Stopped (faults.Disk row.id e.role (why_number why) (why_values why).0 (why_values why).1))
-    barred_goes why session none lawful is fine =
+    barred_goes : (why : Why) → IsLawfulRow row → e.why ≡ Some why → is_device why ≡ false
+        → Begins {g = g} d before now (lines.Session row) (Err (outcomes.Stopped (faults.Disk row.id e.role (why_number why) (why_values why).0 (why_values why).1)))
+    barred_goes why lawful is fine =
         let refused = subst (λ (w : Option Why). IfSome w (λ x. is_device x ≡ false → d.tells → IsRefused row (readied row roles.Low (d.reading low)) (readied row roles.High (d.reading high)) (readied row roles.Recv (d.reading recv)) e.role x)) is back.refused in
-        inr (inr (record {
-          row = row;
-          line_is = refl;
-          lawful = lawful;
-          none = refl;
-          silent = refl;
-          cause = inr (e.role, why, refl, (none, refused_at why (refused fine tells), readies (λ role. none_failed role e why is fine)));
-        }))
+        (row, refl, lawful, inr (e.role, why, refl, refused_at why (refused fine tells), session_readied before now row (readies (λ role. none_failed role e why is fine))))
 
-    unopened_some : (why : Why) (session : Option (Session D g)) → session ≡ None → IsLawfulRow row → e.why ≡ Some why → (b : Bool) → is_device why ≡ b
-        → TurnGoes d before now None (lines.Session row) session [] (outcomes.Stopped (fault_of row.id e.role why))
-    unopened_some why session none lawful is true b =
-        subst (λ (x : Fault). TurnGoes d before now None (lines.Session row) session [] (outcomes.Stopped x)) (sym (device_fault row.id e.role why b)) (untaken_goes d before now row e.role session none lawful spares)
-    unopened_some why session none lawful is false b =
-        subst (λ (x : Fault). TurnGoes d before now None (lines.Session row) session [] (outcomes.Stopped x)) (sym (disk_fault row.id e.role why b)) (barred_goes why session none lawful is b)
+    unopened_some : (why : Why) → IsLawfulRow row → e.why ≡ Some why → (b : Bool) → is_device why ≡ b
+        → Begins {g = g} d before now (lines.Session row) (Err (outcomes.Stopped (fault_of row.id e.role why)))
+    unopened_some why lawful is true b =
+        subst (λ (x : Fault). Begins {g = g} d before now (lines.Session row) (Err (outcomes.Stopped x))) (sym (device_fault row.id e.role why b)) (untaken_goes g d before now row e.role lawful spares)
+    unopened_some why lawful is false b =
+        subst (λ (x : Fault). Begins {g = g} d before now (lines.Session row) (Err (outcomes.Stopped x))) (sym (disk_fault row.id e.role why b)) (barred_goes why lawful is b)
 
-    pub unopened_goes : (why : Option Why) (session : Option (Session D g)) → session ≡ None → IsLawfulRow row → e.why ≡ why → TurnGoes d before now None (lines.Session row) session [] (outcome_at row.id e.role why)
-    unopened_goes None session none lawful is = unremembered d before now row session none
-    unopened_goes (Some why) session none lawful is = unopened_some why session none lawful is (is_device why) refl
+    pub unopened_goes : (why : Option Why) → IsLawfulRow row → e.why ≡ why → Begins {g = g} d before now (lines.Session row) (Err (outcome_at row.id e.role why))
+    unopened_goes None lawful is = tt
+    unopened_goes (Some why) lawful is = unopened_some why lawful is (is_device why) refl
 
 module _ {D : Type 0} (d : Meaning D) (mid : Places) (row : SessionRow) (low high recv : D) (e : NotOpen D) (back : ComeBack d row low high recv e) where
   module _ (first last : ℕ) (low_out : IsOutAt mid row.id roles.Low (d.count low)) (high_out : IsOutAt mid row.id roles.High (d.count high)) (recv_out : IsOutAt mid row.id roles.Recv (d.count recv))
@@ -207,6 +200,6 @@ pub never_refused : (id : ℕ) (role : Role) (why : Option Why) (outcome : Outco
 never_refused id role None outcome is e = cc
 never_refused id role (Some why) outcome is e = cc
 
-pub never_unwritten : (id : ℕ) (role : Role) (why : Option Why) (outcome : Outcome) → outcome ≡ outcome_at id role why → outcome ≡ outcomes.Unwritten → ⊥
-never_unwritten id role None outcome is e = cc
-never_unwritten id role (Some why) outcome is e = cc
+pub of_beginning : (id : ℕ) (role : Role) (why : Option Why) (outcome : Outcome) → outcome ≡ outcome_at id role why → IsOfBeginning outcome
+of_beginning id role None outcome is = subst IsOfBeginning (sym is) tt
+of_beginning id role (Some why) outcome is = subst IsOfBeginning (sym is) tt

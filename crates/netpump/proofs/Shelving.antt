@@ -12,8 +12,8 @@ use Rattle.pump_frame.specs.declared.row.SessionRow.{SessionRow}
 use Rattle.stable_buffer.specs.Format.{new_bytes, size_of}
 use Rattle.two_worlds.specs.Openings.{LeavesDisk}
 use Rattle.two_worlds.specs.Rooms.{Serves}
-use Rattle.netpump.specs.Lending.{ReadAt, IsOutAt, RisesAt, AreOnShelf}
-use Rattle.netpump.specs.Shelves.{Places, disk_name, reading_in, reading_at, LeavesOtherSessions, AllAreBack, Spares, Readies}
+use Rattle.netpump.specs.Lending.{ReadAt, IsOutAt, RisesAt, AreOnShelf, Spares, Readies}
+use Rattle.netpump.specs.Shelves.{Places, disk_name, reading_in, reading_at, LeavesOtherSessions, AllAreBack}
 
 pub read_in : (w : Whereabouts) (r : List ℕ) → reading_given w ≡ Some r → reading_in w ≡ r
 read_in (OnShelf x) r e = cc

@@ -12,10 +12,8 @@ use Rattle.script_reader.specs.Grammar.{IsLine}
 use Rattle.script_reader.specs.Lines.{LineReading, to_come, AreLines, IsUnended, IsNextLine}
 use Rattle.script_reader.specs.Openings.{Openings}
 use Rattle.script_reader.specs.Transcript.{text, fault_line}
-use Rattle.script_reader.specs.Scripts.{Begun, Whole, Alone, GoesOn, Leads, LeadTo, IsRefused, Ends}
-use Rattle.script_reader.proofs.Leading.{led}
+use Rattle.script_reader.specs.Sessions.{Sessions, no_sessions, ScriptLeads, ScriptLeadsTo, ScriptRefuses, AllEnd}
 use Rattle.script_reader.proofs.LineEnds.{Keeps-then}
-use Rattle.script_reader.proofs.Soundness.{sound_lead}
 use Rattle.pump_link.proofs.Known.{Appends-none}
 use Rattle.netpump.specs.Outputs.{Gathers}
 use Rattle.netpump.specs.Runners.{Closes, EndsAs}
@@ -23,7 +21,7 @@ use Rattle.netpump.specs.declared.replay.Ended.{Ended}
 use Rattle.netpump.specs.declared.replay.Ended.TheVariants as ended
 use Rattle.netpump.specs.Replays.{IsSoFar, Replayed, IsFaultyAt, Stopping, fault_after, IsNear, IsWithinLine, IsNearLast, IsFinished, IsUnread, IsFaulted, IsOutput, IsCutOff, Wrote, WroteFront}
 use Rattle.netpump.specs.Shelves.{Shelved}
-use Rattle.netpump.proofs.Kept.{keep_laws, timed_so, sound_end}
+use Rattle.netpump.proofs.Kept.{keep_laws, timed_so, sound_ends}
 use Rattle.netpump.proofs.Gathered.{text-more, gathers_then, appends_then, front_then, front_more}
 
 -- ---- the lines ----
@@ -54,45 +52,21 @@ AreLines-more all mid rest (first ∷ lines) line bytes h u i c = (h.0, h.1, h.2
 -- ---- what they do ----
 
 -- one more line at the end
-lead_more : (o : Openings) (from to next : Option Begun) (lines : List Line) (line : Line) (events more : List Event) → LeadTo o from lines to events → Leads o to line next more → LeadTo o from (lines ++ line ∷ []) next (events ++ more)
+lead_more : (o : Openings) (from to next : Sessions) (lines : List Line) (line : Line) (events more : List Event) → ScriptLeadsTo o from lines to events → ScriptLeads o to line next more → ScriptLeadsTo o from (lines ++ line ∷ []) next (events ++ more)
 lead_more o from to next [] line events more h step =
-    (next, more, [], subst (λ r. Leads o r line next more) h.0 step, (refl, refl), ap (λ z. z ++ more) h.1 ∙ sym (append-nil more))
+    (next, more, [], subst (λ r. ScriptLeads o r line next more) h.0 step, (refl, refl), ap (λ z. z ++ more) h.1 ∙ sym (append-nil more))
 lead_more o from to next (first ∷ lines) line events more h step =
     (h.0, h.1, h.2 ++ more, h.3, lead_more o h.0 to next lines line h.2 more h.4 step, ap (λ z. z ++ more) h.5 ∙ append_assoc h.1 h.2 more)
 
-goes_somewhere : (s : Begun) (line : Line) (printed : List Event) → GoesOn s line None printed → ⊥
-goes_somewhere (Whole s) line printed h = cc h.1.2
-goes_somewhere (Alone s) line printed h = cc h.1.2
-
--- a session that has begun goes on, and nothing is printed before one begins
-led_on : (o : Openings) (running : Option Begun) (line : Line) (printed : List Event) → Leads o running line None printed → (running ≡ None) × (printed ≡ [])
-led_on o running line printed h =
-    led o running line None printed h
-    (λ skip after silent. (sym after, silent))
-    (λ s none new after silent. (none, silent))
-    (λ s some goes. absurd (goes_somewhere s line printed goes))
-
-pub stays_begun : (o : Openings) (s : Begun) (lines : List Line) (events : List Event) → LeadTo o (Some s) lines None events → ⊥
-stays_begun o s [] events h = cc h.0
-stays_begun o s (line ∷ later) events (None, first, second, step, more, e) = let none : Some s ≡ None = (led_on o (Some s) line first step).0 in cc
-stays_begun o s (line ∷ later) events (Some t, first, second, step, more, e) = stays_begun o t later second more
-
--- nothing is printed before the session begins
-pub silent : (o : Openings) (lines : List Line) (events : List Event) → LeadTo o None lines None events → events ≡ []
-silent o [] events h = h.1
-silent o (line ∷ later) events (None, first, second, step, more, e) =
-    e ∙ ap (λ z. z ++ second) (led_on o None line first step).1 ∙ silent o later second more
-silent o (line ∷ later) events (Some t, first, second, step, more, e) = absurd (stays_begun o t later second more)
-
 -- ---- so far ----
 
-pub so_far_more : (o : Openings) (all mid rest : Option (List ℕ)) (lines : List Line) (events more : List Event) (running next : Option Begun) (line : Line) (bytes : List ℕ)
-    → IsSoFar o all mid lines events running → IsUnended bytes → IsLine line bytes → Consumes mid rest (bytes ++ 10 ∷ []) → Leads o running line next more
+pub so_far_more : (o : Openings) (all mid rest : Option (List ℕ)) (lines : List Line) (events more : List Event) (running next : Sessions) (line : Line) (bytes : List ℕ)
+    → IsSoFar o all mid lines events running → IsUnended bytes → IsLine line bytes → Consumes mid rest (bytes ++ 10 ∷ []) → ScriptLeads o running line next more
     → IsSoFar o all rest (lines ++ line ∷ []) (events ++ more) next
 so_far_more o all mid rest lines events more running next line bytes s u i c step =
-    record { spelled = AreLines-more all mid rest lines line bytes s.spelled u i c; leads = lead_more o None running next lines line events more s.leads step }
+    record { spelled = AreLines-more all mid rest lines line bytes s.spelled u i c; leads = lead_more o no_sessions running next lines line events more s.leads step }
 
-pub so_far_kept : (o : Openings) (all mid rest : Option (List ℕ)) (lines : List Line) (events : List Event) (running : Option Begun) → IsSoFar o all mid lines events running → Keeps mid rest → IsSoFar o all rest lines events running
+pub so_far_kept : (o : Openings) (all mid rest : Option (List ℕ)) (lines : List Line) (events : List Event) (running : Sessions) → IsSoFar o all mid lines events running → Keeps mid rest → IsSoFar o all rest lines events running
 so_far_kept o all mid rest lines events running s k = record { spelled = AreLines-kept all mid rest lines s.spelled k; leads = s.leads }
 
 pub fresh_gathers : (held : List ℕ) (a : Option (List ℕ)) → held ≡ [] → Gathers [] held a a (text [])
@@ -106,29 +80,17 @@ shown held later a b c t p q = rw append-nil at (gathers_then [] held later a b 
 pub printed : (held later : List ℕ) (a b c : Option (List ℕ)) (events more : List Event) → Gathers [] held a b (text events) → Gathers held later b c (text more) → Gathers [] later a c (text (events ++ more))
 printed held later a b c events more p q = rw (text-more events more) (gathers_then [] held later a b c (text events) (text more) p q)
 
-no_front : (xs ys : List ℕ) → [] ≡ xs ++ ys → xs ≡ []
-no_front [] ys e = refl
-no_front (x ∷ xs) ys e = cc
-
--- nothing was written yet
-pub unwritten : (o : Openings) (held : List ℕ) (a b : Option (List ℕ)) (lines : List Line) (events : List Event) (running : Option Begun) → running ≡ None → LeadTo o None lines running events
-    → Gathers [] held a b (text events) → Appends a b []
-unwritten o held a b lines events (Some r) e h p = cc
-unwritten o held a b lines events None e h p =
-    let nothing : [] ≡ p.0 ++ held = ap text (sym (silent o lines events h)) ∙ p.2 in
-    subst (λ z. Appends a b z) (no_front p.0 held nothing) p.1
-
 pub stopped_text : (events printed : List Event) (fault : Fault) → text (events ++ printed) ++ fault_line fault ≡ text events ++ (text printed ++ fault_line fault)
 stopped_text events printed fault = ap (λ t. t ++ fault_line fault) (text-more events printed) ∙ append_assoc (text events) (text printed) (fault_line fault)
 
 -- ---- the ends ----
 
 -- so far it was replayed
-abbrev pub replayed : (o : Openings) (all rest : Option (List ℕ)) (lines : List Line) (events : List Event) (running : Option Begun) → IsSoFar o all rest lines events running → length lines < 2 ^ 32 → Replayed all
+abbrev pub replayed : (o : Openings) (all rest : Option (List ℕ)) (lines : List Line) (events : List Event) (running : Sessions) → IsSoFar o all rest lines events running → length lines < 2 ^ 32 → Replayed all
 replayed o all rest lines events running s few =
-    record { openings = o; lines = lines; events = events; running = running; rest = rest; so_far = s; few = few; laws = keep_laws o lines running events (inl s.leads); timed = timed_so o lines running events s.leads }
+    record { openings = o; lines = lines; events = events; sessions = running; rest = rest; so_far = s; few = few; laws = keep_laws o lines running events (inl s.leads); timed = timed_so o lines running events s.leads }
 
-module _ (shelf : Shelved) (o : Openings) (all rest left old now new : Option (List ℕ)) (before after : ℕ) (lines : List Line) (events : List Event) (running : Option Begun)
+module _ (shelf : Shelved) (o : Openings) (all rest left old now new : Option (List ℕ)) (before after : ℕ) (lines : List Line) (events : List Event) (running : Sessions)
     (s : IsSoFar o all rest lines events running) (few : length lines < 2 ^ 32) (held : List ℕ) (w : Gathers [] held old now (text events)) where
   abbrev r : Replayed all
   r = replayed o all rest lines events running s few
@@ -140,17 +102,17 @@ module _ (shelf : Shelved) (o : Openings) (all rest left old now new : Option (L
   pub wrote_front : (x : List ℕ) → IsNearLast rest left → IsOutput shelf left before after r (text events ++ x) → AppendsFront now new (held ++ x) → WroteFront all old new (IsCutOff shelf left before after)
   wrote_front x near e a = (r, text events ++ x, (near, e), front_then [] held old now new (text events) x w a)
 
-  done : (last : List Event) → IsAtEnd rest → Ends running last → shelf.keeps o running (events ++ last) → IsFinished shelf r (text events ++ text last)
+  done : (last : List Event) → IsAtEnd rest → AllEnd running.begun last → shelf.keeps o running.begun (events ++ last) → IsFinished shelf r (text events ++ text last)
   done last e ends disks = record {
     ended = e;
     printed = events ++ last;
     transcript = (running, events, last, s.leads, ends, refl);
-    sound = sound_end running events last ends (sound_lead o lines running events s.leads);
+    sound = sound_ends o lines running events last s.leads ends;
     output_is = sym (text-more events last);
     disks = disks;
   }
 
-  module _ (disks : shelf.keeps o running events) where
+  module _ (disks : shelf.keeps o running.begun events) where
     faulted : (number : ℕ) → IsNear rest left → IsFaultyAt (length lines) rest running → Script number ≡ fault_after (length lines) → IsFaulted shelf left r (text events ++ fault_line (Script number))
     faulted number near f e = record { faulty = f; taken = near; output_is = ap (λ x. text events ++ fault_line x) e; disks = disks }
 
@@ -178,7 +140,7 @@ module _ (shelf : Shelved) (o : Openings) (all rest left old now new : Option (L
           | inr is ↦ rw is.0 (wrote_front (fault_line Read) (inr (inl (within.0, within.1, within.2))) (inr (inr (inr (inl (unread within because))))) is.1)
         ]
 
-  pub finished : (result : Ended) (rose risen : ℕ) (last : List Event) → IsAtEnd rest → Ends running last → shelf.keeps o running (events ++ last)
+  pub finished : (result : Ended) (rose risen : ℕ) (last : List Event) → IsAtEnd rest → AllEnd running.begun last → shelf.keeps o running.begun (events ++ last)
       → Closes now new rose risen (held ++ text last) ended.Done result → EndsAs shelf all left old new before after result
   finished result rose risen last e ends disks c =
       elim c [
@@ -187,9 +149,9 @@ module _ (shelf : Shelved) (o : Openings) (all rest left old now new : Option (L
       ]
 
 -- what a line prints could not be handed on
-pub unprinted : (shelf : Shelved) (o : Openings) (all mid rest left old now new : Option (List ℕ)) (before after : ℕ) (lines : List Line) (events more : List Event) (running next : Option Begun) (line : Line) (bytes held : List ℕ)
-    → IsSoFar o all mid lines events running → length lines + 1 < 2 ^ 32 → IsUnended bytes → IsLine line bytes → Consumes mid rest (bytes ++ 10 ∷ []) → Leads o running line next more
-    → shelf.keeps o next (events ++ more)
+pub unprinted : (shelf : Shelved) (o : Openings) (all mid rest left old now new : Option (List ℕ)) (before after : ℕ) (lines : List Line) (events more : List Event) (running next : Sessions) (line : Line) (bytes held : List ℕ)
+    → IsSoFar o all mid lines events running → length lines + 1 < 2 ^ 32 → IsUnended bytes → IsLine line bytes → Consumes mid rest (bytes ++ 10 ∷ []) → ScriptLeads o running line next more
+    → shelf.keeps o next.begun (events ++ more)
     → IsNear mid left → Gathers [] held old now (text events) → AppendsFront now new (held ++ text more) → WroteFront all old new (IsCutOff shelf left before after)
 unprinted shelf o all mid rest left old now new before after lines events more running next line bytes held s few u i c step disks near w a =
     let so_far = so_far_more o all mid rest lines events more running next line bytes s u i c step in
@@ -207,10 +169,10 @@ pub next_line : (old new : LineReading) (left rest : Option (List ℕ)) (line : 
 next_line old new left rest line n = (n.0, to_come new rest, n.1, n.2, n.3, Keeps-same (to_come new rest))
 
 -- one that can't be applied, and one that can't be read
-pub faulty_line : (old new : LineReading) (left rest : Option (List ℕ)) (line : Line) (running : Option Begun) (number : ℕ) → IsNextLine old new left rest (lined.Line line) → IsRefused running line → IsFaultyAt number (to_come old left) running
+pub faulty_line : (old new : LineReading) (left rest : Option (List ℕ)) (line : Line) (running : Sessions) (number : ℕ) → IsNextLine old new left rest (lined.Line line) → ScriptRefuses running line → IsFaultyAt number (to_come old left) running
 faulty_line old new left rest line running number n e = inl (inr (line, to_come new rest, next_line old new left rest line n, e))
 
-pub faulty_bad : (old new : LineReading) (left rest : Option (List ℕ)) (lines : List Line) (running : Option Begun) → IsNextLine old new left rest lined.Bad → length lines ≡ old.number → IsFaultyAt (length lines) (to_come old left) running
+pub faulty_bad : (old new : LineReading) (left rest : Option (List ℕ)) (lines : List Line) (running : Sessions) → IsNextLine old new left rest lined.Bad → length lines ≡ old.number → IsFaultyAt (length lines) (to_come old left) running
 faulty_bad old new left rest lines running n e = elim n.1 [ inl bad ↦ inl (inl bad) | inr last ↦ inr (e ∙ last.0, last.1) ]
 
 pub line_number : (old new : LineReading) (left rest : Option (List ℕ)) (line : Line) (lines : List Line) (number : ℕ) → IsNextLine old new left rest (lined.Line line) → length lines ≡ old.number → number ≡ new.number → number < 2 ^ 32 → Script number ≡ fault_after (length lines)

@@ -10,6 +10,7 @@ use Rattle.script_reader.specs.Past.{Past}
 use Rattle.script_reader.specs.Steps.{LineComing, IsCrowded, IsRefusedWhole, Overfills}
 use Rattle.script_reader.specs.Alone.{PastAlone, joined_alone, IsCrowdedAlone, IsRefusedAlone, StepAlone}
 use Rattle.script_reader.specs.Scripts.{Running, RunningAlone, Begun, Whole, Alone, IsRefused, Stops}
+use Rattle.script_reader.specs.Sessions.{Sessions, session_in, session_at, is_in_turn, RefusesOne, ScriptRefuses, StopsOne, ScriptStops}
 use Rattle.script_reader.proofs.One.{arrives_one}
 
 crowded_overfills : (s : SessionRow) (p : Past) (line : Line) (q : Past) (printed : List Event) (end n size : ℕ) → IsCrowded p line → Overfills s p line q printed end n size → ⊥
@@ -70,9 +71,18 @@ alone_refuses s (lines.Done session moment time) h = h
 alone_refuses s (lines.Restart session moment) h = h
 alone_refuses s (lines.ReceiverRestart session moment) h = h
 
-pub stops_refused : (running : Option Begun) (line : Line) (after : Option Begun) (printed : List Event) (fault : Fault) → Stops running line after printed fault → IsRefused running line → ⊥
+stops_refused : (running : Option Begun) (line : Line) (after : Option Begun) (printed : List Event) (fault : Fault) → Stops running line after printed fault → IsRefused running line → ⊥
 stops_refused None line after printed fault h r = h
 stops_refused (Some (Whole s)) line after printed fault (timely, (q, end, n, size, over, e, f)) r =
     elim (whole_refuses s line r) [ inl late ↦ both_ways _ late timely | inr crowded ↦ crowded_overfills s.row s.past line q printed end n size crowded over ]
 stops_refused (Some (Alone s)) line after printed fault (timely, (q, step, e, f)) r =
     elim (alone_refuses s line r) [ inl late ↦ both_ways _ late timely | inr crowded ↦ crowded_stores s.row s.past line q printed crowded step ]
+
+stops_refused_by : (t : Sessions) (line : Line) (at : Option ℕ) (u : Sessions) (printed : List Event) (fault : Fault) → StopsOne t line at u printed fault → RefusesOne t line at → ⊥
+stops_refused_by t line None u printed fault h r = h
+stops_refused_by t line (Some n) u printed fault (turn, (s, h, e)) (inl late) = both_ways (is_in_turn t line) late turn
+stops_refused_by t line (Some n) u printed fault (turn, (s, h, e)) (inr r) = stops_refused (session_at n t.begun) line (Some s) printed fault h r
+
+-- so in a whole script
+pub script_stops_refused : (t : Sessions) (line : Line) (u : Sessions) (printed : List Event) (fault : Fault) → ScriptStops t line u printed fault → ScriptRefuses t line → ⊥
+script_stops_refused t line u printed fault h r = stops_refused_by t line (session_in line) u printed fault h r

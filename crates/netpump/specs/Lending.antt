@@ -1,10 +1,13 @@
 -- Disks that are off the shelf. It serves the private functions and the proofs.
-use Rattle.std.specs.Prelude.{◌≡◌, ◌≤◌, ℕ, List, Some}
+use Rattle.std.specs.Prelude.{◌≡◌, ◌⊎◌, ◌≤◌, ℕ, List, [], Some}
+use Rattle.disk_model.specs.declared.name.DiskName.{DiskName}
 use Rattle.disk_model.specs.declared.name.Role.{Role}
 use Rattle.disk_model.specs.declared.name.Role.TheVariants as roles
 use Rattle.disk_model.specs.Shelf.{OnShelf, Out, reading_given}
 use Rattle.pump_frame.specs.Counts.{Rose}
-use Rattle.netpump.specs.Shelves.{Places, disk_name}
+use Rattle.pump_frame.specs.declared.row.SessionRow.{SessionRow}
+use Rattle.stable_buffer.specs.Format.{new_bytes}
+use Rattle.netpump.specs.Shelves.{Places, disk_name, reading_in}
 
 -- the disk of a role that is there to be taken reads this
 abbrev pub ReadAt : Places → ℕ → Role → List ℕ → Type 0
@@ -23,3 +26,12 @@ pub record AreOnShelf (places : Places) (session : ℕ) (low high recv : List �
   pub low_on : places (disk_name session roles.Low) ≡ OnShelf low
   pub high_on : places (disk_name session roles.High) ≡ OnShelf high
   pub recv_on : places (disk_name session roles.Recv) ≡ OnShelf recv
+
+-- every disk of the shelf that was not empty reads as it did
+abbrev pub Spares : Places → Places → Type 0
+Spares before after = (name : DiskName) → (reading_in (before name) ≡ [] → ⊥) → reading_in (after name) ≡ reading_in (before name)
+
+-- .. and one that was is so still, or is a new disk of the row
+abbrev pub Readies : Places → Places → SessionRow → Type 0
+Readies before after row = (name : DiskName) → (reading_in (after name) ≡ reading_in (before name))
+    ⊎ ((name.session ≡ row.id) × (reading_in (before name) ≡ []) × (reading_in (after name) ≡ new_bytes row name.role 0))

@@ -21,11 +21,12 @@ use Rattle.script_reader.specs.Breaks.{Breaks}
 use Rattle.script_reader.specs.Past.{Past}
 use Rattle.script_reader.specs.Steps.{is_timely}
 use Rattle.disk_model.specs.declared.name.Role.TheVariants as roles
-use Rattle.script_reader.specs.Faults.{IsFaulty}
+use Rattle.script_reader.specs.Faults.{IsScriptFaulty}
 use Rattle.script_reader.specs.Lines.{AreLines, IsUnended, IsSome}
 use Rattle.script_reader.specs.Openings.{Openings}
 use Rattle.script_reader.specs.Readouts.{low_lines, Sound}
-use Rattle.script_reader.specs.Scripts.{Running, Begun, Whole, Alone, LeadTo, Stops, ComesTo, IsTranscript}
+use Rattle.script_reader.specs.Scripts.{Running, Begun, Whole, Alone}
+use Rattle.script_reader.specs.Sessions.{Sessions, no_sessions, session_in, session_at, lines_of, events_of, is_in_turn, ScriptLeadsTo, ScriptStops, ScriptComesTo, IsScriptTranscript}
 use Rattle.script_reader.specs.Sides.{low_side_of, told_to_low, full_moments, averages, restarts_in, HaveOwnMoments, OpenAlike}
 use Rattle.script_reader.specs.Transcript.{text, fault_line}
 use Rattle.two_worlds.specs.Timelines.{IsTimeline}
@@ -45,34 +46,42 @@ TellsWords old new status =
 
 -- ---- what the laws say ----
 
--- before each of these lines, what was printed until then is sound
+-- what was printed of each session is sound
+abbrev pub IsEachSound : List Begun → List Event → Type 0
+IsEachSound begun printed = (number : ℕ) → Sound (session_at number begun) (events_of number printed)
+
+-- before each of these lines, what was printed until then is so
 abbrev pub AreSound : Openings → List Line → List Event → Type 0
 AreSound o lines printed = (before : List Line) (line : Line) (later : List Line) → lines ≡ before ++ line ∷ later
-    → (running : Option Begun) × (first : List Event) × (rest : List Event)
-    × LeadTo o None before running first × (printed ≡ first ++ rest) × Sound running first
+    → (t : Sessions) × (first : List Event) × (rest : List Event)
+    × ScriptLeadsTo o no_sessions before t first × (printed ≡ first ++ rest) × IsEachSound t.begun first
 
--- whatever other lines do, on whatever disks: with the same low side, which opens alike and to which the same was told,
--- they print the same `low` lines
+-- whatever other lines do, and the lines of other sessions, on whatever disks: with the same low side of a session, which
+-- opens alike and to which the same was told, the session's `low` lines are the same
 abbrev pub DecideLow : Openings → List Line → List Event → Type 0
-DecideLow o lines printed = (p : Openings) (others : List Line) (after : Option Begun) (events : List Event)
-    → ComesTo p others after events → OpenAlike o p lines
-    → low_side_of lines ≡ low_side_of others → told_to_low printed ≡ told_to_low events → low_lines printed ≡ low_lines events
+DecideLow o lines printed = (p : Openings) (others : List Line) (after : Sessions) (events : List Event)
+    → ScriptComesTo p others after events → (number : ℕ) → OpenAlike o p (lines_of number lines)
+    → low_side_of (lines_of number lines) ≡ low_side_of (lines_of number others)
+    → told_to_low (events_of number printed) ≡ told_to_low (events_of number events)
+    → low_lines (events_of number printed) ≡ low_lines (events_of number events)
 
 -- .. and where no two of its looks have one moment, with the same moments of a full buffer, the same averages, and a
 -- buffer that each restart finds full in both or in none
 abbrev pub DecideLowByMoments : Openings → List Line → List Event → Type 0
-DecideLowByMoments o lines printed = (p : Openings) (others : List Line) (after : Option Begun) (events : List Event)
-    → ComesTo p others after events → OpenAlike o p lines
-    → low_side_of lines ≡ low_side_of others → HaveOwnMoments (low_side_of lines)
-    → full_moments printed ≡ full_moments events → restarts_in printed ≡ restarts_in events → averages printed ≡ averages events
-    → low_lines printed ≡ low_lines events
+DecideLowByMoments o lines printed = (p : Openings) (others : List Line) (after : Sessions) (events : List Event)
+    → ScriptComesTo p others after events → (number : ℕ) → OpenAlike o p (lines_of number lines)
+    → low_side_of (lines_of number lines) ≡ low_side_of (lines_of number others) → HaveOwnMoments (low_side_of (lines_of number lines))
+    → full_moments (events_of number printed) ≡ full_moments (events_of number events)
+    → restarts_in (events_of number printed) ≡ restarts_in (events_of number events)
+    → averages (events_of number printed) ≡ averages (events_of number events)
+    → low_lines (events_of number printed) ≡ low_lines (events_of number events)
 
 -- What holds of these lines, which came to `after` and printed this, and the last of which may have stopped the script.
--- At their end, and before each of them: the `low` lines are the replies of the low history, each with its moment; no more
--- messages are live than there are places, no more are held than lie between the hands, the receiver's list is a front of
--- the accepted one, and at most 64 arrivals wait. And what Low was told decides its `low` lines
-pub record KeepLaws (o : Openings) (lines : List Line) (after : Option Begun) (printed : List Event) : Type 0 where
-  pub sound : Sound after printed
+-- At their end, and before each of them, of each session: its `low` lines are the replies of its low history, each with
+-- its moment; no more messages are live than there are places, no more are held than lie between the hands, the receiver's
+-- list is a front of the accepted one, and at most 64 arrivals wait. And what its Low was told decides its `low` lines
+pub record KeepLaws (o : Openings) (lines : List Line) (after : Sessions) (printed : List Event) : Type 0 where
+  pub sound : IsEachSound after.begun printed
   pub each : AreSound o lines printed
   pub low : DecideLow o lines printed
   pub by_moments : DecideLowByMoments o lines printed
@@ -88,58 +97,67 @@ IsTimed (Some (Alone s)) = (events : List Timed) × IsTimelineAlone s.row s.past
 
 -- these lines were read, all could be applied on disks that were found so, and they print these events; what is left of
 -- the script is `rest`
-pub record IsSoFar (o : Openings) (all rest : Option (List ℕ)) (lines : List Line) (events : List Event) (running : Option Begun) : Type 0 where
+pub record IsSoFar (o : Openings) (all rest : Option (List ℕ)) (lines : List Line) (events : List Event) (sessions : Sessions) : Type 0 where
   pub spelled : AreLines all lines rest
-  pub leads : LeadTo o None lines running events
+  pub leads : ScriptLeadsTo o no_sessions lines sessions events
 
--- the lines of a script that were replayed, what the disks were found to hold, what the lines print, and the session and
+-- the lines of a script that were replayed, what the disks were found to hold, what the lines print, and the sessions and
 -- the rest that they leave
 pub record Replayed (all : Option (List ℕ)) : Type 0 where
   pub openings : Openings
   pub lines : List Line
   pub events : List Event
-  pub running : Option Begun
+  pub sessions : Sessions
   pub rest : Option (List ℕ)
-  pub so_far : IsSoFar openings all rest lines events running
+  pub so_far : IsSoFar openings all rest lines events sessions
   pub few : length lines < 2 ^ 32
-  pub laws : KeepLaws openings lines running events
-  pub timed : IsTimed running
+  pub laws : KeepLaws openings lines sessions events
+  pub timed : (number : ℕ) → IsTimed (session_at number sessions.begun)
 
 -- after so many lines: the next one is outside the grammar or can't be applied, or would have the number 2^32
-abbrev pub IsFaultyAt : ℕ → Option (List ℕ) → Option Begun → Type 0
-IsFaultyAt number rest running = IsFaulty rest running ⊎ ((number ≡ 2 ^ 32 - 1) × IfSome rest IsSome)
+abbrev pub IsFaultyAt : ℕ → Option (List ℕ) → Sessions → Type 0
+IsFaultyAt number rest sessions = IsScriptFaulty rest sessions ⊎ ((number ≡ 2 ^ 32 - 1) × IfSome rest IsSome)
 
 -- after so many lines: the next one can be applied, has a number below 2^32, and stops the script with this fault, after
 -- it has led to `after` and printed this
-pub record Stopping (rest : Option (List ℕ)) (number : ℕ) (running : Option Begun) (fault : Fault) : Type 0 where
+pub record Stopping (rest : Option (List ℕ)) (number : ℕ) (sessions : Sessions) (fault : Fault) : Type 0 where
   pub few : number + 1 < 2 ^ 32
   pub line : Line
   pub left : Option (List ℕ)
   pub spelled : AreLines rest (line ∷ []) left
-  pub after : Option Begun
+  pub after : Sessions
   pub printed : List Event
-  pub stops : Stops running line after printed fault
+  pub stops : ScriptStops sessions line after printed fault
 
--- after so many lines: the next one can be applied, has a number below 2^32, and is cut short by the device of this disk
--- of the session, after it has led to `past`, in which a call may be unfinished, and printed this
-pub record Breaking (rest : Option (List ℕ)) (number : ℕ) (running : Option Begun) (role : Role) : Type 0 where
-  pub few : number + 1 < 2 ^ 32
-  pub line : Line
-  pub left : Option (List ℕ)
-  pub spelled : AreLines rest (line ∷ []) left
+-- the line can be applied, and is cut short by the device of a disk of this role of its session, which has led to `past`,
+-- in which a call may be unfinished, and printed this
+pub record BreaksLine (sessions : Sessions) (line : Line) (printed : List Event) : Type 0 where
+  pub in_turn : is_in_turn sessions line ≡ true
   pub session : Running
-  pub running_is : running ≡ Some (Whole session)
+  pub named : session_in line ≡ Some session.row.id
+  pub there : session_at session.row.id sessions.begun ≡ Some (Whole session)
   pub timely : is_timely session.row session.past line ≡ true
+  pub role : Role
   pub past : Past
-  pub printed : List Event
   pub breaks : Breaks session.row session.past line role past printed
 
--- after so many lines, which began no session: the next one is to begin that of this row, and has a number below 2^32
-pub record Beginning (rest : Option (List ℕ)) (number : ℕ) (running : Option Begun) (row : SessionRow) : Type 0 where
+-- after so many lines: so of the next one, which has a number below 2^32
+pub record Breaking (rest : Option (List ℕ)) (number : ℕ) (sessions : Sessions) : Type 0 where
+  pub few : number + 1 < 2 ^ 32
+  pub line : Line
+  pub left : Option (List ℕ)
+  pub spelled : AreLines rest (line ∷ []) left
+  pub printed : List Event
+  pub off : BreaksLine sessions line printed
+
+-- after so many lines: the next one is in its turn to begin the session of this row, which isn't there, and has a number
+-- below 2^32
+pub record Beginning (rest : Option (List ℕ)) (number : ℕ) (sessions : Sessions) (row : SessionRow) : Type 0 where
   pub few : number + 1 < 2 ^ 32
   pub left : Option (List ℕ)
   pub spelled : AreLines rest (Session row ∷ []) left
-  pub none : running ≡ None
+  pub in_turn : is_in_turn sessions (Session row) ≡ true
+  pub none : session_at row.id sessions.begun ≡ None
   pub lawful : IsLawfulRow row
 
 -- the fault of the line after so many
@@ -166,79 +184,94 @@ IsNearLast rest left = IsAtEnd rest ⊎ (IsNear rest left ⊎ ((line : Line) × 
 pub record IsFinished (shelf : Shelved) {all : Option (List ℕ)} (r : Replayed all) (output : List ℕ) : Type 0 where
   pub ended : IsAtEnd r.rest
   pub printed : List Event
-  pub transcript : IsTranscript r.openings r.lines printed
-  pub sound : Sound r.running printed
+  pub transcript : IsScriptTranscript r.openings r.lines printed
+  pub sound : IsEachSound r.sessions.begun printed
   pub output_is : output ≡ text printed
-  pub disks : shelf.keeps r.openings r.running printed
+  pub disks : shelf.keeps r.openings r.sessions.begun printed
+
+-- the lines of each session are those of the script that has its lines alone
+abbrev pub StandAlone : {all : Option (List ℕ)} → Replayed all → List ℕ → Type 0
+StandAlone r output = (printed : List Event) × (output ≡ text printed)
+    × ((number : ℕ) → IsScriptTranscript r.openings (lines_of number r.lines) (events_of number printed))
 
 -- a read failed, and every whole line that was taken was replayed: the output is what they print, and the fault
 pub record IsUnread (shelf : Shelved) {all : Option (List ℕ)} (left : Option (List ℕ)) (before now : ℕ) (r : Replayed all) (output : List ℕ) : Type 0 where
   pub rose : Rose before now
   pub taken : IsWithinLine r.rest left
   pub output_is : output ≡ text r.events ++ fault_line Read
-  pub disks : shelf.keeps r.openings r.running r.events
+  pub disks : shelf.keeps r.openings r.sessions.begun r.events
 
 -- the next line is faulty: the output is what the lines before it print, and the fault with its number. At most 4,096
 -- bytes were taken from the faulty line on
 pub record IsFaulted (shelf : Shelved) {all : Option (List ℕ)} (left : Option (List ℕ)) (r : Replayed all) (output : List ℕ) : Type 0 where
-  pub faulty : IsFaultyAt (length r.lines) r.rest r.running
+  pub faulty : IsFaultyAt (length r.lines) r.rest r.sessions
   pub taken : IsNear r.rest left
   pub output_is : output ≡ text r.events ++ fault_line (fault_after (length r.lines))
-  pub disks : shelf.keeps r.openings r.running r.events
+  pub disks : shelf.keeps r.openings r.sessions.begun r.events
 
 -- the next line stops the script: the output is what the lines before it print, what it prints up to its stop, and the
 -- fault, and the laws hold of all that is printed. At most 4,096 bytes were taken from that line on
 pub record IsStopped (shelf : Shelved) {all : Option (List ℕ)} (left : Option (List ℕ)) (fault : Fault) (r : Replayed all) (output : List ℕ) : Type 0 where
-  pub next : Stopping r.rest (length r.lines) r.running fault
+  pub next : Stopping r.rest (length r.lines) r.sessions fault
   pub laws : KeepLaws r.openings (r.lines ++ next.line ∷ []) next.after (r.events ++ next.printed)
   pub taken : IsNear r.rest left
   pub output_is : output ≡ text (r.events ++ next.printed) ++ fault_line fault
-  pub disks : shelf.keeps r.openings next.after (r.events ++ next.printed)
+  pub disks : shelf.keeps r.openings next.after.begun (r.events ++ next.printed)
 
 -- .. the device of its low disk fails in a store, as the line tells
+abbrev pub IsFailedAt : Shelved → {all : Option (List ℕ)} → Option (List ℕ) → ℕ → Replayed all → List ℕ → Type 0
+IsFailedAt shelf left session r output = IsStopped shelf left (Device session roles.Low) r output
+
 abbrev pub IsFailed : Shelved → {all : Option (List ℕ)} → Option (List ℕ) → Replayed all → List ℕ → Type 0
-IsFailed shelf left r output = (session : ℕ) × IsStopped shelf left (Device session roles.Low) r output
+IsFailed shelf left r output = (session : ℕ) × IsFailedAt shelf left session r output
 
 -- .. a message does not fit on the receiver's disk
 abbrev pub IsOverfilled : Shelved → {all : Option (List ℕ)} → Option (List ℕ) → Replayed all → List ℕ → Type 0
 IsOverfilled shelf left r output = (session end size_of_message size : ℕ) × IsStopped shelf left (Full session end size_of_message size) r output
 
--- a disk of the session fails in the next line: the output is what the lines before it print, what it prints up to then,
--- and the fault; its `low` lines are the replies of the low history, the refusal of a look whose store failed with them
-pub record IsBroken (shelf : Shelved) {all : Option (List ℕ)} (left : Option (List ℕ)) (role : Role) (r : Replayed all) (output : List ℕ) : Type 0 where
-  pub next : Breaking r.rest (length r.lines) r.running role
+-- a disk of this session fails in the next line: the output is what the lines before it print, what it prints up to then,
+-- and the fault; the session's `low` lines are the replies of its low history, the refusal of a look whose store failed
+-- with them
+pub record IsBroken (shelf : Shelved) {all : Option (List ℕ)} (left : Option (List ℕ)) (session : ℕ) (r : Replayed all) (output : List ℕ) : Type 0 where
+  pub next : Breaking r.rest (length r.lines) r.sessions
+  pub session_is : session ≡ next.off.session.row.id
   pub taken : IsNear r.rest left
-  pub output_is : output ≡ text (r.events ++ next.printed) ++ fault_line (Device next.session.row.id role)
-  pub replies : LowReplies next.session.row next.past.history (low_lines (r.events ++ next.printed))
-  pub disks : shelf.breaks r.openings (record { row = next.session.row; past = next.past })
+  pub output_is : output ≡ text (r.events ++ next.printed) ++ fault_line (Device next.off.session.row.id next.off.role)
+  pub replies : LowReplies next.off.session.row next.off.past.history (low_lines (events_of next.off.session.row.id r.events ++ next.printed))
+  pub disks : shelf.breaks r.openings r.sessions.begun (record { row = next.off.session.row; past = next.off.past }) r.events
 
--- a disk can't be taken off the shelf, or fails when it is opened for the session that the next line is to begin
-pub record IsUnopened (shelf : Shelved) {all : Option (List ℕ)} (left : Option (List ℕ)) (role : Role) (r : Replayed all) (output : List ℕ) : Type 0 where
+-- a disk can't be taken off the shelf, or fails when it is opened for this session, which the next line is to begin
+pub record IsUnopened (shelf : Shelved) {all : Option (List ℕ)} (left : Option (List ℕ)) (session : ℕ) (r : Replayed all) (output : List ℕ) : Type 0 where
   pub row : SessionRow
-  pub next : Beginning r.rest (length r.lines) r.running row
+  pub role : Role
+  pub next : Beginning r.rest (length r.lines) r.sessions row
+  pub session_is : session ≡ row.id
   pub taken : IsNear r.rest left
   pub output_is : output ≡ text r.events ++ fault_line (Device row.id role)
-  pub disks : shelf.spares
+  pub disks : shelf.spares r.openings r.sessions.begun row.id r.events
 
 -- the disks are refused that are opened for the session which the next line is to begin: the fault has the first cause
 pub record IsBarred (shelf : Shelved) {all : Option (List ℕ)} (left : Option (List ℕ)) (r : Replayed all) (output : List ℕ) : Type 0 where
   pub row : SessionRow
-  pub next : Beginning r.rest (length r.lines) r.running row
+  pub next : Beginning r.rest (length r.lines) r.sessions row
   pub taken : IsNear r.rest left
   pub role : Role
   pub why : Why
   pub output_is : output ≡ text r.events ++ fault_line (Disk row.id role (why_number why) (why_values why).0 (why_values why).1)
-  pub disks : shelf.refuses row role why
+  pub disks : shelf.refuses r.openings r.sessions.begun row role why r.events
 
--- a device stops the script: as a line tells, in a line of a whole session, or when its disks are opened
+-- a device of this session stops the script: as a line tells, in a line of a whole session, or when its disks are opened
+abbrev pub IsDownAt : Shelved → {all : Option (List ℕ)} → Option (List ℕ) → ℕ → Replayed all → List ℕ → Type 0
+IsDownAt shelf left session r output = IsFailedAt shelf left session r output
+    ⊎ (IsBroken shelf left session r output
+    ⊎ IsUnopened shelf left session r output)
+
 abbrev pub IsDown : Shelved → {all : Option (List ℕ)} → Option (List ℕ) → Replayed all → List ℕ → Type 0
-IsDown shelf left r output = IsFailed shelf left r output
-    ⊎ (((role : Role) × IsBroken shelf left role r output)
-    ⊎ ((role : Role) × IsUnopened shelf left role r output))
+IsDown shelf left r output = (session : ℕ) × IsDownAt shelf left session r output
 
 -- the output is what a replay that has come so far writes, or begins with
 abbrev pub IsOutput : Shelved → {all : Option (List ℕ)} → Option (List ℕ) → ℕ → ℕ → Replayed all → List ℕ → Type 0
-IsOutput shelf left before now r output = ((output ≡ text r.events) × shelf.keeps r.openings r.running r.events)
+IsOutput shelf left before now r output = ((output ≡ text r.events) × shelf.keeps r.openings r.sessions.begun r.events)
     ⊎ (IsFinished shelf r output
     ⊎ (IsFaulted shelf left r output
     ⊎ (IsUnread shelf left before now r output
@@ -246,6 +279,7 @@ IsOutput shelf left before now r output = ((output ≡ text r.events) × shelf.k
     ⊎ (IsDown shelf left r output
     ⊎ IsBarred shelf left r output)))))
 
+-- a front of what a replay writes that has taken no more than this of the script
 abbrev pub IsCutOff : Shelved → {all : Option (List ℕ)} → Option (List ℕ) → ℕ → ℕ → Replayed all → List ℕ → Type 0
 IsCutOff shelf left before now r output = IsNearLast r.rest left × IsOutput shelf left before now r output
 
@@ -261,11 +295,16 @@ WroteFront all old new End = (r : Replayed all) × (output : List ℕ) × End r 
 
 -- ---- the headline, by what is read of the disks at the return ----
 
--- the output begins with these lines' text, and each message that they acknowledge is on the disks
+-- the lines came to these sessions, or the next one did, which stopped the script
+abbrev pub IsLeftWith : {all : Option (List ℕ)} → Replayed all → Sessions → Type 0
+IsLeftWith r t = (t ≡ r.sessions) ⊎ ((fault : Fault) × (next : Stopping r.rest (length r.lines) r.sessions fault) × (t ≡ next.after))
+
+-- the output begins with these lines' text, and each message that they acknowledge is on the disks of its session
 abbrev pub HasOutlived : Places → {all : Option (List ℕ)} → Replayed all → List ℕ → Type 0
 HasOutlived after r output =
-    (printed : List Event) × (last : List ℕ) × (output ≡ text printed ++ last) × AcknowledgedOutlive after r.running printed
+    (t : Sessions) × IsLeftWith r t × (printed : List Event) × (last : List ℕ) × (output ≡ text printed ++ last)
+    × ((number : ℕ) → AcknowledgedOutlive after (session_at number t.begun) (events_of number printed))
 
--- the receiver has a front of what was accepted, each message once and in order
+-- the receiver of each session has a front of what the session accepted, each message once and in order
 abbrev pub IsReceived : Places → {all : Option (List ℕ)} → Replayed all → List ℕ → Type 0
-IsReceived after r output = ReceiverHasFront after r.running
+IsReceived after r output = (t : Sessions) × IsLeftWith r t × ((number : ℕ) → ReceiverHasFront after (session_at number t.begun))

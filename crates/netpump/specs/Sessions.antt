@@ -1,5 +1,6 @@
--- What a session of the code stands for, and what a line of a script does to it. `d` is what its disks tell.
-use Rattle.std.specs.Prelude.{◌≡◌, ◌≤◌, ℕ, Bool, true, false, List, [], Option, Some, None}
+-- What the sessions of the code stand for, and what a line of a script does to one of them. `d` is what its disks tell.
+use Rattle.std.specs.Prelude.{◌≡◌, ◌<◌, ◌≤◌, ℕ, Bool, true, false, ◌==◌, nat_lt, nat_le, if◌then◌else◌, List, [], ◌∷◌, length, find, slice_get, Option, Some, None, vec_capacity}
+use Rattle.std.specs.List.{AllByRecursion, position_or_len}
 use Rattle.disk_model.specs.Disk.{Meaning}
 use Rattle.disk_model.specs.declared.name.Role.{Role}
 use Rattle.disk_model.specs.declared.name.Role.TheVariants as roles
@@ -12,15 +13,17 @@ use Rattle.script_reader.specs.declared.event.Event.{Event}
 use Rattle.script_reader.specs.declared.fault.Fault.TheVariants as faults
 use Rattle.script_reader.specs.declared.line.Line.{Line}
 use Rattle.script_reader.specs.Scripts.{Running, Begun, Whole, Alone, GoesOn, IsRefused, Stops}
+use Rattle.script_reader.specs.Sessions.{Sessions as Script, session_at}
 use Rattle.two_worlds.specs.declared.applied.Stop.{Stop}
 use Rattle.two_worlds.specs.declared.applied.Stop.TheVariants as stops
 use Rattle.two_worlds.specs.Pumps as pump
 use Rattle.two_worlds.specs.declared.pump.Pump.{Pump}
 use Rattle.two_worlds.specs.LowPumps as low_pump
 use Rattle.netpump.specs.Lending.{IsOutAt}
-use Rattle.netpump.specs.Shelves.{Places, disk_name, LeavesOtherSessions}
+use Rattle.netpump.specs.Shelves.{Places, disk_name, LeavesSession, LeavesOtherSessions}
 use Rattle.netpump.specs.declared.session.Session.{Session}
 use Rattle.netpump.specs.declared.session.Session.TheVariants as sessions
+use Rattle.netpump.specs.declared.sessions.Sessions.{Sessions}
 
 -- ---- a session ----
 
@@ -104,11 +107,16 @@ pub record LendsPump {D : Type 0} {g : _} (d : Meaning D) (before now : Places) 
   pub out : (role : Role) → IsOutAt now id role (d.count (pump.disk_at role p))
   pub others : LeavesOtherSessions before now id
 
--- so of a session; a low side alone has none
-abbrev pub Lends : {D : Type 0} {g : _} → Meaning D → Places → Places → Option (Session D g) → Type 0
-Lends d before now (Some (sessions.Whole id p)) = LendsPump d before now id p
-Lends d before now (Some (sessions.Alone id p)) = now ≡ before
-Lends d before now None = now ≡ before
+-- so of a session that begins; a low side alone has none
+abbrev pub LendsNew : {D : Type 0} {g : _} → Meaning D → Places → Places → Session D g → Type 0
+LendsNew d before now (sessions.Whole id p) = LendsPump d before now id p
+LendsNew d before now (sessions.Alone id p) = now ≡ before
+
+-- the disks of a session are with it; those of a number that has no session with disks are where they were
+abbrev pub Lends : {D : Type 0} {g : _} → Meaning D → Places → Places → ℕ → Option (Session D g) → Type 0
+Lends d before now number (Some (sessions.Whole id p)) = (role : Role) → IsOutAt now id role (d.count (pump.disk_at role p))
+Lends d before now number (Some (sessions.Alone id p)) = LeavesSession before now number
+Lends d before now number None = LeavesSession before now number
 
 -- no disk has failed less often than before, and the session is the same
 abbrev pub GoesOnWith : {D : Type 0} {g : _} → Meaning D → Session D g → Session D g → Type 0
@@ -129,3 +137,61 @@ HasFailed d now (Some (sessions.Whole id p)) =
     (role : Role) × (given : ℕ) × (now (disk_name id role) ≡ Out given) × Rose given (d.count (pump.disk_at role p))
 HasFailed d now (Some (sessions.Alone id p)) = Unit {0}
 HasFailed d now None = ⊥
+
+-- ---- all sessions ----
+
+-- the session of this number
+abbrev pub found_at : {D : Type 0} {g : _} → ℕ → List (Session D g) → Option (Session D g)
+found_at number begun = find (λ s. id_of s == number) begun
+
+-- the sessions with this one in its place, by rising number
+abbrev pub with_begun : {D : Type 0} {g : _} → Session D g → List (Session D g) → List (Session D g)
+with_begun s [] = s ∷ []
+with_begun s (t ∷ later) =
+    if nat_lt (id_of s) (id_of t) then s ∷ t ∷ later
+    else (if id_of s == id_of t then s ∷ later else t ∷ with_begun s later)
+
+-- how many of them stand before this number's place
+abbrev pub place_in : {D : Type 0} {g : _} → ℕ → List (Session D g) → ℕ
+place_in number begun = position_or_len (λ s. nat_le number (id_of s)) begun
+
+-- the session, if there is one, has this number
+abbrev pub is_of_number : {D : Type 0} {g : _} → ℕ → Option (Session D g) → Bool
+is_of_number number None = false
+is_of_number number (Some s) = id_of s == number
+
+-- this is the number's place, and its session is there or not
+abbrev pub IsPlaced : {D : Type 0} {g : _} → ℕ → ℕ → List (Session D g) → Bool → Type 0
+IsPlaced number place begun is_there = (place ≡ place_in number begun) × (is_of_number number (slice_get begun place) ≡ is_there)
+
+-- their numbers rise
+abbrev pub Rise : {D : Type 0} {g : _} → List (Session D g) → Type 0
+Rise [] = Unit {0}
+Rise (s ∷ later) = AllByRecursion (λ t. id_of s < id_of t) later × Rise later
+
+-- .. and there is room for 16
+pub record AreInOrder {D : Type 0} {g : _} (s : Sessions D g) : Type 0 where
+  pub rise : Rise s.begun.items
+  pub few : length s.begun.items ≤ 16
+  pub room : 16 ≤ vec_capacity s.begun
+
+-- each stands for what a session of the script has been through
+abbrev pub EachStandsFor : {D : Type 0} {g : _} → Meaning D → List (Session D g) → List Begun → Type 0
+EachStandsFor d [] [] = Unit {0}
+EachStandsFor d (s ∷ later) (running ∷ more) = StandsFor d s running × EachStandsFor d later more
+EachStandsFor d [] (running ∷ more) = ⊥
+EachStandsFor d (s ∷ later) [] = ⊥
+
+-- they stand for what the script has come to
+pub record AllStandFor {D : Type 0} {g : _} (d : Meaning D) (s : Sessions D g) (t : Script) : Type 0 where
+  pub each : EachStandsFor d s.begun.items t.begun
+  pub moment : s.moment ≡ t.moment
+  pub under_way : s.is_under_way ≡ t.is_under_way
+
+-- each came to this, also where a disk of one failed in its last line
+abbrev pub AllHaveComeTo : {D : Type 0} {g : _} → Meaning D → List (Session D g) → List Begun → Type 0
+AllHaveComeTo d begun running = (number : ℕ) → HasComeTo d (found_at number begun) (session_at number running)
+
+-- the disks of each are with it, and all others where they were
+abbrev pub AllLend : {D : Type 0} {g : _} → Meaning D → Places → Places → List (Session D g) → Type 0
+AllLend d before now begun = (number : ℕ) → Lends d before now number (found_at number begun)

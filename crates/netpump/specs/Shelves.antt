@@ -17,6 +17,7 @@ use Rattle.script_reader.specs.declared.event.Event.{Event}
 use Rattle.script_reader.specs.Openings.{Found, Openings}
 use Rattle.script_reader.specs.Readouts.{low_lines}
 use Rattle.script_reader.specs.Scripts.{Running, Begun, Whole, Alone}
+use Rattle.script_reader.specs.Sessions.{session_at, events_of}
 use Rattle.two_worlds.specs.Disks.{StandFor, StandForLeft}
 use Rattle.two_worlds.specs.Laws.{KeepMessages, AckOutlives}
 use Rattle.two_worlds.specs.Openings.{readied, StandForFound, IsRefused}
@@ -74,25 +75,28 @@ LeavesOtherSessions before after session = (name : DiskName) → (name.session �
 abbrev pub AllAreBack : Places → Places → Type 0
 AllAreBack before after = (name : DiskName) → IsOut (after name) → IsOut (before name)
 
--- every disk that was not empty reads as it did
-abbrev pub Spares : Places → Places → Type 0
-Spares before after = (name : DiskName) → (reading_in (before name) ≡ [] → ⊥) → reading_in (after name) ≡ reading_in (before name)
+-- every disk of this session is where it was
+abbrev pub LeavesSession : Places → Places → ℕ → Type 0
+LeavesSession before after session = (role : Role) → after (disk_name session role) ≡ before (disk_name session role)
+
+-- every disk of it that was not empty reads as it did
+abbrev pub SparesSession : Places → Places → ℕ → Type 0
+SparesSession before after session = (role : Role) → (reading_at before session role ≡ [] → ⊥) → reading_at after session role ≡ reading_at before session role
 
 -- .. and one that was is so still, or is a new disk of the row
-abbrev pub Readies : Places → Places → SessionRow → Type 0
-Readies before after row = (name : DiskName) → (reading_in (after name) ≡ reading_in (before name))
-    ⊎ ((name.session ≡ row.id) × (reading_in (before name) ≡ []) × (reading_in (after name) ≡ new_bytes row name.role 0))
+abbrev pub ReadiesSession : Places → Places → SessionRow → Type 0
+ReadiesSession before after row = (role : Role) → (reading_at after row.id role ≡ reading_at before row.id role)
+    ⊎ ((reading_at before row.id role ≡ []) × (reading_at after row.id role ≡ new_bytes row role 0))
 
 -- Of a session that began on what its disks were found to hold: they stand for the world that it came to; the receiver's
 -- list is a front of the accepted one, and every accepted message is in it or in the live slots of the low disk; so is, with
--- the payload that was accepted, every message whose acknowledgement was printed. Other disks are as they were
+-- the payload that was accepted, every message whose acknowledgement was printed
 pub record KeepsSession (before after : Places) (s : Running) (f : Found) (printed : List Event) : Type 0 where
   pub found : HasFound before s.row f
   pub holds : HoldsWorld after s.row s.past.world
   pub prefix : OfDisks after s.row.id (KeepMessages s.row s.past.world)
   pub outlives : AllByRecursion (λ (x : Sent). AckOutlives s.row s.past.world.accepted prefix.received
       (reading_at after s.row.id roles.Low) (reading_at after s.row.id roles.High) x.reply) (low_lines printed)
-  pub others : LeavesOtherSessions before after s.row.id
 
 -- ---- what the headline says of the disks ----
 
@@ -113,39 +117,49 @@ ReceiverHasFront after (Some (Whole s)) =
 ReceiverHasFront after (Some (Alone s)) = Unit {0}
 ReceiverHasFront after None = Unit {0}
 
--- ---- the session of a script ----
+-- ---- the sessions of a script ----
 
--- so of the session that a script has begun, if it has a shelf's disks; else all disks are where they were
-abbrev pub IsKept : Places → Places → Openings → Option Begun → List Event → Type 0
-IsKept before after o (Some (Whole s)) printed = KeepsSession before after s (o s.row.id) printed
-IsKept before after o (Some (Alone s)) printed = after ≡ before
-IsKept before after o None printed = after ≡ before
+-- so of the session of this number, where the script has begun it and it has disks of the shelf; else those of this number
+-- are where they were
+abbrev pub IsKept : Places → Places → ℕ → Openings → Option Begun → List Event → Type 0
+IsKept before after number o (Some (Whole s)) printed = KeepsSession before after s (o s.row.id) printed
+IsKept before after number o (Some (Alone s)) printed = LeavesSession before after number
+IsKept before after number o None printed = LeavesSession before after number
 
--- .. of one whose last line was cut short by the device of a disk: its world keeps all bounds, the unfinished call was
+-- .. of each number, of all these sessions
+abbrev pub AreKept : Places → Places → Openings → List Begun → List Event → Type 0
+AreKept before after o begun printed = (number : ℕ) → IsKept before after number o (session_at number begun) (events_of number printed)
+
+-- .. of each number but this one
+abbrev pub AreOthersKept : Places → Places → ℕ → Openings → List Begun → List Event → Type 0
+AreOthersKept before after one o begun printed =
+    (number : ℕ) → (number ≡ one → ⊥) → IsKept before after number o (session_at number begun) (events_of number printed)
+
+-- of a session whose last line was cut short by the device of a disk: its world keeps all bounds, the unfinished call was
 -- kept or lost, and no message that was accepted or acknowledged is lost
 pub record BreaksSession (before after : Places) (s : Running) (f : Found) : Type 0 where
   pub found : HasFound before s.row f
   pub lawful : IsLawful s.past.world
   pub holds : HoldsLeft after s.row s.past.world
   pub prefix : OfDisks after s.row.id (KeepMessages s.row s.past.world)
-  pub others : LeavesOtherSessions before after s.row.id
 
 -- ---- all that is said of a shelf, by how a replay ends ----
 
+-- `begun` are the sessions that the script has begun, and `printed` is what was printed
 pub record Shelved : Type 1 where
-  -- the session came to this, and this was printed
-  pub keeps : Openings → Option Begun → List Event → Type 0
-  -- its last line was cut short by the device of a disk
-  pub breaks : Openings → Running → Type 0
-  -- a disk could not be taken off the shelf, or failed when it was to be opened
-  pub spares : Type 0
-  -- the disks were refused
-  pub refuses : SessionRow → Role → Why → Type 0
+  -- each has come to this
+  pub keeps : Openings → List Begun → List Event → Type 0
+  -- the last line of this one was cut short by the device of a disk
+  pub breaks : Openings → List Begun → Running → List Event → Type 0
+  -- a disk of the session of this number could not be taken off the shelf, or failed when it was to be opened
+  pub spares : Openings → List Begun → ℕ → List Event → Type 0
+  -- the disks of this row were refused
+  pub refuses : Openings → List Begun → SessionRow → Role → Why → List Event → Type 0
 
 abbrev pub shelved : Places → Places → Shelved
 shelved before after = record {
-  keeps = IsKept before after;
-  breaks = λ o s. BreaksSession before after s (o s.row.id);
-  spares = Spares before after;
-  refuses = λ row role why. IsRefusedFor before row role why × Readies before after row;
+  keeps = AreKept before after;
+  breaks = λ o begun s printed. BreaksSession before after s (o s.row.id) × AreOthersKept before after s.row.id o begun printed;
+  spares = λ o begun number printed. SparesSession before after number × AreOthersKept before after number o begun printed;
+  refuses = λ o begun row role why printed. IsRefusedFor before row role why × ReadiesSession before after row × AreOthersKept before after row.id o begun printed;
 }

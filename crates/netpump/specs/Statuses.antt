@@ -5,24 +5,24 @@ use Rattle.script_reader.specs.declared.event.Event.{Event}
 use Rattle.script_reader.specs.declared.fault.Fault.{Fault}
 use Rattle.script_reader.specs.declared.fault.Fault.TheVariants.{Words, Read, Script, Device, Disk, Full}
 use Rattle.script_reader.specs.Openings.{Openings}
-use Rattle.script_reader.specs.Scripts.{Begun}
+use Rattle.script_reader.specs.Sessions.{Sessions}
 use Rattle.netpump.specs.Replays.{Replayed, IsSoFar, IsFaultyAt, fault_after, Stopping}
 
 -- after so many lines, with no fault nothing is left; with one the next line is faulty, or it stops the script
-abbrev pub IsEnd : List ℕ → ℕ → Option Begun → Option Fault → Type 0
-IsEnd rest number running None = rest ≡ []
-IsEnd rest number running (Some fault) = (IsFaultyAt number (Some rest) running × (fault ≡ fault_after number))
-    ⊎ Stopping (Some rest) number running fault
+abbrev pub IsEnd : List ℕ → ℕ → Sessions → Option Fault → Type 0
+IsEnd rest number sessions None = rest ≡ []
+IsEnd rest number sessions (Some fault) = (IsFaultyAt number (Some rest) sessions × (fault ≡ fault_after number))
+    ⊎ Stopping (Some rest) number sessions fault
 
 -- the bytes begin with lines that can all be applied on disks that were found so, fewer than 2^32, and end so after them
 pub record EndsWith (o : Openings) (bytes : List ℕ) (end : Option Fault) : Type 0 where
   pub lines : List Line
   pub events : List Event
-  pub running : Option Begun
+  pub sessions : Sessions
   pub rest : List ℕ
-  pub so_far : IsSoFar o (Some bytes) (Some rest) lines events running
+  pub so_far : IsSoFar o (Some bytes) (Some rest) lines events sessions
   pub few : length lines < 2 ^ 32
-  pub is_end : IsEnd rest (length lines) running end
+  pub is_end : IsEnd rest (length lines) sessions end
 
 -- the status of a script that ends so
 abbrev pub status_of : Option Fault → ℕ

@@ -4,7 +4,7 @@ ghost use Rattle.pump_frame.specs.Counts.{Rose};
 ghost use Rattle.script_reader.specs.declared.fault.Fault.{Fault as Cause};
 ghost use Rattle.netpump.specs.Statuses.{HasStatus};
 ghost use Rattle.netpump.specs.Shelves.{AllAreBack, shelved};
-ghost use Rattle.netpump.specs.Replays.{IsReplay, TellsWords, IsFinished, IsUnread, IsFaulted, IsFailed, IsDown, IsBarred, IsOverfilled, IsCutOff, Wrote, WroteFront, HasOutlived, IsReceived};
+ghost use Rattle.netpump.specs.Replays.{IsReplay, TellsWords, IsFinished, StandAlone, IsUnread, IsFaulted, IsFailed, IsDown, IsBarred, IsOverfilled, IsCutOff, Wrote, WroteFront, HasOutlived, IsReceived};
 
 use crate::output::Output;
 use crate::replay::{Ended, replay, stop};
@@ -39,10 +39,10 @@ fn is_replay(words: &Vec<String>) -> bool
 /// - 10: a line's message does not fit on the receiver's disk; the same was written.
 ///
 /// Of 0, 5, 7, 8 and 10 it is the one whose cause is the first in the script, where it is none of the
-/// others. The disks that a session line takes off the shelf are back on it at the return. Where the
+/// others. The disks that session lines take off the shelf are back on it at the return. Where the
 /// shelf and its disks tell what they hold, the clauses say what the script printed (`Replayed`,
-/// `KeepLaws`) and what is read of the disks then (`Shelved`): they stand for the world that the session
-/// came to, and outlive this call with every message whose acknowledgement was printed. `docs/formats.md`
+/// `KeepLaws`) and what is read of the disks then (`Shelved`): those of each session stand for the world
+/// that it came to, and outlive this call with every message whose acknowledgement was printed. `docs/formats.md`
 /// has the script, the transcript, the disks and the last line at the statuses 2, 3, 5, 7, 8 and 10.
 pub fn batch<S: Shelf, I: Source, O: Sink>(
     alloc: Global,
@@ -63,13 +63,15 @@ pub fn batch<S: Shelf, I: Source, O: Sink>(
     // A read fails, and a write, only where the source's or the sink's count rose.
     ensures read { result ≡ 3 → Rose (I.faults script.old) (I.faults script.new) }
     ensures unwritten { result ≡ 4 → Rose (O.faults out.old) (O.faults out.new) }
-    // The headline, by what is read of the disks then: each message whose acknowledgement was written is on them, and the
-    // receiver has a front of what was accepted.
-    ensures outlives { (result ≡ 0) ⊎ ((result ≡ 3) ⊎ (result ≡ 5)) → S.told.tells → S.Disk.told.tells → Wrote (I.left script.old) (O.written out.old) (O.written out.new) (HasOutlived (S.told.disk shelf.new)) }
-    ensures prefix { (result ≡ 0) ⊎ ((result ≡ 3) ⊎ (result ≡ 5)) → S.told.tells → S.Disk.told.tells → Wrote (I.left script.old) (O.written out.old) (O.written out.new) (IsReceived (S.told.disk shelf.new)) }
+    // The headline, by what is read of the disks then: each message whose acknowledgement was written is on those of its
+    // session, and the receiver of each session has a front of what was accepted.
+    ensures outlives { (result ≡ 0) ⊎ ((result ≡ 3) ⊎ ((result ≡ 5) ⊎ (result ≡ 10))) → S.told.tells → S.Disk.told.tells → Wrote (I.left script.old) (O.written out.old) (O.written out.new) (HasOutlived (S.told.disk shelf.new)) }
+    ensures prefix { (result ≡ 0) ⊎ ((result ≡ 3) ⊎ ((result ≡ 5) ⊎ (result ≡ 10))) → S.told.tells → S.Disk.told.tells → Wrote (I.left script.old) (O.written out.old) (O.written out.new) (IsReceived (S.told.disk shelf.new)) }
     // How a replay ends; at 0, 5 and 10 the bytes of the script have no other status on the disks that were found.
     ensures done { result ≡ 0 → S.told.tells → S.Disk.told.tells → Wrote (I.left script.old) (O.written out.old) (O.written out.new) (λ r output. IsFinished (shelved (S.told.disk shelf.old) (S.told.disk shelf.new)) r output × HasStatus 0 r output) }
-    ensures memory { result ≡ 1 → S.told.tells → S.Disk.told.tells → Appends (O.written out.old) (O.written out.new) [] }
+    ensures memory { result ≡ 1 → Appends (O.written out.old) (O.written out.new) [] }
+    // .. where nothing stops it, the lines of each session are those of the script with its lines alone.
+    ensures alone { result ≡ 0 → S.told.tells → S.Disk.told.tells → Wrote (I.left script.old) (O.written out.old) (O.written out.new) StandAlone }
     ensures unread { result ≡ 3 → S.told.tells → S.Disk.told.tells → Wrote (I.left script.old) (O.written out.old) (O.written out.new) (IsUnread (shelved (S.told.disk shelf.old) (S.told.disk shelf.new)) (I.left script.new) (I.faults script.old) (I.faults script.new)) }
     ensures cut_off { result ≡ 4 → IsReplay (map string_bytes words.now.items) → S.told.tells → S.Disk.told.tells → WroteFront (I.left script.old) (O.written out.old) (O.written out.new) (IsCutOff (shelved (S.told.disk shelf.old) (S.told.disk shelf.new)) (I.left script.new) (I.faults script.old) (I.faults script.new)) }
     ensures faulted { result ≡ 5 → S.told.tells → S.Disk.told.tells → Wrote (I.left script.old) (O.written out.old) (O.written out.new) (λ r output. IsFaulted (shelved (S.told.disk shelf.old) (S.told.disk shelf.new)) (I.left script.new) r output × HasStatus 5 r output) }

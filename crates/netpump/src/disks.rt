@@ -5,8 +5,8 @@ ghost use Rattle.disk_model.specs.Shelf.{IsOut, OnShelf};
 ghost use Rattle.disk_model.specs.declared.name.Role.TheVariants as roles;
 ghost use Rattle.disk_model.specs.declared.shelf.ShelfFault.TheVariants.{Failed};
 ghost use Rattle.pump_frame.specs.Counts.{Rose};
-ghost use Rattle.netpump.specs.Shelves.{disk_name, LeavesOtherSessions, AllAreBack, Spares};
-ghost use Rattle.netpump.specs.Lending.{IsOutAt, ReadAt, RisesAt, AreOnShelf};
+ghost use Rattle.netpump.specs.Shelves.{disk_name, LeavesOtherSessions, AllAreBack};
+ghost use Rattle.netpump.specs.Lending.{IsOutAt, ReadAt, RisesAt, AreOnShelf, Spares};
 
 use disk_model::{Disk, DiskName, Role, Shelf, ShelfFault};
 

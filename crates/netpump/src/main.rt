@@ -10,6 +10,7 @@ mod file_shelf;
 mod output;
 mod replay;
 mod session;
+mod sessions;
 mod standard;
 #[cfg(test)]
 mod tests;

@@ -1,4 +1,4 @@
-ghost use Rattle.std.specs.Prelude.{◌≡◌, ◌≢◌, ◌≤◌, ◌⊎◌, [], ◌++◌, List, option_to_list, Option, None, Some, OnOk, OnErr};
+ghost use Rattle.std.specs.Prelude.{◌≡◌, ◌≢◌, ◌<◌, ◌≤◌, ◌⊎◌, ℕ, true, false, [], ◌++◌, List, length, Some, IfOk, IfErr, OnOk, OnErr, vec_len};
 ghost use Rattle.std.specs.Io.KnownBytes.{Appends};
 ghost use Rattle.disk_model.specs.declared.name.Role.{Role as DiskRole};
 ghost use Rattle.pump_frame.specs.Counts.{Rose};
@@ -9,19 +9,21 @@ ghost use Rattle.script_reader.specs.Grammar.{IsCount};
 ghost use Rattle.script_reader.specs.Lawful.{IsLawfulLine};
 ghost use Rattle.script_reader.specs.Heads.{line_with, CanHoldLine};
 ghost use Rattle.script_reader.specs.Lines.{LineIsReady};
-ghost use Rattle.script_reader.specs.Scripts.{Begun, Ends};
+ghost use Rattle.script_reader.specs.Scripts.{Begun};
+ghost use Rattle.script_reader.specs.Sessions.{Sessions as Script, no_sessions, session_in, begins_session as begins, is_in_turn, AllEnd};
 ghost use Rattle.script_reader.specs.declared.event.Event.{Event as Printed};
 ghost use Rattle.script_reader.specs.Transcript.{text, fault_line};
 ghost use Rattle.two_worlds.specs.Printing.{lines_in};
-ghost use Rattle.netpump.specs.Sessions.{IsUp, StandsFor, StandsForRunning, Lends, GoesOnWith, FailedWith, HasFailed};
+ghost use Rattle.netpump.specs.Sessions.{id_of, IsUp, StandsFor, LendsNew, GoesOnWith, FailedWith, HasFailed, found_at, Rise, IsPlaced, AreInOrder, AllStandFor, AllLend};
 ghost use Rattle.netpump.specs.Outputs.{held_of, Gathers};
 ghost use Rattle.netpump.specs.Replays.{IsFailed, Wrote};
-ghost use Rattle.netpump.specs.Shelves.{Places, AllAreBack, shelved};
-ghost use Rattle.netpump.specs.Runners.{AreUp, fault_of, outcome_of, outcome_at, TurnGoes, TurnDoes, TurnLeaves, HandsOver, LeftAs, IsAloneOr, lent, Closes, EndsAs, IsDeviceFault, IsDeviceOutcome, IsLineFault, StopsByLine};
+ghost use Rattle.netpump.specs.Shelves.{Places, AllAreBack, LeavesOtherSessions, shelved};
+ghost use Rattle.netpump.specs.Runners.{AllAreUp, fault_of, outcome_of, outcome_at, Begins, GoesSo, TurnDoes, BeginDoes, TurnIsQuiet, AllHandOver, AreOut, AllAreOut, LeftAs, AllLeftAs, IsAloneOr, lent, Closes, EndsAs, IsDeviceOutcome, IsDeviceOutcomeOf, IsDeviceFaultOf, IsLineFault, StopsByLine, IsOfBeginning};
 
 use crate::disks::{NotTaken, put_disks_back, take_disks};
 use crate::output::Output;
 use crate::session::Session;
+use crate::sessions::{Sessions, begins_session, session_of};
 use arrayvec::ArrayVec;
 use disk_model::{Disk, Role, Shelf, ShelfFault};
 use pump_frame::SessionRow;
@@ -29,7 +31,6 @@ use pump_link::{Sink, Source, WriteFault};
 use recovery::Why;
 use script_reader::{Body, EventHead, Fault, Line, LineHead, LinedHead, Lines};
 use std::alloc::Global;
-use std::mem;
 use two_worlds::{Pump, Stop};
 
 /// How a replay ends.
@@ -52,17 +53,6 @@ pub enum Outcome {
     Stopped(Fault),
     Memory,
     Unwritten,
-}
-
-// Keeps the session that has begun.
-fn hold<D: Disk>(session: &mut Option<Session<D>>, begun: Session<D>)
-    requires { session.old ≡ None }
-    ensures { session.new ≡ Some begun }
-{
-    match mem::replace(session, Some(begun)) {
-        None => {}
-        Some(_) => unreachable!(),
-    }
 }
 
 // The fault of a disk that is refused.
@@ -122,32 +112,29 @@ fn begin_whole<S: Shelf>(
     alloc: Global,
     row: &SessionRow,
     shelf: &mut S,
-    session: &mut Option<Session<S::Disk>>,
-) -> Outcome
+) -> Result<Session<S::Disk>, Outcome>
     requires lawful { IsLawfulRow row.now }
-    requires none { session.old ≡ None }
-    ensures goes { S.told.tells → S.Disk.told.tells
-        → TurnGoes S.Disk.told (S.told.disk shelf.old) (S.told.disk shelf.new) None (Line.Session row.now) session.new [] result }
-    ensures begun { result ≡ Outcome.Applied → Lends S.Disk.told (S.told.disk shelf.old) (S.told.disk shelf.new) session.new × AreUp session.new }
-    ensures hands { HandsOver S.told.tells S.Disk.told (S.told.disk shelf.old) (S.told.disk shelf.new) session.new }
-    ensures refused { result ≡ Outcome.Refused → ⊥ }
-    ensures line { StopsByLine result }
-    ensures written { result ≡ Outcome.Unwritten → ⊥ }
-    ensures device { IsDeviceOutcome result → Rose (S.told.disk_faults shelf.old) (S.told.disk_faults shelf.new) }
+    ensures begins { S.told.tells → S.Disk.told.tells
+        → Begins S.Disk.told (S.told.disk shelf.old) (S.told.disk shelf.new) (Line.Session row.now) result }
+    ensures lends { IfOk result (λ session. LendsNew S.Disk.told (S.told.disk shelf.old) (S.told.disk shelf.new) session) }
+    ensures up { IfOk result (λ session. IsUp session) }
+    ensures id { IfOk result (λ session. id_of session ≡ row.now.id) }
+    ensures back { IfErr result (λ outcome. S.told.tells → AllAreBack (S.told.disk shelf.old) (S.told.disk shelf.new)) }
+    ensures others { LeavesOtherSessions (S.told.disk shelf.old) (S.told.disk shelf.new) row.now.id }
+    ensures line { IfErr result (λ outcome. StopsByLine outcome × IsOfBeginning outcome) }
+    ensures refused { IfErr result (λ outcome. outcome ≡ Outcome.Refused → ⊥) }
+    ensures device { IfErr result (λ outcome. IsDeviceOutcome outcome → Rose (S.told.disk_faults shelf.old) (S.told.disk_faults shelf.new)) }
     ensures later { S.told.disk_faults shelf.old ≤ S.told.disk_faults shelf.new }
 {
     let disks = match take_disks(shelf, row.id) {
         Ok(disks) => disks,
-        Err(not_taken) => return untaken(row.id, not_taken),
+        Err(not_taken) => return Err(untaken(row.id, not_taken)),
     };
     match Pump::open(alloc, row, disks.low, disks.high, disks.recv) {
-        Ok(pump) => {
-            hold(session, Session::Whole { id: row.id, pump });
-            Outcome::Applied
-        }
+        Ok(pump) => Ok(Session::Whole { id: row.id, pump }),
         Err(failed) => {
             put_disks_back(shelf, row.id, failed.low, failed.high, failed.recv);
-            outcome_at(row.id, failed.role, &failed.why)
+            Err(outcome_at(row.id, failed.role, &failed.why))
         }
     }
 }
@@ -157,61 +144,56 @@ fn begin_alone<D: Disk>(
     row: &SessionRow,
     next: u64,
     held: bool,
-    session: &mut Option<Session<D>>,
-) -> Outcome
+) -> Result<Session<D>, Outcome>
     requires lawful { IsLawfulRow row.now }
     requires count { IsCount next held }
-    requires none { session.old ≡ None }
-    ensures goes { (before : Places) → TurnGoes D.told before before None (Line.LowSession row.now next held) session.new [] result }
-    ensures lends { (before : Places) → Lends D.told before before session.new }
-    ensures up { AreUp session.new }
-    ensures refused { result ≡ Outcome.Refused → ⊥ }
-    ensures line { StopsByLine result }
-    ensures written { result ≡ Outcome.Unwritten → ⊥ }
-    ensures device { IsDeviceOutcome result → ⊥ }
+    ensures begins { (before : Places) → Begins D.told before before (Line.LowSession row.now next held) result }
+    ensures lends { (before : Places) → IfOk result (λ session. LendsNew D.told before before session) }
+    ensures up { IfOk result (λ session. IsUp session) }
+    ensures id { IfOk result (λ session. id_of session ≡ row.now.id) }
+    ensures memory { IfErr result (λ outcome. outcome ≡ Outcome.Memory) }
 {
     match Session::alone(alloc, row, next, held) {
-        Ok(begun) => {
-            hold(session, begun);
-            Outcome::Applied
-        }
-        Err(_) => Outcome::Memory,
+        Ok(session) => Ok(session),
+        Err(_) => Err(Outcome::Memory),
     }
 }
 
-/// The line that is to begin the session.
+/// The session that the line is to begin.
 fn begin<S: Shelf>(
     alloc: Global,
     shelf: &mut S,
-    session: &mut Option<Session<S::Disk>>,
     line: &LineHead,
     body: &Body,
-) -> Outcome
+) -> Result<Session<S::Disk>, Outcome>
     requires lawful { IsLawfulLine (line_with body.now line.now) }
     requires some { line_with body.now line.now ≢ Line.Skip }
-    requires none { session.old ≡ None }
-    ensures goes { S.told.tells → S.Disk.told.tells
-        → TurnGoes S.Disk.told (S.told.disk shelf.old) (S.told.disk shelf.new) None (line_with body.now line.now) session.new [] result }
-    ensures begun { result ≡ Outcome.Applied → Lends S.Disk.told (S.told.disk shelf.old) (S.told.disk shelf.new) session.new × AreUp session.new }
-    ensures hands { HandsOver S.told.tells S.Disk.told (S.told.disk shelf.old) (S.told.disk shelf.new) session.new }
-    ensures line { StopsByLine result }
-    ensures written { result ≡ Outcome.Unwritten → ⊥ }
-    ensures refused { result ≡ Outcome.Refused → (S.told.disk shelf.new ≡ S.told.disk shelf.old) × (session.new ≡ None) }
-    ensures device { IsDeviceOutcome result → Rose (S.told.disk_faults shelf.old) (S.told.disk_faults shelf.new) }
+    ensures begins { S.told.tells → S.Disk.told.tells
+        → Begins S.Disk.told (S.told.disk shelf.old) (S.told.disk shelf.new) (line_with body.now line.now) result }
+    ensures lends { IfOk result (λ session. LendsNew S.Disk.told (S.told.disk shelf.old) (S.told.disk shelf.new) session) }
+    ensures up { IfOk result (λ session. IsUp session) }
+    ensures id { IfOk result (λ session. session_in (line_with body.now line.now) ≡ Some (id_of session)) }
+    ensures first { IfOk result (λ session. begins (line_with body.now line.now) ≡ true) }
+    ensures back { IfErr result (λ outcome. S.told.tells → AllAreBack (S.told.disk shelf.old) (S.told.disk shelf.new)) }
+    ensures others { (number : ℕ) → session_in (line_with body.now line.now) ≡ Some number → LeavesOtherSessions (S.told.disk shelf.old) (S.told.disk shelf.new) number }
+    ensures line { IfErr result (λ outcome. StopsByLine outcome × IsOfBeginning outcome) }
+    ensures memory { IfErr result (λ outcome. outcome ≡ Outcome.Memory → begins (line_with body.now line.now) ≡ true) }
+    ensures refused { IfErr result (λ outcome. outcome ≡ Outcome.Refused → S.told.disk shelf.new ≡ S.told.disk shelf.old) }
+    ensures device { IfErr result (λ outcome. IsDeviceOutcome outcome → Rose (S.told.disk_faults shelf.old) (S.told.disk_faults shelf.new)) }
     ensures later { S.told.disk_faults shelf.old ≤ S.told.disk_faults shelf.new }
 {
     // What begins a session has no body.
     let _bytes = body;
     match line {
         LineHead::Session(row) => match row.first_bad() {
-            None => begin_whole(alloc, row, shelf, session),
-            Some(_) => Outcome::Refused,
+            None => begin_whole(alloc, row, shelf),
+            Some(_) => Err(Outcome::Refused),
         },
         LineHead::LowSession { row, next, held } => match row.first_bad() {
-            None => begin_alone(alloc, row, *next, *held, session),
-            Some(_) => Outcome::Refused,
+            None => begin_alone(alloc, row, *next, *held),
+            Some(_) => Err(Outcome::Refused),
         },
-        _ => Outcome::Refused,
+        _ => Err(Outcome::Refused),
     }
 }
 
@@ -250,12 +232,13 @@ fn go_on<D: Disk, O: Sink>(
     requires room { CanHoldLine line.now body.now }
     requires some { line_with body.now line.now ≢ Line.Skip }
     requires up { IsUp session.old }
-    ensures does { D.told.tells → (before now : Places) (running : Begun) → StandsFor D.told session.old running
-        → TurnDoes D.told before now (Some running) (line_with body.now line.now) (Some session.new) (held_of output.old) (held_of output.new) (O.written out.old) (O.written out.new) result }
+    ensures does { D.told.tells → (running : Begun) → StandsFor D.told session.old running
+        → GoesSo D.told running (line_with body.now line.now) session.new (held_of output.old) (held_of output.new) (O.written out.old) (O.written out.new) result }
     ensures up { result ≡ Outcome.Applied → IsUp session.new }
     ensures with { GoesOnWith D.told session.old session.new }
     ensures line { StopsByLine result }
-    ensures device { IsDeviceOutcome result → (role : DiskRole) × FailedWith D.told session.old session.new role }
+    ensures memory { result ≡ Outcome.Memory → ⊥ }
+    ensures device { (number : ℕ) → IsDeviceOutcomeOf number result → (id_of session.new ≡ number) × (role : DiskRole) × FailedWith D.told session.old session.new role }
     ensures later { O.faults out.old ≤ O.faults out.new }
     ensures cause { result ≡ Outcome.Unwritten → Rose (O.faults out.old) (O.faults out.new) }
 {
@@ -266,11 +249,52 @@ fn go_on<D: Disk, O: Sink>(
     }
 }
 
-/// A line of the script. The list is for what it prints.
-fn turn<S: Shelf, O: Sink>(
+/// A line that may come now, of the session that is to stand at this place but does not yet.
+fn begin_at<S: Shelf>(
     alloc: Global,
     shelf: &mut S,
-    session: &mut Option<Session<S::Disk>>,
+    sessions: &mut Sessions<S::Disk>,
+    place: usize,
+    line: &LineHead,
+    body: &Body,
+) -> Outcome
+    requires lawful { IsLawfulLine (line_with body.now line.now) }
+    requires some { line_with body.now line.now ≢ Line.Skip }
+    requires order { AreInOrder sessions.old }
+    requires up { AllAreUp sessions.old.begun.items }
+    requires place { place ≤ vec_len sessions.old.begun }
+    requires named { (number : ℕ) × (session_in (line_with body.now line.now) ≡ Some number) }
+    requires first { begins (line_with body.now line.now) ≡ true → (sessions.old.is_under_way ≡ false) × (length sessions.old.begun.items < 16) }
+    requires placed { (number : ℕ) → session_in (line_with body.now line.now) ≡ Some number → IsPlaced number place sessions.old.begun.items false }
+    ensures order { AreInOrder sessions.new }
+    ensures does { S.told.tells → S.Disk.told.tells → (before : Places) → AllLend S.Disk.told before (S.told.disk shelf.old) sessions.old.begun.items
+        → (t : Script) → AllStandFor S.Disk.told sessions.old t → is_in_turn t (line_with body.now line.now) ≡ true
+        → BeginDoes S.Disk.told before (S.told.disk shelf.new) t (line_with body.now line.now) sessions.new result }
+    ensures hands { (before : Places) → AllLend S.Disk.told before (S.told.disk shelf.old) sessions.old.begun.items
+        → AllHandOver S.told.tells S.Disk.told before (S.told.disk shelf.new) sessions.new.begun.items }
+    ensures goes { result ≡ Outcome.Applied → (before : Places) → AllLend S.Disk.told before (S.told.disk shelf.old) sessions.old.begun.items
+        → AllLend S.Disk.told before (S.told.disk shelf.new) sessions.new.begun.items × AllAreUp sessions.new.begun.items }
+    ensures waits { sessions.old.is_under_way ≡ true → sessions.new.is_under_way ≡ true }
+    ensures memory { result ≡ Outcome.Memory → sessions.old.is_under_way ≡ false }
+    ensures line { StopsByLine result }
+    ensures written { result ≡ Outcome.Unwritten → ⊥ }
+    ensures device { (number : ℕ) → IsDeviceOutcomeOf number result → Rose (S.told.disk_faults shelf.old) (S.told.disk_faults shelf.new) }
+    ensures disks_later { S.told.disk_faults shelf.old ≤ S.told.disk_faults shelf.new }
+{
+    match begin(alloc, shelf, line, body) {
+        Ok(session) => {
+            sessions.insert(place, session);
+            sessions.go_on_by(line, place);
+            Outcome::Applied
+        }
+        Err(outcome) => outcome,
+    }
+}
+
+/// A line that may come now, of the session at this place. The list is for what it prints.
+fn go_on_at<D: Disk, O: Sink>(
+    sessions: &mut Sessions<D>,
+    place: usize,
     line: &LineHead,
     body: &Body,
     events: &mut ArrayVec<EventHead, 4>,
@@ -279,25 +303,115 @@ fn turn<S: Shelf, O: Sink>(
 ) -> Outcome
     requires lawful { IsLawfulLine (line_with body.now line.now) }
     requires room { CanHoldLine line.now body.now }
-    requires up { AreUp session.old }
-    ensures does { S.told.tells → S.Disk.told.tells → (before : Places) → Lends S.Disk.told before (S.told.disk shelf.old) session.old
-        → (running : Option Begun) → StandsForRunning S.Disk.told session.old running
-        → TurnDoes S.Disk.told before (S.told.disk shelf.new) running (line_with body.now line.now) session.new (held_of output.old) (held_of output.new) (O.written out.old) (O.written out.new) result }
-    ensures goes { (before : Places) → Lends S.Disk.told before (S.told.disk shelf.old) session.old
-        → TurnLeaves S.told.tells S.Disk.told before (S.told.disk shelf.new) session.new result }
+    requires some { line_with body.now line.now ≢ Line.Skip }
+    requires order { AreInOrder sessions.old }
+    requires up { AllAreUp sessions.old.begun.items }
+    requires place { place < vec_len sessions.old.begun }
+    requires placed { (number : ℕ) → session_in (line_with body.now line.now) ≡ Some number → IsPlaced number place sessions.old.begun.items true }
+    requires named { (number : ℕ) × (session_in (line_with body.now line.now) ≡ Some number) }
+    ensures order { AreInOrder sessions.new }
+    ensures does { D.told.tells → (before now : Places) → AllLend D.told before now sessions.old.begun.items
+        → (t : Script) → AllStandFor D.told sessions.old t → is_in_turn t (line_with body.now line.now) ≡ true
+        → TurnDoes D.told before now t (line_with body.now line.now) sessions.new (held_of output.old) (held_of output.new) (O.written out.old) (O.written out.new) result }
+    ensures lends { (before now : Places) → AllLend D.told before now sessions.old.begun.items → AllLend D.told before now sessions.new.begun.items }
+    ensures up { result ≡ Outcome.Applied → AllAreUp sessions.new.begun.items }
+    ensures quiet { TurnIsQuiet sessions.old sessions.new (held_of output.old) (held_of output.new) (O.written out.old) (O.written out.new) result }
     ensures line { StopsByLine result }
-    ensures device { IsDeviceOutcome result → (before : Places) → Lends S.Disk.told before (S.told.disk shelf.old) session.old
-        → Rose (S.told.disk_faults shelf.old) (S.told.disk_faults shelf.new) ⊎ HasFailed S.Disk.told (S.told.disk shelf.new) session.new }
+    ensures device { (number : ℕ) → IsDeviceOutcomeOf number result → (before now : Places) → AllLend D.told before now sessions.old.begun.items
+        → HasFailed D.told now (found_at number sessions.new.begun.items) }
+    ensures later { O.faults out.old ≤ O.faults out.new }
+    ensures cause { result ≡ Outcome.Unwritten → Rose (O.faults out.old) (O.faults out.new) }
+{
+    if begins_session(line) {
+        return Outcome::Refused;
+    }
+    match go_on(&mut sessions.begun[place], line, body, events, output, out) {
+        Outcome::Applied => {
+            sessions.go_on_by(line, place);
+            Outcome::Applied
+        }
+        outcome => outcome,
+    }
+}
+
+/// A line of the session with this number. The list is for what it prints.
+fn turn_of<S: Shelf, O: Sink>(
+    alloc: Global,
+    shelf: &mut S,
+    sessions: &mut Sessions<S::Disk>,
+    number: u32,
+    line: &LineHead,
+    body: &Body,
+    events: &mut ArrayVec<EventHead, 4>,
+    output: &mut Output,
+    out: &mut O,
+) -> Outcome
+    requires lawful { IsLawfulLine (line_with body.now line.now) }
+    requires room { CanHoldLine line.now body.now }
+    requires order { AreInOrder sessions.old }
+    requires up { AllAreUp sessions.old.begun.items }
+    requires named { session_in (line_with body.now line.now) ≡ Some number }
+    ensures order { AreInOrder sessions.new }
+    ensures does { S.told.tells → S.Disk.told.tells → (before : Places) → AllLend S.Disk.told before (S.told.disk shelf.old) sessions.old.begun.items
+        → (t : Script) → AllStandFor S.Disk.told sessions.old t
+        → TurnDoes S.Disk.told before (S.told.disk shelf.new) t (line_with body.now line.now) sessions.new (held_of output.old) (held_of output.new) (O.written out.old) (O.written out.new) result }
+    ensures hands { (before : Places) → AllLend S.Disk.told before (S.told.disk shelf.old) sessions.old.begun.items
+        → AllHandOver S.told.tells S.Disk.told before (S.told.disk shelf.new) sessions.new.begun.items }
+    ensures goes { result ≡ Outcome.Applied → (before : Places) → AllLend S.Disk.told before (S.told.disk shelf.old) sessions.old.begun.items
+        → AllLend S.Disk.told before (S.told.disk shelf.new) sessions.new.begun.items × AllAreUp sessions.new.begun.items }
+    ensures quiet { TurnIsQuiet sessions.old sessions.new (held_of output.old) (held_of output.new) (O.written out.old) (O.written out.new) result }
+    ensures line { StopsByLine result }
+    ensures device { (number : ℕ) → IsDeviceOutcomeOf number result → (before : Places) → AllLend S.Disk.told before (S.told.disk shelf.old) sessions.old.begun.items
+        → Rose (S.told.disk_faults shelf.old) (S.told.disk_faults shelf.new) ⊎ HasFailed S.Disk.told (S.told.disk shelf.new) (found_at number sessions.new.begun.items) }
     ensures disks_later { S.told.disk_faults shelf.old ≤ S.told.disk_faults shelf.new }
     ensures later { O.faults out.old ≤ O.faults out.new }
     ensures cause { result ≡ Outcome.Unwritten → Rose (O.faults out.old) (O.faults out.new) }
 {
-    match line {
-        LineHead::Skip => Outcome::Applied,
-        _ => match session.as_mut() {
-            Some(begun) => go_on(begun, line, body, events, output, out),
-            None => begin(alloc, shelf, session, line, body),
-        },
+    if !sessions.is_in_turn(line) {
+        return Outcome::Refused;
+    }
+    let place = sessions.place_of(number);
+    if sessions.is_at(place, number) {
+        go_on_at(sessions, place, line, body, events, output, out)
+    } else {
+        begin_at(alloc, shelf, sessions, place, line, body)
+    }
+}
+
+/// A line of the script. The list is for what it prints.
+fn turn<S: Shelf, O: Sink>(
+    alloc: Global,
+    shelf: &mut S,
+    sessions: &mut Sessions<S::Disk>,
+    line: &LineHead,
+    body: &Body,
+    events: &mut ArrayVec<EventHead, 4>,
+    output: &mut Output,
+    out: &mut O,
+) -> Outcome
+    requires lawful { IsLawfulLine (line_with body.now line.now) }
+    requires room { CanHoldLine line.now body.now }
+    requires order { AreInOrder sessions.old }
+    requires up { AllAreUp sessions.old.begun.items }
+    ensures order { AreInOrder sessions.new }
+    ensures does { S.told.tells → S.Disk.told.tells → (before : Places) → AllLend S.Disk.told before (S.told.disk shelf.old) sessions.old.begun.items
+        → (t : Script) → AllStandFor S.Disk.told sessions.old t
+        → TurnDoes S.Disk.told before (S.told.disk shelf.new) t (line_with body.now line.now) sessions.new (held_of output.old) (held_of output.new) (O.written out.old) (O.written out.new) result }
+    ensures hands { (before : Places) → AllLend S.Disk.told before (S.told.disk shelf.old) sessions.old.begun.items
+        → AllHandOver S.told.tells S.Disk.told before (S.told.disk shelf.new) sessions.new.begun.items }
+    ensures goes { result ≡ Outcome.Applied → (before : Places) → AllLend S.Disk.told before (S.told.disk shelf.old) sessions.old.begun.items
+        → AllLend S.Disk.told before (S.told.disk shelf.new) sessions.new.begun.items × AllAreUp sessions.new.begun.items }
+    ensures quiet { TurnIsQuiet sessions.old sessions.new (held_of output.old) (held_of output.new) (O.written out.old) (O.written out.new) result }
+    ensures line { StopsByLine result }
+    ensures device { (number : ℕ) → IsDeviceOutcomeOf number result → (before : Places) → AllLend S.Disk.told before (S.told.disk shelf.old) sessions.old.begun.items
+        → Rose (S.told.disk_faults shelf.old) (S.told.disk_faults shelf.new) ⊎ HasFailed S.Disk.told (S.told.disk shelf.new) (found_at number sessions.new.begun.items) }
+    ensures disks_later { S.told.disk_faults shelf.old ≤ S.told.disk_faults shelf.new }
+    ensures later { O.faults out.old ≤ O.faults out.new }
+    ensures cause { result ≡ Outcome.Unwritten → Rose (O.faults out.old) (O.faults out.new) }
+{
+    match session_of(line) {
+        None => Outcome::Applied,
+        Some(number) => turn_of(alloc, shelf, sessions, number, line, body, events, output, out),
     }
 }
 
@@ -314,48 +428,35 @@ fn show<O: Sink>(lines: &Lines, output: &mut Output, out: &mut O) -> Result<(), 
     output.flush(out)
 }
 
-/// What the end of the script prints.
-fn last_of<D: Disk>(session: &Option<Session<D>>) -> Option<EventHead>
-    ensures { (running : Option Begun) → StandsForRunning D.told session.now running → Ends running (lines_in (option_to_list result)) }
+/// The script is at its end.
+fn finish<D: Disk, O: Sink>(sessions: &Sessions<D>, output: &mut Output, out: &mut O) -> Ended
+    requires { AreInOrder sessions.now }
+    ensures ends { (t : Script) → AllStandFor D.told sessions.now t → (last : List Printed) × AllEnd t.begun last
+        × Closes (O.written out.old) (O.written out.new) (O.faults out.old) (O.faults out.new) (held_of output.old ++ text last) Ended.Done result }
+    ensures cause { result ≡ Ended.Write → Rose (O.faults out.old) (O.faults out.new) }
+    ensures other { (number : ℕ) → IsDeviceFaultOf number result → ⊥ }
+    ensures memory { result ≡ Ended.Memory → ⊥ }
+    ensures words { result ≡ Ended.Stopped Fault.Words → ⊥ }
+    ensures read { result ≡ Ended.Stopped Fault.Read → ⊥ }
 {
-    match session {
-        None => None,
-        Some(session) => Some(session.end()),
+    match write_last(&sessions.ends(), output, out) {
+        Ok(()) => Ended::Done,
+        Err(_) => Ended::Write,
     }
 }
 
 /// Hands on what is held, and what is printed last.
 fn write_last<O: Sink>(
-    last: &Option<EventHead>,
+    last: &ArrayVec<EventHead, 16>,
     output: &mut Output,
     out: &mut O,
 ) -> Result<(), WriteFault>
-    ensures ok { OnOk result (Appends (O.written out.old) (O.written out.new) (held_of output.old ++ text (lines_in (option_to_list last.now)))) }
-    ensures err { OnErr result (AppendsFront (O.written out.old) (O.written out.new) (held_of output.old ++ text (lines_in (option_to_list last.now)))) }
+    ensures ok { OnOk result (Appends (O.written out.old) (O.written out.new) (held_of output.old ++ text (lines_in last.now.items))) }
+    ensures err { OnErr result (AppendsFront (O.written out.old) (O.written out.new) (held_of output.old ++ text (lines_in last.now.items))) }
     ensures cause { HasCause (O.faults out.old) (O.faults out.new) result }
 {
-    match last {
-        None => output.flush(out),
-        Some(event) => {
-            output.print(event, out)?;
-            output.flush(out)
-        }
-    }
-}
-
-/// The script is at its end.
-fn finish<D: Disk, O: Sink>(session: &Option<Session<D>>, output: &mut Output, out: &mut O) -> Ended
-    ensures ends { (running : Option Begun) → StandsForRunning D.told session.now running → (last : List Printed) × Ends running last
-        × Closes (O.written out.old) (O.written out.new) (O.faults out.old) (O.faults out.new) (held_of output.old ++ text last) Ended.Done result }
-    ensures cause { result ≡ Ended.Write → Rose (O.faults out.old) (O.faults out.new) }
-    ensures other { IsDeviceFault result → ⊥ }
-    ensures words { result ≡ Ended.Stopped Fault.Words → ⊥ }
-    ensures read { result ≡ Ended.Stopped Fault.Read → ⊥ }
-{
-    match write_last(&last_of(session), output, out) {
-        Ok(()) => Ended::Done,
-        Err(_) => Ended::Write,
-    }
+    output.print_all(last.as_slice(), out)?;
+    output.flush(out)
 }
 
 /// The script is not read further, because of this fault.
@@ -375,19 +476,23 @@ fn refuse<O: Sink>(number: u32, output: &mut Output, out: &mut O) -> Ended
     stop(Fault::Script { line: number }, output, out)
 }
 
-/// Applies the lines of the script, and writes what they print. The session is left with its disks.
+/// Applies the lines of the script, and writes what they print. The sessions are left with their disks.
 fn run<S: Shelf, I: Source, O: Sink>(
     alloc: Global,
     shelf: &mut S,
-    session: &mut Option<Session<S::Disk>>,
+    sessions: &mut Sessions<S::Disk>,
     script: &mut I,
     out: &mut O,
 ) -> Ended
-    requires none { session.old ≡ None }
-    ensures ends { S.told.tells → S.Disk.told.tells → EndsAs (lent S.Disk.told (S.told.disk shelf.old) (S.told.disk shelf.new) session.new)
+    requires none { sessions.old.begun.items ≡ [] }
+    requires stands { AllStandFor S.Disk.told sessions.old no_sessions }
+    requires order { AreInOrder sessions.old }
+    ensures ends { S.told.tells → S.Disk.told.tells → EndsAs (lent S.Disk.told (S.told.disk shelf.old) (S.told.disk shelf.new) sessions.new.begun.items)
         (I.left script.old) (I.left script.new) (O.written out.old) (O.written out.new) (I.faults script.old) (I.faults script.new) result }
-    ensures hands { HandsOver S.told.tells S.Disk.told (S.told.disk shelf.old) (S.told.disk shelf.new) session.new }
-    ensures device { IsDeviceFault result → Rose (S.told.disk_faults shelf.old) (S.told.disk_faults shelf.new) ⊎ HasFailed S.Disk.told (S.told.disk shelf.new) session.new }
+    ensures hands { AllHandOver S.told.tells S.Disk.told (S.told.disk shelf.old) (S.told.disk shelf.new) sessions.new.begun.items }
+    ensures rise { Rise sessions.new.begun.items }
+    ensures device { (number : ℕ) → IsDeviceFaultOf number result → Rose (S.told.disk_faults shelf.old) (S.told.disk_faults shelf.new) ⊎ HasFailed S.Disk.told (S.told.disk shelf.new) (found_at number sessions.new.begun.items) }
+    ensures memory { result ≡ Ended.Memory → Appends (O.written out.old) (O.written out.new) [] }
     ensures later { S.told.disk_faults shelf.old ≤ S.told.disk_faults shelf.new }
     ensures write { result ≡ Ended.Write → Rose (O.faults out.old) (O.faults out.new) }
     ensures words { result ≡ Ended.Stopped Fault.Words → ⊥ }
@@ -406,7 +511,7 @@ fn run<S: Shelf, I: Source, O: Sink>(
             LinedHead::Line(line) => match turn(
                 alloc,
                 shelf,
-                session,
+                sessions,
                 &line,
                 &body,
                 &mut events,
@@ -421,27 +526,42 @@ fn run<S: Shelf, I: Source, O: Sink>(
             },
             LinedHead::Bad => return refuse(lines.number(), &mut output, out),
             LinedHead::Failed => return stop(Fault::Read, &mut output, out),
-            LinedHead::End => return finish(session, &mut output, out),
+            LinedHead::End => return finish(sessions, &mut output, out),
         }
     }
 }
 
 /// Puts the disks of a session back on the shelf, if it has any.
-fn leave<S: Shelf>(session: Option<Session<S::Disk>>, shelf: &mut S)
-    requires hands { (before : Places) × HandsOver S.told.tells S.Disk.told before (S.told.disk shelf.old) session }
-    ensures back { S.told.tells → (before : Places) → HandsOver S.told.tells S.Disk.told before (S.told.disk shelf.old) session → AllAreBack before (S.told.disk shelf.new) }
-    ensures keeps { S.told.tells → S.Disk.told.tells → (before : Places) → HandsOver S.told.tells S.Disk.told before (S.told.disk shelf.old) session
-        → LeftAs S.Disk.told before (S.told.disk shelf.old) (S.told.disk shelf.new) session }
-    ensures failed { HasFailed S.Disk.told (S.told.disk shelf.old) session → IsAloneOr session (Rose (S.told.disk_faults shelf.old) (S.told.disk_faults shelf.new)) }
+fn leave<S: Shelf>(session: Session<S::Disk>, shelf: &mut S)
+    requires { AreOut (S.told.disk shelf.old) (Some session) }
+    ensures others { LeavesOtherSessions (S.told.disk shelf.old) (S.told.disk shelf.new) (id_of session) }
+    ensures left { LeftAs S.told.tells S.Disk.told (S.told.disk shelf.old) (S.told.disk shelf.new) (id_of session) (Some session) }
+    ensures failed { HasFailed S.Disk.told (S.told.disk shelf.old) (Some session) → IsAloneOr (Some session) (Rose (S.told.disk_faults shelf.old) (S.told.disk_faults shelf.new)) }
     ensures later { S.told.disk_faults shelf.old ≤ S.told.disk_faults shelf.new }
 {
-    if let Some(Session::Whole { id, pump }) = session {
+    if let Session::Whole { id, pump } = session {
         let (low, high, recv) = pump.close();
         put_disks_back(shelf, id, low, high, recv);
     }
 }
 
-/// Applies the lines of the script, and writes what they print. The disks that a session line takes off
+/// Puts the disks of all sessions back on the shelf.
+fn leave_all<S: Shelf>(sessions: Sessions<S::Disk>, shelf: &mut S)
+    requires out { AllAreOut (S.told.disk shelf.old) sessions.begun.items }
+    requires rise { Rise sessions.begun.items }
+    ensures left { AllLeftAs S.told.tells S.Disk.told (S.told.disk shelf.old) (S.told.disk shelf.new) sessions.begun.items }
+    ensures failed { (number : ℕ) → HasFailed S.Disk.told (S.told.disk shelf.old) (found_at number sessions.begun.items)
+        → IsAloneOr (found_at number sessions.begun.items) (Rose (S.told.disk_faults shelf.old) (S.told.disk_faults shelf.new)) }
+    ensures later { S.told.disk_faults shelf.old ≤ S.told.disk_faults shelf.new }
+{
+    let Sessions { mut begun, moment: _, is_under_way: _ } = sessions;
+    'sessions: while let Some(session) = begun.pop() {
+        leave(session, shelf);
+    }
+    begun.destroy_empty();
+}
+
+/// Applies the lines of the script, and writes what they print. The disks that session lines take off
 /// the shelf are back on it at the end.
 pub fn replay<S: Shelf, I: Source, O: Sink>(
     alloc: Global,
@@ -452,14 +572,18 @@ pub fn replay<S: Shelf, I: Source, O: Sink>(
     ensures ends { S.told.tells → S.Disk.told.tells → EndsAs (shelved (S.told.disk shelf.old) (S.told.disk shelf.new))
         (I.left script.old) (I.left script.new) (O.written out.old) (O.written out.new) (I.faults script.old) (I.faults script.new) result }
     ensures back { S.told.tells → AllAreBack (S.told.disk shelf.old) (S.told.disk shelf.new) }
-    ensures device { IsDeviceFault result → Rose (S.told.disk_faults shelf.old) (S.told.disk_faults shelf.new)
+    ensures device { (number : ℕ) → IsDeviceFaultOf number result → Rose (S.told.disk_faults shelf.old) (S.told.disk_faults shelf.new)
         ⊎ (S.told.tells → S.Disk.told.tells → Wrote (I.left script.old) (O.written out.old) (O.written out.new) (IsFailed (shelved (S.told.disk shelf.old) (S.told.disk shelf.new)) (I.left script.new))) }
+    ensures memory { result ≡ Ended.Memory → Appends (O.written out.old) (O.written out.new) [] }
     ensures write { result ≡ Ended.Write → Rose (O.faults out.old) (O.faults out.new) }
     ensures words { result ≡ Ended.Stopped Fault.Words → ⊥ }
     ensures read { result ≡ Ended.Stopped Fault.Read → Rose (I.faults script.old) (I.faults script.new) }
 {
-    let mut session = None;
-    let ended = run(alloc, shelf, &mut session, script, out);
-    leave(session, shelf);
+    let mut sessions = match Sessions::new(alloc) {
+        Ok(sessions) => sessions,
+        Err(_) => return Ended::Memory,
+    };
+    let ended = run(alloc, shelf, &mut sessions, script, out);
+    leave_all(sessions, shelf);
     ended
 }

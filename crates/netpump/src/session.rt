@@ -9,6 +9,7 @@ ghost use Rattle.script_reader.specs.Heads.{line_with, CanHoldLine};
 ghost use Rattle.script_reader.specs.Grammar.{IsCount};
 ghost use Rattle.script_reader.specs.Alone.{fresh_alone};
 ghost use Rattle.script_reader.specs.Scripts.{Begun, RunningAlone, Alone, Ends};
+ghost use Rattle.script_reader.specs.Sessions.{moment_of};
 ghost use Rattle.two_worlds.specs.declared.applied.Stop.TheVariants as stops;
 ghost use Rattle.two_worlds.specs.Printing.{lines_in};
 ghost use Rattle.netpump.specs.Sessions.{id_of, IsUp, IsAlone, StandsFor, SessionApplies, GoesOnWith, FailedWith};
@@ -74,6 +75,16 @@ impl<D: Disk> Session<D> {
         match self {
             Session::Whole { pump, .. } => pump.apply_head(line, body.as_slice(), events),
             Session::Alone { pump, .. } => pump.apply_head(line, body.as_slice(), events),
+        }
+    }
+
+    /// The moment of its last line that had one, in microseconds.
+    pub fn moment(&self) -> u64
+        ensures { (running : Begun) → StandsFor D.told self.now running → result ≡ moment_of running }
+    {
+        match self {
+            Session::Whole { pump, .. } => pump.moment(),
+            Session::Alone { pump, .. } => pump.moment(),
         }
     }
 

@@ -1,39 +1,30 @@
 use Rattle.std.proofs.Common.{◌≤◌, refl}
-use Rattle.netpump.specs.Runners.{IsDeviceOutcome}
-use Rattle.netpump.specs.Runners as runners
-use Rattle.netpump.proofs.Opened.{lends_so, begins_so, unopened_goes, unopened_rises, returns_all, none_hands, never_refused, never_unwritten}
+use Rattle.netpump.proofs.Opened.{lends_so, begins_so, unopened_goes, unopened_rises, returns_all, never_refused, of_beginning}
 use Rattle.netpump.proofs.Shelving.{rose_more}
 use Rattle.netpump.proofs.replay.begin_whole.Goals as goal
 
-pub returns-in-Ok-open-clause-goes : goal.returns-in-Ok-open-clause-goes
-returns-in-Ok-open-clause-goes g c = λ told tells.
+pub returns-in-Ok-open-clause-begins : goal.returns-in-Ok-open-clause-begins
+returns-in-Ok-open-clause-begins g c = λ told tells.
     let o = c.in-Ok-open.ensures in
     let t = c.in-Ok.ensures in
-    rw c.hold.ensures (begins_so _ _ (g.S.Shelf.told.disk c.args.shelf.now) (g.S.Shelf.told.disk c.take_disks.new.shelf) c.args.row.now _ _ _ c.in-Ok-open.pump c.requires.lawful (t.low told) (t.high told) (t.recv told) (o.opens tells) (o.stands tells) o.row o.up)
+    begins_so _ _ (g.S.Shelf.told.disk c.args.shelf.now) (g.S.Shelf.told.disk c.take_disks.new.shelf) c.args.row.now _ _ _ c.in-Ok-open.pump c.requires.lawful (t.low told) (t.high told) (t.recv told) (o.opens tells) (o.stands tells) o.row o.up
 
-pub returns-in-Ok-open-clause-begun : goal.returns-in-Ok-open-clause-begun
-returns-in-Ok-open-clause-begun g c = λ is.
+pub returns-in-Ok-open-clause-lends : goal.returns-in-Ok-open-clause-lends
+returns-in-Ok-open-clause-lends g c =
     let o = c.in-Ok-open.ensures in
     let t = c.in-Ok.ensures in
-    rw c.hold.ensures (lends_so _ _ (g.S.Shelf.told.disk c.args.shelf.now) (g.S.Shelf.told.disk c.take_disks.new.shelf) c.args.row.now _ _ _ c.in-Ok-open.pump t.low_out t.high_out t.recv_out c.take_disks.ensures.others o.low o.high o.recv, o.up)
+    lends_so _ _ (g.S.Shelf.told.disk c.args.shelf.now) (g.S.Shelf.told.disk c.take_disks.new.shelf) c.args.row.now _ _ _ c.in-Ok-open.pump t.low_out t.high_out t.recv_out c.take_disks.ensures.others o.low o.high o.recv
 
-pub returns-in-Ok-open-clause-hands : goal.returns-in-Ok-open-clause-hands
-returns-in-Ok-open-clause-hands g c =
-    let o = c.in-Ok-open.ensures in
+pub returns-in-Err-open-clause-begins : goal.returns-in-Err-open-clause-begins
+returns-in-Err-open-clause-begins g c = λ told tells.
     let t = c.in-Ok.ensures in
-    rw c.hold.ensures (lends_so _ _ (g.S.Shelf.told.disk c.args.shelf.now) (g.S.Shelf.told.disk c.take_disks.new.shelf) c.args.row.now _ _ _ c.in-Ok-open.pump t.low_out t.high_out t.recv_out c.take_disks.ensures.others o.low o.high o.recv)
-
-pub returns-in-Err-open-clause-goes : goal.returns-in-Err-open-clause-goes
-returns-in-Err-open-clause-goes g c = λ told tells.
-    let t = c.in-Ok.ensures in
-    rw c.outcome_at.ensures.is (unopened_goes _ _ (g.S.Shelf.told.disk c.args.shelf.now) (g.S.Shelf.told.disk c.take_disks.new.shelf) (g.S.Shelf.told.disk c.put_disks_back.new.shelf) c.args.row.now _ _ _ c.in-Err-open.failed c.in-Err-open.ensures.back
+    rw c.outcome_at.ensures.is (unopened_goes g.S.Disk.Disk _ (g.S.Shelf.told.disk c.args.shelf.now) (g.S.Shelf.told.disk c.take_disks.new.shelf) (g.S.Shelf.told.disk c.put_disks_back.new.shelf) c.args.row.now _ _ _ c.in-Err-open.failed c.in-Err-open.ensures.back
     c.take_disks.ensures.others c.put_disks_back.ensures.others tells
-    (t.low told) (t.high told) (t.recv told) (c.put_disks_back.ensures.back told) _ c.args.session.now c.requires.none c.requires.lawful refl)
+    (t.low told) (t.high told) (t.recv told) (c.put_disks_back.ensures.back told) _ c.requires.lawful refl)
 
-pub returns-in-Err-open-clause-hands : goal.returns-in-Err-open-clause-hands
-returns-in-Err-open-clause-hands g c =
-    none_hands _ _ (g.S.Shelf.told.disk c.args.shelf.now) (g.S.Shelf.told.disk c.put_disks_back.new.shelf) c.args.session.now c.requires.none (λ told.
-    returns_all (g.S.Shelf.told.disk c.args.shelf.now) (g.S.Shelf.told.disk c.take_disks.new.shelf) (g.S.Shelf.told.disk c.put_disks_back.new.shelf) c.args.row.now.id c.take_disks.ensures.others c.put_disks_back.ensures.others _ _ _ (c.put_disks_back.ensures.back told))
+pub returns-in-Err-open-clause-back : goal.returns-in-Err-open-clause-back
+returns-in-Err-open-clause-back g c = λ told.
+    returns_all (g.S.Shelf.told.disk c.args.shelf.now) (g.S.Shelf.told.disk c.take_disks.new.shelf) (g.S.Shelf.told.disk c.put_disks_back.new.shelf) c.args.row.now.id c.take_disks.ensures.others c.put_disks_back.ensures.others _ _ _ (c.put_disks_back.ensures.back told)
 
 pub returns-in-Err-open-clause-device : goal.returns-in-Err-open-clause-device
 returns-in-Err-open-clause-device g c = λ is.
@@ -47,5 +38,5 @@ returns-in-Err-open-clause-device g c = λ is.
 pub returns-in-Err-open-clause-refused : goal.returns-in-Err-open-clause-refused
 returns-in-Err-open-clause-refused g c = never_refused _ _ c.in-Err-open.failed.why c.outcome_at.result c.outcome_at.ensures.is
 
-pub returns-in-Err-open-clause-written : goal.returns-in-Err-open-clause-written
-returns-in-Err-open-clause-written g c = never_unwritten _ _ c.in-Err-open.failed.why c.outcome_at.result c.outcome_at.ensures.is
+pub returns-in-Err-open-clause-line : goal.returns-in-Err-open-clause-line
+returns-in-Err-open-clause-line g c = (c.outcome_at.ensures.line, of_beginning _ _ c.in-Err-open.failed.why c.outcome_at.result c.outcome_at.ensures.is)

@@ -1,18 +1,18 @@
-use Rattle.netpump.proofs.Ending.{ends_to, told_to_fail, device_so}
+use Rattle.netpump.specs.Sessions.{found_at}
+use Rattle.netpump.proofs.Ending.{ends_to, told_to_fail, device_so, all_are_back, all_are_out}
 use Rattle.netpump.proofs.replay.replay.Goals as goal
 
+pub leave_all-requires-clause-out : goal.leave_all-requires-clause-out
+leave_all-requires-clause-out g c = all_are_out g.S.Disk.Disk.told g.S.Shelf.told.tells (g.S.Shelf.told.disk c.args.shelf.now) (g.S.Shelf.told.disk c.run-ended.new.shelf) c.run-ended.new.sessions.begun.items c.run-ended.ensures.hands
+
 pub returns-clause-ends : goal.returns-clause-ends
-returns-clause-ends g c = λ told tells.
-    ends_to g.S.Disk.Disk.told (g.S.Shelf.told.disk c.args.shelf.now) (g.S.Shelf.told.disk c.run-ended.new.shelf) (g.S.Shelf.told.disk c.leave.new.shelf) c.run-ended.new.session
-    (c.leave.ensures.keeps told tells (g.S.Shelf.told.disk c.args.shelf.now) c.run-ended.ensures.hands) _ _ _ _ _ _ c.run-ended.result (c.run-ended.ensures.ends told tells)
+returns-clause-ends g c = λ told tells. ends_to g.S.Disk.Disk.told g.S.Shelf.told.tells told tells (g.S.Shelf.told.disk c.args.shelf.now) (g.S.Shelf.told.disk c.run-ended.new.shelf) (g.S.Shelf.told.disk c.leave_all.new.shelf) c.run-ended.new.sessions.begun.items c.leave_all.ensures.left _ _ _ _ _ _ c.run-ended.result (c.run-ended.ensures.ends told tells)
 
 pub returns-clause-back : goal.returns-clause-back
-returns-clause-back g c = λ told. c.leave.ensures.back told (g.S.Shelf.told.disk c.args.shelf.now) c.run-ended.ensures.hands
+returns-clause-back g c = λ told. all_are_back g.S.Disk.Disk.told g.S.Shelf.told.tells (g.S.Shelf.told.disk c.args.shelf.now) (g.S.Shelf.told.disk c.run-ended.new.shelf) (g.S.Shelf.told.disk c.leave_all.new.shelf) c.run-ended.new.sessions.begun.items told c.run-ended.ensures.hands c.leave_all.ensures.left
 
 pub returns-clause-device : goal.returns-clause-device
-returns-clause-device g c = λ failed.
-    device_so g.S.Disk.Disk.told (g.S.Shelf.told.disk c.run-ended.new.shelf) c.run-ended.new.session (g.S.Shelf.told.disk_faults c.args.shelf.now) (g.S.Shelf.told.disk_faults c.run-ended.new.shelf) (g.S.Shelf.told.disk_faults c.leave.new.shelf) _
-    (c.run-ended.ensures.device failed) c.run-ended.ensures.later c.leave.ensures.later c.leave.ensures.failed
-    (λ id p e told tells.
-    told_to_fail g.S.Disk.Disk.told (g.S.Shelf.told.disk c.args.shelf.now) (g.S.Shelf.told.disk c.run-ended.new.shelf) (g.S.Shelf.told.disk c.leave.new.shelf) c.run-ended.new.session
-    (c.leave.ensures.keeps told tells (g.S.Shelf.told.disk c.args.shelf.now) c.run-ended.ensures.hands) _ _ _ _ _ _ id p e c.run-ended.result failed (c.run-ended.ensures.ends told tells))
+returns-clause-device g c = λ number failed.
+    device_so g.S.Disk.Disk.told (g.S.Shelf.told.disk c.run-ended.new.shelf) (found_at number c.run-ended.new.sessions.begun.items) (g.S.Shelf.told.disk_faults c.args.shelf.now) (g.S.Shelf.told.disk_faults c.run-ended.new.shelf) (g.S.Shelf.told.disk_faults c.leave_all.new.shelf) _
+    (c.run-ended.ensures.device number failed) c.run-ended.ensures.later c.leave_all.ensures.later (c.leave_all.ensures.failed number)
+    (λ id p e told tells. told_to_fail g.S.Disk.Disk.told g.S.Shelf.told.tells told tells (g.S.Shelf.told.disk c.args.shelf.now) (g.S.Shelf.told.disk c.run-ended.new.shelf) (g.S.Shelf.told.disk c.leave_all.new.shelf) c.run-ended.new.sessions.begun.items c.leave_all.ensures.left _ _ _ _ _ _ number id p e c.run-ended.result failed (c.run-ended.ensures.ends told tells))

@@ -1,10 +1,8 @@
-use Rattle.netpump.proofs.Gathered.{front_more, on_err}
-use Rattle.netpump.proofs.Finished.{end_front}
+use Rattle.std.proofs.Common.{ap}
+use Rattle.script_reader.specs.Transcript.{text}
+use Rattle.two_worlds.specs.Printing.{lines_in}
+use Rattle.netpump.proofs.Gathered.{held_front}
 use Rattle.netpump.proofs.replay.write_last.Goals as goal
 
-pub returns-in_err-print-in-Some-clause-err : goal.returns-in_err-print-in-Some-clause-err
-returns-in_err-print-in-Some-clause-err g c = on_err _ _ (front_more _ _ _ _ c.in_err-print-in-Some.ensures.err)
-
-pub returns-in_ok-print-in-Some-clause-err : goal.returns-in_ok-print-in-Some-clause-err
-returns-in_ok-print-in-Some-clause-err g c =
-    end_front c.args.last.now c.in-Some.event c.flush-in-Some.result _ _ _ _ _ c.in-Some.is c.in_ok-print-in-Some.ensures.ok c.flush-in-Some.ensures.err
+pub returns-clause-err : goal.returns-clause-err
+returns-clause-err g c = held_front c.flush.result _ _ _ _ _ _ _ (ap (λ l. text (lines_in l)) c.as_slice.ensures.value) c.in_ok-print_all.ensures.ok c.flush.ensures.err

@@ -1,6 +1,6 @@
 -- What a `done` line does between whose steps nothing is unfinished: the first live message is removed.
-use Rattle.std.proofs.Common.{◌≡◌, ◌⊎◌, ⊎_elim, inl, inr, ℕ, ◌+◌, ◌-◌, ◌*◌, ◌<◌, ◌≤◌, zero, suc, Bool, true, false, cond, List, [], ◌∷◌, ◌++◌, length, Option, Some, None, refl, sym, ap, ◌∙◌, subst, arith}
-use Rattle.std.specs.Prelude.{◌==◌, ◌&&◌, ◌||◌, nat_lt, nat_le, slice_get, All, is_some, if◌then◌else◌, option_to_list}
+use Rattle.std.proofs.Common.{◌≡◌, ⊎_elim, ℕ, ◌+◌, ◌-◌, ◌*◌, ◌<◌, ◌≤◌, zero, suc, Bool, true, false, List, [], ◌∷◌, ◌++◌, length, Option, Some, None, refl, sym, ap, ◌∙◌, subst, arith}
+use Rattle.std.specs.Prelude.{◌==◌, ◌&&◌, nat_lt, nat_le, slice_get, if◌then◌else◌, option_to_list}
 use Rattle.std.specs.List.{AllByRecursion, range_with_len}
 use Rattle.std.proofs.lemmas.Bool.{ne_eqb, eq-eqb, le-ltb, lt-leb}
 use Rattle.std.proofs.lemmas.Option.{same_Some}
@@ -16,8 +16,8 @@ use Rattle.script_reader.specs.Highs.{IsHighLook, IsReturnBy, is_ahead, is_not_b
 use Rattle.script_reader.specs.Steps.{IsCarriedBack, IsDone, Overfills}
 use Rattle.script_reader.specs.declared.line.Line.TheVariants as lines
 use Rattle.script_reader.specs.Generated.{generated_row}
-use Rattle.pump_core.specs.Events.{Happens, Run, took, answered, holds}
-use Rattle.pump_core.specs.HighLooks.{HighPast, Perhaps, Returns, IsSent, RemovalPart, SendingPart}
+use Rattle.pump_core.specs.Events.{Happens, Run, took, holds}
+use Rattle.pump_core.specs.HighLooks.{Perhaps, IsSent}
 use Rattle.pump_core.specs.Sendings.{Sending, last_sending, is_due, sends_hand, sending_of, expected}
 use Rattle.pump_core.proofs.Bounded.{in_hand}
 use Rattle.pump_core.proofs.Lists.{slice_get-past, length-push, All-at}

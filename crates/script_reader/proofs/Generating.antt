@@ -1,10 +1,10 @@
 -- Each line of a generated script can be applied.
 use Rattle.std.proofs.Common.{◌≡◌, ℕ, ◌+◌, ◌-◌, ◌*◌, ◌/◌, ◌%◌, ◌^◌, ◌<◌, ◌≤◌, zero, suc, Bool, true, false, List, [], ◌∷◌, ◌++◌, length, drop, codes, Option, Some, None, refl, sym, ap, ◌∙◌, subst, arith, length-append}
 use Rattle.std.specs.Prelude.{◌==◌, ◌&&◌, ◌||◌, not, nat_le, if◌then◌else◌, option_to_list}
-use Rattle.std.specs.List.{AllByRecursion, range_with_len}
+use Rattle.std.specs.List.{AllByRecursion}
 use Rattle.std.proofs.lemmas.Bool.{eqb-true, eqb-false, le-leb}
 use Rattle.std.proofs.lemmas.List.FromFn.{length-range_with_len}
-use Rattle.pump_core.specs.History.{Arrival, Nothing as NothingComes, Came, Look}
+use Rattle.pump_core.specs.History.{Arrival, Nothing as NothingComes, Came}
 use Rattle.pump_core.specs.declared.feedback.Feedback.{Feedback}
 use Rattle.pump_core.specs.Standing.{State}
 use Rattle.pump_core.specs.World.{World}
@@ -14,14 +14,14 @@ use Rattle.script_reader.specs.declared.line.Arriving.TheVariants.{Nothing, Hell
 use Rattle.script_reader.specs.declared.line.Line.{Line}
 use Rattle.script_reader.specs.declared.line.Line.TheVariants as lines
 use Rattle.script_reader.specs.Applying.{AllApply}
-use Rattle.script_reader.specs.Generated.{Mark, drawn, taking_time, payload_of, later as later_mark, timed, timed_by, takings, empty_look, message_word, after_draws, messages_from, message_lines, after_message, is_seventh, generated_row, generated, first_mark}
+use Rattle.script_reader.specs.Generated.{Mark, drawn, taking_time, payload_of, later as later_mark, timed, timed_by, takings, empty_look, message_word, after_draws, messages_from, after_message, is_seventh, generated_row, generated, first_mark}
 use Rattle.script_reader.specs.Generating.{moment_bound}
 use Rattle.script_reader.specs.Lows.{first_of, IsLook}
 use Rattle.script_reader.specs.Openings.{nothing_found, first_past}
 use Rattle.script_reader.specs.Past.{Past}
-use Rattle.script_reader.specs.Steps.{LineComing, coming, Arrives, joined, goes_on, data_frame, look_of, LineStep}
+use Rattle.script_reader.specs.Steps.{LineComing, Arrives, joined, goes_on, data_frame, look_of}
 use Rattle.pump_core.proofs.Runs.{run}
-use Rattle.script_reader.proofs.DoneSteps.{Rests, HasOne, done_removes, never_overfills}
+use Rattle.script_reader.proofs.DoneSteps.{HasOne, done_removes, never_overfills}
 use Rattle.script_reader.proofs.LookSteps.{Stands, idle, passing, waiting, weather, ungreeted, data_goes, pass_goes, full_goes, ack_goes, hello_goes}
 use Rattle.script_reader.proofs.Opened.{opened_lawful, new_disks_can}
 use Rattle.script_reader.proofs.Takings.{length_counting}

@@ -1,43 +1,36 @@
 -- What the looks of a generated message do on the low side.
-use Rattle.std.proofs.Common.{◌≡◌, ℕ, ◌+◌, ◌-◌, ◌^◌, ◌<◌, ◌≤◌, zero, suc, Bool, true, false, List, [], ◌∷◌, ◌++◌, length, drop, codes, Option, Some, None, refl, sym, ap, ◌∙◌, subst, arith}
-use Rattle.std.specs.Prelude.{◌==◌, ◌&&◌, ◌||◌, nat_lt, nat_le, if◌then◌else◌, option_to_list}
-use Rattle.std.specs.List.{AllByRecursion, range_with_len}
+use Rattle.std.proofs.Common.{◌≡◌, ℕ, ◌+◌, ◌^◌, ◌<◌, ◌≤◌, Bool, true, false, List, [], ◌∷◌, ◌++◌, length, drop, codes, Option, Some, None, refl, sym, ap, ◌∙◌, subst, arith}
+use Rattle.std.specs.Prelude.{◌==◌, ◌&&◌, ◌||◌, nat_lt, nat_le, if◌then◌else◌}
+use Rattle.std.specs.List.{AllByRecursion}
 use Rattle.std.proofs.lemmas.Bool.{ne_eqb, eq-eqb, le-ltb, le-leb, lt-ltb}
 use Rattle.std.proofs.lemmas.Slice.Eq.{bytes_eq-Decides}
 use Rattle.std.proofs.lemmas.Option.{same_Some}
-use Rattle.std.proofs.lemmas.List.FromFn.{length-range_with_len}
 use Rattle.pump_frame.specs.Frames.{greeting}
 use Rattle.pump_frame.specs.declared.frame.Frame.{Frame}
 use Rattle.pump_frame.specs.declared.frame.Kind.{Kind}
 use Rattle.pump_frame.specs.declared.frame.Kind.TheVariants as kinds
 use Rattle.pump_frame.specs.declared.payload.Payload.{Payload}
-use Rattle.pump_frame.specs.Readings.{Reading}
 use Rattle.pump_frame.specs.declared.row.SessionRow.{SessionRow}
 use Rattle.pump_core.specs.declared.event.Event.{Event as WorldEvent}
-use Rattle.pump_core.specs.declared.event.Event.TheVariants.{StoreBegin, StoreEnd, Forward, Acknowledge}
 use Rattle.pump_core.specs.declared.feedback.Feedback.{Feedback}
 use Rattle.pump_core.specs.declared.feedback.Feedback.TheVariants.{Quiet, Full, Passed, Released, Repeat}
-use Rattle.pump_core.specs.History.{Arrival, Nothing, Came, Look, Opening, looked}
-use Rattle.pump_core.specs.Phases.{Phase, Idle, Passing, Waiting as Waits}
-use Rattle.pump_core.specs.Exchanges.{permits_frame, Part, Holding, Release, Empty, Leaving, Answer, Repeated, Offering, Dropped, Delivery, Loss, Waiting, Over, due, is_repeat, is_next, count_after, greeted_after}
+use Rattle.pump_core.specs.History.{Arrival, Nothing, Came, Look, Opening}
+use Rattle.pump_core.specs.Phases.{Idle, Passing, Waiting as Waits}
+use Rattle.pump_core.specs.Exchanges.{permits_frame, Part, Holding, Release, Empty, Leaving, Answer, Repeated, Offering, Dropped, Delivery, Loss, Waiting, Over, due, is_repeat}
 use Rattle.pump_core.specs.Comings.{may_take}
 use Rattle.pump_core.specs.Replies.{Sent, takes, stores}
 use Rattle.pump_core.specs.Standing.{State, phase_after, end_of}
 use Rattle.pump_core.specs.Step.{after, takes_at, stores_at, is_full}
 use Rattle.pump_core.specs.World.{World}
 use Rattle.pump_core.specs.Events.{Run, stored as stored_world}
-use Rattle.pump_core.specs.Lawful.{numbers}
 use Rattle.pump_core.proofs.Lists.{length-push}
 use Rattle.pump_core.proofs.Runs.{run, ran}
 use Rattle.pump_core.proofs.Cuts.{newest_of_cut}
 use Rattle.pump_core.proofs.CutsFit.{cuts_fit}
 use Rattle.script_reader.specs.declared.event.Event.{Event}
-use Rattle.script_reader.specs.declared.line.Arriving.{Arriving}
-use Rattle.script_reader.specs.declared.line.Arriving.TheVariants as arriving
-use Rattle.script_reader.specs.declared.line.Line.TheVariants as lines
 use Rattle.script_reader.specs.Past.{Past, pair}
-use Rattle.script_reader.specs.Lows.{first_of, is_owed, is_bad, offer_feedback, arrival_feedback, feedback_at, acks_of, ack_by, offers, stored_events, IsLook}
-use Rattle.script_reader.specs.Steps.{LineComing, coming, joined, data_frame, hello_frame, look_of, LineStep}
+use Rattle.script_reader.specs.Lows.{is_owed, is_bad, arrival_feedback, feedback_at, acks_of, ack_by, offers, stored_events, IsLook}
+use Rattle.script_reader.specs.Steps.{data_frame, hello_frame, look_of}
 use Rattle.script_reader.specs.Generated.{generated_row}
 use Rattle.script_reader.proofs.Bounds.{Stays, stays_by}
 use Rattle.script_reader.proofs.DoneSteps.{Rests}

@@ -11,7 +11,7 @@ use Rattle.script_reader.specs.declared.line.Arriving.{Arriving}
 use Rattle.script_reader.specs.declared.line.Arriving.TheVariants.{Nothing, Hello, Data, Raw}
 use Rattle.script_reader.specs.declared.line.ToldFeedback.{ToldFeedback}
 use Rattle.script_reader.specs.declared.line.ToldFeedback.TheVariants.{Quiet, Full, Pair}
-use Rattle.script_reader.specs.Grammar.{spaced, outcome_field, IsWord, IsHex, IsRow, IsArriving, IsFeedback, HasFields, IsSpelled, IsLine}
+use Rattle.script_reader.specs.Grammar.{spaced, outcome_field, IsWord, IsHex, IsRow, IsArriving, IsFeedback, IsSpelled, IsLine}
 use Rattle.script_reader.specs.Lawful.{IsLawfulArriving, IsLawfulFeedback, IsLawfulLine}
 use Rattle.script_reader.specs.Spelling.{word_field, hex_field, arriving_fields, feedback_field, line_fields, line_spelling}
 use Rattle.script_reader.specs.Typed.{behind, IsPrinted, IsTypedRow, IsTypedArriving, IsTypedFeedback, IsTypedLine}

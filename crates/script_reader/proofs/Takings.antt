@@ -1,5 +1,5 @@
 -- A generator's payloads byte by byte, and its takings one by one.
-use Rattle.std.proofs.Common.{◌≡◌, ℕ, ◌+◌, ◌-◌, ◌%◌, ◌<◌, zero, suc, List, [], ◌∷◌, ◌++◌, length, refl, sym, ap, append_assoc, ◌∙◌, arith}
+use Rattle.std.proofs.Common.{◌≡◌, ℕ, ◌+◌, ◌-◌, ◌%◌, ◌<◌, zero, suc, [], ◌∷◌, ◌++◌, length, refl, ap, append_assoc, ◌∙◌, arith}
 use Rattle.script_reader.specs.declared.line.Line.TheVariants.{Look, Done}
 use Rattle.script_reader.specs.declared.line.Arriving.TheVariants.{Data}
 use Rattle.script_reader.specs.declared.generator.Turn.TheVariants.{Pass}

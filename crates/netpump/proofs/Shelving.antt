@@ -29,7 +29,7 @@ not_out w r e out = subst IsOut e out
 pub is_out : (w : Whereabouts) (count : ℕ) → (given : ℕ) × (w ≡ Out given) × (given ≤ count) → IsOut w
 is_out w count h = subst IsOut (sym h.1) tt
 
-name_is : (name : DiskName) (session : ℕ) → name.session ≡ session → name ≡ disk_name session name.role
+pub name_is : (name : DiskName) (session : ℕ) → name.session ≡ session → name ≡ disk_name session name.role
 name_is name session e = ap (λ (s : ℕ). disk_name s name.role) e
 
 pub rose_more : (given first last : ℕ) → given ≤ first → Rose first last → Rose given last

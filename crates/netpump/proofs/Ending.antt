@@ -122,6 +122,7 @@ module _ {D : Type 0} {g : Ghosts D} (d : Meaning D) (told : Type 0) (is_told : 
       printed = h.printed;
       transcript = h.transcript;
       sound = h.sound;
+      alone = h.alone;
       output_is = h.output_is;
       disks = keeps_to r.openings r.sessions.begun h.printed runs h.sound h.disks;
     }

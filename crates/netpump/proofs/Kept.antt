@@ -10,7 +10,8 @@ use Rattle.script_reader.specs.Openings.{Openings}
 use Rattle.script_reader.specs.Scripts.{Begun, Whole, Alone, LeadTo, Ends}
 use Rattle.script_reader.specs.Sessions.{Sessions, no_sessions, session_at, lines_of, events_of, event_session, ScriptLeadsTo, ScriptStops, ScriptComesTo, AllEnd}
 use Rattle.script_reader.specs.Readouts.{low_lines, row_of, history_of, Sound}
-use Rattle.script_reader.proofs.Beside.{one_of, own_so_far, own_end, rises}
+use Rattle.script_reader.proofs.Beside.{one_of, own_end, rises}
+use Rattle.script_reader.proofs.BesideStop.{own_so_far}
 use Rattle.script_reader.proofs.OneWhole.{script_parts}
 use Rattle.script_reader.proofs.LowFunction.{same_told_so_far, same_full_so_far}
 use Rattle.script_reader.proofs.Replying.{low-append}

@@ -1,8 +1,11 @@
+pub mod Asked
 pub mod Broken
+pub mod CommandEnds
 pub mod Compared
 pub mod Ending
 pub mod Exercised
 pub mod Finished
+pub mod Formatted
 pub mod Gathered
 pub mod Going
 pub mod Headline
@@ -11,13 +14,14 @@ pub mod Left
 pub mod Listed
 pub mod Numbered
 pub mod OneStatus
-pub mod OneWord
 pub mod Opened
 pub mod Quiet
 pub mod Shelving
+pub mod Shown
 pub mod SoFar
 pub mod Stopping
 pub mod Stops
+pub mod TableRows
 pub mod Tallies
 pub mod Turns
 pub mod Widened

@@ -25,8 +25,8 @@ use Rattle.two_worlds.specs.Rooms.{is_role}
 use Rattle.two_worlds.specs.Pumps as pump
 use Rattle.two_worlds.specs.declared.not_open.NotOpen.{NotOpen}
 use Rattle.two_worlds.specs.declared.pump.Pump.{Pump}
-use Rattle.netpump.specs.Lending.{ReadAt, IsOutAt, RisesAt, AreOnShelf, Spares, Readies}
-use Rattle.netpump.specs.Shelves.{Places, disk_name, reading_in, reading_at, HasFound, IsRefusedFor, LeavesOtherSessions, AllAreBack, SparesSession, ReadiesSession}
+use Rattle.netpump.specs.Lending.{ReadAt, IsOutAt, RisesAt, AreOnShelf, Readies}
+use Rattle.netpump.specs.Shelves.{Places, disk_name, reading_in, reading_at, HasFound, IsRefusedFor, LeavesOtherSessions, AllAreBack, SparesSession, ReadiesSession, Spares}
 use Rattle.netpump.specs.Sessions.{LendsNew}
 use Rattle.netpump.specs.Runners.{fault_of, outcome_at, Begins, IsDeviceOutcome, IsOfBeginning}
 use Rattle.netpump.specs.declared.session.Session.{Session}

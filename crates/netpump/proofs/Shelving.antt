@@ -12,8 +12,8 @@ use Rattle.pump_frame.specs.declared.row.SessionRow.{SessionRow}
 use Rattle.stable_buffer.specs.Format.{new_bytes, size_of}
 use Rattle.two_worlds.specs.Openings.{LeavesDisk}
 use Rattle.two_worlds.specs.Rooms.{Serves}
-use Rattle.netpump.specs.Lending.{ReadAt, IsOutAt, RisesAt, AreOnShelf, Spares, Readies}
-use Rattle.netpump.specs.Shelves.{Places, disk_name, reading_in, reading_at, LeavesOtherSessions, AllAreBack}
+use Rattle.netpump.specs.Lending.{ReadAt, IsOutAt, RisesAt, AreOnShelf, Readies}
+use Rattle.netpump.specs.Shelves.{Places, disk_name, reading_in, reading_at, LeavesOtherSessions, AllAreBack, Spares}
 
 pub read_in : (w : Whereabouts) (r : List ℕ) → reading_given w ≡ Some r → reading_in w ≡ r
 read_in (OnShelf x) r e = cc
@@ -29,7 +29,7 @@ not_out w r e out = subst IsOut e out
 pub is_out : (w : Whereabouts) (count : ℕ) → (given : ℕ) × (w ≡ Out given) × (given ≤ count) → IsOut w
 is_out w count h = subst IsOut (sym h.1) tt
 
-name_is : (name : DiskName) (session : ℕ) → name.session ≡ session → name ≡ disk_name session name.role
+pub name_is : (name : DiskName) (session : ℕ) → name.session ≡ session → name ≡ disk_name session name.role
 name_is name session e = ap (λ (s : ℕ). disk_name s name.role) e
 
 pub rose_more : (given first last : ℕ) → given ≤ first → Rose first last → Rose given last

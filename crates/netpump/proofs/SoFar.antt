@@ -13,6 +13,7 @@ use Rattle.script_reader.specs.Lines.{LineReading, to_come, AreLines, IsUnended,
 use Rattle.script_reader.specs.Openings.{Openings}
 use Rattle.script_reader.specs.Transcript.{text, fault_line}
 use Rattle.script_reader.specs.Sessions.{Sessions, no_sessions, ScriptLeads, ScriptLeadsTo, ScriptRefuses, AllEnd}
+use Rattle.script_reader.proofs.LoneSession.{alone_transcript}
 use Rattle.script_reader.proofs.LineEnds.{Keeps-then}
 use Rattle.pump_link.proofs.Known.{Appends-none}
 use Rattle.netpump.specs.Outputs.{Gathers}
@@ -108,6 +109,7 @@ module _ (shelf : Shelved) (o : Openings) (all rest left old now new : Option (L
     printed = events ++ last;
     transcript = (running, events, last, s.leads, ends, refl);
     sound = sound_ends o lines running events last s.leads ends;
+    alone = alone_transcript o lines (events ++ last) (running, events, last, s.leads, ends, refl);
     output_is = sym (text-more events last);
     disks = disks;
   }

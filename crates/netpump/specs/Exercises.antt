@@ -1,9 +1,11 @@
 -- What an exercise writes: the summary of a generated script, over new disks.
-use Rattle.std.specs.Prelude.{◌≡◌, ℕ, ◌+◌, List, [], ◌∷◌, ◌++◌, codes, decimal, Option, None}
+use Rattle.std.specs.Prelude.{◌≡◌, ◌⊎◌, ℕ, ◌+◌, List, [], ◌∷◌, ◌++◌, codes, decimal, Option, None}
+use Rattle.std.specs.Io.KnownBytes.{Appends}
 use Rattle.std.specs.List.{flat_map, sum_by}
 use Rattle.pump_frame.specs.Delays.{delay_of}
 use Rattle.pump_frame.specs.declared.frame.Kind.{Kind}
 use Rattle.pump_frame.specs.declared.frame.Kind.TheVariants.{Ack}
+use Rattle.pump_link.specs.Causes.{AppendsFront}
 use Rattle.script_reader.specs.declared.event.Event.{Event}
 use Rattle.script_reader.specs.declared.event.Event.TheVariants.{Full, Passed, Low, Removed}
 use Rattle.script_reader.specs.declared.line.Line.{Line}
@@ -83,3 +85,10 @@ pub record IsSummary (seed count : ℕ) (bytes : List ℕ) : Type 0 where
   pub ends : Ends after last
   pub transcript : IsTranscript new_disks (generated seed count) (in_all printed ++ last)
   pub bytes_are : bytes ≡ summary_of seed count (generated seed count) printed
+
+-- how an exercise ends, by its status: the summary was written, or nothing for want of memory, or a front of the summary
+abbrev pub EndsExercise : ℕ → ℕ → Option (List ℕ) → Option (List ℕ) → ℕ → Type 0
+EndsExercise seed count old new status =
+    ((status ≡ 0) × ((summary : List ℕ) × IsSummary seed count summary × Appends old new summary))
+    ⊎ (((status ≡ 1) × Appends old new [])
+    ⊎ ((status ≡ 4) × ((summary : List ℕ) × IsSummary seed count summary × AppendsFront old new summary)))

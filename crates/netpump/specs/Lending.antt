@@ -27,11 +27,7 @@ pub record AreOnShelf (places : Places) (session : ℕ) (low high recv : List �
   pub high_on : places (disk_name session roles.High) ≡ OnShelf high
   pub recv_on : places (disk_name session roles.Recv) ≡ OnShelf recv
 
--- every disk of the shelf that was not empty reads as it did
-abbrev pub Spares : Places → Places → Type 0
-Spares before after = (name : DiskName) → (reading_in (before name) ≡ [] → ⊥) → reading_in (after name) ≡ reading_in (before name)
-
--- .. and one that was is so still, or is a new disk of the row
+-- every disk that was not empty reads as it did, and one that was is so still, or is a new disk of the row
 abbrev pub Readies : Places → Places → SessionRow → Type 0
 Readies before after row = (name : DiskName) → (reading_in (after name) ≡ reading_in (before name))
     ⊎ ((name.session ≡ row.id) × (reading_in (before name) ≡ []) × (reading_in (after name) ≡ new_bytes row name.role 0))

@@ -180,19 +180,16 @@ IsNearLast rest left = IsAtEnd rest ⊎ (IsNear rest left ⊎ ((line : Line) × 
 
 -- ---- the ends of a replay ----
 
--- the script is at its end: the output is its transcript
+-- the script is at its end: the output is its transcript, in which the lines of each session are those of the script that
+-- has its lines alone
 pub record IsFinished (shelf : Shelved) {all : Option (List ℕ)} (r : Replayed all) (output : List ℕ) : Type 0 where
   pub ended : IsAtEnd r.rest
   pub printed : List Event
   pub transcript : IsScriptTranscript r.openings r.lines printed
   pub sound : IsEachSound r.sessions.begun printed
+  pub alone : (number : ℕ) → IsScriptTranscript r.openings (lines_of number r.lines) (events_of number printed)
   pub output_is : output ≡ text printed
   pub disks : shelf.keeps r.openings r.sessions.begun printed
-
--- the lines of each session are those of the script that has its lines alone
-abbrev pub StandAlone : {all : Option (List ℕ)} → Replayed all → List ℕ → Type 0
-StandAlone r output = (printed : List Event) × (output ≡ text printed)
-    × ((number : ℕ) → IsScriptTranscript r.openings (lines_of number r.lines) (events_of number printed))
 
 -- a read failed, and every whole line that was taken was replayed: the output is what they print, and the fault
 pub record IsUnread (shelf : Shelved) {all : Option (List ℕ)} (left : Option (List ℕ)) (before now : ℕ) (r : Replayed all) (output : List ℕ) : Type 0 where
@@ -295,16 +292,26 @@ WroteFront all old new End = (r : Replayed all) × (output : List ℕ) × End r 
 
 -- ---- the headline, by what is read of the disks at the return ----
 
--- the lines came to these sessions, or the next one did, which stopped the script
-abbrev pub IsLeftWith : {all : Option (List ℕ)} → Replayed all → Sessions → Type 0
-IsLeftWith r t = (t ≡ r.sessions) ⊎ ((fault : Fault) × (next : Stopping r.rest (length r.lines) r.sessions fault) × (t ≡ next.after))
+-- a replay with this status ends so: it has come to these sessions, and has printed this and nothing else but the fault
+abbrev pub EndsBy : ℕ → Shelved → {all : Option (List ℕ)} → Option (List ℕ) → ℕ → ℕ → Replayed all → List ℕ → Sessions → List Event → Type 0
+EndsBy status shelf left before now r output t printed =
+    ((status ≡ 0) × ((end : IsFinished shelf r output) × (t ≡ r.sessions) × (printed ≡ end.printed)))
+    ⊎ (((status ≡ 3) × IsUnread shelf left before now r output × (t ≡ r.sessions) × (printed ≡ r.events))
+    ⊎ (((status ≡ 5) × IsFaulted shelf left r output × (t ≡ r.sessions) × (printed ≡ r.events))
+    ⊎ ((status ≡ 10) × ((session at length size : ℕ) × (end : IsStopped shelf left (Full session at length size) r output)
+      × (t ≡ end.next.after) × (printed ≡ r.events ++ end.next.printed)))))
 
--- the output begins with these lines' text, and each message that they acknowledge is on the disks of its session
-abbrev pub HasOutlived : Places → {all : Option (List ℕ)} → Replayed all → List ℕ → Type 0
-HasOutlived after r output =
-    (t : Sessions) × IsLeftWith r t × (printed : List Event) × (last : List ℕ) × (output ≡ text printed ++ last)
-    × ((number : ℕ) → AcknowledgedOutlive after (session_at number t.begun) (events_of number printed))
+-- a replay of the script ended so with this status, its output was written, and this holds of the sessions to which it came
+-- and of what it printed
+abbrev pub EndedWith : ℕ → Shelved → (all left old new : Option (List ℕ)) → ℕ → ℕ → (Sessions → List Event → Type 0) → Type 0
+EndedWith status shelf all left old new before now Holds =
+    (r : Replayed all) × (output : List ℕ) × (t : Sessions) × (printed : List Event)
+    × EndsBy status shelf left before now r output t printed × Holds t printed × Appends old new output
+
+-- each message whose acknowledgement was printed is on the disks of its session
+abbrev pub HaveOutlived : Places → Sessions → List Event → Type 0
+HaveOutlived after t printed = (number : ℕ) → AcknowledgedOutlive after (session_at number t.begun) (events_of number printed)
 
 -- the receiver of each session has a front of what the session accepted, each message once and in order
-abbrev pub IsReceived : Places → {all : Option (List ℕ)} → Replayed all → List ℕ → Type 0
-IsReceived after r output = (t : Sessions) × IsLeftWith r t × ((number : ℕ) → ReceiverHasFront after (session_at number t.begun))
+abbrev pub HaveReceived : Places → Sessions → List Event → Type 0
+HaveReceived after t printed = (number : ℕ) → ReceiverHasFront after (session_at number t.begun)

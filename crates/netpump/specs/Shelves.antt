@@ -75,6 +75,10 @@ LeavesOtherSessions before after session = (name : DiskName) → (name.session �
 abbrev pub AllAreBack : Places → Places → Type 0
 AllAreBack before after = (name : DiskName) → IsOut (after name) → IsOut (before name)
 
+-- every disk that was not empty reads as it did
+abbrev pub Spares : Places → Places → Type 0
+Spares before after = (name : DiskName) → (reading_in (before name) ≡ [] → ⊥) → reading_in (after name) ≡ reading_in (before name)
+
 -- every disk of this session is where it was
 abbrev pub LeavesSession : Places → Places → ℕ → Type 0
 LeavesSession before after session = (role : Role) → after (disk_name session role) ≡ before (disk_name session role)

@@ -5,8 +5,9 @@ ghost use Rattle.disk_model.specs.Shelf.{IsOut, OnShelf};
 ghost use Rattle.disk_model.specs.declared.name.Role.TheVariants as roles;
 ghost use Rattle.disk_model.specs.declared.shelf.ShelfFault.TheVariants.{Failed};
 ghost use Rattle.pump_frame.specs.Counts.{Rose};
-ghost use Rattle.netpump.specs.Shelves.{disk_name, LeavesOtherSessions, AllAreBack};
-ghost use Rattle.netpump.specs.Lending.{IsOutAt, ReadAt, RisesAt, AreOnShelf, Spares};
+ghost use Rattle.netpump.specs.Shelves.{disk_name, LeavesOtherSessions, AllAreBack, Spares};
+ghost use Rattle.netpump.specs.Formatting.{ReadsAlike};
+ghost use Rattle.netpump.specs.Lending.{IsOutAt, ReadAt, RisesAt, AreOnShelf};
 
 use disk_model::{Disk, DiskName, Role, Shelf, ShelfFault};
 
@@ -50,6 +51,7 @@ pub fn take_disks<S: Shelf>(shelf: &mut S, session: u32) -> Result<TakenDisks<S:
     ensures recv_out { IfOk result (λ disks. IsOutAt (S.told.disk shelf.new) session roles.Recv (S.Disk.told.count disks.recv)) }
     ensures others { LeavesOtherSessions (S.told.disk shelf.old) (S.told.disk shelf.new) session }
     ensures spared { IfErr result (λ e. S.told.tells → Spares (S.told.disk shelf.old) (S.told.disk shelf.new) × AllAreBack (S.told.disk shelf.old) (S.told.disk shelf.new)) }
+    ensures alike { IfErr result (λ e. S.told.tells → ReadsAlike (S.told.disk shelf.old) (S.told.disk shelf.new)) }
     ensures later { S.told.disk_faults shelf.old ≤ S.told.disk_faults shelf.new }
     ensures cause { IfErr result (λ e. e.fault ≡ Failed → Rose (S.told.disk_faults shelf.old) (S.told.disk_faults shelf.new)) }
 {

@@ -1,4 +1,6 @@
-use std::{io, str};
+use command_line::USAGE;
+use session_table::{Table, TableFault};
+use std::{fs, io, str};
 
 /// What became of the disk that stopped a script with status 7.
 #[derive(Clone, Copy)]
@@ -42,7 +44,7 @@ fn explain_device(rt: &HostRuntime, last: &[u8], trouble: Trouble) -> io::Result
     let role = field(line, 3);
     match trouble {
         Trouble::InUse => eprintln!(rt;
-            "netpump: the file {session}.{role} is in use by another netpump; wait until that one has ended, and replay the script again"
+            "netpump: the file {session}.{role} is in use by another netpump; wait until that one has ended, and try again"
         ),
         Trouble::Failed => eprintln!(rt;
             "netpump: the file {session}.{role} in this folder could not be made, read, written or synced; see that its disk has room and that the file is yours to write, and go on with what was not acknowledged. What was acknowledged is kept"
@@ -79,34 +81,91 @@ fn explain_disk(rt: &HostRuntime, last: &[u8]) -> io::Result<()> {
         "7" => eprintln!(rt;
             "netpump: the files of session {session} are not of one time: the receiver has {first} messages, and the bound is {second}"
         ),
+        "9" => eprintln!(rt;
+            "netpump: the file {session}.{role} has {first} bytes already, and only empty disks are formatted; if nothing in them is wanted, remove the files {session}.low, {session}.high and {session}.recv, and format again"
+        ),
         _ => eprintln!(rt;
             "netpump: the files of session {session} are not of one time: message {first} is another one in {session}.low than in {session}.recv"
         ),
     }
 }
 
+/// What was found on a disk that is refused, and what to do.
+fn explain_refusal(rt: &HostRuntime, last: &[u8]) -> io::Result<()> {
+    explain_disk(rt, last)?;
+    if field(fault_line(last).unwrap_or(""), 4) == "9" {
+        return Ok(());
+    }
+    eprintln!(rt;
+        "netpump: put back the three files that belong together, use the numbers of the session line that made them, or replay in an empty folder to begin anew (docs/formats.md, \"When disks are refused\")"
+    )
+}
+
+/// The name of the table that the words have, if they have one.
+fn table_in(words: &[String]) -> Option<&str> {
+    match words {
+        [_, table, _] => Some(table.as_str()),
+        _ => None,
+    }
+}
+
+fn explain_unread(rt: &HostRuntime, words: &[String]) -> io::Result<()> {
+    match table_in(words) {
+        Some(table) => eprintln!(rt;
+            "netpump: the file {table} in this folder could not be read; see that it is there and that it is yours to read, and try again"
+        ),
+        None => eprintln!(rt;
+            "netpump: standard input could not be read to its end; see that it is a file or a pipe, and not a folder. What it said until then is answered above"
+        ),
+    }
+}
+
+/// What is wrong with a table, which is read again for it.
+fn fault_of_table(rt: &HostRuntime, name: &str) -> Option<TableFault> {
+    let bytes = fs::read(rt, name).ok()?;
+    Table::read(rt.alloc(), bytes.as_slice()).err()
+}
+
+fn explain_table(rt: &HostRuntime, words: &[String], last: &[u8]) -> io::Result<()> {
+    let line = fault_line(last).unwrap_or("");
+    let table = table_in(words).unwrap_or("?");
+    let session = field(line, 3);
+    match field(line, 2) {
+        "10" => eprintln!(rt;
+            "netpump: the file {table} has more than 65,536 bytes, which no table has; name the right file, or take out what is no row"
+        ),
+        "11" => eprintln!(rt;
+            "netpump: no row of the table {table} has id = {session}; name a session that has one, or add it"
+        ),
+        _ => match fault_of_table(rt, table) {
+            Some(fault) => eprintln!(rt; "netpump: in the file {table}: {fault}"),
+            None => eprintln!(rt;
+                "netpump: the file {table} was no table when it was read; it has changed since then, so try again"
+            ),
+        },
+    }
+}
+
 /// Says on standard error, in a sentence or two, why the program ends with this status and what to do.
 /// `last` is the end of what was written.
-pub fn explain(rt: &HostRuntime, status: u8, last: &[u8], trouble: Trouble) -> io::Result<()> {
+pub fn explain(
+    rt: &HostRuntime,
+    words: &[String],
+    status: u8,
+    last: &[u8],
+    trouble: Trouble,
+) -> io::Result<()> {
     match status {
         0 => Ok(()),
         1 => eprintln!(rt; "netpump: there is not enough memory; end other programs and try again"),
-        2 => eprintln!(rt;
-            "netpump: these words are no command; type one of these after the program's name:\n  replay    reads a script from standard input and prints its transcript, as in: netpump replay < SCRIPT"
-        ),
-        3 => eprintln!(rt;
-            "netpump: standard input could not be read to its end; see that it is a file or a pipe, and not a folder. What it said until then is answered above"
-        ),
+        2 => eprintln!(rt; "netpump: these words are no command; {USAGE}"),
+        3 => explain_unread(rt, words),
         4 => eprintln!(rt;
-            "netpump: standard output could not be written; see that its reader is there, or that its disk has room, and replay the script again"
+            "netpump: standard output could not be written; see that its reader is there, or that its disk has room, and try again"
         ),
+        6 => explain_table(rt, words, last),
         7 => explain_device(rt, last, trouble),
-        8 => {
-            explain_disk(rt, last)?;
-            eprintln!(rt;
-                "netpump: put back the three files that belong together, use the numbers of the session line that made them, or replay in an empty folder to begin anew (docs/formats.md, \"When disks are refused\")"
-            )
-        }
+        8 => explain_refusal(rt, last),
         10 => eprintln!(rt;
             "netpump: a message does not fit on the receiver's disk; replay fewer messages, or shorter ones. The last line of the output has the session, where its records end, the length of the message and the size of the disk"
         ),

@@ -2,16 +2,22 @@
 #![tactic(auto)]
 
 mod batch;
+mod command_end;
+#[cfg(test)]
+mod command_tests;
 mod disks;
 mod exercise;
 mod explain;
 mod file_disk;
 mod file_shelf;
+mod format;
 mod output;
 mod replay;
 mod session;
 mod sessions;
+mod show;
 mod standard;
+mod table_row;
 #[cfg(test)]
 mod tests;
 
@@ -50,6 +56,6 @@ fn main(rt: HostRuntime) -> ExitCode {
         Trouble::Told
     };
     // The status tells it too, where standard error can't be written.
-    let _ = explain(&rt, status, out.last(), trouble);
+    let _ = explain(&rt, words.as_slice(), status, out.last(), trouble);
     ExitCode::from(status)
 }

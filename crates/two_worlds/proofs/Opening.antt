@@ -9,4 +9,5 @@ pub mod Ready
 pub mod Refusing
 pub mod Restarting
 pub mod RowRanges
+pub mod Surveying
 pub mod Working

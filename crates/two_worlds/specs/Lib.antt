@@ -14,6 +14,7 @@ pub mod Pumps
 pub mod Rooms
 pub mod Standing
 pub mod States
+pub mod Surveys
 pub mod Timelines
 pub mod TimelinesAlone
 pub mod Timely

@@ -13,4 +13,4 @@ mod pump;
 pub use applied::{Applied, Stop};
 pub use low_pump::LowPump;
 pub use not_open::NotOpen;
-pub use pump::Pump;
+pub use pump::{Pump, Survey, survey_disks};

@@ -10,8 +10,11 @@ mod readied;
 mod reopen;
 mod restart;
 mod state;
+mod surveying;
 #[cfg(test)]
 mod tests;
+
+pub use surveying::{Survey, survey_disks};
 
 use crate::applied::{Applied, Stop};
 use crate::not_open::NotOpen;

@@ -57,7 +57,7 @@ module _ (row : SessionRow) (lawful : IsLawfulRow row) (E B : ℕ) (messages rec
   ]
 
   -- low's messages are the accepted ones that aren't removed
-  tail : messages ≡ drop B (accepted_in found)
+  pub tail : messages ≡ drop B (accepted_in found)
   tail = ext_get_or [] messages (drop B (accepted_in found)) tail_size (λ i lt. get_at i lt ∙ sym (get_or-drop B (accepted_in found) i []))
 
   short : All (λ m. length m ≤ row.message) (accepted_in found)

@@ -26,7 +26,7 @@ new_stands row role =
     let left = length-replicate {A = ℕ} (size_of row role - 80) 0 in
     fresh_stands row role 0 (new_bytes row role 0) (omega arith) (λ is. refl) (take_at front rest 80 size) (length-append front rest ∙ omega (arith, size, left, whole row role))
 
-nothing_stands : (row : SessionRow) → IsLawfulRow row → StandForFound row nothing_found (new_bytes row Low 0) (new_bytes row High 0) (new_bytes row Recv 0)
+pub nothing_stands : (row : SessionRow) → IsLawfulRow row → StandForFound row nothing_found (new_bytes row Low 0) (new_bytes row High 0) (new_bytes row Recv 0)
 nothing_stands row lawful = record {
   can_open = record {
     agree = record { taken = omega arith; fits = omega arith };

@@ -85,7 +85,7 @@ fn refused<D: Disk>(role: Role, why: Why, pump: Opened<D>, recv: D) -> NotOpen<D
 }
 
 // The pump's disks are opened, then the receiver's, and then these are compared.
-fn open_all<D: Disk>(
+pub(super) fn open_all<D: Disk>(
     row: &SessionRow,
     disks: Disks<D>,
     ends: &mut PlainEnds,

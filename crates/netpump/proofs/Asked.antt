@@ -1,0 +1,70 @@
+-- What the words ask for, and which command ends so.
+use Rattle.std.proofs.Common.{◌≡◌, ◌⊎◌, ℕ, List, [], Option, Result, Ok, Err, inl, inr, refl, sym, ap, ◌∙◌, subst}
+use Rattle.std.specs.Io.KnownBytes.{Appends}
+use Rattle.command_line.specs.declared.command.Command.{Command}
+use Rattle.command_line.specs.declared.command.Command.TheVariants.{Format, Show, Exercise}
+use Rattle.command_line.specs.declared.command.WordsFault.{WordsFault}
+use Rattle.command_line.specs.declared.command.WordsFault.TheVariants.{NoCommand, Memory}
+use Rattle.netpump.specs.Commands.{EndsSo, EndsWithStatus, end_status}
+use Rattle.netpump.specs.Exercises.{EndsExercise}
+use Rattle.netpump.specs.Formatting.{Formats}
+use Rattle.netpump.specs.Showing.{Shows}
+use Rattle.netpump.specs.Shelves.{Places}
+use Rattle.netpump.specs.declared.command_end.CommandEnd.{CommandEnd}
+use Rattle.netpump.specs.declared.command_end.CommandEnd.TheVariants as ends
+
+-- words that are no command are not this one
+pub not_command : (c : Command) → (let r : Result Command WordsFault = Err NoCommand in (r ≡ Ok c) ⊎ (r ≡ Err Memory)) → ⊥
+not_command c (inl found) = cc
+not_command c (inr memory) = cc
+
+pub same_command : (b c : Command) → (let r : Result Command WordsFault = Ok b in (r ≡ Ok c) ⊎ (r ≡ Err Memory)) → b ≡ c
+same_command b c (inl found) = cc
+same_command b c (inr memory) = cc
+
+table_is : (t u : List ℕ) (n m : ℕ) → Format t n ≡ Format u m → t ≡ u
+table_is t u n m e = cc
+
+session_is : (t u : List ℕ) (n m : ℕ) → Format t n ≡ Format u m → n ≡ m
+session_is t u n m e = cc
+
+pub formats_asked : (file : List ℕ → Option (List ℕ)) (before after : Places) (old new : Option (List ℕ)) (t u : List ℕ) (n m : ℕ) (end : CommandEnd) (status : ℕ)
+    → EndsSo (Formats (file t) before after n) old new end → status ≡ end_status end → (b : Command) → b ≡ Format t n → b ≡ Format u m
+    → EndsWithStatus (Formats (file u) before after m) old new status
+formats_asked file before after old new t u n m end status ends is b one other =
+    let same = sym one ∙ other in
+    (end, sym is, subst (λ (p : List ℕ × ℕ). EndsSo (Formats (file p.0) before after p.1) old new end) (λ i. (table_is t u n m same i, session_is t u n m same i)) ends)
+
+-- want of memory, before anything was done
+pub formats_nothing : (file : Option (List ℕ)) (places : Places) (old new : Option (List ℕ)) (session : ℕ) → Appends old new [] → EndsWithStatus (Formats file places places session) old new 1
+formats_nothing file places old new session a = (ends.Memory, refl, ([], (record { spares = λ name some. refl; others = λ name other. refl }, refl), a))
+
+shown_table_is : (t u : List ℕ) (n m : ℕ) → Show t n ≡ Show u m → t ≡ u
+shown_table_is t u n m e = cc
+
+shown_session_is : (t u : List ℕ) (n m : ℕ) → Show t n ≡ Show u m → n ≡ m
+shown_session_is t u n m e = cc
+
+pub shows_asked : (file : List ℕ → Option (List ℕ)) (before after : Places) (old new : Option (List ℕ)) (t u : List ℕ) (n m : ℕ) (end : CommandEnd) (status : ℕ)
+    → EndsSo (Shows (file t) before after n) old new end → status ≡ end_status end → (b : Command) → b ≡ Show t n → b ≡ Show u m
+    → EndsWithStatus (Shows (file u) before after m) old new status
+shows_asked file before after old new t u n m end status ends is b one other =
+    let same = sym one ∙ other in
+    (end, sym is, subst (λ (p : List ℕ × ℕ). EndsSo (Shows (file p.0) before after p.1) old new end) (λ i. (shown_table_is t u n m same i, shown_session_is t u n m same i)) ends)
+
+pub shows_nothing : (file : Option (List ℕ)) (places : Places) (old new : Option (List ℕ)) (session : ℕ) → Appends old new [] → EndsWithStatus (Shows file places places session) old new 1
+shows_nothing file places old new session a = (ends.Memory, refl, ([], ((λ name. refl), refl), a))
+
+seed_is : (a b n m : ℕ) → Exercise a n ≡ Exercise b m → a ≡ b
+seed_is a b n m e = cc
+
+count_is : (a b n m : ℕ) → Exercise a n ≡ Exercise b m → n ≡ m
+count_is a b n m e = cc
+
+pub exercise_asked : (old new : Option (List ℕ)) (a b n m status : ℕ) → EndsExercise a n old new status → (c : Command) → c ≡ Exercise a n → c ≡ Exercise b m → EndsExercise b m old new status
+exercise_asked old new a b n m status ends c one other =
+    let same = sym one ∙ other in
+    subst (λ (p : ℕ × ℕ). EndsExercise p.0 p.1 old new status) (λ i. (seed_is a b n m same i, count_is a b n m same i)) ends
+
+pub exercise_nothing : (old new : Option (List ℕ)) (seed count : ℕ) → Appends old new [] → EndsExercise seed count old new 1
+exercise_nothing old new seed count a = inr (inl (refl, a))

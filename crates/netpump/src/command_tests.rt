@@ -1,0 +1,124 @@
+use crate::batch::batch;
+use disk_model::{DiskName, MemShelf, PlainDisk, Role};
+use pump_link::{MemSink, MemSource};
+use std::alloc::{AllocError, Global};
+use std::test::Fail;
+
+const TABLE: &str = "[[session]]\nid = 1\nlow = \"weather\"\nhigh = \"watch\"\ncapacity = 3\nmessage = 8\nwindow = 2\nstart = 20000\nlongest = 100000\nresend = 500000\nlow_port = 7001\nhigh_port = 7002\n";
+
+const SMALL: &str = "[[session]]\nid = 1\nlow = \"weather\"\nhigh = \"watch\"\ncapacity = 2\nmessage = 8\nwindow = 2\nstart = 20000\nlongest = 100000\nresend = 500000\nlow_port = 7001\nhigh_port = 7002\n";
+
+/// A shelf with empty disks for session 1 and two tables, on which these calls fail.
+fn new_shelf(alloc: Global, fails: &[u64]) -> Result<MemShelf<PlainDisk>, Fail> {
+    let mut disks = Vec::new(alloc);
+    for (role, room) in [
+        (Role::Low, 65_744),
+        (Role::High, 80),
+        (Role::Recv, 16_777_216),
+    ] {
+        disks.push((DiskName { session: 1, role }, PlainDisk::new(alloc, room)?))?;
+    }
+    let mut files = Vec::new(alloc);
+    for (name, text) in [("t.toml", TABLE), ("small.toml", SMALL)] {
+        let bytes = Vec::from_slice(alloc, text.as_bytes())?;
+        files.push((String::from_str(alloc, name)?, bytes))?;
+    }
+    files.push((
+        String::from_str(alloc, "large.toml")?,
+        vec![in alloc; 10; 65_537]?,
+    ))?;
+    let fails = Vec::from_slice(alloc, fails)?;
+    Ok(MemShelf::new(disks, files, fails))
+}
+
+/// Two messages are stored, of which the first was acknowledged.
+const SCRIPT: &str = "session 1 3 8 2 20000 100000 500000 weather watch\nlook 1 10 00000000 hello weather watch\nlook 1 100 00000000 data 0 61ff\nlook 1 100 00000000\nlook 1 178 00000000\nlook 1 200 00000000 data 1 -\n";
+
+const TRANSCRIPT: &str = "low 1 10 welcome 0\nstored 1 100 0\npassed 1 100 0 20000\nlow 1 178 ack 0\nstored 1 200 1\nend 1 2 0 0\n";
+
+/// The status and the output of a command line on a shelf.
+fn run_on(
+    alloc: Global,
+    shelf: &mut MemShelf<PlainDisk>,
+    line: &str,
+) -> Result<(u8, Vec<u8>), AllocError> {
+    let mut words = Vec::new(alloc);
+    for word in line.split(' ') {
+        words.push(String::from_str(alloc, word)?)?;
+    }
+    let mut source = MemSource::new(
+        Vec::from_slice(alloc, SCRIPT.as_bytes())?,
+        7,
+        Vec::new(alloc),
+    );
+    let mut sink = MemSink::new(vec![in alloc; 0; 4096]?, 4096, Vec::new(alloc));
+    let status = batch(alloc, &words, shelf, &mut source, &mut sink);
+    Ok((status, Vec::from_slice(alloc, sink.written())?))
+}
+
+/// Whether the command lines end so one after another, on one shelf.
+fn all_end(alloc: Global, fails: &[u64], lines: &[(&str, u8, &str)]) -> Result<bool, Fail> {
+    let mut shelf = new_shelf(alloc, fails)?;
+    for (line, status, output) in lines {
+        let (ended, written) = run_on(alloc, &mut shelf, *line)?;
+        if ended != *status || written.as_slice() != output.as_bytes() {
+            return Ok(false);
+        }
+    }
+    Ok(true)
+}
+
+#[test]
+fn shows_what_disks_stand_for(rt: HostRuntime) -> Result<(), Fail> {
+    let shown = "show 1 2 0 0\nlive 1 0 61ff\nlive 1 1 -\n";
+    let lines = [
+        ("show t.toml 1", 8, "fault disk 1 low 2 0 0\n"),
+        ("format t.toml 1", 0, "formatted 1\n"),
+        ("show t.toml 1", 0, "show 1 0 0 0\n"),
+        ("replay", 0, TRANSCRIPT),
+        ("show t.toml 1", 0, shown),
+        ("show t.toml 1", 0, shown),
+        ("format t.toml 1", 8, "fault disk 1 low 9 110 0\n"),
+        ("show t.toml 9", 6, "fault table 11 9\n"),
+        ("show small.toml 1", 6, "fault table 4 1\n"),
+        ("show none.toml 1", 3, "fault read\n"),
+    ];
+    assert!(rt; all_end(rt.alloc(), &[], lines.as_slice())?);
+    Ok(())
+}
+
+#[test]
+fn formats_empty_disks(rt: HostRuntime) -> Result<(), Fail> {
+    let lines = [
+        ("format t.toml 1", 0, "formatted 1\n"),
+        ("format t.toml 1", 8, "fault disk 1 low 9 110 0\n"),
+        ("format t.toml 9", 6, "fault table 11 9\n"),
+        ("format small.toml 1", 6, "fault table 4 1\n"),
+        ("format large.toml 1", 6, "fault table 10 0\n"),
+        ("format none.toml 1", 3, "fault read\n"),
+        ("format t.toml 01", 2, "fault words\n"),
+        ("format --help", 2, "fault words\n"),
+        ("help", 2, "fault words\n"),
+        ("--version", 2, "fault words\n"),
+    ];
+    assert!(rt; all_end(rt.alloc(), &[], lines.as_slice())?);
+    Ok(())
+}
+
+// The calls are `whole`, and one for each disk.
+#[test]
+fn formats_nothing_after_a_fault(rt: HostRuntime) -> Result<(), Fail> {
+    for (fails, status, output) in [
+        (0, 3, "fault read\n"),
+        (1, 7, "fault device 1 low\n"),
+        (2, 7, "fault device 1 high\n"),
+        (3, 7, "fault device 1 recv\n"),
+    ] {
+        let lines = [
+            ("format t.toml 1", status, output),
+            ("format t.toml 1", 0, "formatted 1\n"),
+        ];
+        assert!(rt; all_end(rt.alloc(), &[fails], lines.as_slice())?);
+    }
+    Ok(())
+}

@@ -3,7 +3,7 @@
 #![tactic(auto)]
 
 mod ask;
-mod ask_waiting;
+mod how;
 mod look;
 mod look_waiting;
 mod process;

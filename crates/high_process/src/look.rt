@@ -9,6 +9,7 @@ ghost use Rattle.high_process.specs.Ends.{StandsFitting};
 ghost use Rattle.high_process.specs.Looks.{StandsFor, LookBegins, Asked, Looked};
 
 use crate::HighProcess;
+use crate::how::AtOnce;
 use crate::values::{HighAsk, HighFault, HighLook};
 use disk_model::Disk;
 use passage::HighEnd;
@@ -96,7 +97,7 @@ impl HighProcess {
         ensures place { H.place ends.new ≡ H.place ends.old }
     {
         let ask = self.begin(moment, frame, store)?;
-        self.take_up(&ask, ends);
+        self.take_up(&AtOnce, &ask, ends);
         Ok(self.send())
     }
 }

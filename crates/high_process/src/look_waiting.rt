@@ -1,5 +1,5 @@
 // A look over an end whose calls may wait: `look` with the handle.
-ghost use Rattle.std.specs.Prelude.{◌≡◌, ℕ, ◌^◌, ◌<◌, ◌≤◌, true, false, IfSome, IfOk, IfErr, OnOk, OnErr};
+ghost use Rattle.std.specs.Prelude.{◌≡◌, ◌^◌, ◌<◌, ◌≤◌, false, IfSome, IfOk, IfErr, OnOk, OnErr};
 ghost use Rattle.stable_buffer.specs.High.{IsHighReady, high_count};
 ghost use Rattle.pump_core.specs.Passage.{Low, High};
 ghost use Rattle.high_process.specs.Tasks.{frame_of};
@@ -7,9 +7,10 @@ ghost use Rattle.high_process.specs.Past.{ProcessPast};
 ghost use Rattle.high_process.specs.States.{row_of, removed_of, last_of, is_down, task_at, attaches_at, IsBetweenLooks};
 ghost use Rattle.high_process.specs.Storing.{Fares, IsAfter, LeavesCounted};
 ghost use Rattle.high_process.specs.Ends.{StandsFitting};
-ghost use Rattle.high_process.specs.Looks.{StandsFor, LookBegins, Asked, Looked};
+ghost use Rattle.high_process.specs.Looks.{StandsFor, Looked};
 
 use crate::HighProcess;
+use crate::how::Waits;
 use crate::values::{HighFault, HighLook};
 use disk_model::Disk;
 use passage::WaitHighEnd;
@@ -57,7 +58,7 @@ impl HighProcess {
         ensures place { H.place ends.new ≡ H.place ends.old }
     {
         let ask = self.begin(moment, frame, store)?;
-        self.take_up_waiting(rt, &ask, ends);
+        self.take_up(&Waits { rt }, &ask, ends);
         Ok(self.send())
     }
 }

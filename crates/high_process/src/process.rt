@@ -1,14 +1,13 @@
 ghost use Rattle.std.specs.Prelude.{◌≡◌, ℕ, ◌+◌, ◌-◌, ◌^◌, ◌<◌, ◌≤◌, Bool, true, false, length, Option, Some, None, IsSome, IfSome, IfOk, IfErr, OnOk, OnErr, option_map};
 
 use crate::ask::fetch;
-use crate::ask_waiting::fetch_waiting;
+use crate::how::Asks;
 use crate::task::task_for;
 use crate::values::{Asking, HighAsk, HighFault, HighLook, Sent, Task};
 use disk_model::Disk;
-use passage::{HighEnd, WaitHighEnd};
+use passage::HighSide;
 use pump_frame::{Frame, Item, Kind, SessionRow};
 use stable_buffer::HighStore;
-use std::sync::Wait;
 
 /// The high process of a session.
 #[derive(Drop)]
@@ -284,7 +283,7 @@ impl HighProcess {
     }
 
     // Takes up what the end gives into the hand, if a message is wanted, once the time is published.
-    pub(crate) fn take_up<H: HighEnd>(&mut self, ask: &HighAsk, ends: &mut H)
+    pub(crate) fn take_up<H: HighSide, A: Asks<H>>(&mut self, how: &A, ask: &HighAsk, ends: &mut H)
         requires asking { AsksJust self.old ask.now }
         requires ends { (l : Low) × (h : High) × H.stands ends.old l h
             × IfSome ask.now.publish (IsTime (length h.times))
@@ -295,30 +294,7 @@ impl HighProcess {
         ensures fills { Fills (H.shape ends.old) H.on_one_thread (H.stands ends.old) (H.stands ends.new)
             (state_of self.old) (state_of self.new) ask.now }
     {
-        if fetch(ask, ends, &mut self.hand) {
-            self.hand.number = self.removed;
-            self.is_full = true;
-        }
-    }
-
-    // As `take_up`, of an end whose calls may wait.
-    pub(crate) fn take_up_waiting<H: WaitHighEnd, R: Wait>(
-        &mut self,
-        rt: &R,
-        ask: &HighAsk,
-        ends: &mut H,
-    )
-        requires asking { AsksJust self.old ask.now }
-        requires ends { (l : Low) × (h : High) × H.stands ends.old l h
-            × IfSome ask.now.publish (IsTime (length h.times))
-            × (ask.now.wants ≡ true → h.floor ≤ ask.now.removed) }
-        ensures shape { H.shape ends.new ≡ H.shape ends.old }
-        ensures place { H.place ends.new ≡ H.place ends.old }
-        ensures row { self.new.row ≡ self.old.row }
-        ensures fills { Fills (H.shape ends.old) H.on_one_thread (H.stands ends.old) (H.stands ends.new)
-            (state_of self.old) (state_of self.new) ask.now }
-    {
-        if fetch_waiting(rt, ask, ends, &mut self.hand) {
+        if fetch(how, ask, ends, &mut self.hand) {
             self.hand.number = self.removed;
             self.is_full = true;
         }

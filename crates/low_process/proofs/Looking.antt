@@ -1,5 +1,5 @@
 -- From the steps of the code to what it stands for.
-use Rattle.std.proofs.Common.{◌≡◌, ℕ, ◌≤◌, ◌++◌, Bool, false, List, sym, ◌∙◌, subst}
+use Rattle.std.proofs.Common.{◌≡◌, ℕ, ◌≤◌, ◌++◌, Bool, List, sym, ◌∙◌, subst}
 use Rattle.pump_frame.specs.declared.row.SessionRow.{SessionRow}
 use Rattle.pump_core.specs.History.{Arrival}
 use Rattle.low_process.specs.declared.values.Asking.{Asking}
@@ -82,7 +82,3 @@ look_from A B q row row' x l same from e = subst (λ (r : SessionRow). Looks B q
   taken = λ h parts t c. e.taken h parts (from h t) c;
   stored = λ h parts t c. e.stored h parts (from h t) c;
 })
-
--- it is up as before
-pub goes_on : (b c e : Bool) → b ≡ false → c ≡ false → b ≡ e → c ≡ e
-goes_on b c e is_up stays falls = stays ∙ sym is_up ∙ falls

@@ -4,6 +4,7 @@
 #![tactic(auto)]
 
 mod frames;
+mod how;
 mod look;
 mod look_waiting;
 mod process;

@@ -11,22 +11,23 @@ ghost use Rattle.low_process.specs.Ends.{OfferStep, EndStep, FitsEnd, StandsFitt
 ghost use Rattle.low_process.specs.Whole.{HasStore, BeginStep, LookStep, KeepsAcknowledged, LeavesStored, reply_in};
 
 use crate::LowProcess;
+use crate::how::{Asks, AtOnce};
 use crate::store::store_message;
 use crate::values::{Answer, Arrival, Ask, AskHead, LookHead, LowLook};
 use disk_model::Disk;
-use passage::{Forwarded, LowEnd};
+use passage::{Forwarded, LowEnd, LowSide};
 use pump_core::Seen;
 use pump_frame::Item;
 use stable_buffer::LowStore;
 
 // What stands in an answer whose average nobody needs.
-pub(crate) const UNREAD: Seen = Seen {
+const UNREAD: Seen = Seen {
     count: 0,
     average: 0,
 };
 
 // Offers a message, and reads the average where it passed and an acknowledgement is owed.
-fn offer<L: LowEnd>(item: Item, is_owed: bool, ends: &mut L) -> Answer
+fn offer<L: LowSide, A: Asks<L>>(how: &A, item: Item, is_owed: bool, ends: &mut L) -> Answer
     requires ends { (l : Low) × (h : High)
         × L.stands ends.old l h × ComesNext l.forwarded item.number }
     requires number { item.number < 2 ^ 48 }
@@ -36,11 +37,11 @@ fn offer<L: LowEnd>(item: Item, is_owed: bool, ends: &mut L) -> Answer
     ensures step { (l : Low) (h : High) → L.stands ends.old l h → ComesNext l.forwarded item.number
         → OfferStep (L.shape ends.old) L.on_one_thread (L.stands ends.new) l h item is_owed result }
 {
-    match ends.forward(item) {
+    match how.forward(item, ends) {
         Forwarded::Full(_) => Answer::Full,
         Forwarded::Passed => {
             if is_owed {
-                Answer::Passed(ends.average())
+                Answer::Passed(how.average(ends))
             } else {
                 Answer::Passed(UNREAD)
             }
@@ -124,7 +125,13 @@ impl LowProcess {
     }
 
     // Offers the message in the hand, and ends the look.
-    fn offer_hand<L: LowEnd>(&mut self, item: Item, ends: &mut L, head: &mut LookHead)
+    fn offer_hand<L: LowSide, A: Asks<L>>(
+        &mut self,
+        how: &A,
+        item: Item,
+        ends: &mut L,
+        head: &mut LookHead,
+    )
         requires asking { AsksToForward self.old }
         requires hand { hand_of self.old ≡ Some item }
         requires number { item.number + 1 ≡ next_of self.old }
@@ -149,8 +156,54 @@ impl LowProcess {
             (Some item) head.new.feedback }
     {
         let is_owed = self.owes();
-        let answer = offer(item, is_owed, ends);
+        let answer = offer(how, item, is_owed, ends);
         self.finish_into(answer, head)
+    }
+
+    // A look that makes the calls of the end in this way.
+    pub(crate) fn look_by<D: Disk, L: LowSide, A: Asks<L>>(
+        &mut self,
+        how: &A,
+        moment: u64,
+        word: u32,
+        arrival: Arrival,
+        store: &mut LowStore<D>,
+        ends: &mut L,
+        head: &mut LookHead,
+    )
+        requires between { IsBetweenLooks self.old }
+        requires order { last_of self.old ≤ moment }
+        requires moment { moment ≤ 2 ^ 62 }
+        requires lawful { IsLawful (arrival_of arrival) }
+        requires store { HasStore D.told self.old store.old }
+        requires ends { (l : Low) × (h : High) × StandsFitting (L.stands ends.old) self.old l h }
+
+        ensures looks { (is_fault : Bool) × LookStep D.told self.old self.new store.old store.new
+            moment word (arrival_of arrival.entry) is_fault (look_with (row_of self.old) head.new) }
+        ensures store { HasStore D.told self.new store.new }
+        ensures images { LeavesStored D.told self.old store.old store.new
+            (arrival_of arrival.entry) }
+        ensures still { is_down self.old ≡ true → store.new ≡ store.old }
+        ensures silent { is_down self.old ≡ true → (look_with (row_of self.old) head.new).reply ≡ None }
+        ensures acknowledged { KeepsAcknowledged D.told (row_of self.old) (look_with (row_of self.old) head.new).reply
+            (low_disk store.new) }
+        ensures lawful { IfSome head.new.reply IsLawfulReply }
+
+        ensures hand { hand_of self.new
+            ≡ hand_after (hand_of self.old) (arrival_of arrival.entry) (look_with (row_of self.old) head.new) }
+        ensures row { row_of self.new ≡ row_of self.old }
+        ensures last { last_of self.new ≡ moment }
+        ensures shape { L.shape ends.new ≡ L.shape ends.old }
+        ensures place { L.place ends.new ≡ L.place ends.old }
+        ensures ends { (l : Low) (h : High) → StandsFitting (L.stands ends.old) self.old l h
+            → EndStep (L.shape ends.old) L.on_one_thread (StandsFitting (L.stands ends.new) self.new) l h
+            (hand_of self.old) head.new.feedback }
+    {
+        match self.begin_into(moment, word, arrival, store, head) {
+            AskHead::Done => {}
+            AskHead::Forward => self.offer_hand(how, self.item(), ends, head),
+            AskHead::Average => self.finish_into(Answer::Average(how.average(ends)), head),
+        }
     }
 
     /// As `look`, into the look's head.
@@ -191,11 +244,7 @@ impl LowProcess {
             → EndStep (L.shape ends.old) L.on_one_thread (StandsFitting (L.stands ends.new) self.new) l h
             (hand_of self.old) head.new.feedback }
     {
-        match self.begin_into(moment, word, arrival, store, head) {
-            AskHead::Done => {}
-            AskHead::Forward => self.offer_hand(self.item(), ends, head),
-            AskHead::Average => self.finish_into(Answer::Average(ends.average()), head),
-        }
+        self.look_by(&AtOnce, moment, word, arrival, store, ends, head);
     }
 
     /// A whole look over the store and the low end of the passage: `begin`, what it asks of the

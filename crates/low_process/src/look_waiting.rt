@@ -1,47 +1,21 @@
 // A look over an end whose calls may wait: `look` with the handle.
-ghost use Rattle.std.specs.Prelude.{◌≡◌, ℕ, ◌+◌, ◌^◌, ◌<◌, ◌≤◌, Bool, true, false, Option, Some, None, IfSome};
+ghost use Rattle.std.specs.Prelude.{◌≡◌, ◌^◌, ◌<◌, ◌≤◌, Bool, true, None, IfSome};
 ghost use Rattle.stable_buffer.specs.Low.{low_disk};
 ghost use Rattle.pump_frame.specs.Frames.{IsLawful as IsLawfulFrame};
 ghost use Rattle.pump_core.specs.ReplyFrames.{IsLawfulReply};
-ghost use Rattle.pump_core.specs.History.{Arrival as Offered};
-ghost use Rattle.pump_core.specs.Passage.{Low, High, ComesNext};
-ghost use Rattle.low_process.specs.declared.values.Asking.TheVariants.{Forward as AsksForward};
-ghost use Rattle.low_process.specs.Looks.{IsAnswerTo, IsBetweenLooks, AsksToForward, AsksFor, IsLawful, Looks, HandBegins, arrival_of, look_of, row_of, next_of, last_of, is_down, owes, hand_of, hand_after, hand_passed};
-ghost use Rattle.low_process.specs.Heads.{look_with, ask_with};
-ghost use Rattle.low_process.specs.Ends.{OfferStep, EndStep, FitsEnd, StandsFitting};
-ghost use Rattle.low_process.specs.Whole.{HasStore, BeginStep, LookStep, KeepsAcknowledged, LeavesStored, reply_in};
+ghost use Rattle.pump_core.specs.Passage.{Low, High};
+ghost use Rattle.low_process.specs.Looks.{IsBetweenLooks, IsLawful, arrival_of, row_of, last_of, is_down, hand_of, hand_after};
+ghost use Rattle.low_process.specs.Heads.{look_with};
+ghost use Rattle.low_process.specs.Ends.{EndStep, StandsFitting};
+ghost use Rattle.low_process.specs.Whole.{HasStore, LookStep, KeepsAcknowledged, LeavesStored};
 
 use crate::LowProcess;
-use crate::look::UNREAD;
-use crate::values::{Answer, Arrival, AskHead, LookHead, LowLook};
+use crate::how::Waits;
+use crate::values::{Arrival, LookHead, LowLook};
 use disk_model::Disk;
-use passage::{Forwarded, WaitLowEnd};
-use pump_frame::Item;
+use passage::WaitLowEnd;
 use stable_buffer::LowStore;
 use std::sync::Wait;
-
-// As `offer`, of an end whose calls may wait.
-fn offer_waiting<L: WaitLowEnd, R: Wait>(rt: &R, item: Item, is_owed: bool, ends: &mut L) -> Answer
-    requires ends { (l : Low) × (h : High)
-        × L.stands ends.old l h × ComesNext l.forwarded item.number }
-    requires number { item.number < 2 ^ 48 }
-    ensures shape { L.shape ends.new ≡ L.shape ends.old }
-    ensures place { L.place ends.new ≡ L.place ends.old }
-    ensures fits { IsAnswerTo AsksForward result }
-    ensures step { (l : Low) (h : High) → L.stands ends.old l h → ComesNext l.forwarded item.number
-        → OfferStep (L.shape ends.old) L.on_one_thread (L.stands ends.new) l h item is_owed result }
-{
-    match ends.forward(rt, item) {
-        Forwarded::Full(_) => Answer::Full,
-        Forwarded::Passed => {
-            if is_owed {
-                Answer::Passed(ends.average(rt))
-            } else {
-                Answer::Passed(UNREAD)
-            }
-        }
-    }
-}
 
 impl LowProcess {
     /// As `look_waiting`, into the look's head.
@@ -83,15 +57,7 @@ impl LowProcess {
             → EndStep (L.shape ends.old) L.on_one_thread (StandsFitting (L.stands ends.new) self.new) l h
             (hand_of self.old) head.new.feedback }
     {
-        match self.begin_into(moment, word, arrival, store, head) {
-            AskHead::Done => {}
-            AskHead::Forward => {
-                let item = self.item();
-                let answer = offer_waiting(rt, item, self.owes(), ends);
-                self.finish_into(answer, head);
-            }
-            AskHead::Average => self.finish_into(Answer::Average(ends.average(rt)), head),
-        }
+        self.look_by(&Waits { rt }, moment, word, arrival, store, ends, head);
     }
 
     /// As `look`, over an end whose calls may wait for the other thread.

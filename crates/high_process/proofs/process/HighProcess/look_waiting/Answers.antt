@@ -24,12 +24,12 @@ returns-clause-looks g c = λ l h t stands holds.
     let q = c.send.new.self in
     let frame = frame_of c.args.frame in
     let s = g.H.HighSide.shape c.args.ends.now in
-    let after = g.H.HighSide.stands c.take_up_waiting.new.ends in
+    let after = g.H.HighSide.stands c.take_up.new.ends in
     let task = task_at p frame in
     let attaches = attaches_at p frame in
-    let fills = c.take_up_waiting.ensures.fills in
+    let fills = c.take_up.ensures.fills in
     let finishes = finishes_from b q fills.got c.send.result
-    (step_after b.row.resend _ (state_of b) _ (state_of q) fills.got c.send.result (ap (λ r. r.resend) c.take_up_waiting.ensures.row) fills.filled c.send.ensures.steps) in
+    (step_after b.row.resend _ (state_of b) _ (state_of q) fills.got c.send.result (ap (λ r. r.resend) c.take_up.ensures.row) fills.filled c.send.ensures.steps) in
     looked_fitting s g.H.HighSide.on_one_thread after l h p q t c.args.moment task attaches c.send.result holds stands.1
     (looked s g.H.HighSide.on_one_thread after l h p b q t c.args.moment task attaches c.in_ok-ask.ask fills.got c.send.result
     (ap (λ r. r.resend) c.begin.ensures.row) c.in_ok-ask.ensures.begins finishes (fills.takes l h stands.0) holds)

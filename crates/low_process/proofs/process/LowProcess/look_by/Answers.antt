@@ -1,10 +1,13 @@
-use Rattle.std.proofs.Common.{◌≡◌, false, sym, ◌∙◌, ap, subst, option_map}
+use Rattle.std.proofs.Common.{◌≡◌, Bool, false, sym, ◌∙◌, ap, subst, option_map}
 use Rattle.pump_frame.specs.declared.row.SessionRow.{SessionRow}
 use Rattle.pump_core.specs.ReplyFrames.{frame_of}
 use Rattle.low_process.specs.Heads.{look_with}
 use Rattle.low_process.specs.Looks.{arrival_of, is_down, StandsFor, AsksFor, Looks, look_of, row_of}
-use Rattle.low_process.proofs.Looking.{look_from, goes_on}
-use Rattle.low_process.proofs.process.LowProcess.look_into.Goals as goal
+use Rattle.low_process.proofs.Looking.{look_from}
+use Rattle.low_process.proofs.process.LowProcess.look_by.Goals as goal
+
+goes_on : (b c e : Bool) → b ≡ false → c ≡ false → b ≡ e → c ≡ e
+goes_on b c e is_up stays falls = stays ∙ sym is_up ∙ falls
 
 pub returns-in-Forward-clause-looks : goal.returns-in-Forward-clause-looks
 returns-in-Forward-clause-looks g c =

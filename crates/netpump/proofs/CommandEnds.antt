@@ -1,7 +1,6 @@
 -- How a command that closes with these bytes ends.
-use Rattle.std.proofs.Common.{◌≡◌, ℕ, List, Option, inl, inr, sym, subst}
+use Rattle.std.proofs.Common.{ℕ, List, Option, inl, inr, sym, subst}
 use Rattle.std.specs.Io.KnownBytes.{Appends}
-use Rattle.pump_link.specs.Causes.{AppendsFront}
 use Rattle.netpump.specs.Commands.{EndsSo, ClosesSo}
 use Rattle.netpump.specs.declared.command_end.CommandEnd.{CommandEnd}
 use Rattle.netpump.specs.declared.command_end.CommandEnd.TheVariants.{Done, Memory, Unread, NoRow, Failed, Refused, Unwritten}

@@ -1,5 +1,5 @@
 -- Disks that are formatted, and back on the shelf.
-use Rattle.std.proofs.Common.{◌≡◌, ◌≤◌, ℕ, List, [], Option, None, Some, Result, Ok, Err, IfErr, OnOk, inl, inr, refl, sym, ap, ◌∙◌, subst}
+use Rattle.std.proofs.Common.{◌≡◌, ℕ, List, [], None, Some, Result, Ok, Err, IfErr, OnOk, inl, inr, refl, sym, ap, ◌∙◌, subst}
 use Rattle.std.proofs.lemmas.Bool.{cases_eq}
 use Rattle.disk_model.specs.Disk.{Meaning}
 use Rattle.disk_model.specs.declared.name.Role.{Role}
@@ -13,7 +13,7 @@ use Rattle.two_worlds.specs.Openings.{StandForFound}
 use Rattle.two_worlds.proofs.Opening.NewDisks.{nothing_stands}
 use Rattle.netpump.specs.Formatting.{ReadsAlike, IsSpared, first_full, IsFormatted, FormatStops, IsDiskEnd}
 use Rattle.netpump.specs.Lending.{ReadAt, IsOutAt, RisesAt, AreOnShelf}
-use Rattle.netpump.specs.Shelves.{Places, disk_name, reading_in, reading_at, LeavesOtherSessions, Spares}
+use Rattle.netpump.specs.Shelves.{Places, reading_in, reading_at, LeavesOtherSessions}
 use Rattle.netpump.specs.TakenDisks.{HasBytes, RoseAt, StopsFormat}
 use Rattle.netpump.specs.declared.command_end.CommandEnd.{CommandEnd}
 use Rattle.netpump.specs.declared.command_end.CommandEnd.TheVariants.{Done, Memory, Unread, NoRow, Failed, Refused, Unwritten}
@@ -91,10 +91,11 @@ module _ {D : Type 0} (d : Meaning D) (tells : d.tells) (before mid now : Places
       spared_so d tells before mid now row.id old new taken returned low_read high_read recv_read on
       (λ role. elim role as (λ r. (d.reading (disk_of r old) ≡ [] → ⊥) → d.reading (disk_of r new) ≡ d.reading (disk_of r old)) [ roles.Low ↦ s.0 | roles.High ↦ s.1 | roles.Recv ↦ s.2 ])
   stops_so (Refused role why) h =
-      let s = h.1 tells in
-      (subst (λ (t : List ℕ × List ℕ × List ℕ). first_full t.0 t.1 t.2 ≡ Some (role, why)) (λ i. (sym (was_at roles.Low) i, sym (was_at roles.High) i, sym (was_at roles.Recv) i)) (h.0 tells),
-      alike_so d tells before mid now row.id old new taken returned low_read high_read recv_read on
-      (λ role. elim role as (λ r. d.reading (disk_of r new) ≡ d.reading (disk_of r old)) [ roles.Low ↦ s.0 | roles.High ↦ s.1 | roles.Recv ↦ s.2 ]))
+      let s = h.1 tells in (
+        subst (λ (t : List ℕ × List ℕ × List ℕ). first_full t.0 t.1 t.2 ≡ Some (role, why)) (λ i. (sym (was_at roles.Low) i, sym (was_at roles.High) i, sym (was_at roles.Recv) i)) (h.0 tells),
+        alike_so d tells before mid now row.id old new taken returned low_read high_read recv_read on
+            (λ role. elim role as (λ r. d.reading (disk_of r new) ≡ d.reading (disk_of r old)) [ roles.Low ↦ s.0 | roles.High ↦ s.1 | roles.Recv ↦ s.2 ]),
+      )
   stops_so Done h = absurd h
   stops_so Memory h = absurd h
   stops_so Unread h = absurd h

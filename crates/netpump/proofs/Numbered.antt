@@ -135,15 +135,15 @@ module _ {D : Type 0} {g : Ghosts D} where
   found_there number [] h = cc
   found_there number (y ∷ ys) h = by_order number (id_of y)
       (λ e low.
-          let first = place_first number y ys (omega (arith, low)) in
-          let same = equal_so (id_of y) number (at_place number y ys 0 true first h) in
-          absurd (omega (arith, low, same)))
+      let first = place_first number y ys (omega (arith, low)) in
+      let same = equal_so (id_of y) number (at_place number y ys 0 true first h) in
+      absurd (omega (arith, low, same)))
       (λ e f same. found_here number y ys (sym same) ∙ ap (λ (k : ℕ). slice_get (y ∷ ys) k) (sym (place_first number y ys (omega (arith, same)))))
       (λ e f low.
-          let later = place_later number y ys low in
-          found_later number y ys (λ same. absurd (omega (arith, low, same)))
-          ∙ found_there number ys (at_place number y ys (suc (place_in number ys)) true later h)
-          ∙ ap (λ (k : ℕ). slice_get (y ∷ ys) k) (sym later))
+      let later = place_later number y ys low in
+      found_later number y ys (λ same. absurd (omega (arith, low, same)))
+      ∙ found_there number ys (at_place number y ys (suc (place_in number ys)) true later h)
+      ∙ ap (λ (k : ℕ). slice_get (y ∷ ys) k) (sym later))
 
   -- .. or isn't
   pub none_there : (number : ℕ) (xs : List (Session D g)) → Rise xs → is_of_number number (slice_get xs (place_in number xs)) ≡ false → found_at number xs ≡ None
@@ -151,25 +151,25 @@ module _ {D : Type 0} {g : Ghosts D} where
   none_there number (y ∷ ys) rise h = by_order number (id_of y)
       (λ e low. found_later number y ys (λ same. absurd (omega (arith, low, same))) ∙ none_above number (id_of y) ys (omega (arith, low)) rise.0)
       (λ e f same.
-          let first = place_first number y ys (omega (arith, same)) in
-          absurd (unequal_so (id_of y) number (at_place number y ys 0 false first h) (sym same)))
+      let first = place_first number y ys (omega (arith, same)) in
+      absurd (unequal_so (id_of y) number (at_place number y ys 0 false first h) (sym same)))
       (λ e f low.
-          let later = place_later number y ys low in
-          found_later number y ys (λ same. absurd (omega (arith, low, same))) ∙ none_there number ys rise.1 (at_place number y ys (suc (place_in number ys)) false later h))
+      let later = place_later number y ys low in
+      found_later number y ys (λ same. absurd (omega (arith, low, same))) ∙ none_there number ys rise.1 (at_place number y ys (suc (place_in number ys)) false later h))
 
   -- in the place of the one that is there it stands as it should
   pub set_there : (x : Session D g) (xs : List (Session D g)) → is_of_number (id_of x) (slice_get xs (place_in (id_of x) xs)) ≡ true → set xs (place_in (id_of x) xs) x ≡ with_begun x xs
   set_there x [] h = cc
   set_there x (y ∷ ys) h = by_order (id_of x) (id_of y)
       (λ e low.
-          let first = place_first (id_of x) y ys (omega (arith, low)) in
-          let same = equal_so (id_of y) (id_of x) (at_place (id_of x) y ys 0 true first h) in
-          absurd (omega (arith, low, same)))
+      let first = place_first (id_of x) y ys (omega (arith, low)) in
+      let same = equal_so (id_of y) (id_of x) (at_place (id_of x) y ys 0 true first h) in
+      absurd (omega (arith, low, same)))
       (λ e f same. ap (λ (k : ℕ). set (y ∷ ys) k x) (place_first (id_of x) y ys (omega (arith, same))) ∙ sym (put_same x y ys e f))
       (λ e f low.
-          let later = place_later (id_of x) y ys low in
-          ap (λ (k : ℕ). set (y ∷ ys) k x) later ∙ ap (λ (l : List (Session D g)). y ∷ l) (set_there x ys (at_place (id_of x) y ys (suc (place_in (id_of x) ys)) true later h))
-          ∙ sym (put_later x y ys e f))
+      let later = place_later (id_of x) y ys low in
+      ap (λ (k : ℕ). set (y ∷ ys) k x) later ∙ ap (λ (l : List (Session D g)). y ∷ l) (set_there x ys (at_place (id_of x) y ys (suc (place_in (id_of x) ys)) true later h))
+      ∙ sym (put_later x y ys e f))
 
   -- .. and so where it is put between those that are
   pub insert_there : (x : Session D g) (xs : List (Session D g)) → is_of_number (id_of x) (slice_get xs (place_in (id_of x) xs)) ≡ false → insert xs (place_in (id_of x) xs) x ≡ with_begun x xs
@@ -177,12 +177,12 @@ module _ {D : Type 0} {g : Ghosts D} where
   insert_there x (y ∷ ys) h = by_order (id_of x) (id_of y)
       (λ e low. ap (λ (k : ℕ). insert (y ∷ ys) k x) (place_first (id_of x) y ys (omega (arith, low))) ∙ sym (put_less x y ys e))
       (λ e f same.
-          let first = place_first (id_of x) y ys (omega (arith, same)) in
-          absurd (unequal_so (id_of y) (id_of x) (at_place (id_of x) y ys 0 false first h) (sym same)))
+      let first = place_first (id_of x) y ys (omega (arith, same)) in
+      absurd (unequal_so (id_of y) (id_of x) (at_place (id_of x) y ys 0 false first h) (sym same)))
       (λ e f low.
-          let later = place_later (id_of x) y ys low in
-          ap (λ (k : ℕ). insert (y ∷ ys) k x) later ∙ ap (λ (l : List (Session D g)). y ∷ l) (insert_there x ys (at_place (id_of x) y ys (suc (place_in (id_of x) ys)) false later h))
-          ∙ sym (put_later x y ys e f))
+      let later = place_later (id_of x) y ys low in
+      ap (λ (k : ℕ). insert (y ∷ ys) k x) later ∙ ap (λ (l : List (Session D g)). y ∷ l) (insert_there x ys (at_place (id_of x) y ys (suc (place_in (id_of x) ys)) false later h))
+      ∙ sym (put_later x y ys e f))
 
   pub place_least : (number : ℕ) (xs : List (Session D g)) → place_in number xs ≤ length xs
   place_least number [] = omega arith
@@ -285,19 +285,19 @@ module _ {D : Type 0} {g : Ghosts D} (d : Meaning D) where
   each_same t r [] [] x rise there at h each = cc
   each_same t r (a ∷ xs) (b ∷ ys) x rise there at h each = by_order (id_of t) (id_of a)
       (λ e low.
-          let none = found_later (id_of t) a xs (λ same. absurd (omega (arith, low, same))) ∙ none_above (id_of t) (id_of a) xs (omega (arith, low)) rise.0 in
-          cc (sym there ∙ none))
+      let none = found_later (id_of t) a xs (λ same. absurd (omega (arith, low, same))) ∙ none_above (id_of t) (id_of a) xs (omega (arith, low)) rise.0 in
+      cc (sym there ∙ none))
       (λ e f same.
-          let mine : (session_number b == id_of t) ≡ true = equal (session_number b) (id_of t) (sym (same_number a b each.0) ∙ sym same) in
-          let found : Some b ≡ Some r = sym (ap (λ (c : Bool). cond c (Some b) (session_at (id_of t) ys)) mine) ∙ at in
-          let is : b ≡ r = cc in
-          subst (λ (l : List (Session D g)). EachStandsFor d l (b ∷ ys)) (sym (put_same t a xs e f)) (subst (λ (y : Begun). StandsFor d t y) (sym is) h, each.1))
+      let mine : (session_number b == id_of t) ≡ true = equal (session_number b) (id_of t) (sym (same_number a b each.0) ∙ sym same) in
+      let found : Some b ≡ Some r = sym (ap (λ (c : Bool). cond c (Some b) (session_at (id_of t) ys)) mine) ∙ at in
+      let is : b ≡ r = cc in
+      subst (λ (l : List (Session D g)). EachStandsFor d l (b ∷ ys)) (sym (put_same t a xs e f)) (subst (λ (y : Begun). StandsFor d t y) (sym is) h, each.1))
       (λ e f low.
-          let other : (session_number b == id_of t) ≡ false = unequal (session_number b) (id_of t) (λ same. absurd (let id = same_number a b each.0 in omega (arith, low, same, id))) in
-          subst (λ (l : List (Session D g)). EachStandsFor d l (b ∷ ys)) (sym (put_later t a xs e f)) (
-            each.0,
-            each_same t r xs ys x rise.1 (sym (found_later (id_of t) a xs (λ same. absurd (omega (arith, low, same)))) ∙ there)
-                (sym (ap (λ (c : Bool). cond c (Some b) (session_at (id_of t) ys)) other) ∙ at) h each.1,
-          ))
+      let other : (session_number b == id_of t) ≡ false = unequal (session_number b) (id_of t) (λ same. absurd (let id = same_number a b each.0 in omega (arith, low, same, id))) in
+      subst (λ (l : List (Session D g)). EachStandsFor d l (b ∷ ys)) (sym (put_later t a xs e f)) (
+        each.0,
+        each_same t r xs ys x rise.1 (sym (found_later (id_of t) a xs (λ same. absurd (omega (arith, low, same)))) ∙ there)
+            (sym (ap (λ (c : Bool). cond c (Some b) (session_at (id_of t) ys)) other) ∙ at) h each.1,
+      ))
   each_same t r [] (b ∷ ys) x rise there at h each = absurd each
   each_same t r (a ∷ xs) [] x rise there at h each = absurd each

@@ -1,10 +1,9 @@
 -- Disks that are shown, and back on the shelf.
-use Rattle.std.proofs.Common.{◌≡◌, ◌≤◌, ◌<◌, ◌+◌, ℕ, zero, suc, Bool, true, false, List, [], ◌∷◌, ◌++◌, length, take, drop, get_or, Option, None, Some, Result, Ok, Err, IfOk, IfErr, IfSome, refl, sym, ap, ◌∙◌, subst, arith, add-zero, append_assoc, append-nil}
+use Rattle.std.proofs.Common.{◌≡◌, ◌<◌, ◌+◌, ℕ, zero, suc, true, false, List, [], ◌∷◌, ◌++◌, length, take, drop, get_or, Option, None, Some, Result, Ok, Err, IfOk, IfErr, IfSome, refl, sym, ap, ◌∙◌, subst, arith, add-zero, append_assoc, append-nil}
 use Rattle.std.specs.Prelude.{◌&&◌}
 use Rattle.disk_model.specs.Disk.{Meaning}
 use Rattle.disk_model.specs.declared.name.Role.{Role}
 use Rattle.disk_model.specs.declared.name.Role.TheVariants as roles
-use Rattle.pump_frame.specs.Counts.{Rose}
 use Rattle.pump_frame.specs.declared.payload.Payload.{Payload}
 use Rattle.pump_frame.specs.declared.row.SessionRow.{SessionRow}
 use Rattle.recovery.specs.Calls.{is_device}

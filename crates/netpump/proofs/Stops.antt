@@ -160,7 +160,7 @@ finds_stop_all before o t line (Some n) u printed fault (turn, (s, stops, e)) fo
     let mine = stop_number n t line s printed fault stops in
     elim (k == n) as (λ b. (k == n) ≡ b → Finds before o (session_at k u.begun)) [
       | true ↦ λ is. subst (λ (x : Option Begun). Finds before o x) (sym (led_there k t line s u e (mine ∙ sym (eqb-true k n is))))
-            (finds_stop before o (session_at n t.begun) line (Some s) printed fault stops (found n))
+          (finds_stop before o (session_at n t.begun) line (Some s) printed fault stops (found n))
       | false ↦ λ is. subst (λ (x : Option Begun). Finds before o x) (sym (led_beside k n t line s u e mine (eqb-false k n is))) (found k)
     ] refl
 

@@ -1,6 +1,6 @@
 -- The row of a session in the bytes of a table's file.
-use Rattle.std.proofs.Common.{◌≡◌, ◌≤◌, ◌+◌, ℕ, true, List, [], ◌∷◌, ◌++◌, length, take, drop, Option, None, Some, Result, Ok, Err, IfOk, IfSome, nat_le, refl, sym, ap, ◌∙◌, subst, inl, inr, arith, eq-eqb}
-use Rattle.std.proofs.lemmas.Bool.{cases_eq, ne_eqb, leb-true, le-leb}
+use Rattle.std.proofs.Common.{◌≡◌, ◌≤◌, ℕ, List, [], ◌∷◌, ◌++◌, length, take, drop, Option, None, Some, Result, Ok, Err, IfOk, IfSome, refl, sym, ap, ◌∙◌, subst, inl, inr, arith, eq-eqb}
+use Rattle.std.proofs.lemmas.Bool.{cases_eq, ne_eqb, le-leb}
 use Rattle.std.proofs.lemmas.List.{take_at, take_all}
 use Rattle.std.specs.Prelude.{find, ◌==◌}
 use Rattle.std.specs.Option.{ok_or}
@@ -53,4 +53,3 @@ row_read (Some bytes) old new slice n session answer reads size few is given =
     let whole : take (length old) bytes ≡ bytes = take_all (length old) bytes (omega (arith, size, short)) in
     let same : slice ≡ bytes = is ∙ ap (λ k. take k new) reads.0 ∙ ap (take (length bytes)) (reads.1 ∙ ap (λ b. b ++ drop (length bytes) old) whole) ∙ take_at bytes (drop (length bytes) old) (length bytes) refl in
     row_of_bytes bytes session (row_among session (table_of bytes)) answer (short_row bytes session short) (subst (λ (b : List ℕ). IsRowIn answer (row_among session (table_of b))) same given)
-

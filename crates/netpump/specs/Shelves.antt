@@ -109,7 +109,7 @@ abbrev pub AcknowledgedOutlive : Places → Option Begun → List Event → Type
 AcknowledgedOutlive after (Some (Whole s)) printed =
     (received : List Payload) × RecvStands s.row received (reading_at after s.row.id roles.Recv)
     × AllByRecursion (λ (x : Sent). AckOutlives s.row s.past.world.accepted received
-      (reading_at after s.row.id roles.Low) (reading_at after s.row.id roles.High) x.reply) (low_lines printed)
+    (reading_at after s.row.id roles.Low) (reading_at after s.row.id roles.High) x.reply) (low_lines printed)
 AcknowledgedOutlive after (Some (Alone s)) printed = Unit {0}
 AcknowledgedOutlive after None printed = Unit {0}
 

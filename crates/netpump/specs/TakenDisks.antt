@@ -1,14 +1,11 @@
 -- What a command does with the three disks of a session that are off the shelf. It serves the private functions and the
 -- proofs. `d` is what the disks tell.
 use Rattle.std.specs.Prelude.{◌≡◌, ◌≤◌, ℕ, List, [], length, Some}
-use Rattle.disk_model.specs.Disk.{Meaning, Moves, Same}
+use Rattle.disk_model.specs.Disk.{Meaning}
 use Rattle.disk_model.specs.declared.name.Role.{Role}
 use Rattle.disk_model.specs.declared.name.Role.TheVariants as roles
 use Rattle.pump_frame.specs.Counts.{Rose}
-use Rattle.pump_frame.specs.declared.row.SessionRow.{SessionRow}
-use Rattle.recovery.specs.declared.why.Why.{Why}
 use Rattle.recovery.specs.declared.why.Why.TheVariants.{NotEmpty}
-use Rattle.stable_buffer.specs.Format.{new_bytes}
 use Rattle.netpump.specs.Formatting.{first_full}
 use Rattle.netpump.specs.declared.command_end.CommandEnd.{CommandEnd}
 use Rattle.netpump.specs.declared.command_end.CommandEnd.TheVariants.{Failed, Refused}

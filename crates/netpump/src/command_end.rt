@@ -20,19 +20,11 @@ pub enum CommandEnd {
     Unread,
     /// The session has no row: the number of the cause, and the row of the table that it is in; see
     /// `docs/formats.md`, "Statuses and fault lines".
-    NoRow {
-        number: u32,
-        row: u32,
-    },
+    NoRow { number: u32, row: u32 },
     /// The disk could not be taken off the shelf, or a call of it failed.
-    Failed {
-        role: Role,
-    },
+    Failed { role: Role },
     /// The disk is refused.
-    Refused {
-        role: Role,
-        why: Why,
-    },
+    Refused { role: Role, why: Why },
     /// The output could not be written.
     Unwritten,
 }

@@ -4,9 +4,11 @@ use pump_link::{MemSink, MemSource};
 use std::alloc::{AllocError, Global};
 use std::test::Fail;
 
-const TABLE: &str = "[[session]]\nid = 1\nlow = \"weather\"\nhigh = \"watch\"\ncapacity = 3\nmessage = 8\nwindow = 2\nstart = 20000\nlongest = 100000\nresend = 500000\nlow_port = 7001\nhigh_port = 7002\n";
+const TABLE: &str =
+    "[[session]]\nid = 1\nlow = \"weather\"\nhigh = \"watch\"\ncapacity = 3\nmessage = 8\nwindow = 2\nstart = 20000\nlongest = 100000\nresend = 500000\nlow_port = 7001\nhigh_port = 7002\n";
 
-const SMALL: &str = "[[session]]\nid = 1\nlow = \"weather\"\nhigh = \"watch\"\ncapacity = 2\nmessage = 8\nwindow = 2\nstart = 20000\nlongest = 100000\nresend = 500000\nlow_port = 7001\nhigh_port = 7002\n";
+const SMALL: &str =
+    "[[session]]\nid = 1\nlow = \"weather\"\nhigh = \"watch\"\ncapacity = 2\nmessage = 8\nwindow = 2\nstart = 20000\nlongest = 100000\nresend = 500000\nlow_port = 7001\nhigh_port = 7002\n";
 
 /// A shelf with empty disks for session 1 and two tables, on which these calls fail.
 fn new_shelf(alloc: Global, fails: &[u64]) -> Result<MemShelf<PlainDisk>, Fail> {
@@ -32,9 +34,11 @@ fn new_shelf(alloc: Global, fails: &[u64]) -> Result<MemShelf<PlainDisk>, Fail> 
 }
 
 /// Two messages are stored, of which the first was acknowledged.
-const SCRIPT: &str = "session 1 3 8 2 20000 100000 500000 weather watch\nlook 1 10 00000000 hello weather watch\nlook 1 100 00000000 data 0 61ff\nlook 1 100 00000000\nlook 1 178 00000000\nlook 1 200 00000000 data 1 -\n";
+const SCRIPT: &str =
+    "session 1 3 8 2 20000 100000 500000 weather watch\nlook 1 10 00000000 hello weather watch\nlook 1 100 00000000 data 0 61ff\nlook 1 100 00000000\nlook 1 178 00000000\nlook 1 200 00000000 data 1 -\n";
 
-const TRANSCRIPT: &str = "low 1 10 welcome 0\nstored 1 100 0\npassed 1 100 0 20000\nlow 1 178 ack 0\nstored 1 200 1\nend 1 2 0 0\n";
+const TRANSCRIPT: &str =
+    "low 1 10 welcome 0\nstored 1 100 0\npassed 1 100 0 20000\nlow 1 178 ack 0\nstored 1 200 1\nend 1 2 0 0\n";
 
 /// The status and the output of a command line on a shelf.
 fn run_on(

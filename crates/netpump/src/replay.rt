@@ -411,7 +411,9 @@ fn turn<S: Shelf, O: Sink>(
 {
     match session_of(line) {
         None => Outcome::Applied,
-        Some(number) => turn_of(alloc, shelf, sessions, number, line, body, events, output, out),
+        Some(number) => turn_of(
+            alloc, shelf, sessions, number, line, body, events, output, out,
+        ),
     }
 }
 
@@ -554,7 +556,11 @@ fn leave_all<S: Shelf>(sessions: Sessions<S::Disk>, shelf: &mut S)
         → IsAloneOr (found_at number sessions.begun.items) (Rose (S.told.disk_faults shelf.old) (S.told.disk_faults shelf.new)) }
     ensures later { S.told.disk_faults shelf.old ≤ S.told.disk_faults shelf.new }
 {
-    let Sessions { mut begun, moment: _, is_under_way: _ } = sessions;
+    let Sessions {
+        mut begun,
+        moment: _,
+        is_under_way: _,
+    } = sessions;
     'sessions: while let Some(session) = begun.pop() {
         leave(session, shelf);
     }

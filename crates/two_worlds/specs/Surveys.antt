@@ -1,5 +1,5 @@
 -- What a survey says of the three disks of a session.
-use Rattle.std.specs.Prelude.{◌≡◌, ◌≤◌, ℕ, Bool, true, length, drop}
+use Rattle.std.specs.Prelude.{◌≡◌, ◌≤◌, Bool, true, length, drop}
 use Rattle.disk_model.specs.Disk.{Meaning, Moves, Same}
 use Rattle.pump_frame.specs.Counts.{Rose}
 use Rattle.script_reader.specs.Openings.{Found, accepted_in}

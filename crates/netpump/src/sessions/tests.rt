@@ -41,7 +41,8 @@ fn run_on(
     Ok((status, Vec::from_slice(alloc, sink.written())?))
 }
 
-const TWO: &str = "session 2 3 8 2 20000 100000 500000 weather watch\nsession 1 3 8 2 20000 100000 500000 weather watch\n";
+const TWO: &str =
+    "session 2 3 8 2 20000 100000 500000 weather watch\nsession 1 3 8 2 20000 100000 500000 weather watch\n";
 
 const GREET: &str =
     "look 1 10 00000000 hello weather watch\nlook 2 10 00000000 hello weather watch\n";
@@ -49,11 +50,7 @@ const GREET: &str =
 const GREETED: &str = "low 1 10 welcome 0\nlow 2 10 welcome 0\n";
 
 /// Whether the replay of these lines on new disks of the sessions 1, 2 and 3 ends so.
-fn ends(
-    alloc: Global,
-    lines: &[&str],
-    wanted: (u8, &[&str]),
-) -> Result<bool, Fail> {
+fn ends(alloc: Global, lines: &[&str], wanted: (u8, &[&str])) -> Result<bool, Fail> {
     let mut shelf = new_shelf(alloc, &[1, 2, 3])?;
     let mut script = String::new(alloc);
     for line in lines {
@@ -71,7 +68,13 @@ fn ends(
 fn replays_several_sessions(rt: HostRuntime) -> Result<(), Fail> {
     let alloc = rt.alloc();
     // The ends come by rising number, in whichever order the script begins the sessions.
-    assert!(rt; ends(alloc, &[TWO, GREET], (0, &[GREETED, "end 1 0 0 0\nend 2 0 0 0\n"]))?);
+    assert!(rt;
+        ends(
+            alloc,
+            &[TWO, GREET],
+            (0, &[GREETED, "end 1 0 0 0\nend 2 0 0 0\n"])
+        )?
+    );
     // A low side alone beside them.
     assert!(rt;
         ends(
@@ -122,16 +125,35 @@ fn refuses_lines_of_several_sessions(rt: HostRuntime) -> Result<(), Fail> {
     let row = "session 3 3 8 2 20000 100000 500000 weather watch\n";
     let low_row = "low-session 3 3 8 2 20000 100000 500000 weather watch 0 0\n";
     // A session line after a look.
-    assert!(rt; ends(alloc, &[TWO, GREET, row], (5, &[GREETED, "fault script 5\n"]))?);
-    assert!(rt; ends(alloc, &[TWO, GREET, low_row], (5, &[GREETED, "fault script 5\n"]))?);
+    assert!(rt;
+        ends(
+            alloc,
+            &[TWO, GREET, row],
+            (5, &[GREETED, "fault script 5\n"])
+        )?
+    );
+    assert!(rt;
+        ends(
+            alloc,
+            &[TWO, GREET, low_row],
+            (5, &[GREETED, "fault script 5\n"])
+        )?
+    );
     // Two sessions of one number, of either kind.
     assert!(rt; ends(alloc, &[TWO, TWO], (5, &["fault script 3\n"]))?);
     assert!(rt; ends(alloc, &[low_row, row], (5, &["fault script 2\n"]))?);
     // A moment that falls from one session to the other.
     let early = "look 2 20 00000000\nlook 1 19 00000000\n";
-    assert!(rt; ends(alloc, &[TWO, GREET, early], (5, &[GREETED, "fault script 6\n"]))?);
+    assert!(rt;
+        ends(
+            alloc,
+            &[TWO, GREET, early],
+            (5, &[GREETED, "fault script 6\n"])
+        )?
+    );
     // Of `done` the later of its two moments counts.
-    let later = "look 1 20 00000000 data 0 61\nlook 1 20 00000000\ndone 1 30 10\nlook 2 39 00000000\n";
+    let later =
+        "look 1 20 00000000 data 0 61\nlook 1 20 00000000\ndone 1 30 10\nlook 2 39 00000000\n";
     assert!(rt;
         ends(
             alloc,
@@ -147,7 +169,13 @@ fn refuses_lines_of_several_sessions(rt: HostRuntime) -> Result<(), Fail> {
     );
     // A session that isn't there, and one of the other kind.
     let absent = "look 3 10 00000000\n";
-    assert!(rt; ends(alloc, &[TWO, GREET, absent], (5, &[GREETED, "fault script 5\n"]))?);
+    assert!(rt;
+        ends(
+            alloc,
+            &[TWO, GREET, absent],
+            (5, &[GREETED, "fault script 5\n"])
+        )?
+    );
     assert!(rt; ends(alloc, &[TWO, low_row, absent], (5, &["fault script 4\n"]))?);
     Ok(())
 }
@@ -194,7 +222,10 @@ fn keeps_the_disks_of_the_sessions_before_a_refused_one(rt: HostRuntime) -> Resu
     assert_eq!(rt; written.as_slice(), b"fault disk 2 low 3 3 4\n".as_slice());
     let (status, written) = run_on(alloc, &mut shelf, TWO)?;
     assert_eq!(rt; status, 0);
-    assert_eq!(rt; written.as_slice(), b"end 1 1 0 0\nend 2 0 0 0\n".as_slice());
+    assert_eq!(rt;
+        written.as_slice(),
+        b"end 1 1 0 0\nend 2 0 0 0\n".as_slice()
+    );
     Ok(())
 }
 
@@ -293,15 +324,25 @@ fn replays_forty_weather_reports(rt: HostRuntime) -> Result<(), Fail> {
     let mut outputs = Vec::new(alloc);
     for (one, two) in [(true, true), (true, false), (false, true)] {
         let mut shelf = new_shelf(alloc, &[1, 2])?;
-        let (status, written) = run_on(alloc, &mut shelf, forty_reports(alloc, one, two)?.as_str())?;
+        let (status, written) = run_on(
+            alloc,
+            &mut shelf,
+            forty_reports(alloc, one, two)?.as_str(),
+        )?;
         assert_eq!(rt; status, 0);
         outputs.push(written)?;
     }
     assert_eq!(rt; outputs.len(), 3);
     // The lines of each session are those of the script without the other.
     let both = outputs[0].as_slice();
-    assert_eq!(rt; lines_of(alloc, both, b'1')?.as_slice(), outputs[1].as_slice());
-    assert_eq!(rt; lines_of(alloc, both, b'2')?.as_slice(), outputs[2].as_slice());
+    assert_eq!(rt;
+        lines_of(alloc, both, b'1')?.as_slice(),
+        outputs[1].as_slice()
+    );
+    assert_eq!(rt;
+        lines_of(alloc, both, b'2')?.as_slice(),
+        outputs[2].as_slice()
+    );
     assert!(rt; both.ends_with(b"\nend 1 15 0 0\nend 2 40 40 40\n"));
     let mut wanted = String::new(alloc);
     for k in 0..40u32 {
@@ -318,8 +359,16 @@ fn replays_forty_weather_reports(rt: HostRuntime) -> Result<(), Fail> {
     assert_eq!(rt; acks.as_slice(), wanted.as_str().as_bytes());
     // Session 1 acknowledges fourteen, stores one more, and is full from then on.
     let alone = outputs[1].as_slice();
-    assert!(rt; alone.windows(20).any(|word| word == b"stored 1 1401000 14\n".as_slice()));
-    assert!(rt; alone.windows(21).any(|word| word == b"low 1 1301078 ack 13\n".as_slice()));
+    assert!(rt;
+        alone
+            .windows(20)
+            .any(|word| word == b"stored 1 1401000 14\n".as_slice())
+    );
+    assert!(rt;
+        alone
+            .windows(21)
+            .any(|word| word == b"low 1 1301078 ack 13\n".as_slice())
+    );
     assert!(rt; !alone.windows(7).any(|word| word == b" ack 14".as_slice()));
     Ok(())
 }

@@ -1,11 +1,11 @@
 -- What is read of the live messages of opened disks.
-use Rattle.std.proofs.Common.{◌≡◌, ◌≤◌, ◌<◌, ◌+◌, ◌-◌, ℕ, Bool, true, false, List, [], Option, None, Some, IfSome, length, drop, get_or, inl, inr, refl, sym, ap, ◌∙◌, subst, arith}
+use Rattle.std.proofs.Common.{◌≡◌, ◌≤◌, ◌<◌, ◌+◌, ◌-◌, ℕ, Bool, true, false, List, [], Option, None, Some, IfSome, length, get_or, inl, inr, refl, sym, ap, ◌∙◌, subst, arith}
 use Rattle.std.specs.Prelude.{◌&&◌}
 use Rattle.std.proofs.lemmas.Bool.{and_parts}
 use Rattle.std.proofs.lemmas.List.{ext_get_or}
 use Rattle.disk_model.specs.Disk.{Meaning, Moves, Same}
 use Rattle.disk_model.proofs.Run.{goes_on_same}
-use Rattle.high_receiver.specs.Receiving.{recv_disk, recv_count, recv_end}
+use Rattle.high_receiver.specs.Receiving.{recv_disk, recv_count}
 use Rattle.high_receiver.specs.declared.receiver.Receiver.{Receiver}
 use Rattle.passage.specs.declared.plain.PlainEnds.{PlainEnds}
 use Rattle.pump_frame.specs.Counts.{Rose}
@@ -23,7 +23,6 @@ use Rattle.stable_buffer.specs.Numbers.{length_at}
 use Rattle.stable_buffer.specs.Register.{value_of}
 use Rattle.two_worlds.proofs.Opening.Opened.{value_by}
 use Rattle.stable_buffer.specs.Stands.{LowStands, InSlot, slot_of}
-use Rattle.low_process.specs.Storing.{outcome}
 use Rattle.two_worlds.specs.Openings.{StandForFound, is_for_device}
 use Rattle.two_worlds.specs.Private.Readied.{PumpOpens, ReceiverOpens}
 use Rattle.two_worlds.specs.Rooms.{Serves}

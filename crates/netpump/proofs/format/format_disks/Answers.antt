@@ -1,6 +1,3 @@
-use Rattle.std.proofs.Common.{Err}
-use Rattle.netpump.specs.Formatting.{FormatStops}
-use Rattle.netpump.specs.TakenDisks.{StopsFormat}
 use Rattle.netpump.proofs.Formatted.{on_ok, if_err, formatted_so, stops_so, rises_so, failed_at, disk_end}
 use Rattle.netpump.proofs.Shelving.{rose_more}
 use Rattle.netpump.proofs.format.format_disks.Goals as goal

@@ -1,4 +1,4 @@
-use Rattle.std.proofs.Common.{◌≡◌, ◌+◌, ◌++◌, take, ap, ◌∙◌, add-one, append_assoc, arith}
+use Rattle.std.proofs.Common.{◌≡◌, ◌+◌, ◌++◌, take, ap, ◌∙◌, add-one, append_assoc}
 use Rattle.netpump.specs.Showing.{live_line, live_lines}
 use Rattle.netpump.proofs.Shown.{live_more}
 use Rattle.netpump.proofs.show.put_all_live.Goals as goal

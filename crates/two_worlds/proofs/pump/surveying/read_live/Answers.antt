@@ -1,10 +1,9 @@
-use Rattle.std.proofs.Common.{◌≡◌, ℕ, ◌+◌, ◌≤◌, List, ◌∷◌, [], ◌++◌, length, refl, sym, ◌∙◌, ap, subst, arith, length-append}
+use Rattle.std.proofs.Common.{◌≡◌, ℕ, List, ◌∷◌, [], length, refl, sym, ◌∙◌, ap, subst, arith, length-append}
 use Rattle.disk_model.specs.Disk.{Same}
 use Rattle.disk_model.proofs.Run.{started, goes_on_same}
 use Rattle.recovery.specs.Deals.{InSlots}
 use Rattle.recovery.proofs.Dealing.{slots_snoc}
-use Rattle.stable_buffer.specs.Numbers.{length_at}
-use Rattle.stable_buffer.specs.Stands.{InSlot, slot_of}
+use Rattle.stable_buffer.specs.Stands.{InSlot}
 use Rattle.two_worlds.proofs.pump.surveying.read_live.Goals as goal
 
 pub loop-n-init : goal.loop-n-init
@@ -46,4 +45,3 @@ loop-n-preserved g c =
       moves = goes_on_same m Same _ _ _ i.moves r.moves;
       count = omega (arith, i.count, r.counts);
     }
-

@@ -1,14 +1,11 @@
-use Rattle.std.proofs.Common.{◌≡◌, ◌≤◌, ◌<◌, ℕ, List, IfSome, refl, sym, ◌∙◌, ap, subst, arith, false, true}
+use Rattle.std.proofs.Common.{◌<◌, ℕ, List, sym, ◌∙◌, subst, arith, false, true}
 use Rattle.std.specs.Prelude.{◌&&◌}
 use Rattle.pump_frame.specs.Counts.{Rose}
-use Rattle.pump_frame.specs.declared.payload.Payload.{Payload}
-use Rattle.recovery.specs.Calls.{is_device}
 use Rattle.recovery.specs.Deals.{InSlots}
-use Rattle.recovery.specs.declared.why.Why.{Why}
-use Rattle.stable_buffer.specs.Low.{low_disk, low_count}
+use Rattle.stable_buffer.specs.Low.{low_disk}
 use Rattle.stable_buffer.specs.Numbers.{length_at}
 use Rattle.stable_buffer.specs.Stands.{slot_of}
-use Rattle.two_worlds.specs.Openings.{IsRefused, is_for_device}
+use Rattle.two_worlds.specs.Openings.{is_for_device}
 use Rattle.two_worlds.specs.Surveys.{IsRead}
 use Rattle.two_worlds.proofs.Opening.Comparing.{found_by}
 use Rattle.two_worlds.proofs.Opening.Surveying.{if_some, never_long, same_messages, same_next, same_removed, same_taken, read_by, read_then, blamed}
@@ -28,13 +25,16 @@ returns-in-Ok-read_live-clause-found g c = λ told.
     let found = found_by m told row lawful a b (m.reading c.args.recv) o _ r e.pump e.receiver same in
     let removed = same_removed m told row a b (m.reading c.args.recv) o _ r e.pump found.0 found.1 in
     let next = same_next m told row a b (m.reading c.args.recv) o _ r e.pump found.0 found.1 in
-    let stand = subst (λ (z : List ℕ). InSlots row o.removed c.read_live.new.live.items z) (e.moves_low.reads told) (c.in-Ok-read_live.ensures.stand told) in
-    (found.0, found.1, record {
-      accepted_is = next;
-      removed_is = removed;
-      received_is = c.count.ensures ∙ same_taken m told row a b (m.reading c.args.recv) o _ r e.pump found.0 found.1 e.receiver same;
-      live_is = same_messages row lawful _ _ _ a found.1.low_is o.removed c.read_live.new.live.items removed (c.in-Ok-read_live.ensures.count ∙ e.pump.counts.0 ∙ next) stand;
-    })
+    let stand = subst (λ (z : List ℕ). InSlots row o.removed c.read_live.new.live.items z) (e.moves_low.reads told) (c.in-Ok-read_live.ensures.stand told) in (
+      found.0,
+      found.1,
+      record {
+        accepted_is = next;
+        removed_is = removed;
+        received_is = c.count.ensures ∙ same_taken m told row a b (m.reading c.args.recv) o _ r e.pump found.0 found.1 e.receiver same;
+        live_is = same_messages row lawful _ _ _ a found.1.low_is o.removed c.read_live.new.live.items removed (c.in-Ok-read_live.ensures.count ∙ e.pump.counts.0 ∙ next) stand;
+      },
+    )
 
 pub returns-in-Ok-read_live-clause-few : goal.returns-in-Ok-read_live-clause-few
 returns-in-Ok-read_live-clause-few g c =

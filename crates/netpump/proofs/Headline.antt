@@ -42,9 +42,15 @@ module _ (before after : Places) (all left old new : Option (List ℕ)) (was now
   faulted (r, output, end, appends) = (r, output, r.sessions, r.events, inr (inr (inl (refl, end, refl, refl))), of r.openings r.sessions r.events end.disks, appends)
 
   full : Wrote all old new (IsOverfilled (shelved before after) left) → Ended 10
-  full (r, output, (session, at, length, size, end), appends) =
-      (r, output, end.next.after, r.events ++ end.next.printed, inr (inr (inr (refl, (session, at, length, size, end, refl, refl)))),
-      of r.openings end.next.after (r.events ++ end.next.printed) end.disks, appends)
+  full (r, output, (session, at, length, size, end), appends) = (
+    r,
+    output,
+    end.next.after,
+    r.events ++ end.next.printed,
+    inr (inr (inr (refl, (session, at, length, size, end, refl, refl)))),
+    of r.openings end.next.after (r.events ++ end.next.printed) end.disks,
+    appends,
+  )
 
 module _ (before after : Places) (all left old new : Option (List ℕ)) (was now : ℕ) where
   abbrev Outlived : ℕ → Type 0

@@ -299,7 +299,7 @@ EndsBy status shelf left before now r output t printed =
     ⊎ (((status ≡ 3) × IsUnread shelf left before now r output × (t ≡ r.sessions) × (printed ≡ r.events))
     ⊎ (((status ≡ 5) × IsFaulted shelf left r output × (t ≡ r.sessions) × (printed ≡ r.events))
     ⊎ ((status ≡ 10) × ((session at length size : ℕ) × (end : IsStopped shelf left (Full session at length size) r output)
-      × (t ≡ end.next.after) × (printed ≡ r.events ++ end.next.printed)))))
+    × (t ≡ end.next.after) × (printed ≡ r.events ++ end.next.printed)))))
 
 -- a replay of the script ended so with this status, its output was written, and this holds of the sessions to which it came
 -- and of what it printed

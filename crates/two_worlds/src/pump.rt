@@ -14,8 +14,6 @@ mod surveying;
 #[cfg(test)]
 mod tests;
 
-pub use surveying::{Survey, survey_disks};
-
 use crate::applied::{Applied, Stop};
 use crate::not_open::NotOpen;
 use crate::printing::events_of;
@@ -26,6 +24,7 @@ use pump_frame::SessionRow;
 use script_reader::{EventHead, Line, LineHead};
 use state::PumpState;
 use std::alloc::Global;
+pub use surveying::{Survey, survey_disks};
 
 /// A whole session: its processes, its passage, its receiver, over three disks.
 #[derive(Drop)]

@@ -26,7 +26,7 @@ use Rattle.script_reader.specs.Lines.{AreLines, IsUnended, IsSome}
 use Rattle.script_reader.specs.Openings.{Openings}
 use Rattle.script_reader.specs.Readouts.{low_lines, Sound}
 use Rattle.script_reader.specs.Scripts.{Running, Begun, Whole, Alone}
-use Rattle.script_reader.specs.Sessions.{Sessions, no_sessions, session_in, session_at, lines_of, events_of, is_in_turn, ScriptLeadsTo, ScriptStops, ScriptComesTo, IsScriptTranscript}
+use Rattle.script_reader.specs.Sessions.{Sessions, no_sessions, session_in, session_at, lines_of, events_of, led_to, is_in_turn, ScriptLeadsTo, ScriptStops, ScriptComesTo, IsScriptTranscript}
 use Rattle.script_reader.specs.Sides.{low_side_of, told_to_low, full_moments, averages, restarts_in, HaveOwnMoments, OpenAlike}
 use Rattle.script_reader.specs.Transcript.{text, fault_line}
 use Rattle.two_worlds.specs.Timelines.{IsTimeline}
@@ -292,14 +292,26 @@ WroteFront all old new End = (r : Replayed all) × (output : List ℕ) × End r 
 
 -- ---- the headline, by what is read of the disks at the return ----
 
--- a replay with this status ends so: it has come to these sessions, and has printed this and nothing else but the fault
+-- a device stopped the replay: as a line told, in a line of a whole session, which was cut short, or when its disks were
+-- opened. It has come to these sessions, and has printed this and nothing else but the fault
+abbrev pub EndsDown : Shelved → {all : Option (List ℕ)} → Option (List ℕ) → Replayed all → List ℕ → Sessions → List Event → Type 0
+EndsDown shelf left r output t printed =
+    ((session : ℕ) × (end : IsFailedAt shelf left session r output) × (t ≡ end.next.after) × (printed ≡ r.events ++ end.next.printed))
+    ⊎ (((session : ℕ) × (end : IsBroken shelf left session r output)
+      × (t ≡ led_to r.sessions end.next.line (Whole (record { row = end.next.off.session.row; past = end.next.off.past })))
+      × (printed ≡ r.events ++ end.next.printed))
+    ⊎ ((session : ℕ) × IsUnopened shelf left session r output × (t ≡ r.sessions) × (printed ≡ r.events)))
+
+-- so of a replay with this status
 abbrev pub EndsBy : ℕ → Shelved → {all : Option (List ℕ)} → Option (List ℕ) → ℕ → ℕ → Replayed all → List ℕ → Sessions → List Event → Type 0
 EndsBy status shelf left before now r output t printed =
     ((status ≡ 0) × ((end : IsFinished shelf r output) × (t ≡ r.sessions) × (printed ≡ end.printed)))
     ⊎ (((status ≡ 3) × IsUnread shelf left before now r output × (t ≡ r.sessions) × (printed ≡ r.events))
     ⊎ (((status ≡ 5) × IsFaulted shelf left r output × (t ≡ r.sessions) × (printed ≡ r.events))
+    ⊎ (((status ≡ 7) × EndsDown shelf left r output t printed)
+    ⊎ (((status ≡ 8) × IsBarred shelf left r output × (t ≡ r.sessions) × (printed ≡ r.events))
     ⊎ ((status ≡ 10) × ((session at length size : ℕ) × (end : IsStopped shelf left (Full session at length size) r output)
-    × (t ≡ end.next.after) × (printed ≡ r.events ++ end.next.printed)))))
+      × (t ≡ end.next.after) × (printed ≡ r.events ++ end.next.printed)))))))
 
 -- a replay of the script ended so with this status, its output was written, and this holds of the sessions to which it came
 -- and of what it printed

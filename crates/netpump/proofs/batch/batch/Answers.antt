@@ -3,7 +3,7 @@ use Rattle.command_line.specs.Commands.{AreWordsOf}
 use Rattle.command_line.specs.declared.command.Command.{Command}
 use Rattle.command_line.specs.declared.command.Command.TheVariants as commands
 use Rattle.netpump.proofs.Asked.{not_command, same_command, formats_asked, formats_nothing, shows_asked, shows_nothing, exercise_asked, exercise_nothing}
-use Rattle.netpump.proofs.Headline.{finished_outlives, finished_front, unread_outlives, unread_front, faulted_outlives, faulted_front, full_outlives, full_front}
+use Rattle.netpump.proofs.Headline.{finished_outlives, finished_front, unread_outlives, unread_front, faulted_outlives, faulted_front, full_outlives, full_front, barred_outlives, barred_front, down_front}
 use Rattle.netpump.proofs.Ending.{down_some}
 use Rattle.netpump.proofs.OneStatus.{done_only, faulted_only, full_only}
 use Rattle.netpump.proofs.batch.batch.Goals as goal
@@ -89,3 +89,12 @@ returns-in-Exercise-clause-exercise g c = λ seed count words.
 pub returns-in-Err-NoCommand-clause-exercise : goal.returns-in-Err-NoCommand-clause-exercise
 returns-in-Err-NoCommand-clause-exercise g c = λ seed count words.
     absurd (not_command (commands.Exercise seed count) ((rw c.in-Err-NoCommand.field-0-is at c.in-Err-NoCommand.ensures.command) (commands.Exercise seed count) (read_words _ _ (commands.Exercise seed count) c.as_slice.ensures.value words)))
+
+pub returns-in-Stopped-Disk-clause-outlives : goal.returns-in-Stopped-Disk-clause-outlives
+returns-in-Stopped-Disk-clause-outlives g c = λ words is told tells. barred_outlives _ _ _ _ _ _ _ _ ((rw c.in-Stopped-Disk.field-0-is at c.in-Stopped-Disk.ensures.ends) told tells)
+
+pub returns-in-Stopped-Disk-clause-prefix : goal.returns-in-Stopped-Disk-clause-prefix
+returns-in-Stopped-Disk-clause-prefix g c = λ words is told tells. barred_front _ _ _ _ _ _ _ _ ((rw c.in-Stopped-Disk.field-0-is at c.in-Stopped-Disk.ensures.ends) told tells)
+
+pub returns-in-Stopped-Device-clause-prefix : goal.returns-in-Stopped-Device-clause-prefix
+returns-in-Stopped-Device-clause-prefix g c = λ words is told tells. down_front _ _ _ _ _ _ _ _ _ ((rw c.in-Stopped-Device.field-0-is at c.in-Stopped-Device.ensures.ends) told tells)

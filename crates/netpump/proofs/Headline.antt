@@ -81,9 +81,15 @@ module _ (before after : Places) (all left old new : Option (List ℕ)) (was now
       (r, output, r.sessions, r.events, inr (inr (inr (inr (inl (refl, end, refl, refl))))), beside r.openings end.row.id r.sessions r.events end.next.none end.disks.2, appends)
 
   full : Wrote all old new (IsOverfilled (shelved before after) left) → Ended 10
-  full (r, output, (session, at, length, size, end), appends) =
-      (r, output, end.next.after, r.events ++ end.next.printed, inr (inr (inr (inr (inr (refl, (session, at, length, size, end, refl, refl)))))),
-      of r.openings end.next.after (r.events ++ end.next.printed) end.disks, appends)
+  full (r, output, (session, at, length, size, end), appends) = (
+    r,
+    output,
+    end.next.after,
+    r.events ++ end.next.printed,
+    inr (inr (inr (inr (inr (refl, (session, at, length, size, end, refl, refl)))))),
+    of r.openings end.next.after (r.events ++ end.next.printed) end.disks,
+    appends,
+  )
 
 module _ (before after : Places) (all left old new : Option (List ℕ)) (was now : ℕ) where
   abbrev Outlived : ℕ → Type 0
@@ -123,12 +129,30 @@ module _ (before after : Places) (all left old new : Option (List ℕ)) (was now
   full_front = full before after all left old new was now (HaveReceived after) (each_front before after) (others_front before after)
 
   pub down_front : (session : ℕ) → Wrote all old new (IsDownAt (shelved before after) left session) → Received 7
-  down_front session (r, output, inl end, appends) =
-      (r, output, end.next.after, r.events ++ end.next.printed, inr (inr (inr (inl (refl, inl (session, end, refl, refl))))),
-      each_front before after r.openings end.next.after (r.events ++ end.next.printed) end.disks, appends)
-  down_front session (r, output, inr (inl end), appends) =
-      (r, output, led_to r.sessions end.next.line (Whole (record { row = end.next.off.session.row; past = end.next.off.past })), r.events ++ end.next.printed,
-      inr (inr (inr (inl (refl, inr (inl (session, end, refl, refl)))))), broken_front before after left session r output end (r.events ++ end.next.printed), appends)
-  down_front session (r, output, inr (inr end), appends) =
-      (r, output, r.sessions, r.events, inr (inr (inr (inl (refl, inr (inr (session, end, refl, refl)))))),
-      others_front before after r.openings end.row.id r.sessions r.events end.next.none end.disks.1, appends)
+  down_front session (r, output, inl end, appends) = (
+    r,
+    output,
+    end.next.after,
+    r.events ++ end.next.printed,
+    inr (inr (inr (inl (refl, inl (session, end, refl, refl))))),
+    each_front before after r.openings end.next.after (r.events ++ end.next.printed) end.disks,
+    appends,
+  )
+  down_front session (r, output, inr (inl end), appends) = (
+    r,
+    output,
+    led_to r.sessions end.next.line (Whole (record { row = end.next.off.session.row; past = end.next.off.past })),
+    r.events ++ end.next.printed,
+    inr (inr (inr (inl (refl, inr (inl (session, end, refl, refl)))))),
+    broken_front before after left session r output end (r.events ++ end.next.printed),
+    appends,
+  )
+  down_front session (r, output, inr (inr end), appends) = (
+    r,
+    output,
+    r.sessions,
+    r.events,
+    inr (inr (inr (inl (refl, inr (inr (session, end, refl, refl)))))),
+    others_front before after r.openings end.row.id r.sessions r.events end.next.none end.disks.1,
+    appends,
+  )

@@ -298,8 +298,8 @@ abbrev pub EndsDown : Shelved → {all : Option (List ℕ)} → Option (List ℕ
 EndsDown shelf left r output t printed =
     ((session : ℕ) × (end : IsFailedAt shelf left session r output) × (t ≡ end.next.after) × (printed ≡ r.events ++ end.next.printed))
     ⊎ (((session : ℕ) × (end : IsBroken shelf left session r output)
-      × (t ≡ led_to r.sessions end.next.line (Whole (record { row = end.next.off.session.row; past = end.next.off.past })))
-      × (printed ≡ r.events ++ end.next.printed))
+    × (t ≡ led_to r.sessions end.next.line (Whole (record { row = end.next.off.session.row; past = end.next.off.past })))
+    × (printed ≡ r.events ++ end.next.printed))
     ⊎ ((session : ℕ) × IsUnopened shelf left session r output × (t ≡ r.sessions) × (printed ≡ r.events)))
 
 -- so of a replay with this status
@@ -311,7 +311,7 @@ EndsBy status shelf left before now r output t printed =
     ⊎ (((status ≡ 7) × EndsDown shelf left r output t printed)
     ⊎ (((status ≡ 8) × IsBarred shelf left r output × (t ≡ r.sessions) × (printed ≡ r.events))
     ⊎ ((status ≡ 10) × ((session at length size : ℕ) × (end : IsStopped shelf left (Full session at length size) r output)
-      × (t ≡ end.next.after) × (printed ≡ r.events ++ end.next.printed)))))))
+    × (t ≡ end.next.after) × (printed ≡ r.events ++ end.next.printed)))))))
 
 -- a replay of the script ended so with this status, its output was written, and this holds of the sessions to which it came
 -- and of what it printed

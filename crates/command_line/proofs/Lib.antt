@@ -1,3 +1,4 @@
+pub mod Commas
 pub mod Plain
 pub mod Sole
 pub mod Taken

@@ -1,10 +1,11 @@
 -- Words that begin with no dash.
-use Rattle.std.proofs.Common.{◌≡◌, ℕ, ◌==◌, ◌<◌, ◌≤◌, ◌^◌, true, false, List, [], ◌∷◌, length, get_or, decimal, refl, arith}
+use Rattle.std.proofs.Common.{◌≡◌, ℕ, ◌==◌, ◌<◌, ◌≤◌, ◌^◌, true, false, List, [], ◌∷◌, ◌++◌, length, get_or, decimal, refl, ap, arith}
 use Rattle.std.proofs.lemmas.Bool.Decides.{nat_tests}
 use Rattle.std.proofs.lemmas.Str.Parse.{IsNumeralModel, numerals_by_value, tells_digits, digit_at}
 use Rattle.std.proofs.lemmas.Fmt.{digits_decimal, decimal_nonempty}
 use Rattle.std.specs.Str.Parse.{AllDigits, digits_value}
 use Rattle.command_line.specs.TableNames.{is_table_name}
+use Rattle.command_line.specs.TimeLists.{AreTimes, times_word}
 
 pub record IsPlainWord (word : List ℕ) : Type 0 where
   pub first : ℕ
@@ -31,3 +32,11 @@ plain_decimal n fits =
 pub plain_table : (name : List ℕ) → is_table_name name ≡ true → IsPlainWord name
 plain_table [] h = grind arith
 plain_table (x ∷ xs) h = record { first = x; rest = xs; whole = refl; undashed = grind (arith, nat_tests) }
+
+plain_front : (front rest : List ℕ) → IsPlainWord front → IsPlainWord (front ++ rest)
+plain_front front rest p = record { first = p.first; rest = p.rest ++ rest; whole = ap (λ w. w ++ rest) p.whole; undashed = p.undashed }
+
+pub plain_times : (times : List ℕ) → AreTimes times → IsPlainWord (times_word times)
+plain_times [] h = absurd (omega (arith, h.0))
+plain_times (t ∷ []) h = plain_decimal t (omega (arith, h.2.0))
+plain_times (t ∷ u ∷ times) h = plain_front (decimal t) (44 ∷ times_word (u ∷ times)) (plain_decimal t (omega (arith, h.2.0)))

@@ -10,8 +10,8 @@ use Rattle.command_line.specs.Commands.{AreWordsOf}
 use Rattle.command_line.specs.Found.{GivesIn}
 use Rattle.command_line.specs.Program.{program, value_rule}
 use Rattle.command_line.specs.declared.command.Command.{Command}
-use Rattle.command_line.specs.declared.command.Command.TheVariants.{Replay, Format, Show, Exercise}
-use Rattle.command_line.proofs.Plain.{plain_decimal, plain_table}
+use Rattle.command_line.specs.declared.command.Command.TheVariants.{Replay, Format, Show, Exercise, Race}
+use Rattle.command_line.proofs.Plain.{plain_decimal, plain_table, plain_times}
 
 pub simple : is_simple program ≡ true
 unfolding clap_on_literals
@@ -74,6 +74,24 @@ exercise_taken : (x y : ℕ) (xs ys : Text) → (x == 45) ≡ false → (y == 45
 unfolding clap_on_literals
 exercise_taken x y xs ys h k = simp (h, k)
 
+-- a seed, a count and times
+
+abbrev pub race_rules : List Rule
+race_rules = filled_from 1 (value_rule (codes "SEED") ∷ value_rule (codes "COUNT") ∷ value_rule (codes "TIMES") ∷ [])
+
+race_rows : (x y z : ℕ) (xs ys zs : Text) → (x == 45) ≡ false → (y == 45) ≡ false → (z == 45) ≡ false
+    → rows_after race_rules [] ((x ∷ xs) ∷ (y ∷ ys) ∷ (z ∷ zs) ∷ []) ≡ row (codes "SEED") (x ∷ xs) ∷ row (codes "COUNT") (y ∷ ys) ∷ row (codes "TIMES") (z ∷ zs) ∷ []
+unfolding clap_on_literals
+race_rows x y z xs ys zs h k m = simp (h, k, m)
+
+race_met : (t s u : Text) → subcommand_of program (codes "race" ∷ t ∷ s ∷ u ∷ []) ≡ Some (codes "race", rows_after race_rules [] (t ∷ s ∷ u ∷ []))
+unfolding clap_on_literals
+race_met t s u = refl
+
+race_taken : (x y z : ℕ) (xs ys zs : Text) → (x == 45) ≡ false → (y == 45) ≡ false → (z == 45) ≡ false → takes program (codes "race" ∷ (x ∷ xs) ∷ (y ∷ ys) ∷ (z ∷ zs) ∷ []) ≡ true
+unfolding clap_on_literals
+race_taken x y z xs ys zs h k m = simp (h, k, m)
+
 -- clap takes the words of each command
 pub words_taken : (words : List Text) (c : Command) → AreWordsOf words c → takes program words ≡ true
 words_taken words Replay h = rw h.1 replay_taken
@@ -89,6 +107,11 @@ words_taken words (Exercise m n) h =
     let p = plain_decimal m (omega (arith, h.0.0)) in
     let q = plain_decimal n (omega (arith, h.0.2)) in
     rw (h.1, p.whole, q.whole) (exercise_taken p.first q.first p.rest q.rest p.undashed q.undashed)
+words_taken words (Race m n ts) h =
+    let p = plain_decimal m (omega (arith, h.0.0)) in
+    let q = plain_decimal n (omega (arith, h.0.2)) in
+    let r = plain_times ts.items h.0.3 in
+    rw (h.1, p.whole, q.whole, r.whole) (race_taken p.first q.first r.first p.rest q.rest r.rest p.undashed q.undashed r.undashed)
 
 -- and finds its values
 pub values_found : (words : List Text) (c : Command) → AreWordsOf words c → GivesIn c (subcommand_of program words)
@@ -108,3 +131,9 @@ values_found words (Exercise m n) h =
     let q = plain_decimal n (omega (arith, h.0.2)) in
     let rows = number_rows p.first q.first p.rest q.rest p.undashed q.undashed in
     rw (h.1, exercise_met, p.whole, q.whole, rows) (refl, refl, refl)
+values_found words (Race m n ts) h =
+    let p = plain_decimal m (omega (arith, h.0.0)) in
+    let q = plain_decimal n (omega (arith, h.0.2)) in
+    let r = plain_times ts.items h.0.3 in
+    let rows = race_rows p.first q.first r.first p.rest q.rest r.rest p.undashed q.undashed r.undashed in
+    rw (h.1, race_met, p.whole, q.whole, r.whole, rows) (refl, refl, refl, refl)

@@ -1,8 +1,9 @@
 -- Which words are which command.
 use Rattle.std.specs.Prelude.{◌≡◌, ℕ, ◌≤◌, ◌<◌, ◌^◌, true, List, [], ◌∷◌, codes, decimal}
 use Rattle.command_line.specs.TableNames.{is_table_name}
+use Rattle.command_line.specs.TimeLists.{AreTimes, times_word}
 use Rattle.command_line.specs.declared.command.Command.{Command}
-use Rattle.command_line.specs.declared.command.Command.TheVariants.{Replay, Format, Show, Exercise}
+use Rattle.command_line.specs.declared.command.Command.TheVariants.{Replay, Format, Show, Exercise, Race}
 
 -- a command: its name and its numbers are in their ranges
 abbrev pub IsCommand : Command → Type 0
@@ -10,6 +11,7 @@ IsCommand Replay = Unit {0}
 IsCommand (Format table session) = (is_table_name table ≡ true) × (session < 2 ^ 32)
 IsCommand (Show table session) = (is_table_name table ≡ true) × (session < 2 ^ 32)
 IsCommand (Exercise seed count) = (seed < 2 ^ 32) × (1 ≤ count) × (count ≤ 100000)
+IsCommand (Race seed count times) = (seed < 2 ^ 32) × (1 ≤ count) × (count ≤ 100000) × AreTimes times.items
 
 -- its words, each as its bytes
 abbrev pub words_of : Command → List (List ℕ)
@@ -17,6 +19,7 @@ words_of Replay = codes "replay" ∷ []
 words_of (Format table session) = codes "format" ∷ table ∷ decimal session ∷ []
 words_of (Show table session) = codes "show" ∷ table ∷ decimal session ∷ []
 words_of (Exercise seed count) = codes "exercise" ∷ decimal seed ∷ decimal count ∷ []
+words_of (Race seed count times) = codes "race" ∷ decimal seed ∷ decimal count ∷ times_word times.items ∷ []
 
 -- the words are this command
 abbrev pub AreWordsOf : List (List ℕ) → Command → Type 0

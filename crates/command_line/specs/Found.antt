@@ -3,8 +3,9 @@ use Rattle.std.specs.Prelude.{◌≡◌, ℕ, List, codes, decimal, Option, Some
 use Rattle.clap.specs.Walk.{Row, first_of}
 use Rattle.clap.specs.Simple.{subcommand_rows_of}
 use Rattle.clap.specs.declared.parser.matches.ArgMatches.{ArgMatches}
+use Rattle.command_line.specs.TimeLists.{times_word}
 use Rattle.command_line.specs.declared.command.Command.{Command}
-use Rattle.command_line.specs.declared.command.Command.TheVariants.{Replay, Format, Show, Exercise}
+use Rattle.command_line.specs.declared.command.Command.TheVariants.{Replay, Format, Show, Exercise, Race}
 
 -- the name and the values that were found are those of this command
 abbrev pub Gives : Command → List ℕ → List Row → Type 0
@@ -12,6 +13,8 @@ Gives Replay name rows = name ≡ codes "replay"
 Gives (Format table session) name rows = (name ≡ codes "format") × (first_of (codes "TABLE") rows ≡ Some table) × (first_of (codes "S") rows ≡ Some (decimal session))
 Gives (Show table session) name rows = (name ≡ codes "show") × (first_of (codes "TABLE") rows ≡ Some table) × (first_of (codes "S") rows ≡ Some (decimal session))
 Gives (Exercise seed count) name rows = (name ≡ codes "exercise") × (first_of (codes "SEED") rows ≡ Some (decimal seed)) × (first_of (codes "COUNT") rows ≡ Some (decimal count))
+Gives (Race seed count times) name rows = (name ≡ codes "race") × (first_of (codes "SEED") rows ≡ Some (decimal seed)) × (first_of (codes "COUNT") rows ≡ Some (decimal count))
+    × (first_of (codes "TIMES") rows ≡ Some (times_word times.items))
 
 abbrev pub GivesIn : Command → Option (List ℕ × List Row) → Type 0
 GivesIn command None = ⊥

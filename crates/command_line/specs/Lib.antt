@@ -2,3 +2,4 @@ pub mod Commands
 pub mod Found
 pub mod Program
 pub mod TableNames
+pub mod TimeLists

@@ -7,12 +7,15 @@ use Rattle.clap.specs.Simple.{App, new_app, new_rule, with_rule, with_subcommand
 abbrev pub value_rule : Text → Rule
 value_rule id = record (new_rule id) { required = true }
 
--- a command of its name alone, and one with two values
+-- a command of its name alone, one with two values, and one with three
 abbrev pub leaf_none : Text → App
 leaf_none name = new_app name
 
 abbrev pub leaf_two : Text → Text → Text → App
 leaf_two name a b = with_rule (with_rule (leaf_none name) (value_rule a)) (value_rule b)
+
+abbrev pub leaf_three : Text → Text → Text → Text → App
+leaf_three name a b c = with_rule (leaf_two name a b) (value_rule c)
 
 -- the program without its commands
 abbrev pub bare : App
@@ -20,8 +23,9 @@ bare = let a = new_app (codes "netpump") in record a { top = record a.top { no_b
 
 abbrev pub program : App
 program =
-    with_subcommand (with_subcommand (with_subcommand (with_subcommand bare
+    with_subcommand (with_subcommand (with_subcommand (with_subcommand (with_subcommand bare
     (leaf_none (codes "replay")).top)
     (leaf_two (codes "format") (codes "TABLE") (codes "S")).top)
     (leaf_two (codes "show") (codes "TABLE") (codes "S")).top)
-    (leaf_two (codes "exercise") (codes "SEED") (codes "COUNT")).top
+    (leaf_two (codes "exercise") (codes "SEED") (codes "COUNT")).top)
+    (leaf_three (codes "race") (codes "SEED") (codes "COUNT") (codes "TIMES")).top

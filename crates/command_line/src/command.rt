@@ -1,7 +1,8 @@
 use crate::TableName;
+use arrayvec::ArrayVec;
 
 /// What the words ask for.
-#[derive(Clone, Copy)]
+#[derive(Drop)]
 pub enum Command {
     /// Replays the script.
     Replay,
@@ -25,6 +26,16 @@ pub enum Command {
         seed: u32,
         /// How many messages they have, 1 to 100000.
         count: u32,
+    },
+    /// Runs both sides of a relay in two threads.
+    Race {
+        /// The number that the messages and the delays are made from.
+        seed: u32,
+        /// How many messages there are, 1 to 100000.
+        count: u32,
+        /// How long the receiver takes for each of them, in turn: 1 to 16 times in microseconds, each
+        /// at most 10^9.
+        times: ArrayVec<u32, 16>,
     },
 }
 

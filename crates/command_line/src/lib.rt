@@ -8,6 +8,7 @@ mod laws;
 mod program;
 mod spelling;
 mod table_name;
+mod times;
 mod usage;
 mod values;
 

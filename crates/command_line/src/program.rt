@@ -3,7 +3,7 @@ ghost use Rattle.clap.specs.Words.{app_of};
 ghost use Rattle.clap.specs.Walk.{rule_of};
 ghost use Rattle.clap.specs.declared.builder.command.Command.TheViews.{out-Command};
 ghost use Rattle.clap.specs.Simple.{with_subcommand};
-ghost use Rattle.command_line.specs.Program.{value_rule, leaf_none, leaf_two, bare, program};
+ghost use Rattle.command_line.specs.Program.{value_rule, leaf_none, leaf_two, leaf_three, bare, program};
 
 use clap::{Arg, Command as Program};
 use std::alloc::{AllocError, Global};
@@ -39,6 +39,20 @@ fn with_two<'a>(
         .arg(value(alloc, second))
 }
 
+/// A command of its name and three values.
+fn with_three<'a>(
+    alloc: Global,
+    name: &'a str,
+    first: &'a str,
+    second: &'a str,
+    third: &'a str,
+) -> Result<Program<'a>, AllocError>
+    ensures app { IfOk result (λ c. app_of c ≡ leaf_three name.entry.now first.entry.now second.entry.now third.entry.now) }
+    ensures local { IfOk result (λ c. (out-Command c).has_globals ≡ false) }
+{
+    with_two(alloc, name, first, second)?.arg(value(alloc, third))
+}
+
 /// The program, before its commands, without clap's words for help.
 fn bare<'a>(alloc: Global) -> Program<'a>
     ensures app { app_of result ≡ bare }
@@ -64,5 +78,6 @@ pub(crate) fn program<'a>(alloc: Global) -> Result<Program<'a>, AllocError>
     let all = with(bare(alloc), plain(alloc, "replay"))?;
     let all = with(all, with_two(alloc, "format", "TABLE", "S")?)?;
     let all = with(all, with_two(alloc, "show", "TABLE", "S")?)?;
-    with(all, with_two(alloc, "exercise", "SEED", "COUNT")?)
+    let all = with(all, with_two(alloc, "exercise", "SEED", "COUNT")?)?;
+    with(all, with_three(alloc, "race", "SEED", "COUNT", "TIMES")?)
 }

@@ -1,7 +1,9 @@
 ghost use Rattle.std.specs.Prelude.{◌≡◌, ℕ, List, [], ◌∷◌, ◌++◌, map, string_bytes, IfSome, IfNone, IsTrue, ◌↔◌};
-ghost use Rattle.command_line.specs.Commands.{words_of};
+ghost use Rattle.command_line.specs.Commands.{IsCommand, words_of};
+ghost use Rattle.command_line.specs.TimeLists.{AreTimes, times_word};
 
 use crate::Command;
+use crate::times::are_times;
 
 /// The words after the first, where that is this text.
 fn after<'a>(words: &'a [String], text: &str) -> Option<&'a [String]>
@@ -17,6 +19,25 @@ fn after<'a>(words: &'a [String], text: &str) -> Option<&'a [String]>
                 None
             }
         }
+    }
+}
+
+fn are_four(words: &[String], name: &str, first: &str, second: &str, times: &[u32]) -> bool
+    requires { AreTimes times.now }
+    ensures { IsTrue result ↔ (map string_bytes words.now ≡ name.now ∷ first.now ∷ second.now ∷ times_word times.now ∷ []) }
+{
+    let Some(words) = after(words, name) else {
+        return false;
+    };
+    let Some(words) = after(words, first) else {
+        return false;
+    };
+    let Some(words) = after(words, second) else {
+        return false;
+    };
+    match words {
+        [word] => are_times(word.as_str(), times),
+        _ => false,
     }
 }
 
@@ -46,6 +67,7 @@ fn is_one(words: &[String], name: &str) -> bool
 
 /// Are these the words of the command?
 pub(crate) fn is_spelled(command: &Command, words: &[String]) -> bool
+    requires { IsCommand command.now }
     ensures { IsTrue result ↔ (map string_bytes words.now ≡ words_of command.now) }
 {
     let mut one = itoa::Buffer::new();
@@ -61,5 +83,12 @@ pub(crate) fn is_spelled(command: &Command, words: &[String]) -> bool
         Command::Exercise { seed, count } => {
             are_three(words, "exercise", one.format(*seed), two.format(*count))
         }
+        Command::Race { seed, count, times } => are_four(
+            words,
+            "race",
+            one.format(*seed),
+            two.format(*count),
+            times.as_slice(),
+        ),
     }
 }

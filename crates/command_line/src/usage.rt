@@ -4,4 +4,5 @@ pub const USAGE: &str = "type one of these after the program's name:
   format TABLE S       formats the three empty disks of session S, which has a row in the file TABLE
   show TABLE S         prints the counts of session S, and the messages on its low disk that are not removed
   exercise SEED COUNT  runs COUNT messages (1 to 100000) that are made from the number SEED, and prints a summary
-TABLE is the name of a file in this folder: 1 to 64 letters, digits, dots, underscores and dashes, the first a letter or a digit. Numbers are written without a sign and without zeros before them, and are below 2^32";
+  race SEED COUNT TIMES  runs such messages with both sides in threads of their own, and prints a record of Low's side
+TABLE is the name of a file in this folder: 1 to 64 letters, digits, dots, underscores and dashes, the first a letter or a digit. TIMES are 1 to 16 numbers up to 1000000000 with commas between, as 50,700,20: how many microseconds the receiver takes for each message in turn. Numbers are written without a sign and without zeros before them, and are below 2^32";

@@ -3,9 +3,11 @@ ghost use Rattle.clap.specs.Words.{found_of};
 ghost use Rattle.clap.specs.Walk.{rows_of, first_of};
 ghost use Rattle.command_line.specs.Commands.{IsCommand};
 ghost use Rattle.command_line.specs.TableNames.{is_table_name};
+ghost use Rattle.command_line.specs.TimeLists.{AreTimes, times_word};
 ghost use Rattle.command_line.specs.Found.{Gives};
 ghost use Rattle.command_line.specs.declared.command.Command.{Command as Commands};
 
+use crate::times::times_in;
 use crate::{Command, TableName};
 use clap::ArgMatches;
 
@@ -16,7 +18,7 @@ fn parsed(text: &str) -> Option<u32>
 }
 
 /// A number from `low` to `high`, both included.
-fn number(text: &str, low: u32, high: u32) -> Option<u32>
+pub(crate) fn number(text: &str, low: u32, high: u32) -> Option<u32>
     ensures within { IfSome result (λ n. (low ≤ n) × (n ≤ high)) }
     ensures read { (n : ℕ) → low ≤ n → n ≤ high → text.now ≡ decimal n → result ≡ Some n }
 {
@@ -98,6 +100,19 @@ fn exercise_in(matches: &ArgMatches) -> Option<Command>
     }
 }
 
+fn race_in(matches: &ArgMatches) -> Option<Command>
+    ensures sound { IfSome result IsCommand }
+    ensures all { (m n : ℕ) (ts : List ℕ) → m < 2 ^ 32 → 1 ≤ n → n ≤ 100000 → AreTimes ts
+        → first_of (codes "SEED") (rows_of (found_of matches.now)) ≡ Some (decimal m) → first_of (codes "COUNT") (rows_of (found_of matches.now)) ≡ Some (decimal n)
+        → first_of (codes "TIMES") (rows_of (found_of matches.now)) ≡ Some (times_word ts)
+        → result ≡ Some (Command.Race m n (record { items = ts })) }
+{
+    let seed = number_in(matches, "SEED", 0, u32::MAX)?;
+    let count = number_in(matches, "COUNT", 1, 100_000)?;
+    let times = times_in(text(matches, "TIMES")?)?;
+    Some(Command::Race { seed, count, times })
+}
+
 /// The command of this name, with the values that clap found.
 pub(crate) fn with_values(name: &str, matches: &ArgMatches) -> Option<Command>
     ensures sound { IfSome result IsCommand }
@@ -108,6 +123,7 @@ pub(crate) fn with_values(name: &str, matches: &ArgMatches) -> Option<Command>
         "format" => format_in(matches),
         "show" => show_in(matches),
         "exercise" => exercise_in(matches),
+        "race" => race_in(matches),
         _ => None,
     }
 }

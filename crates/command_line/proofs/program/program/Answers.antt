@@ -9,4 +9,5 @@ returns c =
     let replay : app_of c.in_ok-all.all ≡ with_subcommand bare (leaf_none (codes "replay")).top = c.in_ok-all.ensures ∙ ap₂ (λ (a s : App). with_subcommand a s.top) c.bare.ensures.app c.plain.ensures.app in
     let format = c.in_ok-all-2.ensures ∙ ap₂ (λ (a s : App). with_subcommand a s.top) replay c.in_ok-with_two.ensures.app in
     let show = c.in_ok-all-3.ensures ∙ ap₂ (λ (a s : App). with_subcommand a s.top) format c.in_ok-with_two-2.ensures.app in
-    IfOk-weaker c.with-4.result _ _ (λ p h. h ∙ ap₂ (λ (a s : App). with_subcommand a s.top) show c.in_ok-with_two-3.ensures.app) c.with-4.ensures
+    let exercise = c.in_ok-all-4.ensures ∙ ap₂ (λ (a s : App). with_subcommand a s.top) show c.in_ok-with_two-3.ensures.app in
+    IfOk-weaker c.with-5.result _ _ (λ p h. h ∙ ap₂ (λ (a s : App). with_subcommand a s.top) exercise c.in_ok-with_three.ensures.app) c.with-5.ensures

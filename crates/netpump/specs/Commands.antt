@@ -1,9 +1,9 @@
 -- Which commands `batch` runs, and how one over the disks of a session of the table ends.
-use Rattle.std.specs.Prelude.{◌≡◌, ◌⊎◌, ℕ, List, [], ◌∷◌, Option, codes, decimal}
+use Rattle.std.specs.Prelude.{◌≡◌, ◌⊎◌, ℕ, Bool, true, false, List, [], ◌∷◌, Option, codes, decimal}
 use Rattle.std.specs.Io.KnownBytes.{Appends}
 use Rattle.command_line.specs.Commands.{AreWordsOf}
 use Rattle.command_line.specs.declared.command.Command.{Command}
-use Rattle.command_line.specs.declared.command.Command.TheVariants.{Replay, Format, Show, Exercise}
+use Rattle.command_line.specs.declared.command.Command.TheVariants.{Race}
 use Rattle.pump_frame.specs.Counts.{Rose}
 use Rattle.pump_link.specs.Causes.{AppendsFront}
 use Rattle.recovery.specs.Faults.{why_number, why_values}
@@ -15,9 +15,18 @@ use Rattle.netpump.specs.Replays.{TellsWords}
 
 -- ---- the words ----
 
--- the words are no command
+-- a command with threads is run by `live`, every other one by `batch`
+abbrev pub is_live : Command → Bool
+is_live (Race seed count times) = true
+is_live _ = false
+
+-- the words are no command that `batch` runs
 abbrev pub IsNoCommand : List (List ℕ) → Type 0
-IsNoCommand words = (c : Command) → AreWordsOf words c → ⊥
+IsNoCommand words = (c : Command) → is_live c ≡ false → AreWordsOf words c → ⊥
+
+-- .. that `live` runs
+abbrev pub IsNoLiveCommand : List (List ℕ) → Type 0
+IsNoLiveCommand words = (c : Command) → is_live c ≡ true → AreWordsOf words c → ⊥
 
 -- then the fault is written, or a front of it; or nothing, where memory was wanting
 abbrev pub RefusesWords : Option (List ℕ) → Option (List ℕ) → ℕ → Type 0

@@ -1,11 +1,11 @@
-ghost use Rattle.std.specs.Prelude.{◌≡◌, ℕ, ◌≤◌, ◌⊎◌, List, [], Option, Some, map, string_bytes};
+ghost use Rattle.std.specs.Prelude.{◌≡◌, ℕ, ◌≤◌, ◌⊎◌, false, List, [], Option, Some, map, string_bytes};
 ghost use Rattle.command_line.specs.Commands.{AreWordsOf};
 ghost use Rattle.command_line.specs.declared.command.Command.{Command as Asked};
 ghost use Rattle.command_line.specs.declared.command.Command.TheVariants as commands;
 ghost use Rattle.std.specs.Io.KnownBytes.{Appends};
 ghost use Rattle.pump_frame.specs.Counts.{Rose};
 ghost use Rattle.script_reader.specs.declared.fault.Fault.{Fault as Cause};
-ghost use Rattle.netpump.specs.Commands.{IsNoCommand, RefusesWords, EndsWithStatus};
+ghost use Rattle.netpump.specs.Commands.{is_live, IsNoCommand, RefusesWords, EndsWithStatus};
 ghost use Rattle.netpump.specs.Exercises.{EndsExercise};
 ghost use Rattle.netpump.specs.Formatting.{Formats};
 ghost use Rattle.netpump.specs.Showing.{Shows};
@@ -24,8 +24,8 @@ use pump_link::{Sink, Source};
 use script_reader::Fault;
 use std::alloc::Global;
 
-// The words are no command that is run. That is all that is written.
-fn refuse_words<O: Sink>(out: &mut O) -> u8
+/// Answers words that are no command which is run. The fault is all that is written.
+pub fn refuse_words<O: Sink>(out: &mut O) -> u8
     ensures told { TellsWords (O.written out.old) (O.written out.new) result }
     ensures cause { result ≡ 4 → Rose (O.faults out.old) (O.faults out.new) }
 {
@@ -51,8 +51,8 @@ fn run_exercise<O: Sink>(alloc: Global, seed: u32, count: u32, out: &mut O) -> u
     }
 }
 
-/// Runs the command that the words are, over the shelf, the script and the output. The answer is the
-/// status of the program:
+/// Runs the command that the words are, over the shelf, the script and the output. A command with threads
+/// is for `live`, and none of those that run here. The answer is the status of the program:
 ///
 /// - 0: the command was done, and what it prints was written; a replay read the script to its end.
 /// - 1: there was not enough memory; nothing was written.
@@ -88,7 +88,7 @@ pub fn batch<S: Shelf, I: Source, O: Sink>(
     // Words that are no command: nothing of the shelf and the script is touched, and the fault is all that is written.
     ensures untouched { IsNoCommand (map string_bytes words.now.items) → (script.new ≡ script.old) × (shelf.new ≡ shelf.old) }
     ensures words { IsNoCommand (map string_bytes words.now.items) → RefusesWords (O.written out.old) (O.written out.new) result }
-    ensures known { (c : Asked) → AreWordsOf (map string_bytes words.now.items) c → (result ≡ 2 → ⊥) }
+    ensures known { (c : Asked) → is_live c ≡ false → AreWordsOf (map string_bytes words.now.items) c → (result ≡ 2 → ⊥) }
     // Only a replay reads the script.
     ensures unasked { (IsReplay (map string_bytes words.now.items) → ⊥) → script.new ≡ script.old }
     // Whatever the status is, every disk is back on the shelf.
@@ -137,6 +137,7 @@ pub fn batch<S: Shelf, I: Source, O: Sink>(
             return show_session(alloc, table, *session, shelf, out).status();
         }
         Command::Exercise { seed, count } => return run_exercise(alloc, *seed, *count, out),
+        Command::Race { .. } => return refuse_words(out),
     }
     match replay(alloc, shelf, script, out) {
         Ended::Done => 0,

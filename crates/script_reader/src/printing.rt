@@ -1,9 +1,10 @@
-ghost use Rattle.std.specs.Prelude.{◌≡◌, ℕ, ◌+◌, ◌≤◌, List, [], ◌∷◌, ◌++◌, None, Some, length, codes, decimal, slice_index};
+ghost use Rattle.std.specs.Prelude.{◌≡◌, ℕ, ◌+◌, ◌*◌, ◌≤◌, List, [], ◌∷◌, ◌++◌, None, Some, length, codes, decimal, slice_index};
 ghost use Rattle.arrayvec.specs.ArrayVec.{array_vec_len};
 ghost use Rattle.script_reader.specs.EventHeads.{event_of};
 ghost use Rattle.script_reader.specs.Transcript.{role_field, reply_fields, high_fields, time_field, event_line, fault_line, line_with_end};
 ghost use Rattle.script_reader.specs.Grammar.{held_field};
 ghost use Rattle.script_reader.specs.HexFields.{hex_field};
+ghost use Rattle.script_reader.specs.Typed.{IsPrinted};
 
 use crate::event::{Event, EventHead};
 use crate::fault::Fault;
@@ -41,6 +42,25 @@ pub(crate) fn put_field<const N: usize>(into: &mut ArrayVec<u8, N>, number: u64)
 {
     put(into, b" ");
     put_number(into, number);
+}
+
+/// A space and two digits for each byte, or a dash for none.
+pub(crate) fn put_hex<const N: usize>(into: &mut ArrayVec<u8, N>, bytes: &[u8])
+    requires few { length bytes.now ≤ 1042 }
+    requires room { array_vec_len into.old + 2 + 2 * length bytes.now ≤ N }
+    ensures items { into.new.items ≡ into.old.items ++ 32 ∷ hex_field bytes.now }
+    ensures len { array_vec_len into.new ≤ array_vec_len into.old + 2 + 2 * length bytes.now }
+    ensures printed { IsPrinted bytes.now }
+{
+    if bytes.is_empty() {
+        put(into, b" -");
+        return;
+    }
+    let mut digits = [0; 2084];
+    let digits = &mut digits[..2 * bytes.len()];
+    hex::encode_to_slice(bytes, digits).unwrap();
+    put(into, b" ");
+    put(into, digits);
 }
 
 /// A line of a word and one number.
@@ -279,24 +299,6 @@ fn put_answer<const N: usize>(into: &mut ArrayVec<u8, N>, session: u32, moment: 
     }
 }
 
-/// A space and two digits for each byte of a payload, or a dash for none.
-fn put_payload<const N: usize>(into: &mut ArrayVec<u8, N>, payload: &Payload)
-    requires { array_vec_len into.old + 2049 ≤ N }
-    ensures items { into.new.items ≡ into.old.items ++ 32 ∷ hex_field payload.now }
-    ensures len { array_vec_len into.new ≤ array_vec_len into.old + 2049 }
-{
-    let bytes = payload.as_slice();
-    if bytes.is_empty() {
-        put(into, b" -");
-        return;
-    }
-    let mut digits = [0; 2048];
-    let digits = &mut digits[..2 * bytes.len()];
-    hex::encode_to_slice(bytes, digits).unwrap();
-    put(into, b" ");
-    put(into, digits);
-}
-
 fn put_live<const N: usize>(
     into: &mut ArrayVec<u8, N>,
     session: u32,
@@ -307,7 +309,7 @@ fn put_live<const N: usize>(
     ensures { into.new.items ≡ into.old.items ++ line_with_end (codes "live" ∷ decimal session ∷ decimal number ∷ hex_field payload.now ∷ []) }
 {
     put_front(into, b"live", session, number);
-    put_payload(into, payload);
+    put_hex(into, payload.as_slice());
     put(into, b"\n");
 }
 

@@ -10,6 +10,8 @@ use Rattle.recovery.specs.Calls.{is_device}
 use Rattle.recovery.specs.declared.why.Why.{Why}
 use Rattle.recovery.specs.declared.why.Why.TheVariants as whys
 use Rattle.script_reader.specs.Openings.{Found, accepted_in}
+use Rattle.script_reader.specs.Transcript.{event_line, text}
+use Rattle.script_reader.specs.declared.event.Event.TheVariants.{Live}
 use Rattle.two_worlds.specs.Openings.{StandForFound, IsRefused, failed_at, is_for_device}
 use Rattle.two_worlds.specs.Rooms.{is_role}
 use Rattle.two_worlds.specs.Surveys.{IsRead}
@@ -17,7 +19,7 @@ use Rattle.two_worlds.specs.declared.not_open.NotOpen.{NotOpen}
 use Rattle.netpump.specs.Formatting.{ReadsAlike, IsDiskEnd}
 use Rattle.netpump.specs.Lending.{ReadAt, AreOnShelf}
 use Rattle.netpump.specs.Shelves.{Places, OfDisks, disk_name, reading_at, LeavesOtherSessions}
-use Rattle.netpump.specs.Showing.{live_line, live_lines, shown_counts, shown, IsShown, ShowStops, ShowsSo, end_at}
+use Rattle.netpump.specs.Showing.{live_messages, shown_counts, shown, IsShown, ShowStops, ShowsSo, end_at}
 use Rattle.netpump.specs.Tables.{HasRow}
 use Rattle.netpump.specs.TakenDisks.{RoseAt}
 use Rattle.netpump.specs.declared.command_end.CommandEnd.{CommandEnd}
@@ -29,13 +31,14 @@ use Rattle.netpump.proofs.Shelving.{others_so}
 -- ---- the lines ----
 
 pub live_more : (session first : ℕ) (live : List Payload) (i : ℕ) (m : Payload) → i < length live → m ≡ get_or live i m
-    → live_lines session first (take i live) ++ live_line session (first + i) m ≡ live_lines session first (take (suc i) live)
+    → text (live_messages session first (take i live)) ++ event_line (Live session (first + i) m) ≡ text (live_messages session first (take (suc i) live))
 live_more session first [] i m low is = absurd (omega arith)
-live_more session first (x ∷ xs) zero m low is = rw add-zero (ap (live_line session first) is ∙ sym (append-nil (live_line session first x)))
+live_more session first (x ∷ xs) zero m low is = rw add-zero (ap (λ p. event_line (Live session first p)) is ∙ sym (append-nil (event_line (Live session first x))))
 live_more session first (x ∷ xs) (suc i) m low is =
     let at : first + suc i ≡ first + 1 + i = omega arith in
-    append_assoc (live_line session first x) (live_lines session (first + 1) (take i xs)) (live_line session (first + suc i) m)
-    ∙ ap (λ t. live_line session first x ++ t) (ap (λ k. live_lines session (first + 1) (take i xs) ++ live_line session k m) at ∙ live_more session (first + 1) xs i m (omega arith) is)
+    append_assoc (event_line (Live session first x)) (text (live_messages session (first + 1) (take i xs))) (event_line (Live session (first + suc i) m))
+    ∙ ap (λ t. event_line (Live session first x) ++ t)
+    (ap (λ k. text (live_messages session (first + 1) (take i xs)) ++ event_line (Live session k m)) at ∙ live_more session (first + 1) xs i m (omega arith) is)
 
 -- ---- the disks ----
 

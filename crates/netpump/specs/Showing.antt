@@ -1,13 +1,14 @@
 -- What showing the disks of a session writes, by how it ends. `before` and `after` say where each disk is.
-use Rattle.std.specs.Prelude.{◌≡◌, ℕ, ◌+◌, List, [], ◌∷◌, ◌++◌, length, drop, Option, Some, None, Result, Ok, Err, codes, decimal}
-use Rattle.hex.specs.Hex.{encode_lower}
+use Rattle.std.specs.Prelude.{◌≡◌, ℕ, ◌+◌, List, [], ◌∷◌, length, drop, Option, Some, None, Result, Ok, Err}
 use Rattle.disk_model.specs.declared.name.Role.{Role}
 use Rattle.pump_frame.specs.declared.payload.Payload.{Payload}
 use Rattle.pump_frame.specs.declared.row.SessionRow.{SessionRow}
 use Rattle.recovery.specs.declared.why.Why.{Why}
 use Rattle.recovery.specs.declared.why.Why.TheVariants as whys
 use Rattle.script_reader.specs.Openings.{Found, accepted_in}
-use Rattle.script_reader.specs.Transcript.{line_with_end}
+use Rattle.script_reader.specs.Transcript.{text}
+use Rattle.script_reader.specs.declared.event.Event.{Event}
+use Rattle.script_reader.specs.declared.event.Event.TheVariants.{Show, Live}
 use Rattle.two_worlds.specs.Openings.{StandForFound, IsRefused}
 use Rattle.netpump.specs.Commands.{end_line}
 use Rattle.netpump.specs.Formatting.{ReadsAlike}
@@ -18,25 +19,14 @@ use Rattle.netpump.specs.declared.command_end.CommandEnd.TheVariants.{Done, Memo
 
 -- ---- the lines ----
 
--- bytes in hexadecimal digits of lower case, or a dash for none
-abbrev pub hex_of : List ℕ → List ℕ
-hex_of [] = codes "-"
-hex_of (b ∷ bytes) = encode_lower (b ∷ bytes)
-
--- how many messages were accepted, removed and taken by the receiver
-abbrev pub show_line : ℕ → ℕ → ℕ → ℕ → List ℕ
-show_line session accepted removed received = line_with_end (codes "show" ∷ decimal session ∷ decimal accepted ∷ decimal removed ∷ decimal received ∷ [])
-
-abbrev pub live_line : ℕ → ℕ → Payload → List ℕ
-live_line session number message = line_with_end (codes "live" ∷ decimal session ∷ decimal number ∷ hex_of message ∷ [])
-
 -- these messages with the numbers from this one on
-abbrev pub live_lines : ℕ → ℕ → List Payload → List ℕ
-live_lines session number [] = []
-live_lines session number (message ∷ messages) = live_line session number message ++ live_lines session (number + 1) messages
+abbrev pub live_messages : ℕ → ℕ → List Payload → List Event
+live_messages session number [] = []
+live_messages session number (message ∷ messages) = Live session number message ∷ live_messages session (number + 1) messages
 
+-- how many messages were accepted, removed and taken by the receiver, and the live ones
 abbrev pub shown_counts : ℕ → ℕ → ℕ → ℕ → List Payload → List ℕ
-shown_counts session accepted removed received live = show_line session accepted removed received ++ live_lines session removed live
+shown_counts session accepted removed received live = text (Show session accepted removed received ∷ live_messages session removed live)
 
 -- the counts that were found, and the accepted messages that are not removed
 abbrev pub shown : ℕ → Found → List ℕ

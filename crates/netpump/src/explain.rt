@@ -24,6 +24,14 @@ fn field<'a>(line: &'a str, place: usize) -> &'a str {
     line.split(' ').nth(place).unwrap_or("?")
 }
 
+/// The name of the table that the words have, if they have one.
+fn table_in(words: &[String]) -> Option<&str> {
+    match words {
+        [_, table, _] => Some(table.as_str()),
+        _ => None,
+    }
+}
+
 fn explain_script(rt: &HostRuntime, last: &[u8]) -> io::Result<()> {
     match fault_line(last) {
         Some(line) => {
@@ -90,23 +98,31 @@ fn explain_disk(rt: &HostRuntime, last: &[u8]) -> io::Result<()> {
     }
 }
 
+/// A disk that `show` finds empty, and what to do.
+fn explain_empty(rt: &HostRuntime, words: &[String], last: &[u8]) -> io::Result<()> {
+    let line = fault_line(last).unwrap_or("");
+    let table = table_in(words).unwrap_or("TABLE");
+    let session = field(line, 2);
+    let role = field(line, 3);
+    eprintln!(rt;
+        "netpump: the file {session}.{role} is empty, so there is nothing to show; netpump format {table} {session} makes new disks where all three files of the session are empty"
+    )
+}
+
 /// What was found on a disk that is refused, and what to do.
-fn explain_refusal(rt: &HostRuntime, last: &[u8]) -> io::Result<()> {
+fn explain_refusal(rt: &HostRuntime, words: &[String], last: &[u8]) -> io::Result<()> {
+    let line = fault_line(last).unwrap_or("");
+    let number = field(line, 4);
+    if number == "2" && field(line, 5) == "0" {
+        return explain_empty(rt, words, last);
+    }
     explain_disk(rt, last)?;
-    if field(fault_line(last).unwrap_or(""), 4) == "9" {
+    if number == "9" {
         return Ok(());
     }
     eprintln!(rt;
         "netpump: put back the three files that belong together, use the numbers of the session line that made them, or replay in an empty folder to begin anew (docs/formats.md, \"When disks are refused\")"
     )
-}
-
-/// The name of the table that the words have, if they have one.
-fn table_in(words: &[String]) -> Option<&str> {
-    match words {
-        [_, table, _] => Some(table.as_str()),
-        _ => None,
-    }
 }
 
 fn explain_unread(rt: &HostRuntime, words: &[String]) -> io::Result<()> {
@@ -165,7 +181,7 @@ pub fn explain(
         ),
         6 => explain_table(rt, words, last),
         7 => explain_device(rt, last, trouble),
-        8 => explain_refusal(rt, last),
+        8 => explain_refusal(rt, words, last),
         10 => eprintln!(rt;
             "netpump: a message does not fit on the receiver's disk; replay fewer messages, or shorter ones. The last line of the output has the session, where its records end, the length of the message and the size of the disk"
         ),

@@ -1,94 +1,54 @@
 //! What the disks of a session stand for is shown.
 
-ghost use Rattle.std.specs.Prelude.{◌≡◌, ◌≤◌, ◌+◌, ◌^◌, ◌∷◌, ◌++◌, length, decimal, OnOk, IfOk, IfErr, Err};
+ghost use Rattle.std.specs.Prelude.{◌≡◌, ◌≤◌, ◌+◌, ◌^◌, ◌++◌, length, OnOk, IfOk, IfErr, Err};
 ghost use Rattle.disk_model.specs.declared.name.Role.{Role as DiskRole};
 ghost use Rattle.pump_frame.specs.Counts.{Rose};
 ghost use Rattle.pump_frame.specs.Rows.{IsLawfulRow};
+ghost use Rattle.script_reader.specs.Transcript.{text, event_line};
 ghost use Rattle.netpump.specs.Commands.{EndsSo};
 ghost use Rattle.netpump.specs.Formatting.{IsDiskEnd};
 ghost use Rattle.netpump.specs.Shelves.{AllAreBack};
-ghost use Rattle.netpump.specs.Showing.{hex_of, show_line, live_line, live_lines, shown_counts, IsShown, ShowStops, Shows, ShowsSo, end_at};
+ghost use Rattle.netpump.specs.Showing.{live_messages, shown_counts, IsShown, ShowStops, Shows, ShowsSo, end_at};
 ghost use Rattle.netpump.specs.declared.command_end.CommandEnd.TheVariants as ends;
 
 use crate::command_end::{CommandEnd, close, fail};
 use crate::disks::{put_disks_back, take_disks};
 use crate::format::untaken;
 use crate::table_row::row_in_file;
+use arrayvec::ArrayVec;
 use command_line::TableName;
 use disk_model::{Role, Shelf};
 use pump_frame::{Payload, SessionRow};
 use pump_link::Sink;
 use recovery::Why;
+use script_reader::{Event, print_event};
 use std::alloc::{AllocError, Global};
 use two_worlds::survey_disks;
 
-/// A space and a number.
-fn put_field(text: &mut Vec<u8>, number: u64) -> Result<(), AllocError>
-    ensures { OnOk result (text.new.items ≡ text.old.items ++ 32 ∷ decimal number) }
+fn put_line(into: &mut Vec<u8>, event: &Event) -> Result<(), AllocError>
+    ensures { OnOk result (into.new.items ≡ into.old.items ++ event_line event.now) }
 {
-    let mut buffer = itoa::Buffer::new();
-    text.extend_from_slice(b" ")?;
-    text.extend_from_slice(buffer.format(number).as_bytes())
-}
-
-fn put_show(
-    text: &mut Vec<u8>,
-    session: u32,
-    accepted: u64,
-    removed: u64,
-    received: u64,
-) -> Result<(), AllocError>
-    ensures { OnOk result (text.new.items ≡ text.old.items ++ show_line session accepted removed received) }
-{
-    text.extend_from_slice(b"show")?;
-    put_field(text, u64::from(session))?;
-    put_field(text, accepted)?;
-    put_field(text, removed)?;
-    put_field(text, received)?;
-    text.extend_from_slice(b"\n")
-}
-
-fn put_hex(alloc: Global, text: &mut Vec<u8>, message: &Payload) -> Result<(), AllocError>
-    ensures { OnOk result (text.new.items ≡ text.old.items ++ hex_of message.now) }
-{
-    match message.as_slice() {
-        [] => text.extend_from_slice(b"-"),
-        bytes => {
-            let digits = hex::encode(alloc, bytes)?;
-            text.extend_from_slice(digits.as_bytes())
-        }
-    }
-}
-
-fn put_live(
-    alloc: Global,
-    text: &mut Vec<u8>,
-    session: u32,
-    number: u64,
-    message: &Payload,
-) -> Result<(), AllocError>
-    ensures { OnOk result (text.new.items ≡ text.old.items ++ live_line session number message.now) }
-{
-    text.extend_from_slice(b"live")?;
-    put_field(text, u64::from(session))?;
-    put_field(text, number)?;
-    text.extend_from_slice(b" ")?;
-    put_hex(alloc, text, message)?;
-    text.extend_from_slice(b"\n")
+    let mut line = ArrayVec::new();
+    print_event(event, &mut line);
+    into.extend_from_slice(line.as_slice())
 }
 
 fn put_all_live(
-    alloc: Global,
-    text: &mut Vec<u8>,
+    into: &mut Vec<u8>,
     session: u32,
     first: u64,
     live: &[Payload],
 ) -> Result<(), AllocError>
     requires { first + length live.now ≤ 2 ^ 48 }
-    ensures { OnOk result (text.new.items ≡ text.old.items ++ live_lines session first live.now) }
+    ensures { OnOk result (into.new.items ≡ into.old.items ++ text (live_messages session first live.now)) }
 {
     for (index, message) in live.iter().enumerate() {
-        put_live(alloc, text, session, first + index as u64, message)?;
+        let event = Event::Live {
+            session,
+            number: first + index as u64,
+            payload: *message,
+        };
+        put_line(into, &event)?;
     }
     Ok(())
 }
@@ -103,15 +63,21 @@ fn text_of(
     live: &[Payload],
 ) -> Result<Vec<u8>, CommandEnd>
     requires { removed + length live.now ≤ 2 ^ 48 }
-    ensures text { IfOk result (λ text. text.items ≡ shown_counts session accepted removed received live.now) }
+    ensures text { IfOk result (λ shown. shown.items ≡ shown_counts session accepted removed received live.now) }
     ensures memory { IfErr result (λ end. end ≡ ends.Memory) }
 {
-    let mut text = Vec::new(alloc);
-    if put_show(&mut text, session, accepted, removed, received).is_err() {
+    let mut shown = Vec::new(alloc);
+    let counts = Event::Show {
+        session,
+        accepted,
+        removed,
+        received,
+    };
+    if put_line(&mut shown, &counts).is_err() {
         return Err(CommandEnd::Memory);
     }
-    match put_all_live(alloc, &mut text, session, removed, live) {
-        Ok(()) => Ok(text),
+    match put_all_live(&mut shown, session, removed, live) {
+        Ok(()) => Ok(shown),
         Err(_) => Err(CommandEnd::Memory),
     }
 }

@@ -83,6 +83,8 @@ tells (prints.Again session n) ss = record { told = refl; full = refl; average =
 tells (prints.Attach session m n) ss = record { told = refl; full = refl; average = refl; restart = refl }
 tells (prints.Restart session m a b held) ss = record { told = refl; full = refl; average = refl; restart = refl }
 tells (prints.End session a high) ss = record { told = refl; full = refl; average = refl; restart = refl }
+tells (prints.Show session a b r) ss = record { told = refl; full = refl; average = refl; restart = refl }
+tells (prints.Live session n payload) ss = record { told = refl; full = refl; average = refl; restart = refl }
 
 pub told_is_said : (xs : List Event) → told_to_low xs ≡ map plain (said_to_low xs)
 told_is_said [] = refl

@@ -22,7 +22,9 @@ event_of (Attach session moment count) = events.Attach session moment count
 event_of (Restart session moment accepted removed held) = events.Restart session moment accepted removed held
 event_of (End session accepted high) = events.End session accepted high
 
--- a `low` line
-abbrev pub is_reply : Event → Bool
-is_reply (events.Low session moment reply) = true
-is_reply _ = false
+-- it has a head that tells it whole: a reply is a frame, and what a disk shows comes of no script
+abbrev pub has_head : Event → Bool
+has_head (events.Low session moment reply) = false
+has_head (events.Show session accepted removed received) = false
+has_head (events.Live session number payload) = false
+has_head _ = true

@@ -10,6 +10,7 @@ pub mod Generated
 pub mod Generating
 pub mod Grammar
 pub mod Heads
+pub mod HexFields
 pub mod Highs
 pub mod Lawful
 pub mod Lines

@@ -192,6 +192,8 @@ event_session (prints.Again session number) = session
 event_session (prints.Attach session m count) = session
 event_session (prints.Restart session m accepted removed held) = session
 event_session (prints.End session accepted high) = session
+event_session (prints.Show session accepted removed received) = session
+event_session (prints.Live session number payload) = session
 
 -- the lines of a transcript that are this session's, in their order
 abbrev pub events_of : ℕ → List Event → List Event

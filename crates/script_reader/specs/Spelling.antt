@@ -1,7 +1,5 @@
 -- The one spelling in which a line of a script is printed: digits in lower case, and `-` for no bytes.
 use Rattle.std.specs.Prelude.{ℕ, List, [], ◌∷◌, ◌++◌, codes, decimal}
-use Rattle.std.specs.Int.{to_be_bytes, w32}
-use Rattle.hex.specs.Hex.{encode_lower}
 use Rattle.script_reader.specs.declared.line.Line.{Line}
 use Rattle.script_reader.specs.declared.line.Line.TheVariants.{Skip, Session, LowSession, Look, Told, Gone, High, Carry, Return, Done, Restart, ReceiverRestart}
 use Rattle.script_reader.specs.declared.line.ToldFeedback.{ToldFeedback}
@@ -10,15 +8,7 @@ use Rattle.script_reader.specs.declared.line.Arriving.{Arriving}
 use Rattle.script_reader.specs.declared.line.Arriving.TheVariants.{Nothing, Hello, Data, Raw}
 use Rattle.script_reader.specs.Grammar.{spaced, row_fields, held_field, outcome_field}
 use Rattle.script_reader.specs.Transcript.{line_with_end}
-
--- a word in eight digits
-abbrev pub word_field : ℕ → List ℕ
-word_field word = encode_lower (to_be_bytes w32 word)
-
--- two digits for each byte, or a dash for none
-abbrev pub hex_field : List ℕ → List ℕ
-hex_field [] = codes "-"
-hex_field (byte ∷ bytes) = encode_lower (byte ∷ bytes)
+pub use Rattle.script_reader.specs.HexFields.{word_field, hex_field}
 
 -- what comes with a look
 abbrev pub arriving_fields : Arriving → List (List ℕ)

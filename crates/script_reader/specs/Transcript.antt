@@ -4,12 +4,13 @@ use Rattle.std.specs.List.{flat_map}
 use Rattle.pump_frame.specs.declared.frame.Kind.{Kind}
 use Rattle.pump_frame.specs.declared.frame.Kind.TheVariants.{Hello, Welcome, Data, Ack, Refuse, Attach as AttachFrame, Taken}
 use Rattle.script_reader.specs.declared.event.Event.{Event}
-use Rattle.script_reader.specs.declared.event.Event.TheVariants.{Stored, Full, Passed, Released, Repeat, Low, Removed, Sent, Took, Again, Attach, Restart, End}
+use Rattle.script_reader.specs.declared.event.Event.TheVariants.{Stored, Full, Passed, Released, Repeat, Low, Removed, Sent, Took, Again, Attach, Restart, End, Show, Live}
 use Rattle.script_reader.specs.declared.fault.Fault.{Fault}
 use Rattle.disk_model.specs.declared.name.Role.{Role}
 use Rattle.disk_model.specs.declared.name.Role.TheVariants as roles
 use Rattle.script_reader.specs.declared.fault.Fault.TheVariants.{Words, Read, Script, Device, Disk, Full as FullLog}
 use Rattle.script_reader.specs.Grammar.{spaced, held_field}
+use Rattle.script_reader.specs.HexFields.{hex_field}
 
 -- the fields of a reply, which is a WELCOME, an ACK or a REFUSE; the payload byte of a REFUSE is its code
 abbrev pub reply_fields : Kind → ℕ → List ℕ → List (List ℕ)
@@ -45,6 +46,8 @@ event_fields (Again session number) = codes "again" ∷ decimal session ∷ deci
 event_fields (Attach session moment count) = codes "attach" ∷ decimal session ∷ decimal moment ∷ decimal count ∷ []
 event_fields (Restart session moment accepted removed held) = codes "restart" ∷ decimal session ∷ decimal moment ∷ decimal accepted ∷ decimal removed ∷ held_field held ∷ []
 event_fields (End session accepted high) = codes "end" ∷ decimal session ∷ decimal accepted ∷ high_fields high
+event_fields (Show session accepted removed received) = codes "show" ∷ decimal session ∷ decimal accepted ∷ decimal removed ∷ decimal received ∷ []
+event_fields (Live session number payload) = codes "live" ∷ decimal session ∷ decimal number ∷ hex_field payload ∷ []
 
 -- fields as a line, with its line end
 abbrev pub line_with_end : List (List ℕ) → List ℕ

@@ -1,8 +1,8 @@
-ghost use Rattle.std.specs.Prelude.{◌≡◌, false};
-ghost use Rattle.script_reader.specs.EventHeads.{event_of, is_reply};
+ghost use Rattle.std.specs.Prelude.{◌≡◌, true};
+ghost use Rattle.script_reader.specs.EventHeads.{event_of, has_head};
 
 use pump_core::{Reply, Seen};
-use pump_frame::Frame;
+use pump_frame::{Frame, Payload};
 
 /// A line of a transcript; `docs/formats.md`, "Transcripts", says when each comes. Moments and
 /// times are in microseconds.
@@ -87,6 +87,20 @@ pub enum Event {
         accepted: u64,
         high: Option<(u64, u64)>,
     },
+    /// What the disks of a session are shown to stand for: how many messages were accepted, removed,
+    /// and taken by the receiver.
+    Show {
+        session: u32,
+        accepted: u64,
+        removed: u64,
+        received: u64,
+    },
+    /// A message on the disks of a session that are shown: it was accepted and is not removed.
+    Live {
+        session: u32,
+        number: u64,
+        payload: Payload,
+    },
 }
 
 /// What a list of events holds where it has none yet.
@@ -99,7 +113,7 @@ impl Default for Event {
     }
 }
 
-/// A line of a transcript, as `Event`, with its reply in place of the frame.
+/// A line of a transcript that a script prints, as `Event`, with its reply in place of the frame.
 #[derive(Clone, Copy)]
 pub enum EventHead {
     Stored {
@@ -280,9 +294,9 @@ impl EventHead {
 }
 
 impl Event {
-    // The event where it is no reply: then it has no frame.
+    // The event where it has neither a frame nor a payload, and a script prints it.
     pub(crate) fn head(&self) -> EventHead
-        requires { is_reply self.now ≡ false }
+        requires { has_head self.now ≡ true }
         ensures { event_of result ≡ self.now }
     {
         match *self {
@@ -315,7 +329,7 @@ impl Event {
                 moment,
                 seen,
             },
-            Event::Low { .. } => EventHead::default(),
+            Event::Low { .. } | Event::Show { .. } | Event::Live { .. } => EventHead::default(),
             Event::Removed {
                 session,
                 moment,

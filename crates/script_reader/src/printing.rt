@@ -1,8 +1,10 @@
-ghost use Rattle.std.specs.Prelude.{◌≡◌, ℕ, ◌+◌, ◌≤◌, List, [], ◌∷◌, ◌++◌, None, Some, length, codes, decimal, slice_index};
+ghost use Rattle.std.specs.Prelude.{◌≡◌, ℕ, ◌+◌, ◌*◌, ◌≤◌, List, [], ◌∷◌, ◌++◌, None, Some, length, codes, decimal, slice_index};
 ghost use Rattle.arrayvec.specs.ArrayVec.{array_vec_len};
 ghost use Rattle.script_reader.specs.EventHeads.{event_of};
 ghost use Rattle.script_reader.specs.Transcript.{role_field, reply_fields, high_fields, time_field, event_line, fault_line, line_with_end};
 ghost use Rattle.script_reader.specs.Grammar.{held_field};
+ghost use Rattle.script_reader.specs.HexFields.{hex_field};
+ghost use Rattle.script_reader.specs.Typed.{IsPrinted};
 
 use crate::event::{Event, EventHead};
 use crate::fault::Fault;
@@ -10,10 +12,10 @@ use arrayvec::ArrayVec;
 use disk_model::Role;
 use itoa::Buffer;
 use pump_core::{Reply, Seen};
-use pump_frame::{Frame, Kind};
+use pump_frame::{Frame, Kind, Payload};
 
-// A printed line goes behind what a room holds. None of them has more than 256 bytes: at most a word
-// of 40 bytes and five numbers of 40.
+// A printed line goes behind what a room holds. None of them has more than 256 bytes, at most a word
+// of 40 bytes and five numbers of 40, but a `live` line: with its digits it has at most 2,136.
 
 pub(crate) fn put<const N: usize>(into: &mut ArrayVec<u8, N>, text: &[u8])
     requires { array_vec_len into.old + length text.now ≤ N }
@@ -40,6 +42,25 @@ pub(crate) fn put_field<const N: usize>(into: &mut ArrayVec<u8, N>, number: u64)
 {
     put(into, b" ");
     put_number(into, number);
+}
+
+/// A space and two digits for each byte, or a dash for none.
+pub(crate) fn put_hex<const N: usize>(into: &mut ArrayVec<u8, N>, bytes: &[u8])
+    requires few { length bytes.now ≤ 1042 }
+    requires room { array_vec_len into.old + 2 + 2 * length bytes.now ≤ N }
+    ensures items { into.new.items ≡ into.old.items ++ 32 ∷ hex_field bytes.now }
+    ensures len { array_vec_len into.new ≤ array_vec_len into.old + 2 + 2 * length bytes.now }
+    ensures printed { IsPrinted bytes.now }
+{
+    if bytes.is_empty() {
+        put(into, b" -");
+        return;
+    }
+    let mut digits = [0; 2084];
+    let digits = &mut digits[..2 * bytes.len()];
+    hex::encode_to_slice(bytes, digits).unwrap();
+    put(into, b" ");
+    put(into, digits);
 }
 
 /// A line of a word and one number.
@@ -278,6 +299,20 @@ fn put_answer<const N: usize>(into: &mut ArrayVec<u8, N>, session: u32, moment: 
     }
 }
 
+fn put_live<const N: usize>(
+    into: &mut ArrayVec<u8, N>,
+    session: u32,
+    number: u64,
+    payload: &Payload,
+)
+    requires { array_vec_len into.old + 2400 ≤ N }
+    ensures { into.new.items ≡ into.old.items ++ line_with_end (codes "live" ∷ decimal session ∷ decimal number ∷ hex_field payload.now ∷ []) }
+{
+    put_front(into, b"live", session, number);
+    put_hex(into, payload.as_slice());
+    put(into, b"\n");
+}
+
 /// Puts the event's line, with its line end, behind what the room holds; `docs/formats.md`,
 /// "Transcripts", has the lines.
 pub fn append_head<const N: usize>(event: &EventHead, into: &mut ArrayVec<u8, N>)
@@ -363,6 +398,24 @@ pub fn print_event(event: &Event, into: &mut ArrayVec<u8, 2400>)
             moment,
             reply,
         } => put_reply(into, *session, *moment, reply),
+        Event::Show {
+            session,
+            accepted,
+            removed,
+            received,
+        } => put_four(
+            into,
+            b"show",
+            u64::from(*session),
+            *accepted,
+            *removed,
+            *received,
+        ),
+        Event::Live {
+            session,
+            number,
+            payload,
+        } => put_live(into, *session, *number, payload),
         _ => append_head(&event.head(), into),
     }
 }

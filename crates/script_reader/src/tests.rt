@@ -1,6 +1,6 @@
 use crate::{
-    Arriving, Body, EventHead, Fault, Line, LineHead, LinedHead, Lines, ToldFeedback, append_head,
-    print_event, print_fault, print_head, read_line,
+    Arriving, Body, Event, EventHead, Fault, Line, LineHead, LinedHead, Lines, ToldFeedback,
+    append_head, print_event, print_fault, print_head, read_line,
 };
 use arrayvec::ArrayVec;
 use disk_model::Role;
@@ -315,15 +315,20 @@ fn refused_disks_have_their_lines(rt: HostRuntime) {
     );
 }
 
+// Whether the event is printed so.
+fn tells_event(event: &Event, line: &[u8]) -> bool {
+    let mut whole = ArrayVec::new();
+    print_event(event, &mut whole);
+    whole.as_slice() == line
+}
+
 // Whether the event is printed so by its head, by the event itself, and behind what a small room holds.
 fn tells(event: &EventHead, line: &[u8]) -> bool {
     let mut head = ArrayVec::new();
     print_head(event, &mut head);
-    let mut whole = ArrayVec::new();
-    print_event(&event.event(), &mut whole);
     let mut small: ArrayVec<u8, 256> = ArrayVec::new();
     append_head(event, &mut small);
-    head.as_slice() == line && whole.as_slice() == line && small.as_slice() == line
+    head.as_slice() == line && small.as_slice() == line && tells_event(&event.event(), line)
 }
 
 #[test]
@@ -364,6 +369,42 @@ fn events_have_their_lines(rt: HostRuntime) {
             reply,
         };
         assert!(rt; tells(&low, line));
+    }
+}
+
+#[test]
+fn disks_that_are_shown_have_their_lines(rt: HostRuntime) {
+    let (session, number) = (4294967295, 281474976710655);
+    let mut payload = Payload::default();
+    payload.set(b"a\xff");
+    for (event, line) in [
+        (
+            Event::Show {
+                session,
+                accepted: 281474976710656,
+                removed: 1,
+                received: 2,
+            },
+            b"show 4294967295 281474976710656 1 2\n".as_slice(),
+        ),
+        (
+            Event::Live {
+                session,
+                number,
+                payload,
+            },
+            b"live 4294967295 281474976710655 61ff\n",
+        ),
+        (
+            Event::Live {
+                session: 1,
+                number: 0,
+                payload: Payload::default(),
+            },
+            b"live 1 0 -\n",
+        ),
+    ] {
+        assert!(rt; tells_event(&event, line));
     }
 }
 

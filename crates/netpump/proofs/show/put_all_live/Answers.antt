@@ -1,5 +1,7 @@
 use Rattle.std.proofs.Common.{◌≡◌, ◌+◌, ◌++◌, take, ap, ◌∙◌, add-one, append_assoc}
-use Rattle.netpump.specs.Showing.{live_line, live_lines}
+use Rattle.script_reader.specs.Transcript.{event_line, text}
+use Rattle.script_reader.specs.declared.event.Event.TheVariants.{Live}
+use Rattle.netpump.specs.Showing.{live_messages}
 use Rattle.netpump.proofs.Shown.{live_more}
 use Rattle.netpump.proofs.show.put_all_live.Goals as goal
 
@@ -10,5 +12,7 @@ loop-index-preserved c =
     let live = c.args.live.now in
     let i = c.loop-index.index in
     let m = c.index-live-index.result in
-    let more : live_lines s f (take i live) ++ live_line s (f + i) m ≡ live_lines s f (take (i + 1) live) = rw add-one (live_more s f live i m c.loop-index-test.true c.index-live-index.is) in
-    rw (← more) (c.in_ok-put_live.ensures ∙ ap (λ t. t ++ live_line s (f + i) m) c.loop-index.invariant ∙ append_assoc c.args.text.now.items (live_lines s f (take i live)) (live_line s (f + i) m))
+    let before = text (live_messages s f (take i live)) in
+    let line = event_line (Live s (f + i) m) in
+    let more : before ++ line ≡ text (live_messages s f (take (i + 1) live)) = rw add-one (live_more s f live i m c.loop-index-test.true c.index-live-index.is) in
+    rw (← more) (c.in_ok-put_line.ensures ∙ ap (λ t. t ++ line) c.loop-index.invariant ∙ append_assoc c.args.into.now.items before line)

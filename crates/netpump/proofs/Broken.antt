@@ -46,7 +46,7 @@ of_carry : (session n : ℕ) (b : Bool) → low_lines ((if b then Again session 
 of_carry session n true = refl
 of_carry session n false = refl
 
-carry_is_silent : (session : ℕ) (w : World) (d : Item) (printed : List Event) → printed ≡ printed_carry session w d ∷ [] → low_lines printed ≡ []
+pub carry_is_silent : (session : ℕ) (w : World) (d : Item) (printed : List Event) → printed ≡ printed_carry session w d ∷ [] → low_lines printed ≡ []
 carry_is_silent session w d printed e = ap low_lines e ∙ of_carry session d.number (nat_lt d.number (length w.received))
 
 off_grows : (s : SessionRow) (mid : Past) (m : ℕ) (role : Role) (q : Past) (printed : List Event) → BreaksOff s mid m role q printed → Grows s mid.history q.history printed

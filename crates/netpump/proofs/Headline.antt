@@ -3,11 +3,13 @@ use Rattle.std.proofs.Common.{◌≡◌, ℕ, ◌==◌, true, false, List, ◌++
 use Rattle.std.proofs.lemmas.Bool.{eqb-true, eqb-false}
 use Rattle.script_reader.specs.declared.event.Event.{Event}
 use Rattle.script_reader.specs.Openings.{Openings}
+use Rattle.script_reader.specs.Readouts.{Sound}
 use Rattle.script_reader.specs.Scripts.{Begun, Whole, Alone}
 use Rattle.script_reader.specs.Sessions.{Sessions, session_at, with_session, events_of, led_to}
 use Rattle.script_reader.proofs.Apart.{session_at-own, session_at-other}
 use Rattle.netpump.specs.Shelves.{Places, IsKept, AreKept, AreOthersKept, AcknowledgedOutlive, ReceiverHasFront, shelved}
-use Rattle.netpump.specs.Replays.{Replayed, IsFinished, IsUnread, IsFaulted, IsStopped, IsOverfilled, IsBarred, IsBroken, IsDownAt, Wrote, EndedWith, HaveOutlived, HaveReceived}
+use Rattle.netpump.specs.Replays.{Replayed, IsTimed, IsNearLast, IsFinished, IsUnread, IsFaulted, IsOverfilled, IsBarred, IsBroken, IsDownAt, IsCutOff, Wrote, WroteFront, EndsBy, EndsCutOff, EndedWith, HaveOutlived, HaveReceived}
+use Rattle.netpump.proofs.Acknowledged.{HaveNoAck, breaks_no_ack, outlives_more, outlives_break}
 
 kept_outlives : (before after : Places) (number : ℕ) (o : Openings) (running : Option Begun) (printed : List Event) → IsKept before after number o running printed → AcknowledgedOutlive after running printed
 kept_outlives before after number o (Some (Whole s)) printed k = (k.prefix.received, k.prefix.recv_is, k.outlives)
@@ -26,14 +28,7 @@ each_outlives before after o t printed kept = λ number. kept_outlives before af
 each_front : (before after : Places) (o : Openings) (t : Sessions) (printed : List Event) → AreKept before after o t.begun printed → HaveReceived after t printed
 each_front before after o t printed kept = λ number. kept_front before after number o (session_at number t.begun) (events_of number printed) (kept number)
 
--- what holds of all sessions whose disks are kept
-abbrev IsOfKept : Places → Places → (Sessions → List Event → Type 0) → Type 0
-IsOfKept before after Holds = (o : Openings) (t : Sessions) (printed : List Event) → AreKept before after o t.begun printed → Holds t printed
-
--- .. and where one of them is not begun, of all others
-abbrev IsOfOthers : Places → Places → (Sessions → List Event → Type 0) → Type 0
-IsOfOthers before after Holds = (o : Openings) (one : ℕ) (t : Sessions) (printed : List Event) → session_at one t.begun ≡ None → AreOthersKept before after one o t.begun printed → Holds t printed
-
+-- where one of them is not begun, of all others
 others_outlive : (before after : Places) (o : Openings) (one : ℕ) (t : Sessions) (printed : List Event) → session_at one t.begun ≡ None → AreOthersKept before after one o t.begun printed → HaveOutlived after t printed
 others_outlive before after o one t printed none others = λ number.
     elim (number == one) as (λ b. (number == one) ≡ b → AcknowledgedOutlive after (session_at number t.begun) (events_of number printed)) [
@@ -48,10 +43,10 @@ others_front before after o one t printed none others = λ number.
       | false ↦ λ e. kept_front before after number o (session_at number t.begun) (events_of number printed) (others number (eqb-false number one e))
     ] refl
 
--- where a line of one was cut short by the device of a disk
-broken_front : (before after : Places) {all : Option (List ℕ)} (left : Option (List ℕ)) (session : ℕ) (r : Replayed all) (output : List ℕ) (end : IsBroken (shelved before after) left session r output) (printed : List Event)
-    → HaveReceived after (led_to r.sessions end.next.line (Whole (record { row = end.next.off.session.row; past = end.next.off.past }))) printed
-broken_front before after left session r output end printed =
+-- where a line of one was cut short by the device of a disk, of all
+broken_front : (before after : Places) (all left : Option (List ℕ)) (session : ℕ) (r : Replayed all) (output : List ℕ) (end : IsBroken (shelved before after) left session r output)
+    → HaveReceived after (led_to r.sessions end.next.line (Whole (record { row = end.next.off.session.row; past = end.next.off.past }))) (r.events ++ end.next.printed)
+broken_front before after all left session r output end =
     let one = end.next.off.session.row.id in
     let last : Begun = Whole (record { row = end.next.off.session.row; past = end.next.off.past }) in
     let kept = end.disks.0.prefix in
@@ -63,96 +58,125 @@ broken_front before after left session r output end printed =
           (kept_front before after number r.openings (session_at number r.sessions.begun) (events_of number r.events) (end.disks.1 number apart))
     ] refl
 
-module _ (before after : Places) (all left old new : Option (List ℕ)) (was now : ℕ) (Holds : Sessions → List Event → Type 0) (of : IsOfKept before after Holds) (beside : IsOfOthers before after Holds) where
-  abbrev Ended : ℕ → Type 0
-  Ended status = EndedWith status (shelved before after) all left old new was now Holds
+broken_outlives : (before after : Places) (all left : Option (List ℕ)) (session : ℕ) (r : Replayed all) (output : List ℕ) (end : IsBroken (shelved before after) left session r output)
+    → HaveOutlived after (led_to r.sessions end.next.line (Whole (record { row = end.next.off.session.row; past = end.next.off.past }))) (r.events ++ end.next.printed)
+broken_outlives before after all left session r output end =
+    let off = end.next.off in
+    let one = off.session.row.id in
+    let last : Begun = Whole (record { row = off.session.row; past = off.past }) in
+    let none : HaveNoAck end.next.printed = breaks_no_ack off.session.row off.session.past end.next.line off.role off.past end.next.printed off.breaks in
+    let own : AcknowledgedOutlive after (Some last) (events_of one r.events) =
+    outlives_break after off.session end.next.line off.role off.past end.next.printed (events_of one r.events) end.disks.0.prefix
+    (subst IsTimed off.there (r.timed one)) (subst (λ (x : Option Begun). Sound x (events_of one r.events)) off.there (r.laws.sound one)) off.breaks in
+    λ number. outlives_more after number (session_at number (with_session last r.sessions.begun)) r.events end.next.printed none
+    (elim (number == one) as (λ b. (number == one) ≡ b → AcknowledgedOutlive after (session_at number (with_session last r.sessions.begun)) (events_of number r.events)) [
+      | true ↦ λ e.
+          let same = eqb-true number one e in
+          subst (λ (t : Option Begun × ℕ). AcknowledgedOutlive after t.0 (events_of t.1 r.events))
+          (λ i. (sym (session_at-own number last r.sessions.begun (sym same)) i, sym same i)) own
+      | false ↦ λ e.
+          let apart = eqb-false number one e in
+          subst (λ (x : Option Begun). AcknowledgedOutlive after x (events_of number r.events)) (sym (session_at-other number last r.sessions.begun (λ is. apart (sym is))))
+          (kept_outlives before after number r.openings (session_at number r.sessions.begun) (events_of number r.events) (end.disks.1 number apart))
+    ] refl)
 
-  finished : Wrote all old new (IsFinished (shelved before after)) → Ended 0
-  finished (r, output, end, appends) = (r, output, r.sessions, end.printed, inl (refl, (end, refl, refl)), of r.openings r.sessions end.printed end.disks, appends)
+-- what holds of all sessions whose disks are kept; of all others, where those of one are not; and where a line of one was
+-- cut short by the device of a disk
+pub record HoldsAtEnds (before after : Places) (Holds : Sessions → List Event → Type 0) : Type 0 where
+  pub kept : (o : Openings) (t : Sessions) (printed : List Event) → AreKept before after o t.begun printed → Holds t printed
+  pub others : (o : Openings) (one : ℕ) (t : Sessions) (printed : List Event) → session_at one t.begun ≡ None → AreOthersKept before after one o t.begun printed → Holds t printed
+  pub broken : (all left : Option (List ℕ)) (session : ℕ) (r : Replayed all) (output : List ℕ) (end : IsBroken (shelved before after) left session r output)
+      → Holds (led_to r.sessions end.next.line (Whole (record { row = end.next.off.session.row; past = end.next.off.past }))) (r.events ++ end.next.printed)
 
-  unread : Wrote all old new (IsUnread (shelved before after) left was now) → Ended 3
-  unread (r, output, end, appends) = (r, output, r.sessions, r.events, inr (inl (refl, end, refl, refl)), of r.openings r.sessions r.events end.disks, appends)
+pub outlives : (before after : Places) → HoldsAtEnds before after (HaveOutlived after)
+outlives before after = record { kept = each_outlives before after; others = others_outlive before after; broken = broken_outlives before after }
 
-  faulted : Wrote all old new (IsFaulted (shelved before after) left) → Ended 5
-  faulted (r, output, end, appends) = (r, output, r.sessions, r.events, inr (inr (inl (refl, end, refl, refl))), of r.openings r.sessions r.events end.disks, appends)
+pub fronts : (before after : Places) → HoldsAtEnds before after (HaveReceived after)
+fronts before after = record { kept = each_front before after; others = others_front before after; broken = broken_front before after }
 
-  barred : Wrote all old new (IsBarred (shelved before after) left) → Ended 8
-  barred (r, output, end, appends) =
-      (r, output, r.sessions, r.events, inr (inr (inr (inr (inl (refl, end, refl, refl))))), beside r.openings end.row.id r.sessions r.events end.next.none end.disks.2, appends)
+module _ (before after : Places) (all left : Option (List ℕ)) (was now : ℕ) (Holds : Sessions → List Event → Type 0) (h : HoldsAtEnds before after Holds) where
+  -- the sessions to which it came, and what it printed
+  abbrev Ends : ℕ → Replayed all → List ℕ → Type 0
+  Ends status r output = (t : Sessions) × (printed : List Event) × EndsBy status (shelved before after) left was now r output t printed × Holds t printed
 
-  full : Wrote all old new (IsOverfilled (shelved before after) left) → Ended 10
-  full (r, output, (session, at, length, size, end), appends) = (
-    r,
-    output,
-    end.next.after,
-    r.events ++ end.next.printed,
-    inr (inr (inr (inr (inr (refl, (session, at, length, size, end, refl, refl)))))),
-    of r.openings end.next.after (r.events ++ end.next.printed) end.disks,
-    appends,
-  )
+  finished : (r : Replayed all) (output : List ℕ) → IsFinished (shelved before after) r output → Ends 0 r output
+  finished r output end = (r.sessions, end.printed, inl (refl, (end, refl, refl)), h.kept r.openings r.sessions end.printed end.disks)
 
-module _ (before after : Places) (all left old new : Option (List ℕ)) (was now : ℕ) where
-  abbrev Outlived : ℕ → Type 0
-  Outlived status = EndedWith status (shelved before after) all left old new was now (HaveOutlived after)
+  unread : (r : Replayed all) (output : List ℕ) → IsUnread (shelved before after) left was now r output → Ends 3 r output
+  unread r output end = (r.sessions, r.events, inr (inl (refl, end, refl, refl)), h.kept r.openings r.sessions r.events end.disks)
 
-  abbrev Received : ℕ → Type 0
-  Received status = EndedWith status (shelved before after) all left old new was now (HaveReceived after)
+  faulted : (r : Replayed all) (output : List ℕ) → IsFaulted (shelved before after) left r output → Ends 5 r output
+  faulted r output end = (r.sessions, r.events, inr (inr (inl (refl, end, refl, refl))), h.kept r.openings r.sessions r.events end.disks)
 
-  pub finished_outlives : Wrote all old new (IsFinished (shelved before after)) → Outlived 0
-  finished_outlives = finished before after all left old new was now (HaveOutlived after) (each_outlives before after) (others_outlive before after)
-
-  pub finished_front : Wrote all old new (IsFinished (shelved before after)) → Received 0
-  finished_front = finished before after all left old new was now (HaveReceived after) (each_front before after) (others_front before after)
-
-  pub unread_outlives : Wrote all old new (IsUnread (shelved before after) left was now) → Outlived 3
-  unread_outlives = unread before after all left old new was now (HaveOutlived after) (each_outlives before after) (others_outlive before after)
-
-  pub unread_front : Wrote all old new (IsUnread (shelved before after) left was now) → Received 3
-  unread_front = unread before after all left old new was now (HaveReceived after) (each_front before after) (others_front before after)
-
-  pub faulted_outlives : Wrote all old new (IsFaulted (shelved before after) left) → Outlived 5
-  faulted_outlives = faulted before after all left old new was now (HaveOutlived after) (each_outlives before after) (others_outlive before after)
-
-  pub faulted_front : Wrote all old new (IsFaulted (shelved before after) left) → Received 5
-  faulted_front = faulted before after all left old new was now (HaveReceived after) (each_front before after) (others_front before after)
-
-  pub barred_outlives : Wrote all old new (IsBarred (shelved before after) left) → Outlived 8
-  barred_outlives = barred before after all left old new was now (HaveOutlived after) (each_outlives before after) (others_outlive before after)
-
-  pub barred_front : Wrote all old new (IsBarred (shelved before after) left) → Received 8
-  barred_front = barred before after all left old new was now (HaveReceived after) (each_front before after) (others_front before after)
-
-  pub full_outlives : Wrote all old new (IsOverfilled (shelved before after) left) → Outlived 10
-  full_outlives = full before after all left old new was now (HaveOutlived after) (each_outlives before after) (others_outlive before after)
-
-  pub full_front : Wrote all old new (IsOverfilled (shelved before after) left) → Received 10
-  full_front = full before after all left old new was now (HaveReceived after) (each_front before after) (others_front before after)
-
-  pub down_front : (session : ℕ) → Wrote all old new (IsDownAt (shelved before after) left session) → Received 7
-  down_front session (r, output, inl end, appends) = (
-    r,
-    output,
+  down : (session : ℕ) (r : Replayed all) (output : List ℕ) → IsDownAt (shelved before after) left session r output → Ends 7 r output
+  down session r output (inl end) = (
     end.next.after,
     r.events ++ end.next.printed,
     inr (inr (inr (inl (refl, inl (session, end, refl, refl))))),
-    each_front before after r.openings end.next.after (r.events ++ end.next.printed) end.disks,
-    appends,
+    h.kept r.openings end.next.after (r.events ++ end.next.printed) end.disks,
   )
-  down_front session (r, output, inr (inl end), appends) = (
-    r,
-    output,
+  down session r output (inr (inl end)) = (
     led_to r.sessions end.next.line (Whole (record { row = end.next.off.session.row; past = end.next.off.past })),
     r.events ++ end.next.printed,
     inr (inr (inr (inl (refl, inr (inl (session, end, refl, refl)))))),
-    broken_front before after left session r output end (r.events ++ end.next.printed),
-    appends,
+    h.broken all left session r output end,
   )
-  down_front session (r, output, inr (inr end), appends) = (
-    r,
-    output,
-    r.sessions,
-    r.events,
-    inr (inr (inr (inl (refl, inr (inr (session, end, refl, refl)))))),
-    others_front before after r.openings end.row.id r.sessions r.events end.next.none end.disks.1,
-    appends,
+  down session r output (inr (inr end)) =
+      (r.sessions, r.events, inr (inr (inr (inl (refl, inr (inr (session, end, refl, refl)))))), h.others r.openings end.row.id r.sessions r.events end.next.none end.disks.1)
+
+  barred : (r : Replayed all) (output : List ℕ) → IsBarred (shelved before after) left r output → Ends 8 r output
+  barred r output end = (r.sessions, r.events, inr (inr (inr (inr (inl (refl, end, refl, refl))))), h.others r.openings end.row.id r.sessions r.events end.next.none end.disks.2)
+
+  full : (r : Replayed all) (output : List ℕ) → IsOverfilled (shelved before after) left r output → Ends 10 r output
+  full r output (session, at, length, size, end) = (
+    end.next.after,
+    r.events ++ end.next.printed,
+    inr (inr (inr (inr (inr (refl, (session, at, length, size, end, refl, refl)))))),
+    h.kept r.openings end.next.after (r.events ++ end.next.printed) end.disks,
   )
+
+  -- .. where its output could not be written
+  abbrev EndsShort : Replayed all → List ℕ → Type 0
+  EndsShort r output = (t : Sessions) × (printed : List Event) × EndsCutOff (shelved before after) left was now r output t printed × Holds t printed
+
+  short : (r : Replayed all) (output : List ℕ) → IsNearLast r.rest left → (other : ℕ) → Ends other r output → EndsShort r output
+  short r output near other (t, printed, end, holds) = (t, printed, (near, inr (other, end)), holds)
+
+  cut_off : (r : Replayed all) (output : List ℕ) → IsCutOff (shelved before after) left was now r output → EndsShort r output
+  cut_off r output (near, inl (is, kept)) = (r.sessions, r.events, (near, inl (is, kept, refl, refl)), h.kept r.openings r.sessions r.events kept)
+  cut_off r output (near, inr (inl end)) = short r output near 0 (finished r output end)
+  cut_off r output (near, inr (inr (inl end))) = short r output near 5 (faulted r output end)
+  cut_off r output (near, inr (inr (inr (inl end)))) = short r output near 3 (unread r output end)
+  cut_off r output (near, inr (inr (inr (inr (inl end))))) = short r output near 10 (full r output end)
+  cut_off r output (near, inr (inr (inr (inr (inr (inl (session, end))))))) = short r output near 7 (down session r output end)
+  cut_off r output (near, inr (inr (inr (inr (inr (inr end)))))) = short r output near 8 (barred r output end)
+
+  -- ---- what was written ----
+
+  module _ (old new : Option (List ℕ)) where
+    abbrev Ended : ℕ → Type 0
+    Ended status = EndedWith status (shelved before after) all left old new was now Holds
+
+    written : (status : ℕ) (End : Replayed all → List ℕ → Type 0) → ((r : Replayed all) (output : List ℕ) → End r output → Ends status r output) → Wrote all old new End → Ended status
+    written status End ends (r, output, end, appends) = let (t, printed, by, holds) = ends r output end in (r, output, t, printed, holds, inl (by, appends))
+
+    pub wrote_finished : Wrote all old new (IsFinished (shelved before after)) → Ended 0
+    wrote_finished = written 0 (IsFinished (shelved before after)) finished
+
+    pub wrote_unread : Wrote all old new (IsUnread (shelved before after) left was now) → Ended 3
+    wrote_unread = written 3 (IsUnread (shelved before after) left was now) unread
+
+    pub wrote_front : WroteFront all old new (IsCutOff (shelved before after) left was now) → Ended 4
+    wrote_front (r, output, end, front) = let (t, printed, by, holds) = cut_off r output end in (r, output, t, printed, holds, inr (refl, by, front))
+
+    pub wrote_faulted : Wrote all old new (IsFaulted (shelved before after) left) → Ended 5
+    wrote_faulted = written 5 (IsFaulted (shelved before after) left) faulted
+
+    pub wrote_down : (session : ℕ) → Wrote all old new (IsDownAt (shelved before after) left session) → Ended 7
+    wrote_down session = written 7 (IsDownAt (shelved before after) left session) (down session)
+
+    pub wrote_barred : Wrote all old new (IsBarred (shelved before after) left) → Ended 8
+    wrote_barred = written 8 (IsBarred (shelved before after) left) barred
+
+    pub wrote_full : Wrote all old new (IsOverfilled (shelved before after) left) → Ended 10
+    wrote_full = written 10 (IsOverfilled (shelved before after) left) full

@@ -302,7 +302,7 @@ EndsDown shelf left r output t printed =
     × (printed ≡ r.events ++ end.next.printed))
     ⊎ ((session : ℕ) × IsUnopened shelf left session r output × (t ≡ r.sessions) × (printed ≡ r.events)))
 
--- so of a replay with this status
+-- so of a replay that has this status where its output is written
 abbrev pub EndsBy : ℕ → Shelved → {all : Option (List ℕ)} → Option (List ℕ) → ℕ → ℕ → Replayed all → List ℕ → Sessions → List Event → Type 0
 EndsBy status shelf left before now r output t printed =
     ((status ≡ 0) × ((end : IsFinished shelf r output) × (t ≡ r.sessions) × (printed ≡ end.printed)))
@@ -313,12 +313,20 @@ EndsBy status shelf left before now r output t printed =
     ⊎ ((status ≡ 10) × ((session at length size : ℕ) × (end : IsStopped shelf left (Full session at length size) r output)
     × (t ≡ end.next.after) × (printed ≡ r.events ++ end.next.printed)))))))
 
--- a replay of the script ended so with this status, its output was written, and this holds of the sessions to which it came
--- and of what it printed
+-- .. and of one that has taken no more than this of the script, and whose output could not be written: that is what its
+-- lines print, or all that it writes with another status
+abbrev pub EndsCutOff : Shelved → {all : Option (List ℕ)} → Option (List ℕ) → ℕ → ℕ → Replayed all → List ℕ → Sessions → List Event → Type 0
+EndsCutOff shelf left before now r output t printed = IsNearLast r.rest left
+    × (((output ≡ text r.events) × shelf.keeps r.openings r.sessions.begun r.events × (t ≡ r.sessions) × (printed ≡ r.events))
+    ⊎ ((other : ℕ) × EndsBy other shelf left before now r output t printed))
+
+-- a replay of the script ended so with this status, and its output was written, or with status 4 a front of it; and this
+-- holds of the sessions to which it came and of all that it printed, whether it was written or not
 abbrev pub EndedWith : ℕ → Shelved → (all left old new : Option (List ℕ)) → ℕ → ℕ → (Sessions → List Event → Type 0) → Type 0
 EndedWith status shelf all left old new before now Holds =
-    (r : Replayed all) × (output : List ℕ) × (t : Sessions) × (printed : List Event)
-    × EndsBy status shelf left before now r output t printed × Holds t printed × Appends old new output
+    (r : Replayed all) × (output : List ℕ) × (t : Sessions) × (printed : List Event) × Holds t printed
+    × ((EndsBy status shelf left before now r output t printed × Appends old new output)
+    ⊎ ((status ≡ 4) × EndsCutOff shelf left before now r output t printed × AppendsFront old new output))
 
 -- each message whose acknowledgement was printed is on the disks of its session
 abbrev pub HaveOutlived : Places → Sessions → List Event → Type 0

@@ -74,10 +74,11 @@ fn run_exercise<O: Sink>(alloc: Global, seed: u32, count: u32, out: &mut O) -> u
 /// of the others. The disks that a command takes off the shelf are back on it at the return. Where the
 /// shelf and its disks tell what they hold, the clauses say what the script printed (`Replayed`,
 /// `KeepLaws`) and what is read of the disks then (`Shelved`): those of each session stand for the world
-/// that it came to, and outlive this call with every message whose acknowledgement was printed. They say
-/// too what a format leaves (`Formats`), what is shown (`Shows`), and what an exercise writes
-/// (`EndsExercise`). `docs/formats.md` has the script, the table, the transcript, the disks and the last
-/// line at the statuses 2, 3, 5, 6, 7, 8 and 10.
+/// that it came to, and outlive this call with every message whose acknowledgement was printed, at each
+/// status but 1, at which a replay writes nothing (`EndedWith`). They say too what a format leaves
+/// (`Formats`), what is shown (`Shows`), and what an exercise writes (`EndsExercise`). `docs/formats.md`
+/// has the script, the table, the transcript, the disks and the last line at the statuses 2, 3, 5, 6, 7, 8
+/// and 10.
 pub fn batch<S: Shelf, I: Source, O: Sink>(
     alloc: Global,
     words: &Vec<String>,
@@ -101,10 +102,11 @@ pub fn batch<S: Shelf, I: Source, O: Sink>(
     ensures file { (IsReplay (map string_bytes words.now.items) → ⊥) → result ≡ 3 → Rose (S.told.faults shelf.old) (S.told.faults shelf.new) }
     ensures read { IsReplay (map string_bytes words.now.items) → result ≡ 3 → Rose (I.faults script.old) (I.faults script.new) }
     ensures unwritten { result ≡ 4 → Rose (O.faults out.old) (O.faults out.new) }
-    // The headline, by what is read of the disks then: each message whose acknowledgement was written is on those of its
-    // session, and the receiver of each session has a front of what was accepted.
-    ensures outlives { IsReplay (map string_bytes words.now.items) → (result ≡ 0) ⊎ ((result ≡ 3) ⊎ ((result ≡ 5) ⊎ ((result ≡ 8) ⊎ (result ≡ 10)))) → S.told.tells → S.Disk.told.tells → EndedWith result (shelved (S.told.disk shelf.old) (S.told.disk shelf.new)) (I.left script.old) (I.left script.new) (O.written out.old) (O.written out.new) (I.faults script.old) (I.faults script.new) (HaveOutlived (S.told.disk shelf.new)) }
-    ensures prefix { IsReplay (map string_bytes words.now.items) → (result ≡ 0) ⊎ ((result ≡ 3) ⊎ ((result ≡ 5) ⊎ ((result ≡ 7) ⊎ ((result ≡ 8) ⊎ (result ≡ 10))))) → S.told.tells → S.Disk.told.tells → EndedWith result (shelved (S.told.disk shelf.old) (S.told.disk shelf.new)) (I.left script.old) (I.left script.new) (O.written out.old) (O.written out.new) (I.faults script.old) (I.faults script.new) (HaveReceived (S.told.disk shelf.new)) }
+    // The headline, by what is read of the disks then, at every status at which a replay writes: each message whose
+    // acknowledgement was written is on those of its session, and the receiver of each session has a front of what was
+    // accepted. At 4 so is each message whose acknowledgement was still to be written.
+    ensures outlives { IsReplay (map string_bytes words.now.items) → (result ≡ 0) ⊎ ((result ≡ 3) ⊎ ((result ≡ 4) ⊎ ((result ≡ 5) ⊎ ((result ≡ 7) ⊎ ((result ≡ 8) ⊎ (result ≡ 10)))))) → S.told.tells → S.Disk.told.tells → EndedWith result (shelved (S.told.disk shelf.old) (S.told.disk shelf.new)) (I.left script.old) (I.left script.new) (O.written out.old) (O.written out.new) (I.faults script.old) (I.faults script.new) (HaveOutlived (S.told.disk shelf.new)) }
+    ensures prefix { IsReplay (map string_bytes words.now.items) → (result ≡ 0) ⊎ ((result ≡ 3) ⊎ ((result ≡ 4) ⊎ ((result ≡ 5) ⊎ ((result ≡ 7) ⊎ ((result ≡ 8) ⊎ (result ≡ 10)))))) → S.told.tells → S.Disk.told.tells → EndedWith result (shelved (S.told.disk shelf.old) (S.told.disk shelf.new)) (I.left script.old) (I.left script.new) (O.written out.old) (O.written out.new) (I.faults script.old) (I.faults script.new) (HaveReceived (S.told.disk shelf.new)) }
     // How a replay ends; at 0, 5 and 10 the bytes of the script have no other status on the disks that were found.
     ensures done { IsReplay (map string_bytes words.now.items) → result ≡ 0 → S.told.tells → S.Disk.told.tells → Wrote (I.left script.old) (O.written out.old) (O.written out.new) (λ r output. IsFinished (shelved (S.told.disk shelf.old) (S.told.disk shelf.new)) r output × HasStatus 0 r output) }
     ensures memory { IsReplay (map string_bytes words.now.items) → result ≡ 1 → Appends (O.written out.old) (O.written out.new) [] }

@@ -1,0 +1,6 @@
+pub mod Comparisons
+pub mod Frames
+pub mod LowGoes
+pub mod LowLooks
+pub mod LowStores
+pub mod RaceItems

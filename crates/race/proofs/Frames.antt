@@ -8,7 +8,7 @@ use Rattle.pump_frame.specs.declared.frame.Kind.TheVariants.{Hello, Welcome, Dat
 use Rattle.pump_core.specs.Exchanges.{is_data}
 use Rattle.pump_core.specs.History.{Arrival}
 use Rattle.low_process.specs.Looks.{IsLawful as CanCome}
-use Rattle.race.specs.LookMade.{HasLawfulFrame, is_reply_kind, IsReplyFrame}
+use Rattle.relay_threads.specs.RecordLines.{HasLawfulFrame, is_reply_kind, IsReplyFrame}
 use Rattle.race.specs.LowHalf.{arrival_in}
 
 number_of : (kind : Kind) (number : ℕ) (payload : List ℕ) → IsForm kind number payload → is_data kind ≡ true → number < 2 ^ 48

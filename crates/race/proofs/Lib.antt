@@ -1,6 +1,11 @@
 pub mod Comparisons
+pub mod Derived
 pub mod Frames
 pub mod LowGoes
 pub mod LowLooks
+pub mod LowRuns
 pub mod LowStores
+pub mod Printing
 pub mod RaceItems
+pub mod RecordTexts
+pub mod Tapes

@@ -31,7 +31,7 @@ use Rattle.low_process.specs.Whole.{LookStep, HasStore}
 use Rattle.relay_threads.specs.Records.{Made, looks_made, life_made, history_made, replies_made, IsMade, AreMade}
 use Rattle.relay_threads.proofs.Machine.{Led, led, reply_led}
 use Rattle.script_reader.specs.Generated.{drawn, generated_row}
-use Rattle.race.specs.LookMade.{tells_fault, is_reply_kind}
+use Rattle.relay_threads.specs.RecordLines.{tells_fault, is_reply_kind}
 use Rattle.race.specs.LookWords.{word_after, word_of_look}
 use Rattle.race.specs.LowHalf.{LowAt, LowRests, IsOffer, goes_on, with_hand, frames_so_far, arrival_in}
 use Rattle.race.specs.MadeLooks.{HaveWords, frames_of, frame_in, pairs_of, pair_in}

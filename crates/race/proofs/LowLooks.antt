@@ -18,7 +18,7 @@ use Rattle.low_process.specs.Looks.{look_of}
 use Rattle.pump_frame.specs.declared.frame.Item.{Item}
 use Rattle.script_reader.specs.Generated.{generated_row}
 use Rattle.race.specs.Messages.{hello_frame, data_frame}
-use Rattle.race.specs.LookMade.{tells_fault, is_reply_kind}
+use Rattle.relay_threads.specs.RecordLines.{tells_fault, is_reply_kind}
 use Rattle.race.specs.LowHalf.{goes_on}
 use Rattle.race.proofs.Comparisons.{is_below, not_below, is_past}
 

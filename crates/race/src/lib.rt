@@ -1,6 +1,9 @@
 //! A race: the two workers of a session side by side, over disks in memory.
 #![tactic(auto)]
 
-mod look_made;
+mod laws;
 pub mod low;
 mod messages;
+pub mod tape;
+
+pub use laws::works_and_ends_decide;

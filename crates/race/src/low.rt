@@ -8,16 +8,16 @@ ghost use Rattle.low_process.specs.Looks.{last_of, next_of, is_idle, arrival_of}
 ghost use Rattle.relay_threads.specs.Records.{Made};
 ghost use Rattle.script_reader.specs.Generated.{generated_row};
 ghost use Rattle.pump_frame.specs.Frames.{IsLawful};
-ghost use Rattle.race.specs.LookMade.{made_by, IsReplyFrame};
+ghost use Rattle.relay_threads.specs.RecordLines.{made_by, IsReplyFrame};
 ghost use Rattle.race.specs.LowHalf.{LowAt, LowRests, IsOffer, arrival_in};
 ghost use Rattle.race.specs.Messages.{messages_in, race_items};
 
-use crate::look_made::LookMade;
 use crate::messages::{hello, next_message, next_word};
 use disk_model::PlainDisk;
 use low_process::{Arrival, LowProcess};
 use passage::WaitLowEnd;
 use pump_frame::{Frame, SessionRow};
+use relay_threads::LookMade;
 use script_reader::{Body, Generator};
 use stable_buffer::LowStore;
 use std::sync::Wait;

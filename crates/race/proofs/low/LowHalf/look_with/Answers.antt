@@ -6,7 +6,7 @@ use Rattle.pump_core.specs.History.{Arrival}
 use Rattle.low_process.specs.Looks.{hand_of, hand_after, look_of, IsLawful as CanCome}
 use Rattle.low_process.specs.Whole.{LookStep}
 use Rattle.disk_model.specs.Plain.{plain_meaning}
-use Rattle.race.specs.LookMade.{tells_fault, is_reply_kind, IsReplyFrame}
+use Rattle.relay_threads.specs.RecordLines.{tells_fault, is_reply_kind, IsReplyFrame}
 use Rattle.race.specs.LowHalf.{arrival_in, LowRests}
 use Rattle.race.specs.declared.low.LowHalf.{LowHalf}
 use Rattle.race.proofs.LowGoes.{carried, Leaves}

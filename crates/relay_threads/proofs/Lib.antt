@@ -1,2 +1,5 @@
+pub mod Alike
 pub mod Kept
 pub mod Machine
+pub mod Replaying
+pub mod Telling

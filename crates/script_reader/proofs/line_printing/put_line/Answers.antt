@@ -1,3 +1,4 @@
+use Rattle.script_reader.specs.Heads.{arriving_with}
 use Rattle.script_reader.proofs.Spellings.{told_joined}
 use Rattle.script_reader.proofs.line_printing.put_line.Goals as goal
 
@@ -12,6 +13,5 @@ returns-in-Told-clause-items c =
       c.put_word-in-Told.ensures.items,
       c.put_pair-in-Told.ensures.items,
       c.from-in-Told.ensures,
-      c.requires,
     )
-    (told_joined told.session told.moment told.word told.fault told.feedback told.arrival)
+    (told_joined c.args.into.now.items told.session told.moment told.word told.fault told.feedback (arriving_with c.args.body.now told.arrival))

@@ -1,5 +1,5 @@
 -- What a record is replayed to. A list of looks has its newest look first.
-use Rattle.std.specs.Prelude.{◌≡◌, ℕ, Bool, true, false, List, [], ◌∷◌, ◌++◌, filter}
+use Rattle.std.specs.Prelude.{◌≡◌, ℕ, Bool, true, false, List, [], ◌∷◌, ◌++◌, filter, IfSome}
 use Rattle.std.specs.List.{AllByRecursion}
 use Rattle.disk_model.specs.declared.name.Role.TheVariants as roles
 use Rattle.pump_frame.specs.declared.row.SessionRow.{SessionRow}
@@ -8,11 +8,13 @@ use Rattle.pump_core.specs.History.{Nothing, Came, Bad, Gone}
 use Rattle.script_reader.specs.EventHeads.{is_reply}
 use Rattle.script_reader.specs.declared.event.Event.{Event}
 use Rattle.script_reader.specs.declared.fault.Fault.TheVariants.{Device}
+use Rattle.script_reader.specs.Grammar.{IsLine}
 use Rattle.script_reader.specs.Lows.{printed_replies}
 use Rattle.script_reader.specs.Openings.{Openings}
+use Rattle.script_reader.specs.Spelling.{line_spelling}
 use Rattle.script_reader.specs.Sessions.{Sessions, no_sessions, ScriptLeadsTo, ScriptStops, IsScriptTranscript}
 use Rattle.relay_threads.specs.Records.{Made, record_of, replies_made}
-use Rattle.relay_threads.specs.RecordLines.{taken_by, tells_fault, line_of, opening_line, looks_script, record_script, HasLawfulFrame}
+use Rattle.relay_threads.specs.RecordLines.{taken_by, tells_fault, line_of, opening_line, looks_script, record_script, HasLawfulFrame, IsReplyFrame}
 
 -- ---- the connections of a life ----
 
@@ -77,3 +79,15 @@ pub record StopsAtLast (opens : Openings) (row : SessionRow) (o : Opening) (made
   pub second : List Event
   pub stops : ScriptStops sessions (line_of row last) after second (Device row.id roles.Low)
   pub low : low_events (first ++ second) ≡ reply_events row made
+
+-- ---- what a reader finds ----
+
+-- the line of this look reads back, and its reply is one that a comment can tell
+pub record IsReadable (row : SessionRow) (m : Made) : Type 0 where
+  pub line : IsLine (line_of row m) (line_spelling (line_of row m))
+  pub reply : IfSome m.reply IsReplyFrame
+
+-- so do all lines of a record
+pub record AreReadable (row : SessionRow) (o : Opening) (made : List Made) : Type 0 where
+  pub opening : IsLine (opening_line row o) (line_spelling (opening_line row o))
+  pub looks : AllByRecursion (IsReadable row) (record_of made)

@@ -1,11 +1,13 @@
-ghost use Rattle.std.specs.Prelude.{◌≡◌, List, true, false};
+ghost use Rattle.std.specs.Prelude.{◌≡◌, [], List, Some, true, false};
 ghost use Rattle.pump_frame.specs.Rows.{IsLawfulRow};
 ghost use Rattle.pump_frame.specs.declared.row.SessionRow.{SessionRow};
 ghost use Rattle.pump_core.specs.History.{Opening};
 ghost use Rattle.pump_core.specs.Exchanges.{Part, IsCut};
 ghost use Rattle.pump_core.specs.Standing.{end_of};
 ghost use Rattle.relay_threads.specs.Records.{Made, AreMade, life_made, replies_made, record_of};
-ghost use Rattle.relay_threads.specs.Replays.{TakeLawful, AreConnected, is_lost, Replays, StopsAtLast};
+ghost use Rattle.relay_threads.specs.Replays.{TakeLawful, AreConnected, is_lost, AreReadable, Replays, StopsAtLast};
+ghost use Rattle.relay_threads.specs.RecordLines.{record_text, record_script};
+ghost use Rattle.script_reader.specs.Lines.{AreLines};
 ghost use Rattle.script_reader.specs.Openings.{Openings};
 
 /// The recorded looks of a life are a life of their own (`life`), each with what it took and replied.
@@ -30,4 +32,11 @@ pub fn records_replay()
         → TakeLawful made → AreConnected made → is_lost (record_of made) ≡ false → Replays opens row o made }
     ensures stopped { (opens : Openings) (row : SessionRow) (o : Opening) (made : List Made) → IsLawfulRow row → AreMade row o made
         → TakeLawful made → AreConnected made → is_lost (record_of made) ≡ true → StopsAtLast opens row o made }
+{}
+
+/// The bytes of a record are its script, each comment a line that is skipped, where each of its lines
+/// reads back, as `append_opening` and `append_look` say of what they put down.
+pub fn records_are_scripts()
+    ensures { (row : SessionRow) (o : Opening) (made : List Made) → AreReadable row o made
+        → AreLines (Some (record_text row o made)) (record_script row o made) (Some []) }
 {}

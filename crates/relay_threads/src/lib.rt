@@ -7,7 +7,7 @@ mod pair;
 mod record;
 
 pub use gate::{Gate, Open};
-pub use law::{records_are_lives, records_replay};
+pub use law::{records_are_lives, records_are_scripts, records_replay};
 pub use pair::{Work, run_pair};
 pub use record::{LookMade, append_look, append_opening, is_recorded};
 

@@ -117,6 +117,19 @@ fn put_outcome<const N: usize>(into: &mut ArrayVec<u8, N>, fault: bool)
     }
 }
 
+/// A space and whether the last message is in the low hand.
+fn put_held<const N: usize>(into: &mut ArrayVec<u8, N>, held: bool)
+    requires { array_vec_len into.old + 2 ≤ N }
+    ensures items { into.new.items ≡ into.old.items ++ 32 ∷ held_field held }
+    ensures len { array_vec_len into.new ≤ array_vec_len into.old + 2 }
+{
+    if held {
+        put(into, b" 1");
+    } else {
+        put(into, b" 0");
+    }
+}
+
 /// A space and what is told of the passage.
 fn put_feedback<const N: usize>(into: &mut ArrayVec<u8, N>, feedback: ToldFeedback)
     requires { array_vec_len into.old + 82 ≤ N }
@@ -165,7 +178,7 @@ fn put_line<const N: usize>(into: &mut ArrayVec<u8, N>, head: &LineHead, body: &
             put(into, b"low-session");
             put_row(into, row);
             put_field(into, *next);
-            put(into, if *held { b" 1" } else { b" 0" });
+            put_held(into, *held);
         }
         LineHead::Look {
             session,

@@ -363,9 +363,9 @@ module _ (opens : Openings) (row : SessionRow) (o : Opening) where
       let is_it : m ≡ mk s before t x.moment x.word x.is_fault x.feedback (subst (λ (n : ℕ). n ≤ x.moment) (sym t.newest) are.0.order) x.arrival = λ i. record { look = x; taken = v.taken i; reply = v.reply i } in
       let up : s.phase ≡ Down → ⊥ = λ down. still s m v.fits v.taken v.reply down counted in
       subst (λ (z : Made). Stepped s before t z) (sym is_it) (
-        stepped s before t x.moment x.word x.is_fault x.feedback (subst (λ (n : ℕ). n ≤ x.moment) (sym t.newest) are.0.order) x.arrival v.fits (gone_taken s x s.phase up)
-        (subst (λ (z : Made). HasLawfulFrame (taken_by z)) is_it lawful)
-        (subst (λ (z : Made). is_broken before ≡ true → has_bytes (taken_by z) ≡ false) is_it free)
+      stepped s before t x.moment x.word x.is_fault x.feedback (subst (λ (n : ℕ). n ≤ x.moment) (sym t.newest) are.0.order) x.arrival v.fits (gone_taken s x s.phase up)
+      (subst (λ (z : Made). HasLawfulFrame (taken_by z)) is_it lawful)
+      (subst (λ (z : Made). is_broken before ≡ true → has_bytes (taken_by z) ≡ false) is_it free)
       )
 
   low_then : (first second : List Event) (m : Made) (before : List Made) → low_events first ≡ reply_events row before → low_events second ≡ printed_replies row.id (sent m.look m.reply) → low_events (first ++ second) ≡ reply_events row (m ∷ before)
@@ -388,7 +388,7 @@ module _ (opens : Openings) (row : SessionRow) (o : Opening) where
         way = true;
         printed = t.printed ++ st.printed;
         leads = leads_then opens no_sessions (opening_line row o ∷ looks_script row before) (line_of row m ∷ comment_lines m.reply) (one_session bare p t.way) (one_session bare q true) t.printed st.printed t.leads
-        (one_session bare q true, st.printed, [], one, comments_lead opens (one_session bare q true) m.reply, sym (append-nil st.printed));
+            (one_session bare q true, st.printed, [], one, comments_lead opens (one_session bare q true) m.reply, sym (append-nil st.printed));
         at = subst (λ (z : State). StandsAt bare z m.look.moment st.history) (sym (moves m before are).state_is) st.at;
         replies = st.replies;
         newest = refl;

@@ -101,7 +101,7 @@ told_line session m w fault f a bytes (short, spelled) =
       | inl skip ↦ let e = skip.0 in absurd (cc)
       | inr (fields, (hs, hm, hex, hw, field, hf, rest, ha, e), e') ↦ (
         rw (e', e) (free_spaced (codes "told" ∷ decimal session ∷ decimal m ∷ hex ∷ outcome_field fault ∷ field ∷ rest)
-        (free_text (codes "told") refl, (free_decimal session (omega (arith, hs)), (free_decimal m (omega (arith, hm)), (free_word w hex hw, (free_outcome fault, (free_feedback f field hf, free_arriving a rest ha))))))),
+            (free_text (codes "told") refl, (free_decimal session (omega (arith, hs)), (free_decimal m (omega (arith, hm)), (free_word w hex hw, (free_outcome fault, (free_feedback f field hf, free_arriving a rest ha))))))),
         hs,
         hm,
       )
@@ -123,22 +123,22 @@ opening_free row next held bytes (short, spelled) =
     elim spelled [
       | inl skip ↦ let e = skip.0 in absurd (cc)
       | inr (fields, (r, n, e), e') ↦
-        let most = n.most in
-        rw (e', e) (free_spaced _ (
-          free_text (codes "low-session") refl,
-          free_decimal row.id (let h = r.id in omega (arith, h)),
-          free_decimal row.capacity (let h = r.capacity in omega (arith, h)),
-          free_decimal row.message (let h = r.message in omega (arith, h)),
-          free_decimal row.window (let h = r.window in omega (arith, h)),
-          free_decimal row.start (let h = r.start in omega (arith, h)),
-          free_decimal row.longest (let h = r.longest in omega (arith, h)),
-          free_decimal row.resend (let h = r.resend in omega (arith, h)),
-          free_name row.low r.low,
-          free_name row.high r.high,
-          free_decimal next (omega (arith, most)),
-          free_held held,
-          tt,
-        ))
+          let most = n.most in
+          rw (e', e) (free_spaced _ (
+            free_text (codes "low-session") refl,
+            free_decimal row.id (let h = r.id in omega (arith, h)),
+            free_decimal row.capacity (let h = r.capacity in omega (arith, h)),
+            free_decimal row.message (let h = r.message in omega (arith, h)),
+            free_decimal row.window (let h = r.window in omega (arith, h)),
+            free_decimal row.start (let h = r.start in omega (arith, h)),
+            free_decimal row.longest (let h = r.longest in omega (arith, h)),
+            free_decimal row.resend (let h = r.resend in omega (arith, h)),
+            free_name row.low r.low,
+            free_name row.high r.high,
+            free_decimal next (omega (arith, most)),
+            free_held held,
+            tt,
+          ))
     ]
 
 look_line : (row : SessionRow) (m : Made) (bytes : List ℕ) → IsLine (line_of row m) bytes → IsUnended bytes × (row.id < 2 ^ 32) × (m.look.moment ≤ 2 ^ 62)
@@ -245,8 +245,7 @@ module _ (row : SessionRow) where
 
   pub record_reads : (o : Opening) (made : List Made) → AreReadable row o made → AreLines (Some (record_text row o made)) (record_script row o made) (Some [])
   record_reads o made readable =
-      let looks : List ℕ = looks_text row (record_of made) in
-      (
+      let looks : List ℕ = looks_text row (record_of made) in (
         line_spelling (opening_line row o),
         Some looks,
         opening_free _ o.count o.is_held (line_spelling (opening_line row o)) readable.opening,

@@ -4,7 +4,7 @@ ghost use Rattle.pump_frame.specs.Frames.{IsLawful};
 ghost use Rattle.pump_core.specs.ReplyFrames.{code_of, frame_of};
 ghost use Rattle.low_process.specs.Looks.{arrival_of};
 ghost use Rattle.script_reader.specs.Grammar.{IsLine};
-ghost use Rattle.script_reader.specs.Heads.{arriving_with, CanHold};
+ghost use Rattle.script_reader.specs.Heads.{arriving_with, line_with, CanHold, CanHoldLine};
 ghost use Rattle.script_reader.specs.Lawful.{IsLawfulLine};
 ghost use Rattle.script_reader.specs.Spelling.{line_spelling, line_text};
 ghost use Rattle.script_reader.specs.Transcript.{reply_fields};
@@ -92,6 +92,8 @@ fn taken_into(made: &LookMade, body: &mut ArrayVec<u8, 1042>) -> ArrivingHead
     match made.arrival {
         Arrival::Frame(frame) => {
             encode(frame, body);
+            // A frame has at most 1042 bytes.
+            let _length = body.len();
             ArrivingHead::Raw
         }
         Arrival::Bad => {
@@ -99,6 +101,28 @@ fn taken_into(made: &LookMade, body: &mut ArrayVec<u8, 1042>) -> ArrivingHead
             ArrivingHead::Raw
         }
         Arrival::Nothing | Arrival::Gone => ArrivingHead::Nothing,
+    }
+}
+
+// The line of a look without its bytes, which are in the body.
+fn head_of(row: &SessionRow, made: &LookMade, body: &mut ArrayVec<u8, 1042>) -> LineHead
+    requires { HasLawfulFrame (arrival_of made.now.arrival) }
+    ensures value { line_with body.new.items result ≡ line_of row.now (made_by made.now) }
+    ensures room { CanHoldLine result body.new.items }
+{
+    if matches!(made.arrival, Arrival::Gone) {
+        return LineHead::Gone {
+            session: row.id,
+            moment: made.moment,
+        };
+    }
+    LineHead::Told {
+        session: row.id,
+        moment: made.moment,
+        word: made.word,
+        fault: tells_fault(&made.look.reply),
+        feedback: told(row, &made.look.feedback),
+        arrival: taken_into(made, body),
     }
 }
 
@@ -111,20 +135,7 @@ fn append_line_of<const N: usize>(row: &SessionRow, made: &LookMade, into: &mut 
     ensures reads { IsLawfulLine (line_of row.now (made_by made.now)) → IsLine (line_of row.now (made_by made.now)) (line_spelling (line_of row.now (made_by made.now))) }
 {
     let mut body = ArrayVec::new();
-    let head = match made.arrival {
-        Arrival::Gone => LineHead::Gone {
-            session: row.id,
-            moment: made.moment,
-        },
-        _ => LineHead::Told {
-            session: row.id,
-            moment: made.moment,
-            word: made.word,
-            fault: tells_fault(&made.look.reply),
-            feedback: told(row, &made.look.feedback),
-            arrival: taken_into(made, &mut body),
-        },
-    };
+    let head = head_of(row, made, &mut body);
     append_line(&head, body.as_slice(), into);
 }
 

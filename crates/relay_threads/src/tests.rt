@@ -334,26 +334,74 @@ fn looks_are_told(rt: HostRuntime) -> Result<(), Fail> {
         why: Refusal::Device,
         number: 0,
     });
-    let greets = made(0, Arrival::Frame(&hello), done(true, welcome, Feedback::Quiet));
-    assert!(rt; is_told(&row, &greets, b"told 1 0 3c6ef35f fine - raw 4e500101000000010000000000000000000d776561746865723a7761746368\n# low 1 0 welcome 0\n"));
+    let greets = made(
+        0,
+        Arrival::Frame(&hello),
+        done(true, welcome, Feedback::Quiet),
+    );
+    assert!(rt;
+        is_told(
+            &row,
+            &greets,
+            b"told 1 0 3c6ef35f fine - raw 4e500101000000010000000000000000000d776561746865723a7761746368\n# low 1 0 welcome 0\n"
+        )
+    );
     let stores = made(1, Arrival::Frame(&data), done(true, None, Feedback::Quiet));
-    assert!(rt; is_told(&row, &stores, b"told 1 1 3c6ef35f fine - raw 4e500103000000010000000000000000000161\n"));
+    assert!(rt;
+        is_told(
+            &row,
+            &stores,
+            b"told 1 1 3c6ef35f fine - raw 4e500103000000010000000000000000000161\n"
+        )
+    );
     let full = made(2, Arrival::Frame(&data), done(false, None, Feedback::Full));
     assert!(rt; is_told(&row, &full, b"told 1 2 3c6ef35f fine full\n"));
-    let passes = made(3, Arrival::Nothing, done(false, None, Feedback::Passed(seen)));
+    let passes = made(
+        3,
+        Arrival::Nothing,
+        done(false, None, Feedback::Passed(seen)),
+    );
     assert!(rt; is_told(&row, &passes, b"told 1 3 3c6ef35f fine 2/375\n"));
     let acknowledges = made(4, Arrival::Nothing, done(false, ack, Feedback::Quiet));
-    assert!(rt; is_told(&row, &acknowledges, b"told 1 4 3c6ef35f fine -\n# low 1 4 ack 0\n"));
-    let again = made(5, Arrival::Frame(&data), done(true, None, Feedback::Repeat(seen)));
-    assert!(rt; is_told(&row, &again, b"told 1 5 3c6ef35f fine 2/375 raw 4e500103000000010000000000000000000161\n"));
+    assert!(rt;
+        is_told(
+            &row,
+            &acknowledges,
+            b"told 1 4 3c6ef35f fine -\n# low 1 4 ack 0\n"
+        )
+    );
+    let again = made(
+        5,
+        Arrival::Frame(&data),
+        done(true, None, Feedback::Repeat(seen)),
+    );
+    assert!(rt;
+        is_told(
+            &row,
+            &again,
+            b"told 1 5 3c6ef35f fine 2/375 raw 4e500103000000010000000000000000000161\n"
+        )
+    );
     let broken = made(6, Arrival::Bad, done(true, bad, Feedback::Quiet));
-    assert!(rt; is_told(&row, &broken, b"told 1 6 3c6ef35f fine - raw 00\n# low 1 6 refuse 2 0\n"));
+    assert!(rt;
+        is_told(
+            &row,
+            &broken,
+            b"told 1 6 3c6ef35f fine - raw 00\n# low 1 6 refuse 2 0\n"
+        )
+    );
     let gone = made(7, Arrival::Gone, done(true, None, Feedback::Quiet));
     assert!(rt; is_told(&row, &gone, b"gone 1 7\n"));
     let releases = made(8, Arrival::Nothing, done(false, None, Feedback::Released));
     assert!(rt; is_told(&row, &releases, b"told 1 8 3c6ef35f fine 0/20000\n"));
     let fails = made(9, Arrival::Frame(&data), done(true, lost, Feedback::Quiet));
-    assert!(rt; is_told(&row, &fails, b"told 1 9 3c6ef35f fault - raw 4e500103000000010000000000000000000161\n# low 1 9 refuse 5 0\n"));
+    assert!(rt;
+        is_told(
+            &row,
+            &fails,
+            b"told 1 9 3c6ef35f fault - raw 4e500103000000010000000000000000000161\n# low 1 9 refuse 5 0\n"
+        )
+    );
     Ok(())
 }
 
@@ -379,7 +427,11 @@ fn a_quiet_look_is_not_recorded(rt: HostRuntime) {
     let quiet = made(0, Arrival::Nothing, done(false, None, Feedback::Quiet));
     let full = made(0, Arrival::Nothing, done(false, None, Feedback::Full));
     assert_eq!(rt;
-        (is_recorded(&quiet, false), is_recorded(&full, false), is_recorded(&full, true)),
+        (
+            is_recorded(&quiet, false),
+            is_recorded(&full, false),
+            is_recorded(&full, true)
+        ),
         (false, true, false)
     );
 }

@@ -27,7 +27,7 @@ pub use laws::{
     transcripts_are_bounded, transcripts_are_one, transcripts_are_sound,
 };
 pub use line::{Arriving, Line, ToldFeedback};
-pub use line_printing::print_line;
+pub use line_printing::{append_line, print_line};
 pub use lines::{Lined, Lines};
 pub use printing::{append_fault, append_head, print_event, print_fault, print_head};
 pub use reading::{read_head, read_line};

@@ -1,0 +1,4 @@
+pub mod HighLooks
+pub mod HighNumbers
+pub mod NewDisks
+pub mod Receiving

@@ -1,0 +1,3 @@
+pub mod HighHalf
+pub mod HighWorks
+pub mod Turns

@@ -1,5 +1,8 @@
+pub mod HighHalf
+pub mod HighWorks
 pub mod LookWords
 pub mod LowHalf
+pub mod LowWorks
 pub mod MadeLooks
 pub mod Messages
 pub mod Race

@@ -1,24 +1,12 @@
 // What the low party of a race sends: the messages of a generated script.
-ghost use Rattle.std.specs.Prelude.{◌≡◌, ℕ, [], ◌∷◌, MatchOption, IfSome};
+ghost use Rattle.std.specs.Prelude.{◌≡◌, [], ◌∷◌, MatchOption, IfSome};
 ghost use Rattle.pump_frame.specs.Frames.{IsLawful};
 ghost use Rattle.pump_frame.specs.declared.frame.Item.{Item};
-ghost use Rattle.script_reader.specs.Generated.{drawn, generated, generated_row};
+ghost use Rattle.script_reader.specs.Generated.{drawn, generated_row};
 ghost use Rattle.race.specs.Messages.{messages_in, hello_frame, data_frame};
 
 use pump_frame::{Frame, Kind, Payload, SessionRow};
-use script_reader::{ArrivingHead, Body, Generator, Line, LineHead};
-
-/// The row of the session that a generator's first line begins.
-pub fn first_row(script: &mut Generator) -> SessionRow
-    requires { (seed : ℕ) × (count : ℕ) × (script.old ≡ generated seed count) }
-    ensures row { result ≡ generated_row }
-    ensures rest { messages_in script.new ≡ messages_in script.old }
-{
-    match script.next_line() {
-        Some(Line::Session(row)) => row,
-        _ => unreachable!(),
-    }
-}
+use script_reader::{ArrivingHead, Body, Generator, LineHead};
 
 /// The HELLO of the session.
 pub fn hello(row: &SessionRow) -> Frame

@@ -11,6 +11,7 @@ use arrayvec::ArrayVec;
 use itoa::Buffer;
 use pump_frame::SessionRow;
 use pump_link::{Sink, write_all};
+use relay_threads::{LookMade, append_look, append_opening, is_recorded};
 
 /// Enough for a look's line and the comment behind it.
 const LINES_ROOM: usize = 2700;
@@ -120,6 +121,33 @@ impl Tape {
         if self.held.remaining_capacity() < LINES_ROOM {
             self.flush(out);
         }
+    }
+
+    /// Prints the line that the record of a new session begins with.
+    pub fn open<O: Sink>(&mut self, out: &mut O)
+        requires { row_in self.old ≡ generated_row }
+        ensures prints { Prints self.old self.new (O.written out.old) (O.written out.new) (O.faults out.old) (O.faults out.new) opening_text }
+        ensures row { row_in self.new ≡ row_in self.old }
+    {
+        self.make_room(out);
+        append_opening(&self.row, 0, false, &mut self.held);
+    }
+
+    /// Prints the lines of a look, if it is one that a record has. The look before it found the
+    /// passage full or not.
+    pub fn look<O: Sink>(&mut self, out: &mut O, made: &LookMade, was_full: bool)
+        requires row { row_in self.old ≡ generated_row }
+        requires lawful { HasLawfulFrame (arrival_of made.now.arrival) }
+        requires reply { IfSome made.now.look.reply IsReplyFrame }
+        ensures prints { (before : List Made) → was_full ≡ full_before before
+            → Prints self.old self.new (O.written out.old) (O.written out.new) (O.faults out.old) (O.faults out.new) (look_lines before (made_by made.now)) }
+        ensures row { row_in self.new ≡ row_in self.old }
+    {
+        if !is_recorded(made, was_full) {
+            return;
+        }
+        self.make_room(out);
+        append_look(&self.row, made, &mut self.held);
     }
 
     /// Prints a comment of a word and a number.

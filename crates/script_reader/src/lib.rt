@@ -19,7 +19,7 @@ mod reading;
 pub use body::Body;
 pub use event::{Event, EventHead};
 pub use fault::Fault;
-pub use generator::{Generator, generated_lines_apply};
+pub use generator::{Generator, generated_lines_apply, generated_row};
 pub use head::{ArrivingHead, LineHead, LinedHead};
 pub use laws::{
     faulty_scripts_have_no_transcript, full_moments_and_averages_decide, low_lines_are_a_function,

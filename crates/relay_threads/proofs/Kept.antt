@@ -128,7 +128,7 @@ silent : (x : Look) (rs : List Sent) (r : Option Frame) → is_some r ≡ false 
 silent x rs None e = append-nil rs
 silent x rs (Some f) e = absurd (cc)
 
-recorded_at : (m : Made) (before : List Made) (b : Bool) → is_recorded before m ≡ b → record_of (m ∷ before) ≡ made_of (if b then record { number = length before; made = m } ∷ recorded before else recorded before)
+pub recorded_at : (m : Made) (before : List Made) (b : Bool) → is_recorded before m ≡ b → record_of (m ∷ before) ≡ made_of (if b then record { number = length before; made = m } ∷ recorded before else recorded before)
 recorded_at m before b e = ap (λ (b : Bool). made_of (if b then record { number = length before; made = m } ∷ recorded before else recorded before)) e
 
 same_at : (m : Made) (before : List Made) (b : Bool) → is_recorded before m ≡ b → replies_made (record_of before) ≡ replies_made before → replies_made (record_of (m ∷ before)) ≡ replies_made before ++ sent m.look m.reply

@@ -1,2 +1,6 @@
+pub mod Alike
 pub mod Kept
 pub mod Machine
+pub mod Replaying
+pub mod Scripting
+pub mod Telling

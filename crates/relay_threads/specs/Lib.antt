@@ -1,1 +1,3 @@
+pub mod RecordLines
 pub mod Records
+pub mod Replays

@@ -1,9 +1,14 @@
-ghost use Rattle.std.specs.Prelude.{◌≡◌, List};
+ghost use Rattle.std.specs.Prelude.{◌≡◌, [], List, Some, true, false};
+ghost use Rattle.pump_frame.specs.Rows.{IsLawfulRow};
 ghost use Rattle.pump_frame.specs.declared.row.SessionRow.{SessionRow};
 ghost use Rattle.pump_core.specs.History.{Opening};
 ghost use Rattle.pump_core.specs.Exchanges.{Part, IsCut};
 ghost use Rattle.pump_core.specs.Standing.{end_of};
 ghost use Rattle.relay_threads.specs.Records.{Made, AreMade, life_made, replies_made, record_of};
+ghost use Rattle.relay_threads.specs.Replays.{TakeLawful, AreConnected, is_lost, AreReadable, Replays, StopsAtLast};
+ghost use Rattle.relay_threads.specs.RecordLines.{record_text, record_script};
+ghost use Rattle.script_reader.specs.Lines.{AreLines};
+ghost use Rattle.script_reader.specs.Openings.{Openings};
 
 /// The recorded looks of a life are a life of their own (`life`), each with what it took and replied.
 /// They have all the replies, at their moments (`replies`), and end where the life ends: with as many
@@ -14,4 +19,24 @@ pub fn records_are_lives()
     ensures end { (row : SessionRow) (o : Opening) (made : List Made) (parts fewer : List Part) → AreMade row o made
         → IsCut row (life_made o made) parts → IsCut row (life_made o (record_of made)) fewer
         → end_of row o fewer ≡ end_of row o parts }
+{}
+
+/// A record replays to its own `low` lines, byte for byte: its script has a transcript, whose `low` lines
+/// are all replies of the life, each with its moment, which are the comments of the record (`whole`).
+/// Where the last recorded look lost its message, that look stops the script, as a device that failed,
+/// and the `low` lines up to and with it are all replies (`stopped`). The looks may have been made at any
+/// row; frames that were taken are lawful, and after bad bytes nothing more was taken of a connection but
+/// its loss, as a reader of frames gives it.
+pub fn records_replay()
+    ensures whole { (opens : Openings) (row : SessionRow) (o : Opening) (made : List Made) → IsLawfulRow row → AreMade row o made
+        → TakeLawful made → AreConnected made → is_lost (record_of made) ≡ false → Replays opens row o made }
+    ensures stopped { (opens : Openings) (row : SessionRow) (o : Opening) (made : List Made) → IsLawfulRow row → AreMade row o made
+        → TakeLawful made → AreConnected made → is_lost (record_of made) ≡ true → StopsAtLast opens row o made }
+{}
+
+/// The bytes of a record are its script, each comment a line that is skipped, where each of its lines
+/// reads back, as `append_opening` and `append_look` say of what they put down.
+pub fn records_are_scripts()
+    ensures { (row : SessionRow) (o : Opening) (made : List Made) → AreReadable row o made
+        → AreLines (Some (record_text row o made)) (record_script row o made) (Some []) }
 {}

@@ -1,13 +1,15 @@
-//! The two workers of a session, side by side in two threads.
+//! The two workers of a session, side by side in two threads, and the record of what the low one did.
 #![tactic(auto)]
 
 mod gate;
 mod law;
 mod pair;
+mod record;
 
 pub use gate::{Gate, Open};
-pub use law::records_are_lives;
+pub use law::{records_are_lives, records_are_scripts, records_replay};
 pub use pair::{Work, run_pair};
+pub use record::{LookMade, append_look, append_opening, is_recorded};
 
 #[cfg(test)]
 mod tests;

@@ -1,10 +1,15 @@
-ghost use Rattle.std.specs.Prelude.{◌≡◌, ◌+◌, ◌<◌, IfSome};
+ghost use Rattle.std.specs.Prelude.{◌≡◌, ◌+◌, ◌<◌, true, IfSome};
 ghost use Rattle.pump_frame.specs.Rows.{IsLawfulRow};
 ghost use Rattle.passage.specs.Ready.{LowReady, HighReady};
+ghost use Rattle.low_process.specs.Looks.{arrival_of};
+ghost use Rattle.relay_threads.specs.RecordLines.{HasLawfulFrame, IsReplyFrame};
 
-use crate::{Gate, Open, Work, run_pair};
+use crate::{Gate, LookMade, Open, Work, append_look, append_opening, is_recorded, run_pair};
+use arrayvec::ArrayVec;
+use low_process::{Arrival, LowLook};
 use passage::{Forwarded, Joined, Next, QueuePassage, WaitHighEnd, WaitLowEnd};
-use pump_frame::{Item, Name, Payload, SessionRow};
+use pump_core::{Feedback, Refusal, Reply, Seen};
+use pump_frame::{Frame, Item, Kind, Name, Payload, SessionRow};
 use std::sync::Wait;
 use std::sync::atomic::{AtomicBool, Ordering};
 use std::test::Fail;
@@ -243,5 +248,190 @@ fn a_gate_counts_its_stops(rt: HostRuntime) {
     assert_eq!(rt;
         (few.pass(&rt, 0, 0), few.pass(&rt, 1, 0), few.stops()),
         (true, false, 1)
+    );
+}
+
+fn hello(row: &SessionRow) -> Frame {
+    Frame::hello(row.id, &row.low, &row.high)
+}
+
+// Message 0, `a`.
+fn data() -> Option<Frame> {
+    Some(Frame {
+        kind: Kind::Data,
+        session: 1,
+        number: 0,
+        payload: Payload::from_slice(b"a")?,
+    })
+}
+
+// What a look did that took this arrival or not, with its reply in session 1.
+fn done(taken: bool, reply: Option<Reply>, feedback: Feedback) -> LowLook {
+    LowLook {
+        taken,
+        stored: None,
+        reply: reply.map(|reply: Reply| reply.frame(1)),
+        feedback,
+    }
+}
+
+fn made(moment: u64, arrival: Arrival<'_>, look: LowLook) -> LookMade<'_> {
+    LookMade {
+        moment,
+        word: 0x3c6ef35f,
+        arrival,
+        look,
+    }
+}
+
+fn may_come(arrival: Arrival<'_>) -> bool
+    ensures { result ≡ true → HasLawfulFrame (arrival_of arrival) }
+{
+    match arrival {
+        Arrival::Frame(frame) => frame.is_lawful(),
+        _ => true,
+    }
+}
+
+fn may_reply(reply: &Option<Frame>) -> bool
+    ensures { result ≡ true → IfSome reply.now IsReplyFrame }
+{
+    match reply {
+        Some(frame) => {
+            frame.is_lawful() && matches!(frame.kind, Kind::Welcome | Kind::Ack | Kind::Refuse)
+        }
+        None => true,
+    }
+}
+
+// Whether the look is recorded by this text.
+fn is_told(row: &SessionRow, look: &LookMade, text: &[u8]) -> bool {
+    if !may_come(look.arrival) || !may_reply(&look.look.reply) {
+        return false;
+    }
+    let mut into: ArrayVec<u8, 2700> = ArrayVec::new();
+    append_look(row, look, &mut into);
+    into.as_slice() == text
+}
+
+#[test]
+fn looks_are_told(rt: HostRuntime) -> Result<(), Fail> {
+    let (Some(row), Some(data)) = (row(), data()) else {
+        return Err(Fail::new("no row"));
+    };
+    let hello = hello(&row);
+    let seen = Seen {
+        count: 2,
+        average: 375,
+    };
+    let welcome = Some(Reply::Welcome { number: 0 });
+    let ack = Some(Reply::Ack { number: 0 });
+    let bad = Some(Reply::Refuse {
+        why: Refusal::Frame,
+        number: 0,
+    });
+    let lost = Some(Reply::Refuse {
+        why: Refusal::Device,
+        number: 0,
+    });
+    let greets = made(
+        0,
+        Arrival::Frame(&hello),
+        done(true, welcome, Feedback::Quiet),
+    );
+    assert!(rt;
+        is_told(
+            &row,
+            &greets,
+            b"told 1 0 3c6ef35f fine - raw 4e500101000000010000000000000000000d776561746865723a7761746368\n# low 1 0 welcome 0\n"
+        )
+    );
+    let stores = made(1, Arrival::Frame(&data), done(true, None, Feedback::Quiet));
+    assert!(rt;
+        is_told(
+            &row,
+            &stores,
+            b"told 1 1 3c6ef35f fine - raw 4e500103000000010000000000000000000161\n"
+        )
+    );
+    let full = made(2, Arrival::Frame(&data), done(false, None, Feedback::Full));
+    assert!(rt; is_told(&row, &full, b"told 1 2 3c6ef35f fine full\n"));
+    let passes = made(
+        3,
+        Arrival::Nothing,
+        done(false, None, Feedback::Passed(seen)),
+    );
+    assert!(rt; is_told(&row, &passes, b"told 1 3 3c6ef35f fine 2/375\n"));
+    let acknowledges = made(4, Arrival::Nothing, done(false, ack, Feedback::Quiet));
+    assert!(rt;
+        is_told(
+            &row,
+            &acknowledges,
+            b"told 1 4 3c6ef35f fine -\n# low 1 4 ack 0\n"
+        )
+    );
+    let again = made(
+        5,
+        Arrival::Frame(&data),
+        done(true, None, Feedback::Repeat(seen)),
+    );
+    assert!(rt;
+        is_told(
+            &row,
+            &again,
+            b"told 1 5 3c6ef35f fine 2/375 raw 4e500103000000010000000000000000000161\n"
+        )
+    );
+    let broken = made(6, Arrival::Bad, done(true, bad, Feedback::Quiet));
+    assert!(rt;
+        is_told(
+            &row,
+            &broken,
+            b"told 1 6 3c6ef35f fine - raw 00\n# low 1 6 refuse 2 0\n"
+        )
+    );
+    let gone = made(7, Arrival::Gone, done(true, None, Feedback::Quiet));
+    assert!(rt; is_told(&row, &gone, b"gone 1 7\n"));
+    let releases = made(8, Arrival::Nothing, done(false, None, Feedback::Released));
+    assert!(rt; is_told(&row, &releases, b"told 1 8 3c6ef35f fine 0/20000\n"));
+    let fails = made(9, Arrival::Frame(&data), done(true, lost, Feedback::Quiet));
+    assert!(rt;
+        is_told(
+            &row,
+            &fails,
+            b"told 1 9 3c6ef35f fault - raw 4e500103000000010000000000000000000161\n# low 1 9 refuse 5 0\n"
+        )
+    );
+    Ok(())
+}
+
+#[test]
+fn a_record_begins_with_what_was_found(rt: HostRuntime) -> Result<(), Fail> {
+    let Some(row) = row() else {
+        return Err(Fail::new("no row"));
+    };
+    let row = SessionRow {
+        low_port: 7001,
+        high_port: 7002,
+        ..row
+    };
+    let mut into: ArrayVec<u8, 2700> = ArrayVec::new();
+    append_opening(&row, 3, true, &mut into);
+    let text = b"low-session 1 4 8 2 20000 100000 500000 weather watch 3 1\n";
+    assert_eq!(rt; into.as_slice(), text.as_slice());
+    Ok(())
+}
+
+#[test]
+fn a_quiet_look_is_not_recorded(rt: HostRuntime) {
+    let quiet = made(0, Arrival::Nothing, done(false, None, Feedback::Quiet));
+    let full = made(0, Arrival::Nothing, done(false, None, Feedback::Full));
+    assert_eq!(rt;
+        (
+            is_recorded(&quiet, false),
+            is_recorded(&full, false),
+            is_recorded(&full, true)
+        ),
+        (false, true, false)
     );
 }

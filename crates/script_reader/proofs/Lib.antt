@@ -10,6 +10,7 @@ pub mod FieldLaws
 pub mod FreeFields
 pub mod Generating
 pub mod Heads
+pub mod Hearing
 pub mod Leading
 pub mod LineEnds
 pub mod LineLaws

@@ -1,6 +1,7 @@
 -- What is printed of a lawful line is this line of the grammar.
-use Rattle.std.proofs.Common.{◌≡◌, ℕ, ◌^◌, ◌<◌, ◌≤◌, zero, suc, inl, inr, Bool, List, [], ◌∷◌, ◌++◌, length, slice_index, codes, decimal, refl, sym, ap, append_assoc, arith}
-use Rattle.std.proofs.lemmas.List.{append-nil}
+use Rattle.std.proofs.Common.{◌≡◌, ℕ, ◌+◌, ◌^◌, ◌<◌, ◌≤◌, zero, suc, inl, inr, Bool, List, [], ◌∷◌, ◌++◌, length, slice_index, codes, decimal, refl, sym, ap, ◌∙◌, append_assoc, arith}
+use Rattle.std.proofs.lemmas.Grind.{flat_map-append}
+use Rattle.std.proofs.lemmas.List.{append-nil, length-append}
 use Rattle.std.specs.Int.{to_be_bytes, w32}
 use Rattle.hex.specs.Hex.{encode_lower}
 use Rattle.hex.proofs.HexLemmas.{decode_of-encode_lower}
@@ -31,8 +32,8 @@ pub printed_word : (n : ℕ) → n < 2 ^ 32 → IsWord n (word_field n)
 printed_word n fits = (fits, decode_of-encode_lower (to_be_bytes w32 n) (word_bytes n))
 
 -- fewer than 2,400 bytes before the line end
-pub short_line : (old bytes : List ℕ) → old ≡ bytes → length old < 2400 → length bytes ≤ 2400
-short_line old bytes e below = omega (arith, ap length e)
+pub short_line : (old bytes all : List ℕ) → all ≡ old ++ bytes → length all < length old + 2400 → length bytes ≤ 2400
+short_line old bytes all e below = omega (arith, ap length e ∙ length-append old bytes)
 
 printed_row : (row : SessionRow) → row.low_port ≡ 0 → row.high_port ≡ 0 → IsTypedRow row → IsRow row
 printed_row row low high t = record {
@@ -102,13 +103,22 @@ pub nine_joined : (o a b c d e f g h i : List ℕ)
     → ((((((((o ++ a) ++ b) ++ c) ++ d) ++ e) ++ f) ++ g) ++ h) ++ i ≡ o ++ (a ++ (b ++ (c ++ (d ++ (e ++ (f ++ (g ++ (h ++ (i ++ [])))))))))
 nine_joined o a b c d e f g h i = simp (append_assoc, append-nil)
 
-told_pieces : (word session moment w outcome told arrival : List ℕ)
-    → ((((word ++ (session ++ (moment ++ []))) ++ w) ++ outcome) ++ told) ++ arrival ≡ word ++ (session ++ (moment ++ (w ++ (outcome ++ (told ++ arrival)))))
-told_pieces word session moment w outcome told arrival = simp (append_assoc, append-nil)
+told_pieces : (old word session moment w outcome told arrival : List ℕ)
+    → (((((old ++ word) ++ (session ++ (moment ++ []))) ++ w) ++ outcome) ++ told) ++ arrival ≡ old ++ (word ++ (session ++ (moment ++ (w ++ (outcome ++ (told ++ arrival))))))
+told_pieces old word session moment w outcome told arrival = simp (append_assoc, append-nil)
 
-pub told_joined : (session moment w : ℕ) (fault : Bool) (told : ToldFeedback) (arrival : Arriving)
-    → ((((codes "told" ++ behind (decimal session ∷ decimal moment ∷ [])) ++ 32 ∷ word_field w) ++ 32 ∷ outcome_field fault) ++ 32 ∷ feedback_field told) ++ behind (arriving_fields arrival)
-    ≡ line_spelling (Told session moment w fault told arrival)
-told_joined session moment w fault told arrival =
+pub told_joined : (old : List ℕ) (session moment w : ℕ) (fault : Bool) (told : ToldFeedback) (arrival : Arriving)
+    → (((((old ++ codes "told") ++ behind (decimal session ∷ decimal moment ∷ [])) ++ 32 ∷ word_field w) ++ 32 ∷ outcome_field fault) ++ 32 ∷ feedback_field told) ++ behind (arriving_fields arrival)
+    ≡ old ++ line_spelling (Told session moment w fault told arrival)
+told_joined old session moment w fault told arrival =
     rw (spaced_behind (feedback_field told) (arriving_fields arrival))
-    (told_pieces (codes "told") (32 ∷ decimal session) (32 ∷ decimal moment) (32 ∷ word_field w) (32 ∷ outcome_field fault) (32 ∷ feedback_field told) (behind (arriving_fields arrival)))
+    (told_pieces old (codes "told") (32 ∷ decimal session) (32 ∷ decimal moment) (32 ∷ word_field w) (32 ∷ outcome_field fault) (32 ∷ feedback_field told) (behind (arriving_fields arrival)))
+
+-- a word and fields, and two fields more
+pub two_more : (old word : List ℕ) (fields : List (List ℕ)) (a b : List ℕ) → (((old ++ word) ++ behind fields) ++ 32 ∷ a) ++ 32 ∷ b ≡ old ++ spaced (word ∷ (fields ++ a ∷ b ∷ []))
+two_more old word fields a b =
+    append_assoc ((old ++ word) ++ behind fields) (32 ∷ a) (32 ∷ b)
+    ∙ append_assoc (old ++ word) (behind fields) ((32 ∷ a) ++ (32 ∷ b))
+    ∙ append_assoc old word (behind fields ++ ((32 ∷ a) ++ (32 ∷ b)))
+    ∙ ap (λ z. old ++ (word ++ z)) (ap (λ z. behind fields ++ ((32 ∷ a) ++ z)) (sym (append-nil (32 ∷ b))) ∙ sym (flat_map-append (λ field. 32 ∷ field) fields (a ∷ b ∷ [])))
+    ∙ ap (λ z. old ++ z) (sym (spaced_behind word (fields ++ a ∷ b ∷ [])))

@@ -88,7 +88,8 @@ fn is_seventh(message: u32) -> bool
     message % 7 == 6
 }
 
-fn generated_row() -> SessionRow
+/// The row of a generated session.
+pub fn generated_row() -> SessionRow
     ensures { result ≡ generated_row }
 {
     SessionRow {

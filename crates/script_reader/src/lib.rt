@@ -19,7 +19,7 @@ mod reading;
 pub use body::Body;
 pub use event::{Event, EventHead};
 pub use fault::Fault;
-pub use generator::{Generator, generated_lines_apply};
+pub use generator::{Generator, generated_lines_apply, generated_row};
 pub use head::{ArrivingHead, LineHead, LinedHead};
 pub use laws::{
     faulty_scripts_have_no_transcript, full_moments_and_averages_decide, low_lines_are_a_function,
@@ -27,7 +27,7 @@ pub use laws::{
     transcripts_are_bounded, transcripts_are_one, transcripts_are_sound,
 };
 pub use line::{Arriving, Line, ToldFeedback};
-pub use line_printing::print_line;
+pub use line_printing::{append_line, print_line};
 pub use lines::{Lined, Lines};
 pub use printing::{append_fault, append_head, print_event, print_fault, print_head};
 pub use reading::{read_head, read_line};

@@ -3,21 +3,22 @@ ghost use Rattle.arrayvec.specs.ArrayVec.{array_vec_len};
 ghost use Rattle.pump_frame.specs.Names.{IsName};
 ghost use Rattle.script_reader.specs.Grammar.{IsWord, IsLine, row_fields, outcome_field, held_field};
 ghost use Rattle.script_reader.specs.Lawful.{IsLawfulLine};
+ghost use Rattle.script_reader.specs.Heads.{arriving_with, line_with, CanHold, CanHoldLine};
 ghost use Rattle.script_reader.specs.Spelling.{word_field, hex_field, arriving_fields, feedback_field, line_spelling, line_text};
 ghost use Rattle.script_reader.specs.Typed.{behind, IsPrinted, IsTypedRow, IsTypedArriving, IsTypedFeedback, IsTypedLine};
 
-use crate::line::{Arriving, Line, ToldFeedback};
+use crate::head::{ArrivingHead, LineHead};
+use crate::line::{Line, ToldFeedback};
 use crate::printing::{put, put_field, put_number};
 use arrayvec::ArrayVec;
 use pump_frame::{Name, SessionRow};
 
-// A printed line has at most 2,273 bytes: the longest is a `told` line with raw bytes, whose numbers
-// are counted with 40 bytes each.
-type Room = ArrayVec<u8, 2400>;
+// A printed line goes behind what a room holds. It has at most 2,273 bytes: the longest is a `told`
+// line with raw bytes, whose numbers are counted with 40 bytes each.
 
 /// A space and the name.
-fn put_name(into: &mut Room, name: &Name)
-    requires { array_vec_len into.old + 33 ≤ 2400 }
+fn put_name<const N: usize>(into: &mut ArrayVec<u8, N>, name: &Name)
+    requires { array_vec_len into.old + 33 ≤ N }
     ensures items { into.new.items ≡ into.old.items ++ 32 ∷ name.now }
     ensures len { array_vec_len into.new ≤ array_vec_len into.old + 33 }
     ensures name { IsName name.now }
@@ -27,8 +28,8 @@ fn put_name(into: &mut Room, name: &Name)
 }
 
 /// A space and the word in eight digits.
-fn put_word(into: &mut Room, word: u32)
-    requires { array_vec_len into.old + 9 ≤ 2400 }
+fn put_word<const N: usize>(into: &mut ArrayVec<u8, N>, word: u32)
+    requires { array_vec_len into.old + 9 ≤ N }
     ensures items { into.new.items ≡ into.old.items ++ 32 ∷ word_field word }
     ensures len { array_vec_len into.new ≤ array_vec_len into.old + 9 }
     ensures word { IsWord word (word_field word) }
@@ -40,9 +41,9 @@ fn put_word(into: &mut Room, word: u32)
 }
 
 /// A space and two digits for each byte, or a dash for none.
-fn put_hex(into: &mut Room, bytes: &[u8])
+fn put_hex<const N: usize>(into: &mut ArrayVec<u8, N>, bytes: &[u8])
     requires few { length bytes.now ≤ 1042 }
-    requires room { array_vec_len into.old + 2 + 2 * length bytes.now ≤ 2400 }
+    requires room { array_vec_len into.old + 2 + 2 * length bytes.now ≤ N }
     ensures items { into.new.items ≡ into.old.items ++ 32 ∷ hex_field bytes.now }
     ensures len { array_vec_len into.new ≤ array_vec_len into.old + 2 + 2 * length bytes.now }
     ensures printed { IsPrinted bytes.now }
@@ -59,8 +60,8 @@ fn put_hex(into: &mut Room, bytes: &[u8])
 }
 
 /// The nine fields of a row.
-fn put_row(into: &mut Room, row: &SessionRow)
-    requires { array_vec_len into.old + 353 ≤ 2400 }
+fn put_row<const N: usize>(into: &mut ArrayVec<u8, N>, row: &SessionRow)
+    requires { array_vec_len into.old + 353 ≤ N }
     ensures items { into.new.items ≡ into.old.items ++ behind (row_fields row.now) }
     ensures len { array_vec_len into.new ≤ array_vec_len into.old + 353 }
     ensures typed { IsTypedRow row.now }
@@ -77,35 +78,35 @@ fn put_row(into: &mut Room, row: &SessionRow)
 }
 
 /// What comes with a look.
-fn put_arriving(into: &mut Room, arrival: &Arriving)
-    requires { array_vec_len into.old + 2099 ≤ 2400 }
-    ensures items { into.new.items ≡ into.old.items ++ behind (arriving_fields arrival.now) }
+fn put_arriving<const N: usize>(into: &mut ArrayVec<u8, N>, arrival: &ArrivingHead, body: &[u8])
+    requires room { array_vec_len into.old + 2099 ≤ N }
+    requires body { CanHold arrival.now body.now }
+    ensures items { into.new.items ≡ into.old.items ++ behind (arriving_fields (arriving_with body.now arrival.now)) }
     ensures len { array_vec_len into.new ≤ array_vec_len into.old + 2099 }
-    ensures typed { IsTypedArriving arrival.now }
+    ensures typed { IsTypedArriving (arriving_with body.now arrival.now) }
 {
     match arrival {
-        Arriving::Nothing => {}
-        Arriving::Hello { low, high } => {
+        ArrivingHead::Nothing => {}
+        ArrivingHead::Hello { low, high } => {
             put(into, b" hello");
             put_name(into, low);
             put_name(into, high);
         }
-        Arriving::Data { number, payload } => {
+        ArrivingHead::Data { number } => {
             put(into, b" data");
             put_field(into, *number);
-            put_hex(into, payload.as_slice());
+            put_hex(into, body);
         }
-        Arriving::Raw(bytes) => {
-            let _count = bytes.len();
+        ArrivingHead::Raw => {
             put(into, b" raw");
-            put_hex(into, bytes.as_slice());
+            put_hex(into, body);
         }
     }
 }
 
 /// A space and whether the next device call fails.
-fn put_outcome(into: &mut Room, fault: bool)
-    requires { array_vec_len into.old + 6 ≤ 2400 }
+fn put_outcome<const N: usize>(into: &mut ArrayVec<u8, N>, fault: bool)
+    requires { array_vec_len into.old + 6 ≤ N }
     ensures items { into.new.items ≡ into.old.items ++ 32 ∷ outcome_field fault }
     ensures len { array_vec_len into.new ≤ array_vec_len into.old + 6 }
 {
@@ -116,9 +117,22 @@ fn put_outcome(into: &mut Room, fault: bool)
     }
 }
 
+/// A space and whether the last message is in the low hand.
+fn put_held<const N: usize>(into: &mut ArrayVec<u8, N>, held: bool)
+    requires { array_vec_len into.old + 2 ≤ N }
+    ensures items { into.new.items ≡ into.old.items ++ 32 ∷ held_field held }
+    ensures len { array_vec_len into.new ≤ array_vec_len into.old + 2 }
+{
+    if held {
+        put(into, b" 1");
+    } else {
+        put(into, b" 0");
+    }
+}
+
 /// A space and what is told of the passage.
-fn put_feedback(into: &mut Room, feedback: ToldFeedback)
-    requires { array_vec_len into.old + 82 ≤ 2400 }
+fn put_feedback<const N: usize>(into: &mut ArrayVec<u8, N>, feedback: ToldFeedback)
+    requires { array_vec_len into.old + 82 ≤ N }
     ensures items { into.new.items ≡ into.old.items ++ 32 ∷ feedback_field feedback }
     ensures len { array_vec_len into.new ≤ array_vec_len into.old + 82 }
     ensures typed { IsTypedFeedback feedback }
@@ -135,8 +149,8 @@ fn put_feedback(into: &mut Room, feedback: ToldFeedback)
 }
 
 /// A word and two numbers.
-fn put_pair(into: &mut Room, word: &[u8], first: u64, second: u64)
-    requires room { array_vec_len into.old + 100 ≤ 2400 }
+fn put_pair<const N: usize>(into: &mut ArrayVec<u8, N>, word: &[u8], first: u64, second: u64)
+    requires room { array_vec_len into.old + 100 ≤ N }
     requires short { length word.now ≤ 16 }
     ensures items { into.new.items ≡ into.old.items ++ word.now ++ behind (decimal first ∷ decimal second ∷ []) }
     ensures len { array_vec_len into.new ≤ array_vec_len into.old + 98 }
@@ -147,25 +161,26 @@ fn put_pair(into: &mut Room, word: &[u8], first: u64, second: u64)
 }
 
 /// The line without its line end.
-fn put_line(into: &mut Room, line: &Line)
-    requires { into.old.items ≡ [] }
-    ensures items { into.new.items ≡ line_spelling line.now }
-    ensures len { array_vec_len into.new < 2400 }
-    ensures typed { IsTypedLine line.now }
+fn put_line<const N: usize>(into: &mut ArrayVec<u8, N>, head: &LineHead, body: &[u8])
+    requires room { array_vec_len into.old + 2400 ≤ N }
+    requires body { CanHoldLine head.now body.now }
+    ensures items { into.new.items ≡ into.old.items ++ line_spelling (line_with body.now head.now) }
+    ensures len { array_vec_len into.new < array_vec_len into.old + 2400 }
+    ensures typed { IsTypedLine (line_with body.now head.now) }
 {
-    match line {
-        Line::Skip => {}
-        Line::Session(row) => {
+    match head {
+        LineHead::Skip => {}
+        LineHead::Session(row) => {
             put(into, b"session");
             put_row(into, row);
         }
-        Line::LowSession { row, next, held } => {
+        LineHead::LowSession { row, next, held } => {
             put(into, b"low-session");
             put_row(into, row);
             put_field(into, *next);
-            put(into, if *held { b" 1" } else { b" 0" });
+            put_held(into, *held);
         }
-        Line::Look {
+        LineHead::Look {
             session,
             moment,
             word,
@@ -173,9 +188,9 @@ fn put_line(into: &mut Room, line: &Line)
         } => {
             put_pair(into, b"look", u64::from(*session), *moment);
             put_word(into, *word);
-            put_arriving(into, arrival);
+            put_arriving(into, arrival, body);
         }
-        Line::Told {
+        LineHead::Told {
             session,
             moment,
             word,
@@ -187,12 +202,12 @@ fn put_line(into: &mut Room, line: &Line)
             put_word(into, *word);
             put_outcome(into, *fault);
             put_feedback(into, *feedback);
-            put_arriving(into, arrival);
+            put_arriving(into, arrival, body);
         }
-        Line::Gone { session, moment } => put_pair(into, b"gone", u64::from(*session), *moment),
-        Line::High { session, moment } => put_pair(into, b"high", u64::from(*session), *moment),
-        Line::Carry { session, back } => put_pair(into, b"carry", u64::from(*session), *back),
-        Line::Return {
+        LineHead::Gone { session, moment } => put_pair(into, b"gone", u64::from(*session), *moment),
+        LineHead::High { session, moment } => put_pair(into, b"high", u64::from(*session), *moment),
+        LineHead::Carry { session, back } => put_pair(into, b"carry", u64::from(*session), *back),
+        LineHead::Return {
             session,
             moment,
             back,
@@ -200,7 +215,7 @@ fn put_line(into: &mut Room, line: &Line)
             put_pair(into, b"return", u64::from(*session), *moment);
             put_field(into, *back);
         }
-        Line::Done {
+        LineHead::Done {
             session,
             moment,
             time,
@@ -208,13 +223,27 @@ fn put_line(into: &mut Room, line: &Line)
             put_pair(into, b"done", u64::from(*session), *moment);
             put_field(into, u64::from(*time));
         }
-        Line::Restart { session, moment } => {
+        LineHead::Restart { session, moment } => {
             put_pair(into, b"restart", u64::from(*session), *moment)
         }
-        Line::ReceiverRestart { session, moment } => {
+        LineHead::ReceiverRestart { session, moment } => {
             put_pair(into, b"receiver-restart", u64::from(*session), *moment)
         }
     }
+}
+
+/// Puts the line of this head and these bytes, with its line end, behind what the room holds, in its
+/// one spelling, as `print_line`. It has at most 2,400 bytes.
+pub fn append_line<const N: usize>(head: &LineHead, body: &[u8], into: &mut ArrayVec<u8, N>)
+    requires room { array_vec_len into.old + 2400 ≤ N }
+    requires body { CanHoldLine head.now body.now }
+    ensures line { into.new.items ≡ into.old.items ++ line_text (line_with body.now head.now) }
+    ensures len { array_vec_len into.new ≤ array_vec_len into.old + 2400 }
+    // What stands before the line end is this line.
+    ensures reads { IsLawfulLine (line_with body.now head.now) → IsLine (line_with body.now head.now) (line_spelling (line_with body.now head.now)) }
+{
+    put_line(into, head, body);
+    put(into, b"\n");
 }
 
 /// The room then holds the line in its one spelling, with its line end: digits in lower case, and `-`
@@ -226,8 +255,7 @@ pub fn print_line(line: &Line, into: &mut ArrayVec<u8, 2400>)
     ensures reads { IsLawfulLine line.now → IsLine line.now (line_spelling line.now) }
 {
     into.clear();
-    put_line(into, line);
-    put(into, b"\n");
+    append_line(&line.head(), line.bytes(), into);
 }
 
 #[cfg(test)]

@@ -1,6 +1,5 @@
 -- A line of a low side alone.
 pub mod Ends
-pub mod Feedback
 pub mod Lines
 pub mod Looks
 pub mod PumpLines

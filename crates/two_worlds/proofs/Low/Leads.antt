@@ -45,7 +45,8 @@ use Rattle.two_worlds.proofs.Low.Passes.{Passes, passes, is_full, seen_of}
 use Rattle.two_worlds.proofs.Low.Sorts.{Sort, sort_of, repeats, waits_below}
 use Rattle.two_worlds.proofs.Low.Stepping.{Stepped, stepped, lives_reply}
 use Rattle.pump_core.proofs.MayTake.{may_take_is}
-use Rattle.two_worlds.proofs.Low.Told.{LookHead, is_passing, moves, owed_is, told_by, told_in, passing_is, hears_room, feedback_is}
+use Rattle.script_reader.proofs.Hearing.{is_passing, owed_is}
+use Rattle.two_worlds.proofs.Low.Told.{LookHead, moves, told_by, told_in, passing_is, hears_room, feedback_is}
 use Rattle.two_worlds.proofs.Low.Wants.{taking, hand_is_empty, is_short, stored_is}
 use Rattle.two_worlds.proofs.Low.Worlds.{Led, led_by, hand_by, held_by, passed_is, empty_hand, room_is, full_number}
 use Rattle.two_worlds.proofs.Answered.{run_goes}

@@ -38,7 +38,7 @@ use Rattle.two_worlds.proofs.Low.Disks.{low_failed}
 use Rattle.two_worlds.proofs.Disks.LeavesWorld.{fits_row}
 use Rattle.two_worlds.proofs.Low.Looked.{Looked}
 use Rattle.two_worlds.proofs.Low.Stepping.{Stepped, stepped}
-use Rattle.two_worlds.proofs.Low.Told.{quiet_is}
+use Rattle.script_reader.proofs.Hearing.{quiet_is}
 use Rattle.two_worlds.proofs.Low.Wants.{Taking, taking, hand_is_empty, is_idle_now, comes_next, Refuses, refuses}
 
 abbrev AllFinished : List Part → Type 0

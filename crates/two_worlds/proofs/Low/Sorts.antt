@@ -19,7 +19,8 @@ use Rattle.pump_core.specs.Step.{FeedbackFits, is_quiet, is_full as hears_full, 
 use Rattle.pump_core.specs.Standing.{State, phase_after}
 use Rattle.pump_core.specs.declared.event.Event.TheVariants.{Acknowledge}
 use Rattle.script_reader.specs.Lows.{acks_of}
-use Rattle.two_worlds.proofs.Low.Told.{is_passing, quiet_is, moves}
+use Rattle.script_reader.proofs.Hearing.{is_passing, quiet_is}
+use Rattle.two_worlds.proofs.Low.Told.{moves}
 
 abbrev pub at : ℕ → Bool → Phase → State
 at n g p = record { next = n; greeted = g; phase = p }

@@ -21,36 +21,7 @@ use Rattle.pump_core.specs.Standing.{State, phase_after}
 use Rattle.pump_core.proofs.MayTake.{is_idle}
 use Rattle.script_reader.specs.Past.{Past, pair}
 use Rattle.script_reader.specs.Lows.{is_owed, comes_again, feedback_at}
-
-abbrev pub is_passing : Phase → Bool
-is_passing (Passing owed) = true
-is_passing _ = false
-
-abbrev pub owes : Phase → Bool
-owes (Passing (Some n)) = true
-owes _ = false
-
-pub owed_is : (row : SessionRow) (o : Opening) (parts : List Part) → is_owed parts ≡ owes (phase_after row o parts)
-owed_is row o [] = elim o.is_held as (λ b. false ≡ owes (cond b (Passing None) Idle)) [ true ↦ refl | false ↦ refl ]
-owed_is row o (Holding newest older ∷ before) = refl
-owed_is row o (Release looks last ∷ before) = refl
-owed_is row o (Empty x ∷ before) = refl
-owed_is row o (Leaving x ∷ before) = refl
-owed_is row o (Answer x ∷ before) = refl
-owed_is row o (Repeated first (Waiting quiet) ∷ before) = refl
-owed_is row o (Repeated first (Over quiet last) ∷ before) = refl
-owed_is row o (Offering first full ∷ before) = refl
-owed_is row o (Dropped first full gone ∷ before) = refl
-owed_is row o (Delivery first full passing (Waiting quiet) ∷ before) = refl
-owed_is row o (Delivery first full passing (Over quiet last) ∷ before) = refl
-owed_is row o (Loss first rest ∷ before) = refl
-
-pub quiet_is : (f : Feedback) → is_quiet f ≡ true → f ≡ Quiet
-quiet_is Quiet e = refl
-quiet_is Full e = absurd (cc)
-quiet_is (Passed s) e = absurd (cc)
-quiet_is Released e = absurd (cc)
-quiet_is (Repeat s) e = absurd (cc)
+use Rattle.script_reader.proofs.Hearing.{is_passing, owes, quiet_is}
 
 -- the message in the low hand was passed
 abbrev pub moves : Feedback → Bool

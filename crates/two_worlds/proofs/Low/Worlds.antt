@@ -26,7 +26,8 @@ use Rattle.pump_frame.specs.declared.payload.Payload.{Payload}
 use Rattle.low_process.specs.Looks.{hand_stored, hand_passed}
 use Rattle.two_worlds.specs.Timelines.{IsAtRest}
 use Rattle.two_worlds.specs.Standing.{Kept, HoldsWorld, IsAccepted, IsAcceptedHand, number_of}
-use Rattle.two_worlds.proofs.Low.Told.{is_passing, moves}
+use Rattle.script_reader.proofs.Hearing.{is_passing}
+use Rattle.two_worlds.proofs.Low.Told.{moves}
 use Rattle.two_worlds.proofs.Low.Sorts.{Sort, IsSame, IsMoving, IsStoring, IsAcking}
 
 pub map-push : {X Y : Type 0} (f : X → Y) (xs : List X) (x : X) → map f (xs ++ x ∷ []) ≡ map f xs ++ f x ∷ []

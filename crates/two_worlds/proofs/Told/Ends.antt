@@ -28,7 +28,7 @@ use Rattle.two_worlds.specs.LowParts.{PartsStand, Finishes, AnsweredBy, answer_o
 use Rattle.two_worlds.specs.Private.LowLooks.{stop_of}
 use Rattle.two_worlds.specs.declared.applied.Stop.{Stop}
 use Rattle.two_worlds.specs.declared.low_pump.parts.LowParts.{LowParts}
-use Rattle.two_worlds.proofs.Told.Feedback.{Hears}
+use Rattle.script_reader.proofs.Hearing.{Hears}
 use Rattle.two_worlds.proofs.Told.Looks.{ToldStep, Settles, look_ends}
 
 -- ---- a whole look of the process ----

@@ -32,7 +32,7 @@ use Rattle.two_worlds.specs.declared.low_pump.parts.LowParts.{LowParts}
 use Rattle.pump_core.proofs.CutsFit.{cuts_fit}
 use Rattle.two_worlds.proofs.Low.Serves.{stop_by}
 use Rattle.two_worlds.proofs.Low.Stepping.{lives_reply}
-use Rattle.two_worlds.proofs.Told.Feedback.{Hears, told_is}
+use Rattle.script_reader.proofs.Hearing.{Hears, told_is}
 use Rattle.two_worlds.proofs.Told.Stores.{Serves, serves, begins_is}
 
 -- a whole look of a process over its store, in which the disk failed or not

@@ -3,7 +3,7 @@ use Rattle.script_reader.proofs.Spellings.{nine_joined}
 use Rattle.script_reader.proofs.line_printing.put_row.Goals as goal
 
 pub returns-clause-items : goal.returns-clause-items
-returns-clause-items c =
+returns-clause-items g c =
     let field : ℕ → List ℕ = λ n. 32 ∷ decimal n in
     let row = c.args.row.now in
     rw (

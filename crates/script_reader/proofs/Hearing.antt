@@ -15,10 +15,43 @@ use Rattle.pump_core.specs.Step.{is_quiet, fits_passing, fits_idle, fits_in, Fee
 use Rattle.pump_core.specs.Standing.{State, phase_after, end_of}
 use Rattle.script_reader.specs.declared.line.ToldFeedback.{ToldFeedback}
 use Rattle.script_reader.specs.declared.line.ToldFeedback.TheVariants.{Quiet, Full, Pair}
-use Rattle.script_reader.specs.Lows.{comes_again}
+use Rattle.script_reader.specs.Lows.{is_owed, comes_again}
 use Rattle.script_reader.specs.Alone.{has_message, told_of_offer, told_of_read, told_feedback}
 use Rattle.pump_core.proofs.MayTake.{is_idle, may_take_is}
-use Rattle.two_worlds.proofs.Low.Told.{is_passing, owes, owed_is, quiet_is}
+
+-- ---- what the parts say of the message in the low hand ----
+
+abbrev pub is_passing : Phase → Bool
+is_passing (Passing owed) = true
+is_passing _ = false
+
+abbrev pub owes : Phase → Bool
+owes (Passing (Some n)) = true
+owes _ = false
+
+pub owed_is : (row : SessionRow) (o : Opening) (parts : List Part) → is_owed parts ≡ owes (phase_after row o parts)
+owed_is row o [] = elim o.is_held as (λ b. false ≡ owes (cond b (Passing None) Idle)) [ true ↦ refl | false ↦ refl ]
+owed_is row o (Holding newest older ∷ before) = refl
+owed_is row o (Release looks last ∷ before) = refl
+owed_is row o (Empty x ∷ before) = refl
+owed_is row o (Leaving x ∷ before) = refl
+owed_is row o (Answer x ∷ before) = refl
+owed_is row o (Repeated first (Waiting quiet) ∷ before) = refl
+owed_is row o (Repeated first (Over quiet last) ∷ before) = refl
+owed_is row o (Offering first full ∷ before) = refl
+owed_is row o (Dropped first full gone ∷ before) = refl
+owed_is row o (Delivery first full passing (Waiting quiet) ∷ before) = refl
+owed_is row o (Delivery first full passing (Over quiet last) ∷ before) = refl
+owed_is row o (Loss first rest ∷ before) = refl
+
+pub quiet_is : (f : Feedback) → is_quiet f ≡ true → f ≡ feedbacks.Quiet
+quiet_is feedbacks.Quiet e = refl
+quiet_is feedbacks.Full e = absurd (cc)
+quiet_is (feedbacks.Passed s) e = absurd (cc)
+quiet_is feedbacks.Released e = absurd (cc)
+quiet_is (feedbacks.Repeat s) e = absurd (cc)
+
+-- ---- what a look hears ----
 
 -- this feedback comes of what was told
 abbrev pub Hears : SessionRow → ToldFeedback → Feedback → Type 0

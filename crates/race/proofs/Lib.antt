@@ -1,0 +1,16 @@
+pub mod Comparisons
+pub mod Derived
+pub mod Finish
+pub mod Frames
+pub mod HighLooks
+pub mod HighNumbers
+pub mod LowGoes
+pub mod LowLooks
+pub mod LowRuns
+pub mod LowStores
+pub mod NewDisks
+pub mod Printing
+pub mod RaceItems
+pub mod Receiving
+pub mod RecordTexts
+pub mod Tapes

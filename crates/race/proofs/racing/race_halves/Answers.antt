@@ -1,0 +1,108 @@
+use Rattle.std.proofs.Common.{rules, ◌≡◌, ◌⊎◌, inl, inr, ⊎_elim, ℕ, ◌≤◌, Bool, true, false, List, [], ◌++◌, length, refl, sym, ap, ◌∙◌, subst, append-nil, arith}
+use Rattle.std.specs.Prelude.{◌||◌}
+use Rattle.disk_model.specs.Plain.{Plain}
+use Rattle.pump_frame.specs.declared.row.SessionRow.{SessionRow}
+use Rattle.stable_buffer.specs.Low.{StandsForCount}
+use Rattle.stable_buffer.specs.Stands.{HighStands as HighDiskStands}
+use Rattle.stable_buffer.specs.Log.{RecvStands}
+use Rattle.pump_core.specs.Passage.{Low, High, Shape, new_high, shape_of_row, Agrees, Fits}
+use Rattle.passage.specs.QueueEnds.{high_shape, LowEndStands, HighEndStands, low_shape}
+use Rattle.script_reader.specs.Generated.{generated_row}
+use Rattle.relay_threads.specs.Records.{recorded}
+use Rattle.relay_threads.specs.RecordLines.{record_text}
+use Rattle.race.specs.MadeLooks.{moments_of}
+use Rattle.race.specs.Messages.{race_opening}
+use Rattle.race.specs.Race.{AreRaceLooks, ArePrinted, end_lines, payloads}
+use Rattle.race.specs.Turns.{turns}
+use Rattle.race.proofs.Finish.{looks_are, printed_by_both, received_by_both, low_count_is, high_count_is, recv_count_is}
+use Rattle.race.proofs.Tapes.{keeps_none, either}
+use Rattle.race.proofs.racing.race_halves.Goals as goal
+
+pub returns-clause-record : goal.returns-clause-record
+returns-clause-record g c = λ low_on high_on.
+    let r = c.run_halves-raced.ensures in
+    let low = c.run_halves-raced.new.low in
+    let high = c.run_halves-raced.new.high in
+    let made = r.low.0 in
+    let a = r.low.1 in
+    let done = r.low_ended low_on in
+    let (b, all) = r.high_ended high_on in
+    let same : low.count ≡ high.count = r.low_count ∙ c.requires.count ∙ sym r.high_count in
+    let stands = b.fitting.0 in
+    let shape : high_shape high.ends ≡ shape_of_row generated_row = r.high_shape ∙ c.requires.shape in
+    let fits : Fits (shape_of_row generated_row) a.low b.high = subst (λ (s : Shape). Fits s a.low b.high) shape
+        (c.rejoin.ensures.lawful a.low b.high a.fitting.0 (record { is = stands.is; taken = stands.taken; times = stands.times; taken_before = stands.taken_before; tries = stands.tries })) in
+    let times_are : c.as_slice.result.now ≡ high.times.items = c.as_slice.ensures.value in
+    let none : c.run_halves-raced.result.low_stopped || c.run_halves-raced.result.high_stopped ≡ false = ap (λ (z : Bool × Bool). z.0 || z.1) (λ i. (low_on i, high_on i)) in
+    let O = g.O.Sink in
+    let text = record_text generated_row race_opening made in
+    let ends = end_lines (turns c.as_slice.result.now high.count) c.count.result c.next.result c.removed.result in
+    let took_is : c.count.result ≡ high.count = omega (arith, c.count.ensures, b.recv.count_is, recv_count_is LowEndStands low_shape low made a HighEndStands high b done all same fits.agrees) in
+    let next_is : c.next.result ≡ high.count = c.next.ensures ∙ low_count_is LowEndStands low_shape low made a HighEndStands high b done all same fits.agrees in
+    let gone_is : c.removed.result ≡ high.count = omega (arith, c.removed.ensures, b.is_past.holds.removed, high_count_is LowEndStands low_shape low made a HighEndStands high b done all same fits.agrees) in
+    let opened = c.open.ensures.prints (O.written c.args.out.now) (O.faults c.args.out.now) [] (keeps_none _ _ _ c.new-tape.ensures.empty c.new-tape.ensures.going) in
+    let looked = r.low.3 (O.written c.args.out.now) (O.faults c.args.out.now) _ opened in
+    (
+      text ++ ends,
+      moments_of made,
+      c.close-write_failed.ensures.ended none (O.written c.args.out.now) (O.faults c.args.out.now) text looked,
+      r.low.2,
+      record {
+        made = made;
+        looks = subst (λ (seed : ℕ). AreRaceLooks seed made) r.seed (looks_are LowEndStands low_shape low made a);
+        readings_are = refl;
+        printed = subst (λ (z : ℕ × ℕ × List ℕ). ArePrinted z.0 z.1 z.2 (moments_of made) (recorded made)) (λ i. (r.seed i, r.high_count i, ap (λ t. t.items) r.times i))
+            (printed_by_both LowEndStands low_shape low made a HighEndStands high b done all same fits.agrees);
+        bytes_are = ap (λ (z : List ℕ × ℕ × ℕ × ℕ × ℕ). text ++ end_lines (turns z.0 z.1) z.2 z.3 z.4)
+            (λ i. ((times_are ∙ ap (λ t. t.items) r.times) i, r.high_count i, (took_is ∙ r.high_count) i, (next_is ∙ r.high_count) i, (gone_is ∙ r.high_count) i));
+      },
+    )
+
+pub returns-clause-cut_short : goal.returns-clause-cut_short
+returns-clause-cut_short g c = λ stopped.
+    let r = c.run_halves-raced.ensures in
+    let low = c.run_halves-raced.new.low in
+    let made = r.low.0 in
+    let a = r.low.1 in
+    let O = g.O.Sink in
+    let text = record_text generated_row race_opening made in
+    let one : c.run_halves-raced.result.low_stopped || c.run_halves-raced.result.high_stopped ≡ true = either c.run_halves-raced.result.low_stopped c.run_halves-raced.result.high_stopped stopped in
+    let opened = c.open.ensures.prints (O.written c.args.out.now) (O.faults c.args.out.now) [] (keeps_none _ _ _ c.new-tape.ensures.empty c.new-tape.ensures.going) in
+    let looked = r.low.3 (O.written c.args.out.now) (O.faults c.args.out.now) _ opened in
+    (
+      text ++ [],
+      moments_of made,
+      c.close-write_failed.ensures.stopped one (O.written c.args.out.now) (O.faults c.args.out.now) text looked,
+      r.low.2,
+      record {
+        made = made;
+        looks = subst (λ (seed : ℕ). AreRaceLooks seed made) r.seed (looks_are LowEndStands low_shape low made a);
+        readings_are = refl;
+        bytes_are = append-nil text;
+      },
+    )
+
+pub returns-clause-disks : goal.returns-clause-disks
+returns-clause-disks g c = λ low_on high_on.
+    let r = c.run_halves-raced.ensures in
+    let low = c.run_halves-raced.new.low in
+    let high = c.run_halves-raced.new.high in
+    let made = r.low.0 in
+    let a = r.low.1 in
+    let done = r.low_ended low_on in
+    let (b, all) = r.high_ended high_on in
+    let same : low.count ≡ high.count = r.low_count ∙ c.requires.count ∙ sym r.high_count in
+    let stands = b.fitting.0 in
+    let shape : high_shape high.ends ≡ shape_of_row generated_row = r.high_shape ∙ c.requires.shape in
+    let fits : Fits (shape_of_row generated_row) a.low b.high = subst (λ (s : Shape). Fits s a.low b.high) shape
+        (c.rejoin.ensures.lawful a.low b.high a.fitting.0 (record { is = stands.is; taken = stands.taken; times = stands.times; taken_before = stands.taken_before; tries = stands.tries })) in
+    let next_is = low_count_is LowEndStands low_shape low made a HighEndStands high b done all same fits.agrees ∙ r.high_count in
+    let removed_is = high_count_is LowEndStands low_shape low made a HighEndStands high b done all same fits.agrees ∙ r.high_count in
+    let messages : b.received ≡ payloads c.args.low.seed c.args.high.count =
+        received_by_both LowEndStands low_shape low made a HighEndStands high b done all same fits.agrees ∙ ap (λ (z : ℕ × ℕ). payloads z.0 z.1) (λ i. (r.seed i, r.high_count i)) in
+    let store = a.store a.up in
+    record {
+      low_stands = subst (λ (z : SessionRow × ℕ × Plain). StandsForCount z.0 z.1 z.2.bytes) (λ i. ((store.row ∙ a.row) i, (store.count ∙ next_is) i, sym c.into_disk.ensures i)) (store.ready.stands tt);
+      high_stands = subst (λ (z : ℕ × Plain). HighDiskStands generated_row z.0 z.1.bytes) (λ i. (removed_is i, sym c.into_disk-2.ensures i)) b.disk;
+      recv_stands = subst (λ (z : List (List ℕ) × Plain). RecvStands generated_row z.0 z.1.bytes) (λ i. (messages i, sym c.into_disk-3.ensures i)) b.recv.stands;
+    }

@@ -1,0 +1,10 @@
+pub mod HighHalf
+pub mod HighWorks
+pub mod LookWords
+pub mod LowHalf
+pub mod LowWorks
+pub mod MadeLooks
+pub mod Messages
+pub mod Race
+pub mod Tape
+pub mod Turns

@@ -1,0 +1,88 @@
+-- The low half of a race between two looks: the low process with its store and its end, and what is
+-- left of the generated script.
+use Rattle.std.specs.Prelude.{◌≡◌, ◌⊎◌, ℕ, ◌≤◌, Bool, true, false, if◌then◌else◌, List, [], ◌∷◌, ◌++◌, length, map, Option, Some, None}
+use Rattle.pump_frame.specs.declared.frame.Frame.{Frame}
+use Rattle.pump_frame.specs.declared.frame.Item.{Item}
+use Rattle.disk_model.specs.Plain.{Plain, plain_meaning}
+use Rattle.stable_buffer.specs.Stands.{low_size}
+use Rattle.stable_buffer.specs.Low.{low_disk}
+use Rattle.pump_core.specs.Phases.{Phase}
+use Rattle.pump_core.specs.Phases.{Idle, Passing, Waiting, Down}
+use Rattle.pump_core.specs.History.{Arrival}
+use Rattle.pump_core.specs.History.{Nothing, Came}
+use Rattle.pump_core.specs.Exchanges.{Part, IsCut, greeted_after}
+use Rattle.pump_core.specs.Replies.{LowReplies}
+use Rattle.pump_core.specs.Standing.{phase_after}
+use Rattle.pump_core.specs.Passage.{Low, High, new_high, Shape, shape_of_row}
+use Rattle.low_process.specs.Looks.{StandsFor, row_of, next_of, is_down, is_idle, hand_of}
+use Rattle.low_process.specs.Ends.{StandsFitting}
+use Rattle.low_process.specs.Whole.{HasStore}
+use Rattle.relay_threads.specs.Records.{Made, life_made, history_made, replies_made, AreMade}
+use Rattle.script_reader.specs.Generated.{generated_row}
+use Rattle.race.specs.LookWords.{word_after}
+use Rattle.race.specs.MadeLooks.{HaveWords, TakeAll, FullFrom, frames_of, pairs_of}
+use Rattle.race.specs.Messages.{messages_in, race_items, race_opening, hello_frame, data_frame}
+use Rattle.race.specs.declared.low.LowHalf.{LowHalf}
+
+-- the phases of a low process whose device never fails and whose connection is never lost
+abbrev pub goes_on : Phase → Bool
+goes_on Idle = true
+goes_on (Passing None) = false
+goes_on (Passing (Some n)) = true
+goes_on (Waiting n due) = true
+goes_on Down = false
+
+-- what was forwarded, and then the message in the hand
+abbrev pub with_hand : List Item → Option Item → List Item
+with_hand forwarded None = forwarded
+with_hand forwarded (Some x) = forwarded ++ x ∷ []
+
+-- the frames of these messages behind the HELLO; none before it
+abbrev pub frames_so_far : Bool → List Item → List Frame
+frames_so_far greeted items = if greeted then hello_frame ∷ map data_frame items else []
+
+-- After these looks, with these messages still to come. What was forwarded, with the hand, and what is
+-- still to come are the messages of the race.
+pub record LowAt {L : Type 0} (stands : L → Low → High → Type 0) (shape : L → Shape) (w : LowHalf L) (left : List Item) (made : List Made) : Type 0 where
+  pub are_made : AreMade generated_row race_opening made
+  pub history : StandsFor w.process (history_made race_opening made)
+  pub replies : LowReplies generated_row (history_made race_opening made) (replies_made made)
+  pub parts : List Part
+  pub cut : IsCut generated_row (life_made race_opening made) parts
+  pub phase : goes_on (phase_after generated_row race_opening parts) ≡ true
+  pub greeted : greeted_after generated_row parts ≡ w.is_greeted
+  pub row : row_of w.process ≡ generated_row
+  pub row_too : w.row ≡ generated_row
+  pub up : is_down w.process ≡ false
+  pub store : HasStore plain_meaning w.process w.store
+  pub free : ((low_disk w.store).armed ≡ false) × (low_size generated_row ≤ (low_disk w.store).room)
+  pub some : 1 ≤ w.count
+  pub few : w.count ≤ 100000
+  pub word : w.word ≡ word_after w.seed (length made)
+  pub words : HaveWords w.seed made
+  pub take_all : TakeAll made
+  pub full : FullFrom 6 generated_row race_opening made
+  pub low : Low
+  pub fitting : StandsFitting (stands w.ends) w.process low new_high
+  pub shape_is : shape w.ends ≡ shape_of_row generated_row
+  pub pairs : low.pairs ≡ pairs_of made
+  pub messages : with_hand low.forwarded (hand_of w.process) ++ left ≡ race_items w.seed w.count
+  pub stored : length (with_hand low.forwarded (hand_of w.process)) ≡ next_of w.process
+  pub frames : frames_of made ≡ frames_so_far w.is_greeted (with_hand low.forwarded (hand_of w.process))
+  pub none_before : w.is_greeted ≡ false → next_of w.process ≡ 0
+
+-- with all messages still to come that the script has left
+abbrev pub LowRests : {L : Type 0} → (L → Low → High → Type 0) → (L → Shape) → LowHalf L → List Made → Type 0
+LowRests stands shape w made = LowAt stands shape w (messages_in w.script) made
+
+-- A frame that comes is the HELLO, or the DATA of the first message still to come, and comes only
+-- where it is taken.
+abbrev pub IsOffer : {L : Type 0} → LowHalf L → Option Frame → List Item → Type 0
+IsOffer w None left = left ≡ messages_in w.script
+IsOffer w (Some f) left = (is_idle w.process ≡ true)
+    × (((w.is_greeted ≡ false) × (f ≡ hello_frame) × (left ≡ messages_in w.script))
+    ⊎ ((w.is_greeted ≡ true) × ((x : Item) × (f ≡ data_frame x) × (left ≡ x ∷ messages_in w.script))))
+
+abbrev pub arrival_in : Option Frame → Arrival
+arrival_in None = Nothing
+arrival_in (Some f) = Came f

@@ -1,0 +1,55 @@
+-- What the low worker of a race does.
+use Rattle.std.specs.Prelude.{◌≡◌, ℕ, ◌≤◌, Bool, true, false, List, [], Option}
+use Rattle.atomic_table.specs.Seated.{TableId}
+use Rattle.pump_frame.specs.Counts.{Rose}
+use Rattle.pump_link.specs.Tells.{Draws}
+use Rattle.pump_core.specs.Passage.{Low, High, Shape}
+use Rattle.low_process.specs.Looks.{last_of, next_of, is_idle}
+use Rattle.relay_threads.specs.Records.{Made, record_of}
+use Rattle.relay_threads.specs.RecordLines.{looks_text}
+use Rattle.script_reader.specs.Generated.{generated_row}
+use Rattle.race.specs.LowHalf.{LowRests}
+use Rattle.race.specs.MadeLooks.{moments_of}
+use Rattle.race.specs.Tape.{row_in, Prints}
+use Rattle.race.specs.declared.low.LowHalf.{LowHalf}
+use Rattle.race.specs.declared.low_work.LowWork.{LowWork}
+
+-- all messages are stored, passed on and acknowledged
+abbrev pub IsLowDone : {L : Type 0} → LowHalf L → Type 0
+IsLowDone w = (is_idle w.process ≡ true) × (w.count ≤ next_of w.process)
+
+module _ {K O L G : Type 0} (reads : K → List ℕ → Type 0) (floor : K → ℕ) (written : O → Option (List ℕ)) (faults : O → ℕ)
+    (stands : L → Low → High → Type 0) (place : L → List TableId) (shape : L → Shape) (stops : G → ℕ) where
+  pub record LowCan (w : LowWork K O L G) : Type 0 where
+    pub at : LowRests stands shape w.half.now []
+    pub order : last_of w.half.now.process ≤ floor w.clock.now
+    pub row : row_in w.tape.now ≡ generated_row
+    pub going : w.is_stopped ≡ false
+
+  -- it has all that it borrowed; the half has the same end and messages
+  pub record KeepsLow (v w : LowWork K O L G) : Type 0 where
+    pub half : w.half.ghost_name ≡ v.half.ghost_name
+    pub clock : w.clock.ghost_name ≡ v.clock.ghost_name
+    pub out : w.out.ghost_name ≡ v.out.ghost_name
+    pub tape : w.tape.ghost_name ≡ v.tape.ghost_name
+    pub gate : w.gate.ghost_name ≡ v.gate.ghost_name
+    pub place_stays : place w.half.now.ends ≡ place v.half.now.ends
+    pub seed : w.half.now.seed ≡ v.half.now.seed
+    pub count : w.half.now.count ≡ v.half.now.count
+
+  -- after these looks, which drew the clock's readings, and whose record was printed
+  pub record LowSoFar (v w : LowWork K O L G) (made : List Made) : Type 0 where
+    pub keeps : KeepsLow v w
+    pub at : LowRests stands shape w.half.now made
+    pub order : last_of w.half.now.process ≤ floor w.clock.now
+    pub row : row_in w.tape.now ≡ generated_row
+    pub draws : Draws (reads v.clock.now) (reads w.clock.now) (moments_of made)
+    pub prints : Prints v.tape.now w.tape.now (written v.out.now) (written w.out.now) (faults v.out.now) (faults w.out.now) (looks_text generated_row (record_of made))
+    pub stops_rise : stops v.gate.now ≤ stops w.gate.now
+
+  -- the work is over: all messages were acknowledged, or its gate stopped it
+  pub record LowRuns (v w : LowWork K O L G) : Type 0 where
+    pub made : List Made
+    pub so_far : LowSoFar v w made
+    pub ended : w.is_stopped ≡ false → IsLowDone w.half.now
+    pub stopped : w.is_stopped ≡ true → Rose (stops v.gate.now) (stops w.gate.now)

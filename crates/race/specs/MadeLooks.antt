@@ -1,0 +1,65 @@
+-- Readings of the looks of a race. Each list of looks has its newest one first.
+use Rattle.std.specs.Prelude.{◌≡◌, ℕ, ◌<◌, Bool, true, not, List, [], ◌∷◌, ◌++◌, length, slice_get, Option, Some}
+use Rattle.std.specs.List.{All}
+use Rattle.pump_frame.specs.declared.frame.Frame.{Frame}
+use Rattle.pump_frame.specs.declared.row.SessionRow.{SessionRow}
+use Rattle.pump_core.specs.declared.feedback.Feedback.{Feedback}
+use Rattle.pump_core.specs.declared.feedback.Feedback.TheVariants.{Passed, Repeat}
+use Rattle.pump_core.specs.History.{Arrival, Opening}
+use Rattle.pump_core.specs.History.{Came}
+use Rattle.pump_core.specs.Comings.{is_nothing}
+use Rattle.pump_core.specs.Exchanges.{Part, IsCut, count_after}
+use Rattle.pump_core.specs.Step.{is_full}
+use Rattle.relay_threads.specs.Records.{Made, Shown, life_made}
+use Rattle.race.specs.LookWords.{word_of_look}
+
+-- the moments, the oldest first
+abbrev pub moments_of : List Made → List ℕ
+moments_of [] = []
+moments_of (m ∷ before) = moments_of before ++ m.look.moment ∷ []
+
+-- each look has the word of its number
+abbrev pub HaveWords : ℕ → List Made → Type 0
+HaveWords seed [] = Unit {0}
+HaveWords seed (m ∷ before) = (m.look.word ≡ word_of_look seed (length before)) × HaveWords seed before
+
+-- each look took what it was offered, if that was anything
+abbrev pub TakeAll : List Made → Type 0
+TakeAll [] = Unit {0}
+TakeAll (m ∷ before) = (m.taken ≡ not (is_nothing m.look.arrival)) × TakeAll before
+
+abbrev pub frame_in : Arrival → List Frame
+frame_in (Came f) = f ∷ []
+frame_in _ = []
+
+-- the frames that came, the oldest first
+abbrev pub frames_of : List Made → List Frame
+frames_of [] = []
+frames_of (m ∷ before) = frames_of before ++ frame_in m.look.arrival
+
+abbrev pub pair_in : Feedback → List (ℕ × ℕ)
+pair_in (Passed seen) = (seen.count, seen.average) ∷ []
+pair_in (Repeat seen) = (seen.count, seen.average) ∷ []
+pair_in _ = []
+
+-- the pairs of count and average, the oldest first
+abbrev pub pairs_of : List Made → List (ℕ × ℕ)
+pairs_of [] = []
+pairs_of (m ∷ before) = pairs_of before ++ pair_in m.look.feedback
+
+-- A look finds the passage full only with a message numbered `least` or more. It is the last one
+-- stored, so more than `least` are stored then.
+abbrev pub FullFrom : ℕ → SessionRow → Opening → List Made → Type 0
+FullFrom least row o [] = Unit {0}
+FullFrom least row o (m ∷ before) =
+    (is_full m.look.feedback ≡ true → (parts : List Part) → IsCut row (life_made o (m ∷ before)) parts → least < count_after o parts)
+    × FullFrom least row o before
+
+-- the numbers fall from the newest recorded look on
+abbrev pub NumbersFall : List Shown → Type 0
+NumbersFall [] = Unit {0}
+NumbersFall (s ∷ before) = All (λ t. t.number < s.number) before × NumbersFall before
+
+-- a recorded look has the reading and the word of its number
+abbrev pub HasItsOwn : ℕ → List ℕ → Shown → Type 0
+HasItsOwn seed readings s = (slice_get readings s.number ≡ Some s.made.look.moment) × (s.made.look.word ≡ word_of_look seed s.number)

@@ -1,0 +1,181 @@
+ghost use Rattle.std.specs.Prelude.{◌≡◌, ◌+◌, ◌<◌, ◌≤◌, [], true, false};
+ghost use Rattle.disk_model.specs.Plain.{plain_meaning};
+ghost use Rattle.stable_buffer.specs.Stands.{HighStands};
+ghost use Rattle.stable_buffer.specs.High.{IsHighReady, high_count, high_disk};
+ghost use Rattle.pump_core.specs.Passage.{new_low, new_high};
+ghost use Rattle.high_process.specs.States.{removed_of, hand_of};
+ghost use Rattle.high_receiver.specs.Receiving.{recv_count};
+ghost use Rattle.script_reader.specs.Generated.{generated_row};
+ghost use Rattle.race.specs.Turns.{turn, CanTurn};
+ghost use Rattle.race.specs.HighHalf.{HighAt, HasReceived, comes_to_receiver};
+
+use arrayvec::ArrayVec;
+use disk_model::PlainDisk;
+use high_process::HighProcess;
+use high_receiver::Receiver;
+use passage::WaitHighEnd;
+use pump_frame::{Frame, Kind, Payload, SessionRow};
+use stable_buffer::HighStore;
+use std::sync::Wait;
+
+/// The message size of the session of a race.
+const LONGEST: u32 = 64;
+
+/// The high half of a race: the high process with its store, its end and the receiver.
+#[derive(Drop)]
+pub struct HighHalf<H> {
+    pub ends: H,
+    pub process: HighProcess,
+    pub store: HighStore<PlainDisk>,
+    pub receiver: Receiver<PlainDisk>,
+    /// The times that the receiver needs for its messages, in turn, in microseconds.
+    pub times: ArrayVec<u32, 16>,
+    /// How many messages there are in all.
+    pub count: u32,
+    /// The moment of the next look. It stays where no message comes.
+    pub moment: u64,
+}
+
+fn taken(number: u64) -> Frame
+    ensures kind { result.kind ≡ Kind.Taken }
+    ensures session { result.session ≡ 1 }
+    ensures number { result.number ≡ number }
+{
+    Frame {
+        kind: Kind::Taken,
+        session: 1,
+        number,
+        payload: Payload::default(),
+    }
+}
+
+impl<H: WaitHighEnd> HighHalf<H> {
+    /// The half before its first look, at moment 0.
+    pub fn start(
+        ends: H,
+        store: HighStore<PlainDisk>,
+        receiver: Receiver<PlainDisk>,
+        row: &SessionRow,
+        times: &[u32],
+        count: u32,
+    ) -> HighHalf<H>
+        requires row { row.now ≡ generated_row }
+        requires stands { H.stands ends new_low new_high }
+        requires ready { IsHighReady plain_meaning store }
+        requires zero { high_count store ≡ 0 }
+        requires disk { HighStands generated_row 0 (high_disk store).bytes }
+        requires calm { (high_disk store).armed ≡ false }
+        requires room { 80 ≤ (high_disk store).room }
+        requires receiver { HasReceived receiver count [] }
+        requires turn { CanTurn times.now count }
+        ensures at { HighAt H.stands false result }
+        ensures removed { removed_of result.process ≡ 0 }
+        ensures ends { result.ends ≡ ends }
+        ensures times { result.times.items ≡ times.now }
+        ensures count { result.count ≡ count }
+        ensures moment { result.moment ≡ 0 }
+    {
+        let mut own_times: ArrayVec<u32, 16> = ArrayVec::new();
+        own_times.try_extend_from_slice(times).unwrap();
+        HighHalf {
+            ends,
+            process: HighProcess::open(row, 0, None),
+            store,
+            receiver,
+            times: own_times,
+            count,
+            moment: 0,
+        }
+    }
+
+    /// A look to which nothing comes.
+    pub fn look<R: Wait>(&mut self, rt: &R)
+        requires at { HighAt H.stands false self.old }
+        ensures at { HighAt H.stands false self.new }
+        ensures removed { removed_of self.new.process ≡ removed_of self.old.process }
+        ensures moment { self.new.moment ≡ self.old.moment }
+        ensures times { self.new.times ≡ self.old.times }
+        ensures count { self.new.count ≡ self.old.count }
+        ensures place { H.place self.new.ends ≡ H.place self.old.ends }
+        ensures shape { H.shape self.new.ends ≡ H.shape self.old.ends }
+    {
+        match self.process.look_waiting(
+            rt,
+            self.moment,
+            None,
+            &mut self.store,
+            &mut self.ends,
+        ) {
+            Ok(_) => {}
+            Err(_) => unreachable!(),
+        }
+    }
+
+    /// The receiver takes the message in the hand, if there is one. One that is longer than the
+    /// messages of the session counts as none.
+    pub fn receive(&mut self) -> bool
+        requires at { HighAt H.stands false self.old }
+        requires below { removed_of self.old.process < self.old.count }
+        ensures at { HighAt H.stands result self.new }
+        ensures comes { result ≡ comes_to_receiver (hand_of self.old.process) }
+        ensures process { self.new.process ≡ self.old.process }
+        ensures moment { self.new.moment ≡ self.old.moment }
+        ensures times { self.new.times ≡ self.old.times }
+        ensures count { self.new.count ≡ self.old.count }
+        ensures ends { self.new.ends ≡ self.old.ends }
+    {
+        let Some(item) = self.process.hand() else {
+            return false;
+        };
+        if item.payload.len() > LONGEST {
+            return false;
+        }
+        match self.receiver.take(item.number, &item.payload) {
+            Ok(_) => true,
+            Err(_) => unreachable!(),
+        }
+    }
+
+    /// The moment grows by the next of the times, and a look gives back that the message was taken.
+    pub fn give_back<R: Wait>(&mut self, rt: &R)
+        requires at { HighAt H.stands true self.old }
+        ensures at { HighAt H.stands false self.new }
+        ensures removed { removed_of self.new.process ≡ removed_of self.old.process + 1 }
+        ensures moment { self.new.moment ≡ self.old.moment
+            + turn self.old.times.items (removed_of self.old.process) }
+        ensures times { self.new.times ≡ self.old.times }
+        ensures count { self.new.count ≡ self.old.count }
+        ensures place { H.place self.new.ends ≡ H.place self.old.ends }
+        ensures shape { H.shape self.new.ends ≡ H.shape self.old.ends }
+    {
+        let number = self.process.removed();
+        let turn = number % self.times.len() as u64;
+        self.moment += u64::from(self.times[turn as usize]);
+        let frame = taken(number);
+        match self.process.look_waiting(
+            rt,
+            self.moment,
+            Some(&frame),
+            &mut self.store,
+            &mut self.ends,
+        ) {
+            Ok(_) => {}
+            Err(_) => unreachable!(),
+        }
+    }
+
+    /// How many messages the receiver has taken.
+    pub fn taken(&self) -> u64
+        ensures { result ≡ recv_count self.now.receiver }
+    {
+        self.receiver.count()
+    }
+
+    /// All messages are removed.
+    pub fn is_done(&self) -> bool
+        ensures yes { result ≡ true → self.now.count ≤ removed_of self.now.process }
+        ensures no { result ≡ false → removed_of self.now.process < self.now.count }
+    {
+        self.process.removed() >= u64::from(self.count)
+    }
+}

@@ -1,0 +1,177 @@
+ghost use Rattle.std.specs.Prelude.{◌≡◌, ◌≤◌, ◌-◌, ◌^◌, List, [], ◌∷◌, true, false, IfSome};
+ghost use Rattle.disk_model.specs.Plain.{plain_meaning};
+ghost use Rattle.pump_frame.specs.declared.frame.Item.{Item};
+ghost use Rattle.stable_buffer.specs.Stands.{low_size};
+ghost use Rattle.stable_buffer.specs.Low.{IsLowReady, low_count, low_row, low_disk};
+ghost use Rattle.pump_core.specs.Passage.{new_low, new_high, shape_of_row};
+ghost use Rattle.low_process.specs.Looks.{last_of, next_of, is_idle, arrival_of};
+ghost use Rattle.relay_threads.specs.Records.{Made};
+ghost use Rattle.script_reader.specs.Generated.{generated_row};
+ghost use Rattle.pump_frame.specs.Frames.{IsLawful};
+ghost use Rattle.relay_threads.specs.RecordLines.{made_by, IsReplyFrame};
+ghost use Rattle.race.specs.LowHalf.{LowAt, LowRests, IsOffer, arrival_in};
+ghost use Rattle.race.specs.Messages.{messages_in, race_items};
+
+use crate::messages::{hello, next_message, next_word};
+use disk_model::PlainDisk;
+use low_process::{Arrival, LowProcess};
+use passage::WaitLowEnd;
+use pump_frame::{Frame, SessionRow};
+use relay_threads::LookMade;
+use script_reader::{Body, Generator};
+use stable_buffer::LowStore;
+use std::sync::Wait;
+
+/// The low half of a race: the low process with its store and its end, and the low party, which sends
+/// the messages of a generated script.
+#[derive(Drop)]
+pub struct LowHalf<L> {
+    pub ends: L,
+    pub process: LowProcess,
+    pub store: LowStore<PlainDisk>,
+    pub row: SessionRow,
+    pub seed: u32,
+    /// How many messages there are in all.
+    pub count: u32,
+    /// What is left of the script, and a room for the bytes of a line.
+    pub script: Generator,
+    pub body: Body,
+    /// The word of the last look, and the seed before one.
+    pub word: u32,
+    pub is_greeted: bool,
+}
+
+// What comes: a frame, or nothing.
+fn arrival_of_frame(frame: &Option<Frame>) -> Arrival<'_>
+    ensures { arrival_of result ≡ arrival_in frame.now }
+{
+    match frame {
+        None => Arrival::Nothing,
+        Some(frame) => Arrival::Frame(frame),
+    }
+}
+
+impl<L: WaitLowEnd> LowHalf<L> {
+    /// The half before its first look. The row and the script are those of the seed, and the script
+    /// has all messages left.
+    pub fn start(
+        ends: L,
+        store: LowStore<PlainDisk>,
+        row: &SessionRow,
+        script: Generator,
+        seed: u32,
+        count: u32,
+    ) -> LowHalf<L>
+        requires row { row.now ≡ generated_row }
+        requires stands { L.stands ends new_low new_high }
+        requires shape { L.shape ends ≡ shape_of_row generated_row }
+        requires ready { IsLowReady plain_meaning store }
+        requires zero { low_count store ≡ 0 }
+        requires of { low_row store ≡ generated_row }
+        requires calm { (low_disk store).armed ≡ false }
+        requires room { low_size generated_row ≤ (low_disk store).room }
+        requires script { messages_in script ≡ race_items seed count }
+        requires some { 1 ≤ count }
+        requires few { count ≤ 100000 }
+        ensures at { LowRests L.stands L.shape result [] }
+        ensures last { last_of result.process ≡ 0 }
+        ensures ends { result.ends ≡ ends }
+        ensures seed { result.seed ≡ seed }
+        ensures count { result.count ≡ count }
+    {
+        LowHalf {
+            ends,
+            process: LowProcess::open(row, 0, None),
+            store,
+            row: *row,
+            seed,
+            count,
+            script,
+            body: Body::new(),
+            word: seed,
+            is_greeted: false,
+        }
+    }
+
+    /// The frame that comes to the next look: the low party sends where it is taken at once.
+    pub fn next_frame(&mut self) -> Option<Frame>
+        requires at { (made : List Made) × LowRests L.stands L.shape self.old made }
+        ensures offer { (made : List Made) → LowRests L.stands L.shape self.old made
+            → (left : List Item) × LowAt L.stands L.shape self.new left made × IsOffer self.new result left }
+        ensures lawful { IfSome result IsLawful }
+        ensures process { self.new.process ≡ self.old.process }
+        ensures ends { self.new.ends ≡ self.old.ends }
+        ensures seed { self.new.seed ≡ self.old.seed }
+        ensures count { self.new.count ≡ self.old.count }
+    {
+        if !self.process.wants() {
+            return None;
+        }
+        if !self.is_greeted {
+            return Some(hello(&self.row));
+        }
+        next_message(&mut self.script, &mut self.body)
+    }
+
+    /// A look at this moment, to which this frame comes.
+    pub fn look_with<'f, R: Wait>(
+        &mut self,
+        rt: &R,
+        moment: u64,
+        frame: &'f Option<Frame>,
+    ) -> LookMade<'f>
+        requires at { (made : List Made) × ((left : List Item)
+            × LowAt L.stands L.shape self.old left made × IsOffer self.old frame.now left) }
+        requires lawful { IfSome frame.now IsLawful }
+        requires order { last_of self.old.process ≤ moment }
+        requires moment { moment ≤ 2 ^ 62 }
+        ensures at { (made : List Made) (left : List Item) → LowAt L.stands L.shape self.old left made
+            → IsOffer self.old frame.now left → LowRests L.stands L.shape self.new (made_by result ∷ made) }
+        ensures moment { result.moment ≡ moment }
+        ensures arrival { arrival_of result.arrival ≡ arrival_in frame.now }
+        ensures reply { IfSome result.look.reply IsReplyFrame }
+        ensures last { last_of self.new.process ≡ moment }
+        ensures seed { self.new.seed ≡ self.old.seed }
+        ensures count { self.new.count ≡ self.old.count }
+        ensures place { L.place self.new.ends ≡ L.place self.old.ends }
+        ensures shape { L.shape self.new.ends ≡ L.shape self.old.ends }
+    {
+        let word = next_word(self.word);
+        self.word = word;
+        let arrival = arrival_of_frame(frame);
+        let look = self.process.look_waiting(
+            rt,
+            moment,
+            word,
+            arrival,
+            &mut self.store,
+            &mut self.ends,
+        );
+        self.is_greeted = self.is_greeted | frame.is_some();
+        LookMade {
+            moment,
+            word,
+            arrival,
+            look,
+        }
+    }
+
+    /// All messages are stored, passed on and acknowledged.
+    pub fn is_done(&self) -> bool
+        ensures { result ≡ true → (is_idle self.now.process ≡ true) × (self.now.count ≤ next_of self.now.process) }
+    {
+        self.process.wants() && self.process.next() >= u64::from(self.count)
+    }
+
+    /// How many messages are acknowledged: all that are stored, but one that is passed on or waits.
+    pub fn acknowledged(&self) -> u64
+        ensures idle { is_idle self.now.process ≡ true → result ≡ next_of self.now.process }
+        ensures busy { is_idle self.now.process ≡ false → result ≡ next_of self.now.process - 1 }
+    {
+        if self.process.wants() {
+            self.process.next()
+        } else {
+            self.process.next().saturating_sub(1)
+        }
+    }
+}

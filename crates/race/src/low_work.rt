@@ -1,0 +1,72 @@
+ghost use Rattle.std.specs.Prelude.{◌≡◌};
+ghost use Rattle.pump_core.specs.Step.{is_full};
+
+use crate::low::LowHalf;
+use crate::tape::Tape;
+use low_process::LowLook;
+use passage::WaitLowEnd;
+use pump_core::Feedback;
+use pump_link::{Clock, Sink};
+use relay_threads::{Gate, Work};
+use std::sync::Wait;
+use std::thread;
+
+// The look found the passage full.
+fn found_full(look: &LowLook) -> bool
+    ensures { result ≡ is_full look.now.feedback }
+{
+    matches!(look.feedback, Feedback::Full)
+}
+
+// The look found nothing to do.
+fn found_nothing(look: &LowLook) -> bool {
+    let is_idle = matches!(look.feedback, Feedback::Quiet | Feedback::Full);
+    is_idle && !look.taken && look.reply.is_none()
+}
+
+/// The low worker of a race: its half, the clock, the sink with the tape before it, and the gate that
+/// lets it go on.
+#[derive(Drop)]
+pub struct LowWork<'h, 'k, 'o, 't, 'g, K, O, L, G> {
+    pub half: &'h mut LowHalf<L>,
+    pub clock: &'k mut K,
+    pub out: &'o mut O,
+    pub tape: &'t mut Tape,
+    pub gate: &'g mut G,
+    /// The gate has stopped it.
+    pub is_stopped: bool,
+}
+
+impl<K: Clock, O: Sink, L: WaitLowEnd, G: Gate> Work for LowWork<'_, '_, '_, '_, '_, K, O, L, G> {
+    ghost use Rattle.race.specs.LowWorks.{LowCan, LowRuns};
+
+    ghost can_run = { LowCan K.reads K.floor O.written O.faults L.stands L.place L.shape G.stops };
+
+    ghost ran = { LowRuns K.reads K.floor O.written O.faults L.stands L.place L.shape G.stops };
+
+    fn run<R: Wait>(&mut self, rt: &R) {
+        let mut looks = 0u64;
+        let mut was_full = false;
+        for _ in rt.forever() {
+            if self.half.is_done() {
+                return;
+            }
+            let acknowledged = self.half.acknowledged();
+            if !self.gate.pass(rt, looks, acknowledged) {
+                self.is_stopped = true;
+                return;
+            }
+            let frame = self.half.next_frame();
+            let moment = self.clock.moment();
+            let made = self.half.look_with(rt, moment, &frame);
+            looks = looks.saturating_add(1);
+            self.tape.look(self.out, &made, was_full);
+            was_full = found_full(&made.look);
+            if found_nothing(&made.look) {
+                // The other worker may have to take a message up.
+                thread::yield_now();
+            }
+        }
+        unreachable!();
+    }
+}

@@ -1,0 +1,175 @@
+ghost use Rattle.std.specs.Prelude.{◌≡◌, ◌≤◌, ◌⊎◌, ℕ, true, false, List, [], IfOk, OnErr};
+ghost use Rattle.pump_frame.specs.Counts.{Rose};
+ghost use Rattle.pump_link.specs.Tells.{Draws};
+ghost use Rattle.pump_core.specs.Passage.{shape_of_row};
+ghost use Rattle.passage.specs.QueueEnds.{LowEndStands, HighEndStands, low_place, high_place, low_shape, high_shape};
+ghost use Rattle.low_process.specs.Looks.{last_of};
+ghost use Rattle.script_reader.specs.Generated.{generated_row};
+ghost use Rattle.race.specs.HighHalf.{HighAt};
+ghost use Rattle.race.specs.LowHalf.{LowRests};
+ghost use Rattle.race.specs.Race.{IsRaceRecord, IsStoppedRecord, AreRaceDisks};
+ghost use Rattle.race.specs.Tape.{Written};
+ghost use Rattle.race.specs.Turns.{CanTurn};
+
+use crate::high::HighHalf;
+use crate::low::LowHalf;
+use crate::new_disks::{new_high, new_low, new_receiver};
+use crate::running::run_halves;
+use crate::tape::{Ending, Tape};
+use disk_model::PlainDisk;
+use passage::{QueueHigh, QueueLow, QueuePassage};
+use pump_frame::OutOfMemory;
+use pump_link::{Clock, Sink};
+use relay_threads::Gate;
+use script_reader::{Generator, generated_row};
+use std::alloc::Global;
+use std::sync::Wait;
+use std::thread::Threads;
+
+/// How a race ended.
+#[derive(Drop)]
+pub struct RaceEnd {
+    /// A write of the record failed, and nothing further was written.
+    pub write_failed: bool,
+    /// The gate of the low or of the high worker stopped it.
+    pub low_stopped: bool,
+    pub high_stopped: bool,
+    /// The disks, as the two processes and the receiver left them.
+    pub low: PlainDisk,
+    pub high: PlainDisk,
+    pub recv: PlainDisk,
+}
+
+/// Races the two halves over the ends of one passage, and prints the record.
+fn race_halves<
+    R: Threads + Wait + Sync,
+    K: Clock + Send,
+    O: Sink + Send,
+    G: Gate + Send,
+    H: Gate + Send,
+>(
+    rt: &R,
+    mut low: LowHalf<QueueLow<'_>>,
+    mut high: HighHalf<QueueHigh<'_>>,
+    low_clock: &mut K,
+    out: &mut O,
+    low_gate: &mut G,
+    high_gate: &mut H,
+) -> RaceEnd
+    requires low { LowRests LowEndStands low_shape low [] }
+    requires last { last_of low.process ≡ 0 }
+    requires high { HighAt HighEndStands false high }
+    requires place { low_place low.ends ≡ high_place high.ends }
+    requires shape { high_shape high.ends ≡ shape_of_row generated_row }
+    requires count { low.count ≡ high.count }
+    ensures record { result.low_stopped ≡ false → result.high_stopped ≡ false → (bytes readings : List ℕ)
+        × Written result.write_failed (O.written out.old) (O.written out.new) (O.faults out.old) (O.faults out.new) bytes
+        × Draws (K.reads low_clock.old) (K.reads low_clock.new) readings
+        × IsRaceRecord low.entry.seed high.entry.count high.entry.times.items readings bytes }
+    ensures cut_short { (result.low_stopped ≡ true) ⊎ (result.high_stopped ≡ true) → (bytes readings : List ℕ)
+        × Written result.write_failed (O.written out.old) (O.written out.new) (O.faults out.old) (O.faults out.new) bytes
+        × Draws (K.reads low_clock.old) (K.reads low_clock.new) readings
+        × IsStoppedRecord low.entry.seed readings bytes }
+    ensures disks { result.low_stopped ≡ false → result.high_stopped ≡ false
+        → AreRaceDisks low.entry.seed high.entry.count result.low.bytes result.high.bytes result.recv.bytes }
+    ensures low_stopped { result.low_stopped ≡ true → Rose (G.stops low_gate.old) (G.stops low_gate.new) }
+    ensures high_stopped { result.high_stopped ≡ true → Rose (H.stops high_gate.old) (H.stops high_gate.new) }
+{
+    let mut tape = Tape::new(&low.row);
+    tape.open(out);
+    let raced = run_halves(
+        rt, &mut low, &mut high, low_clock, out, &mut tape, low_gate, high_gate,
+    );
+    let LowHalf {
+        ends: low_end,
+        process: low_process,
+        store: low_store,
+        ..
+    } = low;
+    let HighHalf {
+        ends: high_end,
+        process: high_process,
+        store: high_store,
+        receiver,
+        times,
+        count,
+        ..
+    } = high;
+    QueuePassage::rejoin(rt, low_end, high_end);
+    let ending = Ending {
+        times: times.as_slice(),
+        count,
+        received: receiver.count(),
+        accepted: low_process.next(),
+        removed: high_process.removed(),
+    };
+    let write_failed = tape.close(out, raced.low_stopped | raced.high_stopped, &ending);
+    RaceEnd {
+        write_failed,
+        low_stopped: raced.low_stopped,
+        high_stopped: raced.high_stopped,
+        low: low_store.into_disk(),
+        high: high_store.into_disk(),
+        recv: receiver.into_disk(),
+    }
+}
+
+/// Races the two workers of a session over disks in memory, each in a thread of its own, and prints the
+/// record of what the low one did. The seed makes the session, its messages and the words of the looks;
+/// `docs/formats.md`, "Generated scripts", has the rule. There are `count` messages, 1 to 100000. The
+/// receiver needs one of the times for each of them, in turn, in microseconds: 1 to 16 times, each at
+/// most 10^9.
+///
+/// A worker asks its gate before each look: the low one with its looks so far and the messages
+/// acknowledged, the high one with its looks so far and the messages that the receiver has taken. The
+/// lines at the record's end are printed only where no worker was stopped. Where a write fails, both
+/// workers go on to the end. `OutOfMemory` comes only before anything is printed.
+pub fn race_with<
+    R: Threads + Wait + Sync,
+    K: Clock + Send,
+    O: Sink + Send,
+    G: Gate + Send,
+    H: Gate + Send,
+>(
+    rt: &R,
+    alloc: Global,
+    seed: u32,
+    count: u32,
+    times: &[u32],
+    low_clock: &mut K,
+    out: &mut O,
+    low_gate: &mut G,
+    high_gate: &mut H,
+) -> Result<RaceEnd, OutOfMemory>
+    requires some { 1 ≤ count }
+    requires turn { CanTurn times.now count }
+    // Without a stopped worker: all of the record was written, or a front of it where a write failed.
+    ensures record { IfOk result (λ end. end.low_stopped ≡ false → end.high_stopped ≡ false → (bytes readings : List ℕ)
+        × Written end.write_failed (O.written out.old) (O.written out.new) (O.faults out.old) (O.faults out.new) bytes
+        × Draws (K.reads low_clock.old) (K.reads low_clock.new) readings
+        × IsRaceRecord seed count times.now readings bytes) }
+    // With one: the same of the record of the looks made.
+    ensures cut_short { IfOk result (λ end. (end.low_stopped ≡ true) ⊎ (end.high_stopped ≡ true) → (bytes readings : List ℕ)
+        × Written end.write_failed (O.written out.old) (O.written out.new) (O.faults out.old) (O.faults out.new) bytes
+        × Draws (K.reads low_clock.old) (K.reads low_clock.new) readings
+        × IsStoppedRecord seed readings bytes) }
+    ensures disks { IfOk result (λ end. end.low_stopped ≡ false → end.high_stopped ≡ false
+        → AreRaceDisks seed count end.low.bytes end.high.bytes end.recv.bytes) }
+    ensures failed { IfOk result (λ end. end.write_failed ≡ true → Rose (O.faults out.old) (O.faults out.new)) }
+    ensures low_stopped { IfOk result (λ end. end.low_stopped ≡ true → Rose (G.stops low_gate.old) (G.stops low_gate.new)) }
+    ensures high_stopped { IfOk result (λ end. end.high_stopped ≡ true → Rose (H.stops high_gate.old) (H.stops high_gate.new)) }
+    ensures nothing { OnErr result (out.new ≡ out.old) }
+{
+    let row = generated_row();
+    let low_store = new_low(alloc, &row)?;
+    let high_store = new_high(alloc, &row)?;
+    let receiver = new_receiver(alloc, &row, count)?;
+    let mut passage = QueuePassage::new(alloc, &row)?;
+    let (low_end, high_end) = passage.ends(rt);
+    let script = Generator::new(seed, count);
+    let low = LowHalf::start(low_end, low_store, &row, script, seed, count);
+    let high = HighHalf::start(high_end, high_store, receiver, &row, times, count);
+    Ok(race_halves(
+        rt, low, high, low_clock, out, low_gate, high_gate,
+    ))
+}

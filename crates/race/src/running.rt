@@ -1,0 +1,121 @@
+ghost use Rattle.std.specs.Prelude.{◌≡◌, ◌≤◌, List, [], true, false};
+ghost use Rattle.pump_frame.specs.Counts.{Rose};
+ghost use Rattle.pump_link.specs.Tells.{Draws};
+ghost use Rattle.pump_core.specs.Passage.{High, new_low};
+ghost use Rattle.low_process.specs.Looks.{last_of};
+ghost use Rattle.high_process.specs.States.{removed_of};
+ghost use Rattle.relay_threads.specs.Records.{Made, record_of};
+ghost use Rattle.relay_threads.specs.RecordLines.{looks_text};
+ghost use Rattle.script_reader.specs.Generated.{generated_row};
+ghost use Rattle.race.specs.HighHalf.{HighAt};
+ghost use Rattle.race.specs.HighWorks.{HighCan, HighRuns};
+ghost use Rattle.race.specs.LowHalf.{LowRests};
+ghost use Rattle.race.specs.LowWorks.{IsLowDone, LowCan, LowRuns};
+ghost use Rattle.race.specs.MadeLooks.{moments_of};
+ghost use Rattle.race.specs.Tape.{row_in, Prints};
+
+use crate::high::HighHalf;
+use crate::high_work::HighWork;
+use crate::low::LowHalf;
+use crate::low_work::LowWork;
+use crate::tape::Tape;
+use passage::{WaitHighEnd, WaitLowEnd};
+use pump_link::{Clock, Sink};
+use relay_threads::{Gate, run_pair};
+use std::sync::Wait;
+use std::thread::Threads;
+
+/// Runs the two works of a race side by side. They keep what they borrowed.
+fn run_works<
+    R: Threads + Wait + Sync,
+    K: Clock + Send,
+    O: Sink + Send,
+    L: WaitLowEnd + Send,
+    G: Gate + Send,
+    H: WaitHighEnd + Send,
+    I: Gate + Send,
+>(
+    rt: &R,
+    low: &mut LowWork<'_, '_, '_, '_, '_, K, O, L, G>,
+    high: &mut HighWork<'_, '_, H, I>,
+)
+    requires low { LowCan K.reads K.floor O.written O.faults L.stands L.place L.shape G.stops low.old }
+    requires high { HighCan H.stands H.place H.shape I.stops high.old }
+    ensures low_half { low.new.half.ghost_name ≡ low.old.half.ghost_name }
+    ensures high_half { high.new.half.ghost_name ≡ high.old.half.ghost_name }
+    ensures clock { low.new.clock.ghost_name ≡ low.old.clock.ghost_name }
+    ensures out { low.new.out.ghost_name ≡ low.old.out.ghost_name }
+    ensures tape { low.new.tape.ghost_name ≡ low.old.tape.ghost_name }
+    ensures low_gate { low.new.gate.ghost_name ≡ low.old.gate.ghost_name }
+    ensures high_gate { high.new.gate.ghost_name ≡ high.old.gate.ghost_name }
+    ensures low { LowRuns K.reads K.floor O.written O.faults L.stands L.place L.shape G.stops low.old low.new }
+    ensures high { HighRuns H.stands H.place H.shape I.stops high.old high.new }
+{
+    run_pair(rt, low, high);
+}
+
+/// Which workers were stopped.
+#[derive(Clone, Copy)]
+pub struct Raced {
+    pub low_stopped: bool,
+    pub high_stopped: bool,
+}
+
+/// Runs the works of the two halves side by side.
+pub fn run_halves<
+    R: Threads + Wait + Sync,
+    K: Clock + Send,
+    O: Sink + Send,
+    L: WaitLowEnd + Send,
+    G: Gate + Send,
+    H: WaitHighEnd + Send,
+    I: Gate + Send,
+>(
+    rt: &R,
+    low: &mut LowHalf<L>,
+    high: &mut HighHalf<H>,
+    low_clock: &mut K,
+    out: &mut O,
+    tape: &mut Tape,
+    low_gate: &mut G,
+    high_gate: &mut I,
+) -> Raced
+    requires low { LowRests L.stands L.shape low.old [] }
+    requires last { last_of low.old.process ≡ 0 }
+    requires row { row_in tape.old ≡ generated_row }
+    requires high { HighAt H.stands false high.old }
+    ensures low { (made : List Made) × LowRests L.stands L.shape low.new made
+        × Draws (K.reads low_clock.old) (K.reads low_clock.new) (moments_of made)
+        × Prints tape.old tape.new (O.written out.old) (O.written out.new) (O.faults out.old) (O.faults out.new) (looks_text generated_row (record_of made)) }
+    ensures low_ended { result.low_stopped ≡ false → IsLowDone low.new }
+    ensures low_stopped { result.low_stopped ≡ true → Rose (G.stops low_gate.old) (G.stops low_gate.new) }
+    ensures low_place { L.place low.new.ends ≡ L.place low.old.ends }
+    ensures seed { low.new.seed ≡ low.old.seed }
+    ensures low_count { low.new.count ≡ low.old.count }
+    ensures high { (h : High) × H.stands high.new.ends new_low h }
+    ensures high_ended { result.high_stopped ≡ false → HighAt H.stands false high.new × (high.new.count ≤ removed_of high.new.process) }
+    ensures high_stopped { result.high_stopped ≡ true → Rose (I.stops high_gate.old) (I.stops high_gate.new) }
+    ensures high_place { H.place high.new.ends ≡ H.place high.old.ends }
+    ensures high_shape { H.shape high.new.ends ≡ H.shape high.old.ends }
+    ensures high_count { high.new.count ≡ high.old.count }
+    ensures times { high.new.times ≡ high.old.times }
+{
+    let mut low_work = LowWork {
+        half: low,
+        clock: low_clock,
+        out,
+        tape,
+        gate: low_gate,
+        is_stopped: false,
+    };
+    let mut high_work = HighWork {
+        half: high,
+        gate: high_gate,
+        is_stopped: false,
+    };
+    run_works(rt, &mut low_work, &mut high_work);
+    Raced {
+        low_stopped: low_work.is_stopped,
+        high_stopped: high_work.is_stopped,
+    }
+}

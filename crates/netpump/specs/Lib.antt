@@ -5,6 +5,7 @@ pub mod Files
 pub mod Formatting
 pub mod Lending
 pub mod Outputs
+pub mod Racing
 pub mod Replays
 pub mod Runners
 pub mod Sessions

@@ -11,6 +11,7 @@ mod explain;
 mod file_disk;
 mod file_shelf;
 mod format;
+mod live;
 mod output;
 mod replay;
 mod session;
@@ -25,6 +26,8 @@ use batch::batch;
 use disk_model::Shelf;
 use explain::{Trouble, explain};
 use file_shelf::FileShelf;
+use live::live;
+use pump_link::{MemPorts, MemSource, Sink, Source, StepClock};
 use standard::{StdSink, StdSource};
 use std::process::ExitCode;
 use std::{env, io};
@@ -38,6 +41,38 @@ fn words(rt: &HostRuntime) -> io::Result<Vec<String>> {
     Ok(words)
 }
 
+/// Does the first word name a command with threads?
+fn is_live(words: &[String]) -> bool {
+    matches!(words.first().map(String::as_str), Some("race"))
+}
+
+/// Runs the command with threads that the words are. The looks of a race are a millisecond apart.
+fn run_live<S: Shelf, I: Source, O: Sink + Send>(
+    rt: &HostRuntime,
+    words: &Vec<String>,
+    shelf: &mut S,
+    script: &mut I,
+    out: &mut O,
+) -> u8 {
+    let alloc = rt.alloc();
+    let mut ports = MemPorts::new(Vec::new(alloc), Vec::new(alloc));
+    let mut keys = MemSource::new(Vec::new(alloc), 1, Vec::new(alloc));
+    let mut low_clock = StepClock::new(0, 1000);
+    let mut high_clock = StepClock::new(0, 1000);
+    live(
+        rt,
+        alloc,
+        words,
+        shelf,
+        &mut ports,
+        &mut low_clock,
+        &mut high_clock,
+        &mut keys,
+        script,
+        out,
+    )
+}
+
 fn main(rt: HostRuntime) -> ExitCode {
     let words = match words(&rt) {
         Ok(words) => words,
@@ -47,7 +82,11 @@ fn main(rt: HostRuntime) -> ExitCode {
     let mut shelf = FileShelf::new(&rt);
     let mut script = StdSource::new(rt.stdin());
     let mut out = StdSink::new(rt.stdout());
-    let status = batch(rt.alloc(), &words, &mut shelf, &mut script, &mut out);
+    let status = if is_live(words.as_slice()) {
+        run_live(&rt, &words, &mut shelf, &mut script, &mut out)
+    } else {
+        batch(rt.alloc(), &words, &mut shelf, &mut script, &mut out)
+    };
     let trouble = if shelf.is_in_use() {
         Trouble::InUse
     } else if shelf.disk_faults() > 0 {

@@ -1,5 +1,5 @@
 -- A record replays to its own `low` lines.
-use Rattle.std.proofs.Common.{◌≡◌, ℕ, ◌≤◌, Bool, true, false, List, [], ◌∷◌, ◌++◌, length, max, Option, Some, None, refl, sym, ap, ◌∙◌, subst, append-nil, append_assoc, arith}
+use Rattle.std.proofs.Common.{◌≡◌, ℕ, ◌≤◌, Bool, true, false, List, [], ◌∷◌, ◌++◌, max, Option, Some, None, refl, sym, ap, ◌∙◌, subst, append-nil, append_assoc, arith}
 use Rattle.std.specs.Prelude.{if◌then◌else◌, ◌&&◌, ◌||◌, ◌==◌, not, nat_le, nat_lt, drop, is_some}
 use Rattle.std.specs.List.{AllByRecursion}
 use Rattle.std.proofs.lemmas.List.Elements.{filter-append}
@@ -20,7 +20,6 @@ use Rattle.pump_core.specs.Replies.{Sent, sent, LowReplies}
 use Rattle.pump_core.specs.Step.{after, after_in, reply_at, reply_in, takes_at, takes_in, fits_in, FeedbackFits, is_full, is_quiet}
 use Rattle.pump_core.specs.Standing.{State, StandsAt, end_of, last_moment}
 use Rattle.pump_core.proofs.Cuts.{one_cut}
-use Rattle.pump_core.proofs.MayTake.{is_idle}
 use Rattle.low_process.specs.Looks.{look_of}
 use Rattle.script_reader.specs.declared.event.Event.{Event}
 use Rattle.script_reader.specs.declared.event.Event.TheVariants.{End}
@@ -29,20 +28,20 @@ use Rattle.script_reader.specs.declared.fault.Fault.TheVariants.{Device}
 use Rattle.script_reader.specs.declared.line.Line.{Line}
 use Rattle.script_reader.specs.declared.line.Line.TheVariants as lines
 use Rattle.script_reader.specs.declared.line.ToldFeedback.TheVariants as told
-use Rattle.script_reader.specs.Alone.{PastAlone, lost_alone, joined_alone, comes_next, is_timely_alone, StepAlone, IsToldAt}
+use Rattle.script_reader.specs.Alone.{PastAlone, lost_alone, joined_alone, is_timely_alone, StepAlone, IsToldAt}
 use Rattle.script_reader.specs.Lows.{printed_replies, is_bad}
 use Rattle.script_reader.specs.Openings.{Openings}
-use Rattle.script_reader.specs.Scripts.{Begun, Alone, Leads, Stops, Ends}
-use Rattle.script_reader.specs.Sessions.{session_in, begins_session, moment_in, session_at, with_session, Sessions, no_sessions, led_to, is_from, is_in_turn, LeadsOne, ScriptLeads, StopsOne, ScriptStops, ScriptLeadsTo, AllEnd, IsScriptTranscript}
+use Rattle.script_reader.specs.Scripts.{Begun, Alone, Leads, Stops}
+use Rattle.script_reader.specs.Sessions.{session_in, begins_session, moment_in, session_at, with_session, Sessions, no_sessions, led_to, is_from, is_in_turn, LeadsOne, ScriptLeads, StopsOne, ScriptStops, ScriptLeadsTo}
 use Rattle.script_reader.proofs.Hearing.{Hears, quiet_is}
-use Rattle.relay_threads.specs.Records.{Made, looks_made, replies_made, life_made, history_made, IsMade, AreMade, passes_on, was_full, is_recorded, recorded, made_of, record_of}
-use Rattle.relay_threads.specs.RecordLines.{taken_by, tells_fault, told_of, arriving_of, line_of, without_ports, opening_line, comment_lines, looks_script, record_script, HasLawfulFrame}
+use Rattle.relay_threads.specs.Records.{Made, looks_made, replies_made, life_made, history_made, AreMade, passes_on, was_full, is_recorded, record_of}
+use Rattle.relay_threads.specs.RecordLines.{taken_by, tells_fault, told_of, arriving_of, line_of, without_ports, opening_line, comment_lines, looks_script, HasLawfulFrame}
 use Rattle.relay_threads.specs.Replays.{breaks, is_broken, has_bytes, AreConnected, TakeLawful, is_lost, low_events, reply_events, Replays, StopsAtLast}
-use Rattle.relay_threads.proofs.Machine.{Led, led, reply_led}
-use Rattle.relay_threads.proofs.Kept.{Thin, thin_of, same_replies, recorded_at}
+use Rattle.relay_threads.proofs.Machine.{led, reply_led}
+use Rattle.relay_threads.proofs.Kept.{thin_of, same_replies, recorded_at}
 use Rattle.relay_threads.proofs.Alike.{Same, same_gone, same_told, down_after}
 use Rattle.relay_threads.proofs.Alike as alike
-use Rattle.relay_threads.proofs.Telling.{low_of, replies_append, Comes, comes, waits_are, broken_is, unbroken_is, not_armed, armed_is, never_armed, hears_told, looked_past, stores_now, stood, replied, prints, told_look, is_nothing}
+use Rattle.relay_threads.proofs.Telling.{low_of, replies_append, comes, waits_are, broken_is, unbroken_is, not_armed, armed_is, never_armed, hears_told, looked_past, stores_now, stood, replied, prints, told_look}
 
 -- ---- the one session of a record's script ----
 

@@ -1,20 +1,20 @@
 -- A look of a script's low side alone that is told what a recorded look was told.
 use Rattle.std.proofs.Common.{◌≡◌, ℕ, ◌≤◌, Bool, true, false, List, [], ◌∷◌, ◌++◌, length, Option, Some, None, refl, sym, ap, ◌∙◌, subst, append-nil, arith}
-use Rattle.std.specs.Prelude.{if◌then◌else◌, ◌&&◌, ◌||◌, not, drop, filter}
+use Rattle.std.specs.Prelude.{if◌then◌else◌, ◌&&◌, ◌||◌, not, drop}
 use Rattle.std.proofs.lemmas.List.Elements.{filter-append}
 use Rattle.pump_frame.specs.declared.frame.Frame.{Frame}
 use Rattle.pump_frame.specs.declared.row.SessionRow.{SessionRow}
 use Rattle.pump_frame.specs.Frames.{IsLawful}
 use Rattle.pump_frame.specs.Readings.{Reading, Within, Stopped}
 use Rattle.pump_frame.specs.Spellings.{spelling}
-use Rattle.pump_frame.specs.Streams.{IsStream, spellings}
+use Rattle.pump_frame.specs.Streams.{IsStream}
 use Rattle.pump_frame.proofs.Streams.{nothing_partial}
 use Rattle.pump_frame.proofs.Exact.{begins_nothing}
 use Rattle.pump_core.specs.declared.feedback.Feedback.{Feedback}
 use Rattle.pump_core.specs.declared.feedback.Feedback.TheVariants as feedbacks
-use Rattle.pump_core.specs.History.{Arrival, Look, Opening, History, looked}
+use Rattle.pump_core.specs.History.{Arrival, Look, Opening, looked}
 use Rattle.pump_core.specs.History.{Nothing, Came, Bad, Gone}
-use Rattle.pump_core.specs.Exchanges.{is_gone, Part}
+use Rattle.pump_core.specs.Exchanges.{is_gone}
 use Rattle.pump_core.specs.Replies.{Sent, sent, LowReplies, takes, stores}
 use Rattle.pump_core.specs.Step.{after, reply_at, takes_at, FeedbackFits}
 use Rattle.pump_core.specs.Standing.{State, StandsAt, end_of}

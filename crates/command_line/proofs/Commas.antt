@@ -95,10 +95,12 @@ module _ (word times rest : List ℕ) (h : HasRead word times rest) where
           let l = h.left all k e in
           let bound = (next_is all k e).0 in
           let g = goes l.0 l.1 bound l.3 in
-          let same : l.0 ≡ t = decimal_injective l.0 t (omega (arith, bound)) (omega (arith, low)) (sym g.0 ∙ is) in
-          (g.1.0, g.1.1,
+          let same : l.0 ≡ t = decimal_injective l.0 t (omega (arith, bound)) (omega (arith, low)) (sym g.0 ∙ is) in (
+            g.1.0,
+            g.1.1,
             l.2 ∙ ap (λ n. times ++ n ∷ l.1) same ∙ ap (λ r. times ++ t ∷ r) g.1.2 ∙ sym (append_assoc times (t ∷ []) (g.1.0 ∷ g.1.1)),
-            g.1.3 ∙ ap times_word g.1.2);
+            g.1.3 ∙ ap times_word g.1.2,
+          );
     }
 
   -- with no comma left: what is left is the last time

@@ -12,7 +12,11 @@ fn answer(rt: &HostRuntime, line: &str) -> Result<&'static str, AllocError> {
         Ok(Command::Format { .. }) => Ok("format"),
         Ok(Command::Show { .. }) => Ok("show"),
         Ok(Command::Exercise { .. }) => Ok("exercise"),
-        Ok(Command::Race { times, .. }) => Ok(if times.len() == 1 { "race" } else { "long race" }),
+        Ok(Command::Race { times, .. }) => Ok(if times.len() == 1 {
+            "race"
+        } else {
+            "long race"
+        }),
         Err(WordsFault::NoCommand) => Ok("none"),
         Err(WordsFault::Memory) => Ok("memory"),
     }
@@ -47,7 +51,10 @@ fn command_lines(rt: HostRuntime) -> Result<(), Fail> {
         ("exercise -1 1", "none"),
         ("race 3 100000 50,700,20", "long race"),
         ("race 0 1 0", "race"),
-        ("race 0 1 1,2,3,4,5,6,7,8,9,10,11,12,13,14,15,1000000000", "long race"),
+        (
+            "race 0 1 1,2,3,4,5,6,7,8,9,10,11,12,13,14,15,1000000000",
+            "long race",
+        ),
         ("race 0 1 1,2,3,4,5,6,7,8,9,10,11,12,13,14,15,16,17", "none"),
         ("race 0 1 1000000001", "none"),
         ("race 0 1 50,", "none"),

@@ -16,7 +16,6 @@ use Rattle.race.proofs.Printing.{take_all_kept, frames_kept, pairs_kept, full_ke
 
 module _ (seed count : ℕ) (times : List ℕ) (made : List Made) (low : Low) (high : High) (received : List (List ℕ))
     (l : IsLowRun seed count made low) (h : IsHighRun count times high received) (a : Agrees (shape_of_row generated_row) low high) where
-
   shown_pairs : pairs_of (made_of (recorded made)) ≡ low.pairs
   shown_pairs = pairs_kept generated_row race_opening made l.looks.are_made ∙ sym l.pairs
 

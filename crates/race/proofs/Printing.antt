@@ -111,9 +111,9 @@ module _ (row : SessionRow) (o : Opening) where
   full_with least false m before e are h k = k
   full_with least true m before e are h k = (
     (λ is_it parts' c'.
-      let made = m ∷ before in
-      let c'' = subst (λ (z : Bool). IsCut row (life_made o (made_of (shown_with z m before))) parts') (sym e) c' in
-      subst (λ (n : ℕ). least < n) (same_count made are are.0.parts parts' are.0.cut c'') (h.0 is_it are.0.parts are.0.cut)),
+        let made = m ∷ before in
+        let c'' = subst (λ (z : Bool). IsCut row (life_made o (made_of (shown_with z m before))) parts') (sym e) c' in
+        subst (λ (n : ℕ). least < n) (same_count made are are.0.parts parts' are.0.cut c'') (h.0 is_it are.0.parts are.0.cut)),
     k,
   )
 

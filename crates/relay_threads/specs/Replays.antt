@@ -1,12 +1,12 @@
 -- What a record is replayed to. A list of looks has its newest look first.
-use Rattle.std.specs.Prelude.{◌≡◌, ℕ, Bool, true, false, List, [], ◌∷◌, ◌++◌, filter, IfSome}
+use Rattle.std.specs.Prelude.{◌≡◌, Bool, true, false, List, [], ◌∷◌, ◌++◌, filter, IfSome}
 use Rattle.std.specs.List.{AllByRecursion}
 use Rattle.disk_model.specs.declared.name.Role.TheVariants as roles
 use Rattle.pump_frame.specs.declared.row.SessionRow.{SessionRow}
 use Rattle.pump_core.specs.History.{Arrival, Opening}
 use Rattle.pump_core.specs.History.{Nothing, Came, Bad, Gone}
-use Rattle.script_reader.specs.EventHeads.{is_reply}
 use Rattle.script_reader.specs.declared.event.Event.{Event}
+use Rattle.script_reader.specs.declared.event.Event.TheVariants as prints
 use Rattle.script_reader.specs.declared.fault.Fault.TheVariants.{Device}
 use Rattle.script_reader.specs.Grammar.{IsLine}
 use Rattle.script_reader.specs.Lows.{printed_replies}
@@ -51,6 +51,11 @@ is_lost [] = false
 is_lost (m ∷ before) = tells_fault m.reply
 
 -- ---- what is printed ----
+
+-- a `low` line
+abbrev pub is_reply : Event → Bool
+is_reply (prints.Low session moment reply) = true
+is_reply _ = false
 
 -- the `low` lines of a transcript
 abbrev pub low_events : List Event → List Event

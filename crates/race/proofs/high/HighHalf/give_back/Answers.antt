@@ -37,27 +37,27 @@ returns-clause-at g c =
     let full = a.hand_taken refl in
     let x = full.1.0 in
     let next : IsNext a.before n a.past.sends a.high.taken w.moment x =
-        subst (λ (o : Option Item). HandAt a.before n a.past.sends a.high.taken w.moment o) full.1.1 a.hand in
+    subst (λ (o : Option Item). HandAt a.before n a.past.sends a.high.taken w.moment o) full.1.1 a.hand in
     let hand : hand_of w.process ≡ Some x = a.is_past.holds.hand ∙ full.1.1 in
     let number : frame.number ≡ removed_of w.process = c.taken-frame.ensures.number ∙ c.removed-number.ensures in
     let task : task_at w.process (Some frame) ≡ Remove = removes_hand w.process frame x a.row c.taken-frame.ensures.session c.taken-frame.ensures.kind number hand in
     let nobody : attaches_at w.process (Some frame) ≡ false = attaches_nobody w.process frame c.taken-frame.ensures.kind in
     let fares : Fares plain_meaning Remove w.process new.self w.store new.store (Ok look) =
-        subst (λ (z : Task). Fares plain_meaning z w.process new.self w.store new.store (Ok look)) task c.in-Ok.ensures.fares in
+    subst (λ (z : Task). Fares plain_meaning z w.process new.self w.store new.store (Ok look)) task c.in-Ok.ensures.fares in
     let looked : Looked shape one after new_low a.high w.process new.self a.past m Remove false look =
-        subst (λ (z : Task × Bool). Looked shape one after new_low a.high w.process new.self a.past m z.0 z.1 look) (λ i. (task i, nobody i)) (c.in-Ok.ensures.looks new_low a.high a.past a.fitting a.is_past) in
+    subst (λ (z : Task × Bool). Looked shape one after new_low a.high w.process new.self a.past m z.0 z.1 look) (λ i. (task i, nobody i)) (c.in-Ok.ensures.looks new_low a.high a.past a.fitting a.is_past) in
     let turn_is : time ≡ turn w.times.items n = search rules in
     let short : time ≤ 10 ^ 9 = omega (arith, turn_is, turn_is_short w.times.items w.count n a.turn) in
     let so_many : length a.past.times ≡ n = ap length (a.past_times ∙ a.times_are) ∙ turns_length w.times.items n in
     let published : next_time a.past m ≡ Some time =
-        time_is a.past w.moment m time next.older refl short (omega (arith, so_many, a.few, a.turn.few)) next.sends_are next.older_below in
+    time_is a.past w.moment m time next.older refl short (omega (arith, so_many, a.few, a.turn.few)) next.sends_are next.older_below in
     let past : ProcessPast = begun Remove a.past m in
     let high : High = publishes a.high time in
     let resend : (row_of w.process).resend ≡ 500000 = ap (λ (r : SessionRow). r.resend) a.row in
     let ends : TakesUp shape one after new_low high (wants past) past.removed looked.got =
-        subst (λ (o : Option ℕ). TakesUp shape one after new_low (told_time o a.high) (wants past) past.removed looked.got) published looked.ends in
+    subst (λ (o : Option ℕ). TakesUp shape one after new_low (told_time o a.high) (wants past) past.removed looked.got) published looked.ends in
     let left = leaves shape one after (row_of w.process).resend past high a.high.taken m looked.got (omega (arith, resend)) (omega (arith, a.few, a.turn.few))
-        (refl, sent_below_next n w.moment a.past.sends next.older next.sends_are next.older_below) ends in
+    (refl, sent_below_next n w.moment a.past.sends next.older next.sends_are next.older_below) ends in
     record {
       turn = a.turn;
       high = left.high;

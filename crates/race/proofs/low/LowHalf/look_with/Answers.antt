@@ -32,7 +32,7 @@ returns-clause-at g c = λ made left a offer.
     } in
     let came = c.arrival_of_frame-arrival.ensures in
     let step : LookStep plain_meaning w.process w'.process w.store w'.store c.args.moment word (arrival_in frame) e.looks.0 l =
-        subst (λ (z : Arrival). LookStep plain_meaning w.process w'.process w.store w'.store c.args.moment word z e.looks.0 l) came e.looks.1 in
+    subst (λ (z : Arrival). LookStep plain_meaning w.process w'.process w.store w'.store c.args.moment word z e.looks.0 l) came e.looks.1 in
     let hand = e.hand ∙ ap (λ (z : Arrival). hand_after (hand_of w.process) z l) came in
     let leaves : Leaves w w' word frame = record {
       row = refl;
@@ -64,7 +64,7 @@ returns-clause-reply g c =
     } in
     let came = c.arrival_of_frame-arrival.ensures in
     let step : LookStep plain_meaning w.process w'.process w.store w'.store c.args.moment word (arrival_in frame) e.looks.0 l =
-        subst (λ (z : Arrival). LookStep plain_meaning w.process w'.process w.store w'.store c.args.moment word z e.looks.0 l) came e.looks.1 in
+    subst (λ (z : Arrival). LookStep plain_meaning w.process w'.process w.store w'.store c.args.moment word z e.looks.0 l) came e.looks.1 in
     let hand = e.hand ∙ ap (λ (z : Arrival). hand_after (hand_of w.process) z l) came in
     let leaves : Leaves w w' word frame = record {
       row = refl;

@@ -105,7 +105,7 @@ fn explain_empty(rt: &HostRuntime, words: &[String], last: &[u8]) -> io::Result<
     let session = field(line, 2);
     let role = field(line, 3);
     eprintln!(rt;
-        "netpump: the file {session}.{role} is empty, so there is nothing to show; netpump format {table} {session} makes new disks where all three files of the session are empty"
+        "netpump: the file {session}.{role} is empty, so there is nothing to show; where all three files of the session are empty, netpump format {table} {session} makes new disks, and else put back the three files that belong together"
     )
 }
 

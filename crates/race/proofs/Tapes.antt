@@ -99,3 +99,9 @@ pub either : (a b : Bool) → (a ≡ true) ⊎ (b ≡ true) → a || b ≡ true
 either true b e = refl
 either false b (inl e) = absurd (cc)
 either false b (inr e) = e
+
+-- what holds of a failure whether a worker was stopped or not
+pub failed_of : (low high failed : Bool) (R : Type 0) → (low ≡ false → high ≡ false → failed ≡ true → R) → ((low ≡ true) ⊎ (high ≡ true) → failed ≡ true → R) → failed ≡ true → R
+failed_of false false failed R ran stopped e = ran refl refl e
+failed_of false true failed R ran stopped e = stopped (inr refl) e
+failed_of true high failed R ran stopped e = stopped (inl refl) e

@@ -1,6 +1,6 @@
 -- A look as a record tells it is the same step of the low process as the look that was made.
 use Rattle.std.proofs.Common.{◌≡◌, ℕ, ◌+◌, Bool, true, false, Option, Some, None, refl, ap}
-use Rattle.std.specs.Prelude.{if◌then◌else◌, ◌&&◌, is_some, nat_le}
+use Rattle.std.specs.Prelude.{if◌then◌else◌, ◌&&◌, nat_le}
 use Rattle.pump_frame.specs.declared.frame.Frame.{Frame}
 use Rattle.pump_frame.specs.declared.row.SessionRow.{SessionRow}
 use Rattle.pump_core.specs.declared.feedback.Feedback.{Feedback}
@@ -8,7 +8,7 @@ use Rattle.pump_core.specs.Phases.{Phase}
 use Rattle.pump_core.specs.Phases.{Idle, Passing, Waiting as Waits, Down}
 use Rattle.pump_core.specs.History.{Arrival, Look}
 use Rattle.pump_core.specs.History.{Nothing, Came, Bad, Gone}
-use Rattle.pump_core.specs.Exchanges.{is_gone, is_repeat, is_next, is_hello, is_data, permits_frame, due}
+use Rattle.pump_core.specs.Exchanges.{is_gone, is_repeat, is_next, is_hello, permits_frame, due}
 use Rattle.pump_core.specs.Replies.{welcome, refusal, acknowledgement, answer}
 use Rattle.pump_core.specs.Step.{after_in, reply_in, takes_in, fits_in}
 use Rattle.pump_core.specs.Standing.{State}

@@ -2,5 +2,6 @@ pub mod Alike
 pub mod Kept
 pub mod Machine
 pub mod Replaying
+pub mod ReplyKinds
 pub mod Scripting
 pub mod Telling

@@ -1,5 +1,5 @@
 -- A record replays to its own `low` lines.
-use Rattle.std.proofs.Common.{◌≡◌, ℕ, ◌≤◌, Bool, true, false, List, [], ◌∷◌, ◌++◌, length, max, Option, Some, None, refl, sym, ap, ◌∙◌, subst, append-nil, append_assoc, arith}
+use Rattle.std.proofs.Common.{◌≡◌, ℕ, ◌≤◌, Bool, true, false, List, [], ◌∷◌, ◌++◌, max, Option, Some, None, refl, sym, ap, ◌∙◌, subst, append-nil, append_assoc, arith}
 use Rattle.std.specs.Prelude.{if◌then◌else◌, ◌&&◌, ◌||◌, ◌==◌, not, nat_le, nat_lt, drop, is_some}
 use Rattle.std.specs.List.{AllByRecursion}
 use Rattle.std.proofs.lemmas.List.Elements.{filter-append}
@@ -19,7 +19,7 @@ use Rattle.pump_core.specs.Exchanges.{is_gone, count_after, Part}
 use Rattle.pump_core.specs.Replies.{Sent, sent, LowReplies}
 use Rattle.pump_core.specs.Step.{after, after_in, reply_at, reply_in, takes_at, takes_in, fits_in, FeedbackFits, is_full, is_quiet}
 use Rattle.pump_core.specs.Standing.{State, StandsAt, end_of, last_moment}
-use Rattle.pump_core.proofs.MayTake.{is_idle}
+use Rattle.pump_core.proofs.Cuts.{one_cut}
 use Rattle.low_process.specs.Looks.{look_of}
 use Rattle.script_reader.specs.declared.event.Event.{Event}
 use Rattle.script_reader.specs.declared.event.Event.TheVariants.{End}
@@ -28,20 +28,20 @@ use Rattle.script_reader.specs.declared.fault.Fault.TheVariants.{Device}
 use Rattle.script_reader.specs.declared.line.Line.{Line}
 use Rattle.script_reader.specs.declared.line.Line.TheVariants as lines
 use Rattle.script_reader.specs.declared.line.ToldFeedback.TheVariants as told
-use Rattle.script_reader.specs.Alone.{PastAlone, lost_alone, joined_alone, comes_next, is_timely_alone, StepAlone, IsToldAt}
+use Rattle.script_reader.specs.Alone.{PastAlone, lost_alone, joined_alone, is_timely_alone, StepAlone, IsToldAt}
 use Rattle.script_reader.specs.Lows.{printed_replies, is_bad}
 use Rattle.script_reader.specs.Openings.{Openings}
-use Rattle.script_reader.specs.Scripts.{Begun, Alone, Leads, Stops, Ends}
-use Rattle.script_reader.specs.Sessions.{session_in, begins_session, moment_in, session_at, with_session, Sessions, no_sessions, led_to, is_from, is_in_turn, LeadsOne, ScriptLeads, StopsOne, ScriptStops, ScriptLeadsTo, AllEnd, IsScriptTranscript}
+use Rattle.script_reader.specs.Scripts.{Begun, Alone, Leads, Stops}
+use Rattle.script_reader.specs.Sessions.{session_in, begins_session, moment_in, session_at, with_session, Sessions, no_sessions, led_to, is_from, is_in_turn, LeadsOne, ScriptLeads, StopsOne, ScriptStops, ScriptLeadsTo}
 use Rattle.script_reader.proofs.Hearing.{Hears, quiet_is}
-use Rattle.relay_threads.specs.Records.{Made, looks_made, replies_made, history_made, IsMade, AreMade, passes_on, was_full, is_recorded, recorded, made_of, record_of}
-use Rattle.relay_threads.specs.RecordLines.{taken_by, tells_fault, told_of, arriving_of, line_of, without_ports, opening_line, comment_lines, looks_script, record_script, HasLawfulFrame}
+use Rattle.relay_threads.specs.Records.{Made, looks_made, replies_made, life_made, history_made, AreMade, passes_on, was_full, is_recorded, record_of}
+use Rattle.relay_threads.specs.RecordLines.{taken_by, tells_fault, told_of, arriving_of, line_of, without_ports, opening_line, comment_lines, looks_script, HasLawfulFrame}
 use Rattle.relay_threads.specs.Replays.{breaks, is_broken, has_bytes, AreConnected, TakeLawful, is_lost, low_events, reply_events, Replays, StopsAtLast}
-use Rattle.relay_threads.proofs.Machine.{Led, led, reply_led}
-use Rattle.relay_threads.proofs.Kept.{Thin, thin_of, same_replies, recorded_at}
+use Rattle.relay_threads.proofs.Machine.{led, reply_led}
+use Rattle.relay_threads.proofs.Kept.{thin_of, same_replies, recorded_at}
 use Rattle.relay_threads.proofs.Alike.{Same, same_gone, same_told, down_after}
 use Rattle.relay_threads.proofs.Alike as alike
-use Rattle.relay_threads.proofs.Telling.{low_of, replies_append, Comes, comes, waits_are, broken_is, unbroken_is, not_armed, armed_is, never_armed, hears_told, looked_past, stores_now, stood, replied, prints, told_look, is_nothing}
+use Rattle.relay_threads.proofs.Telling.{low_of, replies_append, comes, waits_are, broken_is, unbroken_is, not_armed, armed_is, never_armed, hears_told, looked_past, stores_now, stood, replied, prints, told_look}
 
 -- ---- the one session of a record's script ----
 
@@ -90,9 +90,11 @@ leads_on : (opens : Openings) (row : SessionRow) (p q : PastAlone) (way : Bool) 
 leads_on opens row p q way line printed named plain dated le goes =
     subst (λ (at : Option ℕ). LeadsOne opens (one_session row p way) line at (one_session row q true) printed) (sym named) (
       in_turn row p way line q.moment plain dated le,
-      alone row q,
-      subst (λ (found : Option Begun). Leads opens found line (Some (alone row q)) printed) (sym (found row p)) goes,
-      sym (led_is row p q way line le plain),
+      (
+        alone row q,
+        subst (λ (found : Option Begun). Leads opens found line (Some (alone row q)) printed) (sym (found row p)) goes,
+        sym (led_is row p q way line le plain),
+      ),
     )
 
 stops_on : (row : SessionRow) (p q : PastAlone) (way : Bool) (line : Line) (printed : List Event) → session_in line ≡ Some row.id → begins_session line ≡ false → moment_in line ≡ Some q.moment → p.moment ≤ q.moment
@@ -100,9 +102,11 @@ stops_on : (row : SessionRow) (p q : PastAlone) (way : Bool) (line : Line) (prin
 stops_on row p q way line printed named plain dated le goes =
     subst (λ (at : Option ℕ). StopsOne (one_session row p way) line at (one_session row q true) printed (Device row.id roles.Low)) (sym named) (
       in_turn row p way line q.moment plain dated le,
-      alone row q,
-      subst (λ (found : Option Begun). Stops found line (Some (alone row q)) printed (Device row.id roles.Low)) (sym (found row p)) goes,
-      sym (led_is row p q way line le plain),
+      (
+        alone row q,
+        subst (λ (found : Option Begun). Stops found line (Some (alone row q)) printed (Device row.id roles.Low)) (sym (found row p)) goes,
+        sym (led_is row p q way line le plain),
+      ),
     )
 
 leads_then : (opens : Openings) (t : Sessions) (xs ys : List Line) (u v : Sessions) (first second : List Event) → ScriptLeadsTo opens t xs u first → ScriptLeadsTo opens u ys v second → ScriptLeadsTo opens t (xs ++ ys) v (first ++ second)
@@ -125,9 +129,9 @@ stays_taken : (taken : Bool) (a : Arrival) → is_gone a ≡ false → is_gone (
 stays_taken true a stays = stays
 stays_taken false a stays = refl
 
-gone_waits : (taken : Bool) → [] {A = Arrival} ≡ (if taken then [] else [])
-gone_waits true = refl
-gone_waits false = refl
+gone_waits : (none : List Arrival) (taken : Bool) → none ≡ (if taken then none else none)
+gone_waits none true = refl
+gone_waits none false = refl
 
 gone_armed : (stores : Bool) → false ≡ (not stores && false)
 gone_armed true = refl
@@ -161,7 +165,7 @@ module _ (opens : Openings) (row : SessionRow) (o : Opening) where
     moment = 0;
     way = false;
     printed = [];
-    leads = (one_session bare (past (first_life o) false (Within []) 0) false, [], [], (refl, (alone bare (past (first_life o) false (Within []) 0), (((lawful, refl), refl), refl))), (refl, refl), refl);
+    leads = (one_session bare (past (first_life o) false (Within []) 0) false, [], [], (refl, (alone bare (past (first_life o) false (Within []) 0), ((lawful, refl), refl), refl)), (refl, refl), refl);
     at = record { earlier = tt; parts = []; cut = record { are_parts = tt; looks = refl }; state = refl; newest = refl; ordered = tt };
     replies = ([], [], refl, ([], record { are_parts = tt; looks = refl }, refl), refl);
     newest = refl;
@@ -233,7 +237,7 @@ module _ (opens : Openings) (row : SessionRow) (o : Opening) where
           reading = c.c.reading;
           printed = out;
           timely = timely_now;
-          step = (c.c, c.arrives, c.few, subst (λ (z : Arrival). IsToldAt bare pj m w (told_of row f) z fault q out) (sym c.offered) (f, look));
+          step = (c.c, c.arrives, (c.few, subst (λ (z : Arrival). IsToldAt bare pj m w (told_of row f) z fault q out) (sym c.offered) (f, look)));
           leads = λ step. (timely_now, (q, step, refl));
           at = subst (λ (z : State). StandsAt bare z m (looked t.history x')) same.after (stood bare s pj (told_of row f) x' (replies_made before) t.at t.replies same.fits order hears);
           replies = subst (λ (z : List Sent). LowReplies bare (looked t.history x') (replies_made before ++ z)) sends (replied bare s pj (told_of row f) x' (replies_made before) t.at t.replies same.fits order hears);
@@ -265,7 +269,7 @@ module _ (opens : Openings) (row : SessionRow) (o : Opening) where
         let hears : Hears bare told.Quiet f = subst (λ (z : Feedback). Hears bare told.Quiet z) (sym (quiet_is f (gone_quiet s.phase fits))) tt in
         let stores : Bool = stores_now bare s pl told.Quiet x' (replies_made before) t.at t.replies same.fits order hears in
         let look = told_look bare s pl told.Quiet x' (replies_made before) t.at t.replies same.fits order hears false
-        (gone_fine s.phase ∙ never_armed stores) (gone_waits (takes_at s x')) (unbroken_is (takes_at s x')) (gone_armed stores) in
+        (gone_fine s.phase ∙ never_armed stores) (gone_waits [] (takes_at s x')) (unbroken_is (takes_at s x')) (gone_armed stores) in
         let out : List Event = prints bare s pl told.Quiet x' (replies_made before) t.at t.replies same.fits order hears in
         let q : PastAlone = looked_past pl x' false in
         let sends : sent x' (reply_at bare s x') ≡ sent (x Gone) (reply_at row s (x Gone)) = same_sent (x Gone) x' (reply_at bare s x') refl ∙ ap (sent (x Gone)) same.reply in
@@ -406,7 +410,9 @@ module _ (opens : Openings) (row : SessionRow) (o : Opening) where
       elim (is_lost before) as (λ b. is_lost before ≡ b → b ≡ false) [ true ↦ λ e. absurd (still (state before are.1) m v.fits v.taken v.reply (lost_down before are.1 e) counted) | false ↦ λ e. refl ] refl
 
   told_all : IsLawfulRow row → (made : List Made) (are : AreMade row o made) → Count made → TakeLawful made → AreConnected made → is_lost made ≡ false → Told made (state made are)
-  told_all lawful [] are count takes connected fine = begin lawful
+  told_all lawful [] are count takes connected fine =
+      let t = thin_of row o [] are in
+      subst (λ (z : List Part). Told [] (end_of row o z)) (one_cut row (life_made o []) [] t.parts (record { are_parts = tt; looks = refl }) t.cut) (begin lawful)
   told_all lawful (m ∷ before) are count takes connected fine =
       let t = told_all lawful before are.1 count.1 takes.1 connected.1 (not_lost m before are count.0) in
       extend m before are t (step_of m before are t count.0 takes.0 connected.0) fine

@@ -1,7 +1,7 @@
 -- The bytes of a record are its script.
-use Rattle.std.proofs.Common.{◌≡◌, ℕ, ◌+◌, ◌^◌, ◌<◌, ◌≤◌, Bool, true, false, inl, inr, not, List, [], ◌∷◌, ◌++◌, length, codes, decimal, slice_index, Option, Some, None, refl, sym, ap, ◌∙◌, subst, append_assoc, append-nil, arith}
-use Rattle.std.specs.Prelude.{◌==◌, ◌*◌, if◌then◌else◌, IfSome}
-use Rattle.std.specs.List.{All, AllByRecursion, AllPass, list_all}
+use Rattle.std.proofs.Common.{◌≡◌, ℕ, ◌^◌, ◌<◌, ◌≤◌, Bool, true, false, inl, inr, not, List, [], ◌∷◌, ◌++◌, length, codes, decimal, slice_index, Option, Some, None, refl, sym, ap, ◌∙◌, subst, append_assoc, append-nil, arith}
+use Rattle.std.specs.Prelude.{◌*◌, if◌then◌else◌, IfSome}
+use Rattle.std.specs.List.{AllByRecursion, AllPass, list_all}
 use Rattle.std.specs.Int.{to_be_bytes, w32}
 use Rattle.std.proofs.lemmas.Bool.{false_from_ne_true, both_ways, eqb-true}
 use Rattle.std.proofs.lemmas.Fmt.{length-decimal-le}
@@ -24,7 +24,7 @@ use Rattle.script_reader.specs.declared.line.Arriving.{Arriving}
 use Rattle.script_reader.specs.declared.line.Arriving.TheVariants as arriving
 use Rattle.script_reader.specs.declared.line.ToldFeedback.{ToldFeedback}
 use Rattle.script_reader.specs.declared.line.ToldFeedback.TheVariants as told
-use Rattle.script_reader.specs.Grammar.{spaced, outcome_field, held_field, IsWord, IsHex, IsRaw, IsArriving, IsFeedback, IsSpelled, IsLine}
+use Rattle.script_reader.specs.Grammar.{spaced, row_fields, outcome_field, held_field, IsWord, IsHex, IsRaw, IsArriving, IsFeedback, IsLine}
 use Rattle.script_reader.specs.Lines.{is_end, IsUnended, AreLines}
 use Rattle.script_reader.specs.Spelling.{line_spelling, line_text}
 use Rattle.script_reader.specs.Transcript.{event_fields, reply_fields}
@@ -124,21 +124,7 @@ opening_free row next held bytes (short, spelled) =
       | inl skip ↦ let e = skip.0 in absurd (cc)
       | inr (fields, (r, n, e), e') ↦
           let most = n.most in
-          rw (e', e) (free_spaced _ (
-            free_text (codes "low-session") refl,
-            free_decimal row.id (let h = r.id in omega (arith, h)),
-            free_decimal row.capacity (let h = r.capacity in omega (arith, h)),
-            free_decimal row.message (let h = r.message in omega (arith, h)),
-            free_decimal row.window (let h = r.window in omega (arith, h)),
-            free_decimal row.start (let h = r.start in omega (arith, h)),
-            free_decimal row.longest (let h = r.longest in omega (arith, h)),
-            free_decimal row.resend (let h = r.resend in omega (arith, h)),
-            free_name row.low r.low,
-            free_name row.high r.high,
-            free_decimal next (omega (arith, most)),
-            free_held held,
-            tt,
-          ))
+          rw (e', e) (free_spaced (codes "low-session" ∷ (row_fields row ++ decimal next ∷ held_field held ∷ [])) (free_text (codes "low-session") refl, (free_decimal row.id (let h = r.id in omega (arith, h)), (free_decimal row.capacity (let h = r.capacity in omega (arith, h)), (free_decimal row.message (let h = r.message in omega (arith, h)), (free_decimal row.window (let h = r.window in omega (arith, h)), (free_decimal row.start (let h = r.start in omega (arith, h)), (free_decimal row.longest (let h = r.longest in omega (arith, h)), (free_decimal row.resend (let h = r.resend in omega (arith, h)), (free_name row.low r.low, (free_name row.high r.high, (free_decimal next (omega (arith, most)), (free_held held, tt)))))))))))))
     ]
 
 look_line : (row : SessionRow) (m : Made) (bytes : List ℕ) → IsLine (line_of row m) bytes → IsUnended bytes × (row.id < 2 ^ 32) × (m.look.moment ≤ 2 ^ 62)

@@ -1,26 +1,27 @@
 -- A look of a script's low side alone that is told what a recorded look was told.
 use Rattle.std.proofs.Common.{◌≡◌, ℕ, ◌≤◌, Bool, true, false, List, [], ◌∷◌, ◌++◌, length, Option, Some, None, refl, sym, ap, ◌∙◌, subst, append-nil, arith}
-use Rattle.std.specs.Prelude.{if◌then◌else◌, ◌&&◌, ◌||◌, not, drop, filter}
+use Rattle.std.specs.Prelude.{if◌then◌else◌, ◌&&◌, ◌||◌, not, drop}
 use Rattle.std.proofs.lemmas.List.Elements.{filter-append}
 use Rattle.pump_frame.specs.declared.frame.Frame.{Frame}
 use Rattle.pump_frame.specs.declared.row.SessionRow.{SessionRow}
 use Rattle.pump_frame.specs.Frames.{IsLawful}
 use Rattle.pump_frame.specs.Readings.{Reading, Within, Stopped}
 use Rattle.pump_frame.specs.Spellings.{spelling}
-use Rattle.pump_frame.specs.Streams.{IsStream, spellings}
+use Rattle.pump_frame.specs.Streams.{IsStream}
 use Rattle.pump_frame.proofs.Streams.{nothing_partial}
 use Rattle.pump_frame.proofs.Exact.{begins_nothing}
 use Rattle.pump_core.specs.declared.feedback.Feedback.{Feedback}
 use Rattle.pump_core.specs.declared.feedback.Feedback.TheVariants as feedbacks
-use Rattle.pump_core.specs.History.{Arrival, Look, Opening, History, looked}
+use Rattle.pump_core.specs.History.{Arrival, Look, Opening, looked}
 use Rattle.pump_core.specs.History.{Nothing, Came, Bad, Gone}
-use Rattle.pump_core.specs.Exchanges.{is_gone, Part}
+use Rattle.pump_core.specs.Exchanges.{is_gone}
 use Rattle.pump_core.specs.Replies.{Sent, sent, LowReplies, takes, stores}
 use Rattle.pump_core.specs.Step.{after, reply_at, takes_at, FeedbackFits}
 use Rattle.pump_core.specs.Standing.{State, StandsAt, end_of}
 use Rattle.pump_core.proofs.MayTake.{is_idle, may_take_is}
 use Rattle.pump_core.proofs.Standings.{stands_after, replies_after, newest_after}
 use Rattle.script_reader.specs.declared.event.Event.{Event}
+use Rattle.script_reader.specs.declared.event.Event.TheVariants.{Low}
 use Rattle.script_reader.specs.declared.line.ToldFeedback.{ToldFeedback}
 use Rattle.script_reader.specs.EventHeads.{is_reply}
 use Rattle.script_reader.specs.Lows.{first_of, is_bad, printed_store, printed_feedback, printed_replies}
@@ -45,11 +46,11 @@ feedback_low n m (feedbacks.Repeat s) = refl
 
 replies_low : (n : ℕ) (rs : List Sent) → low_events (printed_replies n rs) ≡ printed_replies n rs
 replies_low n [] = refl
-replies_low n (r ∷ rs) = ap (λ l. _ ∷ l) (replies_low n rs)
+replies_low n (r ∷ rs) = ap (λ l. Low n r.moment r.reply ∷ l) (replies_low n rs)
 
 pub replies_append : (n : ℕ) (rs more : List Sent) → printed_replies n (rs ++ more) ≡ printed_replies n rs ++ printed_replies n more
 replies_append n [] more = refl
-replies_append n (r ∷ rs) more = ap (λ l. _ ∷ l) (replies_append n rs more)
+replies_append n (r ∷ rs) more = ap (λ l. Low n r.moment r.reply ∷ l) (replies_append n rs more)
 
 pub low_of : (n m : ℕ) (st : Option ℕ) (f : Feedback) (rs : List Sent) → low_events (printed_store n m st ++ (printed_feedback n m f ++ printed_replies n rs)) ≡ printed_replies n rs
 low_of n m st f rs =
@@ -61,7 +62,7 @@ low_of n m st f rs =
 
 -- ---- what comes with the line ----
 
-pub is_nothing : Arrival → Bool
+abbrev pub is_nothing : Arrival → Bool
 is_nothing Nothing = true
 is_nothing (Came f) = false
 is_nothing Bad = false

@@ -175,11 +175,10 @@ impl<H: WaitHighEnd> Work for TakesUp<H> {
 fn row() -> Option<SessionRow>
     ensures { IfSome result (λ row. IsLawfulRow row) }
 {
-    let name = Name::from_slice(b"weather")?;
     Some(SessionRow {
         id: 1,
-        low: name,
-        high: name,
+        low: Name::from_slice(b"weather")?,
+        high: Name::from_slice(b"watch")?,
         capacity: 4,
         message: 8,
         window: 2,
@@ -285,7 +284,7 @@ fn made(moment: u64, arrival: Arrival<'_>, look: LowLook) -> LookMade<'_> {
 }
 
 fn may_come(arrival: Arrival<'_>) -> bool
-    ensures { result ≡ true → HasLawfulFrame (arrival_of arrival) }
+    ensures { result ≡ true → HasLawfulFrame (arrival_of arrival.entry) }
 {
     match arrival {
         Arrival::Frame(frame) => frame.is_lawful(),

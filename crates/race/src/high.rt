@@ -99,13 +99,10 @@ impl<H: WaitHighEnd> HighHalf<H> {
         ensures place { H.place self.new.ends ≡ H.place self.old.ends }
         ensures shape { H.shape self.new.ends ≡ H.shape self.old.ends }
     {
-        match self.process.look_waiting(
-            rt,
-            self.moment,
-            None,
-            &mut self.store,
-            &mut self.ends,
-        ) {
+        match self
+            .process
+            .look_waiting(rt, self.moment, None, &mut self.store, &mut self.ends)
+        {
             Ok(_) => {}
             Err(_) => unreachable!(),
         }

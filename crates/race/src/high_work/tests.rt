@@ -40,12 +40,16 @@ fn forward<L: WaitLowEnd, R: Wait>(rt: &R, end: &mut L, number: u64) -> bool
     requires number { number < 1000 }
     requires ready { LowReady (L.stands end.old) number }
     ensures ready { result ≡ true → LowReady (L.stands end.new) (number + 1) }
+    ensures place { L.place end.new ≡ L.place end.old }
 {
     let item = Item {
         number,
         payload: Payload::default(),
     };
-    matches!(end.forward(rt, item), Forwarded::Passed)
+    match end.forward(rt, item) {
+        Forwarded::Passed => true,
+        Forwarded::Full(_) => false,
+    }
 }
 
 /// Lets a high worker run over two messages that were forwarded, with a gate of so many looks. Answers
@@ -81,7 +85,7 @@ fn a_gate_is_told_the_looks_and_the_messages_taken(rt: HostRuntime) -> Result<()
     };
     let end = run_over_two(&rt, rt.alloc(), &mut gate)?;
     assert_eq!(rt; end, (false, 750, 2));
-    assert!(rt; gate.told.as_slice() == [(0, 0), (1, 1), (2, 1), (3, 2)]);
+    assert!(rt; gate.told.as_slice() == [(0, 0), (1, 1), (2, 1), (3, 2)].as_slice());
     Ok(())
 }
 
@@ -93,7 +97,7 @@ fn a_gate_stops_a_worker(rt: HostRuntime) -> Result<(), Fail> {
     };
     let end = run_over_two(&rt, rt.alloc(), &mut gate)?;
     assert_eq!(rt; end, (true, 50, 2));
-    assert!(rt; gate.told.as_slice() == [(0, 0), (1, 1), (2, 1)]);
+    assert!(rt; gate.told.as_slice() == [(0, 0), (1, 1), (2, 1)].as_slice());
     assert_eq!(rt; gate.stops(), 1);
     Ok(())
 }

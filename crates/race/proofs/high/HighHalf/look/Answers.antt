@@ -1,4 +1,4 @@
-use Rattle.std.proofs.Common.{◌≡◌, ℕ, ◌<◌, ◌≤◌, false, true, refl, sym, ap, ◌∙◌, subst, arith}
+use Rattle.std.proofs.Common.{◌≡◌, ℕ, ◌≤◌, sym, ap, ◌∙◌, subst, arith}
 use Rattle.pump_frame.specs.declared.row.SessionRow.{SessionRow}
 use Rattle.disk_model.specs.Plain.{Plain}
 use Rattle.stable_buffer.specs.Stands.{HighStands}
@@ -20,7 +20,7 @@ returns-clause-at g c =
     let after = StandsFitting (g.H.HighSide.stands c.look_waiting.new.ends) c.look_waiting.new.self in
     let resend : (row_of w.process).resend ≡ 500000 = ap (λ (r : SessionRow). r.resend) a.row in
     let left = leaves (g.H.HighSide.shape w.ends) g.H.HighSide.on_one_thread after (row_of w.process).resend a.past a.high a.before w.moment
-        looked.got (omega (arith, resend)) (omega (arith, a.few, a.turn.few)) a.hand looked.ends in
+    looked.got (omega (arith, resend)) (omega (arith, a.few, a.turn.few)) a.hand looked.ends in
     let same : c.look_waiting.new.store ≡ w.store = c.in-Ok.ensures.fares.1 in
     record {
       turn = a.turn;

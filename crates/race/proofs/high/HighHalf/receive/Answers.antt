@@ -1,7 +1,7 @@
-use Rattle.std.proofs.Common.{rules, ◌≡◌, ◌<◌, ◌≤◌, true, refl, sym, ap, ◌∙◌, subst, arith, List, ◌∷◌, [], ◌++◌, length, Option, Some}
+use Rattle.std.proofs.Common.{rules, ◌≡◌, ◌<◌, ◌≤◌, sym, ap, ◌∙◌, subst, arith, ◌∷◌, [], ◌++◌, length, Option, Some}
 use Rattle.pump_frame.specs.declared.frame.Item.{Item}
 use Rattle.race.specs.HighHalf.{HandAt, IsNext}
-use Rattle.race.proofs.Receiving.{stores_next, has_one_more, payloads_given, map_length, short_comes, long_stays}
+use Rattle.race.proofs.Receiving.{stores_next, has_one_more, payloads_given, map_length}
 use Rattle.race.proofs.high.HighHalf.receive.Goals as goal
 
 pub returns-clause-at : goal.returns-clause-at
@@ -11,7 +11,7 @@ returns-clause-at g c =
     let x = c.in-Some.item.now in
     let hand : a.past.hand ≡ Some x = sym a.is_past.holds.hand ∙ sym (search rules) in
     let next : IsNext a.before a.past.removed a.past.sends a.high.taken w.moment x =
-        subst (λ (o : Option Item). HandAt a.before a.past.removed a.past.sends a.high.taken w.moment o) hand a.hand in
+    subst (λ (o : Option Item). HandAt a.before a.past.removed a.past.sends a.high.taken w.moment o) hand a.hand in
     let short : length x.payload ≤ 64 = omega (arith, c.len.ensures.value, c.if-len-gt-LONGEST.false) in
     let so_many : length a.received ≡ a.past.removed = ap length a.received_are ∙ map_length a.before ∙ a.removed_are in
     let one_left : length a.received < w.count = omega (arith, so_many, c.requires.below, a.is_past.holds.removed) in

@@ -139,14 +139,9 @@ impl<L: WaitLowEnd> LowHalf<L> {
         let word = next_word(self.word);
         self.word = word;
         let arrival = arrival_of_frame(frame);
-        let look = self.process.look_waiting(
-            rt,
-            moment,
-            word,
-            arrival,
-            &mut self.store,
-            &mut self.ends,
-        );
+        let look = self
+            .process
+            .look_waiting(rt, moment, word, arrival, &mut self.store, &mut self.ends);
         self.is_greeted = self.is_greeted | frame.is_some();
         LookMade {
             moment,

@@ -169,7 +169,5 @@ pub fn race_with<
     let script = Generator::new(seed, count);
     let low = LowHalf::start(low_end, low_store, &row, script, seed, count);
     let high = HighHalf::start(high_end, high_store, receiver, &row, times, count);
-    Ok(race_halves(
-        rt, low, high, low_clock, out, low_gate, high_gate,
-    ))
+    Ok(race_halves(rt, low, high, low_clock, out, low_gate, high_gate))
 }

@@ -34,11 +34,7 @@ fn run_works<
     G: Gate + Send,
     H: WaitHighEnd + Send,
     I: Gate + Send,
->(
-    rt: &R,
-    low: &mut LowWork<'_, '_, '_, '_, '_, K, O, L, G>,
-    high: &mut HighWork<'_, '_, H, I>,
-)
+>(rt: &R, low: &mut LowWork<'_, '_, '_, '_, '_, K, O, L, G>, high: &mut HighWork<'_, '_, H, I>)
     requires low { LowCan K.reads K.floor O.written O.faults L.stands L.place L.shape G.stops low.old }
     requires high { HighCan H.stands H.place H.shape I.stops high.old }
     ensures low_half { low.new.half.ghost_name ≡ low.old.half.ghost_name }

@@ -24,18 +24,42 @@ fn ran_whole(end: &RaceEnd) -> bool {
 fn records_begin_with_the_session_and_end_with_the_counts(rt: HostRuntime) -> Result<(), Fail> {
     let cases: [(u32, &[u32], &[u8]); 4] = [
         (1, &[0], b"# time 0\n# took 1\n# end 1 1\n"),
-        (2, &[1_000_000_000], b"# time 1000000000\n# time 1000000000\n# took 2\n# end 2 2\n"),
-        (5, &[7, 8], b"# time 7\n# time 8\n# time 7\n# time 8\n# time 7\n# took 5\n# end 5 5\n"),
-        (20, &TIMES, b"# time 50\n# time 700\n# took 20\n# end 20 20\n"),
+        (
+            2,
+            &[1_000_000_000],
+            b"# time 1000000000\n# time 1000000000\n# took 2\n# end 2 2\n",
+        ),
+        (
+            5,
+            &[7, 8],
+            b"# time 7\n# time 8\n# time 7\n# time 8\n# time 7\n# took 5\n# end 5 5\n",
+        ),
+        (
+            20,
+            &TIMES,
+            b"# time 50\n# time 700\n# took 20\n# end 20 20\n",
+        ),
     ];
     for (count, times, end_text) in &cases {
         let mut clock = StepClock::new(0, 1000);
         let mut out = sink(rt.alloc(), 200_000, Vec::new(rt.alloc()))?;
         let end = race_with(
-            &rt, rt.alloc(), 0, *count, times, &mut clock, &mut out, &mut Open, &mut Open,
+            &rt,
+            rt.alloc(),
+            0,
+            *count,
+            times,
+            &mut clock,
+            &mut out,
+            &mut Open,
+            &mut Open,
         )?;
         assert!(rt; ran_whole(&end));
-        assert!(rt; out.written().starts_with(b"low-session 1 8 64 4 20000 100000 500000 weather watch 0 0\ntold 1 0 3c6ef35f fine - raw 4e50"));
+        assert!(rt;
+            out.written().starts_with(
+                b"low-session 1 8 64 4 20000 100000 500000 weather watch 0 0\ntold 1 0 3c6ef35f fine - raw 4e50"
+            )
+        );
         assert!(rt; out.written().ends_with(end_text));
     }
     Ok(())
@@ -46,10 +70,21 @@ fn a_thousand_messages_race(rt: HostRuntime) -> Result<(), Fail> {
     let mut clock = StepClock::new(0, 1000);
     let mut out = sink(rt.alloc(), 1_000_000, Vec::new(rt.alloc()))?;
     let end = race_with(
-        &rt, rt.alloc(), 0, 1000, &TIMES, &mut clock, &mut out, &mut Open, &mut Open,
+        &rt,
+        rt.alloc(),
+        0,
+        1000,
+        &TIMES,
+        &mut clock,
+        &mut out,
+        &mut Open,
+        &mut Open,
     )?;
     assert!(rt; ran_whole(&end));
-    assert!(rt; out.written().ends_with(b"# time 20\n# time 50\n# took 1000\n# end 1000 1000\n"));
+    assert!(rt;
+        out.written()
+            .ends_with(b"# time 20\n# time 50\n# took 1000\n# end 1000 1000\n")
+    );
     Ok(())
 }
 
@@ -58,10 +93,20 @@ fn a_failed_write_leaves_a_front_and_the_disks(rt: HostRuntime) -> Result<(), Fa
     let mut clock = StepClock::new(0, 1000);
     let mut out = sink(rt.alloc(), 200_000, vec![in rt.alloc(); 1u64]?)?;
     let mut end = race_with(
-        &rt, rt.alloc(), 0, 100, &TIMES, &mut clock, &mut out, &mut Open, &mut Open,
+        &rt,
+        rt.alloc(),
+        0,
+        100,
+        &TIMES,
+        &mut clock,
+        &mut out,
+        &mut Open,
+        &mut Open,
     )?;
     assert!(rt; end.write_failed && !end.low_stopped && !end.high_stopped);
-    assert!(rt; out.written().starts_with(b"low-session 1 8 64 4 20000 100000 500000 weather watch 0 0\n"));
+    assert!(rt;
+        out.written().starts_with(b"low-session 1 8 64 4 20000 100000 500000 weather watch 0 0\n")
+    );
     assert!(rt; out.written().len() <= 8192);
     assert!(rt; matches!(end.recv.size(), Ok(size) if size > 80));
     Ok(())
@@ -147,10 +192,21 @@ fn workers_run_side_by_side(rt: HostRuntime) -> Result<(), Fail> {
         stops: 0,
     };
     let end = race_with(
-        &rt, rt.alloc(), 0, 3, &TIMES, &mut clock, &mut out, &mut low, &mut high,
+        &rt,
+        rt.alloc(),
+        0,
+        3,
+        &TIMES,
+        &mut clock,
+        &mut out,
+        &mut low,
+        &mut high,
     )?;
     assert!(rt; ran_whole(&end));
-    assert!(rt; out.written().ends_with(b"# time 50\n# time 700\n# time 20\n# took 3\n# end 3 3\n"));
+    assert!(rt;
+        out.written()
+            .ends_with(b"# time 50\n# time 700\n# time 20\n# took 3\n# end 3 3\n")
+    );
     Ok(())
 }
 
@@ -187,10 +243,21 @@ fn a_stopped_race_has_no_end_lines(rt: HostRuntime) -> Result<(), Fail> {
         stops: 0,
     };
     let end = race_with(
-        &rt, rt.alloc(), 0, 3, &TIMES, &mut clock, &mut out, &mut low, &mut high,
+        &rt,
+        rt.alloc(),
+        0,
+        3,
+        &TIMES,
+        &mut clock,
+        &mut out,
+        &mut low,
+        &mut high,
     )?;
     assert!(rt; !end.write_failed && end.low_stopped && end.high_stopped);
     assert!(rt; !out.written().contains(&b'#') || !out.written().ends_with(b"# end 3 3\n"));
-    assert_eq!(rt; out.written().iter().filter(|byte| **byte == b'\n').count(), 4);
+    assert_eq!(rt;
+        out.written().iter().filter(|byte| **byte == b'\n').count(),
+        4
+    );
     Ok(())
 }

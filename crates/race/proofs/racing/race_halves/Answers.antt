@@ -1,11 +1,11 @@
-use Rattle.std.proofs.Common.{rules, ◌≡◌, ◌⊎◌, inl, inr, ⊎_elim, ℕ, ◌≤◌, Bool, true, false, List, [], ◌++◌, length, refl, sym, ap, ◌∙◌, subst, append-nil, arith}
+use Rattle.std.proofs.Common.{◌≡◌, ℕ, Bool, true, false, List, [], ◌++◌, refl, sym, ap, ◌∙◌, subst, append-nil, arith}
 use Rattle.std.specs.Prelude.{◌||◌}
 use Rattle.disk_model.specs.Plain.{Plain}
 use Rattle.pump_frame.specs.declared.row.SessionRow.{SessionRow}
 use Rattle.stable_buffer.specs.Low.{StandsForCount}
 use Rattle.stable_buffer.specs.Stands.{HighStands as HighDiskStands}
 use Rattle.stable_buffer.specs.Log.{RecvStands}
-use Rattle.pump_core.specs.Passage.{Low, High, Shape, new_high, shape_of_row, Agrees, Fits}
+use Rattle.pump_core.specs.Passage.{Shape, shape_of_row, Fits}
 use Rattle.passage.specs.QueueEnds.{high_shape, LowEndStands, HighEndStands, low_shape}
 use Rattle.script_reader.specs.Generated.{generated_row}
 use Rattle.relay_threads.specs.Records.{recorded}
@@ -31,7 +31,7 @@ returns-clause-record g c = λ low_on high_on.
     let stands = b.fitting.0 in
     let shape : high_shape high.ends ≡ shape_of_row generated_row = r.high_shape ∙ c.requires.shape in
     let fits : Fits (shape_of_row generated_row) a.low b.high = subst (λ (s : Shape). Fits s a.low b.high) shape
-        (c.rejoin.ensures.lawful a.low b.high a.fitting.0 (record { is = stands.is; taken = stands.taken; times = stands.times; taken_before = stands.taken_before; tries = stands.tries })) in
+    (c.rejoin.ensures.lawful a.low b.high a.fitting.0 (record { is = stands.is; taken = stands.taken; times = stands.times; taken_before = stands.taken_before; tries = stands.tries })) in
     let times_are : c.as_slice.result.now ≡ high.times.items = c.as_slice.ensures.value in
     let none : c.run_halves-raced.result.low_stopped || c.run_halves-raced.result.high_stopped ≡ false = ap (λ (z : Bool × Bool). z.0 || z.1) (λ i. (low_on i, high_on i)) in
     let O = g.O.Sink in
@@ -41,8 +41,7 @@ returns-clause-record g c = λ low_on high_on.
     let next_is : c.next.result ≡ high.count = c.next.ensures ∙ low_count_is LowEndStands low_shape low made a HighEndStands high b done all same fits.agrees in
     let gone_is : c.removed.result ≡ high.count = omega (arith, c.removed.ensures, b.is_past.holds.removed, high_count_is LowEndStands low_shape low made a HighEndStands high b done all same fits.agrees) in
     let opened = c.open.ensures.prints (O.written c.args.out.now) (O.faults c.args.out.now) [] (keeps_none _ _ _ c.new-tape.ensures.empty c.new-tape.ensures.going) in
-    let looked = r.low.3 (O.written c.args.out.now) (O.faults c.args.out.now) _ opened in
-    (
+    let looked = r.low.3 (O.written c.args.out.now) (O.faults c.args.out.now) _ opened in (
       text ++ ends,
       moments_of made,
       c.close-write_failed.ensures.ended none (O.written c.args.out.now) (O.faults c.args.out.now) text looked,
@@ -68,8 +67,7 @@ returns-clause-cut_short g c = λ stopped.
     let text = record_text generated_row race_opening made in
     let one : c.run_halves-raced.result.low_stopped || c.run_halves-raced.result.high_stopped ≡ true = either c.run_halves-raced.result.low_stopped c.run_halves-raced.result.high_stopped stopped in
     let opened = c.open.ensures.prints (O.written c.args.out.now) (O.faults c.args.out.now) [] (keeps_none _ _ _ c.new-tape.ensures.empty c.new-tape.ensures.going) in
-    let looked = r.low.3 (O.written c.args.out.now) (O.faults c.args.out.now) _ opened in
-    (
+    let looked = r.low.3 (O.written c.args.out.now) (O.faults c.args.out.now) _ opened in (
       text ++ [],
       moments_of made,
       c.close-write_failed.ensures.stopped one (O.written c.args.out.now) (O.faults c.args.out.now) text looked,
@@ -95,11 +93,11 @@ returns-clause-disks g c = λ low_on high_on.
     let stands = b.fitting.0 in
     let shape : high_shape high.ends ≡ shape_of_row generated_row = r.high_shape ∙ c.requires.shape in
     let fits : Fits (shape_of_row generated_row) a.low b.high = subst (λ (s : Shape). Fits s a.low b.high) shape
-        (c.rejoin.ensures.lawful a.low b.high a.fitting.0 (record { is = stands.is; taken = stands.taken; times = stands.times; taken_before = stands.taken_before; tries = stands.tries })) in
+    (c.rejoin.ensures.lawful a.low b.high a.fitting.0 (record { is = stands.is; taken = stands.taken; times = stands.times; taken_before = stands.taken_before; tries = stands.tries })) in
     let next_is = low_count_is LowEndStands low_shape low made a HighEndStands high b done all same fits.agrees ∙ r.high_count in
     let removed_is = high_count_is LowEndStands low_shape low made a HighEndStands high b done all same fits.agrees ∙ r.high_count in
     let messages : b.received ≡ payloads c.args.low.seed c.args.high.count =
-        received_by_both LowEndStands low_shape low made a HighEndStands high b done all same fits.agrees ∙ ap (λ (z : ℕ × ℕ). payloads z.0 z.1) (λ i. (r.seed i, r.high_count i)) in
+    received_by_both LowEndStands low_shape low made a HighEndStands high b done all same fits.agrees ∙ ap (λ (z : ℕ × ℕ). payloads z.0 z.1) (λ i. (r.seed i, r.high_count i)) in
     let store = a.store a.up in
     record {
       low_stands = subst (λ (z : SessionRow × ℕ × Plain). StandsForCount z.0 z.1 z.2.bytes) (λ i. ((store.row ∙ a.row) i, (store.count ∙ next_is) i, sym c.into_disk.ensures i)) (store.ready.stands tt);

@@ -1,4 +1,4 @@
-use Rattle.std.proofs.Common.{rules, ◌≡◌, ℕ, List, Bool, true, false, subst}
+use Rattle.std.proofs.Common.{ℕ, subst}
 use Rattle.pump_frame.specs.Counts.{Rose}
 use Rattle.pump_core.specs.Passage.{new_low, new_high}
 use Rattle.race.specs.Race.{IsStoppedRecord, AreRaceDisks}

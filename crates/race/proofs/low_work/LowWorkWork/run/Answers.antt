@@ -1,6 +1,4 @@
-use Rattle.std.proofs.Common.{rules, ◌≡◌, ℕ, List, [], ◌∷◌, ◌++◌, Option, refl, sym, ap, ◌∙◌, subst, le_refl, le_trans, arith}
-use Rattle.pump_frame.specs.declared.frame.Frame.{Frame}
-use Rattle.pump_core.specs.History.{Arrival}
+use Rattle.std.proofs.Common.{rules, ℕ, List, [], ◌∷◌, ◌++◌, refl, sym, ◌∙◌, subst, le_refl}
 use Rattle.pump_link.specs.Tells.{Draws}
 use Rattle.relay_threads.specs.Records.{record_of}
 use Rattle.relay_threads.specs.RecordLines.{looks_text, made_by, HasLawfulFrame}
@@ -46,8 +44,7 @@ loop-preserved g c =
     let m = made_by x in
     let K = g.K.Clock in
     let O = g.O.Sink in
-    let (left, at, offer) = c.next_frame-frame.ensures.offer made s.at in
-    (
+    let (left, at, offer) = c.next_frame-frame.ensures.offer made s.at in (
       m ∷ made,
       record {
         keeps = record {

@@ -1,4 +1,4 @@
-use Rattle.std.proofs.Common.{rules, ◌≡◌, ℕ, List, [], ◌∷◌, ◌++◌, Bool, true, false, Option, refl, sym, ap, ◌∙◌, subst, append-nil}
+use Rattle.std.proofs.Common.{[], ◌++◌, sym, subst, append-nil}
 use Rattle.race.specs.Race.{end_lines}
 use Rattle.race.specs.Tape.{Keeps}
 use Rattle.race.specs.Turns.{turns}

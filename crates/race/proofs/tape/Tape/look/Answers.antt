@@ -1,9 +1,8 @@
-use Rattle.std.proofs.Common.{rules, ◌≡◌, ℕ, List, [], ◌∷◌, ◌++◌, Bool, true, false, Option, refl, sym, ap, ◌∙◌, subst, append-nil}
+use Rattle.std.proofs.Common.{rules, ◌≡◌, [], ◌++◌, Bool, true, refl, sym, ap, ◌∙◌}
 use Rattle.std.specs.Prelude.{if◌then◌else◌}
 use Rattle.pump_frame.specs.declared.row.SessionRow.{SessionRow}
 use Rattle.relay_threads.specs.Records.{is_recorded}
 use Rattle.relay_threads.specs.RecordLines.{look_text, made_by}
-use Rattle.script_reader.specs.Generated.{generated_row}
 use Rattle.race.specs.Race.{look_lines}
 use Rattle.race.specs.Tape.{held_of}
 use Rattle.race.proofs.Tapes.{keeps_more}

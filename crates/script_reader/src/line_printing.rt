@@ -9,7 +9,7 @@ ghost use Rattle.script_reader.specs.Typed.{behind, IsPrinted, IsTypedRow, IsTyp
 
 use crate::head::{ArrivingHead, LineHead};
 use crate::line::{Line, ToldFeedback};
-use crate::printing::{put, put_field, put_number};
+use crate::printing::{put, put_field, put_hex, put_number};
 use arrayvec::ArrayVec;
 use pump_frame::{Name, SessionRow};
 
@@ -38,25 +38,6 @@ fn put_word<const N: usize>(into: &mut ArrayVec<u8, N>, word: u32)
     hex::encode_to_slice(word.to_be_bytes().as_slice(), &mut digits).unwrap();
     put(into, b" ");
     put(into, &digits);
-}
-
-/// A space and two digits for each byte, or a dash for none.
-fn put_hex<const N: usize>(into: &mut ArrayVec<u8, N>, bytes: &[u8])
-    requires few { length bytes.now ≤ 1042 }
-    requires room { array_vec_len into.old + 2 + 2 * length bytes.now ≤ N }
-    ensures items { into.new.items ≡ into.old.items ++ 32 ∷ hex_field bytes.now }
-    ensures len { array_vec_len into.new ≤ array_vec_len into.old + 2 + 2 * length bytes.now }
-    ensures printed { IsPrinted bytes.now }
-{
-    if bytes.is_empty() {
-        put(into, b" -");
-        return;
-    }
-    let mut digits = [0; 2084];
-    let digits = &mut digits[..2 * bytes.len()];
-    hex::encode_to_slice(bytes, digits).unwrap();
-    put(into, b" ");
-    put(into, digits);
 }
 
 /// The nine fields of a row.

@@ -29,7 +29,10 @@ use file_shelf::FileShelf;
 use live::live;
 use pump_link::{MemPorts, MemSource, Sink, Source, StepClock};
 use standard::{StdSink, StdSource};
+use std::alloc::Global;
 use std::process::ExitCode;
+use std::sync::Wait;
+use std::thread::Threads;
 use std::{env, io};
 
 /// The words after the program's name.
@@ -47,14 +50,14 @@ fn is_live(words: &[String]) -> bool {
 }
 
 /// Runs the command with threads that the words are. The looks of a race are a millisecond apart.
-fn run_live<S: Shelf, I: Source, O: Sink + Send>(
-    rt: &HostRuntime,
+fn run_live<R: Threads + Wait + Sync, S: Shelf, I: Source, O: Sink + Send>(
+    rt: &R,
+    alloc: Global,
     words: &Vec<String>,
     shelf: &mut S,
     script: &mut I,
     out: &mut O,
 ) -> u8 {
-    let alloc = rt.alloc();
     let mut ports = MemPorts::new(Vec::new(alloc), Vec::new(alloc));
     let mut keys = MemSource::new(Vec::new(alloc), 1, Vec::new(alloc));
     let mut low_clock = StepClock::new(0, 1000);
@@ -83,7 +86,7 @@ fn main(rt: HostRuntime) -> ExitCode {
     let mut script = StdSource::new(rt.stdin());
     let mut out = StdSink::new(rt.stdout());
     let status = if is_live(words.as_slice()) {
-        run_live(&rt, &words, &mut shelf, &mut script, &mut out)
+        run_live(&rt, rt.alloc(), &words, &mut shelf, &mut script, &mut out)
     } else {
         batch(rt.alloc(), &words, &mut shelf, &mut script, &mut out)
     };

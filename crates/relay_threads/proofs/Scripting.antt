@@ -1,5 +1,5 @@
 -- The bytes of a record are its script.
-use Rattle.std.proofs.Common.{◌≡◌, ℕ, ◌^◌, ◌<◌, ◌≤◌, Bool, true, false, inl, inr, not, List, [], ◌∷◌, ◌++◌, length, codes, decimal, slice_index, Option, Some, None, refl, sym, ap, ◌∙◌, subst, append_assoc, append-nil, arith}
+use Rattle.std.proofs.Common.{◌≡◌, ℕ, ◌+◌, ◌^◌, ◌<◌, ◌≤◌, Bool, true, false, inl, inr, not, List, [], ◌∷◌, ◌++◌, length, codes, decimal, slice_index, Option, Some, None, refl, sym, ap, ◌∙◌, subst, append_assoc, append-nil, arith}
 use Rattle.std.specs.Prelude.{◌*◌, if◌then◌else◌, IfSome}
 use Rattle.std.specs.List.{AllByRecursion, AllPass, list_all}
 use Rattle.std.specs.Int.{to_be_bytes, w32}
@@ -188,6 +188,20 @@ reply_plain Taken number payload form e = absurd (cc)
 -- the comment without its line end
 abbrev comment_bytes : ℕ → ℕ → Frame → List ℕ
 comment_bytes session m r = codes "# " ++ spaced (event_fields (Low session m r))
+
+-- a comment has at most 258 bytes
+pub comment_short : (row : SessionRow) (m : ℕ) (r : Option Frame) (old new : List ℕ) → row.id < 2 ^ 32 → m < 2 ^ 64 → IfSome r IsReplyFrame → new ≡ old ++ comment row m r → length new ≤ length old + 258
+comment_short row m None old new hs hm lawful e =
+    let long = ap length e ∙ length-append old [] in
+    omega (arith, long)
+comment_short row m (Some r) old new hs hm lawful e =
+    let p = reply_plain r.kind r.number r.payload lawful.0.form lawful.1 in
+    let fields : List (List ℕ) = event_fields (Low row.id m r) in
+    let bound = short_spaced fields (omega arith, (short_decimal row.id (omega (arith, hs)), (short_decimal m hm, p.short))) in
+    let few = p.few in
+    let long = ap length e ∙ length-append old (comment row m (Some r)) in
+    let line = length-append (spaced fields) (10 ∷ []) in
+    omega (arith, bound, few, long, line)
 
 comment_line : (session m : ℕ) (r : Frame) → session < 2 ^ 32 → m ≤ 2 ^ 62 → IsReplyFrame r → IsUnended (comment_bytes session m r) × IsLine lines.Skip (comment_bytes session m r)
 comment_line session m r hs hm lawful =

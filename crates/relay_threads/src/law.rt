@@ -24,9 +24,9 @@ pub fn records_are_lives()
 /// A record replays to its own `low` lines, byte for byte: its script has a transcript, whose `low` lines
 /// are all replies of the life, each with its moment, which are the comments of the record (`whole`).
 /// Where the last recorded look lost its message, that look stops the script, as a device that failed,
-/// and the `low` lines up to and with it are all replies (`stopped`). The looks may have been made at any
-/// row; frames that were taken are lawful, and after bad bytes nothing more was taken of a connection but
-/// its loss, as a reader of frames gives it.
+/// and the `low` lines up to and with it are all replies (`stopped`). Whatever any disks were found to
+/// hold plays no part. Each frame that was taken is lawful, and after bad bytes nothing more was taken of
+/// a connection but its loss, as a reader of frames gives it.
 pub fn records_replay()
     ensures whole { (opens : Openings) (row : SessionRow) (o : Opening) (made : List Made) → IsLawfulRow row → AreMade row o made
         → TakeLawful made → AreConnected made → is_lost (record_of made) ≡ false → Replays opens row o made }

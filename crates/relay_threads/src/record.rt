@@ -200,9 +200,12 @@ pub fn append_look<const N: usize>(row: &SessionRow, made: &LookMade, into: &mut
     requires frame { HasLawfulFrame (arrival_of made.now.arrival) }
     requires reply { IfSome made.now.look.reply IsReplyFrame }
     ensures text { into.new.items ≡ into.old.items ++ look_text row.now (made_by made.now) }
+    ensures len { array_vec_len into.new ≤ array_vec_len into.old + 2700 }
     // What stands before the first line end is this line, so a reader of scripts gives it back.
     ensures reads { IsLawfulLine (line_of row.now (made_by made.now)) → IsLine (line_of row.now (made_by made.now)) (line_spelling (line_of row.now (made_by made.now))) }
 {
+    // Their ranges bound the length.
+    let (_session, _moment) = (row.id, made.moment);
     append_line_of(row, made, into);
     append_comment(row, made, into);
 }

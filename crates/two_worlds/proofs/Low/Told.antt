@@ -1,5 +1,5 @@
 -- What a low look is told is what the past says.
-use Rattle.std.proofs.Common.{◌≡◌, ℕ, Bool, true, false, cond, List, [], ◌∷◌, Option, Some, None, refl, ap}
+use Rattle.std.proofs.Common.{◌≡◌, ℕ, Bool, true, false, List, Option, Some, None, refl, ap}
 use Rattle.std.specs.Prelude.{if◌then◌else◌, ◌&&◌, ◌==◌, ◌-◌, is_some, length}
 use Rattle.pump_frame.specs.declared.frame.Item.{Item}
 use Rattle.pump_frame.specs.declared.row.SessionRow.{SessionRow}
@@ -10,14 +10,13 @@ use Rattle.pump_core.specs.Phases.{Phase}
 use Rattle.pump_core.specs.Phases.{Idle, Passing, Waiting as Waits, Down}
 use Rattle.pump_core.specs.History.{Arrival}
 use Rattle.pump_core.specs.History.{Nothing, Came, Bad, Gone}
-use Rattle.pump_core.specs.History.{Opening}
-use Rattle.pump_core.specs.Exchanges.{is_gone, is_repeat, has_average, Waiting, Over, Part, Holding, Release, Empty, Leaving, Answer, Repeated, Offering, Dropped, Delivery, Loss, count_after, greeted_after}
+use Rattle.pump_core.specs.Exchanges.{is_gone, is_repeat, has_average, Part, count_after, greeted_after}
 use Rattle.pump_core.specs.Comings.{may_take}
 use Rattle.low_process.specs.declared.values.Phase.{Phase as LowPhase}
 use Rattle.low_process.specs.declared.values.Phase.TheVariants as low
 use Rattle.low_process.specs.Looks.{look_of, phase_of, hand_in}
 use Rattle.pump_core.specs.Step.{is_quiet, fits_passing, fits_idle, fits_in}
-use Rattle.pump_core.specs.Standing.{State, phase_after}
+use Rattle.pump_core.specs.Standing.{State}
 use Rattle.pump_core.proofs.MayTake.{is_idle}
 use Rattle.script_reader.specs.Past.{Past, pair}
 use Rattle.script_reader.specs.Lows.{is_owed, comes_again, feedback_at}

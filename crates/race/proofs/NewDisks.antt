@@ -2,12 +2,10 @@
 use Rattle.std.proofs.Common.{◌≡◌, ℕ, ◌-◌, List, [], drop, ap, ◌∙◌, arith, length-take, length-drop}
 use Rattle.disk_model.specs.declared.name.Role.{Role}
 use Rattle.disk_model.specs.declared.name.Role.TheVariants.{Low, High, Recv}
-use Rattle.pump_frame.specs.Rows.{IsLawfulRow, first_bad}
 use Rattle.pump_frame.specs.declared.row.SessionRow.{SessionRow}
 use Rattle.stable_buffer.specs.Format.{FormatStands, second_of}
 use Rattle.stable_buffer.specs.Register.{value_of}
 use Rattle.stable_buffer.specs.Log.{RecvStands}
-use Rattle.script_reader.specs.Generated.{generated_row}
 
 -- the records of no messages end where they begin
 no_records : (row : SessionRow) (disk : List ℕ) (s : RecvStands row [] disk) → s.end ≡ 80
@@ -21,6 +19,3 @@ pub new_value : (row : SessionRow) (role : Role) (disk : List ℕ) → FormatSta
 new_value row Low disk s = s.value
 new_value row High disk s = s.value
 new_value row Recv disk s = s.value ∙ ap (λ (n : ℕ). (0, n)) (no_records row disk s)
-
-pub row_is_lawful : (row : SessionRow) → row ≡ generated_row → IsLawfulRow row
-row_is_lawful row e = ap first_bad e

@@ -1,5 +1,5 @@
 -- The receiver takes the message in the hand.
-use Rattle.std.proofs.Common.{◌≡◌, ℕ, ◌+◌, ◌<◌, ◌≤◌, true, false, List, [], ◌∷◌, ◌++◌, length, map, Option, Some, None, refl, sym, ap, ◌∙◌, subst, arith}
+use Rattle.std.proofs.Common.{◌≡◌, ℕ, ◌+◌, ◌<◌, ◌≤◌, false, List, [], ◌∷◌, ◌++◌, length, map, None, refl, sym, ap, ◌∙◌, subst, arith}
 use Rattle.std.specs.Prelude.{nat_lt, Ok}
 use Rattle.std.proofs.lemmas.List.{length-append, map-append}
 use Rattle.pump_frame.specs.declared.frame.Item.{Item}
@@ -10,8 +10,8 @@ use Rattle.high_receiver.specs.Steps.{TakesMessage}
 use Rattle.high_receiver.specs.declared.receiver.Receiver.{Receiver}
 use Rattle.high_receiver.specs.declared.values.Taken.{Taken}
 use Rattle.race.specs.Turns.{payload_in}
-use Rattle.race.specs.HighHalf.{HasReceived, comes_to_receiver}
-use Rattle.race.proofs.HighNumbers.{not_below, is_at_most, not_at_most}
+use Rattle.race.specs.HighHalf.{HasReceived}
+use Rattle.race.proofs.HighNumbers.{not_below}
 
 -- the next message is stored, since there is room for it
 pub stores_next : (r : Receiver Plain) (count : ℕ) (received : List (List ℕ)) (number size : ℕ) → HasReceived r count received → length received < count → number ≡ length received → size ≤ 64
@@ -45,10 +45,3 @@ payloads_given before taken given message received is e r =
 pub map_length : (xs : List Item) → length (map payload_in xs) ≡ length xs
 map_length [] = refl
 map_length (x ∷ xs) = omega (arith, map_length xs)
-
--- which messages come to it
-pub short_comes : (hand : Option Item) (x : Item) → hand ≡ Some x → length x.payload ≤ 64 → comes_to_receiver hand ≡ true
-short_comes hand x is short = ap comes_to_receiver is ∙ is_at_most (length x.payload) 64 short
-
-pub long_stays : (hand : Option Item) (x : Item) → hand ≡ Some x → 64 < length x.payload → comes_to_receiver hand ≡ false
-long_stays hand x is long = ap comes_to_receiver is ∙ not_at_most (length x.payload) 64 long

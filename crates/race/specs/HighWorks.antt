@@ -8,6 +8,7 @@ use Rattle.race.specs.HighHalf.{HighAt}
 use Rattle.race.specs.declared.high_work.HighWork.{HighWork}
 
 module _ {H G : Type 0} (stands : H → Low → High → Type 0) (place : H → List TableId) (shape : H → Shape) (stops : G → ℕ) where
+  -- the work may run: its half stands between two looks, and the receiver has just what is removed
   abbrev pub HighCan : HighWork H G → Type 0
   HighCan w = HighAt stands false w.half.now × (w.is_stopped ≡ false)
 

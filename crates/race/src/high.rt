@@ -36,6 +36,7 @@ pub struct HighHalf<H> {
     pub moment: u64,
 }
 
+/// The receiver's answer that it has this message.
 fn taken(number: u64) -> Frame
     ensures kind { result.kind ≡ Kind.Taken }
     ensures session { result.session ≡ 1 }

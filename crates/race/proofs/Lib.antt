@@ -2,6 +2,7 @@ pub mod Comparisons
 pub mod Derived
 pub mod Finish
 pub mod Frames
+pub mod HighAsks
 pub mod HighLooks
 pub mod HighNumbers
 pub mod LowGoes

@@ -1,16 +1,15 @@
 -- From what the two works did, and what ties their ends, follows what a race prints and leaves.
-use Rattle.std.proofs.Common.{◌≡◌, ℕ, zero, suc, ◌≤◌, false, List, [], ◌∷◌, ◌++◌, length, take, map, refl, sym, ap, ◌∙◌, subst, append-nil, arith}
+use Rattle.std.proofs.Common.{◌≡◌, ℕ, ◌≤◌, List, ◌++◌, length, take, map, sym, ap, ◌∙◌, subst, arith}
 use Rattle.std.specs.List.{All}
-use Rattle.std.proofs.lemmas.List.{length-append, map-append, take-append-le, take_all}
-use Rattle.pump_frame.specs.declared.frame.Item.{Item}
+use Rattle.std.proofs.lemmas.List.{take-append-le, take_all}
 use Rattle.pump_core.specs.Passage.{Low, High, shape_of_row, Agrees, IsAverage, NeverFall}
 use Rattle.relay_threads.specs.Records.{Made, recorded, made_of}
 use Rattle.relay_threads.proofs.Kept.{thin_of}
 use Rattle.script_reader.specs.Generated.{generated_row}
 use Rattle.race.specs.Messages.{race_opening, race_items}
-use Rattle.race.specs.MadeLooks.{moments_of, TakeAll, frames_of, pairs_of}
+use Rattle.race.specs.MadeLooks.{moments_of, pairs_of}
 use Rattle.race.specs.Race.{IsLowRun, IsHighRun, ArePrinted, payloads}
-use Rattle.race.specs.Turns.{turns, payload_in}
+use Rattle.race.specs.Turns.{payload_in}
 use Rattle.race.proofs.RaceItems.{items_count}
 use Rattle.race.proofs.Printing.{take_all_kept, frames_kept, pairs_kept, full_kept, numbers_fall, own}
 

@@ -1,12 +1,12 @@
 -- What the two works did once neither was stopped.
-use Rattle.std.proofs.Common.{◌≡◌, ℕ, ◌≤◌, ◌+◌, ◌<◌, Bool, true, false, List, [], ◌∷◌, ◌++◌, length, take, map, Option, Some, None, refl, sym, ap, ◌∙◌, subst, arith, append-nil}
+use Rattle.std.proofs.Common.{◌≡◌, ℕ, ◌≤◌, Bool, true, false, List, [], ◌∷◌, ◌++◌, length, take, map, Option, Some, None, refl, sym, ap, ◌∙◌, subst, arith, append-nil}
 use Rattle.std.proofs.lemmas.List.{length-append, take-append-le, take_all}
 use Rattle.pump_frame.specs.declared.frame.Item.{Item}
 use Rattle.pump_core.specs.Passage.{Low, High, Shape, shape_of_row, Agrees}
 use Rattle.pump_core.specs.Sendings.{Sending}
 use Rattle.low_process.specs.declared.values.Phase.{Phase}
 use Rattle.low_process.specs.declared.values.Phase.TheVariants.{Idle, Passing, Waiting as Waits, Down}
-use Rattle.low_process.specs.Looks.{is_idle, is_idle_in, hand_of, hand_in, next_of}
+use Rattle.low_process.specs.Looks.{is_idle_in, hand_of, hand_in, next_of}
 use Rattle.high_process.specs.States.{removed_of}
 use Rattle.relay_threads.specs.Records.{Made, recorded}
 use Rattle.script_reader.specs.Generated.{generated_row}

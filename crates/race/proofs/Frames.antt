@@ -6,7 +6,6 @@ use Rattle.pump_frame.specs.declared.frame.Frame.{Frame}
 use Rattle.pump_frame.specs.declared.frame.Kind.{Kind}
 use Rattle.pump_frame.specs.declared.frame.Kind.TheVariants.{Hello, Welcome, Data, Ack, Refuse, Attach, Taken}
 use Rattle.pump_core.specs.Exchanges.{is_data}
-use Rattle.pump_core.specs.History.{Arrival}
 use Rattle.low_process.specs.Looks.{IsLawful as CanCome}
 use Rattle.relay_threads.specs.RecordLines.{HasLawfulFrame, is_reply_kind, IsReplyFrame}
 use Rattle.race.specs.LowHalf.{arrival_in}

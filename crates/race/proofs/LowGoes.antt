@@ -1,40 +1,37 @@
 -- A look carries the low half of a race on.
-use Rattle.std.proofs.Common.{◌≡◌, ◌⊎◌, inl, inr, ℕ, ◌+◌, ◌^◌, ◌<◌, ◌≤◌, zero, suc, Bool, true, false, List, [], ◌∷◌, ◌++◌, length, map, Option, Some, None, refl, sym, ap, ◌∙◌, subst, arith, append-nil, append_assoc}
-use Rattle.std.specs.Prelude.{◌||◌, not, if◌then◌else◌, is_some, IfSome}
+use Rattle.std.proofs.Common.{◌≡◌, inl, inr, ℕ, ◌+◌, ◌<◌, ◌≤◌, suc, Bool, true, false, List, [], ◌∷◌, ◌++◌, length, Option, Some, None, refl, sym, ap, ◌∙◌, subst, arith, append-nil, append_assoc}
+use Rattle.std.specs.Prelude.{◌||◌, is_some, IfSome}
 use Rattle.std.proofs.lemmas.List.{length-append, map-append}
 use Rattle.pump_frame.specs.declared.frame.Frame.{Frame}
 use Rattle.pump_frame.specs.declared.frame.Item.{Item}
 use Rattle.pump_frame.specs.declared.row.SessionRow.{SessionRow}
-use Rattle.disk_model.specs.Plain.{Plain, plain_meaning}
+use Rattle.disk_model.specs.Plain.{plain_meaning}
 use Rattle.stable_buffer.specs.Stands.{low_size}
 use Rattle.stable_buffer.specs.Low.{low_disk}
-use Rattle.stable_buffer.specs.declared.low.LowStore.{LowStore}
 use Rattle.pump_core.specs.declared.feedback.Feedback.{Feedback}
 use Rattle.pump_core.specs.declared.feedback.Feedback.TheVariants.{Quiet, Full, Passed, Released, Repeat}
 use Rattle.pump_core.specs.Phases as phases
-use Rattle.pump_core.specs.History.{Arrival, Look, History, looked}
-use Rattle.pump_core.specs.History.{Nothing, Came, Bad, Gone}
-use Rattle.pump_core.specs.Comings.{is_nothing}
-use Rattle.pump_core.specs.Exchanges.{Part, IsCut, count_after, greeted_after}
-use Rattle.pump_core.specs.Replies.{LowReplies, takes, stores}
-use Rattle.pump_core.specs.Standing.{State, StandsAt, end_of, phase_after, last_moment}
-use Rattle.pump_core.specs.Step.{after, after_in, reply_at, takes_at, stores_at, FeedbackFits, is_full}
+use Rattle.pump_core.specs.History.{Arrival, Look, History}
+use Rattle.pump_core.specs.History.{Nothing, Came}
+use Rattle.pump_core.specs.Exchanges.{Part, count_after}
+use Rattle.pump_core.specs.Replies.{LowReplies}
+use Rattle.pump_core.specs.Standing.{State, StandsAt, end_of, phase_after}
+use Rattle.pump_core.specs.Step.{reply_at, takes_at, stores_at, FeedbackFits, is_full}
 use Rattle.pump_core.specs.Passage.{Low, High, Shape, shape_of_row, new_high, forwards, tried, read_pair}
 use Rattle.pump_core.proofs.Cuts.{one_cut}
 use Rattle.low_process.specs.declared.values.Phase.{Phase}
 use Rattle.low_process.specs.declared.values.Phase.TheVariants.{Idle, Passing, Waiting as Waits, Down}
 use Rattle.low_process.specs.declared.values.LowLook.{LowLook}
-use Rattle.low_process.specs.declared.process.LowProcess.{LowProcess}
-use Rattle.low_process.specs.Looks.{StandsFor, Looks, row_of, next_of, last_of, is_down, is_down_in, is_idle, is_idle_in, hand_of, hand_in, hand_after, hand_stored, hand_passed, item_of, look_of, phase_of, state_of}
+use Rattle.low_process.specs.Looks.{StandsFor, Looks, row_of, next_of, last_of, is_down_in, is_idle_in, hand_of, hand_in, hand_after, hand_stored, hand_passed, look_of, phase_of, state_of}
 use Rattle.low_process.specs.Ends.{StandsFitting, EndStep}
 use Rattle.low_process.specs.Whole.{LookStep, HasStore}
-use Rattle.relay_threads.specs.Records.{Made, looks_made, life_made, history_made, replies_made, IsMade, AreMade}
+use Rattle.relay_threads.specs.Records.{Made, looks_made, life_made, history_made, replies_made, IsMade}
 use Rattle.relay_threads.proofs.Machine.{Led, led, reply_led}
 use Rattle.script_reader.specs.Generated.{drawn, generated_row}
 use Rattle.relay_threads.specs.RecordLines.{tells_fault, is_reply_kind}
 use Rattle.race.specs.LookWords.{word_after, word_of_look}
 use Rattle.race.specs.LowHalf.{LowAt, LowRests, IsOffer, goes_on, with_hand, frames_so_far, arrival_in}
-use Rattle.race.specs.MadeLooks.{HaveWords, frames_of, frame_in, pairs_of, pair_in}
+use Rattle.race.specs.MadeLooks.{HaveWords, frames_of, frame_in, pair_in}
 use Rattle.race.specs.Messages.{messages_in, race_items, race_opening, hello_frame, data_frame}
 use Rattle.race.specs.declared.low.LowHalf.{LowHalf}
 use Rattle.race.proofs.LowLooks.{Hears, Went, IsFine, nothing_comes, hello_comes, data_comes}

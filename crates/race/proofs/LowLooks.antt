@@ -1,18 +1,18 @@
 -- What one look of the low process does in a race: the state after it, by the state before it.
-use Rattle.std.proofs.Common.{◌≡◌, ℕ, ◌+◌, ◌^◌, ◌<◌, ◌≤◌, Bool, true, false, List, [], ◌∷◌, length, Option, Some, None, refl, sym, ap, ◌∙◌, subst, arith, eq-eqb}
-use Rattle.std.specs.Prelude.{◌==◌, ◌&&◌, not, nat_lt, nat_le, if◌then◌else◌}
+use Rattle.std.proofs.Common.{◌≡◌, ℕ, ◌+◌, ◌^◌, ◌<◌, ◌≤◌, Bool, true, false, length, Option, Some, None, refl, sym, ap, ◌∙◌, subst, arith, eq-eqb}
+use Rattle.std.specs.Prelude.{◌&&◌, not, nat_le, if◌then◌else◌}
 use Rattle.pump_frame.specs.declared.frame.Frame.{Frame}
 use Rattle.pump_frame.specs.declared.row.SessionRow.{SessionRow}
 use Rattle.pump_core.specs.declared.feedback.Feedback.{Feedback}
 use Rattle.pump_core.specs.declared.feedback.Feedback.TheVariants.{Quiet, Full, Passed, Released, Repeat}
 use Rattle.pump_core.specs.Phases.{Phase}
 use Rattle.pump_core.specs.Phases.{Idle, Passing, Waiting as Waits, Down}
-use Rattle.pump_core.specs.History.{Arrival, Look}
-use Rattle.pump_core.specs.History.{Nothing, Came, Bad, Gone}
+use Rattle.pump_core.specs.History.{Look}
+use Rattle.pump_core.specs.History.{Nothing, Came}
 use Rattle.pump_core.specs.Comings.{is_nothing}
 use Rattle.pump_core.specs.Exchanges.{is_repeat, is_next, is_fit, has_average, due}
 use Rattle.pump_core.specs.Replies.{acknowledgement, answer}
-use Rattle.pump_core.specs.Step.{after, after_in, reply_in, reply_taken, takes_at, takes_in, stores_at, stores_in, FeedbackFits, fits_in, is_quiet, fits_passing, is_full, passed}
+use Rattle.pump_core.specs.Step.{after_in, reply_in, takes_in, stores_in, FeedbackFits, fits_in, is_quiet, fits_passing, is_full, passed}
 use Rattle.pump_core.specs.Standing.{State}
 use Rattle.low_process.specs.Looks.{look_of}
 use Rattle.pump_frame.specs.declared.frame.Item.{Item}

@@ -1,5 +1,5 @@
 -- One look more of the low work.
-use Rattle.std.proofs.Common.{◌≡◌, ℕ, Bool, true, false, List, [], ◌∷◌, ◌++◌, length, refl, sym, subst, append-nil, append_assoc}
+use Rattle.std.proofs.Common.{◌≡◌, Bool, true, false, List, [], ◌∷◌, ◌++◌, length, refl, sym, subst, append-nil, append_assoc}
 use Rattle.std.specs.Prelude.{if◌then◌else◌}
 use Rattle.pump_link.specs.Tells.{Draws}
 use Rattle.relay_threads.specs.Records.{Made, is_recorded, recorded, record_of, made_of}

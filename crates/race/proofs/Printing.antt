@@ -1,10 +1,9 @@
 -- What the looks of the low work are, their recorded ones are too.
-use Rattle.std.proofs.Common.{◌≡◌, ℕ, ◌<◌, ◌≤◌, Bool, true, false, List, [], ◌∷◌, ◌++◌, length, slice_get, Option, Some, None, refl, sym, ap, ◌∙◌, subst, append-nil, le_refl, le_trans, arith}
+use Rattle.std.proofs.Common.{◌≡◌, ℕ, ◌<◌, Bool, true, false, List, [], ◌∷◌, ◌++◌, length, slice_get, Some, None, refl, sym, ap, ◌∙◌, subst, append-nil, arith}
 use Rattle.std.specs.Prelude.{if◌then◌else◌, ◌||◌, ◌&&◌, not, is_some}
 use Rattle.std.specs.List.{All}
 use Rattle.std.proofs.lemmas.List.{length-append}
 use Rattle.std.proofs.lemmas.List.Elements.{All-cons, All-nil}
-use Rattle.pump_frame.specs.declared.frame.Frame.{Frame}
 use Rattle.pump_frame.specs.declared.row.SessionRow.{SessionRow}
 use Rattle.pump_core.specs.declared.feedback.Seen.{Seen}
 use Rattle.pump_core.specs.declared.feedback.Feedback.{Feedback}
@@ -22,7 +21,7 @@ use Rattle.pump_core.proofs.PassageSteps.{all_weaken}
 use Rattle.pump_core.proofs.Cuts.{one_cut}
 use Rattle.relay_threads.specs.Records.{Made, Shown, looks_made, life_made, AreMade, was_full, passes_on, is_recorded, recorded, made_of}
 use Rattle.relay_threads.proofs.Machine.{led}
-use Rattle.relay_threads.proofs.Kept.{Thin, thin_of}
+use Rattle.relay_threads.proofs.Kept.{thin_of}
 use Rattle.race.specs.LookWords.{word_of_look}
 use Rattle.race.specs.MadeLooks.{moments_of, HaveWords, TakeAll, frame_in, frames_of, pair_in, pairs_of, FullFrom, NumbersFall, HasItsOwn}
 

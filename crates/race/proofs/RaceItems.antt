@@ -6,7 +6,7 @@ use Rattle.std.proofs.lemmas.List.{length-append}
 use Rattle.pump_frame.specs.declared.frame.Item.{Item}
 use Rattle.pump_core.specs.Passage.{Numbered}
 use Rattle.script_reader.specs.declared.line.Line.{Line}
-use Rattle.script_reader.specs.Generated.{Mark, generated, messages_from, message_lines, early_lines, takings, timed, message_word, after_draws, after_message, due_at, late_count, empty_look, is_seventh, payload_of, counting, first_mark}
+use Rattle.script_reader.specs.Generated.{Mark, messages_from, message_lines, early_lines, takings, timed, message_word, after_draws, after_message, due_at, late_count, empty_look, is_seventh, payload_of, first_mark}
 use Rattle.script_reader.proofs.Takings.{length_counting}
 use Rattle.race.specs.Messages.{brought_by, messages_in, race_items}
 

@@ -1,6 +1,6 @@
 -- The receiver takes the message in the hand.
-use Rattle.std.proofs.Common.{◌≡◌, ℕ, ◌+◌, ◌*◌, ◌<◌, ◌≤◌, Bool, true, false, List, [], ◌∷◌, ◌++◌, length, map, Option, Some, None, refl, sym, ap, ◌∙◌, subst, arith}
-use Rattle.std.specs.Prelude.{nat_lt, nat_le, if◌then◌else◌, Result, Ok, Err}
+use Rattle.std.proofs.Common.{◌≡◌, ℕ, ◌+◌, ◌<◌, ◌≤◌, true, false, List, [], ◌∷◌, ◌++◌, length, map, Option, Some, None, refl, sym, ap, ◌∙◌, subst, arith}
+use Rattle.std.specs.Prelude.{nat_lt, Ok}
 use Rattle.std.proofs.lemmas.List.{length-append, map-append}
 use Rattle.pump_frame.specs.declared.frame.Item.{Item}
 use Rattle.pump_frame.specs.declared.row.SessionRow.{SessionRow}
@@ -9,9 +9,8 @@ use Rattle.high_receiver.specs.Receiving.{Stores, answer_at_once, recv_disk, rec
 use Rattle.high_receiver.specs.Steps.{TakesMessage}
 use Rattle.high_receiver.specs.declared.receiver.Receiver.{Receiver}
 use Rattle.high_receiver.specs.declared.values.Taken.{Taken}
-use Rattle.script_reader.specs.Generated.{generated_row}
 use Rattle.race.specs.Turns.{payload_in}
-use Rattle.race.specs.HighHalf.{HasReceived, IsNext, comes_to_receiver}
+use Rattle.race.specs.HighHalf.{HasReceived, comes_to_receiver}
 use Rattle.race.proofs.HighNumbers.{not_below, is_at_most, not_at_most}
 
 -- the next message is stored, since there is room for it

@@ -1,5 +1,5 @@
 -- The comments of the times, one after another.
-use Rattle.std.proofs.Common.{◌≡◌, ℕ, ◌+◌, ◌%◌, ◌<◌, suc, List, [], ◌∷◌, ◌++◌, length, codes, refl, sym, ap, ◌∙◌, append-nil, append_assoc, arith}
+use Rattle.std.proofs.Common.{◌≡◌, ℕ, ◌+◌, suc, List, [], ◌∷◌, ◌++◌, codes, sym, ap, ◌∙◌, append-nil, append_assoc, arith}
 use Rattle.race.specs.Race.{number_line, time_lines}
 use Rattle.race.specs.Turns.{turn, turns}
 

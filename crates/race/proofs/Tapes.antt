@@ -1,11 +1,11 @@
 -- One piece of a record after another.
-use Rattle.std.proofs.Common.{◌≡◌, ◌⊎◌, inl, inr, ℕ, ◌+◌, ◌-◌, ◌^◌, ◌≤◌, min, Bool, true, false, List, [], ◌∷◌, ◌++◌, Option, Some, None, refl, sym, ap, ◌∙◌, subst, append-nil, append_assoc, le_refl, le_trans, arith}
+use Rattle.std.proofs.Common.{◌≡◌, ◌⊎◌, inl, inr, ℕ, ◌≤◌, Bool, true, false, List, [], ◌++◌, Option, refl, sym, ap, ◌∙◌, subst, append-nil, append_assoc, le_refl, le_trans, arith}
 use Rattle.std.specs.Prelude.{◌||◌}
 use Rattle.std.specs.Io.KnownBytes.{Appends}
-use Rattle.pump_frame.specs.Counts.{Rose, raised}
+use Rattle.pump_frame.specs.Counts.{Rose}
 use Rattle.pump_link.specs.Causes.{AppendsFront}
 use Rattle.pump_link.proofs.Known.{Appends-none, Appends-then}
-use Rattle.race.specs.Tape.{held_of, has_failed, Keeps, Prints, Stays, Written}
+use Rattle.race.specs.Tape.{held_of, has_failed, Keeps, Prints, Written}
 use Rattle.race.specs.declared.tape.Tape.{Tape}
 
 pub rose_later : (a b c : ℕ) → a ≤ b → Rose b c → Rose a c
@@ -99,3 +99,9 @@ pub either : (a b : Bool) → (a ≡ true) ⊎ (b ≡ true) → a || b ≡ true
 either true b e = refl
 either false b (inl e) = absurd (cc)
 either false b (inr e) = e
+
+-- what holds of a failure whether a worker was stopped or not
+pub failed_of : (low high failed : Bool) (R : Type 0) → (low ≡ false → high ≡ false → failed ≡ true → R) → ((low ≡ true) ⊎ (high ≡ true) → failed ≡ true → R) → failed ≡ true → R
+failed_of false false failed R ran stopped e = ran refl refl e
+failed_of false true failed R ran stopped e = stopped (inr refl) e
+failed_of true high failed R ran stopped e = stopped (inl refl) e

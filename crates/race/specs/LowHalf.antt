@@ -1,9 +1,9 @@
 -- The low half of a race between two looks: the low process with its store and its end, and what is
 -- left of the generated script.
-use Rattle.std.specs.Prelude.{◌≡◌, ◌⊎◌, ℕ, ◌≤◌, Bool, true, false, if◌then◌else◌, List, [], ◌∷◌, ◌++◌, length, map, Option, Some, None}
+use Rattle.std.specs.Prelude.{◌≡◌, ◌⊎◌, ◌≤◌, Bool, true, false, if◌then◌else◌, List, [], ◌∷◌, ◌++◌, length, map, Option, Some, None}
 use Rattle.pump_frame.specs.declared.frame.Frame.{Frame}
 use Rattle.pump_frame.specs.declared.frame.Item.{Item}
-use Rattle.disk_model.specs.Plain.{Plain, plain_meaning}
+use Rattle.disk_model.specs.Plain.{plain_meaning}
 use Rattle.stable_buffer.specs.Stands.{low_size}
 use Rattle.stable_buffer.specs.Low.{low_disk}
 use Rattle.pump_core.specs.Phases.{Phase}

@@ -1,5 +1,5 @@
 -- What the low worker of a race does.
-use Rattle.std.specs.Prelude.{◌≡◌, ℕ, ◌≤◌, Bool, true, false, List, [], Option}
+use Rattle.std.specs.Prelude.{◌≡◌, ℕ, ◌≤◌, true, false, List, [], Option}
 use Rattle.atomic_table.specs.Seated.{TableId}
 use Rattle.pump_frame.specs.Counts.{Rose}
 use Rattle.pump_link.specs.Tells.{Draws}

@@ -18,10 +18,12 @@ fn found_full(look: &LowLook) -> bool
     matches!(look.feedback, Feedback::Full)
 }
 
-// The look found nothing to do.
-fn found_nothing(look: &LowLook) -> bool {
+// Where the look found nothing to do, the other worker may have to take a message up first.
+fn make_way(look: &LowLook) {
     let is_idle = matches!(look.feedback, Feedback::Quiet | Feedback::Full);
-    is_idle && !look.taken && look.reply.is_none()
+    if is_idle && !look.taken && look.reply.is_none() {
+        thread::yield_now();
+    }
 }
 
 /// The low worker of a race: its half, the clock, the sink with the tape before it, and the gate that
@@ -62,10 +64,7 @@ impl<K: Clock, O: Sink, L: WaitLowEnd, G: Gate> Work for LowWork<'_, '_, '_, '_,
             looks = looks.saturating_add(1);
             self.tape.look(self.out, &made, was_full);
             was_full = found_full(&made.look);
-            if found_nothing(&made.look) {
-                // The other worker may have to take a message up.
-                thread::yield_now();
-            }
+            make_way(&made.look);
         }
         unreachable!();
     }

@@ -1,11 +1,11 @@
-use Rattle.std.proofs.Common.{rules, ◌≡◌, ◌⊎◌, inl, inr, ⊎_elim, ℕ, ◌≤◌, Bool, true, false, List, [], ◌++◌, length, refl, sym, ap, ◌∙◌, subst, append-nil, arith}
+use Rattle.std.proofs.Common.{◌≡◌, ℕ, Bool, true, false, List, [], ◌++◌, refl, sym, ap, ◌∙◌, subst, append-nil, arith}
 use Rattle.std.specs.Prelude.{◌||◌}
 use Rattle.disk_model.specs.Plain.{Plain}
 use Rattle.pump_frame.specs.declared.row.SessionRow.{SessionRow}
 use Rattle.stable_buffer.specs.Low.{StandsForCount}
 use Rattle.stable_buffer.specs.Stands.{HighStands as HighDiskStands}
 use Rattle.stable_buffer.specs.Log.{RecvStands}
-use Rattle.pump_core.specs.Passage.{Low, High, Shape, new_high, shape_of_row, Agrees, Fits}
+use Rattle.pump_core.specs.Passage.{Shape, shape_of_row, Fits}
 use Rattle.passage.specs.QueueEnds.{high_shape, LowEndStands, HighEndStands, low_shape}
 use Rattle.script_reader.specs.Generated.{generated_row}
 use Rattle.relay_threads.specs.Records.{recorded}

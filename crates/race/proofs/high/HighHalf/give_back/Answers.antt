@@ -1,16 +1,15 @@
-use Rattle.std.proofs.Common.{rules, ◌≡◌, ℕ, ◌+◌, ◌^◌, ◌<◌, ◌≤◌, false, true, refl, sym, ap, ◌∙◌, subst, arith, List, ◌∷◌, [], ◌++◌, length, Option, Some, Bool}
+use Rattle.std.proofs.Common.{rules, ◌≡◌, ℕ, ◌+◌, ◌^◌, ◌≤◌, false, refl, sym, ap, ◌∙◌, subst, arith, List, ◌∷◌, [], ◌++◌, length, Option, Some, Bool}
 use Rattle.std.specs.Prelude.{Ok, option_to_list}
 use Rattle.std.proofs.lemmas.List.{length-append}
-use Rattle.pump_frame.specs.declared.frame.Frame.{Frame}
 use Rattle.pump_frame.specs.declared.frame.Item.{Item}
 use Rattle.pump_frame.specs.declared.row.SessionRow.{SessionRow}
-use Rattle.disk_model.specs.Plain.{Plain, plain_meaning}
+use Rattle.disk_model.specs.Plain.{plain_meaning}
 use Rattle.stable_buffer.specs.Stands.{HighStands}
 use Rattle.stable_buffer.specs.High.{high_disk}
 use Rattle.pump_core.specs.Passage.{High, new_low, publishes}
 use Rattle.high_process.specs.declared.values.Task.{Task}
 use Rattle.high_process.specs.declared.values.Task.TheVariants.{Remove}
-use Rattle.high_process.specs.Past.{ProcessPast, begun, next_time, wants}
+use Rattle.high_process.specs.Past.{ProcessPast, begun, next_time, wants, taken_up, finished}
 use Rattle.high_process.specs.Storing.{Fares}
 use Rattle.high_process.specs.Ends.{StandsFitting, TakesUp, told_time}
 use Rattle.high_process.specs.Looks.{Looked}
@@ -56,12 +55,18 @@ returns-clause-at g c =
     let resend : (row_of w.process).resend ≡ 500000 = ap (λ (r : SessionRow). r.resend) a.row in
     let ends : TakesUp shape one after new_low high (wants past) past.removed looked.got =
     subst (λ (o : Option ℕ). TakesUp shape one after new_low (told_time o a.high) (wants past) past.removed looked.got) published looked.ends in
+    let past_after : ProcessPast = finished (row_of w.process).resend false (taken_up past looked.got) m in
     let left = leaves shape one after (row_of w.process).resend past high a.high.taken m looked.got (omega (arith, resend)) (omega (arith, a.few, a.turn.few))
     (refl, sent_below_next n w.moment a.past.sends next.older next.sends_are next.older_below) ends in
+    let one_more : a.high.times ++ time ∷ [] ≡ turns w.times.items (n + 1) =
+    ap (λ (z : List ℕ × ℕ). z.0 ++ z.1 ∷ []) (λ i. (a.times_are i, turn_is i)) ∙ turns_more w.times.items n in
+    let times_are : left.high.times ≡ turns w.times.items past_after.removed = left.times_are ∙ one_more ∙ ap (turns w.times.items) (sym left.removed_is) in
+    let told : past_after.times ≡ a.past.times ++ time ∷ [] = left.past_times_are ∙ ap (λ (z : Option ℕ). a.past.times ++ option_to_list z) published in
+    let past_times : past_after.times ≡ left.high.times = told ∙ ap (λ (z : List ℕ). z ++ time ∷ []) a.past_times ∙ sym left.times_are in
     record {
       turn = a.turn;
       high = left.high;
-      past = _;
+      past = past_after;
       fitting = left.stands;
       is_past = looked.stands;
       up = c.in-Ok.ensures.up;
@@ -77,8 +82,8 @@ returns-clause-at g c =
       before = a.high.taken;
       removed_are = ap length next.taken_is ∙ omega (arith, length-append a.before (next.given ∷ []), a.removed_are, left.removed_is);
       hand = left.hand;
-      times_are = left.times_are ∙ ap (λ (z : List ℕ). z ++ time ∷ []) a.times_are ∙ ap (λ (z : ℕ). turns w.times.items n ++ z ∷ []) turn_is ∙ turns_more w.times.items n ∙ ap (turns w.times.items) (sym left.removed_is);
-      past_times = left.past_times_are ∙ ap (λ (z : Option ℕ). a.past.times ++ option_to_list z) published ∙ ap (λ (z : List ℕ). z ++ time ∷ []) a.past_times ∙ sym left.times_are;
+      times_are = times_are;
+      past_times = past_times;
       received = a.received;
       recv = a.recv;
       received_are = a.received_are;

@@ -1,7 +1,7 @@
-use Rattle.std.proofs.Common.{rules, ◌≡◌, ◌<◌, ◌≤◌, true, refl, sym, ap, ◌∙◌, subst, arith, List, ◌∷◌, [], ◌++◌, length, Option, Some}
+use Rattle.std.proofs.Common.{rules, ◌≡◌, ◌<◌, ◌≤◌, sym, ap, ◌∙◌, subst, arith, ◌∷◌, [], ◌++◌, length, Option, Some}
 use Rattle.pump_frame.specs.declared.frame.Item.{Item}
 use Rattle.race.specs.HighHalf.{HandAt, IsNext}
-use Rattle.race.proofs.Receiving.{stores_next, has_one_more, payloads_given, map_length, short_comes, long_stays}
+use Rattle.race.proofs.Receiving.{stores_next, has_one_more, payloads_given, map_length}
 use Rattle.race.proofs.high.HighHalf.receive.Goals as goal
 
 pub returns-clause-at : goal.returns-clause-at

@@ -1,12 +1,10 @@
-use Rattle.std.proofs.Common.{◌≡◌, rules, refl, sym, ap, ◌∙◌, subst, true, Option, Some, None}
-use Rattle.std.specs.Prelude.{◌||◌, ◌∷◌, IfSome}
-use Rattle.pump_frame.specs.Frames.{IsLawful}
-use Rattle.pump_frame.specs.declared.frame.Frame.{Frame}
+use Rattle.std.proofs.Common.{refl, sym, ap, ◌∙◌, subst}
+use Rattle.std.specs.Prelude.{◌||◌, ◌∷◌}
 use Rattle.pump_core.specs.History.{Arrival}
 use Rattle.low_process.specs.Looks.{hand_of, hand_after, look_of, IsLawful as CanCome}
 use Rattle.low_process.specs.Whole.{LookStep}
 use Rattle.disk_model.specs.Plain.{plain_meaning}
-use Rattle.relay_threads.specs.RecordLines.{tells_fault, is_reply_kind, IsReplyFrame}
+use Rattle.relay_threads.specs.RecordLines.{tells_fault}
 use Rattle.race.specs.LowHalf.{arrival_in, LowRests}
 use Rattle.race.specs.declared.low.LowHalf.{LowHalf}
 use Rattle.race.proofs.LowGoes.{carried, Leaves}

@@ -1,6 +1,4 @@
-use Rattle.std.proofs.Common.{rules, ◌≡◌, ℕ, List, [], ◌∷◌, ◌++◌, Option, refl, sym, ap, ◌∙◌, subst, le_refl, le_trans, arith}
-use Rattle.pump_frame.specs.declared.frame.Frame.{Frame}
-use Rattle.pump_core.specs.History.{Arrival}
+use Rattle.std.proofs.Common.{rules, ℕ, List, [], ◌∷◌, ◌++◌, refl, sym, ◌∙◌, subst, le_refl}
 use Rattle.pump_link.specs.Tells.{Draws}
 use Rattle.relay_threads.specs.Records.{record_of}
 use Rattle.relay_threads.specs.RecordLines.{looks_text, made_by, HasLawfulFrame}
@@ -34,5 +32,43 @@ look_with-made-requires-clause-at g c =
     let i = c.loop.invariant in
     (i.0, c.next_frame-frame.ensures.offer i.0 i.1.at)
 
-pub look-self-requires-clause-lawful : goal.look-self-requires-clause-lawful
-look-self-requires-clause-lawful g c = subst HasLawfulFrame (sym c.look_with-made.ensures.arrival) (has_lawful c.next_frame-frame.result c.next_frame-frame.ensures.lawful)
+pub look-requires-clause-lawful : goal.look-requires-clause-lawful
+look-requires-clause-lawful g c = subst HasLawfulFrame (sym c.look_with-made.ensures.arrival) (has_lawful c.next_frame-frame.result c.next_frame-frame.ensures.lawful)
+
+pub loop-preserved : goal.loop-preserved
+loop-preserved g c =
+    let i = c.loop.invariant in
+    let made = i.0 in
+    let s = i.1 in
+    let x = c.look_with-made.result in
+    let m = made_by x in
+    let K = g.K.Clock in
+    let O = g.O.Sink in
+    let (left, at, offer) = c.next_frame-frame.ensures.offer made s.at in (
+      m ∷ made,
+      record {
+        keeps = record {
+          half = search rules;
+          clock = search rules;
+          out = search rules;
+          tape = search rules;
+          gate = search rules;
+          place_stays = search rules;
+          seed = search rules;
+          count = search rules;
+        };
+        at = c.look_with-made.ensures.at made left at offer;
+        order = search rules;
+        row = c.look.ensures.row ∙ s.row;
+        draws = subst (λ (z : ℕ). Draws (K.reads c.args.self.now.clock.now) (K.reads c.moment-moment.new.self) (moments_of made ++ z ∷ [])) (sym c.look_with-made.ensures.moment)
+            (draws_then _ _ _ (moments_of made) (c.moment-moment.result ∷ []) s.draws c.moment-moment.ensures.reads);
+        prints = subst (λ (z : List ℕ). Prints c.args.self.now.tape.now c.look.new.self (O.written c.args.self.now.out.now) (O.written c.look.new.out) (O.faults c.args.self.now.out.now) (O.faults c.look.new.out) z)
+            (looks_more m made)
+            (prints_then c.args.self.now.tape.now c.loop.self.tape.now c.look.new.self (O.written c.args.self.now.out.now) (O.written c.loop.self.out.now) (O.written c.look.new.out)
+            (O.faults c.args.self.now.out.now) (O.faults c.loop.self.out.now) (O.faults c.look.new.out)
+            (looks_text generated_row (record_of made)) (look_lines made m) s.prints (c.look.ensures.prints made i.2));
+        stops_rise = search rules;
+      },
+      c.found_full-was_full.ensures,
+      i.3,
+    )

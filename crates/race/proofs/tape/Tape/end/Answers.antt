@@ -1,6 +1,6 @@
-use Rattle.std.proofs.Common.{rules, ◌≡◌, ℕ, List, [], ◌∷◌, ◌++◌, ◌+◌, ◌%◌, ◌≤◌, Bool, true, false, Option, codes, refl, sym, ap, ◌∙◌, subst, append-nil, append_assoc, le_refl, le_trans, arith}
-use Rattle.race.specs.Race.{number_line, time_lines, end_line, end_lines}
-use Rattle.race.specs.Tape.{Prints, Keeps}
+use Rattle.std.proofs.Common.{ℕ, List, ◌++◌, codes, refl, ◌∙◌, subst, append_assoc}
+use Rattle.race.specs.Race.{number_line, time_lines, end_line}
+use Rattle.race.specs.Tape.{Keeps}
 use Rattle.race.specs.Turns.{turns}
 use Rattle.race.proofs.Tapes.{keeps_more}
 use Rattle.race.proofs.tape.Tape.end.Goals as goal

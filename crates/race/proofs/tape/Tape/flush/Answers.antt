@@ -1,7 +1,6 @@
-use Rattle.std.proofs.Common.{rules, ◌≡◌, ℕ, List, [], ◌∷◌, ◌++◌, ◌+◌, ◌%◌, ◌≤◌, Bool, true, false, Option, codes, refl, sym, ap, ◌∙◌, subst, append-nil, append_assoc, le_refl, le_trans, arith}
+use Rattle.std.proofs.Common.{true, refl, subst}
 use Rattle.pump_link.specs.Causes.{AppendsFront}
 use Rattle.std.specs.Io.KnownBytes.{Appends}
-use Rattle.race.specs.Tape.{held_of, has_failed, Keeps}
 use Rattle.race.proofs.Tapes.{keeps_written, keeps_cut}
 use Rattle.race.proofs.tape.Tape.flush.Goals as goal
 

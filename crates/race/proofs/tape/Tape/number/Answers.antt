@@ -1,4 +1,4 @@
-use Rattle.std.proofs.Common.{rules, ◌≡◌, ℕ, List, [], ◌∷◌, ◌++◌, ◌+◌, ◌%◌, ◌≤◌, Bool, true, false, Option, codes, refl, sym, ap, ◌∙◌, subst, append-nil, append_assoc, le_refl, le_trans, arith}
+use Rattle.std.proofs.Common.{refl}
 use Rattle.race.specs.Race.{number_line}
 use Rattle.race.proofs.Tapes.{keeps_more}
 use Rattle.race.proofs.tape.Tape.number.Goals as goal

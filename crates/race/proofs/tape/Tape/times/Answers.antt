@@ -1,4 +1,4 @@
-use Rattle.std.proofs.Common.{rules, ◌≡◌, ℕ, List, [], ◌∷◌, ◌++◌, ◌+◌, ◌%◌, ◌≤◌, Bool, true, false, Option, codes, refl, sym, ap, ◌∙◌, subst, append-nil, append_assoc, le_refl, le_trans, arith}
+use Rattle.std.proofs.Common.{◌≡◌, ℕ, List, codes, subst, arith}
 use Rattle.race.specs.Race.{number_line, time_lines}
 use Rattle.race.specs.Tape.{Prints}
 use Rattle.race.specs.Turns.{turns}

@@ -1,4 +1,3 @@
-use Rattle.std.proofs.Common.{◌≡◌}
 use Rattle.race.specs.Race.{time_lines}
 use Rattle.race.specs.Tape.{Prints}
 use Rattle.race.specs.Turns.{turns}

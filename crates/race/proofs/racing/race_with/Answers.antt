@@ -1,0 +1,29 @@
+use Rattle.std.proofs.Common.{ℕ, subst}
+use Rattle.pump_frame.specs.Counts.{Rose}
+use Rattle.pump_core.specs.Passage.{new_low, new_high}
+use Rattle.race.specs.Race.{IsStoppedRecord, AreRaceDisks}
+use Rattle.race.proofs.Tapes.{failed_of}
+use Rattle.race.proofs.racing.race_with.Goals as goal
+
+pub start-low-requires-clause-stands : goal.start-low-requires-clause-stands
+start-low-requires-clause-stands g c = c.ends-low_end.ensures.low new_high
+
+pub start-high-requires-clause-stands : goal.start-high-requires-clause-stands
+start-high-requires-clause-stands g c = c.ends-low_end.ensures.high new_low
+
+pub returns-clause-cut_short : goal.returns-clause-cut_short
+returns-clause-cut_short g c = λ stopped.
+    let (bytes, readings, written, draws, is) = c.race_halves.ensures.cut_short stopped in
+    (bytes, readings, written, draws, subst (λ (seed : ℕ). IsStoppedRecord seed readings bytes) c.start-low.ensures.seed is)
+
+pub returns-clause-disks : goal.returns-clause-disks
+returns-clause-disks g c = λ low_on high_on.
+    let end = c.race_halves.result in
+    subst (λ (z : ℕ × ℕ). AreRaceDisks z.0 z.1 end.low.bytes end.high.bytes end.recv.bytes) (λ i. (c.start-low.ensures.seed i, c.start-high.ensures.count i)) (c.race_halves.ensures.disks low_on high_on)
+
+pub returns-clause-failed : goal.returns-clause-failed
+returns-clause-failed g c =
+    let O = g.O.Sink in
+    let end = c.race_halves.result in
+    failed_of end.low_stopped end.high_stopped end.write_failed (Rose (O.faults c.args.out.now) (O.faults c.race_halves.new.out))
+    (λ low_on high_on. (c.race_halves.ensures.record low_on high_on).2.cause) (λ stopped. (c.race_halves.ensures.cut_short stopped).2.cause)

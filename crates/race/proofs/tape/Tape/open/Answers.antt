@@ -1,0 +1,16 @@
+use Rattle.std.proofs.Common.{◌++◌, refl, ap, ◌∙◌}
+use Rattle.pump_frame.specs.declared.row.SessionRow.{SessionRow}
+use Rattle.script_reader.specs.Spelling.{line_text}
+use Rattle.relay_threads.specs.RecordLines.{opening_line}
+use Rattle.race.specs.Messages.{race_opening}
+use Rattle.race.specs.Race.{opening_text}
+use Rattle.race.specs.Tape.{held_of}
+use Rattle.race.proofs.Tapes.{keeps_more}
+use Rattle.race.proofs.tape.Tape.open.Goals as goal
+
+pub returns-clause-prints : goal.returns-clause-prints
+returns-clause-prints g c = λ start first earlier k.
+    let tape = c.make_room.new.self in
+    keeps_more tape (record tape { held = c.append_opening.new.into }) start (g.O.Sink.written c.make_room.new.out) first (g.O.Sink.faults c.make_room.new.out) earlier opening_text
+    (c.append_opening.ensures.text ∙ ap (λ (row : SessionRow). held_of tape ++ line_text (opening_line row race_opening)) (c.make_room.ensures.row ∙ c.requires))
+    refl (c.make_room.ensures.stays start first earlier k)

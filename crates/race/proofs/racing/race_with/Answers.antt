@@ -2,6 +2,7 @@ use Rattle.std.proofs.Common.{ℕ, subst}
 use Rattle.pump_frame.specs.Counts.{Rose}
 use Rattle.pump_core.specs.Passage.{new_low, new_high}
 use Rattle.race.specs.Race.{IsStoppedRecord, AreRaceDisks}
+use Rattle.race.specs.Turns.{AsksHigh}
 use Rattle.race.proofs.Tapes.{failed_of}
 use Rattle.race.proofs.racing.race_with.Goals as goal
 
@@ -27,3 +28,9 @@ returns-clause-failed g c =
     let end = c.race_halves.result in
     failed_of end.low_stopped end.high_stopped end.write_failed (Rose (O.faults c.args.out.now) (O.faults c.race_halves.new.out))
     (λ low_on high_on. (c.race_halves.ensures.record low_on high_on).2.cause) (λ stopped. (c.race_halves.ensures.cut_short stopped).2.cause)
+
+pub returns-clause-asked_high : goal.returns-clause-asked_high
+returns-clause-asked_high g c =
+    let H = g.H.Gate in
+    let end = c.race_halves.result in
+    subst (λ (n : ℕ). AsksHigh n end.high_stopped (H.asked c.args.high_gate.now) (H.asked c.race_halves.new.high_gate) end.recv.bytes) c.start-high.ensures.count c.race_halves.ensures.asked_high

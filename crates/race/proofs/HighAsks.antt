@@ -16,6 +16,10 @@ use Rattle.race.proofs.Receiving.{map_length}
 abbrev pub one_if : Bool → ℕ
 one_if b = if b then 1 else 0
 
+pub done_more : (b : Bool) (before : List Bool) → done_in (b ∷ before) ≡ one_if b + done_in before
+done_more true before = omega arith
+done_more false before = omega arith
+
 -- one ask more
 pub asks_more : (p q r : List (ℕ × ℕ) → Type 0) (done : Bool) (before : List Bool) (looks count : ℕ) → looks ≡ looks_in before → count ≡ done_in before
     → Grows p q (asks_of before) → Grows q r ((looks, count) ∷ []) → Grows p r (asks_of (done ∷ before))

@@ -8,7 +8,7 @@ ghost use Rattle.high_process.specs.States.{removed_of};
 ghost use Rattle.script_reader.specs.Generated.{generated_row};
 ghost use Rattle.race.specs.HighHalf.{HighAt};
 ghost use Rattle.race.specs.LowHalf.{LowRests};
-ghost use Rattle.race.specs.Race.{IsRaceRecord, IsStoppedRecord, AreRaceDisks};
+ghost use Rattle.race.specs.Race.{IsRaceRecord, IsStoppedRecord, AreRaceDisks, AsksLow};
 ghost use Rattle.race.specs.Tape.{Written};
 ghost use Rattle.race.specs.Turns.{CanTurn, AsksHigh};
 
@@ -76,6 +76,8 @@ fn race_halves<
         → AreRaceDisks low.entry.seed high.entry.count result.low.bytes result.high.bytes result.recv.bytes }
     ensures low_stopped { result.low_stopped ≡ true → Rose (G.stops low_gate.old) (G.stops low_gate.new) }
     ensures high_stopped { result.high_stopped ≡ true → Rose (H.stops high_gate.old) (H.stops high_gate.new) }
+    ensures asked_low { AsksLow low.entry.seed low.entry.count result.low_stopped (K.reads low_clock.old) (K.reads low_clock.new)
+        (G.asked low_gate.old) (G.asked low_gate.new) }
     ensures asked_high { AsksHigh high.entry.count result.high_stopped (H.asked high_gate.old) (H.asked high_gate.new) result.recv.bytes }
 {
     let mut tape = Tape::new(&low.row);
@@ -161,7 +163,10 @@ pub fn race_with<
     ensures failed { IfOk result (λ end. end.write_failed ≡ true → Rose (O.faults out.old) (O.faults out.new)) }
     ensures low_stopped { IfOk result (λ end. end.low_stopped ≡ true → Rose (G.stops low_gate.old) (G.stops low_gate.new)) }
     ensures high_stopped { IfOk result (λ end. end.high_stopped ≡ true → Rose (H.stops high_gate.old) (H.stops high_gate.new)) }
-    // The high worker's gate is asked before each look, and with the messages that the receiver has.
+    // The gates are asked before each look: the low worker's with the messages acknowledged, the high
+    // worker's with those that the receiver has.
+    ensures asked_low { IfOk result (λ end. AsksLow seed count end.low_stopped (K.reads low_clock.old) (K.reads low_clock.new)
+        (G.asked low_gate.old) (G.asked low_gate.new)) }
     ensures asked_high { IfOk result (λ end. AsksHigh count end.high_stopped (H.asked high_gate.old) (H.asked high_gate.new) end.recv.bytes) }
     ensures nothing { OnErr result (out.new ≡ out.old) }
 {

@@ -1,6 +1,6 @@
 ghost use Rattle.std.specs.Prelude.{◌≡◌, ◌≤◌, List, [], true, false};
 ghost use Rattle.pump_frame.specs.Counts.{Rose};
-ghost use Rattle.pump_link.specs.Tells.{Draws};
+ghost use Rattle.pump_link.specs.Tells.{Draws, Grows};
 ghost use Rattle.pump_core.specs.Passage.{High, new_low};
 ghost use Rattle.low_process.specs.Looks.{last_of};
 ghost use Rattle.high_process.specs.States.{removed_of};
@@ -12,9 +12,9 @@ ghost use Rattle.race.specs.HighHalf.{HighAt};
 ghost use Rattle.race.specs.HighWorks.{HighCan, HighRuns};
 ghost use Rattle.race.specs.LowHalf.{LowRests};
 ghost use Rattle.race.specs.LowWorks.{IsLowDone, LowCan, LowRuns};
-ghost use Rattle.race.specs.MadeLooks.{moments_of};
+ghost use Rattle.race.specs.MadeLooks.{moments_of, acks_of};
 ghost use Rattle.race.specs.Tape.{row_in, Prints};
-ghost use Rattle.race.specs.Turns.{AsksHigh};
+ghost use Rattle.race.specs.Turns.{AsksHigh, asks_in_run};
 
 use crate::high::HighHalf;
 use crate::high_work::HighWork;
@@ -37,7 +37,7 @@ fn run_works<
     H: WaitHighEnd + Send,
     I: Gate + Send,
 >(rt: &R, low: &mut LowWork<'_, '_, '_, '_, '_, K, O, L, G>, high: &mut HighWork<'_, '_, H, I>)
-    requires low { LowCan K.reads K.floor O.written O.faults L.stands L.place L.shape G.stops low.old }
+    requires low { LowCan K.reads K.floor O.written O.faults L.stands L.place L.shape G.asked G.stops low.old }
     requires high { HighCan H.stands H.place H.shape I.asked I.stops high.old }
     ensures low_half { low.new.half.ghost_name ≡ low.old.half.ghost_name }
     ensures high_half { high.new.half.ghost_name ≡ high.old.half.ghost_name }
@@ -46,7 +46,7 @@ fn run_works<
     ensures tape { low.new.tape.ghost_name ≡ low.old.tape.ghost_name }
     ensures low_gate { low.new.gate.ghost_name ≡ low.old.gate.ghost_name }
     ensures high_gate { high.new.gate.ghost_name ≡ high.old.gate.ghost_name }
-    ensures low { LowRuns K.reads K.floor O.written O.faults L.stands L.place L.shape G.stops low.old low.new }
+    ensures low { LowRuns K.reads K.floor O.written O.faults L.stands L.place L.shape G.asked G.stops low.old low.new }
     ensures high { HighRuns H.stands H.place H.shape I.asked I.stops high.old high.new }
 {
     run_pair(rt, low, high);
@@ -85,7 +85,8 @@ pub fn run_halves<
     requires none_removed { removed_of high.old.process ≡ 0 }
     ensures low { (made : List Made) × LowRests L.stands L.shape low.new made
         × Draws (K.reads low_clock.old) (K.reads low_clock.new) (moments_of made)
-        × Prints tape.old tape.new (O.written out.old) (O.written out.new) (O.faults out.old) (O.faults out.new) (looks_text generated_row (record_of made)) }
+        × Prints tape.old tape.new (O.written out.old) (O.written out.new) (O.faults out.old) (O.faults out.new) (looks_text generated_row (record_of made))
+        × Grows (G.asked low_gate.old) (G.asked low_gate.new) (asks_in_run result.low_stopped (acks_of made)) }
     ensures low_ended { result.low_stopped ≡ false → IsLowDone low.new }
     ensures low_stopped { result.low_stopped ≡ true → Rose (G.stops low_gate.old) (G.stops low_gate.new) }
     ensures low_place { L.place low.new.ends ≡ L.place low.old.ends }

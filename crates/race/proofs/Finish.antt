@@ -13,12 +13,13 @@ use Rattle.script_reader.specs.Generated.{generated_row}
 use Rattle.race.specs.HighHalf.{HighAt, HandAt}
 use Rattle.race.specs.LowHalf.{LowRests, with_hand, frames_so_far}
 use Rattle.race.specs.LowWorks.{IsLowDone}
-use Rattle.race.specs.MadeLooks.{moments_of, frames_of}
+use Rattle.race.specs.MadeLooks.{moments_of, frames_of, acks_of}
 use Rattle.race.specs.Messages.{race_items, race_frames, messages_in}
 use Rattle.race.specs.Race.{AreRaceLooks, IsLowRun, IsHighRun, ArePrinted, payloads}
-use Rattle.race.specs.Turns.{turns, payload_in}
+use Rattle.race.specs.Turns.{turns, payload_in, done_in}
 use Rattle.race.specs.declared.high.HighHalf.{HighHalf}
 use Rattle.race.specs.declared.low.LowHalf.{LowHalf}
+use Rattle.race.proofs.LowAsks.{acks_are}
 use Rattle.race.proofs.Derived.{printed, received_is}
 use Rattle.race.proofs.RaceItems.{items_count}
 
@@ -40,6 +41,10 @@ module _ {L : Type 0} (stands : L → Low → High → Type 0) (shape : L → Sh
   -- not more are stored than there are
   pub next_few : next_of w.process ≤ w.count
   next_few = omega (arith, a.stored, ap length a.messages, length-append (with_hand a.low.forwarded (hand_of w.process)) (messages_in w.script), items_count w.seed w.count)
+
+  -- in the end all are acknowledged
+  pub all_acked : IsLowDone w → done_in (acks_of made) ≡ w.count
+  all_acked (idle, all) = sym (acks_are stands shape w (messages_in w.script) made a w.count (λ e. omega (arith, all, next_few)) (λ e. (let no = sym e ∙ idle in absurd (cc))))
 
   pub low_ran : IsLowDone w → IsLowRun w.seed w.count made a.low
   low_ran (idle, all) =

@@ -2,8 +2,10 @@ pub mod Comparisons
 pub mod Derived
 pub mod Finish
 pub mod Frames
+pub mod HighAsks
 pub mod HighLooks
 pub mod HighNumbers
+pub mod LowAsks
 pub mod LowGoes
 pub mod LowLooks
 pub mod LowRuns

@@ -30,10 +30,12 @@ use Rattle.relay_threads.proofs.Machine.{Led, led, reply_led}
 use Rattle.script_reader.specs.Generated.{drawn, generated_row}
 use Rattle.relay_threads.specs.RecordLines.{tells_fault, is_reply_kind}
 use Rattle.race.specs.LookWords.{word_after, word_of_look}
-use Rattle.race.specs.LowHalf.{LowAt, LowRests, IsOffer, goes_on, with_hand, frames_so_far, arrival_in}
-use Rattle.race.specs.MadeLooks.{HaveWords, frames_of, frame_in, pair_in}
+use Rattle.race.specs.LowHalf.{LowAt, LowRests, IsOffer, goes_on, owed_in, with_hand, frames_so_far, arrival_in}
+use Rattle.race.specs.MadeLooks.{HaveWords, frames_of, frame_in, pair_in, is_ack, acks_of}
+use Rattle.race.specs.Turns.{done_in}
 use Rattle.race.specs.Messages.{messages_in, race_items, race_opening, hello_frame, data_frame}
 use Rattle.race.specs.declared.low.LowHalf.{LowHalf}
+use Rattle.race.proofs.HighAsks.{one_if, done_more}
 use Rattle.race.proofs.LowLooks.{Hears, Went, IsFine, nothing_comes, hello_comes, data_comes}
 use Rattle.race.proofs.LowStores.{StaysCalm, stays_calm}
 use Rattle.race.proofs.RaceItems.{items_count, IsNextOf, next_of_race}
@@ -83,6 +85,10 @@ no_fault (Some f) fine = fine.0
 reply_kind : (reply : Option Frame) → IsFine reply → IfSome reply (λ f. is_reply_kind f.kind ≡ true)
 reply_kind None fine = tt
 reply_kind (Some f) fine = fine.1
+
+-- the acknowledgements after one look more
+counts_on : (a o n b o' n' a' p p' : ℕ) → a' ≡ b + a → b + o' + n ≡ n' + o → a + o ≡ p → p ≡ n → p' ≡ n' → a' + o' ≡ p'
+counts_on a o n b o' n' a' p p' more step is now next = omega (arith, more, step, is, now, next)
 
 -- ---- the end ----
 
@@ -295,6 +301,8 @@ module _ {L : Type 0} (stands : L → Low → High → Type 0) (shape : L → Sh
         let now : next_of w'.process ≡ next' = ap (λ (q : State). q.next) stands'.state ∙ ap (λ (q : State). q.next) goes.state ∙ went.next_is in
         let on : goes_on (phase_after generated_row race_opening parts') ≡ true = ap (λ (q : State). goes_on q.phase) goes.state ∙ went.goes in
         let one : length made + 1 ≡ suc (length made) = omega arith in
+        let acked_here : one_if (is_ack l.reply) + owed_in (phase_after generated_row race_opening parts') + s.next ≡ next' + owed_in s.phase =
+        ap (λ (z : Option Frame × State). one_if (is_ack z.0) + owed_in z.1.phase + s.next) (λ i. (reply_is i, goes.state i)) ∙ went.acked in
         let word_here : word ≡ word_of_look w.seed (length made) = leaves.drawn_is ∙ ap drawn a.word ∙ ap (word_after w.seed) (sym one) in
         let fine : IsFine l.reply = subst IsFine (sym reply_is) went.fine in (
           subst (λ (b : Bool). LowRests stands shape w' (recorded_look b ∷ made)) (sym (no_fault l.reply fine))
@@ -325,6 +333,8 @@ module _ {L : Type 0} (stands : L → Low → High → Type 0) (shape : L → Sh
                 stored = ap length ended.items_are ∙ count ∙ sym now;
                 frames = frames ∙ ap (λ (z : Bool × List Item). frames_so_far z.0 z.1) (λ i. (sym greeted i, sym ended.items_are i));
                 none_before = λ e. now ∙ none_before (sym greeted ∙ e);
+                acked = counts_on (done_in (acks_of made)) (owed_in s.phase) s.next (one_if (is_ack l.reply)) (owed_in (phase_after generated_row race_opening parts')) next'
+                    (done_in (is_ack l.reply ∷ acks_of made)) (next_of w.process) (next_of w'.process) (done_more (is_ack l.reply) (acks_of made)) acked_here a.acked next_is now;
               }),
           reply_kind l.reply fine,
         )

@@ -19,7 +19,9 @@ use Rattle.pump_frame.specs.declared.frame.Item.{Item}
 use Rattle.script_reader.specs.Generated.{generated_row}
 use Rattle.race.specs.Messages.{hello_frame, data_frame}
 use Rattle.relay_threads.specs.RecordLines.{tells_fault, is_reply_kind}
-use Rattle.race.specs.LowHalf.{goes_on}
+use Rattle.race.specs.LowHalf.{goes_on, owed_in}
+use Rattle.race.specs.MadeLooks.{is_ack}
+use Rattle.race.proofs.HighAsks.{one_if}
 use Rattle.race.proofs.Comparisons.{is_below, not_below, is_past}
 
 -- the feedback that a look in this phase has
@@ -44,6 +46,7 @@ pub record Went (row : SessionRow) (s : State) (x : Look) (p : Phase) (next : �
   pub stored_is : stores_in row s x p ≡ stored
   pub hears : Hears p x.feedback
   pub fine : IsFine (reply_in row s x p)
+  pub acked : one_if (is_ack (reply_in row s x p)) + owed_in (after_in row s x p).phase + s.next ≡ next + owed_in p
 
 quiet_is : (f : Feedback) → is_quiet f ≡ true → f ≡ Quiet
 quiet_is Quiet e = refl
@@ -58,6 +61,11 @@ waits_on : (s : State) (b : Bool) → goes_on s.phase ≡ true → (goes_on (if 
 waits_on s true g = (refl, refl, refl)
 waits_on s false g = (g, refl, refl)
 
+waits_acked : (s : State) (n : ℕ) (b : Bool) → owed_in s.phase ≡ 1
+    → one_if (is_ack (if b then Some (acknowledgement generated_row n) else None)) + owed_in (if b then record s { phase = Idle } else s).phase + s.next ≡ s.next + 1
+waits_acked s n true e = omega arith
+waits_acked s n false e = omega (arith, e)
+
 acknowledges : (n : ℕ) (b : Bool) → IsFine (if b then Some (acknowledgement generated_row n) else None)
 acknowledges n true = (refl, refl)
 acknowledges n false = tt
@@ -66,8 +74,8 @@ module _ (s : State) (m w : ℕ) (f : Feedback) (g : goes_on s.phase ≡ true) w
   abbrev nothing : Look
   nothing = look_of m w Nothing false f
 
-  passing : (n : ℕ) (k : Feedback) → f ≡ k → fits_passing (Some n) k ≡ true → Went generated_row s nothing (Passing (Some n)) s.next s.greeted None
-  passing n Full e fit =
+  passing : (n : ℕ) (k : Feedback) → s.phase ≡ Passing (Some n) → f ≡ k → fits_passing (Some n) k ≡ true → Went generated_row s nothing (Passing (Some n)) s.next s.greeted None
+  passing n Full at e fit =
       let same : after_in generated_row s nothing (Passing (Some n)) ≡ s = ap (λ (k : Feedback). if is_full k then s else record s { phase = passed generated_row nothing (Some n) }) e in
       record {
         goes = ap (λ (q : State). goes_on q.phase) same ∙ g;
@@ -77,8 +85,11 @@ module _ (s : State) (m w : ℕ) (f : Feedback) (g : goes_on s.phase ≡ true) w
         stored_is = refl;
         hears = subst (Hears (Passing (Some n))) (sym e) tt;
         fine = tt;
+        acked =
+          let still : owed_in (after_in generated_row s nothing (Passing (Some n))).phase ≡ 1 = ap (λ (q : State). owed_in q.phase) same ∙ ap owed_in at in
+          omega (arith, still);
       }
-  passing n (Passed seen) e fit =
+  passing n (Passed seen) at e fit =
       let same : after_in generated_row s nothing (Passing (Some n)) ≡ record s { phase = passed generated_row nothing (Some n) } = ap (λ (k : Feedback). if is_full k then s else record s { phase = passed generated_row nothing (Some n) }) e in
       record {
         goes = ap (λ (q : State). goes_on q.phase) same;
@@ -88,22 +99,27 @@ module _ (s : State) (m w : ℕ) (f : Feedback) (g : goes_on s.phase ≡ true) w
         stored_is = refl;
         hears = subst (Hears (Passing (Some n))) (sym e) tt;
         fine = tt;
+        acked =
+          let still : owed_in (after_in generated_row s nothing (Passing (Some n))).phase ≡ 1 = ap (λ (q : State). owed_in q.phase) same in
+          omega (arith, still);
       }
-  passing n Quiet e fit = absurd (cc)
-  passing n Released e fit = absurd (cc)
-  passing n (Repeat seen) e fit = absurd (cc)
+  passing n Quiet at e fit = absurd (cc)
+  passing n Released at e fit = absurd (cc)
+  passing n (Repeat seen) at e fit = absurd (cc)
 
-  nothing_in : (p : Phase) → goes_on p ≡ true → fits_in generated_row s nothing p ≡ true → Went generated_row s nothing p s.next s.greeted None
-  nothing_in Idle on fit = record { goes = g; next_is = refl; greeted_is = refl; taken = refl; stored_is = refl; hears = quiet_is f fit; fine = tt }
-  nothing_in (Passing None) on fit = absurd (cc)
-  nothing_in (Passing (Some n)) on fit = passing n f refl fit
-  nothing_in (Waits n at) on fit =
+  nothing_in : (p : Phase) → s.phase ≡ p → goes_on p ≡ true → fits_in generated_row s nothing p ≡ true → Went generated_row s nothing p s.next s.greeted None
+  nothing_in Idle at on fit =
+      let none : owed_in s.phase ≡ 0 = ap owed_in at in
+      record { goes = g; next_is = refl; greeted_is = refl; taken = refl; stored_is = refl; hears = quiet_is f fit; fine = tt; acked = omega (arith, none) }
+  nothing_in (Passing None) at on fit = absurd (cc)
+  nothing_in (Passing (Some n)) at on fit = passing n f at refl fit
+  nothing_in (Waits n at) here on fit =
       let k = waits_on s (nat_le at m) g in
-      record { goes = k.0; next_is = k.1; greeted_is = k.2; taken = refl; stored_is = refl; hears = quiet_is f fit; fine = acknowledges n (nat_le at m) }
-  nothing_in Down on fit = absurd (cc)
+      record { goes = k.0; next_is = k.1; greeted_is = k.2; taken = refl; stored_is = refl; hears = quiet_is f fit; fine = acknowledges n (nat_le at m); acked = waits_acked s n (nat_le at m) (ap owed_in here) }
+  nothing_in Down at on fit = absurd (cc)
 
   pub nothing_comes : FeedbackFits generated_row s nothing → Went generated_row s nothing s.phase s.next s.greeted None
-  nothing_comes fit = nothing_in s.phase g fit
+  nothing_comes fit = nothing_in s.phase refl g fit
 
   -- ---- the HELLO comes ----
 
@@ -113,8 +129,9 @@ module _ (s : State) (m w : ℕ) (f : Feedback) (g : goes_on s.phase ≡ true) w
   pub hello_comes : s.phase ≡ Idle → FeedbackFits generated_row s hello → Went generated_row s hello s.phase s.next true None
   hello_comes idle fit =
       let fit' : is_quiet f ≡ true = subst (λ (p : Phase). fits_in generated_row s hello p ≡ true) idle fit in
+      let none : owed_in s.phase ≡ 0 = ap owed_in idle in
       subst (λ (p : Phase). Went generated_row s hello p s.next true None) (sym idle)
-      (record { goes = g; next_is = refl; greeted_is = refl; taken = refl; stored_is = refl; hears = quiet_is f fit'; fine = (refl, refl) })
+      (record { goes = g; next_is = refl; greeted_is = refl; taken = refl; stored_is = refl; hears = quiet_is f fit'; fine = (refl, refl); acked = omega (arith, none) })
 
   -- ---- the next message comes ----
 
@@ -154,4 +171,8 @@ module _ (s : State) (m w : ℕ) (f : Feedback) (g : goes_on s.phase ≡ true) w
           stored_is = ap (λ (z : Bool × Bool). stores_by z.0 z.1) (λ i. (repeat_is i, next_is i)) ∙ ap Some number;
           hears = quiet_is f quiet;
           fine = subst (λ (z : Bool × Bool). IsFine (reply_by z.0 z.1)) (λ i. (sym repeat_is i, sym next_is i)) tt;
+          acked =
+            let one : owed_in (after_in generated_row s data_look Idle).phase ≡ 1 = ap (λ (q : State). owed_in q.phase) same in
+            let none : one_if (is_ack (reply_in generated_row s data_look Idle)) ≡ 0 = ap (λ (z : Bool × Bool). one_if (is_ack (reply_by z.0 z.1))) (λ i. (repeat_is i, next_is i)) in
+            omega (arith, one, none);
         })

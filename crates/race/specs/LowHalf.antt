@@ -1,6 +1,6 @@
 -- The low half of a race between two looks: the low process with its store and its end, and what is
 -- left of the generated script.
-use Rattle.std.specs.Prelude.{◌≡◌, ◌⊎◌, ◌≤◌, Bool, true, false, if◌then◌else◌, List, [], ◌∷◌, ◌++◌, length, map, Option, Some, None}
+use Rattle.std.specs.Prelude.{◌≡◌, ◌⊎◌, ℕ, ◌+◌, ◌≤◌, Bool, true, false, if◌then◌else◌, List, [], ◌∷◌, ◌++◌, length, map, Option, Some, None}
 use Rattle.pump_frame.specs.declared.frame.Frame.{Frame}
 use Rattle.pump_frame.specs.declared.frame.Item.{Item}
 use Rattle.disk_model.specs.Plain.{plain_meaning}
@@ -20,8 +20,9 @@ use Rattle.low_process.specs.Whole.{HasStore}
 use Rattle.relay_threads.specs.Records.{Made, life_made, history_made, replies_made, AreMade}
 use Rattle.script_reader.specs.Generated.{generated_row}
 use Rattle.race.specs.LookWords.{word_after}
-use Rattle.race.specs.MadeLooks.{HaveWords, TakeAll, FullFrom, frames_of, pairs_of}
+use Rattle.race.specs.MadeLooks.{HaveWords, TakeAll, FullFrom, frames_of, pairs_of, acks_of}
 use Rattle.race.specs.Messages.{messages_in, race_items, race_opening, hello_frame, data_frame}
+use Rattle.race.specs.Turns.{done_in}
 use Rattle.race.specs.declared.low.LowHalf.{LowHalf}
 
 -- the phases of a low process whose device never fails and whose connection is never lost
@@ -31,6 +32,13 @@ goes_on (Passing None) = false
 goes_on (Passing (Some n)) = true
 goes_on (Waiting n due) = true
 goes_on Down = false
+
+-- how many messages are stored and not yet acknowledged
+abbrev pub owed_in : Phase → ℕ
+owed_in Idle = 0
+owed_in (Passing owed) = 1
+owed_in (Waiting n due) = 1
+owed_in Down = 1
 
 -- what was forwarded, and then the message in the hand
 abbrev pub with_hand : List Item → Option Item → List Item
@@ -70,6 +78,7 @@ pub record LowAt {L : Type 0} (stands : L → Low → High → Type 0) (shape : 
   pub stored : length (with_hand low.forwarded (hand_of w.process)) ≡ next_of w.process
   pub frames : frames_of made ≡ frames_so_far w.is_greeted (with_hand low.forwarded (hand_of w.process))
   pub none_before : w.is_greeted ≡ false → next_of w.process ≡ 0
+  pub acked : done_in (acks_of made) + owed_in (phase_after generated_row race_opening parts) ≡ next_of w.process
 
 -- with all messages still to come that the script has left
 abbrev pub LowRests : {L : Type 0} → (L → Low → High → Type 0) → (L → Shape) → LowHalf L → List Made → Type 0

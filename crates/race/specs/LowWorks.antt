@@ -2,15 +2,16 @@
 use Rattle.std.specs.Prelude.{◌≡◌, ℕ, ◌≤◌, true, false, List, [], Option}
 use Rattle.atomic_table.specs.Seated.{TableId}
 use Rattle.pump_frame.specs.Counts.{Rose}
-use Rattle.pump_link.specs.Tells.{Draws}
+use Rattle.pump_link.specs.Tells.{Draws, Grows}
 use Rattle.pump_core.specs.Passage.{Low, High, Shape}
 use Rattle.low_process.specs.Looks.{last_of, next_of, is_idle}
 use Rattle.relay_threads.specs.Records.{Made, record_of}
 use Rattle.relay_threads.specs.RecordLines.{looks_text}
 use Rattle.script_reader.specs.Generated.{generated_row}
 use Rattle.race.specs.LowHalf.{LowRests}
-use Rattle.race.specs.MadeLooks.{moments_of}
+use Rattle.race.specs.MadeLooks.{moments_of, acks_of}
 use Rattle.race.specs.Tape.{row_in, Prints}
+use Rattle.race.specs.Turns.{asks_in_run}
 use Rattle.race.specs.declared.low.LowHalf.{LowHalf}
 use Rattle.race.specs.declared.low_work.LowWork.{LowWork}
 
@@ -19,7 +20,7 @@ abbrev pub IsLowDone : {L : Type 0} → LowHalf L → Type 0
 IsLowDone w = (is_idle w.process ≡ true) × (w.count ≤ next_of w.process)
 
 module _ {K O L G : Type 0} (reads : K → List ℕ → Type 0) (floor : K → ℕ) (written : O → Option (List ℕ)) (faults : O → ℕ)
-    (stands : L → Low → High → Type 0) (place : L → List TableId) (shape : L → Shape) (stops : G → ℕ) where
+    (stands : L → Low → High → Type 0) (place : L → List TableId) (shape : L → Shape) (asked : G → List (ℕ × ℕ) → Type 0) (stops : G → ℕ) where
   pub record LowCan (w : LowWork K O L G) : Type 0 where
     pub at : LowRests stands shape w.half.now []
     pub order : last_of w.half.now.process ≤ floor w.clock.now
@@ -37,19 +38,21 @@ module _ {K O L G : Type 0} (reads : K → List ℕ → Type 0) (floor : K → �
     pub seed : w.half.now.seed ≡ v.half.now.seed
     pub count : w.half.now.count ≡ v.half.now.count
 
-  -- after these looks, which drew the clock's readings, and whose record was printed
-  pub record LowSoFar (v w : LowWork K O L G) (made : List Made) : Type 0 where
+  -- after these looks, which drew the clock's readings, and whose record was printed, while the gate was
+  -- asked this
+  pub record LowSoFar (v w : LowWork K O L G) (made : List Made) (asks : List (ℕ × ℕ)) : Type 0 where
     pub keeps : KeepsLow v w
     pub at : LowRests stands shape w.half.now made
     pub order : last_of w.half.now.process ≤ floor w.clock.now
     pub row : row_in w.tape.now ≡ generated_row
     pub draws : Draws (reads v.clock.now) (reads w.clock.now) (moments_of made)
     pub prints : Prints v.tape.now w.tape.now (written v.out.now) (written w.out.now) (faults v.out.now) (faults w.out.now) (looks_text generated_row (record_of made))
+    pub asks_are : Grows (asked v.gate.now) (asked w.gate.now) asks
     pub stops_rise : stops v.gate.now ≤ stops w.gate.now
 
   -- the work is over: all messages were acknowledged, or its gate stopped it
   pub record LowRuns (v w : LowWork K O L G) : Type 0 where
     pub made : List Made
-    pub so_far : LowSoFar v w made
+    pub so_far : LowSoFar v w made (asks_in_run w.is_stopped (acks_of made))
     pub ended : w.is_stopped ≡ false → IsLowDone w.half.now
     pub stopped : w.is_stopped ≡ true → Rose (stops v.gate.now) (stops w.gate.now)

@@ -1,7 +1,9 @@
 -- Readings of the looks of a race. Each list of looks has its newest one first.
-use Rattle.std.specs.Prelude.{◌≡◌, ℕ, ◌<◌, true, not, List, [], ◌∷◌, ◌++◌, length, slice_get, Some}
+use Rattle.std.specs.Prelude.{◌≡◌, ℕ, ◌<◌, Bool, true, false, not, List, [], ◌∷◌, ◌++◌, length, slice_get, Option, Some, None}
 use Rattle.std.specs.List.{All}
 use Rattle.pump_frame.specs.declared.frame.Frame.{Frame}
+use Rattle.pump_frame.specs.declared.frame.Kind.{Kind}
+use Rattle.pump_frame.specs.declared.frame.Kind.TheVariants.{Ack}
 use Rattle.pump_frame.specs.declared.row.SessionRow.{SessionRow}
 use Rattle.pump_core.specs.declared.feedback.Feedback.{Feedback}
 use Rattle.pump_core.specs.declared.feedback.Feedback.TheVariants.{Passed, Repeat}
@@ -46,6 +48,19 @@ pair_in _ = []
 abbrev pub pairs_of : List Made → List (ℕ × ℕ)
 pairs_of [] = []
 pairs_of (m ∷ before) = pairs_of before ++ pair_in m.look.feedback
+
+abbrev pub is_ack_kind : Kind → Bool
+is_ack_kind Ack = true
+is_ack_kind _ = false
+
+abbrev pub is_ack : Option Frame → Bool
+is_ack None = false
+is_ack (Some f) = is_ack_kind f.kind
+
+-- for each look, whether it acknowledged a message
+abbrev pub acks_of : List Made → List Bool
+acks_of [] = []
+acks_of (m ∷ before) = is_ack m.reply ∷ acks_of before
 
 -- A look finds the passage full only with a message numbered `least` or more. It is the last one
 -- stored, so more than `least` are stored then.

@@ -1,6 +1,7 @@
 -- What a race prints and leaves.
-use Rattle.std.specs.Prelude.{◌≡◌, ℕ, ◌≤◌, if◌then◌else◌, List, [], ◌∷◌, ◌++◌, length, take, map, codes, decimal}
+use Rattle.std.specs.Prelude.{◌≡◌, ℕ, ◌≤◌, Bool, false, if◌then◌else◌, List, [], ◌∷◌, ◌++◌, length, take, map, codes, decimal}
 use Rattle.std.specs.List.{All}
+use Rattle.pump_link.specs.Tells.{Draws, Grows}
 use Rattle.stable_buffer.specs.Low.{StandsForCount}
 use Rattle.stable_buffer.specs.Stands.{HighStands}
 use Rattle.stable_buffer.specs.Log.{RecvStands}
@@ -10,9 +11,9 @@ use Rattle.script_reader.specs.Transcript.{line_with_end}
 use Rattle.script_reader.specs.Spelling.{line_text}
 use Rattle.relay_threads.specs.Records.{Made, Shown, AreMade, is_recorded, recorded, made_of}
 use Rattle.relay_threads.specs.RecordLines.{look_text, opening_line, record_text}
-use Rattle.race.specs.MadeLooks.{moments_of, HaveWords, TakeAll, frames_of, pairs_of, FullFrom, NumbersFall, HasItsOwn}
+use Rattle.race.specs.MadeLooks.{moments_of, acks_of, HaveWords, TakeAll, frames_of, pairs_of, FullFrom, NumbersFall, HasItsOwn}
 use Rattle.race.specs.Messages.{race_items, race_frames, race_opening}
-use Rattle.race.specs.Turns.{turns, payload_in}
+use Rattle.race.specs.Turns.{turns, payload_in, done_in, asks_in_run}
 
 -- ---- the two works ----
 
@@ -93,6 +94,15 @@ pub record IsStoppedRecord (seed : ℕ) (readings bytes : List ℕ) : Type 0 whe
   pub looks : AreRaceLooks seed made
   pub readings_are : moments_of made ≡ readings
   pub bytes_are : bytes ≡ record_text generated_row race_opening made
+
+-- What the gate of a low worker was asked in a run whose looks had these readings: before each look, with
+-- the messages acknowledged till then; in the end these are all, where the worker was not stopped.
+pub record AsksLow (seed count : ℕ) (is_stopped : Bool) (reads reads' : List ℕ → Type 0) (old new : List (ℕ × ℕ) → Type 0) : Type 0 where
+  pub made : List Made
+  pub looks : AreRaceLooks seed made
+  pub readings : Draws reads reads' (moments_of made)
+  pub asked : Grows old new (asks_in_run is_stopped (acks_of made))
+  pub ended : is_stopped ≡ false → done_in (acks_of made) ≡ count
 
 -- ---- what is left ----
 

@@ -16,9 +16,9 @@ pub struct HighWork<'h, 'g, H, G> {
 impl<H: WaitHighEnd, G: Gate> Work for HighWork<'_, '_, H, G> {
     ghost use Rattle.race.specs.HighWorks.{HighCan, HighRuns};
 
-    ghost can_run = { HighCan H.stands H.place H.shape G.stops };
+    ghost can_run = { HighCan H.stands H.place H.shape G.asked G.stops };
 
-    ghost ran = { HighRuns H.stands H.place H.shape G.stops };
+    ghost ran = { HighRuns H.stands H.place H.shape G.asked G.stops };
 
     fn run<R: Wait>(&mut self, rt: &R) {
         let mut looks = 0u64;

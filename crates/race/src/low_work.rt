@@ -42,9 +42,9 @@ pub struct LowWork<'h, 'k, 'o, 't, 'g, K, O, L, G> {
 impl<K: Clock, O: Sink, L: WaitLowEnd, G: Gate> Work for LowWork<'_, '_, '_, '_, '_, K, O, L, G> {
     ghost use Rattle.race.specs.LowWorks.{LowCan, LowRuns};
 
-    ghost can_run = { LowCan K.reads K.floor O.written O.faults L.stands L.place L.shape G.stops };
+    ghost can_run = { LowCan K.reads K.floor O.written O.faults L.stands L.place L.shape G.asked G.stops };
 
-    ghost ran = { LowRuns K.reads K.floor O.written O.faults L.stands L.place L.shape G.stops };
+    ghost ran = { LowRuns K.reads K.floor O.written O.faults L.stands L.place L.shape G.asked G.stops };
 
     fn run<R: Wait>(&mut self, rt: &R) {
         let mut looks = 0u64;

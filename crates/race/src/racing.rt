@@ -4,12 +4,13 @@ ghost use Rattle.pump_link.specs.Tells.{Draws};
 ghost use Rattle.pump_core.specs.Passage.{shape_of_row};
 ghost use Rattle.passage.specs.QueueEnds.{LowEndStands, HighEndStands, low_place, high_place, low_shape, high_shape};
 ghost use Rattle.low_process.specs.Looks.{last_of};
+ghost use Rattle.high_process.specs.States.{removed_of};
 ghost use Rattle.script_reader.specs.Generated.{generated_row};
 ghost use Rattle.race.specs.HighHalf.{HighAt};
 ghost use Rattle.race.specs.LowHalf.{LowRests};
-ghost use Rattle.race.specs.Race.{IsRaceRecord, IsStoppedRecord, AreRaceDisks};
+ghost use Rattle.race.specs.Race.{IsRaceRecord, IsStoppedRecord, AreRaceDisks, AsksLow};
 ghost use Rattle.race.specs.Tape.{Written};
-ghost use Rattle.race.specs.Turns.{CanTurn};
+ghost use Rattle.race.specs.Turns.{CanTurn, AsksHigh};
 
 use crate::high::HighHalf;
 use crate::low::LowHalf;
@@ -59,6 +60,7 @@ fn race_halves<
     requires low { LowRests LowEndStands low_shape low [] }
     requires last { last_of low.process ≡ 0 }
     requires high { HighAt HighEndStands false high }
+    requires none_removed { removed_of high.process ≡ 0 }
     requires place { low_place low.ends ≡ high_place high.ends }
     requires shape { high_shape high.ends ≡ shape_of_row generated_row }
     requires count { low.count ≡ high.count }
@@ -74,6 +76,9 @@ fn race_halves<
         → AreRaceDisks low.entry.seed high.entry.count result.low.bytes result.high.bytes result.recv.bytes }
     ensures low_stopped { result.low_stopped ≡ true → Rose (G.stops low_gate.old) (G.stops low_gate.new) }
     ensures high_stopped { result.high_stopped ≡ true → Rose (H.stops high_gate.old) (H.stops high_gate.new) }
+    ensures asked_low { AsksLow low.entry.seed low.entry.count result.low_stopped (K.reads low_clock.old) (K.reads low_clock.new)
+        (G.asked low_gate.old) (G.asked low_gate.new) }
+    ensures asked_high { AsksHigh high.entry.count result.high_stopped (H.asked high_gate.old) (H.asked high_gate.new) result.recv.bytes }
 {
     let mut tape = Tape::new(&low.row);
     tape.open(out);
@@ -158,6 +163,11 @@ pub fn race_with<
     ensures failed { IfOk result (λ end. end.write_failed ≡ true → Rose (O.faults out.old) (O.faults out.new)) }
     ensures low_stopped { IfOk result (λ end. end.low_stopped ≡ true → Rose (G.stops low_gate.old) (G.stops low_gate.new)) }
     ensures high_stopped { IfOk result (λ end. end.high_stopped ≡ true → Rose (H.stops high_gate.old) (H.stops high_gate.new)) }
+    // The gates are asked before each look: the low worker's with the messages acknowledged, the high
+    // worker's with those that the receiver has.
+    ensures asked_low { IfOk result (λ end. AsksLow seed count end.low_stopped (K.reads low_clock.old) (K.reads low_clock.new)
+        (G.asked low_gate.old) (G.asked low_gate.new)) }
+    ensures asked_high { IfOk result (λ end. AsksHigh count end.high_stopped (H.asked high_gate.old) (H.asked high_gate.new) end.recv.bytes) }
     ensures nothing { OnErr result (out.new ≡ out.old) }
 {
     let row = generated_row();

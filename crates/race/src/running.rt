@@ -1,9 +1,10 @@
 ghost use Rattle.std.specs.Prelude.{◌≡◌, ◌≤◌, List, [], true, false};
 ghost use Rattle.pump_frame.specs.Counts.{Rose};
-ghost use Rattle.pump_link.specs.Tells.{Draws};
+ghost use Rattle.pump_link.specs.Tells.{Draws, Grows};
 ghost use Rattle.pump_core.specs.Passage.{High, new_low};
 ghost use Rattle.low_process.specs.Looks.{last_of};
 ghost use Rattle.high_process.specs.States.{removed_of};
+ghost use Rattle.high_receiver.specs.Receiving.{recv_disk};
 ghost use Rattle.relay_threads.specs.Records.{Made, record_of};
 ghost use Rattle.relay_threads.specs.RecordLines.{looks_text};
 ghost use Rattle.script_reader.specs.Generated.{generated_row};
@@ -11,8 +12,9 @@ ghost use Rattle.race.specs.HighHalf.{HighAt};
 ghost use Rattle.race.specs.HighWorks.{HighCan, HighRuns};
 ghost use Rattle.race.specs.LowHalf.{LowRests};
 ghost use Rattle.race.specs.LowWorks.{IsLowDone, LowCan, LowRuns};
-ghost use Rattle.race.specs.MadeLooks.{moments_of};
+ghost use Rattle.race.specs.MadeLooks.{moments_of, acks_of};
 ghost use Rattle.race.specs.Tape.{row_in, Prints};
+ghost use Rattle.race.specs.Turns.{AsksHigh, asks_in_run};
 
 use crate::high::HighHalf;
 use crate::high_work::HighWork;
@@ -35,8 +37,8 @@ fn run_works<
     H: WaitHighEnd + Send,
     I: Gate + Send,
 >(rt: &R, low: &mut LowWork<'_, '_, '_, '_, '_, K, O, L, G>, high: &mut HighWork<'_, '_, H, I>)
-    requires low { LowCan K.reads K.floor O.written O.faults L.stands L.place L.shape G.stops low.old }
-    requires high { HighCan H.stands H.place H.shape I.stops high.old }
+    requires low { LowCan K.reads K.floor O.written O.faults L.stands L.place L.shape G.asked G.stops low.old }
+    requires high { HighCan H.stands H.place H.shape I.asked I.stops high.old }
     ensures low_half { low.new.half.ghost_name ≡ low.old.half.ghost_name }
     ensures high_half { high.new.half.ghost_name ≡ high.old.half.ghost_name }
     ensures clock { low.new.clock.ghost_name ≡ low.old.clock.ghost_name }
@@ -44,8 +46,8 @@ fn run_works<
     ensures tape { low.new.tape.ghost_name ≡ low.old.tape.ghost_name }
     ensures low_gate { low.new.gate.ghost_name ≡ low.old.gate.ghost_name }
     ensures high_gate { high.new.gate.ghost_name ≡ high.old.gate.ghost_name }
-    ensures low { LowRuns K.reads K.floor O.written O.faults L.stands L.place L.shape G.stops low.old low.new }
-    ensures high { HighRuns H.stands H.place H.shape I.stops high.old high.new }
+    ensures low { LowRuns K.reads K.floor O.written O.faults L.stands L.place L.shape G.asked G.stops low.old low.new }
+    ensures high { HighRuns H.stands H.place H.shape I.asked I.stops high.old high.new }
 {
     run_pair(rt, low, high);
 }
@@ -80,9 +82,11 @@ pub fn run_halves<
     requires last { last_of low.old.process ≡ 0 }
     requires row { row_in tape.old ≡ generated_row }
     requires high { HighAt H.stands false high.old }
+    requires none_removed { removed_of high.old.process ≡ 0 }
     ensures low { (made : List Made) × LowRests L.stands L.shape low.new made
         × Draws (K.reads low_clock.old) (K.reads low_clock.new) (moments_of made)
-        × Prints tape.old tape.new (O.written out.old) (O.written out.new) (O.faults out.old) (O.faults out.new) (looks_text generated_row (record_of made)) }
+        × Prints tape.old tape.new (O.written out.old) (O.written out.new) (O.faults out.old) (O.faults out.new) (looks_text generated_row (record_of made))
+        × Grows (G.asked low_gate.old) (G.asked low_gate.new) (asks_in_run result.low_stopped (acks_of made)) }
     ensures low_ended { result.low_stopped ≡ false → IsLowDone low.new }
     ensures low_stopped { result.low_stopped ≡ true → Rose (G.stops low_gate.old) (G.stops low_gate.new) }
     ensures low_place { L.place low.new.ends ≡ L.place low.old.ends }
@@ -91,6 +95,7 @@ pub fn run_halves<
     ensures high { (h : High) × H.stands high.new.ends new_low h }
     ensures high_ended { result.high_stopped ≡ false → HighAt H.stands false high.new × (high.new.count ≤ removed_of high.new.process) }
     ensures high_stopped { result.high_stopped ≡ true → Rose (I.stops high_gate.old) (I.stops high_gate.new) }
+    ensures high_asks { AsksHigh high.new.count result.high_stopped (I.asked high_gate.old) (I.asked high_gate.new) (recv_disk high.new.receiver).bytes }
     ensures high_place { H.place high.new.ends ≡ H.place high.old.ends }
     ensures high_shape { H.shape high.new.ends ≡ H.shape high.old.ends }
     ensures high_count { high.new.count ≡ high.old.count }

@@ -131,6 +131,8 @@ struct Telling<'a> {
 }
 
 impl Gate for Holding<'_> {
+    ghost asked = { λ gate asks. ⊥ };
+
     ghost stops = { λ gate. gate.stops };
 
     fn pass<R: Wait>(&mut self, _rt: &R, looks: u64, _done: u64) -> bool {
@@ -153,6 +155,8 @@ impl Gate for Holding<'_> {
 }
 
 impl Gate for Telling<'_> {
+    ghost asked = { λ gate asks. ⊥ };
+
     ghost stops = { λ gate. gate.stops };
 
     fn pass<R: Wait>(&mut self, _rt: &R, looks: u64, done: u64) -> bool {
@@ -218,6 +222,8 @@ struct Few {
 }
 
 impl Gate for Few {
+    ghost asked = { λ gate asks. ⊥ };
+
     ghost stops = { λ gate. gate.stops };
 
     fn pass<R: Wait>(&mut self, _rt: &R, looks: u64, _done: u64) -> bool {

@@ -56,6 +56,8 @@ struct Few {
 }
 
 impl Gate for Few {
+    ghost asked = { λ gate asks. ⊥ };
+
     ghost stops = { λ gate. gate.stops };
 
     fn pass<R: Wait>(&mut self, _rt: &R, looks: u64, _done: u64) -> bool {

@@ -21,6 +21,8 @@ struct Notes<const N: usize> {
 }
 
 impl<const N: usize> Gate for Notes<N> {
+    ghost asked = { λ gate asks. ⊥ };
+
     ghost stops = { λ gate. gate.stops };
 
     fn pass<R: Wait>(&mut self, _rt: &R, looks: u64, done: u64) -> bool {

@@ -13,8 +13,8 @@ use Rattle.relay_threads.specs.RecordLines.{record_text}
 use Rattle.race.specs.MadeLooks.{moments_of}
 use Rattle.race.specs.Messages.{race_opening}
 use Rattle.race.specs.Race.{AreRaceLooks, ArePrinted, end_lines, payloads}
-use Rattle.race.specs.Turns.{turns}
-use Rattle.race.proofs.Finish.{looks_are, printed_by_both, received_by_both, low_count_is, high_count_is, recv_count_is}
+use Rattle.race.specs.Turns.{turns, AsksHigh}
+use Rattle.race.proofs.Finish.{looks_are, all_acked, printed_by_both, received_by_both, low_count_is, high_count_is, recv_count_is}
 use Rattle.race.proofs.Tapes.{keeps_none, either}
 use Rattle.race.proofs.racing.race_halves.Goals as goal
 
@@ -104,3 +104,23 @@ returns-clause-disks g c = λ low_on high_on.
       high_stands = subst (λ (z : ℕ × Plain). HighDiskStands generated_row z.0 z.1.bytes) (λ i. (removed_is i, sym c.into_disk-2.ensures i)) b.disk;
       recv_stands = subst (λ (z : List (List ℕ) × Plain). RecvStands generated_row z.0 z.1.bytes) (λ i. (messages i, sym c.into_disk-3.ensures i)) b.recv.stands;
     }
+
+pub returns-clause-asked_low : goal.returns-clause-asked_low
+returns-clause-asked_low g c =
+    let r = c.run_halves-raced.ensures in
+    let low = c.run_halves-raced.new.low in
+    let made = r.low.0 in
+    let a = r.low.1 in
+    record {
+      made = made;
+      looks = subst (λ (seed : ℕ). AreRaceLooks seed made) r.seed (looks_are LowEndStands low_shape low made a);
+      readings = r.low.2;
+      asked = r.low.4;
+      ended = λ on. all_acked LowEndStands low_shape low made a (r.low_ended on) ∙ r.low_count;
+    }
+
+pub returns-clause-asked_high : goal.returns-clause-asked_high
+returns-clause-asked_high g c =
+    let r = c.run_halves-raced in
+    let H = g.H.Gate in
+    subst (λ (z : ℕ × Plain). AsksHigh z.0 r.result.high_stopped (H.asked c.args.high_gate.now) (H.asked r.new.high_gate) z.1.bytes) (λ i. (r.ensures.high_count i, sym c.into_disk-3.ensures i)) r.ensures.high_asks

@@ -1,12 +1,17 @@
-use Rattle.std.proofs.Common.{rules, ℕ, List, [], ◌∷◌, ◌++◌, refl, sym, ◌∙◌, subst, le_refl}
+use Rattle.std.proofs.Common.{rules, ℕ, false, List, [], ◌∷◌, ◌++◌, refl, sym, ap, ◌∙◌, subst, le_refl}
+use Rattle.pump_frame.specs.Counts.{raised}
 use Rattle.pump_link.specs.Tells.{Draws}
+use Rattle.pump_link.proofs.Grown.{Grows-nil}
 use Rattle.relay_threads.specs.Records.{record_of}
 use Rattle.relay_threads.specs.RecordLines.{looks_text, made_by, HasLawfulFrame}
 use Rattle.script_reader.specs.Generated.{generated_row}
-use Rattle.race.specs.MadeLooks.{moments_of}
+use Rattle.race.specs.MadeLooks.{moments_of, is_ack, acks_of}
+use Rattle.race.specs.Messages.{messages_in}
 use Rattle.race.specs.Race.{look_lines}
 use Rattle.race.specs.Tape.{Prints}
 use Rattle.race.proofs.Frames.{has_lawful}
+use Rattle.race.proofs.HighAsks.{asks_more}
+use Rattle.race.proofs.LowAsks.{acks_are}
 use Rattle.race.proofs.LowRuns.{draws_none, draws_then, looks_more}
 use Rattle.race.proofs.Tapes.{prints_none, prints_then}
 use Rattle.race.proofs.low_work.LowWorkWork.run.Goals as goal
@@ -21,10 +26,12 @@ loop-init g c = (
     row = c.requires.row;
     draws = draws_none _;
     prints = prints_none _ _ _;
+    asks_are = Grows-nil _;
     stops_rise = le_refl _;
   },
   refl,
   c.requires.going,
+  refl,
 )
 
 pub look_with-made-requires-clause-at : goal.look_with-made-requires-clause-at
@@ -44,6 +51,7 @@ loop-preserved g c =
     let m = made_by x in
     let K = g.K.Clock in
     let O = g.O.Sink in
+    let done = acks_are g.L.LowSide.stands g.L.LowSide.shape c.loop.self.half.now (messages_in c.loop.self.half.now.script) made s.at c.acknowledged-acknowledged.result c.acknowledged-acknowledged.ensures.idle c.acknowledged-acknowledged.ensures.busy in
     let (left, at, offer) = c.next_frame-frame.ensures.offer made s.at in (
       m ∷ made,
       record {
@@ -67,8 +75,43 @@ loop-preserved g c =
             (prints_then c.args.self.now.tape.now c.loop.self.tape.now c.look.new.self (O.written c.args.self.now.out.now) (O.written c.loop.self.out.now) (O.written c.look.new.out)
             (O.faults c.args.self.now.out.now) (O.faults c.loop.self.out.now) (O.faults c.look.new.out)
             (looks_text generated_row (record_of made)) (look_lines made m) s.prints (c.look.ensures.prints made i.2));
+        asks_are = asks_more _ _ _ (is_ack m.reply) (acks_of made) c.loop.looks c.acknowledged-acknowledged.result i.4 done s.asks_are c.pass.ensures.asked;
         stops_rise = search rules;
       },
       c.found_full-was_full.ensures,
       i.3,
+      c.saturating_add-looks.ensures ∙ ap raised i.4,
     )
+
+pub returns-then-not-pass : goal.returns-then-not-pass
+returns-then-not-pass g c =
+    let i = c.loop.invariant in
+    let made = i.0 in
+    let s = i.1 in
+    let half = c.loop.self.half.now in
+    let taken = c.acknowledged-acknowledged in
+    let done = acks_are g.L.LowSide.stands g.L.LowSide.shape half (messages_in half.script) made s.at taken.result taken.ensures.idle taken.ensures.busy in
+    record {
+      made = made;
+      so_far = record {
+        keeps = record {
+          half = search rules;
+          clock = search rules;
+          out = search rules;
+          tape = search rules;
+          gate = search rules;
+          place_stays = search rules;
+          seed = search rules;
+          count = search rules;
+        };
+        at = s.at;
+        order = s.order;
+        row = s.row;
+        draws = s.draws;
+        prints = s.prints;
+        asks_are = asks_more _ _ _ false (acks_of made) c.loop.looks taken.result i.4 done s.asks_are c.pass.ensures.asked;
+        stops_rise = search rules;
+      };
+      ended = search rules;
+      stopped = search rules;
+    }

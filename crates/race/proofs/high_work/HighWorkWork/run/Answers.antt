@@ -1,0 +1,108 @@
+use Rattle.std.proofs.Common.{◌≡◌, ◌∙◌, Bool, true, false, refl, ap, subst, le_refl, le_trans, [], ◌∷◌, arith}
+use Rattle.pump_frame.specs.Counts.{raised}
+use Rattle.pump_link.proofs.Grown.{Grows-nil}
+use Rattle.high_process.specs.States.{removed_of}
+use Rattle.race.specs.HighHalf.{HighAt}
+use Rattle.race.proofs.HighAsks.{none_taken, more_taken, given_back, asks_more}
+use Rattle.race.proofs.high_work.HighWorkWork.run.Goals as goal
+
+pub loop-init : goal.loop-init
+loop-init g c = (
+  [],
+  record {
+    keeps = record { half = refl; gate = refl; place_stays = refl; shape_stays = refl; count = refl; times = refl };
+    at = c.requires.0;
+    going = c.requires.2;
+    taken = none_taken g.H.HighSide.stands _ c.requires.0 c.requires.1;
+    asks = Grows-nil _;
+    stops_rise = le_refl _;
+  },
+  refl,
+)
+
+pub loop-preserved-then-has_taken : goal.loop-preserved-then-has_taken
+loop-preserved-then-has_taken g c =
+    let i = c.loop.invariant in
+    let s = i.1 in
+    let stands = g.H.HighSide.stands in
+    let was = c.loop.self.half.now in
+    let e = c.give_back.ensures in
+    let at : HighAt stands true was = subst (λ (b : Bool). HighAt stands b was) c.if-has_taken.true s.at in (
+      false ∷ i.0,
+      record {
+        keeps = record {
+          half = s.keeps.half;
+          gate = s.keeps.gate;
+          place_stays = e.place ∙ s.keeps.place_stays;
+          shape_stays = e.shape ∙ s.keeps.shape_stays;
+          count = e.count ∙ s.keeps.count;
+          times = e.times ∙ s.keeps.times;
+        };
+        at = e.at;
+        going = s.going;
+        taken = given_back stands was c.give_back.new.self i.0 at e.at e.removed s.taken;
+        asks = asks_more _ _ _ false i.0 c.loop.looks c.taken-taken.result i.2 (c.taken-taken.ensures ∙ s.taken) s.asks c.pass.ensures.asked;
+        stops_rise = le_trans s.stops_rise c.pass.ensures.later;
+      },
+      c.saturating_add-looks.ensures ∙ ap raised i.2,
+    )
+
+pub loop-preserved-then-not-has_taken : goal.loop-preserved-then-not-has_taken
+loop-preserved-then-not-has_taken g c =
+    let i = c.loop.invariant in
+    let s = i.1 in
+    let stands = g.H.HighSide.stands in
+    let was = c.loop.self.half.now in
+    let e = c.look.ensures in
+    let f = c.receive-has_taken.ensures in
+    let took = c.receive-has_taken.result in
+    let now = c.receive-has_taken.new.self in
+    let at : HighAt stands false was = subst (λ (b : Bool). HighAt stands b was) c.if-has_taken.false s.at in (
+      took ∷ i.0,
+      record {
+        keeps = record {
+          half = s.keeps.half;
+          gate = s.keeps.gate;
+          place_stays = ap g.H.HighSide.place f.ends ∙ e.place ∙ s.keeps.place_stays;
+          shape_stays = ap g.H.HighSide.shape f.ends ∙ e.shape ∙ s.keeps.shape_stays;
+          count = f.count ∙ e.count ∙ s.keeps.count;
+          times = f.times ∙ e.times ∙ s.keeps.times;
+        };
+        at = f.at;
+        going = s.going;
+        taken = more_taken stands was now took i.0 at f.at (ap removed_of f.process ∙ e.removed) s.taken;
+        asks = asks_more _ _ _ took i.0 c.loop.looks c.taken-taken.result i.2 (c.taken-taken.ensures ∙ s.taken) s.asks c.pass.ensures.asked;
+        stops_rise = le_trans s.stops_rise c.pass.ensures.later;
+      },
+      c.saturating_add-looks.ensures ∙ ap raised i.2,
+    )
+
+pub loop-preserved : goal.loop-preserved
+loop-preserved g c =
+    let i = c.loop.invariant in
+    let s = i.1 in
+    let stands = g.H.HighSide.stands in
+    let was = c.loop.self.half.now in
+    let e = c.look.ensures in
+    let f = c.receive-has_taken.ensures in
+    let took = c.receive-has_taken.result in
+    let now = c.receive-has_taken.new.self in
+    let at : HighAt stands false was = subst (λ (b : Bool). HighAt stands b was) c.if-has_taken.false s.at in (
+      took ∷ i.0,
+      record {
+        keeps = record {
+          half = s.keeps.half;
+          gate = s.keeps.gate;
+          place_stays = ap g.H.HighSide.place f.ends ∙ e.place ∙ s.keeps.place_stays;
+          shape_stays = ap g.H.HighSide.shape f.ends ∙ e.shape ∙ s.keeps.shape_stays;
+          count = f.count ∙ e.count ∙ s.keeps.count;
+          times = f.times ∙ e.times ∙ s.keeps.times;
+        };
+        at = f.at;
+        going = s.going;
+        taken = more_taken stands was now took i.0 at f.at (ap removed_of f.process ∙ e.removed) s.taken;
+        asks = asks_more _ _ _ took i.0 c.loop.looks c.taken-taken.result i.2 (c.taken-taken.ensures ∙ s.taken) s.asks c.pass.ensures.asked;
+        stops_rise = le_trans s.stops_rise c.pass.ensures.later;
+      },
+      c.saturating_add-looks.ensures ∙ ap raised i.2,
+    )

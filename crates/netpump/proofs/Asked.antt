@@ -1,8 +1,10 @@
 -- What the words ask for, and which command ends so.
-use Rattle.std.proofs.Common.{◌≡◌, ◌⊎◌, ℕ, List, [], Option, Result, Ok, Err, inl, inr, refl, sym, ap, ◌∙◌, subst}
+use Rattle.std.proofs.Common.{◌≡◌, ◌⊎◌, ℕ, List, [], Option, Result, Ok, Err, inl, inr, map, String, Global, string_bytes, refl, sym, ap, ◌∙◌, subst}
 use Rattle.std.specs.Io.KnownBytes.{Appends}
+use Rattle.arrayvec.specs.ArrayVec.{ArrayVec}
+use Rattle.command_line.specs.Commands.{AreWordsOf}
 use Rattle.command_line.specs.declared.command.Command.{Command}
-use Rattle.command_line.specs.declared.command.Command.TheVariants.{Format, Show, Exercise}
+use Rattle.command_line.specs.declared.command.Command.TheVariants.{Format, Show, Exercise, Race}
 use Rattle.command_line.specs.declared.command.WordsFault.{WordsFault}
 use Rattle.command_line.specs.declared.command.WordsFault.TheVariants.{NoCommand, Memory}
 use Rattle.netpump.specs.Commands.{EndsSo, EndsWithStatus, end_status}
@@ -68,3 +70,22 @@ exercise_asked old new a b n m status ends c one other =
 
 pub exercise_nothing : (old new : Option (List ℕ)) (seed count : ℕ) → Appends old new [] → EndsExercise seed count old new 1
 exercise_nothing old new seed count a = inr (inl (refl, a))
+
+race_seed_is : (a b n m : ℕ) (ts us : ArrayVec ℕ) → Race a n ts ≡ Race b m us → a ≡ b
+race_seed_is a b n m ts us e = cc
+
+race_count_is : (a b n m : ℕ) (ts us : ArrayVec ℕ) → Race a n ts ≡ Race b m us → n ≡ m
+race_count_is a b n m ts us e = cc
+
+race_times_are : (a b n m : ℕ) (ts us : ArrayVec ℕ) → Race a n ts ≡ Race b m us → ts ≡ us
+race_times_are a b n m ts us e = cc
+
+-- what holds of the race that was run holds of the one that was asked
+pub race_asked : (End : ℕ → ℕ → List ℕ → Type 0) (a b n m : ℕ) (ts us : ArrayVec ℕ) → End a n ts.items → (c : Command) → c ≡ Race a n ts → c ≡ Race b m us → End b m us.items
+race_asked End a b n m ts us ends c one other =
+    let same = sym one ∙ other in
+    subst (λ (p : ℕ × (ℕ × ArrayVec ℕ)). End p.0 p.1.0 p.1.1.items) (λ i. (race_seed_is a b n m ts us same i, (race_count_is a b n m ts us same i, race_times_are a b n m ts us same i))) ends
+
+-- the words as the slice that is read
+pub read_words : (words slice : List (String Global)) (c : Command) → slice ≡ words → AreWordsOf (map string_bytes words) c → AreWordsOf (map string_bytes slice) c
+read_words words slice c is h = subst (λ (ws : List (String Global)). AreWordsOf (map string_bytes ws) c) (sym is) h

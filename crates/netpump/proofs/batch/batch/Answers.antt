@@ -2,15 +2,11 @@ use Rattle.std.proofs.Common.{◌≡◌, map, string_bytes, sym, subst, refl, Li
 use Rattle.command_line.specs.Commands.{AreWordsOf}
 use Rattle.command_line.specs.declared.command.Command.{Command}
 use Rattle.command_line.specs.declared.command.Command.TheVariants as commands
-use Rattle.netpump.proofs.Asked.{not_command, same_command, formats_asked, formats_nothing, shows_asked, shows_nothing, exercise_asked}
+use Rattle.netpump.proofs.Asked.{read_words, not_command, same_command, formats_asked, formats_nothing, shows_asked, shows_nothing, exercise_asked}
 use Rattle.netpump.proofs.Headline.{outlives, fronts, wrote_finished, wrote_unread, wrote_front, wrote_faulted, wrote_down, wrote_barred, wrote_full}
 use Rattle.netpump.proofs.Ending.{down_some}
 use Rattle.netpump.proofs.OneStatus.{done_only, faulted_only, full_only}
 use Rattle.netpump.proofs.batch.batch.Goals as goal
-
--- the words as the slice that is read
-read_words : (words slice : List (String Global)) (c : Command) → slice ≡ words → AreWordsOf (map string_bytes words) c → AreWordsOf (map string_bytes slice) c
-read_words words slice c is h = subst (λ (ws : List (String Global)). AreWordsOf (map string_bytes ws) c) (sym is) h
 
 pub returns-in-Format-clause-format : goal.returns-in-Format-clause-format
 returns-in-Format-clause-format g c = λ table session words told tells.

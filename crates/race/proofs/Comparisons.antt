@@ -12,6 +12,3 @@ not_below a b h = le-ltb a b h
 
 pub is_past : (a b : ℕ) → a ≤ b → nat_le a b ≡ true
 is_past a b h = grind (arith, nat_tests)
-
-pub not_past : (a b : ℕ) → b < a → nat_le a b ≡ false
-not_past a b h = grind (arith, nat_tests)

@@ -11,9 +11,6 @@ use Rattle.race.specs.declared.tape.Tape.{Tape}
 pub rose_later : (a b c : ℕ) → a ≤ b → Rose b c → Rose a c
 rose_later a b c le h = omega (arith, le, h)
 
-pub rose_before : (a b c : ℕ) → Rose a b → b ≤ c → Rose a c
-rose_before a b c h le = omega (arith, h, le)
-
 front_more : (a b : Option (List ℕ)) (x y : List ℕ) → AppendsFront a b x → AppendsFront a b (x ++ y)
 front_more a b x y (front, rest, is, p) = (front, rest ++ y, ap (λ (z : List ℕ). z ++ y) is ∙ append_assoc front rest y, p)
 
@@ -68,15 +65,6 @@ keeps_cut tape later start now new first count count' bytes going failed le rose
       cause = λ e. rose_later first count count' k.later rose;
       later = le_trans k.later le;
     }
-
--- a write failed before
-pub keeps_failed : (tape later : Tape) (start now : Option (List ℕ)) (first count : ℕ) (bytes : List ℕ) → has_failed tape ≡ true → has_failed later ≡ true → Keeps tape start now first count bytes → Keeps later start now first count bytes
-keeps_failed tape later start now first count bytes failed still k = record {
-  whole = λ e. (let no = sym e ∙ still in absurd (cc));
-  front = k.front;
-  cause = λ e. k.cause failed;
-  later = k.later;
-}
 
 -- nothing is held any more
 pub written_of : (tape : Tape) (start now : Option (List ℕ)) (first count : ℕ) (bytes : List ℕ) → held_of tape ≡ [] → Keeps tape start now first count bytes → Written (has_failed tape) start now first count bytes

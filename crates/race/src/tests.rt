@@ -267,3 +267,56 @@ fn a_stopped_race_has_no_end_lines(rt: HostRuntime) -> Result<(), Fail> {
     );
     Ok(())
 }
+
+/// Looks whether it is told the looks so far, from 0, and a number of messages that never falls.
+#[derive(Drop)]
+struct Told {
+    calls: u64,
+    done: u64,
+    is_right: bool,
+}
+
+impl Gate for Told {
+    ghost stops = { λ _. 0 };
+
+    fn pass<R: Wait>(&mut self, _rt: &R, looks: u64, done: u64) -> bool {
+        if looks != self.calls || done < self.done {
+            self.is_right = false;
+        }
+        self.calls = self.calls.saturating_add(1);
+        self.done = done;
+        true
+    }
+
+    fn stops(&self) -> u64 {
+        0
+    }
+}
+
+#[test]
+fn the_low_gate_is_told_the_looks_and_the_messages_acknowledged(
+    rt: HostRuntime,
+) -> Result<(), Fail> {
+    let mut clock = StepClock::new(0, 1000);
+    let mut out = sink(rt.alloc(), 20_000, Vec::new(rt.alloc()))?;
+    let mut low = Told {
+        calls: 0,
+        done: 0,
+        is_right: true,
+    };
+    let end = race_with(
+        &rt,
+        rt.alloc(),
+        0,
+        3,
+        &TIMES,
+        &mut clock,
+        &mut out,
+        &mut low,
+        &mut Open,
+    )?;
+    assert!(rt; ran_whole(&end) && low.is_right);
+    // Before the last look the last message is not acknowledged.
+    assert_eq!(rt; low.done, 2);
+    Ok(())
+}

@@ -1,5 +1,5 @@
 -- What the gate of a worker is asked, look by look.
-use Rattle.std.proofs.Common.{◌≡◌, ℕ, ◌+◌, ◌<◌, ◌≤◌, Bool, true, false, List, [], ◌∷◌, ◌++◌, length, map, Option, Some, refl, sym, ap, ◌∙◌, subst, arith}
+use Rattle.std.proofs.Common.{◌≡◌, ℕ, ◌+◌, ◌≤◌, Bool, true, false, List, [], ◌∷◌, length, Option, refl, sym, ap, ◌∙◌, subst, arith}
 use Rattle.std.specs.Prelude.{if◌then◌else◌}
 use Rattle.std.proofs.lemmas.List.{length-append}
 use Rattle.pump_frame.specs.declared.frame.Item.{Item}
@@ -9,7 +9,7 @@ use Rattle.pump_core.specs.Passage.{Low, High}
 use Rattle.high_process.specs.States.{removed_of}
 use Rattle.high_receiver.specs.Receiving.{recv_disk, recv_count}
 use Rattle.race.specs.HighHalf.{HighAt, HandAt, IsNext}
-use Rattle.race.specs.Turns.{looks_in, done_in, ask_after, asks_of, asks_in_run, payload_in, AsksHigh}
+use Rattle.race.specs.Turns.{looks_in, done_in, ask_after, asks_of, asks_in_run, AsksHigh}
 use Rattle.race.specs.declared.high.HighHalf.{HighHalf}
 use Rattle.race.proofs.Receiving.{map_length}
 

@@ -1,5 +1,5 @@
 -- What the gate of a low worker is asked: the messages acknowledged are those whose looks replied so.
-use Rattle.std.proofs.Common.{◌≡◌, ℕ, ◌+◌, ◌-◌, ◌≤◌, Bool, true, false, List, [], ◌∷◌, Option, refl, sym, ap, ◌∙◌, subst, arith}
+use Rattle.std.proofs.Common.{◌≡◌, ℕ, ◌+◌, ◌-◌, Bool, true, false, List, refl, sym, ap, ◌∙◌, subst, arith}
 use Rattle.pump_frame.specs.declared.frame.Item.{Item}
 use Rattle.pump_frame.specs.declared.row.SessionRow.{SessionRow}
 use Rattle.pump_core.specs.Passage.{Low, High, Shape}
@@ -15,7 +15,6 @@ use Rattle.race.specs.MadeLooks.{acks_of}
 use Rattle.race.specs.Messages.{race_opening}
 use Rattle.race.specs.Turns.{done_in}
 use Rattle.race.specs.declared.low.LowHalf.{LowHalf}
-use Rattle.race.proofs.HighAsks.{one_if}
 
 idle_owes : (ph : Phase) (n : ℕ) → is_idle_in ph ≡ true → owed_in (phase_of ph n) ≡ 0
 idle_owes Idle n e = refl

@@ -1,4 +1,4 @@
-use Rattle.std.proofs.Common.{◌≡◌, ◌∙◌, Bool, true, false, refl, ap, subst, le_refl, le_trans, [], ◌∷◌, arith}
+use Rattle.std.proofs.Common.{◌∙◌, Bool, true, false, refl, ap, subst, le_refl, le_trans, [], ◌∷◌}
 use Rattle.pump_frame.specs.Counts.{raised}
 use Rattle.pump_link.proofs.Grown.{Grows-nil}
 use Rattle.high_process.specs.States.{removed_of}

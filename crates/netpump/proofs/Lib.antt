@@ -17,6 +17,7 @@ pub mod Numbered
 pub mod OneStatus
 pub mod Opened
 pub mod Quiet
+pub mod Raced
 pub mod Shelving
 pub mod Shown
 pub mod SoFar

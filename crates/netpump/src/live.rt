@@ -40,13 +40,7 @@ fn run_race<R: Threads + Wait + Sync, K: Clock + Send, O: Sink + Send>(
     match race_with(
         rt, alloc, seed, count, times, low_clock, out, &mut Open, &mut Open,
     ) {
-        Ok(end) => {
-            if end.write_failed {
-                4
-            } else {
-                0
-            }
-        }
+        Ok(end) => { if end.write_failed { 4 } else { 0 } }
         Err(_) => 1,
     }
 }

@@ -1,0 +1,12 @@
+use Rattle.netpump.proofs.Raced.{never_stopped, wrote_whole, wrote_front}
+use Rattle.netpump.proofs.live.run_race.Goals as goal
+
+pub returns-then-end-clause-ends : goal.returns-then-end-clause-ends
+returns-then-end-clause-ends g c =
+    let e = c.in-Ok.ensures in
+    wrote_front _ _ _ _ _ _ _ _ _ c.in-Ok.end.write_failed (e.record (never_stopped _ e.low_stopped) (never_stopped _ e.high_stopped))
+
+pub returns-in-Ok-clause-ends : goal.returns-in-Ok-clause-ends
+returns-in-Ok-clause-ends g c =
+    let e = c.in-Ok.ensures in
+    wrote_whole _ _ _ _ _ _ _ _ _ c.in-Ok.end.write_failed c.if-end.false (e.record (never_stopped _ e.low_stopped) (never_stopped _ e.high_stopped))

@@ -19,7 +19,7 @@ WroteRecord seed count times before after old new was now failed =
 
 module _ (seed count : ℕ) (times : List ℕ) (before after : List ℕ → Type 0) (old new : Option (List ℕ)) (was now : ℕ) where
   pub wrote_whole : (failed : Bool) → failed ≡ false → WroteRecord seed count times before after old new was now failed → EndsRace (IsRecordOf seed count times before after) old new 0
-  wrote_whole failed is (bytes, readings, written, draws, race) = inl (refl, (bytes, ((readings, draws, race), written.whole is)))
+  wrote_whole failed is (bytes, readings, written, draws, race) = inl (refl, (bytes, (readings, draws, race), written.whole is))
 
   pub wrote_front : (failed : Bool) → WroteRecord seed count times before after old new was now failed → EndsRace (IsRecordOf seed count times before after) old new 4
-  wrote_front failed (bytes, readings, written, draws, race) = inr (inr (refl, (bytes, ((readings, draws, race), written.front))))
+  wrote_front failed (bytes, readings, written, draws, race) = inr (inr (refl, (bytes, (readings, draws, race), written.front)))

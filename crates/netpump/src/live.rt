@@ -98,3 +98,6 @@ pub fn live<
         _ => refuse_words(out),
     }
 }
+
+#[cfg(test)]
+mod tests;

@@ -1,12 +1,12 @@
 -- Where the device of a disk cuts a line short, the `low` lines are still the replies of the low history.
-use Rattle.std.proofs.Common.{◌≡◌, ℕ, ◌+◌, Bool, true, false, nat_lt, List, [], ◌∷◌, ◌++◌, drop, length, Option, Some, None, refl, sym, ap, ◌∙◌, subst, append_assoc, append-nil}
+use Rattle.std.proofs.Common.{◌≡◌, ℕ, ◌+◌, Bool, true, false, nat_lt, List, [], ◌∷◌, ◌++◌, drop, length, None, refl, sym, ap, ◌∙◌, subst, append_assoc, append-nil}
 use Rattle.std.specs.Prelude.{if◌then◌else◌}
 use Rattle.disk_model.specs.declared.name.Role.{Role}
 use Rattle.disk_model.specs.declared.name.Role.TheVariants as roles
 use Rattle.pump_frame.specs.declared.frame.Item.{Item}
 use Rattle.pump_frame.specs.declared.row.SessionRow.{SessionRow}
 use Rattle.pump_core.specs.Exchanges.{Part, Loss, IsCut}
-use Rattle.pump_core.specs.History.{Look, History, looked}
+use Rattle.pump_core.specs.History.{Look, History}
 use Rattle.pump_core.specs.Replies.{Sent, LowReplies, refusal, replies_of}
 use Rattle.pump_core.specs.World.{World}
 use Rattle.pump_core.proofs.Cuts.{one_cut}
@@ -15,7 +15,7 @@ use Rattle.script_reader.specs.declared.event.Event.TheVariants.{Took, Again}
 use Rattle.script_reader.specs.declared.line.Line.{Line}
 use Rattle.script_reader.specs.declared.line.Line.TheVariants as lines
 use Rattle.script_reader.specs.Breaks.{Breaks, BreaksOff, IsLostLook}
-use Rattle.script_reader.specs.Highs.{IsCarried, printed_carry}
+use Rattle.script_reader.specs.Highs.{printed_carry}
 use Rattle.script_reader.specs.Past.{Past}
 use Rattle.script_reader.specs.Readouts.{low_lines}
 use Rattle.script_reader.proofs.Replying.{Grows, low-append, high_aside, aside_grows}

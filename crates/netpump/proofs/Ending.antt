@@ -1,6 +1,6 @@
 -- How a replay ends, once the disks are back.
 use Rattle.std.proofs.Common.{◌≡◌, ◌≤◌, ◌==◌, arith, ℕ, true, false, List, [], ◌∷◌, ◌++◌, Option, None, Some, inl, inr, refl, sym, ap, ◌∙◌, subst, append-nil}
-use Rattle.std.specs.Prelude.{◌⊎◌, ◌&&◌, nat_le, not, ◌||◌}
+use Rattle.std.specs.Prelude.{◌⊎◌, nat_le}
 use Rattle.std.proofs.lemmas.Bool.{and_parts, eqb-true, eqb-false}
 use Rattle.disk_model.specs.Disk.{Meaning}
 use Rattle.disk_model.specs.Shelf.{IsOut}
@@ -8,7 +8,6 @@ use Rattle.disk_model.specs.declared.disk.Disk.{Ghosts}
 use Rattle.disk_model.specs.declared.name.Role.{Role}
 use Rattle.pump_frame.specs.Counts.{Rose}
 use Rattle.pump_frame.specs.declared.row.SessionRow.{SessionRow}
-use Rattle.recovery.specs.declared.why.Why.{Why}
 use Rattle.script_reader.specs.declared.line.Line.{Line}
 use Rattle.script_reader.specs.declared.line.Line.TheVariants as lines
 use Rattle.script_reader.specs.declared.event.Event.{Event}
@@ -16,7 +15,6 @@ use Rattle.script_reader.specs.declared.fault.Fault.{Fault}
 use Rattle.script_reader.specs.declared.fault.Fault.TheVariants as faults
 use Rattle.script_reader.specs.Openings.{Openings, new_disks}
 use Rattle.script_reader.specs.Past.{Past}
-use Rattle.script_reader.specs.Readouts.{Sound}
 use Rattle.script_reader.specs.Steps.{is_timely, Overfills}
 use Rattle.script_reader.specs.Scripts.{Running, Begun, Whole, Alone, Stops}
 use Rattle.two_worlds.proofs.Timeline.Scripts.{HasRun, script_runs}
@@ -24,7 +22,7 @@ use Rattle.script_reader.specs.Sessions.{Sessions as Script, session_in, session
 use Rattle.netpump.specs.Shelves.{Places, disk_name, reading_in, reading_at, Shelved, shelved, LeavesSession, SparesSession, ReadiesSession, AreKept, AreOthersKept, AllAreBack}
 use Rattle.netpump.specs.Sessions.{id_of, found_at, HasComeTo, HasFailed}
 use Rattle.netpump.specs.Runners.{lent, AllLent, OthersLent, HandsOver, AllHandOver, AreOut, AllAreOut, LeftAs, AllLeftAs, IsAloneOr, EndsAs, IsDeviceFaultOf}
-use Rattle.netpump.specs.Replays.{IsEachSound, IsTimed, Replayed, IsFinished, IsUnread, IsFaulted, IsStopped, IsFailedAt, IsFailed, IsOverfilled, IsBroken, IsUnopened, IsBarred, IsDownAt, IsDown, IsOutput, IsCutOff, Wrote, WroteFront}
+use Rattle.netpump.specs.Replays.{IsEachSound, IsTimed, Replayed, IsFinished, IsUnread, IsFaulted, IsStopped, IsFailedAt, IsFailed, IsOverfilled, IsBroken, IsUnopened, IsBarred, IsDownAt, IsDown, IsOutput, Wrote}
 use Rattle.netpump.specs.declared.session.Session.{Session}
 use Rattle.netpump.specs.declared.session.Session.TheVariants as sessions
 use Rattle.netpump.specs.declared.replay.Ended.{Ended}

@@ -1,21 +1,17 @@
 -- The lines of an exercise, one after another.
-use Rattle.std.proofs.Common.{◌≡◌, ◌⊎◌, inl, inr, ⊎_elim, ℕ, ◌+◌, ◌*◌, ◌^◌, ◌<◌, ◌≤◌, Bool, true, false, List, [], ◌∷◌, ◌++◌, length, drop, Option, Some, None, refl, sym, ap, ◌∙◌, subst, arith, append_assoc, length-append}
+use Rattle.std.proofs.Common.{◌≡◌, inl, inr, ℕ, ◌^◌, ◌≤◌, Bool, true, List, [], ◌∷◌, ◌++◌, length, drop, Option, Some, None, refl, sym, ap, ◌∙◌, subst, arith, append_assoc, length-append}
 use Rattle.std.proofs.lemmas.List.{append-nil}
-use Rattle.std.specs.List.{sum_by}
-use Rattle.disk_model.specs.Disk.{Answers, Meaning}
 use Rattle.disk_model.specs.Plain.{Plain, plain_meaning}
 use Rattle.disk_model.specs.declared.disk.Disk.{Ghosts}
-use Rattle.disk_model.specs.declared.name.Role.{Role}
 use Rattle.disk_model.specs.declared.name.Role.TheVariants as roles
 use Rattle.script_reader.specs.declared.event.Event.{Event}
 use Rattle.script_reader.specs.declared.line.Line.{Line}
 use Rattle.script_reader.specs.declared.line.Line.TheVariants as lines
-use Rattle.script_reader.specs.Applying.{AllApply}
 use Rattle.script_reader.specs.Generated.{generated_row, generated, first_mark}
 use Rattle.script_reader.specs.Openings.{Openings, new_disks, nothing_found, first_past}
 use Rattle.script_reader.specs.Past.{Past}
-use Rattle.script_reader.specs.Scripts.{Begun, Whole, Leads, LeadTo, Ends, IsTranscript, end_of}
-use Rattle.script_reader.specs.Steps.{is_timely, IsCrowded, IsRefusedWhole, LineStep, Overfills}
+use Rattle.script_reader.specs.Scripts.{Begun, Whole, Leads, LeadTo, end_of}
+use Rattle.script_reader.specs.Steps.{is_timely, IsRefusedWhole, LineStep, Overfills}
 use Rattle.script_reader.specs.Highs.{receiver_size}
 use Rattle.stable_buffer.specs.Stands.{low_size}
 use Rattle.script_reader.proofs.Generating.{generated_apply}
@@ -23,11 +19,11 @@ use Rattle.script_reader.proofs.Opened.{new_disks_can}
 use Rattle.two_worlds.specs.declared.applied.Stop.{Stop}
 use Rattle.two_worlds.specs.declared.applied.Stop.TheVariants as stops
 use Rattle.two_worlds.specs.declared.pump.Pump.{Pump}
-use Rattle.two_worlds.specs.Pumps.{row_of, StandsFor, is_down, disk_at, Applies}
-use Rattle.two_worlds.specs.Rooms.{HasRoom, IsFree, Serves, stops_at, DisksGo}
+use Rattle.two_worlds.specs.Pumps.{row_of, disk_at, Applies}
+use Rattle.two_worlds.specs.Rooms.{IsFree, Serves, DisksGo}
 use Rattle.netpump.specs.declared.exercise.Tally.{Tally}
-use Rattle.netpump.specs.Exercises.{LeadEach, in_all, IsSummary, summary_of}
-use Rattle.netpump.specs.Exercising.{Counts, IsAtMost, HasCounted, HasApplied, CannotFail, IsUnderWay, CanGo, CanGoOn, LeadsPump, HasRun, tally_line}
+use Rattle.netpump.specs.Exercises.{LeadEach, in_all, IsSummary}
+use Rattle.netpump.specs.Exercising.{Counts, IsAtMost, HasCounted, HasApplied, CannotFail, CanGo, LeadsPump, HasRun, tally_line}
 use Rattle.netpump.proofs.Going.{leads_from}
 use Rattle.netpump.proofs.Tallies.{counted_more, script_length}
 

@@ -1,6 +1,6 @@
 -- The disks of a session are back on the shelf, and are read there.
 use Rattle.std.proofs.Common.{◌≡◌, ◌≤◌, ℕ, ◌+◌, ◌^◌, ◌==◌, Bool, true, false, List, [], ◌∷◌, ◌++◌, Option, None, Some, inl, inr, refl, sym, ap, ◌∙◌, subst, arith, length, drop}
-use Rattle.std.specs.Prelude.{◌⊎◌, ◌&&◌, if◌then◌else◌}
+use Rattle.std.specs.Prelude.{◌&&◌, if◌then◌else◌}
 use Rattle.std.proofs.lemmas.Bool.{eqb-true, eqb-false}
 use Rattle.pump_frame.specs.Counts.{Rose}
 use Rattle.std.specs.List.{AllByRecursion}
@@ -12,21 +12,21 @@ use Rattle.disk_model.specs.Shelf.{IsOut}
 use Rattle.pump_frame.specs.declared.row.SessionRow.{SessionRow}
 use Rattle.pump_frame.specs.declared.payload.Payload.{Payload}
 use Rattle.pump_core.specs.Events.{with_kept}
-use Rattle.pump_core.specs.Replies.{Sent, LowReplies}
+use Rattle.pump_core.specs.Replies.{Sent}
 use Rattle.pump_core.specs.World.{World}
 use Rattle.pump_core.specs.Lawful.{IsLawful}
 use Rattle.stable_buffer.specs.Stands.{LowStands, HighStands}
 use Rattle.stable_buffer.specs.Log.{RecvStands}
 use Rattle.script_reader.specs.Highs.{log_end, receiver_size}
 use Rattle.script_reader.specs.Past.{Past}
-use Rattle.script_reader.specs.Openings.{Openings, Found}
+use Rattle.script_reader.specs.Openings.{Openings}
 use Rattle.script_reader.specs.declared.event.Event.{Event}
 use Rattle.script_reader.specs.Readouts.{low_lines, Sound}
 use Rattle.script_reader.specs.Scripts.{Running, Begun, Whole, Alone}
-use Rattle.two_worlds.specs.Disks.{StandFor, StandForLeft, LeaveWorld, crashed}
+use Rattle.two_worlds.specs.Disks.{StandFor, StandForLeft}
 use Rattle.two_worlds.specs.Laws.{KeepMessages, AckOutlives}
 use Rattle.two_worlds.specs.Pumps as pump
-use Rattle.two_worlds.specs.Timelines.{IsAtRest, IsTimeline}
+use Rattle.two_worlds.specs.Timelines.{IsAtRest}
 use Rattle.two_worlds.specs.declared.pump.Pump.{Pump}
 use Rattle.two_worlds.specs.States.{StandsIn}
 use Rattle.two_worlds.specs.declared.pump.state.PumpState.{PumpState}

@@ -1,5 +1,5 @@
 -- The sessions, one after another.
-use Rattle.std.proofs.Common.{◌≡◌, ◌<◌, ◌≤◌, ℕ, ◌+◌, zero, suc, ◌==◌, Bool, true, false, nat_lt, nat_le, arith, length, List, [], ◌∷◌, ◌++◌, take, drop, set, get_or, slice_get, vec_capacity, length-set, Option, None, Some, refl, sym, ap, ◌∙◌, subst, append_assoc, append-nil}
+use Rattle.std.proofs.Common.{◌≡◌, ◌<◌, ◌≤◌, ℕ, ◌+◌, zero, suc, ◌==◌, Bool, true, false, nat_lt, arith, length, List, [], ◌∷◌, ◌++◌, take, set, get_or, slice_get, vec_capacity, length-set, Option, Some, refl, sym, ap, ◌∙◌, subst, append_assoc, append-nil}
 use Rattle.std.specs.Prelude.{◌&&◌, ◌||◌, not, if◌then◌else◌}
 use Rattle.std.specs.List.{insert}
 use Rattle.std.specs.Vec.{with_item}

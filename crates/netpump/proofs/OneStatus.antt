@@ -1,11 +1,10 @@
 -- A script that tells its bytes has one status.
 use Rattle.std.proofs.Common.{◌≡◌, inl, inr, ℕ, ◌+◌, ◌^◌, ◌<◌, List, [], Option, None, Some, length, refl, sym, ap, ◌∙◌, subst, arith}
 use Rattle.std.specs.Io.KnownBytes.{IsAtEnd}
-use Rattle.disk_model.specs.declared.name.Role.TheVariants as roles
 use Rattle.script_reader.specs.declared.line.Line.{Line}
 use Rattle.script_reader.specs.declared.event.Event.{Event}
 use Rattle.script_reader.specs.declared.fault.Fault.{Fault}
-use Rattle.script_reader.specs.declared.fault.Fault.TheVariants.{Script, Device, Full}
+use Rattle.script_reader.specs.declared.fault.Fault.TheVariants.{Full}
 use Rattle.script_reader.specs.Faults.{IsScriptFaulty}
 use Rattle.script_reader.specs.Openings.{Openings}
 use Rattle.script_reader.specs.Sessions.{Sessions, no_sessions, ScriptRefuses, ScriptStops}

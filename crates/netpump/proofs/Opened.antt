@@ -1,13 +1,12 @@
 -- A whole session is opened over its disks, or it is not, and they are back on the shelf.
-use Rattle.std.proofs.Common.{◌≡◌, ◌≤◌, ℕ, Bool, true, false, List, [], ◌∷◌, Option, None, Some, Result, Ok, Err, inl, inr, refl, sym, ap, ◌∙◌, subst, arith}
+use Rattle.std.proofs.Common.{◌≡◌, ℕ, Bool, true, false, List, [], Option, None, Some, Ok, Err, inl, inr, refl, sym, ap, ◌∙◌, subst}
 use Rattle.std.specs.Prelude.{◌⊎◌, ◌&&◌, IfSome}
-use Rattle.std.proofs.lemmas.Bool.{cases_eq}
 use Rattle.disk_model.specs.Disk.{Meaning}
 use Rattle.disk_model.specs.declared.disk.Disk.{Ghosts}
 use Rattle.disk_model.specs.declared.name.Role.{Role}
 use Rattle.disk_model.specs.declared.name.Role.TheVariants as roles
 use Rattle.pump_frame.specs.Counts.{Rose}
-use Rattle.pump_frame.specs.Rows.{first_bad, IsLawfulRow}
+use Rattle.pump_frame.specs.Rows.{IsLawfulRow}
 use Rattle.pump_frame.specs.declared.row.SessionRow.{SessionRow}
 use Rattle.recovery.specs.Calls.{is_device}
 use Rattle.recovery.specs.Faults.{why_number, why_values}
@@ -16,11 +15,10 @@ use Rattle.recovery.specs.declared.why.Why.TheVariants as whys
 use Rattle.stable_buffer.specs.Format.{new_bytes}
 use Rattle.script_reader.specs.declared.fault.Fault.{Fault}
 use Rattle.script_reader.specs.declared.fault.Fault.TheVariants as faults
-use Rattle.script_reader.specs.declared.line.Line.{Line}
 use Rattle.script_reader.specs.declared.line.Line.TheVariants as lines
-use Rattle.script_reader.specs.Openings.{Found, Openings, first_past}
-use Rattle.script_reader.specs.Scripts.{Begun, Whole}
-use Rattle.two_worlds.specs.Openings.{readied, StandForFound, DisksStandFor, IsRefused, LeavesDisk, ComeBack, is_for_device, failed_at}
+use Rattle.script_reader.specs.Openings.{Found, first_past}
+use Rattle.script_reader.specs.Scripts.{Whole}
+use Rattle.two_worlds.specs.Openings.{readied, DisksStandFor, IsRefused, LeavesDisk, ComeBack, is_for_device, failed_at}
 use Rattle.two_worlds.specs.Rooms.{is_role}
 use Rattle.two_worlds.specs.Pumps as pump
 use Rattle.two_worlds.specs.declared.not_open.NotOpen.{NotOpen}
@@ -33,7 +31,7 @@ use Rattle.netpump.specs.declared.session.Session.{Session}
 use Rattle.netpump.specs.declared.session.Session.TheVariants as sessions
 use Rattle.netpump.specs.declared.replay.Outcome.{Outcome}
 use Rattle.netpump.specs.declared.replay.Outcome.TheVariants as outcomes
-use Rattle.netpump.proofs.Shelving.{read_in, rose_more, others_so, all_back, spares_so, readies_so, spared_by, left_by, counts_more, rises_more, out_still}
+use Rattle.netpump.proofs.Shelving.{read_in, rose_more, all_back, spares_so, readies_so, spared_by, left_by, counts_more, rises_more, out_still}
 
 -- ---- the session begins ----
 

@@ -1,6 +1,5 @@
 -- How a race ends, from what was written of its record.
 use Rattle.std.proofs.Common.{◌≡◌, ℕ, Bool, true, false, List, Option, inl, inr, refl, arith}
-use Rattle.std.specs.Io.KnownBytes.{Appends}
 use Rattle.pump_frame.specs.Counts.{Rose}
 use Rattle.pump_link.specs.Tells.{Draws}
 use Rattle.race.specs.Race.{IsRaceRecord}

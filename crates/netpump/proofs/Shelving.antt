@@ -1,18 +1,18 @@
 -- Disks that come off a shelf and back on it.
-use Rattle.std.proofs.Common.{◌≡◌, ◌≤◌, ℕ, Bool, true, false, List, [], ◌∷◌, Option, None, Some, inl, inr, refl, sym, ap, ◌∙◌, subst, arith}
-use Rattle.std.specs.Prelude.{◌⊎◌, ◌&&◌, IfSome}
+use Rattle.std.proofs.Common.{◌≡◌, ◌≤◌, ℕ, Bool, true, false, List, [], Some, inl, inr, refl, sym, ap, ◌∙◌, subst, arith}
+use Rattle.std.specs.Prelude.{◌⊎◌}
 use Rattle.std.proofs.lemmas.Bool.{cases_eq}
-use Rattle.disk_model.specs.Disk.{Meaning, Moves, Same}
+use Rattle.disk_model.specs.Disk.{Meaning}
 use Rattle.disk_model.specs.declared.name.DiskName.{DiskName}
 use Rattle.disk_model.specs.declared.name.Role.{Role}
 use Rattle.disk_model.specs.declared.name.Role.TheVariants as roles
 use Rattle.disk_model.specs.Shelf.{Whereabouts, OnShelf, Out, Nowhere, IsOut, reading_given}
-use Rattle.pump_frame.specs.Counts.{raised, Rose}
+use Rattle.pump_frame.specs.Counts.{Rose}
 use Rattle.pump_frame.specs.declared.row.SessionRow.{SessionRow}
-use Rattle.stable_buffer.specs.Format.{new_bytes, size_of}
+use Rattle.stable_buffer.specs.Format.{new_bytes}
 use Rattle.two_worlds.specs.Openings.{LeavesDisk}
 use Rattle.two_worlds.specs.Rooms.{Serves}
-use Rattle.netpump.specs.Lending.{ReadAt, IsOutAt, RisesAt, AreOnShelf, Readies}
+use Rattle.netpump.specs.Lending.{IsOutAt, AreOnShelf, Readies}
 use Rattle.netpump.specs.Shelves.{Places, disk_name, reading_in, reading_at, LeavesOtherSessions, AllAreBack, Spares}
 
 pub read_in : (w : Whereabouts) (r : List ℕ) → reading_given w ≡ Some r → reading_in w ≡ r

@@ -20,7 +20,7 @@ use Rattle.netpump.specs.Outputs.{Gathers}
 use Rattle.netpump.specs.Runners.{Closes, EndsAs}
 use Rattle.netpump.specs.declared.replay.Ended.{Ended}
 use Rattle.netpump.specs.declared.replay.Ended.TheVariants as ended
-use Rattle.netpump.specs.Replays.{IsSoFar, Replayed, IsFaultyAt, Stopping, fault_after, IsNear, IsWithinLine, IsNearLast, IsFinished, IsUnread, IsFaulted, IsOutput, IsCutOff, Wrote, WroteFront}
+use Rattle.netpump.specs.Replays.{IsSoFar, Replayed, IsFaultyAt, fault_after, IsNear, IsWithinLine, IsNearLast, IsFinished, IsUnread, IsFaulted, IsOutput, IsCutOff, Wrote, WroteFront}
 use Rattle.netpump.specs.Shelves.{Shelved}
 use Rattle.netpump.proofs.Kept.{keep_laws, timed_so, sound_ends}
 use Rattle.netpump.proofs.Gathered.{text-more, gathers_then, appends_then, front_then, front_more}

@@ -1,7 +1,6 @@
 -- What becomes of a replay at a line, while its disks are with the sessions.
 use Rattle.std.proofs.Common.{◌≡◌, ℕ, ◌+◌, ◌^◌, ◌<◌, ◌≤◌, ◌==◌, true, false, arith, length, List, [], ◌∷◌, ◌++◌, Option, None, Some, inl, inr, refl, sym, ap, ◌∙◌, subst, append-nil, append_assoc}
 use Rattle.std.specs.Prelude.{◌⊎◌}
-use Rattle.std.specs.Io.KnownBytes.{Appends}
 use Rattle.std.proofs.lemmas.Bool.{eqb-true, eqb-false}
 use Rattle.disk_model.specs.Disk.{Meaning}
 use Rattle.disk_model.specs.declared.disk.Disk.{Ghosts}
@@ -10,7 +9,6 @@ use Rattle.pump_frame.specs.Counts.{Rose}
 use Rattle.disk_model.specs.declared.name.Role.{Role}
 use Rattle.disk_model.specs.declared.name.Role.TheVariants as roles
 use Rattle.recovery.specs.Faults.{why_number, why_values}
-use Rattle.recovery.specs.declared.why.Why.{Why}
 use Rattle.script_reader.specs.declared.line.Line.{Line}
 use Rattle.script_reader.specs.declared.event.Event.{Event}
 use Rattle.script_reader.specs.declared.fault.Fault.{Fault}
@@ -18,7 +16,7 @@ use Rattle.script_reader.specs.declared.fault.Fault.TheVariants.{Words, Read, Sc
 use Rattle.script_reader.specs.declared.lines.Lined.TheVariants as lined
 use Rattle.script_reader.specs.Lines.{LineReading, to_come, AreLines, IsNextLine}
 use Rattle.script_reader.specs.Openings.{Openings}
-use Rattle.script_reader.specs.Scripts.{Running, Begun, Whole, Alone, Stops}
+use Rattle.script_reader.specs.Scripts.{Begun, Whole, Alone, Stops}
 use Rattle.script_reader.specs.Sessions.{Sessions as Script, session_number, session_in, session_at, with_session, events_of, StopsOne, ScriptStops}
 use Rattle.script_reader.specs.Transcript.{text, fault_line}
 use Rattle.pump_core.specs.Replies.{LowReplies}
@@ -38,7 +36,7 @@ use Rattle.netpump.specs.declared.replay.Outcome.{Outcome}
 use Rattle.netpump.specs.declared.replay.Outcome.TheVariants as outcomes
 use Rattle.netpump.specs.declared.replay.Ended.{Ended}
 use Rattle.netpump.specs.declared.replay.Ended.TheVariants as ended
-use Rattle.netpump.proofs.Gathered.{appends_then, front_then, front_more, text-more}
+use Rattle.netpump.proofs.Gathered.{appends_then, front_then, front_more}
 use Rattle.netpump.proofs.Kept.{each_sound, laws_at_stop}
 use Rattle.netpump.proofs.Numbered.{stands_at}
 use Rattle.netpump.proofs.SoFar.{replayed, next_line, near_next, shown, wrote, wrote_front, unshown, unprinted, stopped_text}

@@ -1,8 +1,8 @@
 -- What an exercise counts, line by line.
-use Rattle.std.proofs.Common.{◌≡◌, ℕ, ◌+◌, ◌*◌, ◌^◌, ◌<◌, ◌≤◌, Bool, true, false, zero, suc, List, [], ◌∷◌, ◌++◌, length, map, take, get_or, Option, Some, None, refl, sym, ap, ◌∙◌, subst, arith, append_assoc, length-append}
+use Rattle.std.proofs.Common.{◌≡◌, ℕ, ◌+◌, ◌*◌, ◌<◌, ◌≤◌, Bool, true, false, zero, suc, List, [], ◌∷◌, ◌++◌, length, take, get_or, refl, sym, ap, ◌∙◌, subst, arith, append_assoc, length-append}
 use Rattle.std.specs.Prelude.{if◌then◌else◌}
-use Rattle.std.specs.List.{sum_by, flat_map}
-use Rattle.std.proofs.lemmas.List.{append-nil, map-append, take_more, length-take-le}
+use Rattle.std.specs.List.{sum_by}
+use Rattle.std.proofs.lemmas.List.{append-nil, map-append, take_more}
 use Rattle.std.proofs.lemmas.List.Sums.{sum_by-cons, sum_by-append}
 use Rattle.std.proofs.lemmas.Grind.{flat_map-append}
 use Rattle.pump_frame.specs.declared.frame.Kind.{Kind}
@@ -13,7 +13,7 @@ use Rattle.script_reader.specs.declared.event.Event.{Event}
 use Rattle.script_reader.specs.declared.event.Event.TheVariants.{Full, Passed, Low, Removed}
 use Rattle.script_reader.specs.declared.line.Line.{Line}
 use Rattle.script_reader.specs.declared.line.Line.TheVariants.{Look}
-use Rattle.script_reader.specs.Generated.{Mark, timed, is_seventh, takings, message_lines, after_message, messages_from, generated, first_mark, early_lines, due_at, late_count, after_draws, message_word, empty_look}
+use Rattle.script_reader.specs.Generated.{Mark, timed, is_seventh, takings, message_lines, after_message, messages_from, early_lines, due_at, late_count, after_draws, message_word, empty_look}
 use Rattle.two_worlds.specs.Printing.{lines_in}
 use Rattle.netpump.specs.declared.exercise.Tally.{Tally}
 use Rattle.netpump.specs.Exercises.{in_all, look_word, look_count, ack_kind_count, ack_count, full_count, removal_count, delay_in, delays_in}

@@ -1,5 +1,5 @@
 -- What becomes of a line of a script: it is skipped, it begins a session, or a session goes on by it.
-use Rattle.std.proofs.Common.{◌≡◌, ◌≢◌, ◌<◌, ◌≤◌, ℕ, ◌+◌, ◌==◌, max, length, Bool, true, false, not, List, [], ◌∷◌, ◌++◌, slice_get, set, Option, None, Some, Result, Ok, Err, inl, inr, refl, sym, ap, ◌∙◌, subst, arith}
+use Rattle.std.proofs.Common.{◌≡◌, ◌≢◌, ℕ, ◌==◌, max, length, Bool, true, false, not, List, [], ◌++◌, slice_get, set, Option, None, Some, Ok, Err, inl, inr, refl, sym, ap, ◌∙◌, subst}
 use Rattle.std.specs.Prelude.{◌⊎◌, ◌||◌}
 use Rattle.std.specs.List.{insert}
 use Rattle.std.proofs.lemmas.Bool.{eqb-true, eqb-false}
@@ -9,8 +9,7 @@ use Rattle.disk_model.specs.Shelf.{IsOut}
 use Rattle.disk_model.specs.declared.disk.Disk.{Ghosts}
 use Rattle.disk_model.specs.declared.name.Role.{Role}
 use Rattle.disk_model.specs.declared.name.Role.TheVariants as roles
-use Rattle.pump_frame.specs.Counts.{Rose}
-use Rattle.pump_frame.specs.Rows.{first_bad, IsLawfulRow}
+use Rattle.pump_frame.specs.Rows.{IsLawfulRow}
 use Rattle.pump_frame.specs.declared.row.SessionRow.{SessionRow}
 use Rattle.pump_link.specs.Causes.{AppendsFront}
 use Rattle.script_reader.specs.declared.event.Event.{Event}
@@ -20,9 +19,8 @@ use Rattle.script_reader.specs.declared.line.Line.{Line}
 use Rattle.script_reader.specs.declared.line.Line.TheVariants as lines
 use Rattle.script_reader.specs.Transcript.{text}
 use Rattle.script_reader.specs.Openings.{Openings, new_disks}
-use Rattle.script_reader.specs.Alone.{PastAlone, fresh_alone}
-use Rattle.script_reader.specs.Past.{Past}
-use Rattle.script_reader.specs.Scripts.{Running, RunningAlone, Begun, Whole, Alone, GoesOn, Leads, IsRefused, Stops}
+use Rattle.script_reader.specs.Alone.{fresh_alone}
+use Rattle.script_reader.specs.Scripts.{Running, RunningAlone, Begun, Whole, Alone, GoesOn, IsRefused, Stops}
 use Rattle.script_reader.specs.Sessions.{Sessions as Script, session_number, session_in, begins_session, moment_of, session_at, with_session, led_to, is_in_turn, RefusesOne, ScriptRefuses, StopsOne, ScriptStops}
 use Rattle.script_reader.proofs.Apart.{session_at-own, session_at-other, found_number}
 use Rattle.two_worlds.specs.declared.applied.Stop.{Stop}
@@ -34,13 +32,12 @@ use Rattle.netpump.specs.declared.replay.Outcome.{Outcome}
 use Rattle.netpump.specs.declared.replay.Outcome.TheVariants as outcomes
 use Rattle.netpump.specs.Lending.{IsOutAt}
 use Rattle.netpump.specs.Shelves.{Places, disk_name, reading_in, reading_at, HasFound, IsRefusedFor, LeavesSession, LeavesOtherSessions, SparesSession, ReadiesSession, AllAreBack}
-use Rattle.netpump.specs.Sessions.{id_of, IsUp, StandsFor, StandsForRunning, CameTo, HasComeTo, IsCutShort, SessionApplies, LendsNew, Lends, GoesOnWith, FailedWith, HasFailed, found_at, with_begun, place_in, is_of_number, IsPlaced, Rise, AreInOrder, EachStandsFor, AllStandFor, AllHaveComeTo, AllLend}
+use Rattle.netpump.specs.Sessions.{id_of, IsUp, StandsFor, StandsForRunning, HasComeTo, IsCutShort, SessionApplies, LendsNew, Lends, GoesOnWith, FailedWith, HasFailed, found_at, with_begun, place_in, is_of_number, IsPlaced, Rise, EachStandsFor, AllStandFor, AllHaveComeTo, AllLend}
 use Rattle.netpump.specs.Outputs.{Gathers}
-use Rattle.netpump.specs.Replays.{BreaksLine}
 use Rattle.netpump.specs.Runners.{AreUp, AllAreUp, outcome_of, Finds, LeadsFrom, OneLeadsFrom, IsNotOpened, Begins, GoesSo, BeginsNone, TurnGoes, TurnStops, IsInStep, BeginDoes, Adds, TurnDoes, HandsOver, AllHandOver, IsDeviceOutcomeOf}
 use Rattle.netpump.proofs.Gathered.{gathers_none}
 use Rattle.netpump.proofs.Going.{leads_from}
-use Rattle.netpump.proofs.Numbered.{found_id, found_put, others_put, rise_put, found_there, none_there, set_there, insert_there, place_least, found_later, found_here, none_above, same_number, same_length, stands_at, each_put, each_same}
+use Rattle.netpump.proofs.Numbered.{found_id, found_put, others_put, rise_put, found_there, none_there, set_there, insert_there, same_number, stands_at, each_put, each_same}
 use Rattle.netpump.proofs.Shelving.{out_still, rose_more}
 use Rattle.netpump.proofs.Stops.{came_all, stop_number}
 

@@ -1,5 +1,5 @@
 -- What the disks of one more session were found to hold: the lines before it lead to the same.
-use Rattle.std.proofs.Common.{◌≡◌, ℕ, Bool, true, false, ◌==◌, if◌then◌else◌, List, [], ◌∷◌, ◌++◌, Option, None, Some, inl, inr, refl, sym, ap, ◌∙◌, subst}
+use Rattle.std.proofs.Common.{◌≡◌, ℕ, Bool, true, false, ◌==◌, if◌then◌else◌, List, [], ◌∷◌, Option, None, Some, inl, inr, refl, sym, ap, ◌∙◌, subst}
 use Rattle.std.proofs.lemmas.Bool.{eq-eqb, ne_eqb, eqb-true, eqb-false}
 use Rattle.std.proofs.lemmas.Option.{same_Some}
 use Rattle.script_reader.specs.declared.event.Event.{Event}
@@ -7,7 +7,7 @@ use Rattle.script_reader.specs.declared.line.Line.{Line}
 use Rattle.script_reader.specs.declared.line.Line.TheVariants as lines
 use Rattle.script_reader.specs.Openings.{Openings, Found, CanOpen, first_past}
 use Rattle.script_reader.specs.Scripts.{Begun, Whole, Alone, GoesOn, Leads}
-use Rattle.script_reader.specs.Sessions.{Sessions, no_sessions, session_number, session_in, session_at, with_session, led_to, is_in_turn, LeadsOne, ScriptLeads, ScriptLeadsTo}
+use Rattle.script_reader.specs.Sessions.{Sessions, no_sessions, session_number, session_in, session_at, led_to, is_in_turn, LeadsOne, ScriptLeads, ScriptLeadsTo}
 use Rattle.script_reader.proofs.Apart.{session_at-own, session_at-other, found_number}
 use Rattle.script_reader.proofs.Beside.{beside, has_number}
 use Rattle.script_reader.proofs.Leading.{led}

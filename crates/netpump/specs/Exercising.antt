@@ -1,5 +1,5 @@
 -- An exercise between two lines. It serves the private functions and the proofs.
-use Rattle.std.specs.Prelude.{◌≡◌, ℕ, ◌+◌, ◌*◌, ◌≤◌, true, false, List, [], ◌∷◌, ◌++◌, length, codes, decimal, Option, None, Some}
+use Rattle.std.specs.Prelude.{◌≡◌, ℕ, ◌+◌, ◌*◌, ◌≤◌, true, false, List, [], ◌∷◌, ◌++◌, length, codes, decimal, None, Some}
 use Rattle.std.specs.List.{sum_by}
 use Rattle.disk_model.specs.Plain.{Plain, plain_meaning}
 use Rattle.disk_model.specs.declared.name.Role.TheVariants as roles

@@ -3,7 +3,6 @@ use Rattle.std.specs.Prelude.{◌≡◌, ◌<◌, ◌≤◌, ℕ, Bool, true, fa
 use Rattle.std.specs.List.{AllByRecursion, position_or_len}
 use Rattle.disk_model.specs.Disk.{Meaning}
 use Rattle.disk_model.specs.declared.name.Role.{Role}
-use Rattle.disk_model.specs.declared.name.Role.TheVariants as roles
 use Rattle.disk_model.specs.Shelf.{Out}
 use Rattle.pump_frame.specs.Counts.{Rose}
 use Rattle.script_reader.specs.Breaks.{Breaks}
@@ -12,7 +11,7 @@ use Rattle.script_reader.specs.Steps.{is_timely}
 use Rattle.script_reader.specs.declared.event.Event.{Event}
 use Rattle.script_reader.specs.declared.fault.Fault.TheVariants as faults
 use Rattle.script_reader.specs.declared.line.Line.{Line}
-use Rattle.script_reader.specs.Scripts.{Running, Begun, Whole, Alone, GoesOn, IsRefused, Stops}
+use Rattle.script_reader.specs.Scripts.{Begun, Whole, Alone, GoesOn, IsRefused, Stops}
 use Rattle.script_reader.specs.Sessions.{Sessions as Script, session_at}
 use Rattle.two_worlds.specs.declared.applied.Stop.{Stop}
 use Rattle.two_worlds.specs.declared.applied.Stop.TheVariants as stops

@@ -86,8 +86,8 @@ module _ (s : State) (m w : ℕ) (f : Feedback) (g : goes_on s.phase ≡ true) w
         hears = subst (Hears (Passing (Some n))) (sym e) tt;
         fine = tt;
         acked =
-          let still : owed_in (after_in generated_row s nothing (Passing (Some n))).phase ≡ 1 = ap (λ (q : State). owed_in q.phase) same ∙ ap owed_in at in
-          omega (arith, still);
+            let still : owed_in (after_in generated_row s nothing (Passing (Some n))).phase ≡ 1 = ap (λ (q : State). owed_in q.phase) same ∙ ap owed_in at in
+            omega (arith, still);
       }
   passing n (Passed seen) at e fit =
       let same : after_in generated_row s nothing (Passing (Some n)) ≡ record s { phase = passed generated_row nothing (Some n) } = ap (λ (k : Feedback). if is_full k then s else record s { phase = passed generated_row nothing (Some n) }) e in
@@ -100,8 +100,8 @@ module _ (s : State) (m w : ℕ) (f : Feedback) (g : goes_on s.phase ≡ true) w
         hears = subst (Hears (Passing (Some n))) (sym e) tt;
         fine = tt;
         acked =
-          let still : owed_in (after_in generated_row s nothing (Passing (Some n))).phase ≡ 1 = ap (λ (q : State). owed_in q.phase) same in
-          omega (arith, still);
+            let still : owed_in (after_in generated_row s nothing (Passing (Some n))).phase ≡ 1 = ap (λ (q : State). owed_in q.phase) same in
+            omega (arith, still);
       }
   passing n Quiet at e fit = absurd (cc)
   passing n Released at e fit = absurd (cc)
@@ -172,7 +172,7 @@ module _ (s : State) (m w : ℕ) (f : Feedback) (g : goes_on s.phase ≡ true) w
           hears = quiet_is f quiet;
           fine = subst (λ (z : Bool × Bool). IsFine (reply_by z.0 z.1)) (λ i. (sym repeat_is i, sym next_is i)) tt;
           acked =
-            let one : owed_in (after_in generated_row s data_look Idle).phase ≡ 1 = ap (λ (q : State). owed_in q.phase) same in
-            let none : one_if (is_ack (reply_in generated_row s data_look Idle)) ≡ 0 = ap (λ (z : Bool × Bool). one_if (is_ack (reply_by z.0 z.1))) (λ i. (repeat_is i, next_is i)) in
-            omega (arith, one, none);
+              let one : owed_in (after_in generated_row s data_look Idle).phase ≡ 1 = ap (λ (q : State). owed_in q.phase) same in
+              let none : one_if (is_ack (reply_in generated_row s data_look Idle)) ≡ 0 = ap (λ (z : Bool × Bool). one_if (is_ack (reply_by z.0 z.1))) (λ i. (repeat_is i, next_is i)) in
+              omega (arith, one, none);
         })

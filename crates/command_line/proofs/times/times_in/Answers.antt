@@ -1,4 +1,4 @@
-use Rattle.std.proofs.Common.{◌≡◌, ◌<◌, ◌∷◌, ◌++◌, ◌∙◌, ℕ, List, Option, Bor, [], length, Some, None, sym, subst, lit<, rules, arith}
+use Rattle.std.proofs.Common.{◌≡◌, ◌<◌, ◌∷◌, ◌++◌, ◌∙◌, ℕ, List, Option, Bor, [], length, Some, None, sym, subst, lit<, rules}
 use Rattle.std.proofs.lemmas.Str.Pattern.{split_parts, split_after}
 use Rattle.command_line.specs.TimeLists.{AreTimes, times_word}
 use Rattle.command_line.proofs.Commas.{HasRead, nothing_read, next_is, first_is, read_more, last_is, read_last}

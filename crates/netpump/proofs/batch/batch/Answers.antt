@@ -1,6 +1,4 @@
-use Rattle.std.proofs.Common.{◌≡◌, map, string_bytes, sym, subst, refl, List, String, Global, rules}
-use Rattle.command_line.specs.Commands.{AreWordsOf}
-use Rattle.command_line.specs.declared.command.Command.{Command}
+use Rattle.std.proofs.Common.{refl, rules}
 use Rattle.command_line.specs.declared.command.Command.TheVariants as commands
 use Rattle.netpump.proofs.Asked.{read_words, not_command, same_command, formats_asked, formats_nothing, shows_asked, shows_nothing, exercise_asked}
 use Rattle.netpump.proofs.Headline.{outlives, fronts, wrote_finished, wrote_unread, wrote_front, wrote_faulted, wrote_down, wrote_barred, wrote_full}

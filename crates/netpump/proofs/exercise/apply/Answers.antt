@@ -1,4 +1,3 @@
-use Rattle.std.proofs.Common.{sym, subst, Some, None}
 use Rattle.script_reader.specs.Heads.{line_with}
 use Rattle.two_worlds.specs.Printing.{lines_in}
 use Rattle.netpump.proofs.Exercised.{never_stops, leads_pump}

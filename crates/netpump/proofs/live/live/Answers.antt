@@ -1,4 +1,3 @@
-use Rattle.std.proofs.Common.{ℕ, List, refl}
 use Rattle.command_line.specs.declared.command.Command.TheVariants as commands
 use Rattle.netpump.specs.Racing.{IsRecordOf, EndsRace}
 use Rattle.netpump.proofs.Asked.{read_words, not_command, same_command, race_asked}

@@ -1,4 +1,4 @@
-use Rattle.std.proofs.Common.{◌≡◌, ◌≤◌, length, refl, sym, ap, ◌∙◌, subst, arith, max}
+use Rattle.std.proofs.Common.{◌≤◌, length, sym, ap, ◌∙◌, subst, arith, max}
 use Rattle.std.specs.Prelude.{◌||◌, not}
 use Rattle.script_reader.specs.Heads.{line_with}
 use Rattle.script_reader.specs.Sessions.{begins_session, moment_of}

@@ -1,4 +1,4 @@
-use Rattle.std.proofs.Common.{◌≤◌, refl}
+use Rattle.std.proofs.Common.{refl}
 use Rattle.netpump.proofs.Opened.{lends_so, begins_so, unopened_goes, unopened_rises, returns_all, never_refused, of_beginning}
 use Rattle.netpump.proofs.Shelving.{rose_more}
 use Rattle.netpump.proofs.replay.begin_whole.Goals as goal

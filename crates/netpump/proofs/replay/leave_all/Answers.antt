@@ -1,4 +1,4 @@
-use Rattle.std.proofs.Common.{List, sym, ◌∙◌, subst}
+use Rattle.std.proofs.Common.{sym, ◌∙◌, subst}
 use Rattle.netpump.proofs.Left.{LeftSoFar, none_left, is_out_now, one_left, all_left}
 use Rattle.netpump.proofs.Listed.{nothing_left}
 use Rattle.netpump.proofs.replay.leave_all.Goals as goal

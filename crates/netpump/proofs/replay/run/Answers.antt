@@ -1,4 +1,4 @@
-use Rattle.std.proofs.Common.{[], ◌∷◌, ◌++◌, None, length, inl, inr, arith, refl, sym, subst, length-append}
+use Rattle.std.proofs.Common.{[], ◌∷◌, ◌++◌, length, arith, refl, sym, subst, length-append}
 use Rattle.pump_link.proofs.Known.{Appends-none}
 use Rattle.script_reader.specs.Heads.{line_with}
 use Rattle.script_reader.specs.Openings.{new_disks}

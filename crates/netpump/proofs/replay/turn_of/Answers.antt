@@ -1,4 +1,4 @@
-use Rattle.std.proofs.Common.{inl, inr, ap, ◌∙◌, arith}
+use Rattle.std.proofs.Common.{inl, inr, ◌∙◌, arith}
 use Rattle.script_reader.specs.Heads.{line_with}
 use Rattle.netpump.specs.Outputs.{held_of}
 use Rattle.netpump.proofs.Numbered.{place_least}

@@ -1,4 +1,4 @@
-use Rattle.std.proofs.Common.{List, [], ◌∷◌, sym, ap, arith, length, length-append}
+use Rattle.std.proofs.Common.{[], ◌∷◌, ap, arith, length, length-append}
 use Rattle.netpump.proofs.Listed.{none_end, ends_more, ends_all}
 use Rattle.netpump.proofs.sessions.Sessions.ends.Goals as goal
 

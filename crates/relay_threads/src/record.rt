@@ -8,7 +8,7 @@ ghost use Rattle.script_reader.specs.Heads.{arriving_with, line_with, CanHold, C
 ghost use Rattle.script_reader.specs.Lawful.{IsLawfulLine};
 ghost use Rattle.script_reader.specs.Spelling.{line_spelling, line_text};
 ghost use Rattle.relay_threads.specs.Records.{Made, is_recorded as is_recorded_after, was_full as is_full_after};
-ghost use Rattle.relay_threads.specs.RecordLines.{told_of, taken_by, arriving_of, tells_fault as fault_in, line_of, opening_line, comment, look_text, made_by, HasLawfulFrame};
+ghost use Rattle.relay_threads.specs.RecordLines.{told_of, taken_by, arriving_of, tells_fault as fault_in, line_of, opening_line, comment, look_text, made_by, HasLawfulFrame, IsReplyFrame};
 
 use arrayvec::ArrayVec;
 use low_process::{Arrival, LookHead};
@@ -159,6 +159,8 @@ pub fn append_look<const N: usize>(row: &SessionRow, made: &LookMade, into: &mut
     ensures len { array_vec_len into.new ≤ array_vec_len into.old + 2700 }
     // What stands before the first line end is this line, so a reader of scripts gives it back.
     ensures reads { IsLawfulLine (line_of row.now (made_by row.now made.now)) → IsLine (line_of row.now (made_by row.now made.now)) (line_spelling (line_of row.now (made_by row.now made.now))) }
+    // .. and skips the comment behind it.
+    ensures told { IfSome (made_by row.now made.now).reply IsReplyFrame }
 {
     // Their ranges bound the length.
     let (_session, _moment) = (row.id, made.moment);

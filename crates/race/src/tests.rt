@@ -277,6 +277,8 @@ struct Told {
 }
 
 impl Gate for Told {
+    ghost asked = { λ gate asks. ⊥ };
+
     ghost stops = { λ _. 0 };
 
     fn pass<R: Wait>(&mut self, _rt: &R, looks: u64, done: u64) -> bool {

@@ -1,4 +1,4 @@
--- Frames that come and replies.
+-- Frames that come.
 use Rattle.std.proofs.Common.{◌≡◌, ℕ, ◌^◌, ◌<◌, true, List, Option, Some, None}
 use Rattle.std.specs.Prelude.{IfSome}
 use Rattle.pump_frame.specs.Frames.{IsLawful, IsForm}
@@ -7,7 +7,7 @@ use Rattle.pump_frame.specs.declared.frame.Kind.{Kind}
 use Rattle.pump_frame.specs.declared.frame.Kind.TheVariants.{Hello, Welcome, Data, Ack, Refuse, Attach, Taken}
 use Rattle.pump_core.specs.Exchanges.{is_data}
 use Rattle.low_process.specs.Looks.{IsLawful as CanCome}
-use Rattle.relay_threads.specs.RecordLines.{HasLawfulFrame, is_reply_kind, IsReplyFrame}
+use Rattle.relay_threads.specs.RecordLines.{HasLawfulFrame}
 use Rattle.race.specs.LowHalf.{arrival_in}
 
 number_of : (kind : Kind) (number : ℕ) (payload : List ℕ) → IsForm kind number payload → is_data kind ≡ true → number < 2 ^ 48
@@ -26,7 +26,3 @@ can_come (Some f) h = number_of f.kind f.number f.payload h.form
 pub has_lawful : (frame : Option Frame) → IfSome frame IsLawful → HasLawfulFrame (arrival_in frame)
 has_lawful None h = tt
 has_lawful (Some f) h = h
-
-pub reply_frame : (reply : Option Frame) → IfSome reply IsLawful → IfSome reply (λ f. is_reply_kind f.kind ≡ true) → IfSome reply IsReplyFrame
-reply_frame None h k = tt
-reply_frame (Some f) h k = (h, k)

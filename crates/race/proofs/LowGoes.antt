@@ -1,6 +1,6 @@
 -- A look carries the low half of a race on.
 use Rattle.std.proofs.Common.{◌≡◌, inl, inr, ℕ, ◌+◌, ◌<◌, ◌≤◌, suc, Bool, true, false, List, [], ◌∷◌, ◌++◌, length, Option, Some, None, refl, sym, ap, ◌∙◌, subst, arith, append-nil, append_assoc}
-use Rattle.std.specs.Prelude.{◌||◌, is_some, IfSome}
+use Rattle.std.specs.Prelude.{◌||◌, is_some}
 use Rattle.std.proofs.lemmas.List.{length-append, map-append}
 use Rattle.pump_frame.specs.declared.frame.Frame.{Frame}
 use Rattle.pump_frame.specs.declared.frame.Item.{Item}
@@ -28,7 +28,7 @@ use Rattle.low_process.specs.Whole.{LookStep, HasStore}
 use Rattle.relay_threads.specs.Records.{Made, looks_made, life_made, history_made, replies_made, IsMade}
 use Rattle.relay_threads.proofs.Machine.{Led, led, reply_led}
 use Rattle.script_reader.specs.Generated.{drawn, generated_row}
-use Rattle.relay_threads.specs.RecordLines.{tells_fault, is_reply_kind}
+use Rattle.relay_threads.specs.RecordLines.{tells_fault}
 use Rattle.race.specs.LookWords.{word_after, word_of_look}
 use Rattle.race.specs.LowHalf.{LowAt, LowRests, IsOffer, goes_on, owed_in, with_hand, frames_so_far, arrival_in}
 use Rattle.race.specs.MadeLooks.{HaveWords, frames_of, frame_in, pair_in, is_ack, acks_of}
@@ -80,11 +80,7 @@ or_true false = refl
 
 no_fault : (reply : Option Frame) → IsFine reply → tells_fault reply ≡ false
 no_fault None fine = refl
-no_fault (Some f) fine = fine.0
-
-reply_kind : (reply : Option Frame) → IsFine reply → IfSome reply (λ f. is_reply_kind f.kind ≡ true)
-reply_kind None fine = tt
-reply_kind (Some f) fine = fine.1
+no_fault (Some f) fine = fine
 
 -- the acknowledgements after one look more
 counts_on : (a o n b o' n' a' p p' : ℕ) → a' ≡ b + a → b + o' + n ≡ n' + o → a + o ≡ p → p ≡ n → p' ≡ n' → a' + o' ≡ p'
@@ -291,7 +287,7 @@ module _ {L : Type 0} (stands : L → Low → High → Type 0) (shape : L → Sh
     -- ---- after the look ----
 
     abbrev Carried : Type 0
-    Carried = LowRests stands shape w' (recorded_look (tells_fault l.reply) ∷ made) × IfSome l.reply (λ f. is_reply_kind f.kind ≡ true)
+    Carried = LowRests stands shape w' (recorded_look (tells_fault l.reply) ∷ made)
 
     finish : (next' : ℕ) (greeted' : Bool) (stored : Option ℕ) (items' : List Item) → Went generated_row s x s.phase next' greeted' stored → w'.is_greeted ≡ greeted'
         → items' ++ messages_in w.script ≡ race_items w.seed w.count → length items' ≡ next'
@@ -304,40 +300,38 @@ module _ {L : Type 0} (stands : L → Low → High → Type 0) (shape : L → Sh
         let acked_here : one_if (is_ack l.reply) + owed_in (phase_after generated_row race_opening parts') + s.next ≡ next' + owed_in s.phase =
         ap (λ (z : Option Frame × State). one_if (is_ack z.0) + owed_in z.1.phase + s.next) (λ i. (reply_is i, goes.state i)) ∙ went.acked in
         let word_here : word ≡ word_of_look w.seed (length made) = leaves.drawn_is ∙ ap drawn a.word ∙ ap (word_after w.seed) (sym one) in
-        let fine : IsFine l.reply = subst IsFine (sym reply_is) went.fine in (
-          subst (λ (b : Bool). LowRests stands shape w' (recorded_look b ∷ made)) (sym (no_fault l.reply fine))
-              (record {
-                are_made = (is_made, a.are_made);
-                history = history';
-                replies = replies';
-                parts = parts';
-                cut = stands'.cut;
-                phase = on;
-                greeted = ap (λ (q : State). q.greeted) goes.state ∙ went.greeted_is ∙ sym greeted;
-                row = row_is;
-                row_too = leaves.row ∙ a.row_too;
-                up = up_phase w'.process.phase w'.process.hand.number (ap (λ (q : State). goes_on q.phase) stands'.state ∙ on);
-                store = store';
-                free = free';
-                some = omega (arith, a.some, leaves.count);
-                few = omega (arith, a.few, leaves.count);
-                word = leaves.word_is ∙ word_here ∙ ap (λ (z : ℕ × ℕ). word_after z.0 z.1) (λ i. (sym leaves.seed i, one i));
-                words = subst (λ (z : ℕ). HaveWords z (m ∷ made)) (sym leaves.seed) (word_here, a.words);
-                take_all = (taken_is ∙ went.taken, a.take_all);
-                full = ((λ t parts c. subst (λ (n : ℕ). 6 < n) (sym went.next_is ∙ sym (ap (λ (q : State). q.next) goes.state) ∙ ap (count_after race_opening) (one_cut generated_row (life_made race_opening (m ∷ made)) parts' parts stands'.cut c)) (ended.full t)), a.full);
-                low = ended.low;
-                fitting = ended.stands;
-                shape_is = shape' ∙ a.shape_is;
-                pairs = ended.pairs_are ∙ ap (λ (z : List (ℕ × ℕ)). z ++ pair_in l.feedback) a.pairs;
-                messages = ap (λ (z : List Item). z ++ messages_in w'.script) ended.items_are ∙ ap (λ z. items' ++ messages_in z) leaves.script ∙ messages ∙ ap (λ (z : ℕ × ℕ). race_items z.0 z.1) (λ i. (sym leaves.seed i, sym leaves.count i));
-                stored = ap length ended.items_are ∙ count ∙ sym now;
-                frames = frames ∙ ap (λ (z : Bool × List Item). frames_so_far z.0 z.1) (λ i. (sym greeted i, sym ended.items_are i));
-                none_before = λ e. now ∙ none_before (sym greeted ∙ e);
-                acked = counts_on (done_in (acks_of made)) (owed_in s.phase) s.next (one_if (is_ack l.reply)) (owed_in (phase_after generated_row race_opening parts')) next'
-                    (done_in (is_ack l.reply ∷ acks_of made)) (next_of w.process) (next_of w'.process) (done_more (is_ack l.reply) (acks_of made)) acked_here a.acked next_is now;
-              }),
-          reply_kind l.reply fine,
-        )
+        let fine : IsFine l.reply = subst IsFine (sym reply_is) went.fine in
+        subst (λ (b : Bool). LowRests stands shape w' (recorded_look b ∷ made)) (sym (no_fault l.reply fine))
+        (record {
+          are_made = (is_made, a.are_made);
+          history = history';
+          replies = replies';
+          parts = parts';
+          cut = stands'.cut;
+          phase = on;
+          greeted = ap (λ (q : State). q.greeted) goes.state ∙ went.greeted_is ∙ sym greeted;
+          row = row_is;
+          row_too = leaves.row ∙ a.row_too;
+          up = up_phase w'.process.phase w'.process.hand.number (ap (λ (q : State). goes_on q.phase) stands'.state ∙ on);
+          store = store';
+          free = free';
+          some = omega (arith, a.some, leaves.count);
+          few = omega (arith, a.few, leaves.count);
+          word = leaves.word_is ∙ word_here ∙ ap (λ (z : ℕ × ℕ). word_after z.0 z.1) (λ i. (sym leaves.seed i, one i));
+          words = subst (λ (z : ℕ). HaveWords z (m ∷ made)) (sym leaves.seed) (word_here, a.words);
+          take_all = (taken_is ∙ went.taken, a.take_all);
+          full = ((λ t parts c. subst (λ (n : ℕ). 6 < n) (sym went.next_is ∙ sym (ap (λ (q : State). q.next) goes.state) ∙ ap (count_after race_opening) (one_cut generated_row (life_made race_opening (m ∷ made)) parts' parts stands'.cut c)) (ended.full t)), a.full);
+          low = ended.low;
+          fitting = ended.stands;
+          shape_is = shape' ∙ a.shape_is;
+          pairs = ended.pairs_are ∙ ap (λ (z : List (ℕ × ℕ)). z ++ pair_in l.feedback) a.pairs;
+          messages = ap (λ (z : List Item). z ++ messages_in w'.script) ended.items_are ∙ ap (λ z. items' ++ messages_in z) leaves.script ∙ messages ∙ ap (λ (z : ℕ × ℕ). race_items z.0 z.1) (λ i. (sym leaves.seed i, sym leaves.count i));
+          stored = ap length ended.items_are ∙ count ∙ sym now;
+          frames = frames ∙ ap (λ (z : Bool × List Item). frames_so_far z.0 z.1) (λ i. (sym greeted i, sym ended.items_are i));
+          none_before = λ e. now ∙ none_before (sym greeted ∙ e);
+          acked = counts_on (done_in (acks_of made)) (owed_in s.phase) s.next (one_if (is_ack l.reply)) (owed_in (phase_after generated_row race_opening parts')) next'
+              (done_in (is_ack l.reply ∷ acks_of made)) (next_of w.process) (next_of w'.process) (done_more (is_ack l.reply) (acks_of made)) acked_here a.acked next_is now;
+        })
 
     -- ---- by what comes ----
 

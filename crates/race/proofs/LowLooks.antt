@@ -18,7 +18,7 @@ use Rattle.low_process.specs.Looks.{look_of}
 use Rattle.pump_frame.specs.declared.frame.Item.{Item}
 use Rattle.script_reader.specs.Generated.{generated_row}
 use Rattle.race.specs.Messages.{hello_frame, data_frame}
-use Rattle.relay_threads.specs.RecordLines.{tells_fault, is_reply_kind}
+use Rattle.relay_threads.specs.RecordLines.{tells_fault}
 use Rattle.race.specs.LowHalf.{goes_on, owed_in}
 use Rattle.race.specs.MadeLooks.{is_ack}
 use Rattle.race.proofs.HighAsks.{one_if}
@@ -33,10 +33,10 @@ Hears Idle f = f ≡ Quiet
 Hears (Waits n due) f = f ≡ Quiet
 Hears Down f = f ≡ Quiet
 
--- a reply is one, and not of a device that failed
+-- the reply is not of a device that failed
 abbrev pub IsFine : Option Frame → Type 0
 IsFine None = Unit {0}
-IsFine (Some f) = (tells_fault (Some f) ≡ false) × (is_reply_kind f.kind ≡ true)
+IsFine (Some f) = tells_fault (Some f) ≡ false
 
 pub record Went (row : SessionRow) (s : State) (x : Look) (p : Phase) (next : ℕ) (greeted : Bool) (stored : Option ℕ) : Type 0 where
   pub goes : goes_on (after_in row s x p).phase ≡ true
@@ -67,7 +67,7 @@ waits_acked s n true e = omega arith
 waits_acked s n false e = omega (arith, e)
 
 acknowledges : (n : ℕ) (b : Bool) → IsFine (if b then Some (acknowledgement generated_row n) else None)
-acknowledges n true = (refl, refl)
+acknowledges n true = refl
 acknowledges n false = tt
 
 module _ (s : State) (m w : ℕ) (f : Feedback) (g : goes_on s.phase ≡ true) where
@@ -131,7 +131,7 @@ module _ (s : State) (m w : ℕ) (f : Feedback) (g : goes_on s.phase ≡ true) w
       let fit' : is_quiet f ≡ true = subst (λ (p : Phase). fits_in generated_row s hello p ≡ true) idle fit in
       let none : owed_in s.phase ≡ 0 = ap owed_in idle in
       subst (λ (p : Phase). Went generated_row s hello p s.next true None) (sym idle)
-      (record { goes = g; next_is = refl; greeted_is = refl; taken = refl; stored_is = refl; hears = quiet_is f fit'; fine = (refl, refl); acked = omega (arith, none) })
+      (record { goes = g; next_is = refl; greeted_is = refl; taken = refl; stored_is = refl; hears = quiet_is f fit'; fine = refl; acked = omega (arith, none) })
 
   -- ---- the next message comes ----
 

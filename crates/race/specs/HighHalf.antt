@@ -1,7 +1,9 @@
 -- The high half of a race between two looks.
 use Rattle.std.specs.Prelude.{◌≡◌, ℕ, ◌+◌, ◌*◌, ◌^◌, ◌<◌, ◌≤◌, Bool, true, false, nat_le, if◌then◌else◌, List, [], ◌∷◌, ◌++◌, length, map, Option, Some, None}
 use Rattle.std.specs.List.{All}
+use Rattle.pump_frame.specs.declared.frame.Frame.{Frame}
 use Rattle.pump_frame.specs.declared.frame.Item.{Item}
+use Rattle.pump_frame.specs.declared.frame.Kind.TheVariants.{Taken}
 use Rattle.disk_model.specs.Plain.{Plain, plain_meaning}
 use Rattle.stable_buffer.specs.Stands.{HighStands}
 use Rattle.stable_buffer.specs.Log.{RecvStands}
@@ -58,10 +60,15 @@ abbrev pub HandAt : List Item → ℕ → List Sending → List Item → ℕ →
 HandAt before removed sends taken moment None = (taken ≡ before) × SentBelow removed sends
 HandAt before removed sends taken moment (Some x) = IsNext before removed sends taken moment x
 
+-- a TAKEN of the session; its number is set for each message
+abbrev pub IsAnswer : Frame → Type 0
+IsAnswer f = (f.kind ≡ Taken) × (f.session ≡ generated_row.id)
+
 -- The high half between two looks. The receiver has the messages that are removed and, where `has_taken`
 -- holds, the one in the hand.
 pub record HighAt {H : Type 0} (stands : H → Low → High → Type 0) (has_taken : Bool) (w : HighHalf H) : Type 0 where
   pub turn : CanTurn w.times.items w.count
+  pub answer : IsAnswer w.answer
   -- what its end did, beside a low end that did nothing; the process and its past
   pub high : High
   pub past : ProcessPast

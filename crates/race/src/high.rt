@@ -7,7 +7,7 @@ ghost use Rattle.high_process.specs.States.{removed_of, hand_of};
 ghost use Rattle.high_receiver.specs.Receiving.{recv_count};
 ghost use Rattle.script_reader.specs.Generated.{generated_row};
 ghost use Rattle.race.specs.Turns.{turn, CanTurn};
-ghost use Rattle.race.specs.HighHalf.{HighAt, HasReceived, comes_to_receiver};
+ghost use Rattle.race.specs.HighHalf.{HighAt, HasReceived, IsAnswer, comes_to_receiver};
 
 use arrayvec::ArrayVec;
 use disk_model::PlainDisk;
@@ -34,18 +34,18 @@ pub struct HighHalf<H> {
     pub count: u32,
     /// The moment of the next look. It stays where no message comes.
     pub moment: u64,
+    /// The receiver's answer that it has a message. Only its number changes from message to message.
+    pub answer: Frame,
 }
 
-/// The receiver's answer that it has this message.
-fn taken(number: u64) -> Frame
-    ensures kind { result.kind ≡ Kind.Taken }
-    ensures session { result.session ≡ 1 }
-    ensures number { result.number ≡ number }
+/// The receiver's answer that it has message 0.
+fn first_answer() -> Frame
+    ensures { IsAnswer result }
 {
     Frame {
         kind: Kind::Taken,
         session: 1,
-        number,
+        number: 0,
         payload: Payload::default(),
     }
 }
@@ -86,6 +86,7 @@ impl<H: WaitHighEnd> HighHalf<H> {
             times: own_times,
             count,
             moment: 0,
+            answer: first_answer(),
         }
     }
 
@@ -149,11 +150,11 @@ impl<H: WaitHighEnd> HighHalf<H> {
         let number = self.process.removed();
         let turn = number % self.times.len() as u64;
         self.moment += u64::from(self.times[turn as usize]);
-        let frame = taken(number);
+        self.answer.number = number;
         match self.process.look_waiting(
             rt,
             self.moment,
-            Some(&frame),
+            Some(&self.answer),
             &mut self.store,
             &mut self.ends,
         ) {

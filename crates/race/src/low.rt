@@ -8,13 +8,14 @@ ghost use Rattle.low_process.specs.Looks.{last_of, next_of, is_idle, arrival_of}
 ghost use Rattle.relay_threads.specs.Records.{Made};
 ghost use Rattle.script_reader.specs.Generated.{generated_row};
 ghost use Rattle.pump_frame.specs.Frames.{IsLawful};
-ghost use Rattle.relay_threads.specs.RecordLines.{made_by, IsReplyFrame};
+ghost use Rattle.pump_core.specs.ReplyFrames.{IsLawfulReply};
+ghost use Rattle.relay_threads.specs.RecordLines.{made_by};
 ghost use Rattle.race.specs.LowHalf.{LowAt, LowRests, IsOffer, arrival_in};
 ghost use Rattle.race.specs.Messages.{messages_in, race_items};
 
 use crate::messages::{hello, next_message, next_word};
 use disk_model::PlainDisk;
-use low_process::{Arrival, LowProcess};
+use low_process::{Arrival, LookHead, LowProcess};
 use passage::WaitLowEnd;
 use pump_frame::{Frame, SessionRow};
 use relay_threads::LookMade;
@@ -126,10 +127,10 @@ impl<L: WaitLowEnd> LowHalf<L> {
         requires order { last_of self.old.process ≤ moment }
         requires moment { moment ≤ 2 ^ 62 }
         ensures at { (made : List Made) (left : List Item) → LowAt L.stands L.shape self.old left made
-            → IsOffer self.old frame.now left → LowRests L.stands L.shape self.new (made_by result ∷ made) }
+            → IsOffer self.old frame.now left → LowRests L.stands L.shape self.new (made_by generated_row result ∷ made) }
         ensures moment { result.moment ≡ moment }
         ensures arrival { arrival_of result.arrival ≡ arrival_in frame.now }
-        ensures reply { IfSome result.look.reply IsReplyFrame }
+        ensures reply { IfSome result.look.reply IsLawfulReply }
         ensures last { last_of self.new.process ≡ moment }
         ensures seed { self.new.seed ≡ self.old.seed }
         ensures count { self.new.count ≡ self.old.count }
@@ -139,9 +140,16 @@ impl<L: WaitLowEnd> LowHalf<L> {
         let word = next_word(self.word);
         self.word = word;
         let arrival = arrival_of_frame(frame);
-        let look = self
-            .process
-            .look_waiting(rt, moment, word, arrival, &mut self.store, &mut self.ends);
+        let mut look = LookHead::new();
+        self.process.look_waiting_into(
+            rt,
+            moment,
+            word,
+            arrival,
+            &mut self.store,
+            &mut self.ends,
+            &mut look,
+        );
         self.is_greeted = self.is_greeted | frame.is_some();
         LookMade {
             moment,

@@ -3,7 +3,7 @@ ghost use Rattle.pump_core.specs.Step.{is_full};
 
 use crate::low::LowHalf;
 use crate::tape::Tape;
-use low_process::LowLook;
+use low_process::LookHead;
 use passage::WaitLowEnd;
 use pump_core::Feedback;
 use pump_link::{Clock, Sink};
@@ -12,14 +12,14 @@ use std::sync::Wait;
 use std::thread;
 
 // The look found the passage full.
-fn found_full(look: &LowLook) -> bool
+fn found_full(look: &LookHead) -> bool
     ensures { result ≡ is_full look.now.feedback }
 {
     matches!(look.feedback, Feedback::Full)
 }
 
 // Where the look found nothing to do, the other worker may have to take a message up first.
-fn make_way(look: &LowLook) {
+fn make_way(look: &LookHead) {
     let is_idle = matches!(look.feedback, Feedback::Quiet | Feedback::Full);
     if is_idle && !look.taken && look.reply.is_none() {
         thread::yield_now();

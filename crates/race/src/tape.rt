@@ -1,7 +1,8 @@
 ghost use Rattle.std.specs.Prelude.{◌≡◌, ◌+◌, ◌<◌, ◌≤◌, List, [], ◌++◌, length, decimal, IfSome, true, false};
+ghost use Rattle.pump_core.specs.ReplyFrames.{IsLawfulReply};
 ghost use Rattle.low_process.specs.Looks.{arrival_of};
 ghost use Rattle.relay_threads.specs.Records.{Made, was_full as full_before};
-ghost use Rattle.relay_threads.specs.RecordLines.{made_by, HasLawfulFrame, IsReplyFrame};
+ghost use Rattle.relay_threads.specs.RecordLines.{made_by, HasLawfulFrame};
 ghost use Rattle.script_reader.specs.Generated.{generated_row};
 ghost use Rattle.race.specs.Race.{opening_text, look_lines, number_line, time_lines, end_line, end_lines};
 ghost use Rattle.race.specs.Tape.{held_of, has_failed, row_in, Prints, Stays, Shuts, Closes};
@@ -138,9 +139,9 @@ impl Tape {
     pub fn look<O: Sink>(&mut self, out: &mut O, made: &LookMade, was_full: bool)
         requires row { row_in self.old ≡ generated_row }
         requires lawful { HasLawfulFrame (arrival_of made.now.arrival) }
-        requires reply { IfSome made.now.look.reply IsReplyFrame }
+        requires reply { IfSome made.now.look.reply IsLawfulReply }
         ensures prints { (before : List Made) → was_full ≡ full_before before
-            → Prints self.old self.new (O.written out.old) (O.written out.new) (O.faults out.old) (O.faults out.new) (look_lines before (made_by made.now)) }
+            → Prints self.old self.new (O.written out.old) (O.written out.new) (O.faults out.old) (O.faults out.new) (look_lines before (made_by generated_row made.now)) }
         ensures row { row_in self.new ≡ row_in self.old }
     {
         if !is_recorded(made, was_full) {

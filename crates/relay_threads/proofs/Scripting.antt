@@ -1,6 +1,6 @@
 -- The bytes of a record are its script.
 use Rattle.std.proofs.Common.{◌≡◌, ℕ, ◌+◌, ◌^◌, ◌<◌, ◌≤◌, Bool, true, false, inl, inr, not, List, [], ◌∷◌, ◌++◌, length, codes, decimal, slice_index, Option, Some, None, refl, sym, ap, ◌∙◌, subst, append_assoc, append-nil, arith}
-use Rattle.std.specs.Prelude.{◌*◌, if◌then◌else◌, IfSome}
+use Rattle.std.specs.Prelude.{◌*◌, if◌then◌else◌, IfSome, option_map}
 use Rattle.std.specs.List.{AllByRecursion, AllPass, list_all}
 use Rattle.std.specs.Int.{to_be_bytes, w32}
 use Rattle.std.proofs.lemmas.Bool.{false_from_ne_true, both_ways, eqb-true}
@@ -17,6 +17,8 @@ use Rattle.pump_frame.specs.declared.frame.Kind.{Kind}
 use Rattle.pump_frame.specs.declared.frame.Kind.TheVariants.{Hello, Welcome, Data, Ack, Refuse, Attach, Taken}
 use Rattle.pump_frame.specs.declared.row.SessionRow.{SessionRow}
 use Rattle.pump_core.specs.History.{Opening}
+use Rattle.pump_core.specs.ReplyFrames.{frame_of, IsLawfulReply}
+use Rattle.pump_core.specs.declared.reply.Reply.{Reply}
 use Rattle.script_reader.specs.declared.event.Event.TheVariants.{Low}
 use Rattle.script_reader.specs.declared.line.Line.{Line}
 use Rattle.script_reader.specs.declared.line.Line.TheVariants as lines
@@ -32,6 +34,7 @@ use Rattle.script_reader.proofs.FreeFields.{digits_without}
 use Rattle.relay_threads.specs.Records.{Made, record_of}
 use Rattle.relay_threads.specs.RecordLines.{tells_fault, told_of, arriving_of, taken_by, line_of, opening_line, comment, comment_lines, look_text, looks_text, record_text, looks_script, record_script, is_reply_kind, IsReplyFrame}
 use Rattle.relay_threads.specs.Replays.{IsReadable, AreReadable}
+use Rattle.relay_threads.proofs.ReplyKinds.{reply_frames}
 
 -- ---- no line end stands in a line ----
 
@@ -189,12 +192,11 @@ reply_plain Taken number payload form e = absurd (cc)
 abbrev comment_bytes : ℕ → ℕ → Frame → List ℕ
 comment_bytes session m r = codes "# " ++ spaced (event_fields (Low session m r))
 
--- a comment has at most 258 bytes
-pub comment_short : (row : SessionRow) (m : ℕ) (r : Option Frame) (old new : List ℕ) → row.id < 2 ^ 32 → m < 2 ^ 64 → IfSome r IsReplyFrame → new ≡ old ++ comment row m r → length new ≤ length old + 258
-comment_short row m None old new hs hm lawful e =
+comment_fits : (row : SessionRow) (m : ℕ) (r : Option Frame) (old new : List ℕ) → row.id < 2 ^ 32 → m < 2 ^ 64 → IfSome r IsReplyFrame → new ≡ old ++ comment row m r → length new ≤ length old + 258
+comment_fits row m None old new hs hm lawful e =
     let long = ap length e ∙ length-append old [] in
     omega (arith, long)
-comment_short row m (Some r) old new hs hm lawful e =
+comment_fits row m (Some r) old new hs hm lawful e =
     let p = reply_plain r.kind r.number r.payload lawful.0.form lawful.1 in
     let fields : List (List ℕ) = event_fields (Low row.id m r) in
     let bound = short_spaced fields (omega arith, (short_decimal row.id (omega (arith, hs)), (short_decimal m hm, p.short))) in
@@ -202,6 +204,10 @@ comment_short row m (Some r) old new hs hm lawful e =
     let long = ap length e ∙ length-append old (comment row m (Some r)) in
     let line = length-append (spaced fields) (10 ∷ []) in
     omega (arith, bound, few, long, line)
+
+-- a comment has at most 258 bytes
+pub comment_short : (row : SessionRow) (m : ℕ) (r : Option Reply) (old new : List ℕ) → row.id < 2 ^ 32 → m < 2 ^ 64 → IfSome r IsLawfulReply → new ≡ old ++ comment row m (option_map (frame_of row.id) r) → length new ≤ length old + 258
+comment_short row m r old new hs hm lawful e = comment_fits row m (option_map (frame_of row.id) r) old new hs hm (reply_frames row.id r hs lawful) e
 
 comment_line : (session m : ℕ) (r : Frame) → session < 2 ^ 32 → m ≤ 2 ^ 62 → IsReplyFrame r → IsUnended (comment_bytes session m r) × IsLine lines.Skip (comment_bytes session m r)
 comment_line session m r hs hm lawful =

@@ -1,6 +1,6 @@
 -- A record: the looks that are recorded, as a script of the low side alone. A list of looks has its newest
 -- look first, a script its oldest line.
-use Rattle.std.specs.Prelude.{◌≡◌, ℕ, Bool, true, false, ◌&&◌, ◌==◌, if◌then◌else◌, List, [], ◌∷◌, ◌++◌, Option, Some, None, codes, slice_index}
+use Rattle.std.specs.Prelude.{◌≡◌, ℕ, Bool, true, false, ◌&&◌, ◌==◌, if◌then◌else◌, List, [], ◌∷◌, ◌++◌, Option, Some, None, option_map, codes, slice_index}
 use Rattle.pump_frame.specs.Frames.{IsLawful}
 use Rattle.pump_frame.specs.Spellings.{spelling}
 use Rattle.pump_frame.specs.declared.frame.Frame.{Frame}
@@ -12,6 +12,7 @@ use Rattle.pump_core.specs.declared.feedback.Feedback.TheVariants.{Quiet, Full, 
 use Rattle.pump_core.specs.History.{Arrival, Opening}
 use Rattle.pump_core.specs.History.{Nothing, Came, Bad, Gone}
 use Rattle.pump_core.specs.Exchanges.{is_gone}
+use Rattle.pump_core.specs.ReplyFrames.{frame_of}
 use Rattle.low_process.specs.Looks.{arrival_of, look_of}
 use Rattle.script_reader.specs.declared.line.Arriving.{Arriving}
 use Rattle.script_reader.specs.declared.line.Arriving.TheVariants as arriving
@@ -104,13 +105,16 @@ record_script row o made = opening_line row o ∷ looks_script row (record_of ma
 
 -- ---- what is handed over ----
 
--- a look that the code made; its device failed exactly where it refuses so
-abbrev pub made_by : LookMade → Made
-made_by m = record {
-  look = look_of m.moment m.word (arrival_of m.arrival) (tells_fault m.look.reply) m.look.feedback;
-  taken = m.look.taken;
-  reply = m.look.reply;
-}
+-- a look that the code made: its reply is a frame in the session of the row, and its device failed
+-- exactly where it refuses so
+abbrev pub made_by : SessionRow → LookMade → Made
+made_by row m =
+    let reply : Option Frame = option_map (frame_of row.id) m.look.reply in
+    record {
+      look = look_of m.moment m.word (arrival_of m.arrival) (tells_fault reply) m.look.feedback;
+      taken = m.look.taken;
+      reply = reply;
+    }
 
 -- a frame that came is lawful
 abbrev pub HasLawfulFrame : Arrival → Type 0

@@ -1,20 +1,19 @@
-ghost use Rattle.std.specs.Prelude.{◌≡◌, ◌+◌, ◌≤◌, List, ◌++◌, IfSome, slice_index};
+ghost use Rattle.std.specs.Prelude.{◌≡◌, ℕ, ◌+◌, ◌≤◌, List, ◌++◌, IfSome, option_map};
 ghost use Rattle.arrayvec.specs.ArrayVec.{array_vec_len};
-ghost use Rattle.pump_frame.specs.Frames.{IsLawful};
-ghost use Rattle.pump_core.specs.ReplyFrames.{code_of, frame_of};
+ghost use Rattle.pump_frame.specs.declared.row.SessionRow.{SessionRow as Row};
+ghost use Rattle.pump_core.specs.ReplyFrames.{frame_of, IsLawfulReply};
 ghost use Rattle.low_process.specs.Looks.{arrival_of};
 ghost use Rattle.script_reader.specs.Grammar.{IsLine};
 ghost use Rattle.script_reader.specs.Heads.{arriving_with, line_with, CanHold, CanHoldLine};
 ghost use Rattle.script_reader.specs.Lawful.{IsLawfulLine};
 ghost use Rattle.script_reader.specs.Spelling.{line_spelling, line_text};
-ghost use Rattle.script_reader.specs.Transcript.{reply_fields};
 ghost use Rattle.relay_threads.specs.Records.{Made, is_recorded as is_recorded_after, was_full as is_full_after};
 ghost use Rattle.relay_threads.specs.RecordLines.{told_of, taken_by, arriving_of, tells_fault as fault_in, line_of, opening_line, comment, look_text, made_by, HasLawfulFrame, IsReplyFrame};
 
 use arrayvec::ArrayVec;
-use low_process::{Arrival, LowLook};
+use low_process::{Arrival, LookHead};
 use pump_core::{Feedback, Refusal, Reply};
-use pump_frame::{Frame, Kind, SessionRow, encode};
+use pump_frame::{SessionRow, encode};
 use script_reader::{ArrivingHead, EventHead, LineHead, ToldFeedback, append_head, append_line};
 
 /// A look that a low process made: its moment in microseconds, the random word from which a delay was
@@ -24,33 +23,26 @@ pub struct LookMade<'a> {
     pub moment: u64,
     pub word: u32,
     pub arrival: Arrival<'a>,
-    pub look: LowLook,
-}
-
-// The reason of a REFUSE.
-fn code_in(reply: &Frame) -> u8
-    ensures { result ≡ slice_index reply.now.payload 0 }
-{
-    match reply.payload.as_slice() {
-        [code, ..] => *code,
-        [] => 0,
-    }
+    pub look: LookHead,
 }
 
 // Whether the reply refuses because the device failed.
-fn tells_fault(reply: &Option<Frame>) -> bool
-    ensures { result ≡ fault_in reply.now }
+fn tells_fault(reply: &Option<Reply>) -> bool
+    ensures { (session : ℕ) → result ≡ fault_in (option_map (frame_of session) reply.now) }
 {
-    match reply {
-        Some(frame) => matches!(frame.kind, Kind::Refuse) && code_in(frame) == 5,
-        None => false,
-    }
+    matches!(
+        reply,
+        Some(Reply::Refuse {
+            why: Refusal::Device,
+            ..
+        })
+    )
 }
 
 /// Whether a look is recorded, where the look before it found the passage full or not: it took an
 /// arrival, replied, passed a message on, or is the first that found the passage full.
 pub fn is_recorded(made: &LookMade, was_full: bool) -> bool
-    ensures { (before : List Made) → was_full ≡ is_full_after before → result ≡ is_recorded_after before (made_by made.now) }
+    ensures { (row : Row) (before : List Made) → was_full ≡ is_full_after before → result ≡ is_recorded_after before (made_by row made.now) }
 {
     let passes_on = matches!(made.look.feedback, Feedback::Passed(_) | Feedback::Released);
     let is_full = matches!(made.look.feedback, Feedback::Full);
@@ -82,7 +74,7 @@ fn told(row: &SessionRow, feedback: &Feedback) -> ToldFeedback
 // What the look took, with its bytes in the body.
 fn taken_into(made: &LookMade, body: &mut ArrayVec<u8, 1042>) -> ArrivingHead
     requires { HasLawfulFrame (arrival_of made.now.arrival) }
-    ensures value { arriving_with body.new.items result ≡ arriving_of (taken_by (made_by made.now)) }
+    ensures value { (row : Row) → arriving_with body.new.items result ≡ arriving_of (taken_by (made_by row made.now)) }
     ensures room { CanHold result body.new.items }
 {
     body.clear();
@@ -107,7 +99,7 @@ fn taken_into(made: &LookMade, body: &mut ArrayVec<u8, 1042>) -> ArrivingHead
 // The line of a look without its bytes, which are in the body.
 fn head_of(row: &SessionRow, made: &LookMade, body: &mut ArrayVec<u8, 1042>) -> LineHead
     requires { HasLawfulFrame (arrival_of made.now.arrival) }
-    ensures value { line_with body.new.items result ≡ line_of row.now (made_by made.now) }
+    ensures value { line_with body.new.items result ≡ line_of row.now (made_by row.now made.now) }
     ensures room { CanHoldLine result body.new.items }
 {
     if matches!(made.arrival, Arrival::Gone) {
@@ -130,63 +122,27 @@ fn head_of(row: &SessionRow, made: &LookMade, body: &mut ArrayVec<u8, 1042>) -> 
 fn append_line_of<const N: usize>(row: &SessionRow, made: &LookMade, into: &mut ArrayVec<u8, N>)
     requires room { array_vec_len into.old + 2400 ≤ N }
     requires frame { HasLawfulFrame (arrival_of made.now.arrival) }
-    ensures text { into.new.items ≡ into.old.items ++ line_text (line_of row.now (made_by made.now)) }
+    ensures text { into.new.items ≡ into.old.items ++ line_text (line_of row.now (made_by row.now made.now)) }
     ensures len { array_vec_len into.new ≤ array_vec_len into.old + 2400 }
-    ensures reads { IsLawfulLine (line_of row.now (made_by made.now)) → IsLine (line_of row.now (made_by made.now)) (line_spelling (line_of row.now (made_by made.now))) }
+    ensures reads { IsLawfulLine (line_of row.now (made_by row.now made.now)) → IsLine (line_of row.now (made_by row.now made.now)) (line_spelling (line_of row.now (made_by row.now made.now))) }
 {
     let mut body = ArrayVec::new();
     let head = head_of(row, made, &mut body);
     append_line(&head, body.as_slice(), into);
 }
 
-// The reason of a refusal with this code.
-fn refusal_of(code: u8) -> Refusal
-    requires from { 1 ≤ code }
-    requires to { code ≤ 5 }
-    ensures { code_of result ≡ code }
-{
-    match code {
-        1 => Refusal::Pair,
-        2 => Refusal::Frame,
-        3 => Refusal::Size,
-        4 => Refusal::Step,
-        _ => Refusal::Device,
-    }
-}
-
-// The reply of a frame, whose line has the same fields.
-fn reply_of(frame: &Frame, session: u32) -> Reply
-    requires { IsReplyFrame frame.now }
-    ensures { reply_fields (frame_of session result).kind (frame_of session result).number (frame_of session result).payload
-        ≡ reply_fields frame.now.kind frame.now.number frame.now.payload }
-{
-    match frame.kind {
-        Kind::Welcome => Reply::Welcome {
-            number: frame.number,
-        },
-        Kind::Ack => Reply::Ack {
-            number: frame.number,
-        },
-        _ => Reply::Refuse {
-            why: refusal_of(code_in(frame)),
-            number: frame.number,
-        },
-    }
-}
-
 // The comment of a reply.
 fn append_comment<const N: usize>(row: &SessionRow, made: &LookMade, into: &mut ArrayVec<u8, N>)
-    requires room { array_vec_len into.old + 258 ≤ N }
-    requires reply { IfSome made.now.look.reply IsReplyFrame }
-    ensures { into.new.items ≡ into.old.items ++ comment row.now made.now.moment made.now.look.reply }
+    requires { array_vec_len into.old + 258 ≤ N }
+    ensures { into.new.items ≡ into.old.items ++ comment row.now made.now.moment (option_map (frame_of row.now.id) made.now.look.reply) }
 {
-    let Some(frame) = &made.look.reply else {
+    let Some(reply) = made.look.reply else {
         return;
     };
     let head = EventHead::Low {
         session: row.id,
         moment: made.moment,
-        reply: reply_of(frame, row.id),
+        reply,
     };
     into.try_extend_from_slice(b"# ").unwrap();
     append_head(&head, into);
@@ -198,11 +154,13 @@ fn append_comment<const N: usize>(row: &SessionRow, made: &LookMade, into: &mut 
 pub fn append_look<const N: usize>(row: &SessionRow, made: &LookMade, into: &mut ArrayVec<u8, N>)
     requires room { array_vec_len into.old + 2700 ≤ N }
     requires frame { HasLawfulFrame (arrival_of made.now.arrival) }
-    requires reply { IfSome made.now.look.reply IsReplyFrame }
-    ensures text { into.new.items ≡ into.old.items ++ look_text row.now (made_by made.now) }
+    requires reply { IfSome made.now.look.reply IsLawfulReply }
+    ensures text { into.new.items ≡ into.old.items ++ look_text row.now (made_by row.now made.now) }
     ensures len { array_vec_len into.new ≤ array_vec_len into.old + 2700 }
     // What stands before the first line end is this line, so a reader of scripts gives it back.
-    ensures reads { IsLawfulLine (line_of row.now (made_by made.now)) → IsLine (line_of row.now (made_by made.now)) (line_spelling (line_of row.now (made_by made.now))) }
+    ensures reads { IsLawfulLine (line_of row.now (made_by row.now made.now)) → IsLine (line_of row.now (made_by row.now made.now)) (line_spelling (line_of row.now (made_by row.now made.now))) }
+    // .. and skips the comment behind it.
+    ensures told { IfSome (made_by row.now made.now).reply IsReplyFrame }
 {
     // Their ranges bound the length.
     let (_session, _moment) = (row.id, made.moment);

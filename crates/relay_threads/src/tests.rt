@@ -2,11 +2,12 @@ ghost use Rattle.std.specs.Prelude.{◌≡◌, ◌+◌, ◌<◌, true, IfSome};
 ghost use Rattle.pump_frame.specs.Rows.{IsLawfulRow};
 ghost use Rattle.passage.specs.Ready.{LowReady, HighReady};
 ghost use Rattle.low_process.specs.Looks.{arrival_of};
-ghost use Rattle.relay_threads.specs.RecordLines.{HasLawfulFrame, IsReplyFrame};
+ghost use Rattle.pump_core.specs.ReplyFrames.{IsLawfulReply};
+ghost use Rattle.relay_threads.specs.RecordLines.{HasLawfulFrame};
 
 use crate::{Gate, LookMade, Open, Work, append_look, append_opening, is_recorded, run_pair};
 use arrayvec::ArrayVec;
-use low_process::{Arrival, LowLook};
+use low_process::{Arrival, LookHead};
 use passage::{Forwarded, Joined, Next, QueuePassage, WaitHighEnd, WaitLowEnd};
 use pump_core::{Feedback, Refusal, Reply, Seen};
 use pump_frame::{Frame, Item, Kind, Name, Payload, SessionRow};
@@ -266,17 +267,17 @@ fn data() -> Option<Frame> {
     })
 }
 
-// What a look did that took this arrival or not, with its reply in session 1.
-fn done(taken: bool, reply: Option<Reply>, feedback: Feedback) -> LowLook {
-    LowLook {
+// What a look did that took this arrival or not.
+fn done(taken: bool, reply: Option<Reply>, feedback: Feedback) -> LookHead {
+    LookHead {
         taken,
         stored: None,
-        reply: reply.map(|reply: Reply| reply.frame(1)),
+        reply,
         feedback,
     }
 }
 
-fn made(moment: u64, arrival: Arrival<'_>, look: LowLook) -> LookMade<'_> {
+fn made(moment: u64, arrival: Arrival<'_>, look: LookHead) -> LookMade<'_> {
     LookMade {
         moment,
         word: 0x3c6ef35f,
@@ -294,12 +295,12 @@ fn may_come(arrival: Arrival<'_>) -> bool
     }
 }
 
-fn may_reply(reply: &Option<Frame>) -> bool
-    ensures { result ≡ true → IfSome reply.now IsReplyFrame }
+fn may_reply(reply: &Option<Reply>) -> bool
+    ensures { result ≡ true → IfSome reply.now IsLawfulReply }
 {
     match reply {
-        Some(frame) => {
-            frame.is_lawful() && matches!(frame.kind, Kind::Welcome | Kind::Ack | Kind::Refuse)
+        Some(Reply::Welcome { number } | Reply::Ack { number } | Reply::Refuse { number, .. }) => {
+            *number < 1 << 48
         }
         None => true,
     }

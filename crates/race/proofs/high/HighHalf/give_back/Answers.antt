@@ -1,6 +1,7 @@
 use Rattle.std.proofs.Common.{rules, ◌≡◌, ℕ, ◌+◌, ◌^◌, ◌≤◌, false, refl, sym, ap, ◌∙◌, subst, arith, List, ◌∷◌, [], ◌++◌, length, Option, Some, Bool}
 use Rattle.std.specs.Prelude.{Ok, option_to_list}
 use Rattle.std.proofs.lemmas.List.{length-append}
+use Rattle.pump_frame.specs.declared.frame.Frame.{Frame}
 use Rattle.pump_frame.specs.declared.frame.Item.{Item}
 use Rattle.pump_frame.specs.declared.row.SessionRow.{SessionRow}
 use Rattle.disk_model.specs.Plain.{plain_meaning}
@@ -32,15 +33,15 @@ returns-clause-at g c =
     let shape = g.H.HighSide.shape w.ends in
     let one = g.H.HighSide.on_one_thread in
     let after = StandsFitting (g.H.HighSide.stands new.ends) new.self in
-    let frame = c.taken-frame.result in
+    let frame : Frame = record w.answer { number = c.removed-number.result } in
     let full = a.hand_taken refl in
     let x = full.1.0 in
     let next : IsNext a.before n a.past.sends a.high.taken w.moment x =
     subst (λ (o : Option Item). HandAt a.before n a.past.sends a.high.taken w.moment o) full.1.1 a.hand in
     let hand : hand_of w.process ≡ Some x = a.is_past.holds.hand ∙ full.1.1 in
-    let number : frame.number ≡ removed_of w.process = c.taken-frame.ensures.number ∙ c.removed-number.ensures in
-    let task : task_at w.process (Some frame) ≡ Remove = removes_hand w.process frame x a.row c.taken-frame.ensures.session c.taken-frame.ensures.kind number hand in
-    let nobody : attaches_at w.process (Some frame) ≡ false = attaches_nobody w.process frame c.taken-frame.ensures.kind in
+    let number : frame.number ≡ removed_of w.process = c.removed-number.ensures in
+    let task : task_at w.process (Some frame) ≡ Remove = removes_hand w.process frame x a.row a.answer.1 a.answer.0 number hand in
+    let nobody : attaches_at w.process (Some frame) ≡ false = attaches_nobody w.process frame a.answer.0 in
     let fares : Fares plain_meaning Remove w.process new.self w.store new.store (Ok look) =
     subst (λ (z : Task). Fares plain_meaning z w.process new.self w.store new.store (Ok look)) task c.in-Ok.ensures.fares in
     let looked : Looked shape one after new_low a.high w.process new.self a.past m Remove false look =
@@ -65,6 +66,7 @@ returns-clause-at g c =
     let past_times : past_after.times ≡ left.high.times = told ∙ ap (λ (z : List ℕ). z ++ time ∷ []) a.past_times ∙ sym left.times_are in
     record {
       turn = a.turn;
+      answer = a.answer;
       high = left.high;
       past = past_after;
       fitting = left.stands;

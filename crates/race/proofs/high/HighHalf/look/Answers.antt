@@ -24,6 +24,7 @@ returns-clause-at g c =
     let same : c.look_waiting.new.store ≡ w.store = c.in-Ok.ensures.fares.1 in
     record {
       turn = a.turn;
+      answer = a.answer;
       high = left.high;
       past = _;
       fitting = left.stands;

@@ -18,6 +18,7 @@ returns-clause-at g c =
     let stored = stores_next w.receiver w.count a.received x.number (length x.payload) a.recv one_left (next.number ∙ sym so_many) short in
     record {
       turn = a.turn;
+      answer = a.answer;
       high = a.high;
       past = a.past;
       fitting = a.fitting;

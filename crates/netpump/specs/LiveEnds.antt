@@ -1,10 +1,13 @@
 -- How a command over links and doors ends, and what it writes last.
-use Rattle.std.specs.Prelude.{◌≡◌, ◌⊎◌, ℕ, List, [], ◌∷◌, Option, codes, decimal, map}
+use Rattle.std.specs.Prelude.{◌≡◌, ◌⊎◌, ◌≤◌, ℕ, List, [], ◌∷◌, ◌++◌, Option, codes, decimal}
+use Rattle.std.specs.List.{flat_map}
 use Rattle.std.specs.Io.KnownBytes.{Appends}
 use Rattle.pump_link.specs.Causes.{AppendsFront}
-use Rattle.script_reader.specs.Transcript.{fault_line, line_with_end}
+use Rattle.script_reader.specs.Transcript.{fault_line}
 use Rattle.script_reader.specs.declared.fault.Fault.TheVariants as faults
 use Rattle.netpump.specs.Commands.{end_status, end_line}
+use Rattle.netpump.specs.Tables.{HasNoRow}
+use Rattle.netpump.specs.declared.command_end.CommandEnd.TheVariants.{Memory, Unread, NoRow}
 use Rattle.netpump.specs.declared.live_end.LiveEnd.{LiveEnd}
 use Rattle.netpump.specs.declared.live_end.LiveEnd.TheVariants.{Plain, Script, NoLink, Full, Ahead, Refusal, Unfinished}
 
@@ -19,7 +22,7 @@ live_status (Unfinished number) = 12
 
 -- a fault of this name with these numbers
 abbrev pub numbers_line : List ℕ → List ℕ → List ℕ
-numbers_line name numbers = line_with_end (codes "fault" ∷ name ∷ map decimal numbers)
+numbers_line name numbers = codes "fault " ++ name ++ flat_map (λ n. 32 ∷ decimal n) numbers ++ 10 ∷ []
 
 -- the fault that is written, if there is one
 abbrev pub live_line : ℕ → LiveEnd → List ℕ
@@ -31,15 +34,28 @@ live_line session (Ahead number count) = numbers_line (codes "ahead") (session �
 live_line session (Refusal code number) = numbers_line (codes "refused") (code ∷ number ∷ [])
 live_line session (Unfinished number) = numbers_line (codes "unfinished") (number ∷ [])
 
+-- ---- the table ----
+
+-- the table gives no row for the session, or could not be read
+abbrev pub StopsAtTable : Option (List ℕ) → ℕ → LiveEnd → Type 0
+StopsAtTable file session (Plain Memory) = Unit {0}
+StopsAtTable file session (Plain Unread) = Unit {0}
+StopsAtTable file session (Plain (NoRow number row)) = HasNoRow file session number row
+StopsAtTable file session end = ⊥
+
+-- ---- the last line ----
+
 -- the fault of a call that came to this end was written, or a front of it
 abbrev pub Closes : Option (List ℕ) → Option (List ℕ) → ℕ → LiveEnd → ℕ → Type 0
 Closes mid new session end status =
     ((status ≡ live_status end) × Appends mid new (live_line session end))
     ⊎ ((status ≡ 4) × AppendsFront mid new (live_line session end))
 
--- a call came to an end when `mid` was written, and then wrote its fault
-pub record EndsLive (Comes : LiveEnd → Option (List ℕ) → Type 0) (new : Option (List ℕ)) (session status : ℕ) : Type 0 where
+-- A call came to an end when `mid` was written and the sink had failed so often, and then wrote its fault.
+pub record EndsLive (Comes : LiveEnd → Option (List ℕ) → ℕ → Type 0) (new : Option (List ℕ)) (now_faults session status : ℕ) : Type 0 where
   pub end : LiveEnd
   pub mid : Option (List ℕ)
-  pub comes : Comes end mid
+  pub mid_faults : ℕ
+  pub comes : Comes end mid mid_faults
   pub last : Closes mid new session end status
+  pub later : mid_faults ≤ now_faults

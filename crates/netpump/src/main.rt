@@ -11,6 +11,7 @@ mod file_disk;
 mod file_shelf;
 mod format;
 mod live;
+mod live_end;
 mod show;
 mod standard;
 mod table_row;

@@ -5,27 +5,24 @@ use Rattle.pump_link.specs.Ports.{PortsStep, Listened, NoDoor, ShutDoor}
 use Rattle.pump_link.specs.Tells.{Draws, Grows}
 use Rattle.pump_link.specs.declared.link.Looked.{Looked}
 
--- what doors (D) and their links (L) tell
+-- what a link gives next, what was sent over it, and how often it failed
+pub record LinksTell (L : Type 0) : Type 1 where
+  pub gives : L → List Looked → Type 0
+  pub sent : L → List ℕ → Type 0
+  pub faults : L → ℕ
+
+-- the port of a door, what the door did so far, what it answers next; and what its links tell
 pub record DoorsTell (D L : Type 0) : Type 1 where
-  -- the port of a door, what it did so far, and what it answers next
   pub port : D → ℕ → Type 0
   pub did : D → List (DoorStep L) → Type 0
   pub gives : D → List (DoorStep L) → Type 0
-  -- what a link gives next, what was sent over it, and how often it failed
-  pub link_gives : L → List Looked → Type 0
-  pub link_sent : L → List ℕ → Type 0
-  pub link_faults : L → ℕ
+  pub links : LinksTell L
 
-abbrev pub doors : {D L : Type 0} → (D → ℕ → Type 0) → (D → List (DoorStep L) → Type 0) → (D → List (DoorStep L) → Type 0)
-    → (L → List Looked → Type 0) → (L → List ℕ → Type 0) → (L → ℕ) → DoorsTell D L
-doors port did gives link_gives link_sent link_faults = record {
-  port = port;
-  did = did;
-  gives = gives;
-  link_gives = link_gives;
-  link_sent = link_sent;
-  link_faults = link_faults;
-}
+abbrev pub links : {L : Type 0} → (L → List Looked → Type 0) → (L → List ℕ → Type 0) → (L → ℕ) → LinksTell L
+links gives sent faults = record { gives = gives; sent = sent; faults = faults }
+
+abbrev pub doors : {D L : Type 0} → (D → ℕ → Type 0) → (D → List (DoorStep L) → Type 0) → (D → List (DoorStep L) → Type 0) → LinksTell L → DoorsTell D L
+doors port did gives tell = record { port = port; did = did; gives = gives; links = tell }
 
 -- In what the ports did, the door of this port was opened, and shut again.
 pub record IsOpenedAndShut {D L : Type 0} (ports now_ports : List (PortsStep L D) → Type 0) (port : ℕ) (opened shut : D) : Type 0 where

@@ -22,7 +22,7 @@ pub record HighRan {R L S H : Type 0} (t : DoorsTell R L) (m : Meaning S) (reads
   pub did : Grows (t.did v.door) (t.did w.door) (steps stays)
   pub gave : Draws (t.gives v.door) (t.gives w.door) (answers stays)
   pub port : (n : ℕ) → t.port v.door n → t.port w.door n
-  pub links : AllByRecursion (TellsVisit t.link_gives t.link_sent t.link_faults (row_of v.parts.process).id) stays
+  pub links : AllByRecursion (TellsVisit t.links.gives t.links.sent t.links.faults (row_of v.parts.process).id) stays
   pub moments : Draws reads now_reads (moments_in stays)
   pub device : CountsEnd (Some w.end) (m.count (high_disk v.parts.store)) (m.count (high_disk w.parts.store))
   pub count : is_broken (Some w.end) ≡ false → IsHighReady m w.parts.store × (high_count w.parts.store ≡ removed_of w.parts.process)

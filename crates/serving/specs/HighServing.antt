@@ -27,7 +27,7 @@ pub record HighServed {D L S : Type 0} (t : DoorsTell D L) (m : Meaning S) (row 
   pub are : AreStays row (fresh removed hand) stays
   pub ends : EndsStays stays rounds end
   pub at : AtDoor t ports now_ports row.high_port (steps stays) (answers stays)
-  pub links : AllByRecursion (TellsVisit t.link_gives t.link_sent t.link_faults row.id) stays
+  pub links : AllByRecursion (TellsVisit t.links.gives t.links.sent t.links.faults row.id) stays
   pub moments : Draws reads now_reads (moments_in stays)
   -- the disk counts what was removed, unless it failed
   pub left : is_broken (Some end) ≡ false → m.tells → StandsForRemoved (stayed row (fresh removed hand) stays).removed (m.reading now_disk)

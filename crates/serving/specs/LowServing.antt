@@ -42,7 +42,7 @@ pub record LowServed {D L S : Type 0} (t : DoorsTell D L) (m : Meaning S) (row :
   pub made : AreMade row opening (made_in stays)
   pub ends : EndsLow is_opened stays rounds end
   pub at : AtDoor t ports now_ports row.low_port (steps stays) (answers stays)
-  pub links : AllByRecursion (TellsVisit t.link_gives t.link_sent t.link_faults) stays
+  pub links : AllByRecursion (TellsVisit t.links.gives t.links.sent t.links.faults) stays
   pub moments : Draws reads now_reads (moments_in stays)
   pub words : AreWords (key_of key) 0 0 (words_in stays)
   -- the record of these looks was written, or a front of it

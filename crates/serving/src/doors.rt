@@ -8,7 +8,7 @@ ghost use Rattle.low_process.specs.Ready.{Ready as LowReady};
 ghost use Rattle.low_process.specs.Looks.{last_of as low_last, is_down};
 ghost use Rattle.high_process.specs.Ready.{Ready as HighReady};
 ghost use Rattle.high_process.specs.States.{last_of as high_last};
-ghost use Rattle.serving.specs.Doors.{doors, WantDoor};
+ghost use Rattle.serving.specs.Doors.{doors, links, WantDoor};
 ghost use Rattle.serving.specs.HighRuns.{HighLent};
 ghost use Rattle.serving.specs.LowRuns.{LowLent};
 
@@ -90,10 +90,10 @@ where
     requires low_order { low_last low.process ≤ K.floor low_clock.old }
     requires high { HighReady D.told high.process high.store (H.stands high.ends) }
     requires high_order { high_last high.process ≤ K.floor high_clock.old }
-    ensures low { IfSome result.ends (λ ends. LowLent (doors P.Door.port P.Door.did P.Door.gives P.Link.gives P.Link.sent P.Link.faults) D.told W.gives
+    ensures low { IfSome result.ends (λ ends. LowLent (doors P.Door.port P.Door.did P.Door.gives (links P.Link.gives P.Link.sent P.Link.faults)) D.told W.gives
         (P.did ports.old) (P.did ports.new) (K.reads low_clock.old) (K.reads low_clock.new) (O.written tape.old) (O.written tape.new) (O.faults tape.old) (O.faults tape.new)
         row.now.low_port rounds low result.low ends.low) }
-    ensures high { IfSome result.ends (λ ends. HighLent (doors P.Door.port P.Door.did P.Door.gives P.Link.gives P.Link.sent P.Link.faults) D.told
+    ensures high { IfSome result.ends (λ ends. HighLent (doors P.Door.port P.Door.did P.Door.gives (links P.Link.gives P.Link.sent P.Link.faults)) D.told
         (P.did ports.old) (P.did ports.new) (K.reads high_clock.old) (K.reads high_clock.new) row.now.high_port rounds high result.high ends.high) }
     ensures wanting { IfNone result.ends (WantDoor (P.did ports.old) (P.did ports.new) row.now.low_port row.now.high_port) }
     ensures cause { IfNone result.ends (Rose (P.faults ports.old) (P.faults ports.new)) }

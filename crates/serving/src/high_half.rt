@@ -2,7 +2,7 @@ ghost use Rattle.std.specs.Prelude.{◌≡◌, ◌≤◌, false};
 ghost use Rattle.high_process.specs.Ready.{Ready};
 ghost use Rattle.high_process.specs.States.{last_of, is_down};
 ghost use Rattle.stable_buffer.specs.High.{high_disk};
-ghost use Rattle.serving.specs.Doors.{doors};
+ghost use Rattle.serving.specs.Doors.{doors, links};
 ghost use Rattle.serving.specs.HighRuns.{HighRan};
 
 use crate::works::ServesHigh;
@@ -39,7 +39,7 @@ fn serve_high<T: Wait, R: Door, K: Clock, D: Disk, H: WaitHighEnd>(
 )
     requires ready { Ready D.told half.old.parts.process half.old.parts.store (H.stands half.old.parts.ends) }
     requires order { last_of half.old.parts.process ≤ K.floor clock.old }
-    ensures { HighRan (doors R.port R.did R.gives R.Link.gives R.Link.sent R.Link.faults) D.told (K.reads clock.old) (K.reads clock.new) rounds half.old half.new }
+    ensures { HighRan (doors R.port R.did R.gives (links R.Link.gives R.Link.sent R.Link.faults)) D.told (K.reads clock.old) (K.reads clock.new) rounds half.old half.new }
 {
     let parts = &mut half.parts;
     half.end = high_rounds(
@@ -56,7 +56,7 @@ fn serve_high<T: Wait, R: Door, K: Clock, D: Disk, H: WaitHighEnd>(
 impl<R: Door, K: Clock, D: Disk, H: WaitHighEnd> ServesHigh<K> for HighHalf<R, D, H> {
     ghost can_serve = { λ v k. Ready D.told v.parts.process v.parts.store (H.stands v.parts.ends) × (last_of v.parts.process ≤ K.floor k) };
 
-    ghost served = { λ n v w k j. HighRan (doors R.port R.did R.gives R.Link.gives R.Link.sent R.Link.faults) D.told (K.reads k) (K.reads j) n v w };
+    ghost served = { λ n v w k j. HighRan (doors R.port R.did R.gives (links R.Link.gives R.Link.sent R.Link.faults)) D.told (K.reads k) (K.reads j) n v w };
 
     fn serve<T: Wait>(&mut self, rt: &T, clock: &mut K, rounds: u32) {
         serve_high(rt, self, clock, rounds);

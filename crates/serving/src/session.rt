@@ -2,7 +2,7 @@ ghost use Rattle.std.specs.Prelude.{◌≡◌, ◌+◌, ◌-◌, ◌≤◌, ℕ,
 ghost use Rattle.pump_core.specs.Passage.{Low, High, new_low, new_high};
 ghost use Rattle.pump_frame.specs.Counts.{Rose};
 ghost use Rattle.pump_frame.specs.Rows.{IsLawfulRow};
-ghost use Rattle.serving.specs.Doors.{doors, WantDoor};
+ghost use Rattle.serving.specs.Doors.{doors, links, WantDoor};
 ghost use Rattle.serving.specs.HighServing.{HighServed};
 ghost use Rattle.serving.specs.LowServing.{LowServed};
 ghost use Rattle.serving.specs.Sessions.{IfEnded, end_of, has_run, is_opened, OpensBy};
@@ -69,10 +69,10 @@ where
     requires shape { (L.shape low_ends).places ≡ row.now.capacity - 2 }
     requires low_ends { L.stands low_ends new_low new_high }
     requires high_ends { (l : Low) × H.stands high_ends l new_high }
-    ensures low { IfEnded result.end (λ ends. LowServed (doors P.Door.port P.Door.did P.Door.gives P.Link.gives P.Link.sent P.Link.faults) D.told row.now rounds key
+    ensures low { IfEnded result.end (λ ends. LowServed (doors P.Door.port P.Door.did P.Door.gives (links P.Link.gives P.Link.sent P.Link.faults)) D.told row.now rounds key
         (P.did ports.old) (P.did ports.new) (K.reads low_clock.old) (K.reads low_clock.new) (O.written tape.old) (O.written tape.new) (O.faults tape.old) (O.faults tape.new)
         low result.low ends.low) }
-    ensures high { IfEnded result.end (λ ends. HighServed (doors P.Door.port P.Door.did P.Door.gives P.Link.gives P.Link.sent P.Link.faults) D.told row.now rounds
+    ensures high { IfEnded result.end (λ ends. HighServed (doors P.Door.port P.Door.did P.Door.gives (links P.Link.gives P.Link.sent P.Link.faults)) D.told row.now rounds
         (P.did ports.old) (P.did ports.new) (K.reads high_clock.old) (K.reads high_clock.new) high result.high ends.high) }
     ensures opens { OpensBy D.told row.now low high result.low result.high result.end }
     ensures wanting { result.end ≡ SessionEnd.NoDoor → WantDoor (P.did ports.old) (P.did ports.new) row.now.low_port row.now.high_port × Rose (P.faults ports.old) (P.faults ports.new) }
@@ -157,10 +157,10 @@ where
     P::Door: Send,
     requires lawful { IsLawfulRow row.now }
     // The two workers, each by itself.
-    ensures low { IfEnded result.end (λ ends. LowServed (doors P.Door.port P.Door.did P.Door.gives P.Link.gives P.Link.sent P.Link.faults) D.told row.now rounds key
+    ensures low { IfEnded result.end (λ ends. LowServed (doors P.Door.port P.Door.did P.Door.gives (links P.Link.gives P.Link.sent P.Link.faults)) D.told row.now rounds key
         (P.did ports.old) (P.did ports.new) (K.reads low_clock.old) (K.reads low_clock.new) (O.written tape.old) (O.written tape.new) (O.faults tape.old) (O.faults tape.new)
         low result.low ends.low) }
-    ensures high { IfEnded result.end (λ ends. HighServed (doors P.Door.port P.Door.did P.Door.gives P.Link.gives P.Link.sent P.Link.faults) D.told row.now rounds
+    ensures high { IfEnded result.end (λ ends. HighServed (doors P.Door.port P.Door.did P.Door.gives (links P.Link.gives P.Link.sent P.Link.faults)) D.told row.now rounds
         (P.did ports.old) (P.did ports.new) (K.reads high_clock.old) (K.reads high_clock.new) high result.high ends.high) }
     // The other ends, by their causes, and what they leave.
     ensures opens { OpensBy D.told row.now low high result.low result.high result.end }

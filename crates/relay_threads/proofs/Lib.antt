@@ -1,4 +1,5 @@
 pub mod Alike
+pub mod Hearing
 pub mod Kept
 pub mod Machine
 pub mod Replaying

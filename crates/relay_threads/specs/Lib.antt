@@ -1,3 +1,5 @@
+pub mod Hearings
 pub mod RecordLines
 pub mod Records
 pub mod Replays
+pub mod Workers

@@ -2,14 +2,17 @@
 #![tactic(auto)]
 
 mod gate;
+mod hear;
 mod law;
 mod pair;
 mod record;
+mod rounds_end;
 
 pub use gate::{Gate, Open};
 pub use law::{records_are_lives, records_are_scripts, records_replay};
 pub use pair::{Work, run_pair};
 pub use record::{LookMade, append_look, append_opening, is_recorded};
+pub use rounds_end::RoundsEnd;
 
 #[cfg(test)]
 mod tests;

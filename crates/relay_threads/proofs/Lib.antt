@@ -1,7 +1,11 @@
 pub mod Alike
 pub mod Hearing
 pub mod Kept
+pub mod LowLives
+pub mod LowServing
+pub mod LowTurning
 pub mod Machine
+pub mod Reaching
 pub mod Replaying
 pub mod ReplyKinds
 pub mod Scripting

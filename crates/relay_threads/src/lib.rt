@@ -4,15 +4,21 @@
 mod gate;
 mod hear;
 mod law;
+mod low_round;
+mod low_serving;
 mod pair;
 mod record;
 mod rounds_end;
+mod tape;
 
 pub use gate::{Gate, Open};
 pub use law::{records_are_lives, records_are_scripts, records_replay};
+pub use low_round::LowWhy;
+pub use low_serving::{LowServed, serve_low};
 pub use pair::{Work, run_pair};
 pub use record::{LookMade, append_look, append_opening, is_recorded};
 pub use rounds_end::RoundsEnd;
+pub use tape::write_opening;
 
 #[cfg(test)]
 mod tests;

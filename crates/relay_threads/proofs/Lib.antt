@@ -3,7 +3,9 @@ pub mod Hearing
 pub mod Kept
 pub mod LowLives
 pub mod LowServing
+pub mod LowStaying
 pub mod LowTurning
+pub mod LowVisiting
 pub mod Machine
 pub mod Reaching
 pub mod Replaying

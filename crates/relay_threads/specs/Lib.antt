@@ -1,6 +1,7 @@
 pub mod Hearings
 pub mod LowRounds
 pub mod LowServes
+pub mod LowStays
 pub mod Reaching
 pub mod RecordLines
 pub mod Records

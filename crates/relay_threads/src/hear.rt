@@ -11,6 +11,7 @@ use pump_link::{Link, Looked};
 const MOST_BYTES: u32 = 1042;
 
 /// What one reading of a link brought.
+#[derive(Drop)]
 pub enum Heard {
     /// No whole frame yet. The reader keeps the bytes.
     Nothing,

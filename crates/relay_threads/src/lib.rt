@@ -3,12 +3,19 @@
 
 mod gate;
 mod hear;
+mod high_round;
+mod high_serve;
+mod high_served;
+mod high_stays;
 mod law;
 mod pair;
 mod record;
 mod rounds_end;
 
 pub use gate::{Gate, Open};
+pub use high_serve::serve_high;
+pub use high_served::{HighServed, HighWhy};
+pub use high_stays::high_rounds;
 pub use law::{records_are_lives, records_are_scripts, records_replay};
 pub use pair::{Work, run_pair};
 pub use record::{LookMade, append_look, append_opening, is_recorded};

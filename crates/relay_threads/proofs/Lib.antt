@@ -1,5 +1,8 @@
 pub mod Alike
 pub mod Hearing
+pub mod HighServing
+pub mod HighStaying
+pub mod HighTurning
 pub mod Kept
 pub mod LowLives
 pub mod LowServing

@@ -1,4 +1,7 @@
 pub mod Hearings
+pub mod HighRounds
+pub mod HighServes
+pub mod HighStays
 pub mod LowRounds
 pub mod LowServes
 pub mod LowStays

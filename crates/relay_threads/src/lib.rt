@@ -3,6 +3,10 @@
 
 mod gate;
 mod hear;
+mod high_round;
+mod high_serve;
+mod high_served;
+mod high_stays;
 mod law;
 mod low_round;
 mod low_serving;
@@ -13,6 +17,9 @@ mod rounds_end;
 mod tape;
 
 pub use gate::{Gate, Open};
+pub use high_serve::serve_high;
+pub use high_served::{HighServed, HighWhy};
+pub use high_stays::high_rounds;
 pub use law::{records_are_lives, records_are_scripts, records_replay};
 pub use low_round::LowWhy;
 pub use low_serving::{LowServed, serve_low};

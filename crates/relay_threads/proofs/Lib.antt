@@ -1,6 +1,16 @@
 pub mod Alike
+pub mod Hearing
+pub mod HighServing
+pub mod HighStaying
+pub mod HighTurning
 pub mod Kept
+pub mod LowLives
+pub mod LowServing
+pub mod LowStaying
+pub mod LowTurning
+pub mod LowVisiting
 pub mod Machine
+pub mod Reaching
 pub mod Replaying
 pub mod ReplyKinds
 pub mod Scripting

@@ -6,6 +6,7 @@ use Rattle.pump_link.specs.Ports.{PortsStep}
 use Rattle.pump_link.specs.Tells.{Draws, Grows}
 use Rattle.stable_buffer.specs.High.{IsHighReady, high_disk, high_count}
 use Rattle.stable_buffer.specs.declared.high.HighStore.{HighStore}
+use Rattle.high_process.specs.declared.process.HighProcess.{HighProcess}
 use Rattle.high_process.specs.States.{row_of, removed_of, is_down}
 use Rattle.relay_threads.specs.Workers.{CountsEnd}
 use Rattle.relay_threads.specs.HighStays.{Stay, StaysSo, EndsStays, TellsVisit, is_broken, steps, answers, moments_in}
@@ -13,6 +14,12 @@ use Rattle.relay_threads.specs.declared.rounds_end.RoundsEnd.{RoundsEnd}
 use Rattle.serving.specs.Doors.{DoorsTell, IsOpenedAndShut}
 use Rattle.serving.specs.declared.high_half.HighHalf.{HighHalf}
 use Rattle.serving.specs.declared.high_half.HighParts.{HighParts}
+
+-- the process is not down, and its store is open and has the count that it has
+pub record HasStore {S : Type 0} (m : Meaning S) (p : HighProcess) (store : HighStore S) : Type 0 where
+  pub up : is_down p ≡ false
+  pub ready : IsHighReady m store
+  pub count : high_count store ≡ removed_of p
 
 -- the stays at its door lead from v to w
 pub record HighRan {R L S H : Type 0} (t : DoorsTell R L) (m : Meaning S) (reads now_reads : List ℕ → Type 0) (rounds : ℕ) (v w : HighHalf R S H) : Type 0 where
@@ -25,7 +32,7 @@ pub record HighRan {R L S H : Type 0} (t : DoorsTell R L) (m : Meaning S) (reads
   pub links : AllByRecursion (TellsVisit t.links.gives t.links.sent t.links.faults (row_of v.parts.process).id) stays
   pub moments : Draws reads now_reads (moments_in stays)
   pub device : CountsEnd (Some w.end) (m.count (high_disk v.parts.store)) (m.count (high_disk w.parts.store))
-  pub count : is_broken (Some w.end) ≡ false → IsHighReady m w.parts.store × (high_count w.parts.store ≡ removed_of w.parts.process)
+  pub store : is_broken (Some w.end) ≡ false → HasStore m w.parts.process w.parts.store
   pub counts : m.count (high_disk v.parts.store) ≤ m.count (high_disk w.parts.store)
 
 -- .. of these parts, at a door of this port that was opened and shut

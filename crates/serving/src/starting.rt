@@ -11,7 +11,7 @@ ghost use Rattle.high_process.specs.Looks.{IsHand as IsHighHand, StandsFor};
 ghost use Rattle.high_process.specs.Past.{fresh};
 ghost use Rattle.high_process.specs.Ready.{Ready as HighReady};
 ghost use Rattle.high_process.specs.States.{last_of as high_last, row_of as high_row_of};
-ghost use Rattle.relay_threads.specs.Lives.{Lives};
+ghost use Rattle.relay_threads.specs.LowServes.{Lives};
 
 use crate::high_half::HighParts;
 use crate::low_half::LowParts;

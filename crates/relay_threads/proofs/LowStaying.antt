@@ -16,19 +16,30 @@ use Rattle.relay_threads.specs.declared.rounds_end.RoundsEnd.{RoundsEnd}
 use Rattle.relay_threads.specs.declared.rounds_end.RoundsEnd.TheVariants.{Rounds as RoundsMade, Device as DeviceBroke, RecordFailed as RecordBroke}
 use Rattle.relay_threads.specs.declared.rounds_end.Stayed.{Stayed}
 use Rattle.relay_threads.specs.Reaching.{Reaches}
+use Rattle.relay_threads.specs.Workers.{IsNobody}
 use Rattle.relay_threads.specs.LowRounds.{newest_cause}
 use Rattle.relay_threads.specs.LowServes.{Leads}
 use Rattle.relay_threads.specs.LowStays.{Stay, Alone, With, Visit, IsStay, IsVisit, visited, stay_after, stayed, AreStays, StaysSo, IsOver, steps, answers, moments_in, words_in, text_in, text_at, count, count_at, newest_end, stay_end, end_at, EndsStay, EndsVisit, EndsStays, TellsVisit, is_kept_by}
 use Rattle.relay_threads.proofs.LowLives.{leads_none, leads_then}
 use Rattle.relay_threads.proofs.Reaching.{reaches_behind}
 
-pub stays_none : {L : Type 0} (p : LowProcess) → StaysSo {L = L} p p []
-stays_none p = leads_none p (λ row o before. AreStays row o before []) (λ row o before. tt)
+pub stays_none : (L : Type 0) (p : LowProcess) → StaysSo {L = L} p p []
+stays_none L p = leads_none p (λ row o before. AreStays {L = L} row o before []) (λ row o before. tt)
 
 pub stays_more : {L : Type 0} (p q q' : LowProcess) (x : Stay L) (past : List (Stay L)) → AllByRecursion IsOver past → StaysSo p q past → Leads q q' (λ row o before. IsStay row o before x) (λ before. stay_after before x) → StaysSo p q' (x ∷ past)
 stays_more p q q' x past over was one =
     leads_then p q q' (λ row o before. AreStays row o before past) (λ row o before. IsStay row o before x) (λ row o before. AreStays row o before (x ∷ past)) (λ before. stayed before past) (λ before. stay_after before x)
     (λ row o before are is. (is, over, are)) was one
+
+pub alone_so : {L : Type 0} (p : LowProcess) (m : ℕ) (answer : DoorStep L) → IsNobody answer → Leads p p (λ row o before. IsStay row o before (Alone m answer)) (λ before. stay_after before (Alone m answer))
+alone_so p m answer nobody = leads_none p (λ row o before. IsStay row o before (Alone m answer)) (λ row o before. nobody)
+
+pub alone_ends : {L : Type 0} (m most : ℕ) (answer : DoorStep L) → 0 < most → EndsStay (Alone m answer) most (record { end = None; looks = 1 })
+alone_ends m most answer some = record { end = refl; looks = refl; bound = omega (arith, some); over = λ lt none. tt }
+
+pub with_so : {L : Type 0} (p q : LowProcess) (m : ℕ) (v : Visit L) → Leads p q (λ row o before. IsVisit row o before v.rounds v.gone) (λ before. visited before v.rounds v.gone)
+    → Leads p q (λ row o before. IsStay row o before (With m v)) (λ before. stay_after before (With m v))
+with_so p q m v s = record { row = s.row; rule = s.rule; lives = s.lives }
 
 -- a visit within a stay
 pub ends_stay : {L : Type 0} (m : ℕ) (v : Visit L) (most rest : ℕ) (s s' : Stayed) → EndsVisit v.rounds v.is_kept rest s → s'.end ≡ s.end → s'.looks ≡ 1 + s.looks → most ≡ 1 + rest → EndsStay (With m v) most s'

@@ -11,7 +11,7 @@ use Rattle.relay_threads.proofs.low_stays.low_rounds.Goals as goal
 pub loop-made-init : goal.loop-made-init
 loop-made-init g c = record {
   stays = [];
-  so = stays_none c.args.process.now;
+  so = stays_none g.row.P-Link.Denot c.args.process.now;
   told = stays_told_none _ _ _ _ _ _ _ _ _;
   on = refl;
   over = λ lt. tt;

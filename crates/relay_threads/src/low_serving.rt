@@ -69,6 +69,7 @@ pub fn serve_low<R: Wait, C: Link, K: Clock, W: Words, D: Disk, L: WaitLowEnd, O
     ensures shape { L.shape ends.new ≡ L.shape ends.old }
     ensures place { L.place ends.new ≡ L.place ends.old }
     ensures link { result.why ≡ LinkFailed → Rose (C.faults link.old) (C.faults link.new) }
+    ensures tape { result.why ≡ RecordFailed → Rose (O.faults tape.old) (O.faults tape.new) }
     ensures counts { D.told.count (low_disk store.old) ≤ D.told.count (low_disk store.new) }
     ensures device { CountsFault result.why (D.told.count (low_disk store.old)) (D.told.count (low_disk store.new)) }
     ensures stopped { result.why ≡ Stopped → Rose (G.stops gate.old) (G.stops gate.new) }

@@ -5,6 +5,7 @@ use Rattle.pump_link.proofs.Grown.{Draws-kept, Grows-then}
 use Rattle.pump_link.proofs.Known.{Appends-none}
 use Rattle.low_process.specs.Looks.{arrival_of, is_down, is_idle, hand_of, row_of, StandsFor}
 use Rattle.low_process.specs.Heads.{look_with}
+use Rattle.low_process.specs.Storing.{message_in}
 use Rattle.low_process.specs.Ends.{StandsFitting}
 use Rattle.low_process.proofs.Offering.{stands_for_some}
 use Rattle.pump_frame.specs.declared.row.SessionRow.{SessionRow}
@@ -93,7 +94,7 @@ returns-clause-ready g c =
 pub returns-clause-counts : goal.returns-clause-counts
 returns-clause-counts g c =
     let looks = c.look_waiting_into.ensures.looks in
-    counts_by g.D.Disk.told _ c.args.store.now c.look_waiting_into.new.store looks.0 looks.1.keeps
+    counts_by g.D.Disk.told (message_in c.args.process.now (arrival_of c.arrival_in-arrival.result)) c.args.store.now c.look_waiting_into.new.store looks.0 looks.1.keeps
 
 pub returns-clause-device : goal.returns-clause-device
 returns-clause-device g c =
@@ -102,7 +103,7 @@ returns-clause-device g c =
     let q = c.look_waiting_into.new.self in
     let down = c.is_down.ensures ∙ down_is (is_down q) (is_down p) looks.0 c.requires.up looks.1.falls in
     fault_by c.record_look-is_kept.result c.is_down.result c.answer-is_sent.result c.faults.result _ _ c.hear_if-heard.result c.why_left.result c.why_left.ensures c.faults.ensures
-    (λ e. rose_by g.D.Disk.told _ c.args.store.now c.look_waiting_into.new.store looks.0 (sym down ∙ e) looks.1.keeps)
+    (λ e. rose_by g.D.Disk.told (message_in c.args.process.now (arrival_of c.arrival_in-arrival.result)) c.args.store.now c.look_waiting_into.new.store looks.0 (sym down ∙ e) looks.1.keeps)
 
 pub returns-clause-link : goal.returns-clause-link
 returns-clause-link g c = λ e.

@@ -22,4 +22,6 @@ pub use record::{LookMade, append_look, append_opening, is_recorded};
 pub use rounds_end::RoundsEnd;
 
 #[cfg(test)]
+mod high_tests;
+#[cfg(test)]
 mod tests;

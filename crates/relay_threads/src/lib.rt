@@ -30,4 +30,6 @@ pub use rounds_end::RoundsEnd;
 pub use tape::write_opening;
 
 #[cfg(test)]
+mod high_tests;
+#[cfg(test)]
 mod tests;

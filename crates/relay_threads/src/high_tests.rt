@@ -25,7 +25,7 @@ const TAKES: &str = "4e50010600000001000000000000000000004e500107000000010000000
 /// DATA 0, `a`.
 const DATA: &str = "4e500103000000010000000000000000000161";
 
-fn row() -> Option<SessionRow>
+pub fn row() -> Option<SessionRow>
     ensures { IfSome result (λ row. IsLawfulRow row) }
 {
     Some(SessionRow {
@@ -107,7 +107,7 @@ fn set_up<D: Disk + Drop>(alloc: Global, disk: D, count: u64) -> Result<Bench<D>
     }
 }
 
-fn bytes(alloc: Global, text: &str) -> Result<Vec<u8>, Fail> {
+pub fn bytes(alloc: Global, text: &str) -> Result<Vec<u8>, Fail> {
     match hex::decode(alloc, text) {
         Ok(bytes) => Ok(bytes),
         Err(_) => Err(Fail::new("no bytes")),
@@ -115,7 +115,7 @@ fn bytes(alloc: Global, text: &str) -> Result<Vec<u8>, Fail> {
 }
 
 // A link with so many looks that find no byte, and then these bytes. The first send may fail.
-fn link(alloc: Global, quiet: u32, text: &str, is_failing: bool) -> Result<MemLink, Fail> {
+pub fn link(alloc: Global, quiet: u32, text: &str, is_failing: bool) -> Result<MemLink, Fail> {
     let bytes = bytes(alloc, text)?;
     let mut looks = Vec::new(alloc);
     for _ in 0..quiet {

@@ -32,4 +32,6 @@ pub use tape::write_opening;
 #[cfg(test)]
 mod high_tests;
 #[cfg(test)]
+mod low_tests;
+#[cfg(test)]
 mod tests;

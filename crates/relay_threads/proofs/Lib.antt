@@ -5,6 +5,7 @@ pub mod HighStaying
 pub mod HighTurning
 pub mod Kept
 pub mod LowLives
+pub mod LowRecord
 pub mod LowServing
 pub mod LowStaying
 pub mod LowTurning

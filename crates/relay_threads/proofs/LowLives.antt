@@ -48,13 +48,16 @@ module _ (p q : LowProcess) (m w : ℕ) (a : Arrival) (d : Bool) (l : LowLook) w
       let h = history_made o before in
       let st = looks.history h lives.stands in
       let cut : IsCut (row_of p) (life_made o (look_made ∷ before)) st.stands.parts = subst (λ (z : SessionRow). IsCut z (life_made o (look_made ∷ before)) st.stands.parts) row st.stands.cut in
-      let made : AreMade (row_of p) o (look_made ∷ before) = (record {
-        order = subst (λ (n : ℕ). n ≤ m) lives.stands.stands.newest order;
-        parts = st.stands.parts;
-        cut = cut;
-        taken = looks.taken h st.stands.parts lives.stands cut;
-        replies = looks.replies h (replies_made before) lives.stands (replies_so_far (row_of p) o before lives.are_made);
-      }, lives.are_made) in
+      let made : AreMade (row_of p) o (look_made ∷ before) = (
+        record {
+          order = subst (λ (n : ℕ). n ≤ m) lives.stands.stands.newest order;
+          parts = st.stands.parts;
+          cut = cut;
+          taken = looks.taken h st.stands.parts lives.stands cut;
+          replies = looks.replies h (replies_made before) lives.stands (replies_so_far (row_of p) o before lives.are_made);
+        },
+        lives.are_made,
+      ) in
       record { stands = st; are_made = subst (λ (z : SessionRow). AreMade z o (look_made ∷ before)) (sym row) made }
 
 -- ---- one step after another ----

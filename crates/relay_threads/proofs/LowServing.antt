@@ -160,7 +160,7 @@ module _ (r : Round) (rounds : List Round) where
 -- ---- how the call ends ----
 
 -- no round leaves the connection for its number or for the gate
-abbrev is_cause : Option LowWhy → Bool
+abbrev pub is_cause : Option LowWhy → Bool
 is_cause (Some Looks) = false
 is_cause (Some Stopped) = false
 is_cause _ = true
@@ -181,7 +181,7 @@ reading_cause : (h : Option Hearing) → is_cause (cause_heard h) ≡ true
 reading_cause None = refl
 reading_cause (Some h) = ending_cause h.ending
 
-round_cause : (r : Round) → is_cause (cause r) ≡ true
+pub round_cause : (r : Round) → is_cause (cause r) ≡ true
 round_cause r =
     either (not r.is_kept) (Some RecordFailed) _ refl
     (either (is_lost_in r.made) (Some (Device r.faults)) _ refl
@@ -195,6 +195,32 @@ ended_by r rounds most (Device n) le e = (le, e)
 ended_by r rounds most RecordFailed le e = (le, e)
 ended_by r rounds most Looks le e = let c : is_cause (Some Looks) ≡ true = ap is_cause (sym e) ∙ round_cause r in absurd (cc)
 ended_by r rounds most Stopped le e = let c : is_cause (Some Stopped) ≡ true = ap is_cause (sym e) ∙ round_cause r in absurd (cc)
+
+-- a round that left because of the record did not write all of its lines
+abbrev is_record : Option LowWhy → Bool
+is_record (Some RecordFailed) = true
+is_record _ = false
+
+ending_calm : (e : Ending) → is_record (cause_at e) ≡ false
+ending_calm (AtFrame f) = refl
+ending_calm AtBad = refl
+ending_calm AtNotYet = refl
+ending_calm AtEnded = refl
+ending_calm AtFailed = refl
+ending_calm AtMost = refl
+
+heard_calm : (h : Option Hearing) → is_record (cause_heard h) ≡ false
+heard_calm None = refl
+heard_calm (Some h) = ending_calm h.ending
+
+broken_by : (k d s : Bool) (n : ℕ) (x : Option LowWhy) → is_record x ≡ false → (if not k then Some RecordFailed else if d then Some (Device n) else if not s then Some LinkFailed else x) ≡ Some RecordFailed → k ≡ false
+broken_by false d s n x c e = refl
+broken_by true true s n x c e = absurd (cc)
+broken_by true false false n x c e = absurd (cc)
+broken_by true false true n x c e = let y : is_record x ≡ true = ap is_record e in absurd (let z : false ≡ true = sym c ∙ y in cc)
+
+pub broken_round : (r : Round) → cause r ≡ Some RecordFailed → r.is_kept ≡ false
+broken_round r e = broken_by r.is_kept (is_lost_in r.made) r.is_sent r.faults (cause_heard r.heard) (heard_calm r.heard) e
 
 pub asked_by : (r : Round) (rounds : List Round) (why : LowWhy) → cause r ≡ Some why → asked_in (r ∷ rounds) why ≡ asks_of (r ∷ rounds)
 asked_by r rounds Gone e = refl

@@ -9,7 +9,9 @@ use Rattle.pump_link.specs.Tells.{Draws, Grows}
 use Rattle.pump_link.specs.declared.link.Looked.{Looked}
 use Rattle.pump_link.proofs.Known.{Appends-none, Appends-then}
 use Rattle.pump_link.proofs.Grown.{Draws-nil, Grows-nil}
+use Rattle.pump_core.specs.History.{Opening}
 use Rattle.low_process.specs.declared.process.LowProcess.{LowProcess}
+use Rattle.low_process.specs.Looks.{row_of}
 use Rattle.relay_threads.specs.declared.low_round.LowWhy.{LowWhy}
 use Rattle.relay_threads.specs.declared.low_round.LowWhy.TheVariants.{Gone, Bad, LinkFailed, Device, RecordFailed, Looks, Stopped}
 use Rattle.relay_threads.specs.declared.rounds_end.RoundsEnd.{RoundsEnd}
@@ -18,8 +20,10 @@ use Rattle.relay_threads.specs.declared.rounds_end.Stayed.{Stayed}
 use Rattle.relay_threads.specs.Reaching.{Reaches}
 use Rattle.relay_threads.specs.Workers.{IsNobody}
 use Rattle.relay_threads.specs.LowRounds.{newest_cause}
-use Rattle.relay_threads.specs.LowServes.{Leads}
-use Rattle.relay_threads.specs.LowStays.{Stay, Alone, With, Visit, IsStay, IsVisit, visited, stay_after, stayed, AreStays, StaysSo, IsOver, steps, answers, moments_in, words_in, text_in, text_at, count, count_at, newest_end, stay_end, end_at, EndsStay, EndsVisit, EndsStays, TellsVisit, is_kept_by}
+use Rattle.relay_threads.specs.LowServes.{Lives, Leads}
+use Rattle.relay_threads.specs.LowStays.{Stay, Alone, With, Visit, IsStay, IsVisit, visited, stay_after, stayed, AreStays, StaysSo, IsOver, steps, answers, moments_in, words_in, text_in, text_at, count, count_at, newest_end, stay_end, end_at, EndsStay, EndsVisit, EndsStays, IsRecord, TellsVisit, is_kept_by}
+use Rattle.relay_threads.specs.Records.{AreMade}
+use Rattle.relay_threads.proofs.LowRecord.{one_record}
 use Rattle.relay_threads.proofs.LowLives.{leads_none, leads_then}
 use Rattle.relay_threads.proofs.Reaching.{reaches_behind}
 
@@ -90,7 +94,7 @@ made_by_none (Some Looks) k = refl
 made_by_none (Some Stopped) k = refl
 
 -- no stay ends the worker for the number of its rounds
-no_rounds : {L : Type 0} (x : Stay L) → stay_end x ≡ Some RoundsMade → ⊥
+pub no_rounds : {L : Type 0} (x : Stay L) → stay_end x ≡ Some RoundsMade → ⊥
 no_rounds (Alone m answer) e = cc
 no_rounds (With m v) e = let t : is_rounds (end_at (newest_cause v.rounds) v.is_kept) ≡ true = ap is_rounds e in let y : false ≡ true = sym (made_by_none (newest_cause v.rounds) v.is_kept) ∙ t in cc
 
@@ -98,3 +102,8 @@ pub worker_ends : {L : Type 0} (x : Stay L) (past : List (Stay L)) (rounds : ℕ
 worker_ends x past rounds RoundsMade e le = absurd (no_rounds x e)
 worker_ends x past rounds (DeviceBroke n) e le = (le, e)
 worker_ends x past rounds RecordBroke e le = (le, e)
+
+-- what was recorded is the record of all looks
+pub recorded_as : {L : Type 0} (p q : LowProcess) (stays : List (Stay L)) → StaysSo p q stays → (o : Opening) → Lives p o [] → IsRecord (row_of p) stays
+recorded_as p q stays so o lives =
+    one_record (row_of p) o stays (so.rule o [] lives) (subst (λ (z : SessionRow). AreMade z o (stayed [] stays)) so.row (so.lives o [] lives).are_made)

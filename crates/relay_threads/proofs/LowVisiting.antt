@@ -10,15 +10,14 @@ use Rattle.relay_threads.specs.declared.low_round.LowWhy.{LowWhy}
 use Rattle.relay_threads.specs.declared.low_round.LowWhy.TheVariants.{Gone, Bad, LinkFailed, Device, RecordFailed, Looks, Stopped}
 use Rattle.relay_threads.specs.declared.rounds_end.RoundsEnd.{RoundsEnd}
 use Rattle.relay_threads.specs.declared.rounds_end.RoundsEnd.TheVariants.{Rounds as RoundsMade, Device as DeviceBroke, RecordFailed as RecordBroke}
-use Rattle.relay_threads.specs.Hearings.{Ending, AtFrame, AtBad, AtNotYet, AtEnded, AtFailed, AtMost, Hearing}
 use Rattle.relay_threads.specs.Reaching.{Reaches}
 use Rattle.relay_threads.specs.Records.{Made, record_of}
 use Rattle.relay_threads.specs.RecordLines.{looks_text}
-use Rattle.relay_threads.specs.LowRounds.{Round, with_look, made_after, made_in, AreRounds, GoOn, newest_cause, cause_at, cause_heard, is_lost_in}
+use Rattle.relay_threads.specs.LowRounds.{Round, with_look, made_after, made_in, AreRounds, GoOn, newest_cause}
 use Rattle.relay_threads.specs.LowServes.{Leads, Serves, EndsBy, all_kept, text_made}
 use Rattle.relay_threads.specs.LowStays.{IsGone, GoneAfter, IsVisit, visited, visit_text, end_at, end_by, is_left_so, is_kept_by, IsLeft}
 use Rattle.relay_threads.proofs.LowLives.{leads_then}
-use Rattle.relay_threads.proofs.LowServing.{kept_on, calm_round}
+use Rattle.relay_threads.proofs.LowServing.{kept_on, broken_round}
 use Rattle.relay_threads.proofs.Reaching.{reaches_behind, reaches_as}
 
 -- ---- why the newest round left ----
@@ -135,31 +134,9 @@ kept_of rounds most RecordFailed e k = absurd (cc)
 kept_of rounds most Looks e k = kept_on rounds e.1
 kept_of rounds most Stopped e k = kept_on rounds e.1
 
-abbrev is_record : Option LowWhy → Bool
-is_record (Some RecordFailed) = true
-is_record _ = false
-
-ending_calm : (e : Ending) → is_record (cause_at e) ≡ false
-ending_calm (AtFrame f) = refl
-ending_calm AtBad = refl
-ending_calm AtNotYet = refl
-ending_calm AtEnded = refl
-ending_calm AtFailed = refl
-ending_calm AtMost = refl
-
-heard_calm : (h : Option Hearing) → is_record (cause_heard h) ≡ false
-heard_calm None = refl
-heard_calm (Some h) = ending_calm h.ending
-
-broken_by : (k d s : Bool) (n : ℕ) (x : Option LowWhy) → is_record x ≡ false → (if not k then Some RecordFailed else if d then Some (Device n) else if not s then Some LinkFailed else x) ≡ Some RecordFailed → k ≡ false
-broken_by false d s n x c e = refl
-broken_by true true s n x c e = absurd (cc)
-broken_by true false false n x c e = absurd (cc)
-broken_by true false true n x c e = let y : is_record x ≡ true = ap is_record e in absurd (let z : false ≡ true = sym c ∙ y in cc)
-
 broken_cause : (rounds : List Round) → newest_cause rounds ≡ Some RecordFailed → all_kept rounds ≡ false
 broken_cause [] e = absurd (cc)
-broken_cause (r ∷ past) e = broken_by r.is_kept (is_lost_in r.made) r.is_sent r.faults (cause_heard r.heard) (heard_calm r.heard) e
+broken_cause (r ∷ past) e = broken_round r e
 
 -- its lines were written whole, but where the worker's end says that they were not
 same_kept : (rounds : List Round) (most : ℕ) (why : LowWhy) → EndsBy rounds most why → all_kept rounds ≡ is_kept_by (end_by why)

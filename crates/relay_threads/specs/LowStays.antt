@@ -164,6 +164,10 @@ abbrev pub text_in : {L : Type 0} → SessionRow → List (Stay L) → List ℕ
 text_in row [] = []
 text_in row (x ∷ past) = text_in row past ++ text_at row x
 
+-- .. which is the record of all their looks
+abbrev pub IsRecord : {L : Type 0} → SessionRow → List (Stay L) → Type 0
+IsRecord row stays = text_in row stays ≡ looks_text row (record_of (stayed [] stays))
+
 abbrev pub count : {L : Type 0} → List (Stay L) → ℕ
 count [] = 0
 count (x ∷ past) = count past + count_at x

@@ -30,4 +30,8 @@ pub use rounds_end::RoundsEnd;
 pub use tape::write_opening;
 
 #[cfg(test)]
+mod high_tests;
+#[cfg(test)]
+mod low_tests;
+#[cfg(test)]
 mod tests;

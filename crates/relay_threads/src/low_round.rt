@@ -179,7 +179,7 @@ pub fn low_round<R: Wait, C: Link, K: Clock, W: Words, D: Disk, L: WaitLowEnd, O
         × Draws (K.reads clock.old) (K.reads clock.new) (r.moment ∷ [])
         × Draws (W.gives words.old) (W.gives words.new) (r.word ∷ [])
         × ((before : List Made) → was_full ≡ full_before before
-            → Reaches (Appends (O.written tape.old) (O.written tape.new)) (O.faults tape.old) (O.faults tape.new) r.is_kept (text_made (row_of process.old) before r.made))
+        → Reaches (Appends (O.written tape.old) (O.written tape.new)) (O.faults tape.old) (O.faults tape.new) r.is_kept (text_made (row_of process.old) before r.made))
         × (result.why ≡ cause r) × (result.is_full ≡ full_after was_full r.made) × (result.is_acked ≡ is_ack_made r.made) }
     ensures begun { HasBegun reader.new }
     ensures ready { Ready D.told process.new store.new (L.stands ends.new) }

@@ -61,7 +61,7 @@ pub fn serve_low<R: Wait, C: Link, K: Clock, W: Words, D: Disk, L: WaitLowEnd, O
         × Draws (K.reads clock.old) (K.reads clock.new) (moments_of rounds)
         × Draws (W.gives words.old) (W.gives words.new) (words_of rounds)
         × Reaches (Appends (O.written tape.old) (O.written tape.new)) (O.faults tape.old) (O.faults tape.new) (all_kept rounds)
-            (looks_text (row_of process.old) (record_of (made_in rounds)))
+        (looks_text (row_of process.old) (record_of (made_in rounds)))
         × Grows (G.asked gate.old) (G.asked gate.new) (asked_in rounds result.why) }
     ensures ready { Ready D.told process.new store.new (L.stands ends.new) }
     ensures up { is_device result.why ≡ false → (result.why ≡ RecordFailed → ⊥) → is_down process.new ≡ false }
@@ -69,6 +69,7 @@ pub fn serve_low<R: Wait, C: Link, K: Clock, W: Words, D: Disk, L: WaitLowEnd, O
     ensures shape { L.shape ends.new ≡ L.shape ends.old }
     ensures place { L.place ends.new ≡ L.place ends.old }
     ensures link { result.why ≡ LinkFailed → Rose (C.faults link.old) (C.faults link.new) }
+    ensures tape { result.why ≡ RecordFailed → Rose (O.faults tape.old) (O.faults tape.new) }
     ensures counts { D.told.count (low_disk store.old) ≤ D.told.count (low_disk store.new) }
     ensures device { CountsFault result.why (D.told.count (low_disk store.old)) (D.told.count (low_disk store.new)) }
     ensures stopped { result.why ≡ Stopped → Rose (G.stops gate.old) (G.stops gate.new) }

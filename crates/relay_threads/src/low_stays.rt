@@ -3,17 +3,18 @@ ghost use Rattle.std.specs.List.{AllByRecursion};
 ghost use Rattle.std.specs.Io.KnownBytes.{Appends};
 ghost use Rattle.pump_frame.specs.Counts.{Rose};
 ghost use Rattle.pump_link.specs.Tells.{Draws, Grows};
+ghost use Rattle.pump_core.specs.History.{Opening};
 ghost use Rattle.stable_buffer.specs.Low.{low_disk};
 ghost use Rattle.low_process.specs.Ready.{Ready};
 ghost use Rattle.low_process.specs.Looks.{row_of, last_of, is_down};
 ghost use Rattle.relay_threads.specs.declared.low_round.LowWhy.TheVariants.{LinkFailed};
-ghost use Rattle.relay_threads.specs.declared.rounds_end.RoundsEnd.TheVariants.{RecordFailed as RecordBroke};
+ghost use Rattle.relay_threads.specs.declared.rounds_end.RoundsEnd.TheVariants.{Rounds as RoundsMade, RecordFailed as RecordBroke};
 ghost use Rattle.relay_threads.specs.Reaching.{Reaches};
 ghost use Rattle.relay_threads.specs.Workers.{CountsEnd};
 ghost use Rattle.relay_threads.specs.Records.{Made};
 ghost use Rattle.relay_threads.specs.LowRounds.{Round, made_in, looks_of_rounds, moments_of, words_of, reply_bytes, newest_cause};
-ghost use Rattle.relay_threads.specs.LowServes.{Leads, all_sent, text_made};
-ghost use Rattle.relay_threads.specs.LowStays.{Stay, IsGone, IsVisit, visited, IsStay, stay_after, StaysSo, EndsVisit, EndsStay, EndsStays, moment_made, visit_text, is_kept_by, is_left_so, end_by, is_ended, steps_at, steps, answers_at, answers, moments_at, moments_in, words_at, words_in, text_at, text_in, TellsVisit};
+ghost use Rattle.relay_threads.specs.LowServes.{Lives, Leads, all_sent, text_made};
+ghost use Rattle.relay_threads.specs.LowStays.{Stay, IsRecord, IsGone, IsVisit, visited, IsStay, stay_after, StaysSo, EndsVisit, EndsStay, EndsStays, moment_made, visit_text, is_kept_by, is_left_so, end_by, is_ended, steps_at, steps, answers_at, answers, moments_at, moments_in, words_at, words_in, text_at, text_in, TellsVisit};
 
 use crate::gate::Open;
 use crate::low_round::LowWhy;
@@ -232,13 +233,16 @@ pub fn low_rounds<R: Wait, P: Door, K: Clock, W: Words, D: Disk, L: WaitLowEnd, 
         × AllByRecursion (TellsVisit P.Link.gives P.Link.sent P.Link.faults) stays
         × Draws (K.reads clock.old) (K.reads clock.new) (moments_in stays)
         × Draws (W.gives words.old) (W.gives words.new) (words_in stays)
-        × Reaches (Appends (O.written tape.old) (O.written tape.new)) (O.faults tape.old) (O.faults tape.new) (is_kept_by (Some result)) (text_in (row_of process.old) stays) }
+        × Reaches (Appends (O.written tape.old) (O.written tape.new)) (O.faults tape.old) (O.faults tape.new) (is_kept_by (Some result)) (text_in (row_of process.old) stays)
+        × ((o : Opening) → Lives process.old o [] → IsRecord (row_of process.old) stays) }
     ensures port { (n : ℕ) → P.port door.old n → P.port door.new n }
     ensures ready { Ready D.told process.new store.new (L.stands ends.new) }
+    ensures up { result ≡ RoundsMade → is_down process.new ≡ false }
     ensures order { last_of process.new ≤ K.floor clock.new }
     ensures shape { L.shape ends.new ≡ L.shape ends.old }
     ensures place { L.place ends.new ≡ L.place ends.old }
     ensures counts { D.told.count (low_disk store.old) ≤ D.told.count (low_disk store.new) }
+    ensures tape { result ≡ RecordBroke → Rose (O.faults tape.old) (O.faults tape.new) }
     ensures device { CountsEnd (Some result) (D.told.count (low_disk store.old)) (D.told.count (low_disk store.new)) }
 {
     let most = u64::from(rounds);

@@ -34,12 +34,7 @@ pub fn write_opening<O: Sink>(
 
 /// Writes a look's lines, if a record has them: the look before it found the passage full or not. False
 /// where they were not written whole.
-pub fn record_look<O: Sink>(
-    tape: &mut O,
-    row: &SessionRow,
-    made: &LookMade,
-    was_full: bool,
-) -> bool
+pub fn record_look<O: Sink>(tape: &mut O, row: &SessionRow, made: &LookMade, was_full: bool) -> bool
     requires frame { HasLawfulFrame (arrival_of made.now.arrival) }
     requires reply { IfSome made.now.look.reply IsLawfulReply }
     ensures { (before : List Made) → was_full ≡ full_before before
@@ -53,4 +48,3 @@ pub fn record_look<O: Sink>(
     append_look(row, made, &mut lines);
     write_all(tape, lines.as_slice()).is_ok()
 }
-

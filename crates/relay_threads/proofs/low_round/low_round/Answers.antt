@@ -5,6 +5,7 @@ use Rattle.pump_link.proofs.Grown.{Draws-kept, Grows-then}
 use Rattle.pump_link.proofs.Known.{Appends-none}
 use Rattle.low_process.specs.Looks.{arrival_of, is_down, is_idle, hand_of, row_of, StandsFor}
 use Rattle.low_process.specs.Heads.{look_with}
+use Rattle.low_process.specs.Storing.{message_in}
 use Rattle.low_process.specs.Ends.{StandsFitting}
 use Rattle.low_process.proofs.Offering.{stands_for_some}
 use Rattle.pump_frame.specs.declared.row.SessionRow.{SessionRow}
@@ -63,16 +64,15 @@ returns-clause-turn g c =
     let s2 = C.sent c.answer-is_sent.new.link in
     let shown : LookMade = record { moment = m; word = w; arrival = c.arrival_in-arrival.result; look = head } in
     let fine = sym c.if-is_failed.ensures in
-    let down = c.is_down.ensures ∙ down_is (is_down q) (is_down p) looks.0 c.requires.up looks.1.falls in
-    (
+    let down = c.is_down.ensures ∙ down_is (is_down q) (is_down p) looks.0 c.requires.up looks.1.falls in (
       round p _ h.0 heard m w h.3 wanted h.2 q looks.0 l a sent kept n,
       made_turn p _ h.0 heard m w h.3 wanted h.2 q looks.0 l a sent kept n c.look_waiting_into.ensures.row (le_trans c.requires.order c.moment-moment.ensures.from) fine c.arrival_in-arrival.ensures.is looks.1.looks,
       h.4,
       Draws-kept _ _ _ _ h.5 c.answer-is_sent.ensures.gives,
       subst (λ (z : SessionRow). Reaches (Grows s0 s2) (C.faults c.args.link.now) (C.faults c.answer-is_sent.new.link) sent (bytes_of (option_map (frame_of z.id) head.reply)))
-      (c.row.ensures ∙ c.look_waiting_into.ensures.row)
-      (reaches_behind (Grows s0 s2) (Grows s1 s2) (C.faults c.args.link.now) (C.faults c.hear_if-heard.new.link) (C.faults c.answer-is_sent.new.link) sent [] (bytes_of (option_map (frame_of c.row.result.now.id) head.reply))
-      c.hear_if-heard.ensures.later (λ rest g. Grows-then s0 s1 s2 [] rest c.hear_if-heard.ensures.sent g) c.answer-is_sent.ensures.sent),
+          (c.row.ensures ∙ c.look_waiting_into.ensures.row)
+          (reaches_behind (Grows s0 s2) (Grows s1 s2) (C.faults c.args.link.now) (C.faults c.hear_if-heard.new.link) (C.faults c.answer-is_sent.new.link) sent [] (bytes_of (option_map (frame_of c.row.result.now.id) head.reply))
+          c.hear_if-heard.ensures.later (λ rest g. Grows-then s0 s1 s2 [] rest c.hear_if-heard.ensures.sent g) c.answer-is_sent.ensures.sent),
       c.moment-moment.ensures.reads,
       c.word-word.ensures.gives,
       (λ before e.
@@ -93,7 +93,7 @@ returns-clause-ready g c =
 pub returns-clause-counts : goal.returns-clause-counts
 returns-clause-counts g c =
     let looks = c.look_waiting_into.ensures.looks in
-    counts_by g.D.Disk.told _ c.args.store.now c.look_waiting_into.new.store looks.0 looks.1.keeps
+    counts_by g.D.Disk.told (message_in c.args.process.now (arrival_of c.arrival_in-arrival.result)) c.args.store.now c.look_waiting_into.new.store looks.0 looks.1.keeps
 
 pub returns-clause-device : goal.returns-clause-device
 returns-clause-device g c =
@@ -102,7 +102,7 @@ returns-clause-device g c =
     let q = c.look_waiting_into.new.self in
     let down = c.is_down.ensures ∙ down_is (is_down q) (is_down p) looks.0 c.requires.up looks.1.falls in
     fault_by c.record_look-is_kept.result c.is_down.result c.answer-is_sent.result c.faults.result _ _ c.hear_if-heard.result c.why_left.result c.why_left.ensures c.faults.ensures
-    (λ e. rose_by g.D.Disk.told _ c.args.store.now c.look_waiting_into.new.store looks.0 (sym down ∙ e) looks.1.keeps)
+    (λ e. rose_by g.D.Disk.told (message_in c.args.process.now (arrival_of c.arrival_in-arrival.result)) c.args.store.now c.look_waiting_into.new.store looks.0 (sym down ∙ e) looks.1.keeps)
 
 pub returns-clause-link : goal.returns-clause-link
 returns-clause-link g c = λ e.

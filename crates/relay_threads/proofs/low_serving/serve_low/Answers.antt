@@ -1,7 +1,7 @@
-use Rattle.std.proofs.Common.{◌≡◌, ◌≤◌, [], ◌∷◌, length, refl, sym, ap, ◌∙◌, subst, arith, rules}
+use Rattle.std.proofs.Common.{◌≡◌, ◌≤◌, [], ◌∷◌, Some, length, refl, sym, ap, ◌∙◌, subst, arith, rules}
 use Rattle.relay_threads.specs.LowServes.{is_device_in}
 use Rattle.relay_threads.proofs.Reaching.{reaches_whole}
-use Rattle.relay_threads.proofs.LowServing.{acks_few, calm_round, sent_on, kept_on, within_of, serves_more, so_far_none, so_far_more, told_none, sends_more, keeps_more, ended_by, asked_by, asks_more}
+use Rattle.relay_threads.proofs.LowServing.{acks_few, calm_round, sent_on, kept_on, within_of, serves_more, so_far_none, so_far_more, told_none, sends_more, keeps_more, ended_by, broken_round, asked_by, asks_more}
 use Rattle.low_process.specs.Looks.{row_of}
 use Rattle.pump_link.specs.Tells.{Grows}
 use Rattle.pump_link.proofs.Grown.{Draws-then, Grows-then}
@@ -124,3 +124,15 @@ returns-clause-served g c =
       reaches_whole _ _ _ _ _ (kept_on was.rounds f.go_on) was.tape t.lines,
       t.asks,
     )
+
+pub returns-in-Some-clause-tape : goal.returns-in-Some-clause-tape
+returns-in-Some-clause-tape g c = λ e.
+    let was = c.loop-rounds.invariant in
+    let f = was.so_far in
+    let t = c.low_round-turn.ensures.turn in
+    let r = t.0 in
+    let rs = was.rounds in
+    let O = g.O.Sink in
+    let keeps = keeps_more r rs (O.written c.args.tape.now) (O.written c.loop-rounds.tape) (O.written c.low_round-turn.new.tape) (O.faults c.args.tape.now) (O.faults c.loop-rounds.tape) (O.faults c.low_round-turn.new.tape)
+    (row_of c.args.process.now) (row_of c.loop-rounds.process) c.loop-rounds.was_full was.tape f.serves.row f.full was.told.lines t.7 in
+    keeps.cause (broken_round r (sym t.8 ∙ c.in-Some.is ∙ ap (λ w. Some w) e))

@@ -23,8 +23,7 @@ returns-clause-leaves g c =
     let l = look_with (row_of p) c.look_waiting_into.new.head in
     let e = c.look_waiting_into.ensures in
     let O = g.O.Sink in
-    let shown : LookMade = record { moment = m; word = 0; arrival = arrivals.Gone; look = c.look_waiting_into.new.head } in
-    (
+    let shown : LookMade = record { moment = m; word = 0; arrival = arrivals.Gone; look = c.look_waiting_into.new.head } in (
       look_made p q m 0 Gone e.looks.0 l,
       (refl, refl),
       record {
@@ -34,7 +33,7 @@ returns-clause-leaves g c =
       },
       c.moment-moment.ensures.reads,
       subst (λ (z : SessionRow). Reaches (Appends (O.written c.args.tape.now) (O.written c.record_look.new.tape)) (O.faults c.args.tape.now) (O.faults c.record_look.new.tape) c.record_look.result (text_after z [] (made_by z shown)))
-      (c.row.ensures ∙ e.row) (c.record_look.ensures [] refl),
+          (c.row.ensures ∙ e.row) (c.record_look.ensures [] refl),
     )
 
 pub returns-clause-ready : goal.returns-clause-ready

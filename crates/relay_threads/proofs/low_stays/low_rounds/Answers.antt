@@ -4,8 +4,8 @@ use Rattle.pump_link.proofs.Grown.{Draws-then, Grows-then}
 use Rattle.low_process.specs.Looks.{row_of}
 use Rattle.relay_threads.specs.Reaching.{Reaches}
 use Rattle.relay_threads.specs.LowStays.{count, count_at, is_ended, is_kept_by, text_at}
-use Rattle.relay_threads.proofs.Reaching.{reaches_all}
-use Rattle.relay_threads.proofs.LowStaying.{stays_none, stays_more, stays_told_none, lines_more, worker_ends}
+use Rattle.relay_threads.proofs.Reaching.{rose_later, reaches_all}
+use Rattle.relay_threads.proofs.LowStaying.{stays_none, stays_more, stays_told_none, lines_more, worker_ends, no_rounds, recorded_as}
 use Rattle.relay_threads.proofs.low_stays.low_rounds.Goals as goal
 
 pub loop-made-init : goal.loop-made-init
@@ -48,6 +48,7 @@ returns-in-Some-clause-rounds g c =
       Draws-then _ _ _ _ _ t.moments s.6,
       Draws-then _ _ _ _ _ t.words s.7,
       lines_more _ _ _ _ _ _ _ _ x past _ was.tape was.so.row t.lines line,
+      recorded_as c.args.process.now c.stay-turn.new.process (x ∷ past) (stays_more c.args.process.now c.loop-made.process c.stay-turn.new.process x past (was.over c.loop-made-test.true) was.so s.1),
     )
 
 pub returns-clause-rounds : goal.returns-clause-rounds
@@ -63,6 +64,7 @@ returns-clause-rounds g c =
       t.moments,
       t.words,
       reaches_all _ _ _ _ was.tape t.lines,
+      recorded_as c.args.process.now c.loop-made.process was.stays was.so,
     )
 
 pub loop-made-preserved : goal.loop-made-preserved
@@ -102,3 +104,12 @@ loop-made-preserved g c =
       counts = omega (arith, was.counts, c.stay-turn.ensures.counts);
       tape = lines.later;
     }
+
+pub returns-in-Some-clause-tape : goal.returns-in-Some-clause-tape
+returns-in-Some-clause-tape g c = λ e.
+    let was = c.loop-made.invariant in
+    let s = c.stay-turn.ensures.stay in
+    rose_later _ _ _ was.tape (s.8.cause (ap is_kept_by (c.in-Some.is ∙ ap (λ w. Some w) e)))
+
+pub returns-in-Some-clause-up : goal.returns-in-Some-clause-up
+returns-in-Some-clause-up g c = λ e. absurd (no_rounds c.stay-turn.ensures.stay.0 (sym c.stay-turn.ensures.stay.2.end ∙ c.in-Some.is ∙ ap (λ w. Some w) e))

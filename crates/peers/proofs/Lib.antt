@@ -1,0 +1,4 @@
+pub mod Hearing
+pub mod Outgoing
+pub mod Taking
+pub mod Turning

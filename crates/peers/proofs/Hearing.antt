@@ -146,3 +146,10 @@ pub over_earlier : (looks : List Looked) (fs : List Frame) (a b now : ℕ) → a
 over_earlier looks fs a b now le (inl bad) = inl bad
 over_earlier looks fs a b now le (inr (inl ended)) = inr (inl ended)
 over_earlier looks fs a b now le (inr (inr (ends, rose))) = inr (inr (ends, omega (arith, le, rose)))
+
+-- behind what was heard, whose last frame ended the looks so far
+pub over_more : (xs ys : List Looked) (fs : List Frame) (a b now : ℕ) → a ≤ b → HearsJust xs fs → IsOver ys [] b now → IsOver (xs ++ ys) fs a now
+over_more xs ys fs a b now le h over = over_earlier (xs ++ ys) fs a b now le (subst (λ (l : List Frame). IsOver (xs ++ ys) l b now) (append-nil fs) (over_join xs ys fs [] b now h over))
+
+pub hears_more : (xs ys : List Looked) (fs : List Frame) → HearsJust xs fs → Hears ys [] → Hears (xs ++ ys) fs
+hears_more xs ys fs h hears = subst (λ (l : List Frame). Hears (xs ++ ys) l) (append-nil fs) (hears_join xs ys fs [] h hears)

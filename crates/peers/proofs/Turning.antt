@@ -56,12 +56,12 @@ pub keeps : {D : Type 0} (m : Meaning D) (row : SessionRow) (old new : Receiver 
 keeps m row old new heard x end ready not_device all was =
     let part = subst (λ (l : List (List ℕ)). GrowsPart m row (recv_disk old) (recv_disk new) l) (sym all) (whole_part m row (recv_disk old) (recv_disk new) (messages x.turns) was.grows) in
     record {
-      place = λ no. was.place;
-      ready = λ no. was.ready;
-      closed = λ yes. cc;
+      place = λ nay. was.place;
+      ready = λ nay. was.ready;
+      closed = λ wanted. cc;
       same_row = was.same_row;
       same_size = was.same_size;
-      grown = λ no told before is. was.grows.stands told before is;
+      grown = λ nay told before is. was.grows.stands told before is;
       reads = part.reads;
       during = in_call m row (recv_disk old) (recv_disk new) (attempted x end) ready.settled part;
     }
@@ -122,14 +122,14 @@ module _ {D : Type 0} (m : Meaning D) (row : SessionRow) (most left left' : ℕ)
   }
 
   -- the last frame was a turn, whose line or answer did not go out
-  last_turn : (t : Turn) (sent printed : List ℕ) → Reception
+  abbrev last_turn : (t : Turn) (sent printed : List ℕ) → Reception
   last_turn t sent printed = record { turns = t ∷ was.turns; heard = was.heard ++ looks; looks = []; refused = None; left = left'; sent = sent; printed = printed }
 
   turn_ends : (f : Frame) (t : Turn) (sent printed : List ℕ) (n : Counts) (end : ReceiveEnd) → IsRecvReady m old → HearsJust looks (f ∷ []) → frame_in t ≡ f → MakesTurn m row t now new
       → is_device end ≡ false → attempted (last_turn t sent printed) end ≡ messages (t ∷ was.turns)
       → EndsBy row (recv_size old) (recv_count old) (place_after (place_of old) (t ∷ was.turns)) (last_turn t sent printed) n end
       → Grows s s2 sent → Appends w w2 printed → Received m row most g g2 s s2 w w2 old new n end
-  turn_ends f t sent printed n end ready hears is made no all ends sends prints =
+  turn_ends f t sent printed n end ready hears is made nay all ends sends prints =
       let x = last_turn t sent printed in
       let now_turned = turned_more m row old now new was.turns was.heard looks f t was.turned hears is made in
       let none : (was.heard ++ looks) ++ [] ≡ was.heard ++ looks = append-nil (was.heard ++ looks) in (
@@ -138,11 +138,11 @@ module _ {D : Type 0} (m : Meaning D) (row : SessionRow) (most left left' : ℕ)
         subst (Draws g g2) (sym none) now_gave,
         sends,
         prints,
-        keeps m row old new (was.heard ++ looks) x end ready no all now_turned,
+        keeps m row old new (was.heard ++ looks) x end ready nay all now_turned,
       )
 
   -- the last frame was no turn
-  last_frame : (refused : Option Frame) → Reception
+  abbrev last_frame : (refused : Option Frame) → Reception
   last_frame refused = record { turns = was.turns; heard = was.heard; looks = looks; refused = refused; left = left'; sent = sendings row.id (recv_count old) was.turns; printed = lines row.id was.turns }
 
   wait_told : (refused : Option Frame) (n : Counts) (end : ReceiveEnd) → EndsBy row (recv_size old) (recv_count old) (place_after (place_of old) was.turns) (last_frame refused) n end
@@ -152,13 +152,13 @@ module _ {D : Type 0} (m : Meaning D) (row : SessionRow) (most left left' : ℕ)
   pub wait_ends : (n : Counts) (end : ReceiveEnd) → IsRecvReady m old → is_device end ≡ false → attempted (last_frame None) end ≡ messages was.turns
       → EndsBy row (recv_size old) (recv_count old) (place_after (place_of old) was.turns) (last_frame None) n end
       → Grows s1 s2 [] → Received m row most g g2 s s2 w w1 old now n end
-  wait_ends n end ready no all ends sends = (
+  wait_ends n end ready nay all ends sends = (
     last_frame None,
     wait_told None n end ends,
     now_gave,
     none_sent [] refl sends,
     was.did_print,
-    keeps m row old now was.heard (last_frame None) end ready no all was.turned,
+    keeps m row old now was.heard (last_frame None) end ready nay all was.turned,
   )
 
   pub over_ends : (b a now_link out now_out other now_other : ℕ) → IsRecvReady m old → a ≤ b → IsOver looks [] b now_link → Grows s1 s2 []
@@ -172,17 +172,17 @@ module _ {D : Type 0} (m : Meaning D) (row : SessionRow) (most left left' : ℕ)
   refused_ends : (f : Frame) (n : Counts) (end : ReceiveEnd) → IsRecvReady m old → new ≡ now → is_device end ≡ false → attempted (last_frame (Some f)) end ≡ messages was.turns
       → EndsBy row (recv_size old) (recv_count old) (place_after (place_of old) was.turns) (last_frame (Some f)) n end
       → (sent printed : List ℕ) → sent ≡ [] → printed ≡ [] → Grows s1 s2 sent → Appends w1 w2 printed → Received m row most g g2 s s2 w w2 old new n end
-  refused_ends f n end ready same no all ends sent printed no_sent no_printed sends prints = (
+  refused_ends f n end ready same nay all ends sent printed no_sent no_printed sends prints = (
     last_frame (Some f),
     wait_told (Some f) n end ends,
     now_gave,
     none_sent sent no_sent sends,
     none_printed printed no_printed prints,
-    subst (λ (r : Receiver D). KeepsReceiver m row old r (last_frame (Some f)) end) (sym same) (keeps m row old now was.heard (last_frame (Some f)) end ready no all was.turned),
+    subst (λ (r : Receiver D). KeepsReceiver m row old r (last_frame (Some f)) end) (sym same) (keeps m row old now was.heard (last_frame (Some f)) end ready nay all was.turned),
   )
 
   refuses : (f : Frame) → HearsJust looks (f ∷ []) → is_wanted row f ≡ true → Refuses row (recv_count old) (last_frame (Some f)) f
-  refuses f hears yes = record { is = refl; heard = hears; wanted = yes; sent = refl; printed = refl }
+  refuses f hears wanted = record { is = refl; heard = hears; wanted = wanted; sent = refl; printed = refl }
 
   here : place_of now ≡ place_after (place_of old) was.turns
   here = was.turned.place
@@ -191,29 +191,29 @@ module _ {D : Type 0} (m : Meaning D) (row : SessionRow) (most left left' : ℕ)
       → recv_is_open new ≡ false → recv_row new ≡ recv_row now → recv_size new ≡ recv_size now → Rose n.other n.now_other → faults ≡ n.now_other
       → GrowsPart m row (recv_disk now) (recv_disk new) (f.payload ∷ []) → (sent printed : List ℕ) → sent ≡ [] → printed ≡ [] → Grows s1 s2 sent → Appends w1 w2 printed
       → Received m row most g g2 s s2 w w2 old new n (Device faults)
-  device_ends f n faults ready hears yes next closed same_row same_size rose is grows sent printed no_sent no_printed sends prints =
+  device_ends f n faults ready hears wanted next closed same_row same_size rose is grows sent printed no_sent no_printed sends prints =
       let part = grows_part m row (recv_disk old) (recv_disk now) (recv_disk new) (messages was.turns) (f.payload ∷ []) was.turned.grows grows in
       let next' : IsNext (recv_size old) (place_after (place_of old) was.turns) f =
       subst (λ (p : Place). IsNext (recv_size old) p f) here (subst (λ k. IsNext k (place_of now) f) was.turned.same_size next) in (
         last_frame (Some f),
-        wait_told (Some f) n (Device faults) (f, refuses f hears yes, next', rose, is),
+        wait_told (Some f) n (Device faults) (f, refuses f hears wanted, next', rose, is),
         now_gave,
         none_sent sent no_sent sends,
         none_printed printed no_printed prints,
         record {
-          place = λ no. cc;
-          ready = λ no. cc;
-          closed = λ yes'. closed;
+          place = λ nay. cc;
+          ready = λ nay. cc;
+          closed = λ closes. closed;
           same_row = same_row ∙ was.turned.same_row;
           same_size = same_size ∙ was.turned.same_size;
-          grown = λ no. cc;
+          grown = λ nay. cc;
           reads = part.reads;
           during = in_call m row (recv_disk old) (recv_disk new) (messages was.turns ++ f.payload ∷ []) ready.settled part;
         },
       )
 
   -- the counts of the call, after those of its last part
-  counts : ℕ → ℕ → ℕ → ℕ → Receiver D → Counts
+  abbrev counts : ℕ → ℕ → ℕ → ℕ → Receiver D → Counts
   counts link now_link out now_out from = record { link = link; now_link = now_link; out = out; now_out = now_out; other = m.count (recv_disk from); now_other = m.count (recv_disk new) }
 
   pub frame_ends : (f : Frame) (x : Step) (a b now_link c d now_out : ℕ) (end : ReceiveEnd) → IsRecvReady m old → HearsJust looks (f ∷ []) → a ≤ b → c ≤ d
@@ -227,17 +227,17 @@ module _ {D : Type 0} (m : Meaning D) (row : SessionRow) (most left left' : ℕ)
       turn_ends f t (sendings row.id (recv_count old) was.turns) (lines row.id was.turns ++ x.printed) (counts a now_link c now_out old) Write ready hears is made refl refl
       (record { none = refl; looks = refl }, (x.printed, front, refl, refl), rose_earlier c d now_out out_low rose)
       (none_sent x.sent none sends) (Appends-trans w w1 w2 (lines row.id was.turns) x.printed was.did_print prints)
-  frame_ends f x a b now_link c d now_out (Device faults) ready hears low out_low (yes, next, closed, same_row, same_size, rose, is, grows, (no_sent, no_printed)) sends prints =
-      device_ends f (counts a now_link c now_out old) faults ready hears yes next closed same_row same_size
+  frame_ends f x a b now_link c d now_out (Device faults) ready hears low out_low (wanted, next, closed, same_row, same_size, rose, is, grows, (no_sent, no_printed)) sends prints =
+      device_ends f (counts a now_link c now_out old) faults ready hears wanted next closed same_row same_size
       (rose_earlier (m.count (recv_disk old)) (m.count (recv_disk now)) (m.count (recv_disk new)) was.turned.grows.counts rose) is grows x.sent x.printed no_sent no_printed sends prints
-  frame_ends f x a b now_link c d now_out (Ahead number count) ready hears low out_low ((yes, same), high, is, expected, (no_sent, no_printed)) sends prints =
+  frame_ends f x a b now_link c d now_out (Ahead number count) ready hears low out_low ((wanted, same), high, is, expected, (no_sent, no_printed)) sends prints =
       refused_ends f (counts a now_link c now_out old) (Ahead number count) ready same refl refl
-      (f, refuses f hears yes, subst (λ (p : Place). p.count < f.number) here high, is, expected ∙ ap (λ (p : Place). p.count) here) x.sent x.printed no_sent no_printed sends prints
-  frame_ends f x a b now_link c d now_out (LogFull end size limit) ready hears low out_low ((yes, same), is, long, at, of, most_is, (no_sent, no_printed)) sends prints =
+      (f, refuses f hears wanted, subst (λ (p : Place). p.count < f.number) here high, is, expected ∙ ap (λ (p : Place). p.count) here) x.sent x.printed no_sent no_printed sends prints
+  frame_ends f x a b now_link c d now_out (LogFull end size limit) ready hears low out_low ((wanted, same), is, long, at, of, most_is, (no_sent, no_printed)) sends prints =
       refused_ends f (counts a now_link c now_out old) (LogFull end size limit) ready same refl refl
       (
         f,
-        refuses f hears yes,
+        refuses f hears wanted,
         is ∙ ap (λ (p : Place). p.count) here,
         subst (λ (p : Place). recv_size old < p.end + 2 + length f.payload) here (subst (λ k. k < recv_end now + 2 + length f.payload) was.turned.same_size long),
         at ∙ ap (λ (p : Place). p.end) here,

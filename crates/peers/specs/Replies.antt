@@ -40,4 +40,4 @@ AsksFor session ask wanted w left sent before now Unanswered = IsUnfinished sess
 -- a message was sent: it was acknowledged and that was printed, or it ended the call
 abbrev pub Sends : Frame → Last → Counts → Option SendEnd → Type 0
 Sends f last n None = (ack : Frame) × Answers f.session (wanted.Ack f.number) last.wait ack × (last.sent ≡ spelling f) × (last.printed ≡ ack_line f.number)
-Sends f last n (Some end) = MessageEnds f.session f.number f.payload last n end
+Sends f last n (Some end) = MessageEnds f last n end

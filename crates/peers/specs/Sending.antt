@@ -156,10 +156,10 @@ pub record IsIdle (last : Last) : Type 0 where
   pub printed : last.printed ≡ []
 
 -- the message of a line ended the call: it was not acknowledged, or that could not be printed
-abbrev pub MessageEnds : ℕ → ℕ → List ℕ → Last → Counts → SendEnd → Type 0
-MessageEnds session number payload last n Write = (ack : Frame) × Answers session (wanted.Ack number) last.wait ack
-    × (last.sent ≡ spelling (data_frame session number payload)) × IsFront last.printed (ack_line number) × Rose n.out n.now_out
-MessageEnds session number payload last n end = AskEnds session (data_frame session number payload) (wanted.Ack number) number last n end
+abbrev pub MessageEnds : Frame → Last → Counts → SendEnd → Type 0
+MessageEnds f last n Write = (ack : Frame) × Answers f.session (wanted.Ack f.number) last.wait ack × (last.sent ≡ spelling f) × IsFront last.printed (ack_line f.number)
+    × Rose n.out n.now_out
+MessageEnds f last n end = AskEnds f.session f (wanted.Ack f.number) f.number last n end
 
 -- what is to come of the script begins with the line of a message that is to be sent, and it ended the call
 pub record LineEnds (session first number : ℕ) (rest : Option (List ℕ)) (last : Last) (n : Counts) (end : SendEnd) : Type 0 where
@@ -169,7 +169,7 @@ pub record LineEnds (session first number : ℕ) (rest : Option (List ℕ)) (las
   pub is : IsPayload payload line
   pub after : Option (List ℕ)
   pub comes : Consumes rest after (line ++ 10 ∷ [])
-  pub ends : MessageEnds session number payload last n end
+  pub ends : MessageEnds (data_frame session number payload) last n end
 
 -- why it ended after so many turns, where `rest` is what was then to come of the script
 abbrev pub EndsBy : ℕ → ℕ → ℕ → Option (List ℕ) → Last → Counts → SendEnd → Type 0

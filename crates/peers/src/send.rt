@@ -2,7 +2,6 @@ ghost use Rattle.std.specs.Prelude.{◌≡◌, ℕ, ◌+◌, ◌≤◌, List, �
 ghost use Rattle.std.specs.Io.KnownBytes.{Appends, Consumes};
 ghost use Rattle.pump_frame.specs.Counts.{Rose};
 ghost use Rattle.pump_frame.specs.Frames.{IsLawful};
-ghost use Rattle.pump_frame.specs.declared.frame.Kind.TheVariants.{Data};
 ghost use Rattle.pump_link.specs.Tells.{Draws, Grows};
 ghost use Rattle.peers.specs.Outputs.{PrintsPart};
 ghost use Rattle.peers.specs.Sending.{Turn, AreTurns, Last, EndsBy, Sending, Sends, ack_line, looks_of, sendings, printings, lines, all_looks, all_sent, all_printed};
@@ -56,7 +55,6 @@ fn send_message<C: Link, O: Sink>(
     out: &mut O,
 ) -> Option<SendEnd>
     requires lawful { IsLawful frame.now }
-    requires kind { frame.now.kind ≡ Data }
     ensures line { (last : Last) × SendsMessage frame.now last (record { link = C.faults link.old; now_link = C.faults link.new; out = O.faults out.old; now_out = O.faults out.new; other = 0; now_other = 0 }) result
         × (last.left ≡ left.new) × (left.old ≡ left.new + length last.wait.looks)
         × Draws (C.gives link.old) (C.gives link.new) last.wait.looks
@@ -122,10 +120,12 @@ fn send_lines<C: Link, I: Source, O: Sink>(
             return SendEnd::Script { line: u32::MAX };
         }
         frame.number = u64::from(number);
-        if frame.number >= first {
-            if let Some(end) = send_message(&frame, left, link, out) {
-                return end;
-            }
+        if frame.number < first {
+            number += 1;
+            continue;
+        }
+        if let Some(end) = send_message(&frame, left, link, out) {
+            return end;
         }
         number += 1;
     }

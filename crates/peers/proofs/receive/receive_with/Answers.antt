@@ -1,4 +1,4 @@
-use Rattle.std.proofs.Common.{rules, ◌≡◌, ◌∙◌, ◌≤◌, [], refl, sym, arith}
+use Rattle.std.proofs.Common.{rules, ◌≡◌, ◌∙◌, ◌≤◌, [], refl, sym, arith, None}
 use Rattle.pump_link.proofs.Grown.{Draws-kept, Grows-after}
 use Rattle.peers.proofs.Outgoing.{whole_sent}
 use Rattle.peers.proofs.Turning.{so_far_none, turn_more, frame_ends, over_ends, used_ends, attach_fails}
@@ -44,7 +44,7 @@ frames-preserved g c =
     let w = c.in-Frame.ensures.wait in
     let s = c.in_default.ensures.step in
     record {
-      so_far = turn_more _ _ _ _ _ _ _ _ _ _ _ _ _ _ _ _ _ w.0 was.so_far w.2 (Draws-kept _ _ _ _ w.1 c.serve_frame.ensures.gives) c.in-Frame.frame s.0 _ w.3 s.1 (Grows-after _ _ _ _ c.await_frame.ensures.sent s.2) s.3;
+      so_far = turn_more _ _ _ _ _ _ _ _ _ _ _ _ _ _ _ _ _ w.0 was.so_far w.2 (Draws-kept _ _ _ _ w.1 c.serve_frame.ensures.gives) c.in-Frame.frame s.0 (record { link = 0; now_link = 0; out = 0; now_out = 0; other = 0; now_other = 0 }) w.3 s.1 (Grows-after _ _ _ _ c.await_frame.ensures.sent s.2) s.3;
       later = omega (arith, was.later, c.await_frame.ensures.later, c.serve_frame.ensures.later);
       out_later = omega (arith, was.out_later, c.serve_frame.ensures.out_later);
     }
@@ -53,10 +53,10 @@ pub returns-in-Over : goal.returns-in-Over
 returns-in-Over g c =
     let was = c.frames.invariant in
     let w = c.in-Over.ensures.wait in
-    record { receives = over_ends _ _ _ _ _ _ _ _ _ _ _ _ _ _ _ _ (λ x. Unit {0}) w.0 was.so_far w.2 w.1 _ _ _ _ _ _ _ c.requires.ready was.later w.3 c.await_frame.ensures.sent }
+    record { receives = over_ends _ _ _ _ _ _ _ _ _ _ _ _ _ None _ _ c.frames.receiver w.0 was.so_far w.2 w.1 _ _ _ _ _ _ _ c.requires.ready was.later w.3 c.await_frame.ensures.sent }
 
 pub returns-in-Used : goal.returns-in-Used
 returns-in-Used g c =
     let was = c.frames.invariant in
     let w = c.in-Used.ensures.wait in
-    record { receives = used_ends _ _ _ _ _ _ _ _ _ _ _ _ _ _ _ _ (λ x. Unit {0}) w.0 was.so_far w.2 w.1 _ c.requires.ready w.3.0 w.3.1 c.await_frame.ensures.sent }
+    record { receives = used_ends _ _ _ _ _ _ _ _ _ _ _ _ _ None _ _ c.frames.receiver w.0 was.so_far w.2 w.1 _ c.requires.ready w.3.0 w.3.1 c.await_frame.ensures.sent }

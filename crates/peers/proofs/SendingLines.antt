@@ -1,6 +1,8 @@
 -- The lines of a sender, one after another.
-use Rattle.std.proofs.Common.{◌≡◌, ◌≤◌, ◌<◌, inl, inr, ℕ, ◌+◌, List, [], ◌∷◌, ◌++◌, length, Option, Some, None, refl, sym, ap, ◌∙◌, subst, append_assoc, append-nil, arith, length-append}
-use Rattle.std.specs.Io.KnownBytes.{Appends, Consumes}
+use Rattle.std.proofs.Common.{◌≡◌, ◌≤◌, ◌<◌, ◌⊎◌, inl, inr, min, ℕ, ◌+◌, List, [], ◌∷◌, ◌++◌, length, Option, Some, None, IfSome, refl, sym, ap, ◌∙◌, subst, append_assoc, append-nil, arith, length-append}
+use Rattle.std.specs.Io.KnownBytes.{prepend_known, Appends, Consumes, IsAtEnd}
+use Rattle.script_reader.specs.Lines.{IsSome}
+use Rattle.pump_frame.specs.declared.row.SessionRow.{SessionRow}
 use Rattle.std.proofs.KnownBytes.{Appends-nil, Appends-trans, Consumes-trans}
 use Rattle.pump_frame.specs.Counts.{Rose}
 use Rattle.pump_frame.specs.declared.frame.Frame.{Frame}
@@ -15,9 +17,9 @@ use Rattle.peers.specs.declared.send.SendEnd.{SendEnd}
 use Rattle.peers.specs.declared.send.SendEnd.TheVariants.{Done, Read, Write, Script, Refused, Unfinished}
 use Rattle.peers.specs.Looks.{IsOver}
 use Rattle.peers.specs.Outputs.{Counts, IsFront}
-use Rattle.peers.specs.Payloads.{IsPayload}
+use Rattle.peers.specs.Payloads.{IsPayload, IsFaulty}
 use Rattle.peers.specs.Replies.{Sends as SendsMessage}
-use Rattle.peers.specs.Sending.{Turn, Skipped, Acked, Wait, Last, Answers, IsUnanswered, IsUnfinished, AskEnds, MessageEnds, LineEnds, EndsBy, AreTurns, data_frame, ack_line, lines, looks_of, sendings, printings}
+use Rattle.peers.specs.Sending.{Turn, Skipped, Acked, Wait, Last, Answers, IsUnanswered, IsUnfinished, AskEnds, MessageEnds, LineEnds, EndsBy, AreTurns, data_frame, ack_line, lines, looks_of, sendings, printings, hello_frame, Sending, Ungreeted, Greeted, Sends, all_looks, all_sent, all_printed}
 use Rattle.peers.proofs.Asking.{rose_earlier}
 use Rattle.peers.proofs.Hearing.{over_earlier}
 
@@ -67,8 +69,9 @@ line_earlier session first number rest last a b now_link c now_out x y (Unfinish
 
 -- ---- turns ----
 
-pub record SoFar (session first most left : ℕ) (g g1 : List Looked → Type 0) (s s1 : List ℕ → Type 0) (all rest w w1 : Option (List ℕ)) : Type 0 where
+pub record SoFar (session first most left number : ℕ) (g g1 : List Looked → Type 0) (s s1 : List ℕ → Type 0) (all rest w w1 : Option (List ℕ)) : Type 0 where
   pub turns : List Turn
+  pub count : number ≡ length turns
   pub are : AreTurns session first turns
   pub used : most ≡ left + length (looks_of turns)
   pub gave : Draws g g1 (looks_of turns)
@@ -86,8 +89,8 @@ Told session first most g g' s s' all w w' n end = (turns : List Turn) × (last 
 abbrev pub idle : ℕ → Last
 idle left = record { wait = record { looks = []; passed = [] }; left = left; sent = []; printed = [] }
 
-module _ (session first most left : ℕ) (g g1 : List Looked → Type 0) (s s1 : List ℕ → Type 0) (all rest w w1 : Option (List ℕ)) (was : SoFar session first most left g g1 s s1 all rest w w1) where
-  pub idle_ends : (n : Counts) (end : SendEnd) → EndsBy session first (length was.turns) rest (idle left) n end → Told session first most g g1 s s1 all w w1 n end
+module _ (session first most left number : ℕ) (g g1 : List Looked → Type 0) (s s1 : List ℕ → Type 0) (all rest w w1 : Option (List ℕ)) (was : SoFar session first most left number g g1 s s1 all rest w w1) where
+  idle_ends : (n : Counts) (end : SendEnd) → EndsBy session first (length was.turns) rest (idle left) n end → Told session first most g g1 s s1 all w w1 n end
   idle_ends n end ends =
       let none : looks_of was.turns ++ [] ≡ looks_of was.turns = append-nil (looks_of was.turns) in (
         was.turns,
@@ -102,10 +105,24 @@ module _ (session first most left : ℕ) (g g1 : List Looked → Type 0) (s s1 :
         subst (Appends w w1) (sym (append-nil (printings was.turns))) was.did_print,
       )
 
+  pub done_ends : (n : Counts) → IsAtEnd rest → Told session first most g g1 s s1 all w w1 n Done
+  done_ends n at_end = idle_ends n Done (record { looks = refl; sent = refl; printed = refl }, at_end)
+
+  pub read_ends : (n : Counts) → Rose n.other n.now_other → Told session first most g g1 s s1 all w w1 n Read
+  read_ends n rose = idle_ends n Read (record { looks = refl; sent = refl; printed = refl }, rose)
+
+  pub script_ends : (n : Counts) (line : ℕ) → line ≡ min (number + 1) 4294967295 → IfSome rest IsFaulty ⊎ ((number ≡ 4294967295) × IfSome rest IsSome) → Told session first most g g1 s s1 all w w1 n (Script line)
+  script_ends n line is why = idle_ends n (Script line) (
+    record { looks = refl; sent = refl; printed = refl },
+    is ∙ ap (λ k. min (k + 1) 4294967295) was.count,
+    subst (λ k. IfSome rest IsFaulty ⊎ ((k ≡ 4294967295) × IfSome rest IsSome)) was.count why,
+  )
+
   -- a line whose number is below WELCOME's
-  pub skip : (payload line : List ℕ) (after : Option (List ℕ)) → length was.turns < first → IsPayload payload line → Consumes rest after (line ++ 10 ∷ []) → SoFar session first most left g g1 s s1 all after w w1
+  pub skip : (payload line : List ℕ) (after : Option (List ℕ)) → length was.turns < first → IsPayload payload line → Consumes rest after (line ++ 10 ∷ []) → SoFar session first most left (number + 1) g g1 s s1 all after w w1
   skip payload line after below is comes = record {
     turns = Skipped payload line ∷ was.turns;
+    count = omega (arith, was.count);
     are = ((below, is), was.are);
     used = was.used ∙ ap (λ (l : List Looked). left + length l) (sym (append-nil (looks_of was.turns)));
     gave = subst (Draws g g1) (sym (append-nil (looks_of was.turns))) was.gave;
@@ -118,12 +135,13 @@ module _ (session first most left : ℕ) (g g1 : List Looked → Type 0) (s s1 :
       (left' : ℕ) (g2 : List Looked → Type 0) (s2 : List ℕ → Type 0) (w2 : Option (List ℕ)) (last : Last) (left_is : last.left ≡ left') (used : left ≡ left' + length last.wait.looks)
       (gave : Draws g1 g2 last.wait.looks) (sends : Grows s1 s2 last.sent) (prints : Appends w1 w2 last.printed) where
     -- one that was acknowledged
-    pub acked : (n : Counts) → SendsMessage f last n None → SoFar session first most left' g g2 s s2 all after w w2
+    pub acked : (n : Counts) → SendsMessage f last n None → SoFar session first most left' (number + 1) g g2 s s2 all after w w2
     acked n (ack, answer, sent, printed) =
         let number_is : f.number ≡ length was.turns = ap (λ (x : Frame). x.number) frame_is in
         let here : Answers session (wanted.Ack (length was.turns)) last.wait ack = subst (λ (x : Frame). Answers x.session (wanted.Ack x.number) last.wait ack) frame_is answer in
         record {
           turns = Acked payload line last.wait ack ∷ was.turns;
+          count = omega (arith, was.count);
           are = ((low, is, here), was.are);
           used = omega (arith, was.used, used, length-append (looks_of was.turns) last.wait.looks);
           gave = Draws-then g g1 g2 (looks_of was.turns) last.wait.looks was.gave gave;
@@ -157,3 +175,47 @@ module _ (session first most left : ℕ) (g g1 : List Looked → Type 0) (s s1 :
     message_ends n Done ends = absurd ends
     message_ends n Read ends = absurd ends
     message_ends n (Script line) ends = absurd ends
+
+pub consumes_start : (a : Option (List ℕ)) (held : List ℕ) → held ≡ [] → Consumes a (prepend_known held a) []
+consumes_start None held none = tt
+consumes_start (Some xs) held none = sym (ap (λ (l : List ℕ). l ++ xs) none)
+
+pub comes_some : (rest after : Option (List ℕ)) (line : List ℕ) → Consumes rest after (line ++ 10 ∷ []) → IfSome rest IsSome
+comes_some None after line c = tt
+comes_some (Some xs) None line c = absurd c
+comes_some (Some xs) (Some ys) line c = λ none. let l = ap length (sym none ∙ c) in absurd (omega (arith, l, length-append (line ++ 10 ∷ []) ys, length-append line (10 ∷ [])))
+
+-- ---- the whole call ----
+
+-- what one call did and told
+abbrev pub Sent : SessionRow → ℕ → (List Looked → Type 0) → (List Looked → Type 0) → (List ℕ → Type 0) → (List ℕ → Type 0) → Option (List ℕ) → Option (List ℕ) → Option (List ℕ) → Counts → SendEnd → Type 0
+Sent row most g g' s s' all w w' n end = (x : Sending) × Sends row most all x n end × Draws g g' (all_looks x) × Grows s s' (all_sent row x) × Appends w w' (all_printed x)
+
+pub ungreeted : (row : SessionRow) (most : ℕ) (g g1 : List Looked → Type 0) (s s1 : List ℕ → Type 0) (all w : Option (List ℕ)) (hello : Frame) (n : Counts) (end : SendEnd) (last : Last) → hello ≡ hello_frame row
+    → AskEnds hello.session hello wanted.Welcome 0 last n end → last.printed ≡ [] → most ≡ last.left + length last.wait.looks → Draws g g1 last.wait.looks → Grows s s1 last.sent → Sent row most g g1 s s1 all w w n end
+ungreeted row most g g1 s s1 all w hello n end last is ends none used gave sends = (
+  Ungreeted last,
+  (subst (λ (f : Frame). AskEnds f.session f wanted.Welcome 0 last n end) is ends, used),
+  gave,
+  sends,
+  subst (Appends w w) (sym none) (Appends-nil w),
+)
+
+pub greeted : (row : SessionRow) (most mid : ℕ) (g g1 g2 : List Looked → Type 0) (s s1 s2 : List ℕ → Type 0) (all w w' : Option (List ℕ)) (hello welcome : Frame) (wait : Wait) (first : ℕ) (sent : List ℕ)
+    (a b now_link out now_out other now_other : ℕ) (end : SendEnd) → hello ≡ hello_frame row → Answers hello.session wanted.Welcome wait welcome → first ≡ welcome.number → sent ≡ spelling hello
+    → most ≡ mid + length wait.looks → Draws g g1 wait.looks → Grows s s1 sent → a ≤ b → Told row.id first mid g1 g2 s1 s2 all w w' (counts b now_link out now_out other now_other) end
+    → Sent row most g g2 s s2 all w w' (counts a now_link out now_out other now_other) end
+greeted row most mid g g1 g2 s s1 s2 all w w' hello welcome wait first sent a b now_link out now_out other now_other end is answers first_is sent_is used gave sends low (turns, last, rest, are, more_used, read, ends, more_gave, more_sends, prints) = (
+  Greeted wait welcome turns last,
+  (
+    subst (λ (f : Frame). Answers f.session wanted.Welcome wait welcome) is answers,
+    subst (λ k. AreTurns row.id k turns) first_is are,
+    omega (arith, used, more_used, length-append wait.looks (looks_of turns ++ last.wait.looks)),
+    rest,
+    read,
+    subst (λ k. EndsBy row.id k (length turns) rest last (counts a now_link out now_out other now_other) end) first_is (line_earlier row.id first (length turns) rest last a b now_link out now_out other now_other end low ends),
+  ),
+  Draws-then g g1 g2 wait.looks (looks_of turns ++ last.wait.looks) gave more_gave,
+  Grows-then s s1 s2 (spelling (hello_frame row)) (sendings row.id turns ++ last.sent) (subst (Grows s s1) (sent_is ∙ ap spelling is) sends) more_sends,
+  prints,
+)

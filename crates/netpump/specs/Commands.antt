@@ -26,18 +26,26 @@ is_live (Receive table session looks) = true
 is_live (Send table session looks) = true
 is_live _ = false
 
--- those that `live` runs so far
-abbrev pub is_run_live : Command → Bool
-is_run_live (Race seed count times) = true
-is_run_live _ = false
-
 -- the words are no command that `batch` runs
 abbrev pub IsNoCommand : List (List ℕ) → Type 0
 IsNoCommand words = (c : Command) → is_live c ≡ false → AreWordsOf words c → ⊥
 
 -- .. that `live` runs
 abbrev pub IsNoLiveCommand : List (List ℕ) → Type 0
-IsNoLiveCommand words = (c : Command) → is_run_live c ≡ true → AreWordsOf words c → ⊥
+IsNoLiveCommand words = (c : Command) → is_live c ≡ true → AreWordsOf words c → ⊥
+
+-- the words are those of a command over a link or doors
+abbrev pub IsServe : List (List ℕ) → Type 0
+IsServe words = (table : List ℕ) × (session : ℕ) × (looks : ℕ) × AreWordsOf words (Serve table session looks)
+
+abbrev pub IsReceive : List (List ℕ) → Type 0
+IsReceive words = (table : List ℕ) × (session : ℕ) × (looks : ℕ) × AreWordsOf words (Receive table session looks)
+
+abbrev pub IsSend : List (List ℕ) → Type 0
+IsSend words = (table : List ℕ) × (session : ℕ) × (looks : ℕ) × AreWordsOf words (Send table session looks)
+
+abbrev pub IsOverTable : List (List ℕ) → Type 0
+IsOverTable words = IsServe words ⊎ (IsReceive words ⊎ IsSend words)
 
 -- what is written where the words are no command: with status 2 the fault, with status 4 a front of it, and nothing else
 abbrev pub TellsWords : Option (List ℕ) → Option (List ℕ) → ℕ → Type 0

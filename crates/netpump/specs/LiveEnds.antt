@@ -7,7 +7,7 @@ use Rattle.script_reader.specs.Transcript.{fault_line}
 use Rattle.script_reader.specs.declared.fault.Fault.TheVariants as faults
 use Rattle.netpump.specs.Commands.{end_status, end_line}
 use Rattle.netpump.specs.Tables.{HasNoRow}
-use Rattle.netpump.specs.declared.command_end.CommandEnd.TheVariants.{Memory, Unread, NoRow}
+use Rattle.netpump.specs.declared.command_end.CommandEnd.TheVariants.{Memory, Unread, NoRow, Failed, Refused}
 use Rattle.netpump.specs.declared.live_end.LiveEnd.{LiveEnd}
 use Rattle.netpump.specs.declared.live_end.LiveEnd.TheVariants.{Plain, Script, NoLink, Full, Ahead, Refusal, Unfinished}
 
@@ -42,6 +42,12 @@ StopsAtTable file session (Plain Memory) = Unit {0}
 StopsAtTable file session (Plain Unread) = Unit {0}
 StopsAtTable file session (Plain (NoRow number row)) = HasNoRow file session number row
 StopsAtTable file session end = ⊥
+
+-- it is not for a disk
+abbrev pub IsNoDiskEnd : LiveEnd → Type 0
+IsNoDiskEnd (Plain (Failed role)) = ⊥
+IsNoDiskEnd (Plain (Refused role why)) = ⊥
+IsNoDiskEnd end = Unit {0}
 
 -- ---- the last line ----
 

@@ -13,12 +13,12 @@ end_status Write = 4
 end_status (Stopped fault) = status_of (Some fault)
 
 -- `before` and `after` say where each disk is, `all` and `left` what the source had at the call and has after it, and `was`
--- and `now` how often a read had failed; `old` and `new` what the sink had and has
+-- and `now` how often a read had failed; `old` and `new` what the sink had and has. At 0, 5 and 10 the bytes of the script
+-- have no other status on the disks that were found
 pub record EndsReplay (status : ℕ) (before after : Places) (all left old new : Option (List ℕ)) (was now : ℕ) : Type 0 where
   pub done : status ≡ 0 → Wrote all old new (λ r output. IsFinished (shelved before after) r output × HasStatus 0 r output)
   pub unread : status ≡ 3 → Wrote all old new (IsUnread (shelved before after) left was now)
   pub cut_off : status ≡ 4 → WroteFront all old new (IsCutOff (shelved before after) left was now)
-  -- at 0, 5 and 10 the bytes of the script have no other status on the disks that were found
   pub faulted : status ≡ 5 → Wrote all old new (λ r output. IsFaulted (shelved before after) left r output × HasStatus 5 r output)
   pub down : status ≡ 7 → Wrote all old new (IsDown (shelved before after) left)
   pub barred : status ≡ 8 → Wrote all old new (IsBarred (shelved before after) left)

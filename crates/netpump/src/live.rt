@@ -77,6 +77,10 @@ pub fn live<
     script: &mut I,
     out: &mut O,
 ) -> u8
+where
+    S::Disk: Send,
+    P::Link: Send,
+    P::Door: Send,
     // Whatever the words are, nothing of the shelf, the ports, the keys and the script is touched.
     ensures untouched { (shelf.new ≡ shelf.old) × (ports.new ≡ ports.old) × (high_clock.new ≡ high_clock.old) × (keys.new ≡ keys.old) × (script.new ≡ script.old) }
     ensures words { IsNoLiveCommand (map string_bytes words.now.items) → RefusesWords (O.written out.old) (O.written out.new) result }

@@ -17,16 +17,15 @@ use Rattle.peers.specs.declared.receive.ReceiveEnd.TheVariants as receiver
 use Rattle.serving.specs.Doors.{LinksTell}
 use Rattle.netpump.specs.LiveEnds.{StopsAtTable}
 use Rattle.netpump.specs.Tables.{HasRow}
-use Rattle.netpump.specs.declared.command_end.CommandEnd.TheVariants.{Done, Memory, Failed, Refused, Unwritten}
-use Rattle.netpump.specs.declared.live_end.LiveEnd.{LiveEnd}
-use Rattle.netpump.specs.declared.live_end.LiveEnd.TheVariants.{Plain, NoLink, Full, Ahead}
+use Rattle.netpump.specs.declared.command_end.CommandEnd.{CommandEnd}
+use Rattle.netpump.specs.declared.command_end.CommandEnd.TheVariants.{Done, Memory, Failed, Refused, Unwritten, Unconnected, Ahead, Full}
 
 -- how the call ends where the receiver ended so
-abbrev pub end_of_receiver : ReceiveEnd → LiveEnd
-end_of_receiver receiver.Ended = Plain Done
-end_of_receiver receiver.Looks = Plain Done
-end_of_receiver receiver.Write = Plain Unwritten
-end_of_receiver (receiver.Device faults) = Plain (Failed roles.Recv)
+abbrev pub end_of_receiver : ReceiveEnd → CommandEnd
+end_of_receiver receiver.Ended = Done
+end_of_receiver receiver.Looks = Done
+end_of_receiver receiver.Write = Unwritten
+end_of_receiver (receiver.Device faults) = Failed roles.Recv
 end_of_receiver (receiver.Ahead number count) = Ahead number count
 end_of_receiver (receiver.LogFull end length size) = Full end length size
 
@@ -35,10 +34,10 @@ end_of_receiver (receiver.LogFull end length size) = Full end length size
 module _ {D L : Type 0} (t : LinksTell L) (looks : ℕ) (ports now_ports : List (PortsStep L D) → Type 0)
     (written : Option (List ℕ)) (out_faults : ℕ) (found left : List ℕ) where
   -- the receiver's disk could not be taken, or not be opened
-  abbrev pub StopsAtDisk : SessionRow → LiveEnd → Type 0
-  StopsAtDisk row (Plain Memory) = Unit {0}
-  StopsAtDisk row (Plain (Failed roles.Recv)) = Unit {0}
-  StopsAtDisk row (Plain (Refused roles.Recv why)) = refused_receiver row receiver_size found ≡ Some why
+  abbrev pub StopsAtDisk : SessionRow → CommandEnd → Type 0
+  StopsAtDisk row Memory = Unit {0}
+  StopsAtDisk row (Failed roles.Recv) = Unit {0}
+  StopsAtDisk row (Refused roles.Recv why) = refused_receiver row receiver_size found ≡ Some why
   StopsAtDisk row end = ⊥
 
   -- High's receiver worked with the row, from where its disk stood, over the one link that the ports gave, to the
@@ -60,13 +59,13 @@ module _ {D L : Type 0} (t : LinksTell L) (looks : ℕ) (ports now_ports : List 
     pub kept : (list : List (List ℕ)) → RecvStands row list found → StandsForFront row list (attempted reception end) left
 
   -- no link came, or the receiver worked
-  abbrev pub ReceivesOver : SessionRow → LiveEnd → Option (List ℕ) → ℕ → Type 0
+  abbrev pub ReceivesOver : SessionRow → CommandEnd → Option (List ℕ) → ℕ → Type 0
   ReceivesOver row end mid mid_faults =
-      ((end ≡ NoLink) × (left ≡ found) × Grows ports now_ports (NoConnection row.high_port ∷ []) × (mid ≡ written))
+      ((end ≡ Unconnected) × (left ≡ found) × Grows ports now_ports (NoConnection row.high_port ∷ []) × (mid ≡ written))
       ⊎ ((received : ReceiveEnd) × (end ≡ end_of_receiver received) × HasReceived row received mid mid_faults)
 
   -- .. on a disk that can be opened; or it can't
-  abbrev pub ReceivesFor : SessionRow → LiveEnd → Option (List ℕ) → ℕ → Type 0
+  abbrev pub ReceivesFor : SessionRow → CommandEnd → Option (List ℕ) → ℕ → Type 0
   ReceivesFor row end mid mid_faults =
       (StopsAtDisk row end × (left ≡ found) × Grows ports now_ports [] × (mid ≡ written))
       ⊎ ((refused_receiver row receiver_size found ≡ None) × ReceivesOver row end mid mid_faults)
@@ -74,7 +73,7 @@ module _ {D L : Type 0} (t : LinksTell L) (looks : ℕ) (ports now_ports : List 
 -- With the row of the session, if the table has one; `file` is the table's. `before` and `after` say where each
 -- disk is: none but the receiver's has changed.
 abbrev pub ReceiveComes : {D L : Type 0} → LinksTell L → ℕ → (List (PortsStep L D) → Type 0) → (List (PortsStep L D) → Type 0) → Option (List ℕ) → ℕ
-    → Option (List ℕ) → Places → Places → ℕ → LiveEnd → Option (List ℕ) → ℕ → Type 0
+    → Option (List ℕ) → Places → Places → ℕ → CommandEnd → Option (List ℕ) → ℕ → Type 0
 ReceiveComes t looks ports now_ports written out_faults file before after session end mid mid_faults =
     (StopsAtTable file session end × (after ≡ before) × Grows ports now_ports [] × (mid ≡ written))
     ⊎ ((row : SessionRow) × HasRow file session row × LeavesOtherDisks before after (disk_name row.id roles.Recv)

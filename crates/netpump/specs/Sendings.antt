@@ -10,17 +10,16 @@ use Rattle.peers.specs.declared.send.SendEnd.TheVariants as sender
 use Rattle.serving.specs.Doors.{LinksTell}
 use Rattle.netpump.specs.LiveEnds.{StopsAtTable}
 use Rattle.netpump.specs.Tables.{HasRow}
-use Rattle.netpump.specs.declared.command_end.CommandEnd.TheVariants.{Done, Unread, Unwritten}
-use Rattle.netpump.specs.declared.live_end.LiveEnd.{LiveEnd}
-use Rattle.netpump.specs.declared.live_end.LiveEnd.TheVariants.{Plain, Script, NoLink, Refusal, Unfinished}
+use Rattle.netpump.specs.declared.command_end.CommandEnd.{CommandEnd}
+use Rattle.netpump.specs.declared.command_end.CommandEnd.TheVariants.{Done, Unread, Unwritten, BadLine, Unconnected, Denied, Unfinished}
 
 -- how the call ends where the sender ended so
-abbrev pub end_of_sender : SendEnd → LiveEnd
-end_of_sender sender.Done = Plain Done
-end_of_sender sender.Read = Plain Unread
-end_of_sender sender.Write = Plain Unwritten
-end_of_sender (sender.Script line) = Script line
-end_of_sender (sender.Refused code number) = Refusal code number
+abbrev pub end_of_sender : SendEnd → CommandEnd
+end_of_sender sender.Done = Done
+end_of_sender sender.Read = Unread
+end_of_sender sender.Write = Unwritten
+end_of_sender (sender.Script line) = BadLine line
+end_of_sender (sender.Refused code number) = Denied code number
 end_of_sender (sender.Unfinished number) = Unfinished number
 
 -- Of the ports' steps and of the counts of the script and the sink the second value is that at the end.
@@ -38,13 +37,13 @@ module _ {D L : Type 0} (t : LinksTell L) (looks : ℕ) (ports now_ports : List 
     pub printed : Appends written now_written (all_printed sending)
 
   -- no link came, or the sender worked
-  abbrev pub SendsFor : SessionRow → LiveEnd → Option (List ℕ) → ℕ → Type 0
+  abbrev pub SendsFor : SessionRow → CommandEnd → Option (List ℕ) → ℕ → Type 0
   SendsFor row end mid mid_faults =
-      ((end ≡ NoLink) × Grows ports now_ports (NoConnection row.low_port ∷ []) × (mid ≡ written))
+      ((end ≡ Unconnected) × Grows ports now_ports (NoConnection row.low_port ∷ []) × (mid ≡ written))
       ⊎ ((sent : SendEnd) × (end ≡ end_of_sender sent) × HasSent row sent mid mid_faults)
 
   -- .. over the row of the session, if the table has one; `file` is the table's
-  abbrev pub SendComes : Option (List ℕ) → ℕ → LiveEnd → Option (List ℕ) → ℕ → Type 0
+  abbrev pub SendComes : Option (List ℕ) → ℕ → CommandEnd → Option (List ℕ) → ℕ → Type 0
   SendComes file session end mid mid_faults =
       (StopsAtTable file session end × Grows ports now_ports [] × (mid ≡ written))
       ⊎ ((row : SessionRow) × HasRow file session row × SendsFor row end mid mid_faults)

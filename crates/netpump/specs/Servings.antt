@@ -21,9 +21,7 @@ use Rattle.netpump.specs.LiveEnds.{StopsAtTable}
 use Rattle.netpump.specs.Showing.{end_at}
 use Rattle.netpump.specs.Tables.{HasRow}
 use Rattle.netpump.specs.declared.command_end.CommandEnd.{CommandEnd}
-use Rattle.netpump.specs.declared.command_end.CommandEnd.TheVariants.{Done, Memory, Unread, Failed, Refused, Unwritten}
-use Rattle.netpump.specs.declared.live_end.LiveEnd.{LiveEnd}
-use Rattle.netpump.specs.declared.live_end.LiveEnd.TheVariants.{Plain, NoLink}
+use Rattle.netpump.specs.declared.command_end.CommandEnd.TheVariants.{Done, Memory, Unread, Failed, Refused, Unwritten, Unconnected}
 
 -- how the call ends where the workers ended so: the record comes first, then the low disk, then the high one
 abbrev pub end_of_workers : RoundsEnd → RoundsEnd → CommandEnd
@@ -33,17 +31,17 @@ end_of_workers Rounds (Device faults) = Failed roles.High
 end_of_workers Rounds _ = Done
 
 -- .. and where the session did
-abbrev pub end_of_session : SessionEnd → LiveEnd
-end_of_session session_ends.Memory = Plain Memory
-end_of_session (session_ends.Refused role why) = Plain (end_at role (Some why))
-end_of_session session_ends.NoDoor = NoLink
-end_of_session (session_ends.Ended ends) = Plain (end_of_workers ends.low ends.high)
+abbrev pub end_of_session : SessionEnd → CommandEnd
+end_of_session session_ends.Memory = Memory
+end_of_session (session_ends.Refused role why) = end_at role (Some why)
+end_of_session session_ends.NoDoor = Unconnected
+end_of_session (session_ends.Ended ends) = end_of_workers ends.low ends.high
 
 -- a disk of the session could not be taken off the shelf
-abbrev pub StopsAtShelf : LiveEnd → Type 0
-StopsAtShelf (Plain Memory) = Unit {0}
-StopsAtShelf (Plain (Failed roles.Low)) = Unit {0}
-StopsAtShelf (Plain (Failed roles.High)) = Unit {0}
+abbrev pub StopsAtShelf : CommandEnd → Type 0
+StopsAtShelf Memory = Unit {0}
+StopsAtShelf (Failed roles.Low) = Unit {0}
+StopsAtShelf (Failed roles.High) = Unit {0}
 StopsAtShelf end = ⊥
 
 -- Of the ports' steps, the clocks' readings and the sink the second value is that at the end. `before` and `after` say
@@ -78,19 +76,19 @@ module _ {D L S : Type 0} (t : DoorsTell D L) (m : Meaning S) (looks : ℕ) (por
     pub closed : is_opened end ≡ false → Grows ports now_ports []
 
   -- with this key: a disk could not be taken, or the session was served
-  abbrev pub ServesWith : SessionRow → List ℕ → LiveEnd → Option (List ℕ) → ℕ → Type 0
+  abbrev pub ServesWith : SessionRow → List ℕ → CommandEnd → Option (List ℕ) → ℕ → Type 0
   ServesWith row key end mid mid_faults =
       (StopsAtShelf end × IsIdle mid)
       ⊎ ((served : SessionEnd) × (end ≡ end_of_session served) × HasServed row key served mid mid_faults)
 
   -- .. with the next 32 bytes of the keys, of which `left` are to come; or there are no 32, or a read failed
-  abbrev pub ServesFor : Option (List ℕ) → Option (List ℕ) → ℕ → ℕ → SessionRow → LiveEnd → Option (List ℕ) → ℕ → Type 0
+  abbrev pub ServesFor : Option (List ℕ) → Option (List ℕ) → ℕ → ℕ → SessionRow → CommandEnd → Option (List ℕ) → ℕ → Type 0
   ServesFor left now_left key_faults now_key_faults row end mid mid_faults =
-      ((end ≡ Plain Unread) × (Rose key_faults now_key_faults ⊎ IfSome left (λ bytes. length bytes < 32)) × IsIdle mid)
+      ((end ≡ Unread) × (Rose key_faults now_key_faults ⊎ IfSome left (λ bytes. length bytes < 32)) × IsIdle mid)
       ⊎ ((key : List ℕ) × (length key ≡ 32) × Consumes left now_left key × ServesWith row key end mid mid_faults)
 
   -- .. with the row of the session, if the table has one; `file` is the table's
-  abbrev pub ServeComes : Option (List ℕ) → Option (List ℕ) → ℕ → ℕ → Option (List ℕ) → ℕ → LiveEnd → Option (List ℕ) → ℕ → Type 0
+  abbrev pub ServeComes : Option (List ℕ) → Option (List ℕ) → ℕ → ℕ → Option (List ℕ) → ℕ → CommandEnd → Option (List ℕ) → ℕ → Type 0
   ServeComes left now_left key_faults now_key_faults file session end mid mid_faults =
       (StopsAtTable file session end × IsIdle mid)
       ⊎ ((row : SessionRow) × HasRow file session row × LeavesBut before after row.id

@@ -11,14 +11,12 @@ ghost ghost use Rattle.stable_buffer.specs.Format.{receiver_size};
 ghost use Rattle.script_replay.specs.Shelves.{AllAreBack, disk_name, reading_at};
 ghost use Rattle.serving.specs.Doors.{links};
 ghost use Rattle.netpump.specs.LentDisks.{LeavesOtherDisks};
-ghost use Rattle.netpump.specs.LiveEnds.{EndsLive};
+ghost use Rattle.netpump.specs.CommandEnds.{EndsLive};
 ghost use Rattle.netpump.specs.Receptions.{end_of_receiver, ReceivesOver, ReceivesFor, ReceiveComes};
 ghost use Rattle.netpump.specs.declared.command_end.CommandEnd.TheVariants as ends;
-ghost use Rattle.netpump.specs.declared.live_end.LiveEnd.TheVariants.{Plain, NoLink};
 
-use crate::command_end::CommandEnd;
+use crate::command_end::{CommandEnd, finish};
 use crate::format::untaken;
-use crate::live_end::{LiveEnd, finish};
 use crate::show::end_at;
 use crate::table_row::row_in_file;
 use command_line::TableName;
@@ -35,19 +33,19 @@ use std::alloc::Global;
 /// How receiving ended, and the receiver's disk.
 #[derive(Drop)]
 struct Received<D> {
-    end: LiveEnd,
+    end: CommandEnd,
     disk: D,
 }
 
-fn end_of_receiver(end: ReceiveEnd) -> LiveEnd
+fn end_of_receiver(end: ReceiveEnd) -> CommandEnd
     ensures { result ≡ end_of_receiver end }
 {
     match end {
-        ReceiveEnd::Ended | ReceiveEnd::Looks => LiveEnd::Plain(CommandEnd::Done),
-        ReceiveEnd::Write => LiveEnd::Plain(CommandEnd::Unwritten),
-        ReceiveEnd::Device { .. } => LiveEnd::Plain(CommandEnd::Failed { role: Role::Recv }),
-        ReceiveEnd::Ahead { number, count } => LiveEnd::Ahead { number, count },
-        ReceiveEnd::LogFull { end, length, size } => LiveEnd::Full { end, length, size },
+        ReceiveEnd::Ended | ReceiveEnd::Looks => CommandEnd::Done,
+        ReceiveEnd::Write => CommandEnd::Unwritten,
+        ReceiveEnd::Device { .. } => CommandEnd::Failed { role: Role::Recv },
+        ReceiveEnd::Ahead { number, count } => CommandEnd::Ahead { number, count },
+        ReceiveEnd::LogFull { end, length, size } => CommandEnd::Full { end, length, size },
     }
 }
 
@@ -64,18 +62,18 @@ fn receive_over<P: Ports, D: Disk, O: Sink>(
     requires size { recv_size receiver ≡ receiver_size }
     ensures receives { D.told.tells → ReceivesOver (links P.Link.gives P.Link.sent P.Link.faults) looks (P.did ports.old) (P.did ports.new) (O.written out.old) (O.faults out.old)
         (D.told.reading (recv_disk receiver)) (D.told.reading result.disk) row.now result.end (O.written out.new) (O.faults out.new) }
-    ensures device { (role : DiskRole) → result.end ≡ Plain (ends.Failed role) → Rose (D.told.count (recv_disk receiver)) (D.told.count result.disk) }
-    ensures readable { result.end ≡ Plain ends.Unread → ⊥ }
-    ensures memory { result.end ≡ Plain ends.Memory → out.new ≡ out.old }
-    ensures unwritten { result.end ≡ Plain ends.Unwritten → Rose (O.faults out.old) (O.faults out.new) }
-    ensures link { result.end ≡ NoLink → Rose (P.faults ports.old) (P.faults ports.new) }
+    ensures device { (role : DiskRole) → result.end ≡ ends.Failed role → Rose (D.told.count (recv_disk receiver)) (D.told.count result.disk) }
+    ensures readable { result.end ≡ ends.Unread → ⊥ }
+    ensures memory { result.end ≡ ends.Memory → out.new ≡ out.old }
+    ensures unwritten { result.end ≡ ends.Unwritten → Rose (O.faults out.old) (O.faults out.new) }
+    ensures link { result.end ≡ ends.Unconnected → Rose (P.faults ports.old) (P.faults ports.new) }
     ensures later { O.faults out.old ≤ O.faults out.new }
 {
     let mut link = match ports.connect(row.high_port) {
         Ok(link) => link,
         Err(_) => {
             return Received {
-                end: LiveEnd::NoLink,
+                end: CommandEnd::Unconnected,
                 disk: receiver.into_disk(),
             };
         }
@@ -99,17 +97,17 @@ fn receive_on<P: Ports, D: Disk, O: Sink>(
     requires lawful { IsLawfulRow row.now }
     ensures receives { D.told.tells → ReceivesFor (links P.Link.gives P.Link.sent P.Link.faults) looks (P.did ports.old) (P.did ports.new) (O.written out.old) (O.faults out.old)
         (D.told.reading disk) (D.told.reading result.disk) row.now result.end (O.written out.new) (O.faults out.new) }
-    ensures device { (role : DiskRole) → result.end ≡ Plain (ends.Failed role) → Rose (D.told.count disk) (D.told.count result.disk) }
-    ensures readable { result.end ≡ Plain ends.Unread → ⊥ }
-    ensures memory { result.end ≡ Plain ends.Memory → out.new ≡ out.old }
-    ensures unwritten { result.end ≡ Plain ends.Unwritten → Rose (O.faults out.old) (O.faults out.new) }
-    ensures link { result.end ≡ NoLink → Rose (P.faults ports.old) (P.faults ports.new) }
+    ensures device { (role : DiskRole) → result.end ≡ ends.Failed role → Rose (D.told.count disk) (D.told.count result.disk) }
+    ensures readable { result.end ≡ ends.Unread → ⊥ }
+    ensures memory { result.end ≡ ends.Memory → out.new ≡ out.old }
+    ensures unwritten { result.end ≡ ends.Unwritten → Rose (O.faults out.old) (O.faults out.new) }
+    ensures link { result.end ≡ ends.Unconnected → Rose (P.faults ports.old) (P.faults ports.new) }
     ensures later { O.faults out.old ≤ O.faults out.new }
 {
     match open_receiver(disk, row, RECEIVER_SIZE) {
         Ok(receiver) => receive_over(row, looks, ports, receiver, out),
         Err((disk, why)) => Received {
-            end: LiveEnd::Plain(end_at(Role::Recv, &Some(why))),
+            end: end_at(Role::Recv, &Some(why)),
             disk,
         },
     }
@@ -122,22 +120,22 @@ fn receive_row<S: Shelf, P: Ports, O: Sink>(
     shelf: &mut S,
     ports: &mut P,
     out: &mut O,
-) -> LiveEnd
+) -> CommandEnd
     requires lawful { IsLawfulRow row.now }
     ensures receives { S.told.tells → S.Disk.told.tells → ReceivesFor (links P.Link.gives P.Link.sent P.Link.faults) looks (P.did ports.old) (P.did ports.new) (O.written out.old) (O.faults out.old)
         (reading_at (S.told.disk shelf.old) row.now.id roles.Recv) (reading_at (S.told.disk shelf.new) row.now.id roles.Recv) row.now result (O.written out.new) (O.faults out.new) }
     ensures others { LeavesOtherDisks (S.told.disk shelf.old) (S.told.disk shelf.new) (disk_name row.now.id roles.Recv) }
     ensures back { S.told.tells → AllAreBack (S.told.disk shelf.old) (S.told.disk shelf.new) }
-    ensures device { (role : DiskRole) → result ≡ Plain (ends.Failed role) → Rose (S.told.disk_faults shelf.old) (S.told.disk_faults shelf.new) }
-    ensures readable { result ≡ Plain ends.Unread → ⊥ }
-    ensures memory { result ≡ Plain ends.Memory → out.new ≡ out.old }
-    ensures unwritten { result ≡ Plain ends.Unwritten → Rose (O.faults out.old) (O.faults out.new) }
-    ensures link { result ≡ NoLink → Rose (P.faults ports.old) (P.faults ports.new) }
+    ensures device { (role : DiskRole) → result ≡ ends.Failed role → Rose (S.told.disk_faults shelf.old) (S.told.disk_faults shelf.new) }
+    ensures readable { result ≡ ends.Unread → ⊥ }
+    ensures memory { result ≡ ends.Memory → out.new ≡ out.old }
+    ensures unwritten { result ≡ ends.Unwritten → Rose (O.faults out.old) (O.faults out.new) }
+    ensures link { result ≡ ends.Unconnected → Rose (P.faults ports.old) (P.faults ports.new) }
     ensures later { O.faults out.old ≤ O.faults out.new }
 {
     let disk = match take_disk(shelf, row.id, Role::Recv) {
         Ok(disk) => disk,
-        Err(not_taken) => return LiveEnd::Plain(untaken(not_taken)),
+        Err(not_taken) => return untaken(not_taken),
     };
     let received = receive_on(row, looks, ports, disk, out);
     put_disk_back(shelf, row.id, Role::Recv, received.disk);
@@ -153,20 +151,20 @@ fn run_receive<S: Shelf, P: Ports, O: Sink>(
     shelf: &mut S,
     ports: &mut P,
     out: &mut O,
-) -> LiveEnd
+) -> CommandEnd
     ensures comes { S.told.tells → S.Disk.told.tells → ReceiveComes (links P.Link.gives P.Link.sent P.Link.faults) looks (P.did ports.old) (P.did ports.new)
         (O.written out.old) (O.faults out.old) (S.told.file shelf.old table.now) (S.told.disk shelf.old) (S.told.disk shelf.new) session result (O.written out.new) (O.faults out.new) }
     ensures back { S.told.tells → AllAreBack (S.told.disk shelf.old) (S.told.disk shelf.new) }
-    ensures memory { result ≡ Plain ends.Memory → Appends (O.written out.old) (O.written out.new) [] }
-    ensures read { result ≡ Plain ends.Unread → Rose (S.told.faults shelf.old) (S.told.faults shelf.new) }
-    ensures unwritten { result ≡ Plain ends.Unwritten → Rose (O.faults out.old) (O.faults out.new) }
-    ensures device { (role : DiskRole) → result ≡ Plain (ends.Failed role) → Rose (S.told.disk_faults shelf.old) (S.told.disk_faults shelf.new) }
-    ensures link { result ≡ NoLink → Rose (P.faults ports.old) (P.faults ports.new) }
+    ensures memory { result ≡ ends.Memory → Appends (O.written out.old) (O.written out.new) [] }
+    ensures read { result ≡ ends.Unread → Rose (S.told.faults shelf.old) (S.told.faults shelf.new) }
+    ensures unwritten { result ≡ ends.Unwritten → Rose (O.faults out.old) (O.faults out.new) }
+    ensures device { (role : DiskRole) → result ≡ ends.Failed role → Rose (S.told.disk_faults shelf.old) (S.told.disk_faults shelf.new) }
+    ensures link { result ≡ ends.Unconnected → Rose (P.faults ports.old) (P.faults ports.new) }
     ensures later { O.faults out.old ≤ O.faults out.new }
 {
     match row_in_file(alloc, shelf, table.as_str(), session) {
         Ok(row) => receive_row(&row, looks, shelf, ports, out),
-        Err(end) => LiveEnd::Plain(end),
+        Err(end) => end,
     }
 }
 
@@ -193,5 +191,5 @@ pub fn receive_session<S: Shelf, P: Ports, O: Sink>(
     ensures words { result ≡ 2 → ⊥ }
 {
     let end = run_receive(alloc, table, session, looks, shelf, ports, out);
-    finish(session, &end, out)
+    finish(session, end, out)
 }

@@ -4,13 +4,11 @@ ghost use Rattle.std.specs.Prelude.{◌≡◌, ◌⊎◌, ◌≤◌, [], Err};
 ghost use Rattle.std.specs.Io.KnownBytes.{Appends};
 ghost use Rattle.pump_frame.specs.Counts.{Rose};
 ghost use Rattle.serving.specs.Doors.{links};
-ghost use Rattle.netpump.specs.LiveEnds.{EndsLive, IsNoDiskEnd};
+ghost use Rattle.netpump.specs.CommandEnds.{EndsLive, IsNoDiskEnd};
 ghost use Rattle.netpump.specs.Sendings.{end_of_sender, SendsFor, SendComes};
 ghost use Rattle.netpump.specs.declared.command_end.CommandEnd.TheVariants as ends;
-ghost use Rattle.netpump.specs.declared.live_end.LiveEnd.TheVariants.{Plain, NoLink};
 
-use crate::command_end::CommandEnd;
-use crate::live_end::{LiveEnd, finish};
+use crate::command_end::{CommandEnd, finish};
 use crate::table_row::row_in_file;
 use command_line::TableName;
 use disk_model::Shelf;
@@ -19,16 +17,16 @@ use pump_frame::SessionRow;
 use pump_link::{Ports, Sink, Source};
 use std::alloc::Global;
 
-fn end_of_sender(end: SendEnd) -> LiveEnd
+fn end_of_sender(end: SendEnd) -> CommandEnd
     ensures { result ≡ end_of_sender end }
 {
     match end {
-        SendEnd::Done => LiveEnd::Plain(CommandEnd::Done),
-        SendEnd::Read => LiveEnd::Plain(CommandEnd::Unread),
-        SendEnd::Write => LiveEnd::Plain(CommandEnd::Unwritten),
-        SendEnd::Script { line } => LiveEnd::Script { line },
-        SendEnd::Refused { code, number } => LiveEnd::Refusal { code, number },
-        SendEnd::Unfinished { number } => LiveEnd::Unfinished { number },
+        SendEnd::Done => CommandEnd::Done,
+        SendEnd::Read => CommandEnd::Unread,
+        SendEnd::Write => CommandEnd::Unwritten,
+        SendEnd::Script { line } => CommandEnd::BadLine { line },
+        SendEnd::Refused { code, number } => CommandEnd::Denied { code, number },
+        SendEnd::Unfinished { number } => CommandEnd::Unfinished { number },
     }
 }
 
@@ -39,19 +37,19 @@ fn send_over<P: Ports, I: Source, O: Sink>(
     ports: &mut P,
     script: &mut I,
     out: &mut O,
-) -> LiveEnd
+) -> CommandEnd
     ensures sends { SendsFor (links P.Link.gives P.Link.sent P.Link.faults) looks (P.did ports.old) (P.did ports.new) (I.left script.old) (I.faults script.old) (I.faults script.new)
         (O.written out.old) (O.faults out.old) row.now result (O.written out.new) (O.faults out.new) }
-    ensures read { result ≡ Plain ends.Unread → Rose (I.faults script.old) (I.faults script.new) }
-    ensures memory { result ≡ Plain ends.Memory → ⊥ }
-    ensures unwritten { result ≡ Plain ends.Unwritten → Rose (O.faults out.old) (O.faults out.new) }
+    ensures read { result ≡ ends.Unread → Rose (I.faults script.old) (I.faults script.new) }
+    ensures memory { result ≡ ends.Memory → ⊥ }
+    ensures unwritten { result ≡ ends.Unwritten → Rose (O.faults out.old) (O.faults out.new) }
     ensures disk { IsNoDiskEnd result }
-    ensures link { result ≡ NoLink → Rose (P.faults ports.old) (P.faults ports.new) }
+    ensures link { result ≡ ends.Unconnected → Rose (P.faults ports.old) (P.faults ports.new) }
     ensures later { O.faults out.old ≤ O.faults out.new }
 {
     let mut link = match ports.connect(row.low_port) {
         Ok(link) => link,
-        Err(_) => return LiveEnd::NoLink,
+        Err(_) => return CommandEnd::Unconnected,
     };
     let end = send_with(row, looks, &mut link, script, out);
     ports.back(link);
@@ -68,20 +66,20 @@ fn run_send<S: Shelf, P: Ports, I: Source, O: Sink>(
     ports: &mut P,
     script: &mut I,
     out: &mut O,
-) -> LiveEnd
+) -> CommandEnd
     ensures comes { S.told.tells → SendComes (links P.Link.gives P.Link.sent P.Link.faults) looks (P.did ports.old) (P.did ports.new)
         (I.left script.old) (I.faults script.old) (I.faults script.new) (O.written out.old) (O.faults out.old) (S.told.file shelf.old table.now) session result (O.written out.new) (O.faults out.new) }
     ensures disks { S.told.disk shelf.new ≡ S.told.disk shelf.old }
-    ensures memory { result ≡ Plain ends.Memory → Appends (O.written out.old) (O.written out.new) [] }
-    ensures read { result ≡ Plain ends.Unread → Rose (I.faults script.old) (I.faults script.new) ⊎ Rose (S.told.faults shelf.old) (S.told.faults shelf.new) }
-    ensures unwritten { result ≡ Plain ends.Unwritten → Rose (O.faults out.old) (O.faults out.new) }
+    ensures memory { result ≡ ends.Memory → Appends (O.written out.old) (O.written out.new) [] }
+    ensures read { result ≡ ends.Unread → Rose (I.faults script.old) (I.faults script.new) ⊎ Rose (S.told.faults shelf.old) (S.told.faults shelf.new) }
+    ensures unwritten { result ≡ ends.Unwritten → Rose (O.faults out.old) (O.faults out.new) }
     ensures disk { IsNoDiskEnd result }
-    ensures link { result ≡ NoLink → Rose (P.faults ports.old) (P.faults ports.new) }
+    ensures link { result ≡ ends.Unconnected → Rose (P.faults ports.old) (P.faults ports.new) }
     ensures later { O.faults out.old ≤ O.faults out.new }
 {
     match row_in_file(alloc, shelf, table.as_str(), session) {
         Ok(row) => send_over(&row, looks, ports, script, out),
-        Err(end) => LiveEnd::Plain(end),
+        Err(end) => end,
     }
 }
 
@@ -109,5 +107,5 @@ pub fn send_session<S: Shelf, P: Ports, I: Source, O: Sink>(
     ensures words { result ≡ 2 → ⊥ }
 {
     let end = run_send(alloc, table, session, looks, shelf, ports, script, out);
-    finish(session, &end, out)
+    finish(session, end, out)
 }

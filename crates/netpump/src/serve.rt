@@ -7,15 +7,13 @@ ghost use Rattle.pump_frame.specs.Counts.{Rose};
 ghost use Rattle.pump_frame.specs.Rows.{IsLawfulRow};
 ghost use Rattle.script_replay.specs.Shelves.{AllAreBack};
 ghost use Rattle.serving.specs.Doors.{doors, links};
-ghost use Rattle.netpump.specs.LiveEnds.{EndsLive};
+ghost use Rattle.netpump.specs.CommandEnds.{EndsLive};
 ghost use Rattle.netpump.specs.LentDisks.{LeavesBut};
 ghost use Rattle.netpump.specs.Servings.{end_of_workers, end_of_session, ServesWith, ServesFor, ServeComes};
 ghost use Rattle.netpump.specs.declared.command_end.CommandEnd.TheVariants as ends;
-ghost use Rattle.netpump.specs.declared.live_end.LiveEnd.TheVariants.{Plain, NoLink};
 
-use crate::command_end::CommandEnd;
+use crate::command_end::{CommandEnd, finish};
 use crate::format::untaken;
-use crate::live_end::{LiveEnd, finish};
 use crate::show::end_at;
 use crate::table_row::row_in_file;
 use command_line::TableName;
@@ -42,14 +40,14 @@ fn end_of_workers(ends: &WorkersEnd) -> CommandEnd
     }
 }
 
-fn end_of_session(end: &SessionEnd) -> LiveEnd
+fn end_of_session(end: &SessionEnd) -> CommandEnd
     ensures { result ≡ end_of_session end.now }
 {
     match end {
-        SessionEnd::Memory => LiveEnd::Plain(CommandEnd::Memory),
-        SessionEnd::Refused { role, why } => LiveEnd::Plain(end_at(*role, &Some(*why))),
-        SessionEnd::NoDoor => LiveEnd::NoLink,
-        SessionEnd::Ended(ends) => LiveEnd::Plain(end_of_workers(ends)),
+        SessionEnd::Memory => CommandEnd::Memory,
+        SessionEnd::Refused { role, why } => end_at(*role, &Some(*why)),
+        SessionEnd::NoDoor => CommandEnd::Unconnected,
+        SessionEnd::Ended(ends) => end_of_workers(ends),
     }
 }
 
@@ -65,7 +63,7 @@ fn serve_row<T: Threads + Wait + Sync, S: Shelf, P: Ports, K: Clock + Send, O: S
     high_clock: &mut K,
     key: [u8; 32],
     out: &mut O,
-) -> LiveEnd
+) -> CommandEnd
 where
     S::Disk: Send,
     P::Link: Send,
@@ -75,23 +73,23 @@ where
         (K.reads low_clock.old) (K.reads low_clock.new) (K.reads high_clock.old) (K.reads high_clock.new) (O.written out.old) (O.faults out.old) (S.told.disk shelf.old) (S.told.disk shelf.new)
         row.now key result (O.written out.new) (O.faults out.new) }
     ensures others { LeavesBut (S.told.disk shelf.old) (S.told.disk shelf.new) row.now.id }
-    ensures readable { result ≡ Plain ends.Unread → ⊥ }
+    ensures readable { result ≡ ends.Unread → ⊥ }
     ensures back { S.told.tells → AllAreBack (S.told.disk shelf.old) (S.told.disk shelf.new) }
-    ensures memory { result ≡ Plain ends.Memory → Appends (O.written out.old) (O.written out.new) [] }
-    ensures unwritten { result ≡ Plain ends.Unwritten → Rose (O.faults out.old) (O.faults out.new) }
-    ensures device { (role : DiskRole) → result ≡ Plain (ends.Failed role) → Rose (S.told.disk_faults shelf.old) (S.told.disk_faults shelf.new) }
-    ensures link { result ≡ NoLink → Rose (P.faults ports.old) (P.faults ports.new) }
+    ensures memory { result ≡ ends.Memory → Appends (O.written out.old) (O.written out.new) [] }
+    ensures unwritten { result ≡ ends.Unwritten → Rose (O.faults out.old) (O.faults out.new) }
+    ensures device { (role : DiskRole) → result ≡ ends.Failed role → Rose (S.told.disk_faults shelf.old) (S.told.disk_faults shelf.new) }
+    ensures link { result ≡ ends.Unconnected → Rose (P.faults ports.old) (P.faults ports.new) }
     ensures later { O.faults out.old ≤ O.faults out.new }
 {
     let low = match take_disk(shelf, row.id, Role::Low) {
         Ok(low) => low,
-        Err(not_taken) => return LiveEnd::Plain(untaken(not_taken)),
+        Err(not_taken) => return untaken(not_taken),
     };
     let high = match take_disk(shelf, row.id, Role::High) {
         Ok(high) => high,
         Err(not_taken) => {
             put_disk_back(shelf, row.id, Role::Low, low);
-            return LiveEnd::Plain(untaken(not_taken));
+            return untaken(not_taken);
         }
     };
     let served = serve_session(
@@ -121,7 +119,7 @@ fn serve_keyed<
     high_clock: &mut K,
     keys: &mut Q,
     out: &mut O,
-) -> LiveEnd
+) -> CommandEnd
 where
     S::Disk: Send,
     P::Link: Send,
@@ -131,19 +129,19 @@ where
         (K.reads low_clock.old) (K.reads low_clock.new) (K.reads high_clock.old) (K.reads high_clock.new) (O.written out.old) (O.faults out.old) (S.told.disk shelf.old) (S.told.disk shelf.new)
         (Q.left keys.old) (Q.left keys.new) (Q.faults keys.old) (Q.faults keys.new) row.now result (O.written out.new) (O.faults out.new) }
     ensures others { LeavesBut (S.told.disk shelf.old) (S.told.disk shelf.new) row.now.id }
-    ensures read { result ≡ Plain ends.Unread → Rose (Q.faults keys.old) (Q.faults keys.new) ⊎ IfSome (Q.left keys.old) (λ bytes. length bytes < 32) }
+    ensures read { result ≡ ends.Unread → Rose (Q.faults keys.old) (Q.faults keys.new) ⊎ IfSome (Q.left keys.old) (λ bytes. length bytes < 32) }
     ensures back { S.told.tells → AllAreBack (S.told.disk shelf.old) (S.told.disk shelf.new) }
-    ensures memory { result ≡ Plain ends.Memory → Appends (O.written out.old) (O.written out.new) [] }
-    ensures unwritten { result ≡ Plain ends.Unwritten → Rose (O.faults out.old) (O.faults out.new) }
-    ensures device { (role : DiskRole) → result ≡ Plain (ends.Failed role) → Rose (S.told.disk_faults shelf.old) (S.told.disk_faults shelf.new) }
-    ensures link { result ≡ NoLink → Rose (P.faults ports.old) (P.faults ports.new) }
+    ensures memory { result ≡ ends.Memory → Appends (O.written out.old) (O.written out.new) [] }
+    ensures unwritten { result ≡ ends.Unwritten → Rose (O.faults out.old) (O.faults out.new) }
+    ensures device { (role : DiskRole) → result ≡ ends.Failed role → Rose (S.told.disk_faults shelf.old) (S.told.disk_faults shelf.new) }
+    ensures link { result ≡ ends.Unconnected → Rose (P.faults ports.old) (P.faults ports.new) }
     ensures later { O.faults out.old ≤ O.faults out.new }
 {
     match read_key(keys) {
         Ok(key) => serve_row(
             rt, alloc, row, looks, shelf, ports, low_clock, high_clock, key, out,
         ),
-        Err(_) => LiveEnd::Plain(CommandEnd::Unread),
+        Err(_) => CommandEnd::Unread,
     }
 }
 
@@ -167,7 +165,7 @@ fn run_serve<
     high_clock: &mut K,
     keys: &mut Q,
     out: &mut O,
-) -> LiveEnd
+) -> CommandEnd
 where
     S::Disk: Send,
     P::Link: Send,
@@ -175,20 +173,20 @@ where
     ensures comes { S.told.tells → S.Disk.told.tells → ServeComes (doors P.Door.port P.Door.did P.Door.gives (links P.Link.gives P.Link.sent P.Link.faults)) S.Disk.told looks (P.did ports.old) (P.did ports.new)
         (K.reads low_clock.old) (K.reads low_clock.new) (K.reads high_clock.old) (K.reads high_clock.new) (O.written out.old) (O.faults out.old) (S.told.disk shelf.old) (S.told.disk shelf.new)
         (Q.left keys.old) (Q.left keys.new) (Q.faults keys.old) (Q.faults keys.new) (S.told.file shelf.old table.now) session result (O.written out.new) (O.faults out.new) }
-    ensures read { result ≡ Plain ends.Unread → Rose (S.told.faults shelf.old) (S.told.faults shelf.new)
+    ensures read { result ≡ ends.Unread → Rose (S.told.faults shelf.old) (S.told.faults shelf.new)
         ⊎ (Rose (Q.faults keys.old) (Q.faults keys.new) ⊎ IfSome (Q.left keys.old) (λ bytes. length bytes < 32)) }
     ensures back { S.told.tells → AllAreBack (S.told.disk shelf.old) (S.told.disk shelf.new) }
-    ensures memory { result ≡ Plain ends.Memory → Appends (O.written out.old) (O.written out.new) [] }
-    ensures unwritten { result ≡ Plain ends.Unwritten → Rose (O.faults out.old) (O.faults out.new) }
-    ensures device { (role : DiskRole) → result ≡ Plain (ends.Failed role) → Rose (S.told.disk_faults shelf.old) (S.told.disk_faults shelf.new) }
-    ensures link { result ≡ NoLink → Rose (P.faults ports.old) (P.faults ports.new) }
+    ensures memory { result ≡ ends.Memory → Appends (O.written out.old) (O.written out.new) [] }
+    ensures unwritten { result ≡ ends.Unwritten → Rose (O.faults out.old) (O.faults out.new) }
+    ensures device { (role : DiskRole) → result ≡ ends.Failed role → Rose (S.told.disk_faults shelf.old) (S.told.disk_faults shelf.new) }
+    ensures link { result ≡ ends.Unconnected → Rose (P.faults ports.old) (P.faults ports.new) }
     ensures later { O.faults out.old ≤ O.faults out.new }
 {
     match row_in_file(alloc, shelf, table.as_str(), session) {
         Ok(row) => serve_keyed(
             rt, alloc, &row, looks, shelf, ports, low_clock, high_clock, keys, out,
         ),
-        Err(end) => LiveEnd::Plain(end),
+        Err(end) => end,
     }
 }
 
@@ -235,5 +233,5 @@ where
     let end = run_serve(
         rt, alloc, table, session, looks, shelf, ports, low_clock, high_clock, keys, out,
     );
-    finish(session, &end, out)
+    finish(session, end, out)
 }

@@ -3,7 +3,6 @@ use Rattle.command_line.specs.declared.command.Command.TheVariants as commands
 use Rattle.netpump.specs.Racing.{IsRecordOf, EndsRace}
 use Rattle.netpump.proofs.Asked.{read_words, not_command, same_command, race_asked, serve_asked, receive_asked, send_asked}
 use Rattle.netpump.specs.declared.command_end.CommandEnd.TheVariants as ends
-use Rattle.netpump.specs.declared.live_end.LiveEnd.TheVariants.{Plain}
 use Rattle.pump_link.proofs.Grown.{Grows-nil, Draws-nil}
 use Rattle.netpump.proofs.live.live.Goals as goal
 
@@ -36,7 +35,7 @@ returns-in-Err-NoCommand-clause-send g c = λ table session looks words.
 
 pub returns-in-Err-Memory-clause-serve : goal.returns-in-Err-Memory-clause-serve
 returns-in-Err-Memory-clause-serve g c = λ table session looks words told tells. record {
-  end = Plain ends.Memory;
+  end = ends.Memory;
   mid = g.O.Sink.written c.args.out.now;
   mid_faults = g.O.Sink.faults c.args.out.now;
   comes = inl (tt, record { unopened = Grows-nil _; low_unread = Draws-nil _; high_unread = Draws-nil _; unwritten = refl; unchanged = λ name. refl });
@@ -46,7 +45,7 @@ returns-in-Err-Memory-clause-serve g c = λ table session looks words told tells
 
 pub returns-in-Err-Memory-clause-receive : goal.returns-in-Err-Memory-clause-receive
 returns-in-Err-Memory-clause-receive g c = λ table session looks words told tells. record {
-  end = Plain ends.Memory;
+  end = ends.Memory;
   mid = g.O.Sink.written c.args.out.now;
   mid_faults = g.O.Sink.faults c.args.out.now;
   comes = inl (tt, refl, Grows-nil _, refl);
@@ -56,7 +55,7 @@ returns-in-Err-Memory-clause-receive g c = λ table session looks words told tel
 
 pub returns-in-Err-Memory-clause-send : goal.returns-in-Err-Memory-clause-send
 returns-in-Err-Memory-clause-send g c = λ table session looks words told. record {
-  end = Plain ends.Memory;
+  end = ends.Memory;
   mid = g.O.Sink.written c.args.out.now;
   mid_faults = g.O.Sink.faults c.args.out.now;
   comes = inl (tt, Grows-nil _, refl);

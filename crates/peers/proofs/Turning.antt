@@ -234,8 +234,7 @@ module _ {D : Type 0} (m : Meaning D) (row : SessionRow) (most left left' : ℕ)
       refused_ends f (counts a now_link c now_out old) (Ahead number count) ready same refl refl
       (f, refuses f hears wanted, subst (λ (p : Place). p.count < f.number) here high, is, expected ∙ ap (λ (p : Place). p.count) here) x.sent x.printed no_sent no_printed sends prints
   frame_ends f x a b now_link c d now_out (LogFull end size limit) ready hears low out_low ((wanted, same), is, long, at, of, most_is, (no_sent, no_printed)) sends prints =
-      refused_ends f (counts a now_link c now_out old) (LogFull end size limit) ready same refl refl
-      (
+      refused_ends f (counts a now_link c now_out old) (LogFull end size limit) ready same refl refl (
         f,
         refuses f hears wanted,
         is ∙ ap (λ (p : Place). p.count) here,

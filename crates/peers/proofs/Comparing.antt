@@ -1,7 +1,6 @@
 -- Two calls over one list of looks: what they heard is the same, up to where the first one stopped.
-use Rattle.std.proofs.Common.{◌≡◌, ◌⊎◌, inl, inr, ℕ, ◌+◌, ◌≤◌, List, [], ◌∷◌, ◌++◌, length, refl, sym, ap, ◌∙◌, subst, append_assoc, append-nil, arith, length-append}
+use Rattle.std.proofs.Common.{◌≡◌, ◌⊎◌, inl, inr, ℕ, ◌≤◌, List, [], ◌∷◌, ◌++◌, length, refl, sym, ap, ◌∙◌, subst, append_assoc, append-nil, arith, length-append}
 use Rattle.pump_frame.specs.declared.frame.Frame.{Frame}
-use Rattle.pump_frame.specs.declared.reader.Fed.{Fed}
 use Rattle.pump_frame.specs.Readings.{Reading, Within, Stopped}
 use Rattle.pump_frame.specs.Streams.{IsStream, Reads}
 use Rattle.pump_frame.proofs.Streams.{reads_parts, reads_one, stream_reads}

@@ -1,16 +1,14 @@
 -- Looks, and what the receiver has, admit one end of a receiver's call.
-use Rattle.std.proofs.Common.{◌≡◌, ◌⊎◌, inl, inr, ℕ, ◌+◌, ◌<◌, ◌≤◌, Bool, true, false, List, [], ◌∷◌, ◌++◌, length, Option, Some, None, refl, sym, ap, ◌∙◌, subst, append_assoc, append-nil, arith, length-append}
-use Rattle.pump_frame.specs.Counts.{Rose}
+use Rattle.std.proofs.Common.{◌≡◌, ◌⊎◌, inl, inr, ℕ, ◌+◌, ◌<◌, true, false, List, [], ◌∷◌, ◌++◌, length, refl, sym, ap, ◌∙◌, subst, append_assoc, append-nil, arith, length-append}
 use Rattle.pump_frame.specs.declared.frame.Frame.{Frame}
 use Rattle.pump_frame.specs.declared.row.SessionRow.{SessionRow}
-use Rattle.pump_link.specs.declared.link.Looked.{Looked}
 use Rattle.peers.specs.declared.receive.ReceiveEnd.{ReceiveEnd}
 use Rattle.peers.specs.declared.receive.ReceiveEnd.TheVariants.{Ended, Looks, Write, Device, Ahead, LogFull}
 use Rattle.peers.specs.Outputs.{Counts}
-use Rattle.peers.specs.Receiving.{Turn, Passed, Took, Again, Place, IsTurn, AreTurns, IsNext, place_after, frame_in, frames, lines, sendings, is_wanted, Reception, Receives, EndsBy}
+use Rattle.peers.specs.Receiving.{Turn, Passed, Took, Again, Place, IsTurn, AreTurns, place_after, frame_in, frames, lines, sendings, is_wanted, Reception, Receives}
 use Rattle.peers.specs.Laws.{IsCalmCall, AreFronts}
 use Rattle.peers.proofs.Hearing.{hears_more, over_more, just_join}
-use Rattle.peers.proofs.Comparing.{Tail, Used, Ends, Bad, Last, Stop, Heard, all_of, IsStop, Compared, AreSame, FirstStops, SecondStops, compared}
+use Rattle.peers.proofs.Comparing.{Tail, Used, Ends, Bad, Last, Stop, Heard, all_of, IsStop, AreSame, FirstStops, SecondStops, compared}
 
 -- ---- turns ----
 

@@ -1,12 +1,11 @@
 -- The lines of a sender, one after another.
-use Rattle.std.proofs.Common.{◌≡◌, ◌≤◌, ◌<◌, ◌⊎◌, inl, inr, min, ℕ, ◌+◌, ◌-◌, ◌^◌, List, [], ◌∷◌, ◌++◌, length, Option, Some, None, IfSome, refl, sym, ap, ◌∙◌, subst, append_assoc, append-nil, arith, length-append}
+use Rattle.std.proofs.Common.{◌≡◌, ◌≤◌, ◌<◌, ◌⊎◌, inl, inr, min, ℕ, ◌+◌, ◌-◌, ◌^◌, List, [], ◌∷◌, ◌++◌, length, Option, Some, None, IfSome, refl, sym, ap, ◌∙◌, subst, append-nil, arith, length-append}
 use Rattle.std.specs.Io.KnownBytes.{prepend_known, Appends, Consumes, IsAtEnd}
 use Rattle.script_reader.specs.Lines.{IsSome}
 use Rattle.pump_frame.specs.declared.row.SessionRow.{SessionRow}
 use Rattle.std.proofs.KnownBytes.{Appends-nil, Appends-trans, Consumes-nil, Consumes-trans}
 use Rattle.pump_frame.specs.Counts.{Rose}
 use Rattle.pump_frame.specs.declared.frame.Frame.{Frame}
-use Rattle.pump_frame.specs.declared.frame.Kind.TheVariants.{Data}
 use Rattle.pump_frame.specs.Spellings.{spelling}
 use Rattle.pump_link.specs.Tells.{Draws, Grows}
 use Rattle.pump_link.specs.declared.link.Looked.{Looked}
@@ -15,8 +14,7 @@ use Rattle.peers.specs.declared.ask.Wanted.{Wanted}
 use Rattle.peers.specs.declared.ask.Wanted.TheVariants as wanted
 use Rattle.peers.specs.declared.send.SendEnd.{SendEnd}
 use Rattle.peers.specs.declared.send.SendEnd.TheVariants.{Done, Read, Write, Script, Refused, Unfinished}
-use Rattle.peers.specs.Looks.{IsOver}
-use Rattle.peers.specs.Outputs.{Counts, IsFront}
+use Rattle.peers.specs.Outputs.{Counts}
 use Rattle.peers.specs.Payloads.{IsPayload, IsFaulty, TakesAtMost}
 use Rattle.peers.specs.Replies.{Sends as SendsMessage}
 use Rattle.peers.specs.Sending.{Turn, Skipped, Acked, Wait, Last, Answers, IsUnanswered, IsUnfinished, AskEnds, MessageEnds, LineEnds, EndsBy, AreTurns, data_frame, ack_line, lines, looks_of, sendings, printings, hello_frame, Sending, Ungreeted, Greeted, Sends, all_looks, all_sent, all_printed}

@@ -1,5 +1,5 @@
 -- Premises of the laws on whole calls.
-use Rattle.std.specs.Prelude.{◌≡◌, ℕ, List, ◌++◌}
+use Rattle.std.specs.Prelude.{◌≡◌, List, ◌++◌}
 use Rattle.pump_frame.specs.Counts.{Rose}
 use Rattle.peers.specs.Outputs.{Counts}
 

@@ -1,5 +1,5 @@
 -- The lines of a sender's script: one payload each, in hexadecimal digits.
-use Rattle.std.specs.Prelude.{◌≡◌, ◌≢◌, ℕ, ◌≤◌, List, [], ◌∷◌, ◌++◌, length, Option, IfSome}
+use Rattle.std.specs.Prelude.{◌≢◌, ℕ, ◌≤◌, List, [], ◌∷◌, ◌++◌, length, Option, IfSome}
 use Rattle.std.specs.Io.KnownBytes.{Consumes, IsAtEnd}
 use Rattle.script_reader.specs.Grammar.{IsHex}
 use Rattle.script_reader.specs.Lines.{IsUnended}

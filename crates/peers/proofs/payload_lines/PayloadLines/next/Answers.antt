@@ -1,8 +1,6 @@
-use Rattle.std.proofs.Common.{◌≡◌, ◌∙◌, ◌<◌, ◌++◌, ◌∷◌, [], Some, None, List, ℕ, length, refl, sym, ap, subst, arith, length-append, true, false, ◌==◌}
+use Rattle.std.proofs.Common.{◌≡◌, ◌∙◌, ◌++◌, ◌∷◌, [], Some, None, length, sym, arith, length-append, false, ◌==◌}
 use Rattle.std.proofs.KnownBytes.{Consumes-trans}
-use Rattle.std.specs.Io.KnownBytes.{prepend_known, Consumes}
 use Rattle.script_reader.specs.Parsing.{hex}
-use Rattle.script_reader.specs.Lines.{is_end, IsUnended}
 use Rattle.script_reader.proofs.FieldLaws.{hex_takes}
 use Rattle.std.proofs.lemmas.Bool.{eqb-true}
 use Rattle.peers.proofs.PayloadLaws.{bad_line, long_line, last_line, not_zero}

@@ -22,16 +22,16 @@ end_of_sender (sender.Script line) = BadLine line
 end_of_sender (sender.Refused code number) = Denied code number
 end_of_sender (sender.Unfinished number) = Unfinished number
 
--- Of the ports' steps and of the counts of the script and the sink the second value is that at the end.
+-- Of the ports' steps, of what is to come of the script and of the counts the second value is that at the end.
 module _ {D L : Type 0} (t : LinksTell L) (looks : ℕ) (ports now_ports : List (PortsStep L D) → Type 0)
-    (left : Option (List ℕ)) (script_faults now_script_faults : ℕ) (written : Option (List ℕ)) (out_faults : ℕ) where
+    (left now_left : Option (List ℕ)) (script_faults now_script_faults : ℕ) (written : Option (List ℕ)) (out_faults : ℕ) where
   -- Low's sender worked with the row, over the one link that the ports gave, to the row's low port, and took back
   pub record HasSent (row : SessionRow) (end : SendEnd) (now_written : Option (List ℕ)) (now_out_faults : ℕ) : Type 0 where
     pub came : L
     pub back : L
     pub over : Grows ports now_ports (Connected row.low_port came ∷ BackToPorts back ∷ [])
     pub sending : Sending
-    pub sends : Sends row looks left sending (record { link = t.faults came; now_link = t.faults back; out = out_faults; now_out = now_out_faults; other = script_faults; now_other = now_script_faults }) end
+    pub sends : Sends row looks left now_left sending (record { link = t.faults came; now_link = t.faults back; out = out_faults; now_out = now_out_faults; other = script_faults; now_other = now_script_faults }) end
     pub gave : Draws (t.gives came) (t.gives back) (all_looks sending)
     pub sent : Grows (t.sent came) (t.sent back) (all_sent row sending)
     pub printed : Appends written now_written (all_printed sending)

@@ -135,7 +135,7 @@ where
         (O.written out.old) (O.faults out.old) (S.told.file shelf.old table) (S.told.disk shelf.old) (S.told.disk shelf.new) session) (O.written out.new) (O.faults out.new) session result }
     ensures send { (table : List ℕ) (session looks : ℕ) → AreWordsOf (map string_bytes words.now.items) (commands.Send table session looks) → S.told.tells
         → EndsLive (SendComes (links P.Link.gives P.Link.sent P.Link.faults) looks (P.did ports.old) (P.did ports.new)
-        (I.left script.old) (I.faults script.old) (I.faults script.new) (O.written out.old) (O.faults out.old) (S.told.file shelf.old table) session) (O.written out.new) (O.faults out.new) session result }
+        (I.left script.old) (I.left script.new) (I.faults script.old) (I.faults script.new) (O.written out.old) (O.faults out.old) (S.told.file shelf.old table) session) (O.written out.new) (O.faults out.new) session result }
 {
     let asked = match command_of(alloc, words.as_slice()) {
         Ok(asked) => asked,

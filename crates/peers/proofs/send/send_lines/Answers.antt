@@ -31,7 +31,7 @@ returns-then-number g c =
     let was = c.lines.invariant in
     let p = c.in-Payload.ensures.next in
     let line : 4294967295 ≡ min (c.lines.number + 1) 4294967295 = omega (arith, c.if-number.true) in
-    record { lines = script_ends _ _ _ _ _ _ _ _ _ _ _ _ _ was.so_far _ (omega (arith, c.lines.auto.number-fits)) (read_ahead _ _ _ c.next.ensures.taken c.next.ensures.ahead) (counts 0 0 0 0 0 0) _ line (inr (c.if-number.true, comes_some _ _ p.0 p.2)) }
+    record { lines = script_ends _ _ _ _ _ _ _ _ _ _ _ _ _ was.so_far _ (omega (arith, c.lines.auto.number-fits)) (read_ahead _ _ _ c.next.ensures.taken c.next.ensures.ahead) (counts 0 0 0 0 0 0) _ line (inr (c.if-number.true, comes_some _ _ p.0 p.2)); out_later = was.out_later }
 
 pub returns-in-Some : goal.returns-in-Some
 returns-in-Some g c =

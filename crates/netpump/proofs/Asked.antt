@@ -135,3 +135,7 @@ module _ (End : List ℕ → ℕ → ℕ → Type 0) (t u : List ℕ) (n m k l :
 -- the words as the slice that is read
 pub read_words : (words slice : List (String Global)) (c : Command) → slice ≡ words → AreWordsOf (map string_bytes words) c → AreWordsOf (map string_bytes slice) c
 read_words words slice c is h = subst (λ (ws : List (String Global)). AreWordsOf (map string_bytes ws) c) (sym is) h
+
+-- the words are those of the call
+pub words_are : (words slice : List (String Global)) (c call : Command) → slice ≡ words → AreWordsOf (map string_bytes slice) c → c ≡ call → AreWordsOf (map string_bytes words) call
+words_are words slice c call is h same = subst (λ (x : List (String Global) × Command). AreWordsOf (map string_bytes x.0) x.1) (λ i. (is i, same i)) h

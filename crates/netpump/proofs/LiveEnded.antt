@@ -37,6 +37,7 @@ link_alone Unconnected e = refl
 link_alone other e = absurd (omega (arith, e))
 
 no_words : (end : CommandEnd) → end_status end ≡ 2 → ⊥
+no_words Memory e = omega (arith, e)
 no_words other e = omega (arith, e)
 
 -- ---- a status that was answered ----

@@ -37,7 +37,7 @@ stops_at_table file session end only row = absurd only
 module _ (row : SessionRow) (most : ℕ) (all left : Option (List ℕ)) (n : Counts) where
   pub sends_read : (x : Sending) (end : SendEnd) → Sends row most all left x n end → end_of_sender end ≡ Unread → Rose n.other n.now_other
   sends_read (Ungreeted last) sender.Read s e = absurd s.0
-  sends_read (Greeted wait welcome turns last) sender.Read s e = s.6.1
+  sends_read (Greeted wait welcome turns last) sender.Read s e = s.7.1
   sends_read x sender.Done s e = absurd (cc)
   sends_read x sender.Write s e = absurd (cc)
   sends_read x (sender.Script line) s e = absurd (cc)
@@ -46,7 +46,7 @@ module _ (row : SessionRow) (most : ℕ) (all left : Option (List ℕ)) (n : Cou
 
   pub sends_unwritten : (x : Sending) (end : SendEnd) → Sends row most all left x n end → end_of_sender end ≡ Unwritten → Rose n.out n.now_out
   sends_unwritten (Ungreeted last) sender.Write s e = absurd s.0
-  sends_unwritten (Greeted wait welcome turns last) sender.Write s e = s.6.ends.4
+  sends_unwritten (Greeted wait welcome turns last) sender.Write s e = s.7.ends.4
   sends_unwritten x sender.Done s e = absurd (cc)
   sends_unwritten x sender.Read s e = absurd (cc)
   sends_unwritten x (sender.Script line) s e = absurd (cc)

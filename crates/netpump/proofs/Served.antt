@@ -13,12 +13,18 @@ use Rattle.relay_threads.specs.Workers.{CountsEnd}
 use Rattle.relay_threads.specs.declared.rounds_end.RoundsEnd.{RoundsEnd}
 use Rattle.relay_threads.specs.declared.rounds_end.RoundsEnd.TheVariants as rounds
 use Rattle.script_replay.specs.Lending.{IsOutAt, RisesAt}
-use Rattle.script_replay.specs.Shelves.{Places}
+use Rattle.script_replay.specs.Shelves.{Places, ReadsAlike, reading_in}
+use Rattle.pump_link.specs.Ports.{PortsStep}
+use Rattle.serving.specs.Doors.{DoorsTell}
+use Rattle.serving.specs.declared.keys.KeyFault.{KeyFault}
+use Rattle.serving.specs.declared.keys.KeyFault.TheVariants as key_faults
 use Rattle.serving.specs.Sessions.{IfEnded, OpensBy, RoseAt, has_run}
 use Rattle.serving.specs.declared.doors.WorkersEnd.{WorkersEnd}
 use Rattle.serving.specs.declared.session.SessionEnd.{SessionEnd}
 use Rattle.serving.specs.declared.session.SessionEnd.TheVariants as session_ends
-use Rattle.netpump.specs.Servings.{StopsAtShelf, end_of_workers, end_of_session}
+use Rattle.netpump.specs.LentDisks.{LeavesBut}
+use Rattle.netpump.specs.Servings.{StopsAtShelf, end_of_workers, end_of_session, ServesFor, ServeComes}
+use Rattle.netpump.specs.Tables.{HasRow}
 use Rattle.netpump.specs.declared.command_end.CommandEnd.{CommandEnd}
 use Rattle.netpump.specs.declared.command_end.CommandEnd.TheVariants.{Memory, Unread, Failed, Unwritten, Unconnected}
 use Rattle.netpump.proofs.Received.{rises_back}
@@ -118,3 +124,23 @@ module _ {S : Type 0} (m : Meaning S) (places : Places) (session : ℕ) (low hig
   pair_rises roles.Low rose = rises_back places session roles.Low _ _ before mid after low_out rose later low_rises
   pair_rises roles.High rose = rises_back places session roles.High _ _ before mid after high_out rose later high_rises
   pair_rises roles.Recv rose = absurd rose
+
+-- ---- the table's row, and the key ----
+
+pub same_places : (before after : Places) → after ≡ before → ReadsAlike before after
+same_places before after same name = ap (λ (places : Places). reading_in (places name)) same
+
+-- there is no key, for one of two causes
+pub no_key : (R Q : Type 0) (fault : KeyFault) → (fault ≡ key_faults.Failed → R) → (fault ≡ key_faults.Short → Q) → R ⊎ Q
+no_key R Q key_faults.Failed failed short = inl (failed refl)
+no_key R Q key_faults.Short failed short = inr (short refl)
+
+module _ {D L S : Type 0} (t : DoorsTell D L) (m : Meaning S) (looks : ℕ) (ports now_ports : List (PortsStep L D) → Type 0)
+    (low_reads now_low_reads high_reads now_high_reads : List ℕ → Type 0) (written : Option (List ℕ)) (out_faults : ℕ) (before between after : Places)
+    (left now_left : Option (List ℕ)) (read_faults now_read_faults : ℕ) (file : Option (List ℕ)) (session : ℕ) (row : SessionRow) (end : CommandEnd) (mid : Option (List ℕ)) (mid_faults : ℕ) where
+  pub serves_row : HasRow file session row → between ≡ before → LeavesBut between after row.id
+      → ServesFor t m looks ports now_ports low_reads now_low_reads high_reads now_high_reads written out_faults between after left now_left read_faults now_read_faults row end mid mid_faults
+      → ServeComes t m looks ports now_ports low_reads now_low_reads high_reads now_high_reads written out_faults before after left now_left read_faults now_read_faults file session end mid mid_faults
+  serves_row has same others h =
+      inr (row, has, subst (λ (places : Places). LeavesBut places after row.id) same others,
+      subst (λ (places : Places). ServesFor t m looks ports now_ports low_reads now_low_reads high_reads now_high_reads written out_faults places after left now_left read_faults now_read_faults row end mid mid_faults) same h)

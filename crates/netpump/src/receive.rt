@@ -11,7 +11,7 @@ ghost use Rattle.stable_buffer.specs.Format.{receiver_size};
 ghost use Rattle.script_replay.specs.Shelves.{AllAreBack, disk_name, reading_at};
 ghost use Rattle.serving.specs.Doors.{links};
 ghost use Rattle.netpump.specs.LentDisks.{LeavesOtherDisks};
-ghost use Rattle.netpump.specs.CommandEnds.{EndsLive};
+ghost use Rattle.netpump.specs.LiveEnds.{EndsLive};
 ghost use Rattle.netpump.specs.Receptions.{end_of_receiver, ReceivesOver, ReceivesFor, ReceiveComes};
 ghost use Rattle.netpump.specs.declared.command_end.CommandEnd.TheVariants as ends;
 

@@ -4,7 +4,7 @@ ghost use Rattle.std.specs.Prelude.{◌≡◌, ◌⊎◌, ◌≤◌, [], Err};
 ghost use Rattle.std.specs.Io.KnownBytes.{Appends};
 ghost use Rattle.pump_frame.specs.Counts.{Rose};
 ghost use Rattle.serving.specs.Doors.{links};
-ghost use Rattle.netpump.specs.CommandEnds.{EndsLive, IsNoDiskEnd};
+ghost use Rattle.netpump.specs.LiveEnds.{EndsLive, IsNoDiskEnd};
 ghost use Rattle.netpump.specs.Sendings.{end_of_sender, SendsFor, SendComes};
 ghost use Rattle.netpump.specs.declared.command_end.CommandEnd.TheVariants as ends;
 

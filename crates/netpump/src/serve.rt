@@ -7,7 +7,7 @@ ghost use Rattle.pump_frame.specs.Counts.{Rose};
 ghost use Rattle.pump_frame.specs.Rows.{IsLawfulRow};
 ghost use Rattle.script_replay.specs.Shelves.{AllAreBack};
 ghost use Rattle.serving.specs.Doors.{doors, links};
-ghost use Rattle.netpump.specs.CommandEnds.{EndsLive};
+ghost use Rattle.netpump.specs.LiveEnds.{EndsLive};
 ghost use Rattle.netpump.specs.LentDisks.{LeavesBut};
 ghost use Rattle.netpump.specs.Servings.{end_of_workers, end_of_session, ServesWith, ServesFor, ServeComes};
 ghost use Rattle.netpump.specs.declared.command_end.CommandEnd.TheVariants as ends;
@@ -133,7 +133,7 @@ where
         Ok(key) => serve_row(
             rt, alloc, row, looks, shelf, ports, low_clock, high_clock, key, out,
         ),
-        Err(_) => CommandEnd::Unread,
+        Err(_fault) => CommandEnd::Unread,
     }
 }
 

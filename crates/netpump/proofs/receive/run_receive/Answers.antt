@@ -1,4 +1,4 @@
-use Rattle.std.proofs.Common.{List, ℕ, inl, refl, subst}
+use Rattle.std.proofs.Common.{List, ℕ, Err, inl, refl, subst}
 use Rattle.pump_link.proofs.Grown.{Grows-nil}
 use Rattle.netpump.specs.Tables.{HasRow, IsRowOf}
 use Rattle.netpump.proofs.Received.{receives_row}
@@ -14,4 +14,4 @@ returns-in-Ok-clause-comes g c = λ told tells.
 
 pub returns-in-Err-clause-comes : goal.returns-in-Err-clause-comes
 returns-in-Err-clause-comes g c = λ told tells.
-    inl (stops_at_table (g.S.Shelf.told.file c.args.shelf.now c.args.table.now) c.args.session c.in-Err.end c.in-Err.ensures.only (subst (λ (n : List ℕ). IsRowOf (g.S.Shelf.told.file c.args.shelf.now n) c.args.session _) c.as_str.ensures.value (c.in-Err.ensures.row told)), c.in-Err.ensures.disks, Grows-nil _, refl)
+    inl (stops_at_table (g.S.Shelf.told.file c.args.shelf.now c.args.table.now) c.args.session c.in-Err.end c.in-Err.ensures.only (subst (λ (n : List ℕ). IsRowOf (g.S.Shelf.told.file c.args.shelf.now n) c.args.session (Err c.in-Err.end)) c.as_str.ensures.value (c.in-Err.ensures.row told)), c.in-Err.ensures.disks, Grows-nil _, refl)

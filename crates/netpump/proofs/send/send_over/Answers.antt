@@ -25,12 +25,12 @@ returns-clause-sends g c =
 pub returns-clause-read : goal.returns-clause-read
 returns-clause-read g c = λ is.
     let s = c.send_with-end.ensures.sends in
-    sends_read _ _ _ _ _ s.0 c.send_with-end.result s.1 (sym c.end_of_sender.ensures ∙ is)
+    sends_read c.args.row.now _ _ _ _ s.0 c.send_with-end.result s.1 (sym c.end_of_sender.ensures ∙ is)
 
 pub returns-clause-unwritten : goal.returns-clause-unwritten
 returns-clause-unwritten g c = λ is.
     let s = c.send_with-end.ensures.sends in
-    sends_unwritten _ _ _ _ _ s.0 c.send_with-end.result s.1 (sym c.end_of_sender.ensures ∙ is)
+    sends_unwritten c.args.row.now _ _ _ _ s.0 c.send_with-end.result s.1 (sym c.end_of_sender.ensures ∙ is)
 
 pub returns-clause-memory : goal.returns-clause-memory
 returns-clause-memory g c = λ is. sender_had_memory c.send_with-end.result (sym c.end_of_sender.ensures ∙ is)

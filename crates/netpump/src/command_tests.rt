@@ -11,7 +11,7 @@ const SMALL: &str =
     "[[session]]\nid = 1\nlow = \"weather\"\nhigh = \"watch\"\ncapacity = 2\nmessage = 8\nwindow = 2\nstart = 20000\nlongest = 100000\nresend = 500000\nlow_port = 7001\nhigh_port = 7002\n";
 
 /// A shelf with empty disks for session 1 and two tables, on which these calls fail.
-fn new_shelf(alloc: Global, fails: &[u64]) -> Result<MemShelf<PlainDisk>, Fail> {
+pub fn new_shelf(alloc: Global, fails: &[u64]) -> Result<MemShelf<PlainDisk>, Fail> {
     let mut disks = Vec::new(alloc);
     for (role, room) in [
         (Role::Low, 65_744),

@@ -19,6 +19,8 @@ mod real_clock;
 mod receive;
 mod send;
 mod serve;
+#[cfg(test)]
+mod session_tests;
 mod show;
 mod standard;
 mod table_row;

@@ -96,13 +96,7 @@ fn a_record_replays_to_its_comments(rt: HostRuntime) -> Result<(), Fail> {
 
 #[test]
 fn refuses_what_is_no_race(rt: HostRuntime) -> Result<(), Fail> {
-    for line in [
-        "replay",
-        "race",
-        "race 0 0 50",
-        "race 0 1 50,",
-        "serve t.toml 1 1",
-    ] {
+    for line in ["replay", "race", "race 0 0 50", "race 0 1 50,"] {
         let (status, output) = run_live(&rt, rt.alloc(), line, &[])?;
         assert_eq!(rt; status, 2);
         assert_eq!(rt; output.as_slice(), b"fault words\n".as_slice());

@@ -12,6 +12,10 @@ use Rattle.pump_link.specs.Ports.{PortsStep}
 use Rattle.script_replay.specs.Lending.{ReadAt, IsOutAt, RisesAt}
 use Rattle.script_replay.specs.Shelves.{Places, disk_name, reading_in, reading_at}
 use Rattle.script_replay.proofs.Shelving.{read_in}
+use Rattle.stable_buffer.specs.Format.{receiver_size}
+use Rattle.peers.specs.Outputs.{Counts}
+use Rattle.peers.specs.Receiving.{Place, Reception, Receives}
+use Rattle.peers.specs.declared.receive.ReceiveEnd.{ReceiveEnd}
 use Rattle.serving.specs.Doors.{LinksTell}
 use Rattle.netpump.specs.LentDisks.{LeavesOtherDisks}
 use Rattle.netpump.specs.Receptions.{StopsAtDisk, ReceivesOver, ReceivesFor, ReceiveComes}
@@ -51,3 +55,7 @@ rises_back places session role count now before mid after out rose low rises =
 pub found_again : {D L : Type 0} (t : LinksTell L) (looks : ℕ) (ports now_ports : List (PortsStep L D) → Type 0) (written : Option (List ℕ)) (out_faults : ℕ) (found old left : List ℕ) (row : SessionRow) (end : CommandEnd) (mid : Option (List ℕ)) (mid_faults : ℕ)
     → old ≡ found → ReceivesOver t looks ports now_ports written out_faults old left row end mid mid_faults → ReceivesOver t looks ports now_ports written out_faults found left row end mid mid_faults
 found_again t looks ports now_ports written out_faults found old left row end mid mid_faults same h = subst (λ (x : List ℕ). ReceivesOver t looks ports now_ports written out_faults x left row end mid mid_faults) same h
+
+-- the receiver worked with the room of its disk
+pub sized : (row : SessionRow) (size looks : ℕ) (start : Place) (x : Reception) (counts : Counts) (end : ReceiveEnd) → size ≡ receiver_size → Receives row size looks start x counts end → Receives row receiver_size looks start x counts end
+sized row size looks start x counts end is h = subst (λ (n : ℕ). Receives row n looks start x counts end) is h

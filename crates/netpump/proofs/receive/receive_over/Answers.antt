@@ -4,8 +4,9 @@ use Rattle.pump_frame.specs.Counts.{Rose}
 use Rattle.pump_link.specs.Ports.{Connected, BackToPorts}
 use Rattle.pump_link.proofs.Grown.{Grows-then}
 use Rattle.stable_buffer.specs.Log.{RecvStands}
-use Rattle.peers.specs.Receiving.{Receives, StandsForFront, attempted, messages, place_of}
+use Rattle.peers.specs.Receiving.{StandsForFront, attempted, messages, place_of}
 use Rattle.two_worlds.proofs.Opening.Opened.{value_by}
+use Rattle.netpump.proofs.Received.{sized}
 use Rattle.netpump.proofs.Sent.{receives_device, receives_unwritten, receiver_never}
 use Rattle.netpump.proofs.receive.receive_over.Goals as goal
 
@@ -28,7 +29,7 @@ returns-clause-receives g c = λ tells.
       reception = x;
       disk_faults = g.D.Disk.told.count (recv_disk c.args.receiver);
       now_disk_faults = g.D.Disk.told.count (recv_disk e.new.receiver);
-      receives = subst (λ (size : ℕ). Receives row size c.args.looks (place_of c.args.receiver) x _ e.result) c.requires.size receives;
+      receives = sized _ _ _ _ _ _ _ c.requires.size receives;
       gave = gave;
       sent = sent;
       printed = printed;

@@ -3,13 +3,14 @@ use Rattle.disk_model.specs.declared.name.Role.TheVariants as roles
 use Rattle.pump_link.proofs.Grown.{Grows-nil}
 use Rattle.script_replay.specs.Shelves.{Places, reading_at}
 use Rattle.script_replay.proofs.Shelving.{is_out}
+use Rattle.netpump.specs.declared.command_end.CommandEnd.TheVariants.{Failed}
 use Rattle.netpump.proofs.LentDisks.{others_so, all_back}
 use Rattle.netpump.proofs.Received.{receives_at, untaken_stops, rises_back}
 use Rattle.netpump.proofs.receive.receive_row.Goals as goal
 
 pub returns-in-Err-clause-receives : goal.returns-in-Err-clause-receives
 returns-in-Err-clause-receives g c = λ told tells.
-    inl (untaken_stops _ c.args.row.now c.in-Err.not_taken.fault c.untaken.result c.untaken.ensures.memory c.untaken.ensures.failed, ap (λ (places : Places). reading_at places c.args.row.now.id roles.Recv) c.in-Err.ensures.none, Grows-nil _, refl)
+    inl (untaken_stops _ c.args.row.now c.in-Err.not_taken.fault c.untaken.result c.untaken.ensures.memory (λ e. c.untaken.ensures.failed e ∙ ap Failed c.in-Err.ensures.role), ap (λ (places : Places). reading_at places c.args.row.now.id roles.Recv) c.in-Err.ensures.none, Grows-nil _, refl)
 
 pub put_disk_back-requires : goal.put_disk_back-requires
 put_disk_back-requires g c = is_out _ _ c.in-Ok.ensures.out

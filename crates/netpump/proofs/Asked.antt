@@ -11,7 +11,7 @@ use Rattle.netpump.specs.Commands.{EndsSo, EndsWithStatus, end_status}
 use Rattle.netpump.specs.Exercises.{EndsExercise}
 use Rattle.netpump.specs.Formatting.{Formats}
 use Rattle.netpump.specs.Showing.{Shows}
-use Rattle.netpump.specs.Shelves.{Places}
+use Rattle.script_replay.specs.Shelves.{Places}
 use Rattle.netpump.specs.declared.command_end.CommandEnd.{CommandEnd}
 use Rattle.netpump.specs.declared.command_end.CommandEnd.TheVariants as ends
 

@@ -24,7 +24,7 @@ use Rattle.two_worlds.specs.Rooms.{IsFree, Serves, DisksGo}
 use Rattle.netpump.specs.declared.exercise.Tally.{Tally}
 use Rattle.netpump.specs.Exercises.{LeadEach, in_all, IsSummary}
 use Rattle.netpump.specs.Exercising.{Counts, IsAtMost, HasCounted, HasApplied, CannotFail, CanGo, LeadsPump, HasRun, tally_line}
-use Rattle.netpump.proofs.Going.{leads_from}
+use Rattle.script_replay.proofs.Going.{leads_from}
 use Rattle.netpump.proofs.Tallies.{counted_more, script_length}
 
 -- ---- one more line ----

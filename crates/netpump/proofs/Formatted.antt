@@ -11,14 +11,14 @@ use Rattle.script_reader.specs.Openings.{nothing_found}
 use Rattle.stable_buffer.specs.Format.{new_bytes}
 use Rattle.two_worlds.specs.Openings.{StandForFound}
 use Rattle.two_worlds.proofs.Opening.NewDisks.{nothing_stands}
-use Rattle.netpump.specs.Formatting.{ReadsAlike, IsSpared, first_full, IsFormatted, FormatStops, IsDiskEnd}
-use Rattle.netpump.specs.Lending.{ReadAt, IsOutAt, RisesAt, AreOnShelf}
-use Rattle.netpump.specs.Shelves.{Places, reading_in, reading_at, LeavesOtherSessions}
+use Rattle.netpump.specs.Formatting.{IsSpared, first_full, IsFormatted, FormatStops, IsDiskEnd}
+use Rattle.script_replay.specs.Lending.{ReadAt, IsOutAt, RisesAt, AreOnShelf}
+use Rattle.script_replay.specs.Shelves.{Places, reading_in, reading_at, LeavesOtherSessions, ReadsAlike}
 use Rattle.netpump.specs.TakenDisks.{HasBytes, RoseAt, StopsFormat}
 use Rattle.netpump.specs.declared.command_end.CommandEnd.{CommandEnd}
 use Rattle.netpump.specs.declared.command_end.CommandEnd.TheVariants.{Done, Memory, Unread, NoRow, Failed, Refused, Unwritten}
-use Rattle.netpump.specs.declared.disks.TakenDisks.{TakenDisks}
-use Rattle.netpump.proofs.Shelving.{read_in, name_is, rose_more, others_so, spares_so}
+use Rattle.script_replay.specs.declared.disks.TakenDisks.{TakenDisks}
+use Rattle.script_replay.proofs.Shelving.{read_in, name_is, rose_more, others_so, spares_so}
 
 pub on_ok : {T E P Q R : Type 0} (r : Result T E) → OnOk r P → OnOk r Q → (P → Q → R) → OnOk r R
 on_ok (Ok x) p q f = f p q

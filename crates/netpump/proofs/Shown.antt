@@ -16,17 +16,17 @@ use Rattle.two_worlds.specs.Openings.{StandForFound, IsRefused, failed_at, is_fo
 use Rattle.two_worlds.specs.Rooms.{is_role}
 use Rattle.two_worlds.specs.Surveys.{IsRead}
 use Rattle.two_worlds.specs.declared.not_open.NotOpen.{NotOpen}
-use Rattle.netpump.specs.Formatting.{ReadsAlike, IsDiskEnd}
-use Rattle.netpump.specs.Lending.{ReadAt, AreOnShelf}
-use Rattle.netpump.specs.Shelves.{Places, OfDisks, disk_name, reading_at, LeavesOtherSessions}
+use Rattle.netpump.specs.Formatting.{IsDiskEnd}
+use Rattle.script_replay.specs.Lending.{ReadAt, AreOnShelf}
+use Rattle.script_replay.specs.Shelves.{Places, OfDisks, disk_name, reading_at, LeavesOtherSessions, ReadsAlike}
 use Rattle.netpump.specs.Showing.{live_messages, shown_counts, shown, IsShown, ShowStops, ShowsSo, end_at}
 use Rattle.netpump.specs.Tables.{HasRow}
 use Rattle.netpump.specs.TakenDisks.{RoseAt}
 use Rattle.netpump.specs.declared.command_end.CommandEnd.{CommandEnd}
 use Rattle.netpump.specs.declared.command_end.CommandEnd.TheVariants.{Done, Memory, Unread, NoRow, Failed, Refused, Unwritten}
-use Rattle.netpump.specs.declared.disks.TakenDisks.{TakenDisks}
+use Rattle.script_replay.specs.declared.disks.TakenDisks.{TakenDisks}
 use Rattle.netpump.proofs.Formatted.{disk_of, was, alike_so}
-use Rattle.netpump.proofs.Shelving.{others_so}
+use Rattle.script_replay.proofs.Shelving.{others_so}
 
 -- ---- the lines ----
 

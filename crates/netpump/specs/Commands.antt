@@ -11,9 +11,12 @@ use Rattle.script_reader.specs.Transcript.{fault_line, line_with_end}
 use Rattle.script_reader.specs.declared.fault.Fault.TheVariants as faults
 use Rattle.netpump.specs.declared.command_end.CommandEnd.{CommandEnd}
 use Rattle.netpump.specs.declared.command_end.CommandEnd.TheVariants.{Done, Memory, Unread, NoRow, Failed, Refused, Unwritten}
-use Rattle.netpump.specs.Replays.{TellsWords}
 
 -- ---- the words ----
+
+-- the words of the command "replay"
+abbrev pub IsReplay : List (List ℕ) → Type 0
+IsReplay words = words ≡ codes "replay" ∷ []
 
 -- a command with threads is run by `live`, every other one by `batch`
 abbrev pub is_live : Command → Bool
@@ -27,6 +30,11 @@ IsNoCommand words = (c : Command) → is_live c ≡ false → AreWordsOf words c
 -- .. that `live` runs
 abbrev pub IsNoLiveCommand : List (List ℕ) → Type 0
 IsNoLiveCommand words = (c : Command) → is_live c ≡ true → AreWordsOf words c → ⊥
+
+-- what is written where the words are no command: with status 2 the fault, with status 4 a front of it, and nothing else
+abbrev pub TellsWords : Option (List ℕ) → Option (List ℕ) → ℕ → Type 0
+TellsWords old new status =
+    ((status ≡ 2) × Appends old new (fault_line faults.Words)) ⊎ ((status ≡ 4) × AppendsFront old new (fault_line faults.Words))
 
 -- then the fault is written, or a front of it; or nothing, where memory was wanting
 abbrev pub RefusesWords : Option (List ℕ) → Option (List ℕ) → ℕ → Type 0

@@ -1,6 +1,5 @@
 -- What formatting the disks of a session leaves, by how it ends. `before` and `after` say where each disk is.
 use Rattle.std.specs.Prelude.{◌≡◌, ℕ, List, [], ◌∷◌, length, Option, Some, None, Result, Ok, Err, codes, decimal}
-use Rattle.disk_model.specs.declared.name.DiskName.{DiskName}
 use Rattle.disk_model.specs.declared.name.Role.{Role}
 use Rattle.disk_model.specs.declared.name.Role.TheVariants as roles
 use Rattle.pump_frame.specs.declared.row.SessionRow.{SessionRow}
@@ -11,14 +10,10 @@ use Rattle.script_reader.specs.Transcript.{line_with_end}
 use Rattle.stable_buffer.specs.Format.{new_bytes}
 use Rattle.two_worlds.specs.Openings.{StandForFound}
 use Rattle.netpump.specs.Commands.{end_line}
-use Rattle.netpump.specs.Shelves.{Places, OfDisks, reading_in, reading_at, LeavesOtherSessions, Spares}
+use Rattle.script_replay.specs.Shelves.{Places, OfDisks, reading_at, LeavesOtherSessions, ReadsAlike, Spares}
 use Rattle.netpump.specs.Tables.{HasRow, HasNoRow}
 use Rattle.netpump.specs.declared.command_end.CommandEnd.{CommandEnd}
 use Rattle.netpump.specs.declared.command_end.CommandEnd.TheVariants.{Done, Memory, Unread, NoRow, Failed, Refused, Unwritten}
-
--- every disk reads as it did
-abbrev pub ReadsAlike : Places → Places → Type 0
-ReadsAlike before after = (name : DiskName) → reading_in (after name) ≡ reading_in (before name)
 
 -- every disk that was not empty reads as it did, and disks of other sessions are where they were
 pub record IsSpared (before after : Places) (session : ℕ) : Type 0 where

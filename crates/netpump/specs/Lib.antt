@@ -3,14 +3,7 @@ pub mod Exercises
 pub mod Exercising
 pub mod Files
 pub mod Formatting
-pub mod Lending
-pub mod Outputs
 pub mod Racing
-pub mod Replays
-pub mod Runners
-pub mod Sessions
-pub mod Shelves
 pub mod Showing
-pub mod Statuses
 pub mod Tables
 pub mod TakenDisks

@@ -11,8 +11,7 @@ use Rattle.script_reader.specs.declared.event.Event.{Event}
 use Rattle.script_reader.specs.declared.event.Event.TheVariants.{Show, Live}
 use Rattle.two_worlds.specs.Openings.{StandForFound, IsRefused}
 use Rattle.netpump.specs.Commands.{end_line}
-use Rattle.netpump.specs.Formatting.{ReadsAlike}
-use Rattle.netpump.specs.Shelves.{Places, OfDisks, LeavesOtherSessions}
+use Rattle.script_replay.specs.Shelves.{Places, OfDisks, LeavesOtherSessions, ReadsAlike}
 use Rattle.netpump.specs.Tables.{HasRow, HasNoRow}
 use Rattle.netpump.specs.declared.command_end.CommandEnd.{CommandEnd}
 use Rattle.netpump.specs.declared.command_end.CommandEnd.TheVariants.{Done, Memory, Unread, NoRow, Failed, Refused, Unwritten}

@@ -9,7 +9,7 @@ use Rattle.recovery.specs.declared.why.Why.TheVariants.{NotEmpty}
 use Rattle.netpump.specs.Formatting.{first_full}
 use Rattle.netpump.specs.declared.command_end.CommandEnd.{CommandEnd}
 use Rattle.netpump.specs.declared.command_end.CommandEnd.TheVariants.{Failed, Refused}
-use Rattle.netpump.specs.declared.disks.TakenDisks.{TakenDisks}
+use Rattle.script_replay.specs.declared.disks.TakenDisks.{TakenDisks}
 
 -- ---- each of the three ----
 

@@ -1,27 +1,26 @@
-ghost use Rattle.std.specs.Prelude.{◌≡◌, ℕ, ◌≤◌, ◌⊎◌, false, List, [], Option, Some, map, string_bytes};
+ghost use Rattle.std.specs.Prelude.{◌≡◌, ℕ, ◌≤◌, ◌⊎◌, false, List, [], map, string_bytes};
 ghost use Rattle.command_line.specs.Commands.{AreWordsOf};
 ghost use Rattle.command_line.specs.declared.command.Command.{Command as Asked};
 ghost use Rattle.command_line.specs.declared.command.Command.TheVariants as commands;
 ghost use Rattle.std.specs.Io.KnownBytes.{Appends};
 ghost use Rattle.pump_frame.specs.Counts.{Rose};
-ghost use Rattle.script_reader.specs.declared.fault.Fault.{Fault as Cause};
-ghost use Rattle.netpump.specs.Commands.{is_live, IsNoCommand, RefusesWords, EndsWithStatus};
+ghost use Rattle.script_replay.specs.Ends.{EndsReplay};
+ghost use Rattle.script_replay.specs.Replays.{IsFailed, Wrote};
+ghost use Rattle.script_replay.specs.Shelves.{AllAreBack, shelved};
+ghost use Rattle.netpump.specs.Commands.{is_live, IsNoCommand, IsReplay, TellsWords, RefusesWords, EndsWithStatus};
 ghost use Rattle.netpump.specs.Exercises.{EndsExercise};
 ghost use Rattle.netpump.specs.Formatting.{Formats};
 ghost use Rattle.netpump.specs.Showing.{Shows};
-ghost use Rattle.netpump.specs.Statuses.{HasStatus};
-ghost use Rattle.netpump.specs.Shelves.{AllAreBack, shelved};
-ghost use Rattle.netpump.specs.Replays.{IsReplay, TellsWords, IsFinished, IsUnread, IsFaulted, IsFailed, IsDown, IsBarred, IsOverfilled, IsCutOff, Wrote, WroteFront, EndedWith, HaveOutlived, HaveReceived};
 
 use crate::exercise::exercise;
 use crate::format::format_session;
-use crate::output::Output;
-use crate::replay::{Ended, replay, stop};
 use crate::show::show_session;
+use arrayvec::ArrayVec;
 use command_line::{Command, WordsFault, command_of};
 use disk_model::Shelf;
-use pump_link::{Sink, Source};
-use script_reader::Fault;
+use pump_link::{Sink, Source, write_all};
+use script_reader::{Fault, append_fault};
+use script_replay::{Ended, replay};
 use std::alloc::Global;
 
 /// Answers words that are no command which is run. The fault is all that is written.
@@ -29,9 +28,11 @@ pub fn refuse_words<O: Sink>(out: &mut O) -> u8
     ensures told { TellsWords (O.written out.old) (O.written out.new) result }
     ensures cause { result ≡ 4 → Rose (O.faults out.old) (O.faults out.new) }
 {
-    match stop(Fault::Words, &mut Output::new(), out) {
-        Ended::Write => 4,
-        _ => 2,
+    let mut line: ArrayVec<u8, 256> = ArrayVec::new();
+    append_fault(&Fault::Words, &mut line);
+    match write_all(out, line.as_slice()) {
+        Ok(()) => 2,
+        Err(_) => 4,
     }
 }
 
@@ -102,20 +103,10 @@ pub fn batch<S: Shelf, I: Source, O: Sink>(
     ensures file { (IsReplay (map string_bytes words.now.items) → ⊥) → result ≡ 3 → Rose (S.told.faults shelf.old) (S.told.faults shelf.new) }
     ensures read { IsReplay (map string_bytes words.now.items) → result ≡ 3 → Rose (I.faults script.old) (I.faults script.new) }
     ensures unwritten { result ≡ 4 → Rose (O.faults out.old) (O.faults out.new) }
-    // The headline, by what is read of the disks then, at every status at which a replay writes: each message whose
-    // acknowledgement was written is on those of its session, and the receiver of each session has a front of what was
-    // accepted. At 4 so is each message whose acknowledgement was still to be written.
-    ensures outlives { IsReplay (map string_bytes words.now.items) → (result ≡ 0) ⊎ ((result ≡ 3) ⊎ ((result ≡ 4) ⊎ ((result ≡ 5) ⊎ ((result ≡ 7) ⊎ ((result ≡ 8) ⊎ (result ≡ 10)))))) → S.told.tells → S.Disk.told.tells → EndedWith result (shelved (S.told.disk shelf.old) (S.told.disk shelf.new)) (I.left script.old) (I.left script.new) (O.written out.old) (O.written out.new) (I.faults script.old) (I.faults script.new) (HaveOutlived (S.told.disk shelf.new)) }
-    ensures prefix { IsReplay (map string_bytes words.now.items) → (result ≡ 0) ⊎ ((result ≡ 3) ⊎ ((result ≡ 4) ⊎ ((result ≡ 5) ⊎ ((result ≡ 7) ⊎ ((result ≡ 8) ⊎ (result ≡ 10)))))) → S.told.tells → S.Disk.told.tells → EndedWith result (shelved (S.told.disk shelf.old) (S.told.disk shelf.new)) (I.left script.old) (I.left script.new) (O.written out.old) (O.written out.new) (I.faults script.old) (I.faults script.new) (HaveReceived (S.told.disk shelf.new)) }
-    // How a replay ends; at 0, 5 and 10 the bytes of the script have no other status on the disks that were found.
-    ensures done { IsReplay (map string_bytes words.now.items) → result ≡ 0 → S.told.tells → S.Disk.told.tells → Wrote (I.left script.old) (O.written out.old) (O.written out.new) (λ r output. IsFinished (shelved (S.told.disk shelf.old) (S.told.disk shelf.new)) r output × HasStatus 0 r output) }
+    // A replay that wants memory has written nothing; of how it ends with another status see `EndsReplay`.
     ensures memory { IsReplay (map string_bytes words.now.items) → result ≡ 1 → Appends (O.written out.old) (O.written out.new) [] }
-    ensures unread { IsReplay (map string_bytes words.now.items) → result ≡ 3 → S.told.tells → S.Disk.told.tells → Wrote (I.left script.old) (O.written out.old) (O.written out.new) (IsUnread (shelved (S.told.disk shelf.old) (S.told.disk shelf.new)) (I.left script.new) (I.faults script.old) (I.faults script.new)) }
-    ensures cut_off { IsReplay (map string_bytes words.now.items) → result ≡ 4 → S.told.tells → S.Disk.told.tells → WroteFront (I.left script.old) (O.written out.old) (O.written out.new) (IsCutOff (shelved (S.told.disk shelf.old) (S.told.disk shelf.new)) (I.left script.new) (I.faults script.old) (I.faults script.new)) }
-    ensures faulted { IsReplay (map string_bytes words.now.items) → result ≡ 5 → S.told.tells → S.Disk.told.tells → Wrote (I.left script.old) (O.written out.old) (O.written out.new) (λ r output. IsFaulted (shelved (S.told.disk shelf.old) (S.told.disk shelf.new)) (I.left script.new) r output × HasStatus 5 r output) }
-    ensures down { IsReplay (map string_bytes words.now.items) → result ≡ 7 → S.told.tells → S.Disk.told.tells → Wrote (I.left script.old) (O.written out.old) (O.written out.new) (IsDown (shelved (S.told.disk shelf.old) (S.told.disk shelf.new)) (I.left script.new)) }
-    ensures barred { IsReplay (map string_bytes words.now.items) → result ≡ 8 → S.told.tells → S.Disk.told.tells → Wrote (I.left script.old) (O.written out.old) (O.written out.new) (IsBarred (shelved (S.told.disk shelf.old) (S.told.disk shelf.new)) (I.left script.new)) }
-    ensures full { IsReplay (map string_bytes words.now.items) → result ≡ 10 → S.told.tells → S.Disk.told.tells → Wrote (I.left script.old) (O.written out.old) (O.written out.new) (λ r output. IsOverfilled (shelved (S.told.disk shelf.old) (S.told.disk shelf.new)) (I.left script.new) r output × HasStatus 10 r output) }
+    ensures replay { IsReplay (map string_bytes words.now.items) → S.told.tells → S.Disk.told.tells → EndsReplay result (S.told.disk shelf.old) (S.told.disk shelf.new)
+        (I.left script.old) (I.left script.new) (O.written out.old) (O.written out.new) (I.faults script.old) (I.faults script.new) }
     // How formatting, showing and an exercise end.
     ensures format { (table : List ℕ) (session : ℕ) → AreWordsOf (map string_bytes words.now.items) (commands.Format table session) → S.told.tells → S.Disk.told.tells
         → EndsWithStatus (Formats (S.told.file shelf.old table) (S.told.disk shelf.old) (S.told.disk shelf.new) session) (O.written out.old) (O.written out.new) result }
@@ -141,15 +132,5 @@ pub fn batch<S: Shelf, I: Source, O: Sink>(
         Command::Exercise { seed, count } => return run_exercise(alloc, *seed, *count, out),
         Command::Race { .. } => return refuse_words(out),
     }
-    match replay(alloc, shelf, script, out) {
-        Ended::Done => 0,
-        Ended::Memory => 1,
-        Ended::Stopped(Fault::Words) => 2,
-        Ended::Stopped(Fault::Read) => 3,
-        Ended::Write => 4,
-        Ended::Stopped(Fault::Script { .. }) => 5,
-        Ended::Stopped(Fault::Device { .. }) => 7,
-        Ended::Stopped(Fault::Disk { .. }) => 8,
-        Ended::Stopped(Fault::Full { .. }) => 10,
-    }
+    replay(alloc, shelf, script, out).status()
 }

@@ -103,6 +103,7 @@ fn formats_empty_disks(rt: HostRuntime) -> Result<(), Fail> {
         ("format t.toml 01", 2, "fault words\n"),
         ("format --help", 2, "fault words\n"),
         ("help", 2, "fault words\n"),
+        ("replay now", 2, "fault words\n"),
         ("--version", 2, "fault words\n"),
     ];
     assert!(rt; all_end(rt.alloc(), &[], lines.as_slice())?);

@@ -18,7 +18,6 @@ ghost use Rattle.two_worlds.specs.Pumps.{StandsFor};
 ghost use Rattle.netpump.specs.Exercises.{look_word, look_count, IsSummary};
 ghost use Rattle.netpump.specs.Exercising.{AddsEvents, Counts, IsAtMost, CannotFail, CanGoOn, LeadsPump, HasRun, tally_line};
 
-use crate::replay::Ended;
 use arrayvec::ArrayVec;
 use delay_table::delay;
 use disk_model::PlainDisk;
@@ -26,6 +25,7 @@ use pump_core::Reply;
 use pump_frame::{OutOfMemory, SessionRow};
 use pump_link::{Sink, write_all};
 use script_reader::{Body, EventHead, Generator, Line, LineHead};
+use script_replay::Ended;
 use std::alloc::{AllocError, Global};
 use two_worlds::Pump;
 

@@ -8,12 +8,11 @@ ghost use Rattle.pump_frame.specs.Rows.{IsLawfulRow};
 ghost use Rattle.stable_buffer.specs.Format.{new_bytes};
 ghost use Rattle.netpump.specs.Commands.{EndsSo};
 ghost use Rattle.netpump.specs.Formatting.{IsFormatted, FormatStops, Formats, FormatsSo, IsDiskEnd, formatted_line};
-ghost use Rattle.netpump.specs.Shelves.{AllAreBack};
+ghost use Rattle.script_replay.specs.Shelves.{AllAreBack};
 ghost use Rattle.netpump.specs.TakenDisks.{HasBytes, CountOn, ReadOn, IsNotEmpty, AreNotEmpty, FailsAmong, StopsFormat};
 ghost use Rattle.netpump.specs.declared.command_end.CommandEnd.TheVariants as ends;
 
 use crate::command_end::{CommandEnd, close, fail};
-use crate::disks::{NotTaken, TakenDisks, put_disks_back, take_disks};
 use crate::table_row::row_in_file;
 use arrayvec::ArrayVec;
 use command_line::TableName;
@@ -21,6 +20,7 @@ use disk_model::{Disk, DiskFault, Role, Shelf, ShelfFault};
 use pump_frame::SessionRow;
 use pump_link::Sink;
 use recovery::Why;
+use script_replay::{NotTaken, TakenDisks, put_disks_back, take_disks};
 use stable_buffer::format;
 use std::alloc::Global;
 

@@ -5,22 +5,15 @@ mod batch;
 mod command_end;
 #[cfg(test)]
 mod command_tests;
-mod disks;
 mod exercise;
 mod explain;
 mod file_disk;
 mod file_shelf;
 mod format;
 mod live;
-mod output;
-mod replay;
-mod session;
-mod sessions;
 mod show;
 mod standard;
 mod table_row;
-#[cfg(test)]
-mod tests;
 
 use batch::batch;
 use disk_model::Shelf;

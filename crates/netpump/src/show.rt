@@ -7,12 +7,11 @@ ghost use Rattle.pump_frame.specs.Rows.{IsLawfulRow};
 ghost use Rattle.script_reader.specs.Transcript.{text, event_line};
 ghost use Rattle.netpump.specs.Commands.{EndsSo};
 ghost use Rattle.netpump.specs.Formatting.{IsDiskEnd};
-ghost use Rattle.netpump.specs.Shelves.{AllAreBack};
+ghost use Rattle.script_replay.specs.Shelves.{AllAreBack};
 ghost use Rattle.netpump.specs.Showing.{live_messages, shown_counts, IsShown, ShowStops, Shows, ShowsSo, end_at};
 ghost use Rattle.netpump.specs.declared.command_end.CommandEnd.TheVariants as ends;
 
 use crate::command_end::{CommandEnd, close, fail};
-use crate::disks::{put_disks_back, take_disks};
 use crate::format::untaken;
 use crate::table_row::row_in_file;
 use arrayvec::ArrayVec;
@@ -22,6 +21,7 @@ use pump_frame::{Payload, SessionRow};
 use pump_link::Sink;
 use recovery::Why;
 use script_reader::{Event, print_event};
+use script_replay::{put_disks_back, take_disks};
 use std::alloc::{AllocError, Global};
 use two_worlds::survey_disks;
 

@@ -1,8 +1,8 @@
 ghost use Rattle.std.specs.Prelude.{◌≤◌};
 
 use super::exercise;
-use crate::replay::Ended;
 use pump_link::MemSink;
+use script_replay::Ended;
 use std::alloc::{AllocError, Global};
 use std::test::Fail;
 

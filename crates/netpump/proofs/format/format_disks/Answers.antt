@@ -1,5 +1,5 @@
 use Rattle.netpump.proofs.Formatted.{on_ok, if_err, formatted_so, stops_so, rises_so, failed_at, disk_end}
-use Rattle.netpump.proofs.Shelving.{rose_more}
+use Rattle.script_replay.proofs.Shelving.{rose_more}
 use Rattle.netpump.proofs.format.format_disks.Goals as goal
 
 pub returns-clause-formatted : goal.returns-clause-formatted

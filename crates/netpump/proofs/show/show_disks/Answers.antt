@@ -3,7 +3,7 @@ use Rattle.netpump.specs.Showing.{ShowStops}
 use Rattle.netpump.specs.declared.command_end.CommandEnd.{CommandEnd}
 use Rattle.netpump.specs.declared.command_end.CommandEnd.TheVariants as ends
 use Rattle.netpump.proofs.Formatted.{if_err, rises_so}
-use Rattle.netpump.proofs.Shelving.{rose_more}
+use Rattle.script_replay.proofs.Shelving.{rose_more}
 use Rattle.netpump.proofs.Shown.{if_ok, alike, shown_so, shown_same, stops_so, rose_at}
 use Rattle.netpump.proofs.show.show_disks.Goals as goal
 

@@ -1,5 +1,0 @@
-use Rattle.netpump.proofs.Turns.{begins_alone}
-use Rattle.netpump.proofs.replay.begin_alone.Goals as goal
-
-pub returns-in-Ok-clause-begins : goal.returns-in-Ok-clause-begins
-returns-in-Ok-clause-begins g c = λ before. begins_alone g.D.Disk.told before c.args.row.now c.args.next c.args.held c.in-Ok.session c.requires.lawful c.in-Ok.ensures.stands

@@ -1,9 +1,0 @@
-use Rattle.std.proofs.Common.{sym, ap, ◌∙◌, nat_lt}
-use Rattle.script_reader.specs.Heads.{line_with}
-use Rattle.netpump.proofs.Listed.{in_turn_first}
-use Rattle.netpump.proofs.sessions.Sessions.is_in_turn.Goals as goal
-
-pub returns-then-not-self-clause-may : goal.returns-then-not-self-clause-may
-returns-then-not-self-clause-may g c = λ bytes t stand.
-    in_turn_first g.D.Disk.told c.args.self.now t (line_with bytes c.args.line.now) stand (c.begins_session.ensures bytes ∙ c.if-begins_session.true) c.if-not-self.true
-    ∙ ap (λ n. nat_lt n 16) (sym (c.len.ensures ∙ c.args.self.now.begun.ok.0))

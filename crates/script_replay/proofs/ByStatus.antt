@@ -1,0 +1,75 @@
+-- How a replay ends by its status, from how it ends.
+use Rattle.std.proofs.Common.{◌≡◌, ℕ, ◌==◌, Bool, true, false, List, Option, refl, subst}
+use Rattle.disk_model.specs.declared.name.Role.{Role}
+use Rattle.script_reader.specs.declared.fault.Fault.TheVariants as faults
+use Rattle.script_replay.specs.Ends.{end_status, EndsReplay}
+use Rattle.script_replay.specs.Replays.{EndedWith, HaveOutlived, HaveReceived}
+use Rattle.script_replay.specs.Runners.{EndsAs}
+use Rattle.script_replay.specs.Shelves.{Places, shelved}
+use Rattle.script_replay.specs.declared.ended.Ended.{Ended}
+use Rattle.script_replay.specs.declared.ended.Ended.TheVariants as ended
+use Rattle.script_replay.proofs.Ending.{down_some}
+use Rattle.script_replay.proofs.Headline.{HoldsAtEnds, outlives, fronts, wrote_finished, wrote_unread, wrote_front, wrote_faulted, wrote_down, wrote_barred, wrote_full}
+use Rattle.script_replay.proofs.OneStatus.{done_only, faulted_only, full_only}
+
+-- ---- the end that has a status ----
+
+abbrev Where : Bool → Type 0 → Type 0 → Type 0
+Where true A B = A
+Where false A B = B
+
+abbrev IsOfStatus : ℕ → Ended → Type 0
+IsOfStatus status end =
+    Where (status == 0) (end ≡ ended.Done)
+    (Where (status == 1) (end ≡ ended.Memory)
+    (Where (status == 2) (end ≡ ended.Stopped faults.Words)
+    (Where (status == 3) (end ≡ ended.Stopped faults.Read)
+    (Where (status == 4) (end ≡ ended.Write)
+    (Where (status == 5) ((line : ℕ) × (end ≡ ended.Stopped (faults.Script line)))
+    (Where (status == 7) ((session : ℕ) × (role : Role) × (end ≡ ended.Stopped (faults.Device session role)))
+    (Where (status == 8) ((session : ℕ) × (role : Role) × (number first second : ℕ) × (end ≡ ended.Stopped (faults.Disk session role number first second)))
+    (Where (status == 10) ((session at length size : ℕ) × (end ≡ ended.Stopped (faults.Full session at length size))) (Unit {0})))))))))
+
+of_its_status : (end : Ended) → IsOfStatus (end_status end) end
+of_its_status ended.Done = refl
+of_its_status ended.Memory = refl
+of_its_status ended.Write = refl
+of_its_status (ended.Stopped faults.Words) = refl
+of_its_status (ended.Stopped faults.Read) = refl
+of_its_status (ended.Stopped (faults.Script line)) = (line, refl)
+of_its_status (ended.Stopped (faults.Device session role)) = (session, role, refl)
+of_its_status (ended.Stopped (faults.Disk session role number first second)) = (session, role, number, first, second, refl)
+of_its_status (ended.Stopped (faults.Full session at length size)) = (session, at, length, size, refl)
+
+pub of_status : (status : ℕ) (end : Ended) → end_status end ≡ status → IsOfStatus status end
+of_status status end is = subst (λ (n : ℕ). IsOfStatus n end) is (of_its_status end)
+
+-- ---- how it ends ----
+
+module _ (before after : Places) (all left old new : Option (List ℕ)) (was now : ℕ) where
+  abbrev Ends : Ended → Type 0
+  Ends end = EndsAs (shelved before after) all left old new was now end
+
+  holds : (Holds : _) → HoldsAtEnds before after Holds → (end : Ended) → Ends end → (end_status end ≡ 1 → ⊥) → EndedWith (end_status end) (shelved before after) all left old new was now Holds
+  holds Holds h ended.Done ends wrote = wrote_finished before after all left was now Holds h old new ends
+  holds Holds h ended.Memory ends wrote = absurd (wrote refl)
+  holds Holds h ended.Write ends wrote = wrote_front before after all left was now Holds h old new ends
+  holds Holds h (ended.Stopped faults.Words) ends wrote = absurd ends
+  holds Holds h (ended.Stopped faults.Read) ends wrote = wrote_unread before after all left was now Holds h old new ends
+  holds Holds h (ended.Stopped (faults.Script line)) ends wrote = wrote_faulted before after all left was now Holds h old new ends
+  holds Holds h (ended.Stopped (faults.Device session role)) ends wrote = wrote_down before after all left was now Holds h old new session ends
+  holds Holds h (ended.Stopped (faults.Disk session role number first second)) ends wrote = wrote_barred before after all left was now Holds h old new ends
+  holds Holds h (ended.Stopped (faults.Full session at length size)) ends wrote = wrote_full before after all left was now Holds h old new ends
+
+  pub ends_by_status : (end : Ended) → Ends end → EndsReplay (end_status end) before after all left old new was now
+  ends_by_status end ends = record {
+    done = λ is. done_only (shelved before after) all old new (subst Ends (of_status 0 end is) ends);
+    unread = λ is. subst Ends (of_status 3 end is) ends;
+    cut_off = λ is. subst Ends (of_status 4 end is) ends;
+    faulted = λ is. let (line, e) = of_status 5 end is in faulted_only (shelved before after) all old new left (subst Ends e ends);
+    down = λ is. let (session, role, e) = of_status 7 end is in down_some (shelved before after) all old new left session (subst Ends e ends);
+    barred = λ is. let (session, role, number, first, second, e) = of_status 8 end is in subst Ends e ends;
+    full = λ is. let (session, at, length, size, e) = of_status 10 end is in full_only (shelved before after) all old new left (subst Ends e ends);
+    outlives = holds (HaveOutlived after) (outlives before after) end ends;
+    prefix = holds (HaveReceived after) (fronts before after) end ends;
+  }

@@ -1,0 +1,8 @@
+use Rattle.script_replay.proofs.Gathered.{front_more, front_behind, on_err}
+use Rattle.script_replay.proofs.output.Output.stop.Goals as goal
+
+pub returns-in_err-make_room-clause-err : goal.returns-in_err-make_room-clause-err
+returns-in_err-make_room-clause-err g c = on_err _ _ (front_more _ _ _ _ c.in_err-make_room.ensures.err)
+
+pub returns-clause-err : goal.returns-clause-err
+returns-clause-err g c = front_behind c.flush.result _ _ _ _ _ _ _ c.in_ok-make_room.ensures.ok c.append_fault.ensures.line c.flush.ensures.err

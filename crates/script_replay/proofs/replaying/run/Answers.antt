@@ -1,0 +1,219 @@
+use Rattle.std.proofs.Common.{[], ◌∷◌, ◌++◌, length, arith, refl, sym, subst, length-append}
+use Rattle.pump_link.proofs.Known.{Appends-none}
+use Rattle.script_reader.specs.Heads.{line_with}
+use Rattle.script_reader.specs.Openings.{new_disks}
+use Rattle.script_reader.specs.Sessions.{no_sessions}
+use Rattle.script_reader.proofs.LineLaws.{lawful_line}
+use Rattle.script_replay.specs.Outputs.{held_of}
+use Rattle.script_replay.specs.Runners.{lent, AllAreUp}
+use Rattle.script_replay.specs.Sessions.{AllLend}
+use Rattle.script_replay.proofs.Quiet.{quiet_shown, quiet_turn, quiet_memory}
+use Rattle.script_replay.proofs.Stops.{keeps_so, stops, barred, cut_off, stop_device, closed_device, closed_not, line_fault}
+use Rattle.script_replay.proofs.Turns.{hands_of}
+use Rattle.script_replay.proofs.Widened.{advance}
+use Rattle.script_replay.proofs.SoFar.{Keeps-fresh, fresh_gathers, so_far_more, so_far_kept, shown, printed, one_left, refused, failed, finished, closed, unshown, faulty_line, faulty_bad, line_number, bad_number, near_now, near_bad, within_failed, near_next}
+use Rattle.script_replay.proofs.replaying.run.Goals as goal
+
+pub turns-init : goal.turns-init
+turns-init g c = (
+  λ told tells. (
+    [],
+    [],
+    no_sessions,
+    new_disks,
+    record { spelled = rw c.new-lines.ensures (Keeps-fresh _); leads = (refl, refl) },
+    fresh_gathers (held_of c.new-output.result) _ c.new-output.ensures,
+    c.requires.stands,
+    λ number. tt,
+    rw c.new-lines.ensures refl,
+  ),
+  (
+    subst (λ l. AllLend g.S.Disk.Disk.told (g.S.Shelf.told.disk c.args.shelf.now) (g.S.Shelf.told.disk c.args.shelf.now) l) (sym c.requires.none) (λ number role. refl),
+    subst (λ l. AllAreUp l) (sym c.requires.none) (λ number. tt),
+  ),
+  rw c.new-lines.ensures (omega arith),
+  rw c.new-lines.ensures (omega arith),
+  omega arith,
+  omega arith,
+  omega arith,
+  c.requires.order,
+  λ way. (c.new-output.ensures, Appends-none (g.O.Sink.written c.args.out.now)),
+)
+
+pub turn-requires-clause-lawful : goal.turn-requires-clause-lawful
+turn-requires-clause-lawful g c = let n = c.in-Line.ensures.next in lawful_line (line_with c.next_head.new.body c.in-Line.line) n.0 n.2
+
+pub returns-in-Err-clause-ends : goal.returns-in-Err-clause-ends
+returns-in-Err-clause-ends g c = λ told tells.
+    let i = c.turns.invariant in
+    let t = i.0 told tells in
+    unshown (lent g.S.Disk.Disk.told (g.S.Shelf.told.disk c.args.shelf.now) (g.S.Shelf.told.disk c.turns.shelf) c.turns.sessions.begun.items) t.3 _ _ _ _ _ _ _ _ t.0 t.1 t.2 t.4 (omega (arith, t.8, i.3)) (held_of c.turns.output) t.5 (keeps_so g.S.Disk.Disk.told (g.S.Shelf.told.disk c.args.shelf.now) (g.S.Shelf.told.disk c.turns.shelf) c.turns.sessions.begun.items t.3 t.2 t.1 i.1.0 t.7 t.6.each) (near_now c.turns.lines _ i.2) c.in-Err.ensures.err
+
+pub returns-in-Err-clause-hands : goal.returns-in-Err-clause-hands
+returns-in-Err-clause-hands g c = hands_of _ g.S.Disk.Disk.told (g.S.Shelf.told.disk c.args.shelf.now) (g.S.Shelf.told.disk c.turns.shelf) c.turns.sessions.begun.items c.turns.invariant.1.0
+
+pub returns-in-Unwritten-clause-ends : goal.returns-in-Unwritten-clause-ends
+returns-in-Unwritten-clause-ends g c = λ told tells.
+    let i = c.turns.invariant in
+    let t = i.0 told tells in
+    let n = c.in-Line.ensures.next in
+    let m = c.in-Unwritten.ensures.does told tells (g.S.Shelf.told.disk c.args.shelf.now) i.1.0 t.2 t.6 in
+    let w = shown (held_of c.turns.output) (held_of c.show.new.output) _ _ _ _ t.5 c.in-Ok.ensures.ok in
+    cut_off _ g.S.Disk.Disk.told (g.S.Shelf.told.disk c.args.shelf.now) (g.S.Shelf.told.disk c.turn.new.shelf) c.turn.new.sessions.begun.items t.3 _ _ _ _ _ _ _ c.turns.lines c.next_head.new.self (line_with c.next_head.new.body c.in-Line.line) n t.0 t.1 t.2 t.4 (one_left c.turns.lines c.next_head.new.self _ _ (line_with c.next_head.new.body c.in-Line.line) t.0 n t.8 (c.in-Line.ensures.few (λ e. cc) (λ e. cc)))
+    (held_of c.show.new.output) w t.7 _ m.0 m.1 m.2 m.3
+
+pub returns-in-Unwritten-clause-hands : goal.returns-in-Unwritten-clause-hands
+returns-in-Unwritten-clause-hands g c = c.in-Unwritten.ensures.hands (g.S.Shelf.told.disk c.args.shelf.now) c.turns.invariant.1.0
+
+pub returns-in-Refused-clause-ends : goal.returns-in-Refused-clause-ends
+returns-in-Refused-clause-ends g c = λ told tells.
+    let i = c.turns.invariant in
+    let t = i.0 told tells in
+    let n = c.in-Line.ensures.next in
+    let m = c.in-Refused.ensures.does told tells (g.S.Shelf.told.disk c.args.shelf.now) i.1.0 t.2 t.6 in
+    let w = shown (held_of c.turns.output) (held_of c.show.new.output) _ _ _ _ t.5 c.in-Ok.ensures.ok in
+    let v = barred _ _ _ (held_of c.show.new.output) (held_of c.turn.new.output) t.1 m.0 w m.1.1 m.2 in
+    refused (lent g.S.Disk.Disk.told (g.S.Shelf.told.disk c.args.shelf.now) (g.S.Shelf.told.disk c.turn.new.shelf) c.turn.new.sessions.begun.items) t.3 _ _ _ _ _ _ _ _ t.0 t.1 t.2 t.4 (omega (arith, t.8, i.3)) (held_of c.turn.new.output) v (keeps_so g.S.Disk.Disk.told (g.S.Shelf.told.disk c.args.shelf.now) (g.S.Shelf.told.disk c.turn.new.shelf) c.turn.new.sessions.begun.items t.3 t.2 t.1 m.1.3 t.7 m.1.2) c.refuse.result c.number.result _ _
+    (near_next c.turns.lines c.next_head.new.self _ _ (line_with c.next_head.new.body c.in-Line.line) n)
+    (faulty_line c.turns.lines c.next_head.new.self _ _ (line_with c.next_head.new.body c.in-Line.line) t.2 (length t.0) n m.1.0)
+    (line_number c.turns.lines c.next_head.new.self _ _ (line_with c.next_head.new.body c.in-Line.line) t.0 c.number.result n t.8 c.number.ensures (omega arith))
+    c.refuse.ensures
+
+pub returns-in-Refused-clause-hands : goal.returns-in-Refused-clause-hands
+returns-in-Refused-clause-hands g c = c.in-Refused.ensures.hands (g.S.Shelf.told.disk c.args.shelf.now) c.turns.invariant.1.0
+
+pub returns-in-Refused-clause-write : goal.returns-in-Refused-clause-write
+returns-in-Refused-clause-write g c = closed _ _ _ _ _ _ _ _ (omega (arith, c.turns.invariant.5, c.show.ensures.cause, c.turn.ensures.later)) (λ e. cc) c.refuse.ensures
+
+pub returns-in-Stopped-clause-ends : goal.returns-in-Stopped-clause-ends
+returns-in-Stopped-clause-ends g c = λ told tells.
+    let i = c.turns.invariant in
+    let t = i.0 told tells in
+    let n = c.in-Line.ensures.next in
+    let m = c.in-Stopped.ensures.does told tells (g.S.Shelf.told.disk c.args.shelf.now) i.1.0 t.2 t.6 in
+    let w = shown (held_of c.turns.output) (held_of c.show.new.output) _ _ _ _ t.5 c.in-Ok.ensures.ok in
+    stops _ g.S.Disk.Disk.told (g.S.Shelf.told.disk c.args.shelf.now) (g.S.Shelf.told.disk c.turn.new.shelf) c.turn.new.sessions.begun.items t.3 _ _ _ _ _ _ _ c.turns.lines c.next_head.new.self (line_with c.next_head.new.body c.in-Line.line) n t.0 t.1 t.2 t.4
+    (one_left c.turns.lines c.next_head.new.self _ _ (line_with c.next_head.new.body c.in-Line.line) t.0 n t.8 (c.in-Line.ensures.few (λ e. cc) (λ e. cc)))
+    (held_of c.show.new.output) w t.7 (held_of c.turn.new.output) _ _ _ _ m.0 c.in-Stopped.fault c.stop.result m.1 m.2 c.stop.ensures
+
+pub returns-in-Stopped-clause-hands : goal.returns-in-Stopped-clause-hands
+returns-in-Stopped-clause-hands g c = c.in-Stopped.ensures.hands (g.S.Shelf.told.disk c.args.shelf.now) c.turns.invariant.1.0
+
+pub returns-in-Stopped-clause-device : goal.returns-in-Stopped-clause-device
+returns-in-Stopped-clause-device g c = λ number failed.
+    stop_device _ (g.S.Shelf.told.disk_faults c.turns.shelf) _ _ (omega (arith, c.turns.invariant.6)) (c.in-Stopped.ensures.device number (closed_device _ _ _ _ _ c.in-Stopped.fault c.stop.result number c.stop.ensures failed) (g.S.Shelf.told.disk c.args.shelf.now) c.turns.invariant.1.0)
+
+pub returns-in-Stopped-clause-write : goal.returns-in-Stopped-clause-write
+returns-in-Stopped-clause-write g c = closed _ _ _ _ _ _ _ _ (omega (arith, c.turns.invariant.5, c.show.ensures.cause, c.turn.ensures.later)) (λ e. cc) c.stop.ensures
+
+pub returns-in-Memory-clause-memory : goal.returns-in-Memory-clause-memory
+returns-in-Memory-clause-memory g c = λ is.
+    let i = c.turns.invariant in
+    quiet_memory c.turns.sessions c.turn.new.sessions (held_of c.show.new.output) (held_of c.turn.new.output) _ _ _ _ c.in-Memory.ensures.quiet
+    (λ way. let q = i.8 way in quiet_shown (held_of c.turns.output) (held_of c.show.new.output) _ _ _ q.0 q.1 c.in-Ok.ensures.ok) refl
+
+pub returns-in-Memory-clause-hands : goal.returns-in-Memory-clause-hands
+returns-in-Memory-clause-hands g c = c.in-Memory.ensures.hands (g.S.Shelf.told.disk c.args.shelf.now) c.turns.invariant.1.0
+
+pub turns-preserved : goal.turns-preserved
+turns-preserved g c =
+    let i = c.turns.invariant in
+    let n = c.in-Line.ensures.next in (
+      λ told tells.
+          let t = i.0 told tells in
+          let m = c.in-Applied.ensures.does told tells (g.S.Shelf.told.disk c.args.shelf.now) i.1.0 t.2 t.6 in
+          let w = shown (held_of c.turns.output) (held_of c.show.new.output) _ _ _ _ t.5 c.in-Ok.ensures.ok in
+          let a = advance (g.S.Shelf.told.disk c.args.shelf.now) t.3 _ _ t.0 t.1 t.2 (line_with c.next_head.new.body c.in-Line.line) m.0.1.0 m.0.0 t.4 t.7 m.0.1.1 in (
+            t.0 ++ (line_with c.next_head.new.body c.in-Line.line) ∷ [],
+            t.1 ++ m.0.0,
+            m.0.1.0,
+            a.openings,
+            so_far_more a.openings _ _ _ t.0 t.1 m.0.0 t.2 m.0.1.0 (line_with c.next_head.new.body c.in-Line.line) n.0 a.so_far n.1 n.2 n.3 a.leads,
+            printed (held_of c.show.new.output) (held_of c.turn.new.output) _ _ _ t.1 m.0.0 w m.0.2,
+            record { each = m.0.1.2; moment = m.1.0; under_way = m.1.1 },
+            a.found,
+            omega (arith, length-append t.0 ((line_with c.next_head.new.body c.in-Line.line) ∷ []), t.8, n.4),
+          ),
+      c.in-Applied.ensures.goes refl (g.S.Shelf.told.disk c.args.shelf.now) i.1.0,
+      omega (arith, n.5),
+      c.in-Line.ensures.few (λ e. cc) (λ e. cc),
+      omega (arith, c.next_head.ensures.later, i.4),
+      omega (arith, c.show.ensures.cause, c.turn.ensures.later, i.5),
+      omega (arith, c.turn.ensures.disks_later, i.6),
+      c.turn.ensures.order,
+      quiet_turn c.turns.sessions c.turn.new.sessions (held_of c.show.new.output) (held_of c.turn.new.output) _ _ _ _ c.in-Applied.ensures.quiet
+          (λ way. let q = i.8 way in quiet_shown (held_of c.turns.output) (held_of c.show.new.output) _ _ _ q.0 q.1 c.in-Ok.ensures.ok) refl,
+    )
+
+pub returns-in-Bad-clause-ends : goal.returns-in-Bad-clause-ends
+returns-in-Bad-clause-ends g c = λ told tells.
+    let n = c.in-Bad.ensures.next in
+    let i = c.turns.invariant in
+    let t = i.0 told tells in
+    let w = shown (held_of c.turns.output) (held_of c.show.new.output) _ _ _ _ t.5 c.in-Ok.ensures.ok in
+    refused (lent g.S.Disk.Disk.told (g.S.Shelf.told.disk c.args.shelf.now) (g.S.Shelf.told.disk c.turns.shelf) c.turns.sessions.begun.items) t.3 _ _ _ _ _ _ _ _ t.0 t.1 t.2 t.4 (omega (arith, t.8, i.3)) (held_of c.show.new.output) w (keeps_so g.S.Disk.Disk.told (g.S.Shelf.told.disk c.args.shelf.now) (g.S.Shelf.told.disk c.turns.shelf) c.turns.sessions.begun.items t.3 t.2 t.1 i.1.0 t.7 t.6.each) c.refuse-in-Bad.result c.number-in-Bad.result _ _
+    (near_bad c.turns.lines c.next_head.new.self _ _ n)
+    (faulty_bad c.turns.lines c.next_head.new.self _ _ t.0 t.2 n t.8)
+    (bad_number c.turns.lines c.next_head.new.self _ _ t.0 c.number-in-Bad.result n t.8 c.number-in-Bad.ensures)
+    c.refuse-in-Bad.ensures
+
+pub returns-in-Bad-clause-hands : goal.returns-in-Bad-clause-hands
+returns-in-Bad-clause-hands g c = hands_of _ g.S.Disk.Disk.told (g.S.Shelf.told.disk c.args.shelf.now) (g.S.Shelf.told.disk c.turns.shelf) c.turns.sessions.begun.items c.turns.invariant.1.0
+
+pub returns-in-Bad-clause-write : goal.returns-in-Bad-clause-write
+returns-in-Bad-clause-write g c = closed _ _ _ _ _ _ _ _ (omega (arith, c.turns.invariant.5, c.show.ensures.cause)) (λ e. cc) c.refuse-in-Bad.ensures
+
+pub returns-in-Failed-clause-ends : goal.returns-in-Failed-clause-ends
+returns-in-Failed-clause-ends g c = λ told tells.
+    let n = c.in-Failed.ensures.next in
+    let i = c.turns.invariant in
+    let t = i.0 told tells in
+    let w = shown (held_of c.turns.output) (held_of c.show.new.output) _ _ _ _ t.5 c.in-Ok.ensures.ok in
+    let s = so_far_kept t.3 _ _ _ t.0 t.1 t.2 t.4 n.0 in
+    failed (lent g.S.Disk.Disk.told (g.S.Shelf.told.disk c.args.shelf.now) (g.S.Shelf.told.disk c.turns.shelf) c.turns.sessions.begun.items) t.3 _ _ _ _ _ _ _ _ t.0 t.1 t.2 s (omega (arith, t.8, i.3)) (held_of c.show.new.output) w (keeps_so g.S.Disk.Disk.told (g.S.Shelf.told.disk c.args.shelf.now) (g.S.Shelf.told.disk c.turns.shelf) c.turns.sessions.begun.items t.3 t.2 t.1 i.1.0 t.7 t.6.each) c.stop-in-Failed.result _ _
+    (within_failed c.turns.lines c.next_head.new.self _ _ n) (omega (arith, c.in-Failed.ensures.failed refl, i.4)) c.stop-in-Failed.ensures
+
+pub returns-in-Failed-clause-hands : goal.returns-in-Failed-clause-hands
+returns-in-Failed-clause-hands g c = hands_of _ g.S.Disk.Disk.told (g.S.Shelf.told.disk c.args.shelf.now) (g.S.Shelf.told.disk c.turns.shelf) c.turns.sessions.begun.items c.turns.invariant.1.0
+
+pub returns-in-Failed-clause-write : goal.returns-in-Failed-clause-write
+returns-in-Failed-clause-write g c = closed _ _ _ _ _ _ _ _ (omega (arith, c.turns.invariant.5, c.show.ensures.cause)) (λ e. cc) c.stop-in-Failed.ensures
+
+pub returns-in-End-clause-ends : goal.returns-in-End-clause-ends
+returns-in-End-clause-ends g c = λ told tells.
+    let n = c.in-End.ensures.next in
+    let i = c.turns.invariant in
+    let t = i.0 told tells in
+    let f = c.finish.ensures.ends t.2 t.6 in
+    let w = shown (held_of c.turns.output) (held_of c.show.new.output) _ _ _ _ t.5 c.in-Ok.ensures.ok in
+    finished (lent g.S.Disk.Disk.told (g.S.Shelf.told.disk c.args.shelf.now) (g.S.Shelf.told.disk c.turns.shelf) c.turns.sessions.begun.items) t.3 _ _ _ _ _ _ _ _ t.0 t.1 t.2 t.4 (omega (arith, t.8, i.3)) (held_of c.show.new.output) w c.finish.result _ _ f.0 n.1 f.1 (keeps_so g.S.Disk.Disk.told (g.S.Shelf.told.disk c.args.shelf.now) (g.S.Shelf.told.disk c.turns.shelf) c.turns.sessions.begun.items t.3 t.2 (t.1 ++ f.0) i.1.0 t.7 t.6.each) f.2
+
+pub returns-in-End-clause-hands : goal.returns-in-End-clause-hands
+returns-in-End-clause-hands g c = hands_of _ g.S.Disk.Disk.told (g.S.Shelf.told.disk c.args.shelf.now) (g.S.Shelf.told.disk c.turns.shelf) c.turns.sessions.begun.items c.turns.invariant.1.0
+
+pub returns-in-Refused-clause-words : goal.returns-in-Refused-clause-words
+returns-in-Refused-clause-words g c = closed_not _ _ _ _ _ _ _ c.refuse.result c.refuse.ensures (λ e. cc)
+
+pub returns-in-Refused-clause-read : goal.returns-in-Refused-clause-read
+returns-in-Refused-clause-read g c = λ e. absurd (closed_not _ _ _ _ _ _ _ c.refuse.result c.refuse.ensures (λ e. cc) e)
+
+pub returns-in-Stopped-clause-words : goal.returns-in-Stopped-clause-words
+returns-in-Stopped-clause-words g c = closed_not _ _ _ _ _ _ _ c.stop.result c.stop.ensures (line_fault c.in-Stopped.fault _ c.in-Stopped.ensures.line (λ h. h))
+
+pub returns-in-Stopped-clause-read : goal.returns-in-Stopped-clause-read
+returns-in-Stopped-clause-read g c = λ e. absurd (closed_not _ _ _ _ _ _ _ c.stop.result c.stop.ensures (line_fault c.in-Stopped.fault _ c.in-Stopped.ensures.line (λ h. h)) e)
+
+pub returns-in-Bad-clause-words : goal.returns-in-Bad-clause-words
+returns-in-Bad-clause-words g c = closed_not _ _ _ _ _ _ _ c.refuse-in-Bad.result c.refuse-in-Bad.ensures (λ e. cc)
+
+pub returns-in-Bad-clause-read : goal.returns-in-Bad-clause-read
+returns-in-Bad-clause-read g c = λ e. absurd (closed_not _ _ _ _ _ _ _ c.refuse-in-Bad.result c.refuse-in-Bad.ensures (λ e. cc) e)
+
+pub returns-in-Failed-clause-words : goal.returns-in-Failed-clause-words
+returns-in-Failed-clause-words g c = closed_not _ _ _ _ _ _ _ c.stop-in-Failed.result c.stop-in-Failed.ensures (λ e. cc)
+
+pub returns-in-Failed-clause-read : goal.returns-in-Failed-clause-read
+returns-in-Failed-clause-read g c = λ e. omega (arith, c.in-Failed.ensures.failed refl, c.turns.invariant.4)
+
+pub returns-in-End-clause-device : goal.returns-in-End-clause-device
+returns-in-End-clause-device g c = λ number failed. absurd (c.finish.ensures.other number failed)

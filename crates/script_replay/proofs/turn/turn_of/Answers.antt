@@ -1,0 +1,33 @@
+use Rattle.std.proofs.Common.{inl, inr, ◌∙◌, arith}
+use Rattle.script_reader.specs.Heads.{line_with}
+use Rattle.script_replay.specs.Outputs.{held_of}
+use Rattle.script_replay.proofs.Numbered.{place_least}
+use Rattle.script_replay.proofs.Turns.{hands_of, begin_turn}
+use Rattle.script_replay.proofs.turn.turn_of.Goals as goal
+
+pub begin_at-requires-clause-place : goal.begin_at-requires-clause-place
+begin_at-requires-clause-place g c =
+    let least = place_least c.args.number c.args.sessions.now.begun.items in
+    let is = c.place_of-place.ensures in
+    let len = c.args.sessions.now.begun.ok.0 in
+    omega (arith, least, is, len)
+
+pub returns-then-is_at-clause-does : goal.returns-then-is_at-clause-does
+returns-then-is_at-clause-does g c = λ told tells before lends t stand. c.go_on_at.ensures.does tells before (g.S.Shelf.told.disk c.args.shelf.now) lends t stand (c.is_in_turn.ensures.may c.args.body.now t stand ∙ c.if-not-is_in_turn.false)
+
+pub returns-then-is_at-clause-hands : goal.returns-then-is_at-clause-hands
+returns-then-is_at-clause-hands g c = λ before lends. hands_of g.S.Shelf.told.tells g.S.Disk.Disk.told before (g.S.Shelf.told.disk c.args.shelf.now) c.go_on_at.new.sessions.begun.items (c.go_on_at.ensures.lends before (g.S.Shelf.told.disk c.args.shelf.now) lends)
+
+pub returns-then-is_at-clause-goes : goal.returns-then-is_at-clause-goes
+returns-then-is_at-clause-goes g c = λ e before lends. (c.go_on_at.ensures.lends before (g.S.Shelf.told.disk c.args.shelf.now) lends, c.go_on_at.ensures.up e)
+
+pub returns-then-is_at-clause-device : goal.returns-then-is_at-clause-device
+returns-then-is_at-clause-device g c = λ number h before lends. inr (c.go_on_at.ensures.device number h before (g.S.Shelf.told.disk c.args.shelf.now) lends)
+
+pub returns-else-is_at-clause-does : goal.returns-else-is_at-clause-does
+returns-else-is_at-clause-does g c = λ told tells before lends t stand.
+    begin_turn g.S.Disk.Disk.told before (g.S.Shelf.told.disk c.begin_at.new.shelf) t (line_with c.args.body.now c.args.line.now) c.begin_at.new.sessions (held_of c.args.output.now) _ c.begin_at.result
+    (c.begin_at.ensures.does told tells before lends t stand (c.is_in_turn.ensures.may c.args.body.now t stand ∙ c.if-not-is_in_turn.false))
+
+pub returns-else-is_at-clause-device : goal.returns-else-is_at-clause-device
+returns-else-is_at-clause-device g c = λ number h before lends. inl (c.begin_at.ensures.device number h)

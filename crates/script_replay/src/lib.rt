@@ -1,0 +1,18 @@
+//! The replay of a script over the disks of a shelf: it reads the script line by line, writes the
+//! transcript, and answers how it ended.
+#![tactic(auto)]
+
+mod disks;
+mod ended;
+mod outcome;
+mod output;
+mod replaying;
+mod session;
+mod sessions;
+#[cfg(test)]
+mod tests;
+mod turn;
+
+pub use disks::{NotTaken, TakenDisks, put_disks_back, take_disks};
+pub use ended::Ended;
+pub use replaying::replay;

@@ -1,0 +1,95 @@
+//! What becomes of a line of a script.
+
+ghost use Rattle.std.specs.Prelude.{◌≡◌, Some};
+ghost use Rattle.recovery.specs.Faults.{why_number, why_values};
+ghost use Rattle.script_replay.specs.Runners.{fault_of, outcome_of, outcome_at, IsLineFault, StopsByLine};
+
+use crate::disks::NotTaken;
+use disk_model::{Role, ShelfFault};
+use recovery::Why;
+use script_reader::Fault;
+use two_worlds::Stop;
+
+/// What became of a line. What it prints is with the output.
+#[derive(Clone, Copy)]
+pub enum Outcome {
+    Applied,
+    Refused,
+    /// It stops the script with this fault.
+    Stopped(Fault),
+    Memory,
+    Unwritten,
+}
+
+// The fault of a disk that is refused.
+fn refusal_of(session: u32, role: Role, why: &Why) -> Fault
+    ensures line { IsLineFault result }
+    ensures is { result ≡ Fault.Disk session role (why_number why.now) (why_values why.now).0 (why_values why.now).1 }
+{
+    let (first, second) = why.values();
+    Fault::Disk {
+        session,
+        role,
+        number: why.number(),
+        first,
+        second,
+    }
+}
+
+// .. or whose call failed.
+fn fault_of(session: u32, role: Role, why: &Why) -> Fault
+    ensures line { IsLineFault result }
+    ensures is { result ≡ fault_of session role why.now }
+{
+    match why {
+        Why::Device { .. } => Fault::Device { session, role },
+        _ => refusal_of(session, role, why),
+    }
+}
+
+pub fn outcome_at(session: u32, role: Role, why: &Option<Why>) -> Outcome
+    ensures line { StopsByLine result }
+    ensures is { result ≡ outcome_at session role why.now }
+{
+    match why {
+        None => Outcome::Memory,
+        Some(why) => Outcome::Stopped(fault_of(session, role, why)),
+    }
+}
+
+// What becomes of a line whose disks can't be taken off the shelf.
+pub fn untaken(session: u32, not_taken: NotTaken) -> Outcome
+    ensures line { StopsByLine result }
+    ensures memory { not_taken.fault ≡ ShelfFault.Memory → result ≡ Outcome.Memory }
+    ensures failed { not_taken.fault ≡ ShelfFault.Failed → result ≡ Outcome.Stopped (Fault.Device session not_taken.role) }
+{
+    match not_taken.fault {
+        ShelfFault::Memory => Outcome::Memory,
+        ShelfFault::Failed => Outcome::Stopped(Fault::Device {
+            session,
+            role: not_taken.role,
+        }),
+    }
+}
+
+/// What becomes of a line, by why it stops the session with this number, if it does.
+pub fn outcome_of(id: u32, stop: &Option<Stop>) -> Outcome
+    ensures line { StopsByLine result }
+    ensures is { result ≡ outcome_of id stop.now }
+{
+    match stop {
+        None => Outcome::Applied,
+        Some(Stop::Line) => Outcome::Refused,
+        Some(Stop::Device { role, .. }) => Outcome::Stopped(Fault::Device {
+            session: id,
+            role: *role,
+        }),
+        Some(Stop::Full { end, length, size }) => Outcome::Stopped(Fault::Full {
+            session: id,
+            end: *end,
+            length: *length,
+            size: *size,
+        }),
+        Some(Stop::Disk { role, why }) => Outcome::Stopped(refusal_of(id, *role, why)),
+    }
+}

@@ -4,10 +4,10 @@ use Rattle.std.proofs.lemmas.Bool.{false≢true}
 use Rattle.std.proofs.lemmas.Slice.Eq.{bytes_eq-Decides}
 use Rattle.std.proofs.lemmas.Fmt.{decimal_injective}
 use Rattle.std.specs.Str.{bytes_eq}
-use Rattle.command_line.specs.Commands.{IsCommand, AreWordsOf, words_of}
+use Rattle.command_line.specs.Commands.{IsCommand, IsLooking, AreWordsOf, words_of}
 use Rattle.command_line.proofs.Commas.{one_list}
 use Rattle.command_line.specs.declared.command.Command.{Command}
-use Rattle.command_line.specs.declared.command.Command.TheVariants.{Replay, Format, Show, Exercise, Race}
+use Rattle.command_line.specs.declared.command.Command.TheVariants.{Replay, Format, Show, Exercise, Race, Serve, Receive, Send}
 use Rattle.command_line.specs.declared.command.WordsFault.{WordsFault}
 use Rattle.command_line.specs.declared.command.WordsFault.TheVariants.{NoCommand, Memory}
 
@@ -20,40 +20,50 @@ apart a b rest more different e = differ a a b different refl (ap (λ l. get_or 
 same_number : (m n : ℕ) → m < 2 ^ 64 → n < 2 ^ 64 → decimal m ≡ decimal n → m ≡ n
 same_number m n h k e = decimal_injective m n h k e
 
+abbrev pub name_of : Command → List ℕ
+name_of Replay = codes "replay"
+name_of (Format t n) = codes "format"
+name_of (Show t n) = codes "show"
+name_of (Exercise m n) = codes "exercise"
+name_of (Race m n ts) = codes "race"
+name_of (Serve t n k) = codes "serve"
+name_of (Receive t n k) = codes "receive"
+name_of (Send t n k) = codes "send"
+
+same_session : (make : List ℕ → ℕ → Command) (t u : List ℕ) (n m : ℕ) → n < 2 ^ 32 → m < 2 ^ 32 → (name : List ℕ) → name ∷ t ∷ decimal n ∷ [] ≡ name ∷ u ∷ decimal m ∷ [] → make t n ≡ make u m
+same_session make t u n m h k name e = ap₂ make (ap (λ l. get_or l 1 []) e) (same_number n m (omega (arith, h)) (omega (arith, k)) (ap (λ l. get_or l 2 []) e))
+
+same_looks : (make : List ℕ → ℕ → ℕ → Command) (t u : List ℕ) (n m i j : ℕ) → IsLooking t n i → IsLooking u m j → (name : List ℕ)
+    → name ∷ t ∷ decimal n ∷ decimal i ∷ [] ≡ name ∷ u ∷ decimal m ∷ decimal j ∷ [] → make t n i ≡ make u m j
+same_looks make t u n m i j h k name e =
+    let tables : t ≡ u = ap (λ l. get_or l 1 []) e in
+    let sessions = same_number n m (omega (arith, h.1)) (omega (arith, k.1)) (ap (λ l. get_or l 2 []) e) in
+    let looks = same_number i j (omega (arith, h.3)) (omega (arith, k.3)) (ap (λ l. get_or l 3 []) e) in
+    λ p. make (tables p) (sessions p) (looks p)
+
 one_command : (c d : Command) → IsCommand c → IsCommand d → words_of c ≡ words_of d → c ≡ d
 one_command Replay Replay h k e = refl
-one_command Replay (Format u m) h k e = absurd (apart (codes "replay") (codes "format") _ _ refl e)
-one_command Replay (Show u m) h k e = absurd (apart (codes "replay") (codes "show") _ _ refl e)
-one_command Replay (Exercise s m) h k e = absurd (apart (codes "replay") (codes "exercise") _ _ refl e)
-one_command Replay (Race s m us) h k e = absurd (apart (codes "replay") (codes "race") _ _ refl e)
-one_command (Format t n) Replay h k e = absurd (apart (codes "format") (codes "replay") _ _ refl e)
-one_command (Format t n) (Format u m) h k e =
-    ap₂ Format (ap (λ l. get_or l 1 []) e) (same_number n m (omega (arith, h.1)) (omega (arith, k.1)) (ap (λ l. get_or l 2 []) e))
-one_command (Format t n) (Show u m) h k e = absurd (apart (codes "format") (codes "show") _ _ refl e)
-one_command (Format t n) (Exercise s m) h k e = absurd (apart (codes "format") (codes "exercise") _ _ refl e)
-one_command (Format t n) (Race s m us) h k e = absurd (apart (codes "format") (codes "race") _ _ refl e)
-one_command (Show t n) Replay h k e = absurd (apart (codes "show") (codes "replay") _ _ refl e)
-one_command (Show t n) (Format u m) h k e = absurd (apart (codes "show") (codes "format") _ _ refl e)
-one_command (Show t n) (Show u m) h k e =
-    ap₂ Show (ap (λ l. get_or l 1 []) e) (same_number n m (omega (arith, h.1)) (omega (arith, k.1)) (ap (λ l. get_or l 2 []) e))
-one_command (Show t n) (Exercise s m) h k e = absurd (apart (codes "show") (codes "exercise") _ _ refl e)
-one_command (Show t n) (Race s m us) h k e = absurd (apart (codes "show") (codes "race") _ _ refl e)
-one_command (Exercise r n) Replay h k e = absurd (apart (codes "exercise") (codes "replay") _ _ refl e)
-one_command (Exercise r n) (Format u m) h k e = absurd (apart (codes "exercise") (codes "format") _ _ refl e)
-one_command (Exercise r n) (Show u m) h k e = absurd (apart (codes "exercise") (codes "show") _ _ refl e)
+one_command Replay d h k e = absurd (apart (codes "replay") (name_of d) _ _ refl e)
+one_command (Format t n) (Format u m) h k e = same_session Format t u n m h.1 k.1 (codes "format") e
+one_command (Format t n) d h k e = absurd (apart (codes "format") (name_of d) _ _ refl e)
+one_command (Show t n) (Show u m) h k e = same_session Show t u n m h.1 k.1 (codes "show") e
+one_command (Show t n) d h k e = absurd (apart (codes "show") (name_of d) _ _ refl e)
 one_command (Exercise r n) (Exercise s m) h k e =
     ap₂ Exercise (same_number r s (omega (arith, h.0)) (omega (arith, k.0)) (ap (λ l. get_or l 1 []) e))
     (same_number n m (omega (arith, h.2)) (omega (arith, k.2)) (ap (λ l. get_or l 2 []) e))
-one_command (Exercise r n) (Race s m us) h k e = absurd (apart (codes "exercise") (codes "race") _ _ refl e)
-one_command (Race r n ts) Replay h k e = absurd (apart (codes "race") (codes "replay") _ _ refl e)
-one_command (Race r n ts) (Format u m) h k e = absurd (apart (codes "race") (codes "format") _ _ refl e)
-one_command (Race r n ts) (Show u m) h k e = absurd (apart (codes "race") (codes "show") _ _ refl e)
-one_command (Race r n ts) (Exercise s m) h k e = absurd (apart (codes "race") (codes "exercise") _ _ refl e)
+one_command (Exercise r n) d h k e = absurd (apart (codes "exercise") (name_of d) _ _ refl e)
 one_command (Race r n ts) (Race s m us) h k e =
     let seeds = same_number r s (omega (arith, h.0)) (omega (arith, k.0)) (ap (λ l. get_or l 1 []) e) in
     let counts = same_number n m (omega (arith, h.2)) (omega (arith, k.2)) (ap (λ l. get_or l 2 []) e) in
     let times = one_list ts.items us.items h.3 k.3 (ap (λ l. get_or l 3 []) e) in
     λ i. Race (seeds i) (counts i) (record { items = times i })
+one_command (Race r n ts) d h k e = absurd (apart (codes "race") (name_of d) _ _ refl e)
+one_command (Serve t n i) (Serve u m j) h k e = same_looks Serve t u n m i j h k (codes "serve") e
+one_command (Serve t n i) d h k e = absurd (apart (codes "serve") (name_of d) _ _ refl e)
+one_command (Receive t n i) (Receive u m j) h k e = same_looks Receive t u n m i j h k (codes "receive") e
+one_command (Receive t n i) d h k e = absurd (apart (codes "receive") (name_of d) _ _ refl e)
+one_command (Send t n i) (Send u m j) h k e = same_looks Send t u n m i j h k (codes "send") e
+one_command (Send t n i) d h k e = absurd (apart (codes "send") (name_of d) _ _ refl e)
 
 pub words_of_one : (words : List (List ℕ)) (c d : Command) → AreWordsOf words c → AreWordsOf words d → c ≡ d
 words_of_one words c d h k = one_command c d h.0 k.0 (sym h.1 ∙ k.1)

@@ -10,7 +10,7 @@ use Rattle.command_line.specs.Commands.{AreWordsOf}
 use Rattle.command_line.specs.Found.{GivesIn}
 use Rattle.command_line.specs.Program.{program, value_rule}
 use Rattle.command_line.specs.declared.command.Command.{Command}
-use Rattle.command_line.specs.declared.command.Command.TheVariants.{Replay, Format, Show, Exercise, Race}
+use Rattle.command_line.specs.declared.command.Command.TheVariants.{Replay, Format, Show, Exercise, Race, Serve, Receive, Send}
 use Rattle.command_line.proofs.Plain.{plain_decimal, plain_table, plain_times}
 
 pub simple : is_simple program ≡ true
@@ -92,6 +92,40 @@ race_taken : (x y z : ℕ) (xs ys zs : Text) → (x == 45) ≡ false → (y == 4
 unfolding clap_on_literals
 race_taken x y z xs ys zs h k m = simp (h, k, m)
 
+-- a table, a session and looks
+
+abbrev pub looks_rules : List Rule
+looks_rules = filled_from 1 (value_rule (codes "TABLE") ∷ value_rule (codes "S") ∷ value_rule (codes "LOOKS") ∷ [])
+
+looks_rows : (x y z : ℕ) (xs ys zs : Text) → (x == 45) ≡ false → (y == 45) ≡ false → (z == 45) ≡ false
+    → rows_after looks_rules [] ((x ∷ xs) ∷ (y ∷ ys) ∷ (z ∷ zs) ∷ []) ≡ row (codes "TABLE") (x ∷ xs) ∷ row (codes "S") (y ∷ ys) ∷ row (codes "LOOKS") (z ∷ zs) ∷ []
+unfolding clap_on_literals
+looks_rows x y z xs ys zs h k m = simp (h, k, m)
+
+serve_met : (t s u : Text) → subcommand_of program (codes "serve" ∷ t ∷ s ∷ u ∷ []) ≡ Some (codes "serve", rows_after looks_rules [] (t ∷ s ∷ u ∷ []))
+unfolding clap_on_literals
+serve_met t s u = refl
+
+serve_taken : (x y z : ℕ) (xs ys zs : Text) → (x == 45) ≡ false → (y == 45) ≡ false → (z == 45) ≡ false → takes program (codes "serve" ∷ (x ∷ xs) ∷ (y ∷ ys) ∷ (z ∷ zs) ∷ []) ≡ true
+unfolding clap_on_literals
+serve_taken x y z xs ys zs h k m = simp (h, k, m)
+
+receive_met : (t s u : Text) → subcommand_of program (codes "receive" ∷ t ∷ s ∷ u ∷ []) ≡ Some (codes "receive", rows_after looks_rules [] (t ∷ s ∷ u ∷ []))
+unfolding clap_on_literals
+receive_met t s u = refl
+
+receive_taken : (x y z : ℕ) (xs ys zs : Text) → (x == 45) ≡ false → (y == 45) ≡ false → (z == 45) ≡ false → takes program (codes "receive" ∷ (x ∷ xs) ∷ (y ∷ ys) ∷ (z ∷ zs) ∷ []) ≡ true
+unfolding clap_on_literals
+receive_taken x y z xs ys zs h k m = simp (h, k, m)
+
+send_met : (t s u : Text) → subcommand_of program (codes "send" ∷ t ∷ s ∷ u ∷ []) ≡ Some (codes "send", rows_after looks_rules [] (t ∷ s ∷ u ∷ []))
+unfolding clap_on_literals
+send_met t s u = refl
+
+send_taken : (x y z : ℕ) (xs ys zs : Text) → (x == 45) ≡ false → (y == 45) ≡ false → (z == 45) ≡ false → takes program (codes "send" ∷ (x ∷ xs) ∷ (y ∷ ys) ∷ (z ∷ zs) ∷ []) ≡ true
+unfolding clap_on_literals
+send_taken x y z xs ys zs h k m = simp (h, k, m)
+
 -- clap takes the words of each command
 pub words_taken : (words : List Text) (c : Command) → AreWordsOf words c → takes program words ≡ true
 words_taken words Replay h = rw h.1 replay_taken
@@ -112,6 +146,21 @@ words_taken words (Race m n ts) h =
     let q = plain_decimal n (omega (arith, h.0.2)) in
     let r = plain_times ts.items h.0.3 in
     rw (h.1, p.whole, q.whole, r.whole) (race_taken p.first q.first r.first p.rest q.rest r.rest p.undashed q.undashed r.undashed)
+words_taken words (Serve t n k) h =
+    let p = plain_table t h.0.0 in
+    let q = plain_decimal n (omega (arith, h.0.1)) in
+    let r = plain_decimal k (omega (arith, h.0.3)) in
+    rw (h.1, p.whole, q.whole, r.whole) (serve_taken p.first q.first r.first p.rest q.rest r.rest p.undashed q.undashed r.undashed)
+words_taken words (Receive t n k) h =
+    let p = plain_table t h.0.0 in
+    let q = plain_decimal n (omega (arith, h.0.1)) in
+    let r = plain_decimal k (omega (arith, h.0.3)) in
+    rw (h.1, p.whole, q.whole, r.whole) (receive_taken p.first q.first r.first p.rest q.rest r.rest p.undashed q.undashed r.undashed)
+words_taken words (Send t n k) h =
+    let p = plain_table t h.0.0 in
+    let q = plain_decimal n (omega (arith, h.0.1)) in
+    let r = plain_decimal k (omega (arith, h.0.3)) in
+    rw (h.1, p.whole, q.whole, r.whole) (send_taken p.first q.first r.first p.rest q.rest r.rest p.undashed q.undashed r.undashed)
 
 -- and finds its values
 pub values_found : (words : List Text) (c : Command) → AreWordsOf words c → GivesIn c (subcommand_of program words)
@@ -137,3 +186,21 @@ values_found words (Race m n ts) h =
     let r = plain_times ts.items h.0.3 in
     let rows = race_rows p.first q.first r.first p.rest q.rest r.rest p.undashed q.undashed r.undashed in
     rw (h.1, race_met, p.whole, q.whole, r.whole, rows) (refl, refl, refl, refl)
+values_found words (Serve t n k) h =
+    let p = plain_table t h.0.0 in
+    let q = plain_decimal n (omega (arith, h.0.1)) in
+    let r = plain_decimal k (omega (arith, h.0.3)) in
+    let rows = looks_rows p.first q.first r.first p.rest q.rest r.rest p.undashed q.undashed r.undashed in
+    rw (h.1, serve_met, p.whole, q.whole, r.whole, rows) (refl, (refl, refl, refl))
+values_found words (Receive t n k) h =
+    let p = plain_table t h.0.0 in
+    let q = plain_decimal n (omega (arith, h.0.1)) in
+    let r = plain_decimal k (omega (arith, h.0.3)) in
+    let rows = looks_rows p.first q.first r.first p.rest q.rest r.rest p.undashed q.undashed r.undashed in
+    rw (h.1, receive_met, p.whole, q.whole, r.whole, rows) (refl, (refl, refl, refl))
+values_found words (Send t n k) h =
+    let p = plain_table t h.0.0 in
+    let q = plain_decimal n (omega (arith, h.0.1)) in
+    let r = plain_decimal k (omega (arith, h.0.3)) in
+    let rows = looks_rows p.first q.first r.first p.rest q.rest r.rest p.undashed q.undashed r.undashed in
+    rw (h.1, send_met, p.whole, q.whole, r.whole, rows) (refl, (refl, refl, refl))

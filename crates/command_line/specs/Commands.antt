@@ -3,7 +3,11 @@ use Rattle.std.specs.Prelude.{◌≡◌, ℕ, ◌≤◌, ◌<◌, ◌^◌, true,
 use Rattle.command_line.specs.TableNames.{is_table_name}
 use Rattle.command_line.specs.TimeLists.{AreTimes, times_word}
 use Rattle.command_line.specs.declared.command.Command.{Command}
-use Rattle.command_line.specs.declared.command.Command.TheVariants.{Replay, Format, Show, Exercise, Race}
+use Rattle.command_line.specs.declared.command.Command.TheVariants.{Replay, Format, Show, Exercise, Race, Serve, Receive, Send}
+
+-- a session of a table, and a number of looks
+abbrev pub IsLooking : List ℕ → ℕ → ℕ → Type 0
+IsLooking table session looks = (is_table_name table ≡ true) × (session < 2 ^ 32) × (1 ≤ looks) × (looks < 2 ^ 32)
 
 -- a command: its name and its numbers are in their ranges
 abbrev pub IsCommand : Command → Type 0
@@ -12,6 +16,9 @@ IsCommand (Format table session) = (is_table_name table ≡ true) × (session < 
 IsCommand (Show table session) = (is_table_name table ≡ true) × (session < 2 ^ 32)
 IsCommand (Exercise seed count) = (seed < 2 ^ 32) × (1 ≤ count) × (count ≤ 100000)
 IsCommand (Race seed count times) = (seed < 2 ^ 32) × (1 ≤ count) × (count ≤ 100000) × AreTimes times.items
+IsCommand (Serve table session looks) = IsLooking table session looks
+IsCommand (Receive table session looks) = IsLooking table session looks
+IsCommand (Send table session looks) = IsLooking table session looks
 
 -- its words, each as its bytes
 abbrev pub words_of : Command → List (List ℕ)
@@ -20,6 +27,9 @@ words_of (Format table session) = codes "format" ∷ table ∷ decimal session �
 words_of (Show table session) = codes "show" ∷ table ∷ decimal session ∷ []
 words_of (Exercise seed count) = codes "exercise" ∷ decimal seed ∷ decimal count ∷ []
 words_of (Race seed count times) = codes "race" ∷ decimal seed ∷ decimal count ∷ times_word times.items ∷ []
+words_of (Serve table session looks) = codes "serve" ∷ table ∷ decimal session ∷ decimal looks ∷ []
+words_of (Receive table session looks) = codes "receive" ∷ table ∷ decimal session ∷ decimal looks ∷ []
+words_of (Send table session looks) = codes "send" ∷ table ∷ decimal session ∷ decimal looks ∷ []
 
 -- the words are this command
 abbrev pub AreWordsOf : List (List ℕ) → Command → Type 0

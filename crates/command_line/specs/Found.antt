@@ -5,7 +5,11 @@ use Rattle.clap.specs.Simple.{subcommand_rows_of}
 use Rattle.clap.specs.declared.parser.matches.ArgMatches.{ArgMatches}
 use Rattle.command_line.specs.TimeLists.{times_word}
 use Rattle.command_line.specs.declared.command.Command.{Command}
-use Rattle.command_line.specs.declared.command.Command.TheVariants.{Replay, Format, Show, Exercise, Race}
+use Rattle.command_line.specs.declared.command.Command.TheVariants.{Replay, Format, Show, Exercise, Race, Serve, Receive, Send}
+
+-- the values that were found are this session of the table and this number of looks
+abbrev pub GivesLooks : List ℕ → ℕ → ℕ → List Row → Type 0
+GivesLooks table session looks rows = (first_of (codes "TABLE") rows ≡ Some table) × (first_of (codes "S") rows ≡ Some (decimal session)) × (first_of (codes "LOOKS") rows ≡ Some (decimal looks))
 
 -- the name and the values that were found are those of this command
 abbrev pub Gives : Command → List ℕ → List Row → Type 0
@@ -15,6 +19,9 @@ Gives (Show table session) name rows = (name ≡ codes "show") × (first_of (cod
 Gives (Exercise seed count) name rows = (name ≡ codes "exercise") × (first_of (codes "SEED") rows ≡ Some (decimal seed)) × (first_of (codes "COUNT") rows ≡ Some (decimal count))
 Gives (Race seed count times) name rows = (name ≡ codes "race") × (first_of (codes "SEED") rows ≡ Some (decimal seed)) × (first_of (codes "COUNT") rows ≡ Some (decimal count))
     × (first_of (codes "TIMES") rows ≡ Some (times_word times.items))
+Gives (Serve table session looks) name rows = (name ≡ codes "serve") × GivesLooks table session looks rows
+Gives (Receive table session looks) name rows = (name ≡ codes "receive") × GivesLooks table session looks rows
+Gives (Send table session looks) name rows = (name ≡ codes "send") × GivesLooks table session looks rows
 
 abbrev pub GivesIn : Command → Option (List ℕ × List Row) → Type 0
 GivesIn command None = ⊥

@@ -23,9 +23,12 @@ bare = let a = new_app (codes "netpump") in record a { top = record a.top { no_b
 
 abbrev pub program : App
 program =
-    with_subcommand (with_subcommand (with_subcommand (with_subcommand (with_subcommand bare
+    with_subcommand (with_subcommand (with_subcommand (with_subcommand (with_subcommand (with_subcommand (with_subcommand (with_subcommand bare
     (leaf_none (codes "replay")).top)
     (leaf_two (codes "format") (codes "TABLE") (codes "S")).top)
     (leaf_two (codes "show") (codes "TABLE") (codes "S")).top)
     (leaf_two (codes "exercise") (codes "SEED") (codes "COUNT")).top)
-    (leaf_three (codes "race") (codes "SEED") (codes "COUNT") (codes "TIMES")).top
+    (leaf_three (codes "race") (codes "SEED") (codes "COUNT") (codes "TIMES")).top)
+    (leaf_three (codes "serve") (codes "TABLE") (codes "S") (codes "LOOKS")).top)
+    (leaf_three (codes "receive") (codes "TABLE") (codes "S") (codes "LOOKS")).top)
+    (leaf_three (codes "send") (codes "TABLE") (codes "S") (codes "LOOKS")).top

@@ -37,6 +37,33 @@ pub enum Command {
         /// at most 10^9.
         times: ArrayVec<u32, 16>,
     },
+    /// Serves a session of the table over TCP: both sides of its relay, each in a thread of its own.
+    Serve {
+        /// The file with the table.
+        table: TableName,
+        /// The id of its row.
+        session: u32,
+        /// How many rounds each side makes, at least 1.
+        looks: u32,
+    },
+    /// Receives the messages of a session of the table over TCP, as the party High.
+    Receive {
+        /// The file with the table.
+        table: TableName,
+        /// The id of its row.
+        session: u32,
+        /// How many looks at the link there are at most, at least 1.
+        looks: u32,
+    },
+    /// Sends messages to a session of the table over TCP, as the party Low.
+    Send {
+        /// The file with the table.
+        table: TableName,
+        /// The id of its row.
+        session: u32,
+        /// How many looks at the link an answer is waited for at most, at least 1.
+        looks: u32,
+    },
 }
 
 /// Why the words give no command.

@@ -79,5 +79,8 @@ pub(crate) fn program<'a>(alloc: Global) -> Result<Program<'a>, AllocError>
     let all = with(all, with_two(alloc, "format", "TABLE", "S")?)?;
     let all = with(all, with_two(alloc, "show", "TABLE", "S")?)?;
     let all = with(all, with_two(alloc, "exercise", "SEED", "COUNT")?)?;
-    with(all, with_three(alloc, "race", "SEED", "COUNT", "TIMES")?)
+    let all = with(all, with_three(alloc, "race", "SEED", "COUNT", "TIMES")?)?;
+    let all = with(all, with_three(alloc, "serve", "TABLE", "S", "LOOKS")?)?;
+    let all = with(all, with_three(alloc, "receive", "TABLE", "S", "LOOKS")?)?;
+    with(all, with_three(alloc, "send", "TABLE", "S", "LOOKS")?)
 }

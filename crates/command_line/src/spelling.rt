@@ -22,40 +22,6 @@ fn after<'a>(words: &'a [String], text: &str) -> Option<&'a [String]>
     }
 }
 
-fn are_four(words: &[String], name: &str, first: &str, second: &str, times: &[u32]) -> bool
-    requires { AreTimes times.now }
-    ensures { IsTrue result ↔ (map string_bytes words.now ≡ name.now ∷ first.now ∷ second.now ∷ times_word times.now ∷ []) }
-{
-    let Some(words) = after(words, name) else {
-        return false;
-    };
-    let Some(words) = after(words, first) else {
-        return false;
-    };
-    let Some(words) = after(words, second) else {
-        return false;
-    };
-    match words {
-        [word] => are_times(word.as_str(), times),
-        _ => false,
-    }
-}
-
-fn are_three(words: &[String], name: &str, first: &str, second: &str) -> bool
-    ensures { IsTrue result ↔ (map string_bytes words.now ≡ name.now ∷ first.now ∷ second.now ∷ []) }
-{
-    let Some(words) = after(words, name) else {
-        return false;
-    };
-    let Some(words) = after(words, first) else {
-        return false;
-    };
-    let Some(words) = after(words, second) else {
-        return false;
-    };
-    words.is_empty()
-}
-
 fn is_one(words: &[String], name: &str) -> bool
     ensures { IsTrue result ↔ (map string_bytes words.now ≡ name.now ∷ []) }
 {
@@ -63,6 +29,47 @@ fn is_one(words: &[String], name: &str) -> bool
         return false;
     };
     words.is_empty()
+}
+
+/// The words after the first three, where those are these texts.
+fn after_three<'a>(
+    words: &'a [String],
+    name: &str,
+    first: &str,
+    second: &str,
+) -> Option<&'a [String]>
+    ensures some { IfSome result (λ rest. map string_bytes words.entry.now ≡ name.now ∷ first.now ∷ second.now ∷ map string_bytes rest.now) }
+    ensures none { IfNone result ((rest : List (List ℕ)) → map string_bytes words.entry.now ≡ name.now ∷ first.now ∷ second.now ∷ rest → ⊥) }
+{
+    after(after(after(words, name)?, first)?, second)
+}
+
+fn are_three(words: &[String], name: &str, first: &str, second: &str) -> bool
+    ensures { IsTrue result ↔ (map string_bytes words.now ≡ name.now ∷ first.now ∷ second.now ∷ []) }
+{
+    match after_three(words, name, first, second) {
+        Some(rest) => rest.is_empty(),
+        None => false,
+    }
+}
+
+fn are_four(words: &[String], name: &str, first: &str, second: &str, third: &str) -> bool
+    ensures { IsTrue result ↔ (map string_bytes words.now ≡ name.now ∷ first.now ∷ second.now ∷ third.now ∷ []) }
+{
+    match after_three(words, name, first, second) {
+        Some(rest) => is_one(rest, third),
+        None => false,
+    }
+}
+
+fn are_timed(words: &[String], name: &str, first: &str, second: &str, times: &[u32]) -> bool
+    requires { AreTimes times.now }
+    ensures { IsTrue result ↔ (map string_bytes words.now ≡ name.now ∷ first.now ∷ second.now ∷ times_word times.now ∷ []) }
+{
+    match after_three(words, name, first, second) {
+        Some([word]) => are_times(word.as_str(), times),
+        _ => false,
+    }
 }
 
 /// Are these the words of the command?
@@ -83,12 +90,45 @@ pub(crate) fn is_spelled(command: &Command, words: &[String]) -> bool
         Command::Exercise { seed, count } => {
             are_three(words, "exercise", one.format(*seed), two.format(*count))
         }
-        Command::Race { seed, count, times } => are_four(
+        Command::Race { seed, count, times } => are_timed(
             words,
             "race",
             one.format(*seed),
             two.format(*count),
             times.as_slice(),
+        ),
+        Command::Serve {
+            table,
+            session,
+            looks,
+        } => are_four(
+            words,
+            "serve",
+            table.as_str(),
+            one.format(*session),
+            two.format(*looks),
+        ),
+        Command::Receive {
+            table,
+            session,
+            looks,
+        } => are_four(
+            words,
+            "receive",
+            table.as_str(),
+            one.format(*session),
+            two.format(*looks),
+        ),
+        Command::Send {
+            table,
+            session,
+            looks,
+        } => are_four(
+            words,
+            "send",
+            table.as_str(),
+            one.format(*session),
+            two.format(*looks),
         ),
     }
 }

@@ -17,6 +17,9 @@ fn answer(rt: &HostRuntime, line: &str) -> Result<&'static str, AllocError> {
         } else {
             "long race"
         }),
+        Ok(Command::Serve { .. }) => Ok("serve"),
+        Ok(Command::Receive { .. }) => Ok("receive"),
+        Ok(Command::Send { .. }) => Ok("send"),
         Err(WordsFault::NoCommand) => Ok("none"),
         Err(WordsFault::Memory) => Ok("memory"),
     }
@@ -61,6 +64,15 @@ fn command_lines(rt: HostRuntime) -> Result<(), Fail> {
         ("race 0 1 50,,20", "none"),
         ("race 0 1 050", "none"),
         ("race 0 1", "none"),
+        ("serve t.toml 1 5", "serve"),
+        ("receive t.toml 1 4294967295", "receive"),
+        ("send t.toml 4294967295 1", "send"),
+        ("send t.toml 1 0", "none"),
+        ("send t.toml 1 4294967296", "none"),
+        ("serve t.toml 1 05", "none"),
+        ("receive t.toml 1", "none"),
+        ("recv t.toml 1 5", "none"),
+        ("serve t.toml 1 5 -v", "none"),
         ("help", "none"),
         ("help replay", "none"),
         ("--help", "none"),

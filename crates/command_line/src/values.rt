@@ -55,34 +55,29 @@ fn table_in(matches: &ArgMatches, id: &str) -> Option<TableName>
     }
 }
 
-fn format_in(matches: &ArgMatches) -> Option<Command>
-    ensures sound { IfSome result IsCommand }
+/// A session of a table: its file and the id of its row.
+fn session_in(matches: &ArgMatches) -> Option<(TableName, u32)>
+    ensures sound { IfSome result (λ v. is_table_name v.0 ≡ true) }
     ensures all { (t : List ℕ) (n : ℕ) → is_table_name t ≡ true → n < 2 ^ 32
         → first_of (codes "TABLE") (rows_of (found_of matches.now)) ≡ Some t → first_of (codes "S") (rows_of (found_of matches.now)) ≡ Some (decimal n)
-        → result ≡ Some (Command.Format t n) }
+        → result ≡ Some (t, n) }
 {
-    match table_in(matches, "TABLE") {
-        Some(table) => match number_in(matches, "S", 0, u32::MAX) {
-            Some(session) => Some(Command::Format { table, session }),
-            None => None,
-        },
-        None => None,
-    }
+    let table = table_in(matches, "TABLE")?;
+    let session = number_in(matches, "S", 0, u32::MAX)?;
+    Some((table, session))
 }
 
-fn show_in(matches: &ArgMatches) -> Option<Command>
-    ensures sound { IfSome result IsCommand }
-    ensures all { (t : List ℕ) (n : ℕ) → is_table_name t ≡ true → n < 2 ^ 32
+/// A session of a table, and how many looks there are.
+fn looks_in(matches: &ArgMatches) -> Option<(TableName, u32, u32)>
+    ensures sound { IfSome result (λ v. (is_table_name v.0 ≡ true) × (1 ≤ v.2)) }
+    ensures all { (t : List ℕ) (n k : ℕ) → is_table_name t ≡ true → n < 2 ^ 32 → 1 ≤ k → k < 2 ^ 32
         → first_of (codes "TABLE") (rows_of (found_of matches.now)) ≡ Some t → first_of (codes "S") (rows_of (found_of matches.now)) ≡ Some (decimal n)
-        → result ≡ Some (Command.Show t n) }
+        → first_of (codes "LOOKS") (rows_of (found_of matches.now)) ≡ Some (decimal k)
+        → result ≡ Some (t, n, k) }
 {
-    match table_in(matches, "TABLE") {
-        Some(table) => match number_in(matches, "S", 0, u32::MAX) {
-            Some(session) => Some(Command::Show { table, session }),
-            None => None,
-        },
-        None => None,
-    }
+    let (table, session) = session_in(matches)?;
+    let looks = number_in(matches, "LOOKS", 1, u32::MAX)?;
+    Some((table, session, looks))
 }
 
 fn exercise_in(matches: &ArgMatches) -> Option<Command>
@@ -120,10 +115,25 @@ pub(crate) fn with_values(name: &str, matches: &ArgMatches) -> Option<Command>
 {
     match name {
         "replay" => Some(Command::Replay),
-        "format" => format_in(matches),
-        "show" => show_in(matches),
+        "format" => session_in(matches).map(|(table, session)| Command::Format { table, session }),
+        "show" => session_in(matches).map(|(table, session)| Command::Show { table, session }),
         "exercise" => exercise_in(matches),
         "race" => race_in(matches),
+        "serve" => looks_in(matches).map(|(table, session, looks)| Command::Serve {
+            table,
+            session,
+            looks,
+        }),
+        "receive" => looks_in(matches).map(|(table, session, looks)| Command::Receive {
+            table,
+            session,
+            looks,
+        }),
+        "send" => looks_in(matches).map(|(table, session, looks)| Command::Send {
+            table,
+            session,
+            looks,
+        }),
         _ => None,
     }
 }

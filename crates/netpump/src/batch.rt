@@ -53,7 +53,7 @@ fn run_exercise<O: Sink>(alloc: Global, seed: u32, count: u32, out: &mut O) -> u
 }
 
 /// Runs the command that the words are, over the shelf, the script and the output. A command with threads
-/// is for `live`, and none of those that run here. The answer is the status of the program:
+/// or over a socket is for `live`, and none of those that run here. The answer is the status of the program:
 ///
 /// - 0: the command was done, and what it prints was written; a replay read the script to its end.
 /// - 1: there was not enough memory; nothing was written.
@@ -130,7 +130,10 @@ pub fn batch<S: Shelf, I: Source, O: Sink>(
             return show_session(alloc, table, *session, shelf, out).status();
         }
         Command::Exercise { seed, count } => return run_exercise(alloc, *seed, *count, out),
-        Command::Race { .. } => return refuse_words(out),
+        Command::Race { .. }
+        | Command::Serve { .. }
+        | Command::Receive { .. }
+        | Command::Send { .. } => return refuse_words(out),
     }
     replay(alloc, shelf, script, out).status()
 }

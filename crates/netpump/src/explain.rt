@@ -1,15 +1,20 @@
+mod link;
+
 use command_line::USAGE;
+use link::{explain_ahead, explain_full, explain_port, explain_refused, explain_unfinished};
 use session_table::{Table, TableFault};
 use std::{fs, io, str};
 
-/// What became of the disk that stopped a script with status 7.
+/// What the shelf knows of the file that stopped a command with status 3 or 7.
 #[derive(Clone, Copy)]
 pub enum Trouble {
-    /// Its file is in use by another process.
+    /// The table's file could not be read.
+    Unread,
+    /// The disk's file is in use by another process.
     InUse,
-    /// A call of its file failed.
+    /// A call of the disk's file failed.
     Failed,
-    /// A line of the script told so.
+    /// No file failed: a line of the script told so, or something else was read.
     Told,
 }
 
@@ -24,12 +29,17 @@ fn field<'a>(line: &'a str, place: usize) -> &'a str {
     line.split(' ').nth(place).unwrap_or("?")
 }
 
-/// The name of the table that the words have, if they have one.
-fn table_in(words: &[String]) -> Option<&str> {
-    match words {
-        [_, table, _] => Some(table.as_str()),
-        _ => None,
-    }
+/// The word with this place.
+fn word(words: &[String], place: usize) -> Option<&str> {
+    words.get(place).map(String::as_str)
+}
+
+fn explain_message(rt: &HostRuntime, last: &[u8]) -> io::Result<()> {
+    let line = fault_line(last).unwrap_or("");
+    let number = field(line, 2);
+    eprintln!(rt;
+        "netpump: line {number} of standard input is no message; write a message as two hexadecimal digits for each of its 1024 bytes at most, or - for no bytes, in a line of its own that ends with a newline and has no carriage return. Mend it and send all lines again: those that are stored are passed over"
+    )
 }
 
 fn explain_script(rt: &HostRuntime, last: &[u8]) -> io::Result<()> {
@@ -54,7 +64,7 @@ fn explain_device(rt: &HostRuntime, last: &[u8], trouble: Trouble) -> io::Result
         Trouble::InUse => eprintln!(rt;
             "netpump: the file {session}.{role} is in use by another netpump; wait until that one has ended, and try again"
         ),
-        Trouble::Failed => eprintln!(rt;
+        Trouble::Failed | Trouble::Unread => eprintln!(rt;
             "netpump: the file {session}.{role} in this folder could not be made, read, written or synced; see that its disk has room and that the file is yours to write, and go on with what was not acknowledged. What was acknowledged is kept"
         ),
         Trouble::Told => eprintln!(rt;
@@ -98,14 +108,14 @@ fn explain_disk(rt: &HostRuntime, last: &[u8]) -> io::Result<()> {
     }
 }
 
-/// A disk that `show` finds empty, and what to do.
+/// A disk that is empty, and what to do.
 fn explain_empty(rt: &HostRuntime, words: &[String], last: &[u8]) -> io::Result<()> {
     let line = fault_line(last).unwrap_or("");
-    let table = table_in(words).unwrap_or("TABLE");
+    let table = word(words, 1).unwrap_or("TABLE");
     let session = field(line, 2);
     let role = field(line, 3);
     eprintln!(rt;
-        "netpump: the file {session}.{role} is empty, so there is nothing to show; where all three files of the session are empty, netpump format {table} {session} makes new disks, and else put back the three files that belong together"
+        "netpump: the file {session}.{role} is empty, so it is no disk yet; where all three files of the session are empty, netpump format {table} {session} makes new disks, and else put back the three files that belong together"
     )
 }
 
@@ -125,12 +135,16 @@ fn explain_refusal(rt: &HostRuntime, words: &[String], last: &[u8]) -> io::Resul
     )
 }
 
-fn explain_unread(rt: &HostRuntime, words: &[String]) -> io::Result<()> {
-    match table_in(words) {
-        Some(table) => eprintln!(rt;
+fn explain_unread(rt: &HostRuntime, words: &[String], trouble: Trouble) -> io::Result<()> {
+    let table = word(words, 1).unwrap_or("TABLE");
+    match (trouble, word(words, 0)) {
+        (Trouble::Unread, _) => eprintln!(rt;
             "netpump: the file {table} in this folder could not be read; see that it is there and that it is yours to read, and try again"
         ),
-        None => eprintln!(rt;
+        (_, Some("serve")) => eprintln!(rt;
+            "netpump: the 32 bytes of the relay's key could not be read from /dev/urandom; see that this machine has it and that it is yours to read, and try again"
+        ),
+        _ => eprintln!(rt;
             "netpump: standard input could not be read to its end; see that it is a file or a pipe, and not a folder. What it said until then is answered above"
         ),
     }
@@ -144,7 +158,7 @@ fn fault_of_table(rt: &HostRuntime, name: &str) -> Option<TableFault> {
 
 fn explain_table(rt: &HostRuntime, words: &[String], last: &[u8]) -> io::Result<()> {
     let line = fault_line(last).unwrap_or("");
-    let table = table_in(words).unwrap_or("?");
+    let table = word(words, 1).unwrap_or("?");
     let session = field(line, 3);
     match field(line, 2) {
         "10" => eprintln!(rt;
@@ -162,6 +176,14 @@ fn explain_table(rt: &HostRuntime, words: &[String], last: &[u8]) -> io::Result<
     }
 }
 
+fn explain_receiver(rt: &HostRuntime, words: &[String], last: &[u8]) -> io::Result<()> {
+    let line = fault_line(last).unwrap_or("");
+    match field(line, 1) {
+        "ahead" => explain_ahead(rt, line),
+        _ => explain_full(rt, words, line),
+    }
+}
+
 /// Says on standard error, in a sentence or two, why the program ends with this status and what to do.
 /// `last` is the end of what was written.
 pub fn explain(
@@ -175,16 +197,18 @@ pub fn explain(
         0 => Ok(()),
         1 => eprintln!(rt; "netpump: there is not enough memory; end other programs and try again"),
         2 => eprintln!(rt; "netpump: these words are no command; {USAGE}"),
-        3 => explain_unread(rt, words),
+        3 => explain_unread(rt, words, trouble),
         4 => eprintln!(rt;
             "netpump: standard output could not be written; see that its reader is there, or that its disk has room, and try again"
         ),
+        5 if word(words, 0) == Some("send") => explain_message(rt, last),
         6 => explain_table(rt, words, last),
         7 => explain_device(rt, last, trouble),
         8 => explain_refusal(rt, words, last),
-        10 => eprintln!(rt;
-            "netpump: a message does not fit on the receiver's disk; replay fewer messages, or shorter ones. The last line of the output has the session, where its records end, the length of the message and the size of the disk"
-        ),
+        9 => explain_port(rt, words),
+        10 => explain_receiver(rt, words, last),
+        11 => explain_refused(rt, words, fault_line(last).unwrap_or("")),
+        12 => explain_unfinished(rt, fault_line(last).unwrap_or("")),
         _ => explain_script(rt, last),
     }
 }

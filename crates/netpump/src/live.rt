@@ -1,4 +1,4 @@
-//! The commands with threads.
+//! The commands with threads, and those over a socket.
 
 ghost use Rattle.std.specs.Prelude.{◌≡◌, ◌⊎◌, ◌≤◌, ℕ, true, List, [], map, string_bytes};
 ghost use Rattle.std.specs.Io.KnownBytes.{Appends};
@@ -7,7 +7,7 @@ ghost use Rattle.command_line.specs.declared.command.Command.{Command as Asked};
 ghost use Rattle.command_line.specs.declared.command.Command.TheVariants as commands;
 ghost use Rattle.command_line.specs.TimeLists.{AreTimes};
 ghost use Rattle.pump_frame.specs.Counts.{Rose};
-ghost use Rattle.netpump.specs.Commands.{is_live, IsNoLiveCommand, RefusesWords};
+ghost use Rattle.netpump.specs.Commands.{is_run_live, IsNoLiveCommand, RefusesWords};
 ghost use Rattle.netpump.specs.Racing.{IsRecordOf, EndsRace};
 
 use crate::batch::refuse_words;
@@ -49,7 +49,8 @@ fn run_race<R: Threads + Wait + Sync, K: Clock + Send, O: Sink + Send>(
 ///
 /// - 0: the command was done, and what it prints was written.
 /// - 1: there was not enough memory; nothing was written.
-/// - 2: the words are no such command, which is what the output says.
+/// - 2: the words are no such command that is run, which is what the output says. Commands over a socket
+///   are not run yet.
 /// - 4: the output could not be written; a front of what is to be written was.
 ///
 /// A race asks the low clock for the moment of each of its looks. It needs no shelf, port, key and script,
@@ -76,10 +77,14 @@ pub fn live<
     script: &mut I,
     out: &mut O,
 ) -> u8
+where
+    S::Disk: Send,
+    P::Link: Send,
+    P::Door: Send,
     // Whatever the words are, nothing of the shelf, the ports, the keys and the script is touched.
     ensures untouched { (shelf.new ≡ shelf.old) × (ports.new ≡ ports.old) × (high_clock.new ≡ high_clock.old) × (keys.new ≡ keys.old) × (script.new ≡ script.old) }
     ensures words { IsNoLiveCommand (map string_bytes words.now.items) → RefusesWords (O.written out.old) (O.written out.new) result }
-    ensures known { (c : Asked) → is_live c ≡ true → AreWordsOf (map string_bytes words.now.items) c → (result ≡ 2 → ⊥) }
+    ensures known { (c : Asked) → is_run_live c ≡ true → AreWordsOf (map string_bytes words.now.items) c → (result ≡ 2 → ⊥) }
     ensures memory { result ≡ 1 → Appends (O.written out.old) (O.written out.new) [] }
     ensures unwritten { result ≡ 4 → Rose (O.faults out.old) (O.faults out.new) }
     ensures race { (seed : ℕ) (count : ℕ) (times : List ℕ) → AreWordsOf (map string_bytes words.now.items) (commands.Race seed count (record { items = times }))

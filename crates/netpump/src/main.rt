@@ -10,23 +10,35 @@ mod explain;
 mod file_disk;
 mod file_shelf;
 mod format;
+mod key_source;
 mod live;
+mod read_ahead;
+mod readiness;
+mod real_clock;
 mod show;
 mod standard;
 mod table_row;
+mod tcp_door;
+mod tcp_link;
+mod tcp_ports;
 
 use batch::batch;
 use disk_model::Shelf;
 use explain::{Trouble, explain};
 use file_shelf::FileShelf;
+use key_source::KeySource;
 use live::live;
-use pump_link::{MemPorts, MemSource, Sink, Source, StepClock};
+use pump_link::{Clock, Sink, Source, StepClock};
+use real_clock::{RealClock, now};
 use standard::{StdSink, StdSource};
 use std::alloc::Global;
+use std::fs::{File, Files};
+use std::net::{Net, TcpListener, TcpStream};
 use std::process::ExitCode;
 use std::sync::Wait;
 use std::thread::Threads;
 use std::{env, io};
+use tcp_ports::TcpPorts;
 
 /// The words after the program's name.
 fn words(rt: &HostRuntime) -> io::Result<Vec<String>> {
@@ -37,33 +49,51 @@ fn words(rt: &HostRuntime) -> io::Result<Vec<String>> {
     Ok(words)
 }
 
-/// Does the first word name a command with threads?
-fn is_live(words: &[String]) -> bool {
-    matches!(words.first().map(String::as_str), Some("race"))
+/// Is this the first word?
+fn begin_with(words: &[String], name: &str) -> bool {
+    words.first().map(String::as_str) == Some(name)
 }
 
-/// Runs the command with threads that the words are. The looks of a race are a millisecond apart.
-fn run_live<R: Threads + Wait + Sync, S: Shelf, I: Source, O: Sink + Send>(
+/// Does the first word name a command with threads or over a socket?
+fn is_live(words: &[String]) -> bool {
+    ["race", "serve", "receive", "send"]
+        .iter()
+        .any(|name| begin_with(words, name))
+}
+
+/// Runs the command with threads or over a socket that the words are, by two clocks.
+fn run_with<
+    R: Threads
+        + Wait
+        + Sync
+        + Net<Listener = TcpListener, Stream = TcpStream>
+        + Files<File = File>
+        + std::time::Clock,
+    S: Shelf,
+    K: Clock + Send + Drop,
+    I: Source,
+    O: Sink + Send,
+>(
     rt: &R,
     alloc: Global,
     words: &Vec<String>,
     shelf: &mut S,
+    (mut low_clock, mut high_clock): (K, K),
     script: &mut I,
     out: &mut O,
-) -> u8 {
-    let mut ports = MemPorts::new(Vec::new(alloc), Vec::new(alloc));
-    let mut keys = MemSource::new(Vec::new(alloc), 1, Vec::new(alloc));
-    let mut low_clock = StepClock::new(0, 1000);
-    let mut high_clock = StepClock::new(0, 1000);
+) -> u8
+where
+    S::Disk: Send,
+{
     live(
         rt,
         alloc,
         words,
         shelf,
-        &mut ports,
+        &mut TcpPorts::new(rt),
         &mut low_clock,
         &mut high_clock,
-        &mut keys,
+        &mut KeySource::new(rt),
         script,
         out,
     )
@@ -78,12 +108,36 @@ fn main(rt: HostRuntime) -> ExitCode {
     let mut shelf = FileShelf::new(&rt);
     let mut script = StdSource::new(rt.stdin());
     let mut out = StdSink::new(rt.stdout());
-    let status = if is_live(words.as_slice()) {
-        run_live(&rt, rt.alloc(), &words, &mut shelf, &mut script, &mut out)
+    let status = if begin_with(words.as_slice(), "race") {
+        // The looks of a race are a millisecond apart.
+        let clocks = (StepClock::new(0, 1000), StepClock::new(0, 1000));
+        run_with(
+            &rt,
+            rt.alloc(),
+            &words,
+            &mut shelf,
+            clocks,
+            &mut script,
+            &mut out,
+        )
+    } else if is_live(words.as_slice()) {
+        let start = now(&rt);
+        let clocks = (RealClock::new(&rt, start), RealClock::new(&rt, start));
+        run_with(
+            &rt,
+            rt.alloc(),
+            &words,
+            &mut shelf,
+            clocks,
+            &mut script,
+            &mut out,
+        )
     } else {
         batch(rt.alloc(), &words, &mut shelf, &mut script, &mut out)
     };
-    let trouble = if shelf.is_in_use() {
+    let trouble = if shelf.faults() > 0 {
+        Trouble::Unread
+    } else if shelf.is_in_use() {
         Trouble::InUse
     } else if shelf.disk_faults() > 0 {
         Trouble::Failed

@@ -10,4 +10,7 @@ returns c =
     let format = c.in_ok-all-2.ensures ∙ ap₂ (λ (a s : App). with_subcommand a s.top) replay c.in_ok-with_two.ensures.app in
     let show = c.in_ok-all-3.ensures ∙ ap₂ (λ (a s : App). with_subcommand a s.top) format c.in_ok-with_two-2.ensures.app in
     let exercise = c.in_ok-all-4.ensures ∙ ap₂ (λ (a s : App). with_subcommand a s.top) show c.in_ok-with_two-3.ensures.app in
-    IfOk-weaker c.with-5.result _ _ (λ p h. h ∙ ap₂ (λ (a s : App). with_subcommand a s.top) exercise c.in_ok-with_three.ensures.app) c.with-5.ensures
+    let race = c.in_ok-all-5.ensures ∙ ap₂ (λ (a s : App). with_subcommand a s.top) exercise c.in_ok-with_three.ensures.app in
+    let serve = c.in_ok-all-6.ensures ∙ ap₂ (λ (a s : App). with_subcommand a s.top) race c.in_ok-with_three-2.ensures.app in
+    let receive = c.in_ok-all-7.ensures ∙ ap₂ (λ (a s : App). with_subcommand a s.top) serve c.in_ok-with_three-3.ensures.app in
+    IfOk-weaker c.with-8.result _ _ (λ p h. h ∙ ap₂ (λ (a s : App). with_subcommand a s.top) receive c.in_ok-with_three-4.ensures.app) c.with-8.ensures

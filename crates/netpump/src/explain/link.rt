@@ -1,0 +1,93 @@
+//! The sentences of commands over a socket.
+
+use super::{field, word};
+use pump_frame::SessionRow;
+use session_table::Table;
+use std::{fs, io};
+
+/// The row of the session that the words name, from the table that they name, which is read again for it.
+fn row(rt: &HostRuntime, words: &[String]) -> Option<SessionRow> {
+    let bytes = fs::read(rt, word(words, 1)?).ok()?;
+    let session = word(words, 2)?.parse::<u32>().ok()?;
+    let table = Table::read(rt.alloc(), bytes.as_slice()).ok()?;
+    table.row(session)
+}
+
+/// Ports that can't be listened at, or a port at which nobody answers.
+pub fn explain_port(rt: &HostRuntime, words: &[String]) -> io::Result<()> {
+    let table = word(words, 1).unwrap_or("TABLE");
+    let session = word(words, 2).unwrap_or("S");
+    let (low, high) = match row(rt, words) {
+        Some(row) => (row.low_port, row.high_port),
+        None => (0, 0),
+    };
+    match word(words, 0) {
+        Some("serve") => eprintln!(rt;
+            "netpump: port {low} or {high} of 127.0.0.1 could not be listened at; see that no other program has it, such as another netpump that serves this session, and that it is yours to take (those below 1024 are root's), or give the session other ports in {table}"
+        ),
+        Some("send") => eprintln!(rt;
+            "netpump: nobody answers at port {low} of 127.0.0.1, which is the low port of session {session}; start its relay in the folder of its disks by netpump serve {table} {session} LOOKS, and try again while it runs"
+        ),
+        _ => eprintln!(rt;
+            "netpump: nobody answers at port {high} of 127.0.0.1, which is the high port of session {session}; start its relay in the folder of its disks by netpump serve {table} {session} LOOKS, and try again while it runs"
+        ),
+    }
+}
+
+/// A message that is out of step with the receiver's disk.
+pub fn explain_ahead(rt: &HostRuntime, line: &str) -> io::Result<()> {
+    let session = field(line, 2);
+    let number = field(line, 3);
+    let count = field(line, 4);
+    eprintln!(rt;
+        "netpump: the relay brings message {number}, and the file {session}.recv has the first {count} alone, so the files of session {session} are not of one time; put back the {session}.recv that belongs to the relay's {session}.high"
+    )
+}
+
+/// A message that does not fit on the receiver's disk.
+pub fn explain_full(rt: &HostRuntime, words: &[String], line: &str) -> io::Result<()> {
+    let session = field(line, 2);
+    let end = field(line, 3);
+    let length = field(line, 4);
+    let size = field(line, 5);
+    match word(words, 0) {
+        Some("receive") => eprintln!(rt;
+            "netpump: the next message has {length} bytes, and the file {session}.recv has no room for it: its records end at byte {end} of {size}. All that it has is kept; to go on, keep the three files of session {session} elsewhere and format new ones"
+        ),
+        _ => eprintln!(rt;
+            "netpump: a message of {length} bytes does not fit on the receiver's disk of session {session}, whose records end at byte {end} of {size}; replay fewer messages, or shorter ones"
+        ),
+    }
+}
+
+/// A frame that the relay refused.
+pub fn explain_refused(rt: &HostRuntime, words: &[String], line: &str) -> io::Result<()> {
+    let table = word(words, 1).unwrap_or("TABLE");
+    let session = word(words, 2).unwrap_or("S");
+    let number = field(line, 3);
+    match field(line, 2) {
+        "1" => eprintln!(rt;
+            "netpump: the relay knows session {session} by other names than {table} has; use the relay's table"
+        ),
+        "2" => eprintln!(rt;
+            "netpump: the relay did not expect what was sent, which is so where its session {session} is another than that of {table}; use the relay's table, and send all lines again"
+        ),
+        "3" => eprintln!(rt;
+            "netpump: the message after the last one acknowledged above is longer than the relay takes in session {session}; send a shorter one in its place, or give the session a greater message in the table of both and new disks"
+        ),
+        "4" => eprintln!(rt;
+            "netpump: the message after the last one acknowledged above is out of step: the relay wants message {number} next; see that nobody else sends to session {session}, and send all lines again from the first on"
+        ),
+        _ => eprintln!(rt;
+            "netpump: a disk of the relay failed, so the message after the last one acknowledged above is not stored; the relay says which disk. Mend it, start the relay anew, and send all lines again: those that are stored are passed over"
+        ),
+    }
+}
+
+/// Messages that are not acknowledged.
+pub fn explain_unfinished(rt: &HostRuntime, line: &str) -> io::Result<()> {
+    let number = field(line, 2);
+    eprintln!(rt;
+        "netpump: message {number} and those after it are not acknowledged: the connection to the relay ended, or no answer came in as many looks as were given; see that the relay runs and has rounds left, and send all lines again: those that are stored are passed over"
+    )
+}

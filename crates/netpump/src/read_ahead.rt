@@ -1,0 +1,80 @@
+ghost use Rattle.std.specs.Prelude.{◌≡◌, ℕ, List, [], ◌∷◌, length, IfNone, IfSome, IfOk};
+ghost use Rattle.std.specs.Io.KnownBytes.{ReadConsumes};
+
+use std::io::{self, Read};
+use std::marker::Model;
+
+/// How many bytes one read takes in at most.
+const ROOM: usize = 2048;
+
+/// Bytes that were read and are not given yet. Contracts see the list of them.
+#[derive(Drop)]
+pub struct ReadAhead {
+    bytes: [u8; ROOM],
+    at: usize,
+    end: usize,
+}
+
+impl Model for ReadAhead {
+    ghost use Rattle.std.specs.Prelude.{ℕ, ◌≤◌, List, take, drop};
+
+    ghost Value = { List ℕ };
+
+    ghost view = { λ s. drop s.at (take s.end s.bytes) };
+
+    ghost invariant = { λ s. (s.at ≤ s.end) × (s.end ≤ 2048) };
+}
+
+impl ReadAhead {
+    /// No bytes.
+    pub fn new() -> ReadAhead
+        ensures { result ≡ [] }
+    {
+        ReadAhead {
+            bytes: [0; ROOM],
+            at: 0,
+            end: 0,
+        }
+    }
+
+    /// The next byte, where one is left.
+    pub fn next(&mut self) -> Option<u8>
+        ensures none { IfNone result ((self.old ≡ []) × (self.new ≡ [])) }
+        ensures some { IfSome result (λ byte. self.old ≡ byte ∷ self.new) }
+    {
+        if self.at == self.end {
+            return None;
+        }
+        let byte = self.bytes[self.at];
+        self.at += 1;
+        Some(byte)
+    }
+
+    /// Takes in the bytes of one read, none where the reader is at its end.
+    pub fn fill<R: Read>(&mut self, reader: &mut R) -> io::Result<usize>
+        requires { self.old ≡ [] }
+        ensures count { IfOk result (λ count. length self.new ≡ count) }
+        ensures bytes { ReadConsumes (R.remaining reader.old) (R.remaining reader.new) result self.new }
+    {
+        let count = reader.read(&mut self.bytes)?;
+        self.at = 0;
+        self.end = count;
+        Ok(count)
+    }
+}
+
+#[cfg(test)]
+mod tests {
+    use super::*;
+    use std::test::Fail;
+
+    #[test]
+    fn bytes_come_in_order(rt: HostRuntime) -> Result<(), Fail> {
+        let mut reader = b"ab".as_slice();
+        let mut ahead = ReadAhead::new();
+        assert_eq!(rt; ahead.fill(&mut reader)?, 2);
+        let bytes = [ahead.next(), ahead.next(), ahead.next()];
+        assert_eq!(rt; bytes, [Some(b'a'), Some(b'b'), None]);
+        Ok(())
+    }
+}

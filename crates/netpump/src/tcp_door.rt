@@ -1,0 +1,72 @@
+ghost use Rattle.std.specs.Prelude.{◌≡◌, IfOk};
+
+use crate::readiness::{is_readable, pause};
+use crate::tcp_link::TcpLink;
+use pump_frame::raised;
+use pump_link::{Accepted, Door};
+use std::io::{self, ErrorKind};
+use std::net::TcpListener;
+
+/// A TCP listener as a door. It tells how often a call failed, and nothing of who came.
+///
+/// A call waits a millisecond at most for a connection, and about as long where it fails, so that a
+/// caller that asks again and again leaves the processor to others.
+#[derive(Drop)]
+pub struct TcpDoor {
+    listener: TcpListener,
+    faults: u64,
+}
+
+impl TcpDoor {
+    /// A door at which the listener's connections come.
+    pub fn over(listener: TcpListener) -> io::Result<TcpDoor>
+        ensures { IfOk result (λ door. door.faults ≡ 0) }
+    {
+        // A connection that is gone before it is taken in must not keep the call.
+        listener.set_nonblocking(true)?;
+        Ok(TcpDoor {
+            listener,
+            faults: 0,
+        })
+    }
+
+    fn next(&self) -> io::Result<TcpLink> {
+        let (stream, _) = self.listener.accept()?;
+        TcpLink::over(stream)
+    }
+}
+
+impl Door for TcpDoor {
+    type Link = TcpLink;
+
+    // It tells no port and no answers, and anything may have been done.
+    ghost port = { λ s number. Unit {0} };
+
+    ghost gives = { λ s steps. ⊥ };
+
+    ghost did = { λ s steps. Unit {0} };
+
+    ghost faults = { λ s. s.faults };
+
+    fn accept(&mut self) -> Accepted<TcpLink> {
+        if !is_readable(&self.listener) {
+            return Accepted::NotYet;
+        }
+        match self.next() {
+            Ok(link) => Accepted::Came(link),
+            Err(error) if error.kind() == ErrorKind::WouldBlock => Accepted::NotYet,
+            Err(_) => {
+                pause();
+                self.faults = raised(self.faults);
+                Accepted::Failed
+            }
+        }
+    }
+
+    // The connection is closed.
+    fn back(&mut self, _link: TcpLink) {}
+
+    fn faults(&self) -> u64 {
+        self.faults
+    }
+}

@@ -100,11 +100,11 @@ impl LowProcess {
         }
     }
 
-    /// The session of the row.
-    pub fn session(&self) -> u32
-        ensures { result ≡ (row_of self.now).id }
+    /// The row of the session.
+    pub fn row(&self) -> &SessionRow
+        ensures { result.now ≡ row_of self.now }
     {
-        self.row.id
+        &self.row
     }
 
     /// The number of the next message.

@@ -251,7 +251,7 @@ fn an_opening_goes_on_from_its_count(rt: HostRuntime) -> Result<(), Fail> {
 #[test]
 fn a_head_holds_one_look(rt: HostRuntime) -> Result<(), Fail> {
     let mut bench = set_up(rt.alloc(), PlainDisk::new(rt.alloc(), 110)?, 0)?;
-    assert_eq!(rt; bench.process.session(), 1);
+    assert_eq!(rt; bench.process.row().id, 1);
     let mut head = LookHead {
         taken: true,
         stored: Some(9),

@@ -3,7 +3,7 @@ use Rattle.std.specs.Prelude.{◌≡◌, ◌⊎◌, ℕ, Bool, true, false, List
 use Rattle.std.specs.Io.KnownBytes.{Appends}
 use Rattle.command_line.specs.Commands.{AreWordsOf}
 use Rattle.command_line.specs.declared.command.Command.{Command}
-use Rattle.command_line.specs.declared.command.Command.TheVariants.{Race}
+use Rattle.command_line.specs.declared.command.Command.TheVariants.{Race, Serve, Receive, Send}
 use Rattle.pump_frame.specs.Counts.{Rose}
 use Rattle.pump_link.specs.Causes.{AppendsFront}
 use Rattle.recovery.specs.Faults.{why_number, why_values}
@@ -18,10 +18,18 @@ use Rattle.netpump.specs.declared.command_end.CommandEnd.TheVariants.{Done, Memo
 abbrev pub IsReplay : List (List ℕ) → Type 0
 IsReplay words = words ≡ codes "replay" ∷ []
 
--- a command with threads is run by `live`, every other one by `batch`
+-- a command with threads or over a socket is for `live`, every other one for `batch`
 abbrev pub is_live : Command → Bool
 is_live (Race seed count times) = true
+is_live (Serve table session looks) = true
+is_live (Receive table session looks) = true
+is_live (Send table session looks) = true
 is_live _ = false
+
+-- those that `live` runs so far
+abbrev pub is_run_live : Command → Bool
+is_run_live (Race seed count times) = true
+is_run_live _ = false
 
 -- the words are no command that `batch` runs
 abbrev pub IsNoCommand : List (List ℕ) → Type 0
@@ -29,7 +37,7 @@ IsNoCommand words = (c : Command) → is_live c ≡ false → AreWordsOf words c
 
 -- .. that `live` runs
 abbrev pub IsNoLiveCommand : List (List ℕ) → Type 0
-IsNoLiveCommand words = (c : Command) → is_live c ≡ true → AreWordsOf words c → ⊥
+IsNoLiveCommand words = (c : Command) → is_run_live c ≡ true → AreWordsOf words c → ⊥
 
 -- what is written where the words are no command: with status 2 the fault, with status 4 a front of it, and nothing else
 abbrev pub TellsWords : Option (List ℕ) → Option (List ℕ) → ℕ → Type 0

@@ -3,6 +3,7 @@ pub mod Exercises
 pub mod Exercising
 pub mod Files
 pub mod Formatting
+pub mod LiveEnds
 pub mod Racing
 pub mod Showing
 pub mod Tables

@@ -46,7 +46,8 @@ impl CommandEnd {
     }
 }
 
-fn put(into: &mut ArrayVec<u8, 256>, text: &[u8])
+/// Appends these bytes.
+pub fn put(into: &mut ArrayVec<u8, 256>, text: &[u8])
     requires { array_vec_len into.old + length text.now ≤ 256 }
     ensures items { into.new.items ≡ into.old.items ++ text.now }
     ensures len { array_vec_len into.new ≡ array_vec_len into.old + length text.now }
@@ -67,8 +68,8 @@ fn put_numbers(into: &mut ArrayVec<u8, 256>, first: u32, second: u32)
     put(into, b"\n");
 }
 
-// The fault that is written at this end, if there is one.
-fn put_end(session: u32, end: &CommandEnd, into: &mut ArrayVec<u8, 256>)
+/// Appends the fault that is written at this end, if there is one.
+pub fn put_end(session: u32, end: &CommandEnd, into: &mut ArrayVec<u8, 256>)
     requires { into.old.items ≡ [] }
     ensures { into.new.items ≡ end_line session end.now }
 {

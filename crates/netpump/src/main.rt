@@ -12,6 +12,7 @@ mod file_shelf;
 mod format;
 mod key_source;
 mod live;
+mod live_end;
 mod read_ahead;
 mod readiness;
 mod real_clock;

@@ -1,6 +1,17 @@
 pub mod Alike
+pub mod Hearing
+pub mod HighServing
+pub mod HighStaying
+pub mod HighTurning
 pub mod Kept
+pub mod LowLives
+pub mod LowRecord
+pub mod LowServing
+pub mod LowStaying
+pub mod LowTurning
+pub mod LowVisiting
 pub mod Machine
+pub mod Reaching
 pub mod Replaying
 pub mod ReplyKinds
 pub mod Scripting

@@ -1,3 +1,12 @@
+pub mod Hearings
+pub mod HighRounds
+pub mod HighServes
+pub mod HighStays
+pub mod LowRounds
+pub mod LowServes
+pub mod LowStays
+pub mod Reaching
 pub mod RecordLines
 pub mod Records
 pub mod Replays
+pub mod Workers

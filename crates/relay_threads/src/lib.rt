@@ -2,14 +2,36 @@
 #![tactic(auto)]
 
 mod gate;
+mod hear;
+mod high_round;
+mod high_serve;
+mod high_served;
+mod high_stays;
 mod law;
+mod low_round;
+mod low_serving;
+mod low_stays;
 mod pair;
 mod record;
+mod rounds_end;
+mod tape;
 
 pub use gate::{Gate, Open};
+pub use high_serve::serve_high;
+pub use high_served::{HighServed, HighWhy};
+pub use high_stays::high_rounds;
 pub use law::{records_are_lives, records_are_scripts, records_replay};
+pub use low_round::LowWhy;
+pub use low_serving::{LowServed, serve_low};
+pub use low_stays::low_rounds;
 pub use pair::{Work, run_pair};
 pub use record::{LookMade, append_look, append_opening, is_recorded};
+pub use rounds_end::RoundsEnd;
+pub use tape::write_opening;
 
+#[cfg(test)]
+mod high_tests;
+#[cfg(test)]
+mod low_tests;
 #[cfg(test)]
 mod tests;

@@ -25,10 +25,12 @@ pub struct NotTaken {
     pub fault: ShelfFault,
 }
 
-fn take_one<S: Shelf>(shelf: &mut S, session: u32, role: Role) -> Result<S::Disk, NotTaken>
+/// Takes one disk of a session off the shelf.
+pub fn take_disk<S: Shelf>(shelf: &mut S, session: u32, role: Role) -> Result<S::Disk, NotTaken>
     ensures read { IfOk result (λ disk. S.told.tells → ReadAt (S.told.disk shelf.old) session role (S.Disk.told.reading disk)) }
     ensures out { IfOk result (λ disk. IsOutAt (S.told.disk shelf.new) session role (S.Disk.told.count disk)) }
     ensures none { IfErr result (λ e. S.told.disk shelf.new ≡ S.told.disk shelf.old) }
+    ensures role { IfErr result (λ e. e.role ≡ role) }
     ensures others { (name : DiskName) → (name ≡ disk_name session role → ⊥) → S.told.disk shelf.new name ≡ S.told.disk shelf.old name }
     ensures later { S.told.disk_faults shelf.old ≤ S.told.disk_faults shelf.new }
     ensures cause { IfErr result (λ e. e.fault ≡ Failed → Rose (S.told.disk_faults shelf.old) (S.told.disk_faults shelf.new)) }
@@ -54,25 +56,26 @@ pub fn take_disks<S: Shelf>(shelf: &mut S, session: u32) -> Result<TakenDisks<S:
     ensures later { S.told.disk_faults shelf.old ≤ S.told.disk_faults shelf.new }
     ensures cause { IfErr result (λ e. e.fault ≡ Failed → Rose (S.told.disk_faults shelf.old) (S.told.disk_faults shelf.new)) }
 {
-    let low = take_one(shelf, session, Role::Low)?;
-    let high = match take_one(shelf, session, Role::High) {
+    let low = take_disk(shelf, session, Role::Low)?;
+    let high = match take_disk(shelf, session, Role::High) {
         Ok(high) => high,
         Err(not_taken) => {
-            put_back(shelf, session, Role::Low, low);
+            put_disk_back(shelf, session, Role::Low, low);
             return Err(not_taken);
         }
     };
-    match take_one(shelf, session, Role::Recv) {
+    match take_disk(shelf, session, Role::Recv) {
         Ok(recv) => Ok(TakenDisks { low, high, recv }),
         Err(not_taken) => {
-            put_back(shelf, session, Role::Low, low);
-            put_back(shelf, session, Role::High, high);
+            put_disk_back(shelf, session, Role::Low, low);
+            put_disk_back(shelf, session, Role::High, high);
             Err(not_taken)
         }
     }
 }
 
-fn put_back<S: Shelf>(shelf: &mut S, session: u32, role: Role, disk: S::Disk)
+/// Puts a disk that was taken back under its name.
+pub fn put_disk_back<S: Shelf>(shelf: &mut S, session: u32, role: Role, disk: S::Disk)
     requires { IsOut (S.told.disk shelf.old (disk_name session role)) }
     ensures back { S.told.tells → S.told.disk shelf.new (disk_name session role) ≡ OnShelf (S.Disk.told.reading disk) }
     ensures others { (name : DiskName) → (name ≡ disk_name session role → ⊥) → S.told.disk shelf.new name ≡ S.told.disk shelf.old name }
@@ -100,7 +103,7 @@ pub fn put_disks_back<S: Shelf>(
     ensures recv_rises { RisesAt (S.told.disk shelf.old) session roles.Recv (S.Disk.told.count recv) (S.told.disk_faults shelf.old) (S.told.disk_faults shelf.new) }
     ensures later { S.told.disk_faults shelf.old ≤ S.told.disk_faults shelf.new }
 {
-    put_back(shelf, session, Role::Low, low);
-    put_back(shelf, session, Role::High, high);
-    put_back(shelf, session, Role::Recv, recv);
+    put_disk_back(shelf, session, Role::Low, low);
+    put_disk_back(shelf, session, Role::High, high);
+    put_disk_back(shelf, session, Role::Recv, recv);
 }

@@ -13,6 +13,6 @@ mod sessions;
 mod tests;
 mod turn;
 
-pub use disks::{NotTaken, TakenDisks, put_disks_back, take_disks};
+pub use disks::{NotTaken, TakenDisks, put_disk_back, put_disks_back, take_disk, take_disks};
 pub use ended::Ended;
 pub use replaying::replay;

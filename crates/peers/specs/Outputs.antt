@@ -1,0 +1,31 @@
+-- Frames of one's own, and bytes that went out in part.
+use Rattle.std.specs.Prelude.{◌≡◌, ℕ, Bool, true, List, [], ◌++◌, Option}
+use Rattle.std.specs.Io.KnownBytes.{Appends}
+use Rattle.pump_frame.specs.declared.frame.Frame.{Frame}
+use Rattle.pump_frame.specs.declared.frame.Kind.{Kind}
+use Rattle.pump_link.specs.Tells.{Grows}
+
+-- a frame without a payload
+abbrev pub plain_frame : Kind → ℕ → ℕ → Frame
+plain_frame kind session number = record { kind = kind; session = session; number = number; payload = [] }
+
+-- these bytes are the first of those
+abbrev pub IsFront : List ℕ → List ℕ → Type 0
+IsFront front bytes = (rest : List ℕ) × (bytes ≡ front ++ rest)
+
+-- a front of the bytes was sent, and all of them where it says so
+abbrev pub SendsPart : (List ℕ → Type 0) → (List ℕ → Type 0) → Bool → List ℕ → Type 0
+SendsPart old new whole bytes = (front : List ℕ) × IsFront front bytes × (whole ≡ true → front ≡ bytes) × Grows old new front
+
+-- a front of the bytes was written, and all of them where it says so
+abbrev pub PrintsPart : Option (List ℕ) → Option (List ℕ) → Bool → List ℕ → Type 0
+PrintsPart old new whole bytes = (front : List ℕ) × IsFront front bytes × (whole ≡ true → front ≡ bytes) × Appends old new front
+
+-- how many calls have failed, before a call and after it: of the link, of the sink, and of the sender's script or the receiver's disk
+pub record Counts : Type 0 where
+  pub link : ℕ
+  pub now_link : ℕ
+  pub out : ℕ
+  pub now_out : ℕ
+  pub other : ℕ
+  pub now_other : ℕ

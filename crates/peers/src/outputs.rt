@@ -1,0 +1,44 @@
+ghost use Rattle.std.specs.Prelude.{◌≡◌, ℕ, ◌≤◌, true, false, [], length};
+ghost use Rattle.pump_frame.specs.Counts.{Rose};
+ghost use Rattle.pump_frame.specs.Frames.{IsLawful};
+ghost use Rattle.pump_frame.specs.Spellings.{spelling};
+ghost use Rattle.pump_link.specs.Tells.{Draws, Grows};
+ghost use Rattle.peers.specs.Outputs.{SendsPart, PrintsPart, plain_frame};
+
+use arrayvec::ArrayVec;
+use pump_frame::{Frame, Kind, Payload, encode};
+use pump_link::{Link, Sink, write_all};
+
+/// A frame without a payload.
+pub(crate) fn plain_frame(kind: Kind, session: u32, number: u64) -> Frame
+    ensures { result ≡ plain_frame kind session number }
+{
+    Frame {
+        kind,
+        session,
+        number,
+        payload: Payload::default(),
+    }
+}
+
+/// Sends a frame, and says whether it was sent whole.
+pub(crate) fn send_frame<C: Link>(link: &mut C, frame: &Frame) -> bool
+    requires lawful { IsLawful frame.now }
+    ensures sent { SendsPart (C.sent link.old) (C.sent link.new) result (spelling frame.now) }
+    ensures gives { Draws (C.gives link.old) (C.gives link.new) [] }
+    ensures later { C.faults link.old ≤ C.faults link.new }
+    ensures failed { result ≡ false → Rose (C.faults link.old) (C.faults link.new) }
+{
+    let mut bytes = ArrayVec::new();
+    encode(frame, &mut bytes);
+    link.send(bytes.as_slice()).is_ok()
+}
+
+/// Prints a line, and says whether it was written whole.
+pub(crate) fn print<O: Sink>(out: &mut O, line: &[u8]) -> bool
+    ensures printed { PrintsPart (O.written out.old) (O.written out.new) result line.now }
+    ensures later { O.faults out.old ≤ O.faults out.new }
+    ensures failed { result ≡ false → Rose (O.faults out.old) (O.faults out.new) }
+{
+    write_all(out, line).is_ok()
+}

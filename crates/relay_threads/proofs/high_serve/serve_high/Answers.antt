@@ -1,0 +1,81 @@
+use Rattle.std.proofs.Common.{◌≡◌, ◌≤◌, [], ◌∷◌, length, refl, sym, ap, ◌∙◌, subst, arith, rules}
+use Rattle.pump_link.specs.Tells.{Grows}
+use Rattle.relay_threads.specs.HighServes.{IsData}
+use Rattle.relay_threads.proofs.HighServing.{within_of, data_at, so_far_none, so_far_more, serves_more, told_none, told_more, exact_sends, looks_more, moments_more, sends_more, sends_at, asks_more, asks_ended, counts_more, counts_few, ended_by}
+use Rattle.relay_threads.proofs.high_serve.serve_high.Goals as goal
+
+pub loop-rounds-init : goal.loop-rounds-init
+loop-rounds-init g c = record {
+  rounds = [];
+  so_far = so_far_none c.args.process.now _ _ c.new-connection.ensures.reader c.new-connection.ensures.attached;
+  told = told_none _ _ _ _ _;
+  begun = c.new-connection.ensures.open.begun;
+  message = subst (λ n. IsData n c.new-connection.result.message) c.session.ensures c.new-connection.ensures.open.message;
+  removed = refl;
+  few = omega arith;
+  ready = c.requires.ready;
+  order = c.requires.order;
+  shape = refl;
+  place = refl;
+  most = omega arith;
+  link = omega arith;
+  counts = omega arith;
+  gate = omega arith;
+}
+
+pub round-turn-requires-clause-open : goal.round-turn-requires-clause-open
+round-turn-requires-clause-open g c =
+    let was = c.loop-rounds.invariant in
+    record {
+      within = within_of _ _ was.so_far.is_held;
+      begun = was.begun;
+      message = data_at c.args.process.now c.loop-rounds.process c.loop-rounds.connection.message (sym was.so_far.serves.row) was.message;
+    }
+
+pub returns-in-Some-clause-served : goal.returns-in-Some-clause-served
+returns-in-Some-clause-served g c =
+    let was = c.loop-rounds.invariant in
+    let f = was.so_far in
+    let t = c.round-turn.ensures.round in
+    let r = t.0 in
+    let rs = was.rounds in
+    let sent = sends_at c.args.process.now c.loop-rounds.process _ _ r.is_sent r.made f.serves.row t.3 in
+    let asks = asks_more _ _ _ rs c.loop-rounds.rounds c.loop-rounds.removed was.told.asks f.long was.removed c.pass.ensures.asked in
+    let long : length (r ∷ rs) ≤ c.args.looks = omega (arith, f.long, c.loop-rounds-test.true) in
+    let is = sym t.5 ∙ c.in-Some.is in (
+      r ∷ rs,
+      serves_more c.args.process.now c.loop-rounds.process c.round-turn.new.process _ _ _ r rs _ was.ready.up f t.1,
+      (omega (arith, f.long), ended_by c.loop-rounds.connection.is_attached r rs c.args.looks c.in-Some.why f.is_attached long is),
+      looks_more _ _ _ _ _ _ _ _ _ _ _ _ rs was.told r t.2 sent t.4,
+      sends_more _ _ _ _ _ _ _ _ _ _ _ _ rs was.told r t.2 sent t.4,
+      moments_more _ _ _ _ _ _ _ _ _ _ _ _ rs was.told r t.2 sent t.4,
+      asks_ended _ _ c.loop-rounds.connection.is_attached r (r ∷ rs) c.in-Some.why is asks,
+    )
+
+pub loop-rounds-preserved : goal.loop-rounds-preserved
+loop-rounds-preserved g c =
+    let was = c.loop-rounds.invariant in
+    let f = was.so_far in
+    let t = c.round-turn.ensures.round in
+    let r = t.0 in
+    let rs = was.rounds in
+    let sent = sends_at c.args.process.now c.loop-rounds.process _ _ r.is_sent r.made f.serves.row t.3 in
+    let asks = asks_more _ _ _ rs c.loop-rounds.rounds c.loop-rounds.removed was.told.asks f.long was.removed c.pass.ensures.asked in
+    let calm = sym t.5 ∙ c.in_default.is in
+    record {
+      rounds = r ∷ rs;
+      so_far = so_far_more c.args.process.now c.loop-rounds.process c.round-turn.new.process _ _ _ _ _ _ r rs was.ready.up f t.1 calm t.7 refl;
+      told = told_more _ _ _ _ _ _ _ _ _ _ _ _ rs was.told r t.2 sent t.4 _ (t.1.whole calm) asks;
+      begun = c.round-turn.ensures.begun;
+      message = data_at c.loop-rounds.process c.args.process.now c.round-turn.new.self.message f.serves.row c.round-turn.ensures.message;
+      removed = counts_more r rs _ _ _ was.removed t.6 c.counted-removed.ensures;
+      few = counts_few _ _ _ _ c.counted-removed.ensures was.few;
+      ready = c.round-turn.ensures.ready (search rules);
+      order = c.round-turn.ensures.order;
+      shape = c.round-turn.ensures.shape ∙ was.shape;
+      place = c.round-turn.ensures.place ∙ was.place;
+      most = omega (arith, c.loop-rounds-test.true);
+      link = omega (arith, was.link, c.round-turn.ensures.later);
+      counts = omega (arith, was.counts, c.round-turn.ensures.counts);
+      gate = omega (arith, was.gate, c.pass.ensures.later);
+    }

@@ -1,0 +1,68 @@
+use Rattle.std.proofs.Common.{◌≡◌, ◌≤◌, ◌+◌, ◌-◌, ◌<◌, [], ◌∷◌, refl, sym, ap, ◌∙◌, subst, arith, None, Some, rules}
+use Rattle.pump_link.proofs.Grown.{Draws-nil, Draws-then, Grows-nil, Grows-then}
+use Rattle.relay_threads.specs.HighStays.{count, count_at, EndsStayBy, is_broken}
+use Rattle.relay_threads.proofs.HighStaying.{stays_none, stays_more, tells_at, worker_ends}
+use Rattle.relay_threads.proofs.high_stays.high_rounds.Goals as goal
+
+pub loop-made-init : goal.loop-made-init
+loop-made-init g c = record {
+  stays = [];
+  so = stays_none c.args.process.now;
+  over = λ lt. tt;
+  calm = refl;
+  told = record { door = Grows-nil _; came = Draws-nil _; links = tt; moments = Draws-nil _ };
+  made = refl;
+  port = λ n h. h;
+  most = omega arith;
+  ready = c.requires.ready;
+  order = c.requires.order;
+  shape = refl;
+  place = refl;
+  counts = omega arith;
+}
+
+pub returns-in-Some-clause-rounds : goal.returns-in-Some-clause-rounds
+returns-in-Some-clause-rounds g c =
+    let was = c.loop-made.invariant in
+    let t = was.told in
+    let s = c.stay-turn.ensures.stay in
+    let x = s.0 in
+    let past = was.stays in
+    let le : count past + count_at x ≤ c.args.rounds = omega (arith, was.made, s.2.bound, c.loop-made-test.true, c.from-most.ensures) in (
+      x ∷ past,
+      stays_more c.args.process.now c.loop-made.process c.stay-turn.new.process x past was.ready.up (was.over c.loop-made-test.true) was.so s.1,
+      worker_ends x past c.args.rounds (c.from-most.result - c.loop-made.made) c.stay-turn.result.looks c.in-Some.end le (subst (λ e. EndsStayBy x (c.from-most.result - c.loop-made.made) c.stay-turn.result.looks e) c.in-Some.is s.2.ends),
+      Grows-then _ _ _ _ _ t.door s.3,
+      Draws-then _ _ _ _ _ t.came s.4,
+      (tells_at _ _ _ c.args.process.now c.loop-made.process x was.so.row s.5, t.links),
+      Draws-then _ _ _ _ _ t.moments s.6,
+    )
+
+pub loop-made-preserved : goal.loop-made-preserved
+loop-made-preserved g c =
+    let was = c.loop-made.invariant in
+    let t = was.told in
+    let s = c.stay-turn.ensures.stay in
+    let x = s.0 in
+    let past = was.stays in
+    let ends : EndsStayBy x (c.from-most.result - c.loop-made.made) c.stay-turn.result.looks None = subst (λ e. EndsStayBy x (c.from-most.result - c.loop-made.made) c.stay-turn.result.looks e) c.in_default.is s.2.ends in
+    record {
+      stays = x ∷ past;
+      so = stays_more c.args.process.now c.loop-made.process c.stay-turn.new.process x past was.ready.up (was.over c.loop-made-test.true) was.so s.1;
+      over = λ lt. (ends.0 (omega (arith, lt, c.loop-made-test.true)), was.over c.loop-made-test.true);
+      calm = ends.1;
+      told = record {
+        door = Grows-then _ _ _ _ _ t.door s.3;
+        came = Draws-then _ _ _ _ _ t.came s.4;
+        links = (tells_at _ _ _ c.args.process.now c.loop-made.process x was.so.row s.5, t.links);
+        moments = Draws-then _ _ _ _ _ t.moments s.6;
+      };
+      made = omega (arith, was.made, s.2.looks);
+      port = λ n h. c.stay-turn.ensures.port n (was.port n h);
+      most = omega (arith, s.2.looks, s.2.bound, c.loop-made-test.true);
+      ready = c.stay-turn.ensures.ready (c.stay-turn.ensures.up (ap is_broken c.in_default.is));
+      order = c.stay-turn.ensures.order;
+      shape = c.stay-turn.ensures.shape ∙ was.shape;
+      place = c.stay-turn.ensures.place ∙ was.place;
+      counts = omega (arith, was.counts, c.stay-turn.ensures.counts);
+    }

@@ -1,0 +1,138 @@
+use Rattle.std.proofs.Common.{◌≡◌, ◌≤◌, [], ◌∷◌, Some, length, refl, sym, ap, ◌∙◌, subst, arith, rules}
+use Rattle.relay_threads.specs.LowServes.{is_device_in}
+use Rattle.relay_threads.proofs.Reaching.{reaches_whole}
+use Rattle.relay_threads.proofs.LowServing.{acks_few, calm_round, sent_on, kept_on, within_of, serves_more, so_far_none, so_far_more, told_none, sends_more, keeps_more, ended_by, broken_round, asked_by, asks_more}
+use Rattle.low_process.specs.Looks.{row_of}
+use Rattle.pump_link.specs.Tells.{Grows}
+use Rattle.pump_link.proofs.Grown.{Draws-then, Grows-then}
+use Rattle.relay_threads.proofs.low_serving.serve_low.Goals as goal
+
+pub loop-rounds-init : goal.loop-rounds-init
+loop-rounds-init g c = record {
+  rounds = [];
+  so_far = so_far_none c.args.process.now _ c.new-reader.ensures.value;
+  told = told_none _ _ _ _ _ _ _;
+  begun = c.new-reader.ensures.begun;
+  ready = c.requires.ready;
+  up = c.requires.up;
+  order = c.requires.order;
+  shape = refl;
+  place = refl;
+  most = omega arith;
+  link = omega arith;
+  counts = omega arith;
+  tape = omega arith;
+  gate = omega arith;
+}
+
+pub low_round-turn-requires-clause-within : goal.low_round-turn-requires-clause-within
+low_round-turn-requires-clause-within g c = within_of _ _ c.loop-rounds.invariant.so_far.is_held
+
+pub counted-acks-requires : goal.counted-acks-requires
+counted-acks-requires g c =
+    let f = c.loop-rounds.invariant.so_far in
+    omega (arith, f.long, f.acked, acks_few c.loop-rounds.invariant.rounds, c.loop-rounds-test.true)
+
+pub returns-in-Some-clause-served : goal.returns-in-Some-clause-served
+returns-in-Some-clause-served g c =
+    let was = c.loop-rounds.invariant in
+    let f = was.so_far in
+    let told = was.told in
+    let t = c.low_round-turn.ensures.turn in
+    let r = t.0 in
+    let rs = was.rounds in
+    let why = sym t.8 ∙ c.in-Some.is in
+    let long : length (r ∷ rs) ≤ c.args.looks = omega (arith, f.long, c.loop-rounds-test.true) in (
+      r ∷ rs,
+      serves_more c.args.process.now c.loop-rounds.process c.low_round-turn.new.process _ r rs f.serves f.go_on f.is_held t.1,
+      (omega (arith, f.long), ended_by r rs c.args.looks c.in-Some.why long why),
+      Draws-then _ _ _ _ _ told.looks t.3,
+      sends_more r rs _ _ _ _ _ _ was.link told.bytes t.4,
+      Draws-then _ _ _ _ _ told.moments t.5,
+      Draws-then _ _ _ _ _ told.words t.6,
+      keeps_more r rs _ _ _ _ _ _ _ _ _ was.tape f.serves.row f.full told.lines t.7,
+      subst (Grows (g.G.Gate.asked c.args.gate.now) (g.G.Gate.asked c.pass.new.self)) (sym (asked_by r rs c.in-Some.why why)) (asks_more _ _ _ rs _ _ f.long f.acked told.asks c.pass.ensures.asked),
+    )
+
+pub loop-rounds-preserved : goal.loop-rounds-preserved
+loop-rounds-preserved g c =
+    let was = c.loop-rounds.invariant in
+    let f = was.so_far in
+    let told = was.told in
+    let t = c.low_round-turn.ensures.turn in
+    let r = t.0 in
+    let rs = was.rounds in
+    let calm = sym t.8 ∙ c.in_default.is in
+    let C = g.C.Link in
+    let O = g.O.Sink in
+    let sends = sends_more r rs (C.sent c.args.link.now) (C.sent c.loop-rounds.link) (C.sent c.low_round-turn.new.link) (C.faults c.args.link.now) (C.faults c.loop-rounds.link) (C.faults c.low_round-turn.new.link) was.link told.bytes t.4 in
+    let keeps = keeps_more r rs (O.written c.args.tape.now) (O.written c.loop-rounds.tape) (O.written c.low_round-turn.new.tape) (O.faults c.args.tape.now) (O.faults c.loop-rounds.tape) (O.faults c.low_round-turn.new.tape)
+    (row_of c.args.process.now) (row_of c.loop-rounds.process) c.loop-rounds.was_full was.tape f.serves.row f.full told.lines t.7 in
+    record {
+      rounds = r ∷ rs;
+      so_far = so_far_more c.args.process.now c.loop-rounds.process c.low_round-turn.new.process c.loop-rounds.reader c.low_round-turn.new.reader c.loop-rounds.was_full c.low_round-turn.result.is_full c.low_round-turn.result.is_acked
+          c.loop-rounds.acks c.counted-acks.result c.loop-rounds.rounds _ r rs f t.1 t.2 calm t.9 t.10 c.counted-acks.ensures refl;
+      told = record {
+        looks = Draws-then _ _ _ _ _ told.looks t.3;
+        bytes = sends.whole (calm_round r calm).1.0;
+        moments = Draws-then _ _ _ _ _ told.moments t.5;
+        words = Draws-then _ _ _ _ _ told.words t.6;
+        lines = keeps.whole (calm_round r calm).0;
+        asks = asks_more _ _ _ rs _ _ f.long f.acked told.asks c.pass.ensures.asked;
+      };
+      begun = c.low_round-turn.ensures.begun;
+      ready = c.low_round-turn.ensures.ready;
+      up = c.low_round-turn.ensures.up (ap is_device_in c.in_default.is) (λ e. let x = c.in_default.is in cc);
+      order = c.low_round-turn.ensures.order;
+      shape = c.low_round-turn.ensures.shape ∙ was.shape;
+      place = c.low_round-turn.ensures.place ∙ was.place;
+      most = omega (arith, c.loop-rounds-test.true);
+      link = sends.later;
+      counts = omega (arith, was.counts, c.low_round-turn.ensures.counts);
+      tape = keeps.later;
+      gate = omega (arith, was.gate, c.pass.ensures.later);
+    }
+
+pub returns-then-not-pass-clause-served : goal.returns-then-not-pass-clause-served
+returns-then-not-pass-clause-served g c =
+    let was = c.loop-rounds.invariant in
+    let f = was.so_far in
+    let t = was.told in (
+      was.rounds,
+      f.serves,
+      (f.long, (omega (arith, f.long, c.loop-rounds-test.true), f.go_on)),
+      t.looks,
+      reaches_whole _ _ _ _ _ (sent_on was.rounds f.go_on) was.link t.bytes,
+      t.moments,
+      t.words,
+      reaches_whole _ _ _ _ _ (kept_on was.rounds f.go_on) was.tape t.lines,
+      asks_more _ _ _ was.rounds _ _ f.long f.acked t.asks c.pass.ensures.asked,
+    )
+
+pub returns-clause-served : goal.returns-clause-served
+returns-clause-served g c =
+    let was = c.loop-rounds.invariant in
+    let f = was.so_far in
+    let t = was.told in (
+      was.rounds,
+      f.serves,
+      (f.long, (omega (arith, f.long, was.most, c.loop-rounds-test.false), f.go_on)),
+      t.looks,
+      reaches_whole _ _ _ _ _ (sent_on was.rounds f.go_on) was.link t.bytes,
+      t.moments,
+      t.words,
+      reaches_whole _ _ _ _ _ (kept_on was.rounds f.go_on) was.tape t.lines,
+      t.asks,
+    )
+
+pub returns-in-Some-clause-tape : goal.returns-in-Some-clause-tape
+returns-in-Some-clause-tape g c = λ e.
+    let was = c.loop-rounds.invariant in
+    let f = was.so_far in
+    let t = c.low_round-turn.ensures.turn in
+    let r = t.0 in
+    let rs = was.rounds in
+    let O = g.O.Sink in
+    let keeps = keeps_more r rs (O.written c.args.tape.now) (O.written c.loop-rounds.tape) (O.written c.low_round-turn.new.tape) (O.faults c.args.tape.now) (O.faults c.loop-rounds.tape) (O.faults c.low_round-turn.new.tape)
+    (row_of c.args.process.now) (row_of c.loop-rounds.process) c.loop-rounds.was_full was.tape f.serves.row f.full was.told.lines t.7 in
+    keeps.cause (broken_round r (sym t.8 ∙ c.in-Some.is ∙ ap (λ w. Some w) e))

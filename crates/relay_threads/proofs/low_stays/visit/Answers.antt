@@ -1,0 +1,50 @@
+use Rattle.std.proofs.Common.{◌≡◌, Some, None, refl, sym, ◌∙◌, subst, true, false, append-nil, arith}
+use Rattle.pump_link.proofs.Grown.{Draws-then}
+use Rattle.pump_link.specs.Tells.{Draws}
+use Rattle.low_process.specs.Looks.{row_of}
+use Rattle.relay_threads.specs.LowRounds.{moments_of}
+use Rattle.relay_threads.proofs.LowVisiting.{stays_on, goes, caused_by, bound_of, left_of, ends_without, ends_with, kept_alone, kept_both}
+use Rattle.relay_threads.proofs.low_stays.visit.Goals as goal
+
+pub returns-then-not-is_left_so-clause-visit : goal.returns-then-not-is_left_so-clause-visit
+returns-then-not-is_left_so-clause-visit g c =
+    let s = c.serve_low-served.ensures.served in
+    let why = c.serve_low-served.result.why in
+    let most = c.args.most in
+    let rounds = s.0 in
+    let e = s.2.1 in
+    let stays = sym c.if-not-is_left_so.ensures in (
+      rounds,
+      None,
+      true,
+      stays_on _ _ rounds most why e stays s.1,
+      record { end = c.end_by.ensures ∙ ends_without rounds most why true e stays; looks = s.2.0; bound = bound_of rounds most why e; left = left_of rounds most why (λ is. absurd (omega (arith, c.serve_low-served.ensures.stopped is))) e },
+      s.3,
+      s.4,
+      (λ is. c.serve_low-served.ensures.link (caused_by rounds most why _ e is)),
+      subst (Draws (g.K.Clock.reads c.args.clock.now) (g.K.Clock.reads c.serve_low-served.new.clock)) (sym (append-nil (moments_of rounds))) s.5,
+      s.6,
+      kept_alone _ _ _ _ (row_of c.args.process.now) rounds most why e s.7 c.end_by.result c.end_by.ensures,
+    )
+
+pub returns-clause-visit : goal.returns-clause-visit
+returns-clause-visit g c =
+    let s = c.serve_low-served.ensures.served in
+    let why = c.serve_low-served.result.why in
+    let most = c.args.most in
+    let rounds = s.0 in
+    let e = s.2.1 in
+    let left = sym c.if-not-is_left_so.ensures in
+    let l = c.leave-is_kept.ensures.leaves in (
+      rounds,
+      Some l.0,
+      c.leave-is_kept.result,
+      goes _ _ _ rounds most why l.0 e left l.1 s.1 l.2,
+      record { end = c.end_kept.ensures ∙ ends_with rounds most why c.leave-is_kept.result e left; looks = s.2.0; bound = bound_of rounds most why e; left = left_of rounds most why (λ is. absurd (omega (arith, c.serve_low-served.ensures.stopped is))) e },
+      s.3,
+      s.4,
+      (λ is. c.serve_low-served.ensures.link (caused_by rounds most why _ e is)),
+      Draws-then _ _ _ _ _ s.5 l.3,
+      s.6,
+      kept_both _ _ _ _ (row_of c.args.process.now) rounds most why e s.7 _ _ (row_of c.serve_low-served.new.process) l.0 c.leave-is_kept.result c.end_kept.result left s.1.row c.end_kept.ensures l.4,
+    )

@@ -1,0 +1,220 @@
+ghost use Rattle.std.specs.Prelude.{◌≡◌, ℕ, ◌^◌, ◌≤◌, Bool, true, false, List, [], ◌∷◌, None, Some, IfSome, option_map};
+ghost use Rattle.std.specs.Io.KnownBytes.{Appends};
+ghost use Rattle.pump_frame.specs.Counts.{Rose};
+ghost use Rattle.pump_frame.specs.Readings.{Within, HasBegun};
+ghost use Rattle.pump_link.specs.Tells.{Draws, Grows};
+ghost use Rattle.pump_core.specs.ReplyFrames.{frame_of, IsLawfulReply};
+ghost use Rattle.pump_core.specs.Step.{is_full};
+ghost use Rattle.stable_buffer.specs.Low.{low_disk};
+ghost use Rattle.low_process.specs.Ready.{Ready};
+ghost use Rattle.low_process.specs.Looks.{arrival_of, row_of, last_of, is_down, IsLawful as CanCome};
+ghost use Rattle.relay_threads.specs.declared.low_round.LowWhy.TheVariants.{LinkFailed, RecordFailed};
+ghost use Rattle.relay_threads.specs.Hearings.{held_in, IsLawfulHeard};
+ghost use Rattle.relay_threads.specs.Reaching.{Reaches};
+ghost use Rattle.relay_threads.specs.Records.{Made, was_full as full_before};
+ghost use Rattle.relay_threads.specs.RecordLines.{HasLawfulFrame};
+ghost use Rattle.relay_threads.specs.LowRounds.{Round, looks_heard, is_ack, is_ack_made, cause};
+ghost use Rattle.relay_threads.specs.LowServes.{Turns, LeavesIf, HearsIf, arrival_heard, is_failed, text_made, why_by, is_device_in, CountsFaultIn, bytes_of, bytes_made, full_after};
+
+use crate::hear::{Heard, hear};
+use crate::record::LookMade;
+use crate::tape::record_look;
+use arrayvec::ArrayVec;
+use disk_model::Disk;
+use low_process::{Arrival, LookHead, LowProcess};
+use passage::WaitLowEnd;
+use pump_core::{Feedback, Reply};
+use pump_frame::{Reader, encode};
+use pump_link::{Clock, Link, Sink, Words};
+use stable_buffer::LowStore;
+use std::sync::Wait;
+
+/// Why the low worker left a connection.
+#[derive(Clone, Copy, PartialEq, Eq, Debug)]
+pub enum LowWhy {
+    /// The other side is gone.
+    Gone,
+    /// It sent bytes that are no frame.
+    Bad,
+    /// A look at the link or a send failed, and its count of faults rose.
+    LinkFailed,
+    /// The low disk failed, and its count of faults rose to this. The process is down.
+    Device { faults: u64 },
+    /// The record could not be written, and the tape's count of faults rose.
+    RecordFailed,
+    /// So many rounds were made as there may be.
+    Looks,
+    /// The gate stopped the worker, and its count of stops rose.
+    Stopped,
+}
+
+/// What a round came to.
+#[derive(Clone, Copy)]
+pub struct LowTurn {
+    /// Why the connection is left, if it is.
+    pub why: Option<LowWhy>,
+    /// The newest look found the passage full.
+    pub is_full: bool,
+    /// A message was acknowledged.
+    pub is_acked: bool,
+}
+
+// A reading where the process wants what comes, and else none.
+fn hear_if<C: Link>(wants: bool, link: &mut C, reader: &mut Reader) -> Heard
+    requires within { reader.old ≡ Within (held_in reader.old) }
+    requires begun { HasBegun reader.old }
+    ensures heard { HearsIf wants (held_in reader.old) reader.new (C.gives link.old) (C.gives link.new) result }
+    ensures lawful { IsLawfulHeard result }
+    ensures begun { HasBegun reader.new }
+    ensures sent { Grows (C.sent link.old) (C.sent link.new) [] }
+    ensures later { C.faults link.old ≤ C.faults link.new }
+    ensures failed { result ≡ Heard.Failed → Rose (C.faults link.old) (C.faults link.new) }
+{
+    if wants {
+        hear(link, reader)
+    } else {
+        Heard::Nothing
+    }
+}
+
+// The arrival that a reading brought.
+fn arrival_in(heard: &Heard) -> Arrival<'_>
+    requires { IsLawfulHeard heard.now }
+    ensures is { arrival_of result ≡ arrival_heard heard.now }
+    ensures can_come { CanCome (arrival_of result) }
+    ensures lawful { HasLawfulFrame (arrival_of result) }
+{
+    match heard {
+        Heard::Nothing | Heard::Failed => Arrival::Nothing,
+        Heard::Frame(frame) => Arrival::Frame(frame),
+        Heard::Bad => Arrival::Bad,
+        Heard::Ended => Arrival::Gone,
+    }
+}
+
+// Sends a reply, if there is one. False where it was not sent whole.
+fn answer<C: Link>(link: &mut C, session: u32, reply: &Option<Reply>) -> bool
+    requires { IfSome reply.now IsLawfulReply }
+    ensures sent { Reaches (Grows (C.sent link.old) (C.sent link.new)) (C.faults link.old) (C.faults link.new) result
+        (bytes_of (option_map (frame_of session) reply.now)) }
+    ensures gives { Draws (C.gives link.old) (C.gives link.new) [] }
+{
+    let Some(reply) = reply else {
+        return true;
+    };
+    let mut bytes = ArrayVec::new();
+    encode(&reply.frame(session), &mut bytes);
+    link.send(bytes.as_slice()).is_ok()
+}
+
+fn is_failed(heard: &Heard) -> bool
+    ensures { result ≡ is_failed heard.now }
+{
+    matches!(heard, Heard::Failed)
+}
+
+fn is_full(look: &LookHead) -> bool
+    ensures { result ≡ is_full look.now.feedback }
+{
+    matches!(look.feedback, Feedback::Full)
+}
+
+fn is_ack(reply: &Option<Reply>) -> bool
+    ensures { (session : ℕ) → result ≡ is_ack (option_map (frame_of session) reply.now) }
+{
+    matches!(reply, Some(Reply::Ack { .. }))
+}
+
+// Why a round with a look leaves the connection: the first cause that applies.
+fn why_left(
+    is_kept: bool,
+    is_down: bool,
+    faults: u64,
+    is_sent: bool,
+    heard: &Heard,
+) -> Option<LowWhy>
+    ensures { result ≡ why_by is_kept is_down faults is_sent heard.now }
+{
+    if !is_kept {
+        return Some(LowWhy::RecordFailed);
+    }
+    if is_down {
+        return Some(LowWhy::Device { faults });
+    }
+    if !is_sent {
+        return Some(LowWhy::LinkFailed);
+    }
+    match heard {
+        Heard::Nothing | Heard::Frame(_) => None,
+        Heard::Bad => Some(LowWhy::Bad),
+        Heard::Ended => Some(LowWhy::Gone),
+        Heard::Failed => Some(LowWhy::LinkFailed),
+    }
+}
+
+/// Makes one round of a low worker (`docs/architecture.md`, "Serving"): it draws a moment and a word,
+/// reads where the process wants what comes, makes a look, sends its reply, and records it, also where
+/// the send failed. Where the link failed in the reading, there is no look.
+pub fn low_round<R: Wait, C: Link, K: Clock, W: Words, D: Disk, L: WaitLowEnd, O: Sink>(
+    rt: &R,
+    link: &mut C,
+    clock: &mut K,
+    words: &mut W,
+    process: &mut LowProcess,
+    store: &mut LowStore<D>,
+    ends: &mut L,
+    tape: &mut O,
+    reader: &mut Reader,
+    was_full: bool,
+) -> LowTurn
+    requires within { reader.old ≡ Within (held_in reader.old) }
+    requires begun { HasBegun reader.old }
+    requires ready { Ready D.told process.old store.old (L.stands ends.old) }
+    requires up { is_down process.old ≡ false }
+    requires order { last_of process.old ≤ K.floor clock.old }
+    ensures turn { (r : Round) × Turns process.old process.new (held_in reader.old) r
+        × LeavesIf (held_in reader.old) r.heard reader.new
+        × Draws (C.gives link.old) (C.gives link.new) (looks_heard r.heard)
+        × Reaches (Grows (C.sent link.old) (C.sent link.new)) (C.faults link.old) (C.faults link.new) r.is_sent (bytes_made r.made)
+        × Draws (K.reads clock.old) (K.reads clock.new) (r.moment ∷ [])
+        × Draws (W.gives words.old) (W.gives words.new) (r.word ∷ [])
+        × ((before : List Made) → was_full ≡ full_before before
+        → Reaches (Appends (O.written tape.old) (O.written tape.new)) (O.faults tape.old) (O.faults tape.new) r.is_kept (text_made (row_of process.old) before r.made))
+        × (result.why ≡ cause r) × (result.is_full ≡ full_after was_full r.made) × (result.is_acked ≡ is_ack_made r.made) }
+    ensures begun { HasBegun reader.new }
+    ensures ready { Ready D.told process.new store.new (L.stands ends.new) }
+    ensures up { is_device_in result.why ≡ false → (result.why ≡ Some RecordFailed → ⊥) → is_down process.new ≡ false }
+    ensures order { last_of process.new ≤ K.floor clock.new }
+    ensures shape { L.shape ends.new ≡ L.shape ends.old }
+    ensures place { L.place ends.new ≡ L.place ends.old }
+    ensures link { result.why ≡ Some LinkFailed → Rose (C.faults link.old) (C.faults link.new) }
+    ensures counts { D.told.count (low_disk store.old) ≤ D.told.count (low_disk store.new) }
+    ensures device { CountsFaultIn result.why (D.told.count (low_disk store.old)) (D.told.count (low_disk store.new)) }
+{
+    let moment = clock.moment();
+    let word = words.word();
+    let heard = hear_if(process.wants(), link, reader);
+    if is_failed(&heard) {
+        return LowTurn {
+            why: Some(LowWhy::LinkFailed),
+            is_full: was_full,
+            is_acked: false,
+        };
+    }
+    let arrival = arrival_in(&heard);
+    let mut look = LookHead::new();
+    process.look_waiting_into(rt, moment, word, arrival, store, ends, &mut look);
+    let made = LookMade {
+        moment,
+        word,
+        arrival,
+        look,
+    };
+    let is_sent = answer(link, process.row().id, &look.reply);
+    let is_kept = record_look(tape, process.row(), &made, was_full);
+    LowTurn {
+        why: why_left(is_kept, process.is_down(), store.faults(), is_sent, &heard),
+        is_full: is_full(&look),
+        is_acked: is_ack(&look.reply),
+    }
+}

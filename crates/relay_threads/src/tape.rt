@@ -1,0 +1,50 @@
+ghost use Rattle.std.specs.Prelude.{◌≡◌, List, IfSome, OnOk, OnErr};
+ghost use Rattle.std.specs.Io.KnownBytes.{Appends};
+ghost use Rattle.pump_link.specs.Causes.{AppendsFront, HasCause};
+ghost use Rattle.pump_core.specs.ReplyFrames.{IsLawfulReply};
+ghost use Rattle.low_process.specs.Looks.{arrival_of};
+ghost use Rattle.script_reader.specs.Spelling.{line_text};
+ghost use Rattle.relay_threads.specs.Reaching.{Reaches};
+ghost use Rattle.relay_threads.specs.Records.{Made, was_full as full_before};
+ghost use Rattle.relay_threads.specs.RecordLines.{opening_line, made_by, HasLawfulFrame};
+ghost use Rattle.relay_threads.specs.LowServes.{text_after};
+
+use crate::record::{LookMade, append_look, append_opening, is_recorded};
+use arrayvec::ArrayVec;
+use pump_frame::SessionRow;
+use pump_link::{Sink, WriteFault, write_all};
+
+/// Writes the line that a record begins with: the row, how many messages were found stored, and whether
+/// the last of them is in the low hand. After an `Err`, which comes only where the tape's count of
+/// faults rose, a front of it was written.
+pub fn write_opening<O: Sink>(
+    tape: &mut O,
+    row: &SessionRow,
+    next: u64,
+    is_held: bool,
+) -> Result<(), WriteFault>
+    ensures ok { OnOk result (Appends (O.written tape.old) (O.written tape.new) (line_text (opening_line row.now (record { count = next; is_held = is_held })))) }
+    ensures err { OnErr result (AppendsFront (O.written tape.old) (O.written tape.new) (line_text (opening_line row.now (record { count = next; is_held = is_held })))) }
+    ensures cause { HasCause (O.faults tape.old) (O.faults tape.new) result }
+{
+    let mut line: ArrayVec<u8, 2700> = ArrayVec::new();
+    append_opening(row, next, is_held, &mut line);
+    write_all(tape, line.as_slice())
+}
+
+/// Writes a look's lines, if a record has them: the look before it found the passage full or not. False
+/// where they were not written whole.
+pub fn record_look<O: Sink>(tape: &mut O, row: &SessionRow, made: &LookMade, was_full: bool) -> bool
+    requires frame { HasLawfulFrame (arrival_of made.now.arrival) }
+    requires reply { IfSome made.now.look.reply IsLawfulReply }
+    ensures { (before : List Made) → was_full ≡ full_before before
+        → Reaches (Appends (O.written tape.old) (O.written tape.new)) (O.faults tape.old) (O.faults tape.new) result
+        (text_after row.now before (made_by row.now made.now)) }
+{
+    if !is_recorded(made, was_full) {
+        return true;
+    }
+    let mut lines: ArrayVec<u8, 2700> = ArrayVec::new();
+    append_look(row, made, &mut lines);
+    write_all(tape, lines.as_slice()).is_ok()
+}

@@ -1,0 +1,44 @@
+-- The messages that an opening deals out, as the two processes begin with them.
+use Rattle.std.proofs.Common.{◌≡◌, ℕ, ◌+◌, ◌-◌, ◌<◌, ◌≤◌, ◌^◌, Bool, true, false, List, length, Option, Some, None, refl, sym, ap, ◌∙◌, subst, arith}
+use Rattle.std.specs.Prelude.{◌==◌, nat_lt, if◌then◌else◌, is_some}
+use Rattle.pump_core.specs.Passage.{Low, High, ComesNext, new_low, new_high}
+use Rattle.pump_frame.specs.declared.frame.Item.{Item}
+use Rattle.low_process.specs.Ends.{number_offered}
+use Rattle.high_process.specs.Looks as high
+use Rattle.recovery.specs.Deals.{IsDealt, HandsFit, number_of, numbered, passing}
+use Rattle.recovery.proofs.Refill.{passing_next}
+use Rattle.two_worlds.proofs.Opening.Restarting.{number_some}
+use Rattle.pump_frame.specs.declared.row.SessionRow.{SessionRow}
+
+abbrev number_in : Option ℕ → ℕ
+number_in None = 0
+number_in (Some n) = n
+
+-- the number that the low process offers, by whether its hand is full
+offered : (hand : Option Item) (b : Bool) (n next : ℕ) → number_of hand ≡ (if b then Some n else None) → number_offered next hand ≡ (if b then n else next)
+offered None true n next is = absurd (cc)
+offered None false n next is = refl
+offered (Some x) true n next is = ap number_in is
+offered (Some x) false n next is = absurd (cc)
+
+-- what is in the passage comes before the message that the low process offers
+pub comes_next : (capacity removed next : ℕ) (messages : List (List ℕ)) (high low : Option Item) → 3 ≤ capacity → removed + length messages ≡ next → next ≤ removed + capacity
+    → HandsFit capacity removed next high low → ComesNext (passing capacity (numbered removed messages)) (number_offered next low)
+comes_next capacity removed next messages high low wide count places fit =
+    passing_next capacity removed next (number_offered next low) messages wide count places (offered low (next == removed + capacity) (next - 1) next fit.last)
+
+-- the message in the high hand is the first that is not removed
+pub high_hand : (hand : Option Item) (removed next : ℕ) → next ≤ 2 ^ 48 → number_of hand ≡ (if nat_lt removed next then Some removed else None) → high.IsHand removed hand
+high_hand None removed next few is = tt
+high_hand (Some x) removed next few is = by_some (nat_lt removed next) refl is where
+  by_some : (b : Bool) → nat_lt removed next ≡ b → Some x.number ≡ (if b then Some removed else None) → (x.number ≡ removed) × (removed < 2 ^ 48)
+  by_some true less is = let low : removed < next = grind (arith, less) in (ap number_in is, omega (arith, low, few))
+  by_some false less is = absurd (cc)
+
+some_if : (b : Bool) (n : ℕ) → is_some (if b then Some n else None) ≡ b
+some_if true n = refl
+some_if false n = refl
+
+-- a message is held exactly where all places are taken
+pub held_is : (hand : Option Item) (b : Bool) (n : ℕ) → number_of hand ≡ (if b then Some n else None) → is_some hand ≡ b
+held_is hand b n is = sym (number_some hand) ∙ ap is_some is ∙ some_if b n

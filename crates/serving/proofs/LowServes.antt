@@ -1,0 +1,136 @@
+-- What the low worker did, from the run of its half.
+use Rattle.std.proofs.Common.{◌≡◌, ℕ, ◌≤◌, ◌<◌, Bool, true, false, List, [], ◌++◌, length, Option, Some, None, refl, sym, ap, ◌∙◌, subst, arith}
+use Rattle.std.specs.Prelude.{is_some}
+use Rattle.std.specs.Io.KnownBytes.{Appends}
+use Rattle.rand_chacha.specs.ChaCha.{ChaCha, key_of}
+use Rattle.delay_table.specs.Streams.{AreWords}
+use Rattle.disk_model.specs.Disk.{Meaning}
+use Rattle.pump_frame.specs.declared.frame.Item.{Item}
+use Rattle.pump_frame.specs.declared.row.SessionRow.{SessionRow}
+use Rattle.pump_link.specs.Ports.{PortsStep}
+use Rattle.pump_link.specs.Tells.{Draws}
+use Rattle.pump_link.proofs.Grown.{Grows-all, Draws-all}
+use Rattle.pump_core.specs.Exchanges.{Part, IsCut, count_after}
+use Rattle.pump_core.specs.History.{Opening}
+use Rattle.pump_core.specs.Standing.{State, phase_after}
+use Rattle.script_reader.specs.Spelling.{line_text}
+use Rattle.stable_buffer.specs.Low.{StandsForCount, low_disk, low_count}
+use Rattle.stable_buffer.specs.declared.low.LowStore.{LowStore}
+use Rattle.low_process.specs.declared.values.Phase.{Phase}
+use Rattle.low_process.specs.declared.values.Phase.TheVariants as phases
+use Rattle.low_process.specs.declared.process.LowProcess.{LowProcess}
+use Rattle.low_process.specs.Looks.{row_of, next_of, opening_of, is_down, is_down_in, phase_of}
+use Rattle.relay_threads.specs.LowServes.{Lives}
+use Rattle.relay_threads.specs.LowStays.{AreStays, is_kept_by, stayed, words_in, text_in}
+use Rattle.relay_threads.specs.Reaching.{Reaches}
+use Rattle.relay_threads.specs.RecordLines.{opening_line}
+use Rattle.relay_threads.specs.Records.{AreMade, life_made}
+use Rattle.relay_threads.specs.Workers.{CountsEnd}
+use Rattle.relay_threads.specs.declared.rounds_end.RoundsEnd.{RoundsEnd}
+use Rattle.relay_threads.specs.declared.rounds_end.RoundsEnd.TheVariants as ends
+use Rattle.serving.specs.Doors.{DoorsTell}
+use Rattle.serving.specs.LowEnds.{EndsLow}
+use Rattle.serving.specs.LowRuns.{LowLent}
+use Rattle.serving.specs.LowServing.{FindsLow, LowServed, is_lost}
+use Rattle.serving.specs.declared.low_half.LowParts.{LowParts}
+
+-- the words of a stream of ChaCha20
+abbrev pub words_given : ChaCha → List ℕ → Type 0
+words_given s words = AreWords s.key s.stream s.word_pos words
+
+no_words : (s : ChaCha) → words_given s []
+no_words s k less = absurd (omega (arith, less))
+
+-- a fault that counts from a later count on counts from an earlier one on
+pub counts_from : (end : Option RoundsEnd) (first before now : ℕ) → first ≤ before → CountsEnd end before now → CountsEnd end first now
+counts_from None first before now le h = tt
+counts_from (Some ends.Rounds) first before now le h = tt
+counts_from (Some (ends.Device faults)) first before now le h = (h.0, (let rose = h.1 in omega (arith, le, rose)))
+counts_from (Some ends.RecordFailed) first before now le h = tt
+
+lost_is : (phase : Phase) (hand : ℕ) → is_lost (phase_of phase hand) ≡ is_down_in phase
+lost_is phases.Idle hand = refl
+lost_is (phases.Passing true) hand = refl
+lost_is (phases.Passing false) hand = refl
+lost_is (phases.Waiting number due) hand = refl
+lost_is phases.Down hand = refl
+
+module _ {D L S E : Type 0} (t : DoorsTell D L) (m : Meaning S) (row : SessionRow) (rounds : ℕ) (key : List ℕ) (ports now_ports : List (PortsStep L D) → Type 0) (reads now_reads : List ℕ → Type 0)
+    (written now_written : Option (List ℕ)) (faults now_faults next : ℕ) (hand : Option Item) (parts : LowParts ChaCha S E) (store : LowStore S) (disk : S) (end : RoundsEnd)
+    (lent : LowLent t m words_given ports now_ports reads now_reads written now_written faults now_faults row.low_port rounds parts store end)
+    (row_is : row_of parts.process ≡ row) (next_is : next_of parts.process ≡ next) (held_is : parts.is_held ≡ is_some hand)
+    (lives : Lives parts.process (opening_of next hand) []) (words_are : parts.words ≡ record { key = key_of key; stream = 0; word_pos = 0 })
+    (found : FindsLow m row (opening_of next hand) disk) (counts : m.count disk ≤ m.count (low_disk parts.store)) where
+  abbrev o : Opening
+  o = opening_of next hand
+
+  abbrev p : LowProcess
+  p = lent.v.parts.process
+
+  abbrev q : LowProcess
+  q = lent.w.parts.process
+
+  row_before : row_of p ≡ row
+  row_before = ap (λ (x : LowParts ChaCha S E). row_of x.process) lent.parts_are ∙ row_is
+
+  row_after : row_of q ≡ row
+  row_after = lent.ran.so.row ∙ row_before
+
+  lived : Lives p o []
+  lived = subst (λ (x : LowParts ChaCha S E). Lives x.process o []) (sym lent.parts_are) lives
+
+  lives_on : Lives q o (stayed [] lent.ran.stays)
+  lives_on = lent.ran.so.lives o [] lived
+
+  next_before : next_of p ≡ next
+  next_before = ap (λ (x : LowParts ChaCha S E). next_of x.process) lent.parts_are ∙ next_is
+
+  held_before : lent.v.parts.is_held ≡ is_some hand
+  held_before = ap (λ (x : LowParts ChaCha S E). x.is_held) lent.parts_are ∙ held_is
+
+  words_before : lent.v.parts.words ≡ record { key = key_of key; stream = 0; word_pos = 0 }
+  words_before = ap (λ (x : LowParts ChaCha S E). x.words) lent.parts_are ∙ words_are
+
+  stands_for : m.tells → is_down q ≡ false → StandsForCount row (next_of q) (m.reading (low_disk lent.w.parts.store))
+  stands_for told up =
+      let has = lent.ran.store up in
+      subst (λ (x : SessionRow × ℕ). StandsForCount x.0 x.1 (m.reading (low_disk lent.w.parts.store))) (λ i. ((has.row ∙ row_after) i, has.count i)) (has.ready.stands told)
+
+  abbrev lived_parts : List Part
+  lived_parts = lives_on.stands.stands.parts
+
+  is_up : is_lost (phase_after row o lived_parts) ≡ false → is_down q ≡ false
+  is_up sound =
+      let state = lives_on.stands.stands.state in
+      sym (lost_is q.phase q.hand.number) ∙ ap (λ (s : State). is_lost s.phase) state ∙ ap (λ (r : SessionRow). is_lost (phase_after r o lived_parts)) row_after ∙ sound
+
+  left_by : m.tells → is_lost (phase_after row o lived_parts) ≡ false → StandsForCount row (count_after o lived_parts) (m.reading (low_disk store))
+  left_by told sound =
+      subst (λ (x : ℕ × LowStore S). StandsForCount row x.0 (m.reading (low_disk x.1))) (λ i. (ap (λ (s : State). s.next) lives_on.stands.stands.state i, lent.store_is i)) (stands_for told (is_up sound))
+
+  pub low_served : LowServed t m row rounds key ports now_ports reads now_reads written now_written faults now_faults disk (low_disk store) end
+  low_served = record {
+    opening = o;
+    found = found;
+    is_opened = lent.ran.is_opened;
+    stays = lent.ran.stays;
+    are = subst (λ (r : SessionRow). AreStays r o [] lent.ran.stays) row_before (lent.ran.so.rule o [] lived);
+    made = subst (λ (r : SessionRow). AreMade r o (stayed [] lent.ran.stays)) row_after lives_on.are_made;
+    ends = subst (λ (e : RoundsEnd). EndsLow lent.ran.is_opened lent.ran.stays rounds e) lent.end_is lent.ran.ends;
+    at = record {
+      opened = lent.v.door;
+      shut = lent.w.door;
+      in_call = lent.in_call;
+      is_port = lent.ran.port row.low_port lent.is_port;
+      did = Grows-all _ _ _ lent.fresh lent.ran.did;
+      gave = lent.ran.gave;
+    };
+    links = lent.ran.links;
+    moments = lent.ran.moments;
+    words = subst (λ (s : ChaCha). words_given s (words_in lent.ran.stays)) words_before (Draws-all (words_given lent.v.parts.words) (words_given lent.w.parts.words) (words_in lent.ran.stays) (no_words lent.w.parts.words) lent.ran.words);
+    tape = subst (λ (x : RoundsEnd × SessionRow × ℕ × Bool). Reaches (Appends written now_written) faults now_faults (is_kept_by (Some x.0)) (line_text (opening_line x.1 (record { count = x.2; is_held = x.3 })) ++ text_in x.1 lent.ran.stays))
+        (λ i. (lent.end_is i, row_before i, next_before i, held_before i)) lent.ran.tape;
+    left = λ told. (lived_parts, subst (λ (r : SessionRow). IsCut r (life_made o (stayed [] lent.ran.stays)) lived_parts) row_after lives_on.stands.stands.cut, left_by told);
+    device = counts_from (Some end) _ _ _ counts
+        (subst (λ (x : RoundsEnd × LowStore S × LowParts ChaCha S E). CountsEnd (Some x.0) (m.count (low_disk x.2.store)) (m.count (low_disk x.1))) (λ i. (lent.end_is i, lent.store_is i, lent.parts_are i)) lent.ran.device);
+  }

@@ -1,0 +1,60 @@
+-- What the low worker of a session does.
+use Rattle.std.specs.Prelude.{◌≡◌, ℕ, ◌+◌, ◌==◌, true, false, Bool, List, [], ◌++◌, Option, Some}
+use Rattle.std.specs.List.{AllByRecursion}
+use Rattle.std.specs.Io.KnownBytes.{Appends}
+use Rattle.rand_chacha.specs.ChaCha.{key_of}
+use Rattle.delay_table.specs.Streams.{AreWords}
+use Rattle.disk_model.specs.Disk.{Meaning}
+use Rattle.pump_frame.specs.declared.row.SessionRow.{SessionRow}
+use Rattle.pump_link.specs.Ports.{PortsStep}
+use Rattle.pump_link.specs.Tells.{Draws}
+use Rattle.pump_core.specs.Exchanges.{Part, IsCut, count_after}
+use Rattle.pump_core.specs.History.{Opening}
+use Rattle.pump_core.specs.Phases.{Phase, Idle, Passing, Waiting, Down}
+use Rattle.pump_core.specs.Standing.{phase_after}
+use Rattle.stable_buffer.specs.Low.{StandsForCount}
+use Rattle.stable_buffer.specs.Stands.{LowStands}
+use Rattle.relay_threads.specs.LowStays.{Stay, AreStays, TellsVisit, is_kept_by, stayed, steps, answers, moments_in, words_in, text_in}
+use Rattle.relay_threads.specs.Reaching.{Reaches}
+use Rattle.relay_threads.specs.Records.{AreMade, life_made}
+use Rattle.relay_threads.specs.RecordLines.{opening_line}
+use Rattle.script_reader.specs.Spelling.{line_text}
+use Rattle.relay_threads.specs.Workers.{CountsEnd}
+use Rattle.relay_threads.specs.declared.rounds_end.RoundsEnd.{RoundsEnd}
+use Rattle.serving.specs.Doors.{DoorsTell, AtDoor}
+use Rattle.serving.specs.LowEnds.{EndsLow}
+
+-- the low disk stands for the count of the opening, and for the messages from some number on; the last of
+-- them is held exactly where all slots are taken
+abbrev pub FindsLow : {S : Type 0} → Meaning S → SessionRow → Opening → S → Type 0
+FindsLow m row o disk = m.tells → (removed : ℕ) × (messages : List (List ℕ)) × LowStands row o.count removed messages (m.reading disk)
+    × (o.is_held ≡ (o.count == removed + row.capacity))
+
+-- the low disk has failed
+abbrev pub is_lost : Phase → Bool
+is_lost Down = true
+is_lost _ = false
+
+-- The low worker made its rounds, or ended before: at a door of the row's low port, by the readings of its
+-- clock, with the words of the key, over the low disk. Nothing here speaks of the high worker.
+pub record LowServed {D L S : Type 0} (t : DoorsTell D L) (m : Meaning S) (row : SessionRow) (rounds : ℕ) (key : List ℕ) (ports now_ports : List (PortsStep L D) → Type 0) (reads now_reads : List ℕ → Type 0)
+    (written now_written : Option (List ℕ)) (faults now_faults : ℕ) (disk now_disk : S) (end : RoundsEnd) : Type 0 where
+  -- what was found at the opening
+  pub opening : Opening
+  pub found : FindsLow m row opening disk
+  -- the stays, whose looks are the life of the low process from there on, each with the reply that is due
+  pub is_opened : Bool
+  pub stays : List (Stay L)
+  pub are : AreStays row opening [] stays
+  pub made : AreMade row opening (stayed [] stays)
+  pub ends : EndsLow is_opened stays rounds end
+  pub at : AtDoor t ports now_ports row.low_port (steps stays) (answers stays)
+  pub links : AllByRecursion (TellsVisit t.links.gives t.links.sent t.links.faults) stays
+  pub moments : Draws reads now_reads (moments_in stays)
+  pub words : AreWords (key_of key) 0 0 (words_in stays)
+  -- the record of these looks was written, or a front of it
+  pub tape : Reaches (Appends written now_written) faults now_faults (is_kept_by (Some end)) (line_text (opening_line row opening) ++ text_in row stays)
+  -- the disk counts what the life stored, unless it failed
+  pub left : m.tells → (parts : List Part) × IsCut row (life_made opening (stayed [] stays)) parts
+      × (is_lost (phase_after row opening parts) ≡ false → StandsForCount row (count_after opening parts) (m.reading now_disk))
+  pub device : CountsEnd (Some end) (m.count disk) (m.count now_disk)

@@ -1,0 +1,150 @@
+ghost use Rattle.std.specs.Prelude.{◌≡◌, ◌≤◌, false, [], ◌∷◌, IfSome, IfNone, IfOk, OnErr};
+ghost use Rattle.disk_model.specs.Disk.{Meaning};
+ghost use Rattle.pump_frame.specs.Counts.{Rose};
+ghost use Rattle.pump_link.specs.Causes.{HasCause};
+ghost use Rattle.pump_link.specs.Ports.{Listened};
+ghost use Rattle.pump_link.specs.Tells.{Grows};
+ghost use Rattle.low_process.specs.Ready.{Ready as LowReady};
+ghost use Rattle.low_process.specs.Looks.{last_of as low_last, is_down};
+ghost use Rattle.high_process.specs.Ready.{Ready as HighReady};
+ghost use Rattle.high_process.specs.States.{last_of as high_last};
+ghost use Rattle.serving.specs.Doors.{doors, links, WantDoor};
+ghost use Rattle.serving.specs.HighRuns.{HighLent};
+ghost use Rattle.serving.specs.LowRuns.{LowLent};
+
+use crate::high_half::{HighHalf, HighParts};
+use crate::low_half::{LowHalf, LowParts};
+use crate::works::serve_halves;
+use disk_model::Disk;
+use passage::{WaitHighEnd, WaitLowEnd};
+use pump_frame::SessionRow;
+use pump_link::{Clock, Ports, PortsFault, Sink, Words};
+use relay_threads::RoundsEnd;
+use stable_buffer::{HighStore, LowStore};
+use std::sync::Wait;
+use std::thread::Threads;
+
+/// How the two workers of a session ended.
+#[derive(Clone, Copy, PartialEq, Eq, Debug)]
+pub struct WorkersEnd {
+    pub low: RoundsEnd,
+    pub high: RoundsEnd,
+}
+
+/// The stores of a session, and how its workers ended, unless a door was wanting.
+#[derive(Drop)]
+pub struct ServedStores<D> {
+    pub ends: Option<WorkersEnd>,
+    pub low: LowStore<D>,
+    pub high: HighStore<D>,
+}
+
+// Opens the doors of both ports of the row, the low one first. Where the second is wanting, the first is
+// shut again.
+fn open_doors<P: Ports>(
+    ports: &mut P,
+    row: &SessionRow,
+) -> Result<(P::Door, P::Door), PortsFault>
+    ensures opened { IfOk result (λ doors. Grows (P.did ports.old) (P.did ports.new) (Listened row.now.low_port doors.0 ∷ Listened row.now.high_port doors.1 ∷ [])) }
+    ensures low { IfOk result (λ doors. P.Door.port doors.0 row.now.low_port × P.Door.did doors.0 []) }
+    ensures high { IfOk result (λ doors. P.Door.port doors.1 row.now.high_port × P.Door.did doors.1 []) }
+    ensures wanting { OnErr result (WantDoor (P.did ports.old) (P.did ports.new) row.now.low_port row.now.high_port) }
+    ensures cause { HasCause (P.faults ports.old) (P.faults ports.new) result }
+{
+    let low = ports.listen(row.low_port)?;
+    match ports.listen(row.high_port) {
+        Ok(high) => Ok((low, high)),
+        Err(fault) => {
+            ports.shut(low);
+            Err(fault)
+        }
+    }
+}
+
+/// Lets both workers serve, each at the door of its own port of the row, and shuts the doors.
+pub fn serve_doors<
+    T: Threads + Wait + Sync,
+    P: Ports,
+    K: Clock + Send,
+    W: Words + Send + Drop,
+    D: Disk + Send,
+    L: WaitLowEnd + Send + Drop,
+    H: WaitHighEnd + Send + Drop,
+    O: Sink + Send,
+>(
+    rt: &T,
+    row: &SessionRow,
+    ports: &mut P,
+    low_clock: &mut K,
+    high_clock: &mut K,
+    low: LowParts<W, D, L>,
+    high: HighParts<D, H>,
+    tape: &mut O,
+    rounds: u32,
+) -> ServedStores<D>
+where
+    P::Link: Send,
+    P::Door: Send,
+    requires low { LowReady D.told low.process low.store (L.stands low.ends) }
+    requires up { is_down low.process ≡ false }
+    requires low_order { low_last low.process ≤ K.floor low_clock.old }
+    requires high { HighReady D.told high.process high.store (H.stands high.ends) }
+    requires high_order { high_last high.process ≤ K.floor high_clock.old }
+    ensures low { IfSome result.ends (λ ends. LowLent (doors P.Door.port P.Door.did P.Door.gives (links P.Link.gives P.Link.sent P.Link.faults)) D.told W.gives
+        (P.did ports.old) (P.did ports.new) (K.reads low_clock.old) (K.reads low_clock.new) (O.written tape.old) (O.written tape.new) (O.faults tape.old) (O.faults tape.new)
+        row.now.low_port rounds low result.low ends.low) }
+    ensures high { IfSome result.ends (λ ends. HighLent (doors P.Door.port P.Door.did P.Door.gives (links P.Link.gives P.Link.sent P.Link.faults)) D.told
+        (P.did ports.old) (P.did ports.new) (K.reads high_clock.old) (K.reads high_clock.new) row.now.high_port rounds high result.high ends.high) }
+    ensures wanting { IfNone result.ends (WantDoor (P.did ports.old) (P.did ports.new) row.now.low_port row.now.high_port) }
+    ensures cause { IfNone result.ends (Rose (P.faults ports.old) (P.faults ports.new)) }
+    ensures low_kept { IfNone result.ends (result.low ≡ low.store) }
+    ensures high_kept { IfNone result.ends (result.high ≡ high.store) }
+    ensures unused { IfNone result.ends ((low_clock.new ≡ low_clock.old) × (high_clock.new ≡ high_clock.old) × (tape.new ≡ tape.old)) }
+{
+    let Ok((low_door, high_door)) = open_doors(ports, row) else {
+        return ServedStores {
+            ends: None,
+            low: low.store,
+            high: high.store,
+        };
+    };
+    let mut low_half = LowHalf {
+        door: low_door,
+        parts: low,
+        end: RoundsEnd::Rounds,
+    };
+    let mut high_half = HighHalf {
+        door: high_door,
+        parts: high,
+        end: RoundsEnd::Rounds,
+    };
+    serve_halves(
+        rt,
+        &mut low_half,
+        low_clock,
+        tape,
+        &mut high_half,
+        high_clock,
+        rounds,
+    );
+    let LowHalf {
+        door: low_door,
+        parts: low,
+        end: low_end,
+    } = low_half;
+    let HighHalf {
+        door: high_door,
+        parts: high,
+        end: high_end,
+    } = high_half;
+    ports.shut(low_door);
+    ports.shut(high_door);
+    ServedStores {
+        ends: Some(WorkersEnd {
+            low: low_end,
+            high: high_end,
+        }),
+        low: low.store,
+        high: high.store,
+    }
+}

@@ -1,13 +1,10 @@
 -- What a low process has lived, look by look.
-use Rattle.std.proofs.Common.{◌≡◌, ℕ, ◌≤◌, Bool, true, false, List, [], ◌∷◌, ◌++◌, Option, Some, None, refl, sym, ap, ◌∙◌, subst}
-use Rattle.std.specs.Prelude.{is_some}
+use Rattle.std.proofs.Common.{◌≡◌, ℕ, ◌≤◌, Bool, List, [], ◌∷◌, refl, sym, ap, ◌∙◌, subst}
 use Rattle.pump_frame.specs.declared.row.SessionRow.{SessionRow}
-use Rattle.pump_core.specs.Phases.{Phase}
-use Rattle.pump_core.specs.History.{Arrival, Look, History, Opening, first_life, looked}
+use Rattle.pump_core.specs.History.{Arrival, Opening}
 use Rattle.pump_core.specs.Exchanges.{Part, IsCut}
 use Rattle.pump_core.specs.Comings.{may_take}
 use Rattle.pump_core.specs.Replies.{LowReplies}
-use Rattle.pump_core.specs.Standing.{last_moment}
 use Rattle.pump_core.proofs.Cuts.{one_cut}
 use Rattle.pump_core.proofs.MayTake.{is_idle as is_idle_phase, may_take_is}
 use Rattle.low_process.specs.declared.process.LowProcess.{LowProcess}
@@ -15,7 +12,7 @@ use Rattle.low_process.specs.declared.values.LowLook.{LowLook}
 use Rattle.low_process.specs.declared.values.Phase.{Phase as LowPhase}
 use Rattle.low_process.specs.declared.values.Phase.TheVariants as low
 use Rattle.low_process.specs.Looks.{row_of, last_of, is_idle, is_idle_in, phase_of, StandsFor, Looks, look_of}
-use Rattle.relay_threads.specs.Records.{Made, looks_made, replies_made, life_made, history_made, IsMade, AreMade}
+use Rattle.relay_threads.specs.Records.{Made, replies_made, life_made, history_made, AreMade}
 use Rattle.relay_threads.specs.LowServes.{Lives, Leads}
 
 -- ---- it wants what comes just where its next look may take it ----

@@ -1,6 +1,6 @@
 -- What is recorded link by link is the record of all looks.
 use Rattle.std.proofs.Common.{◌≡◌, ℕ, Bool, true, false, List, [], ◌∷◌, ◌++◌, Option, Some, None, refl, sym, ap, ◌∙◌, subst, append-nil, append_assoc}
-use Rattle.std.specs.Prelude.{if◌then◌else◌, not, ◌&&◌, ◌||◌, is_some, IfSome}
+use Rattle.std.specs.Prelude.{if◌then◌else◌, not, ◌&&◌, ◌||◌, is_some}
 use Rattle.std.specs.List.{AllByRecursion}
 use Rattle.pump_frame.specs.declared.row.SessionRow.{SessionRow}
 use Rattle.pump_core.specs.declared.feedback.Feedback.{Feedback}
@@ -8,19 +8,18 @@ use Rattle.pump_core.specs.declared.feedback.Feedback.TheVariants.{Quiet, Full, 
 use Rattle.pump_core.specs.Phases.{Phase}
 use Rattle.pump_core.specs.Phases.{Idle, Passing, Waiting as Waits, Down}
 use Rattle.pump_core.specs.History.{Arrival, Look, Opening}
-use Rattle.pump_core.specs.History.{Nothing, Came, Bad as CameBad, Gone as CameGone}
-use Rattle.pump_core.specs.Exchanges.{is_gone, Part, IsCut}
-use Rattle.pump_core.specs.Step.{fits_in, fits_passing, is_quiet, is_full, takes_in, takes_at, after, after_in}
+use Rattle.pump_core.specs.History.{Gone as CameGone}
+use Rattle.pump_core.specs.Exchanges.{Part, IsCut}
+use Rattle.pump_core.specs.Step.{fits_in, is_quiet, is_full, after}
 use Rattle.pump_core.specs.Standing.{State, end_of}
 use Rattle.relay_threads.specs.declared.low_round.LowWhy.{LowWhy}
 use Rattle.relay_threads.specs.declared.low_round.LowWhy.TheVariants.{Gone, Bad, LinkFailed, Device, RecordFailed, Looks, Stopped}
-use Rattle.relay_threads.specs.declared.rounds_end.RoundsEnd.TheVariants.{RecordFailed as RecordBroke}
 use Rattle.relay_threads.specs.Hearings.{Ending, AtFrame, AtBad, AtNotYet, AtEnded, AtFailed, AtMost, Hearing}
-use Rattle.relay_threads.specs.Records.{Made, looks_made, life_made, IsMade, AreMade, was_full, is_recorded, record_of, passes_on}
+use Rattle.relay_threads.specs.Records.{Made, looks_made, life_made, AreMade, was_full, record_of, passes_on}
 use Rattle.relay_threads.specs.RecordLines.{look_text, looks_text}
 use Rattle.relay_threads.specs.LowRounds.{Round, with_look, made_after, made_in, AreRounds, IsRound, MakesLook, offered, cause, cause_at, cause_heard, is_lost_in, newest_cause}
 use Rattle.relay_threads.specs.LowServes.{text_after, text_made}
-use Rattle.relay_threads.specs.LowStays.{Stay, Alone, With, Visit, IsGone, GoneAfter, IsStay, stay_after, stayed, AreStays, IsOver, IsLeft, visited, visit_text, text_at, text_in, end_at}
+use Rattle.relay_threads.specs.LowStays.{Stay, Alone, With, GoneAfter, IsStay, stay_after, stayed, AreStays, IsOver, visited, text_at, text_in, end_at}
 use Rattle.relay_threads.proofs.Machine.{led}
 use Rattle.relay_threads.proofs.LowServing.{text_more, full_more, round_cause, is_cause}
 

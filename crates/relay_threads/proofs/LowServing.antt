@@ -1,6 +1,6 @@
 -- The rounds of a low worker on one connection, one after another.
-use Rattle.std.proofs.Common.{◌≡◌, ℕ, ◌+◌, ◌≤◌, Bool, true, false, List, [], ◌∷◌, ◌++◌, length, Option, Some, None, refl, sym, ap, ◌∙◌, subst, append-nil, append_assoc, arith, le_refl}
-use Rattle.std.specs.Prelude.{IfSome, if◌then◌else◌, not}
+use Rattle.std.proofs.Common.{◌≡◌, ℕ, ◌+◌, ◌≤◌, Bool, true, false, List, [], ◌∷◌, ◌++◌, length, Option, Some, None, refl, sym, ap, ◌∙◌, subst, append-nil, arith}
+use Rattle.std.specs.Prelude.{if◌then◌else◌, not}
 use Rattle.std.specs.List.{flat_map}
 use Rattle.std.specs.Io.KnownBytes.{Appends}
 use Rattle.std.proofs.lemmas.Grind.{flat_map-append}
@@ -10,23 +10,22 @@ use Rattle.pump_frame.specs.Readings.{Reading, Within}
 use Rattle.pump_frame.specs.Spellings.{spelling}
 use Rattle.pump_link.specs.Tells.{Draws, Grows}
 use Rattle.pump_link.specs.declared.link.Looked.{Looked}
-use Rattle.pump_link.proofs.Grown.{Draws-nil, Draws-then, Grows-nil, Grows-then}
+use Rattle.pump_link.proofs.Grown.{Draws-nil, Grows-nil, Grows-then}
 use Rattle.pump_link.proofs.Known.{Appends-none, Appends-then}
-use Rattle.pump_core.specs.History.{Look, Opening}
+use Rattle.pump_core.specs.History.{Look}
 use Rattle.pump_core.specs.Replies.{sent}
 use Rattle.low_process.specs.declared.process.LowProcess.{LowProcess}
-use Rattle.low_process.specs.Looks.{row_of}
 use Rattle.relay_threads.specs.declared.low_round.LowWhy.{LowWhy}
 use Rattle.relay_threads.specs.declared.low_round.LowWhy.TheVariants.{Gone, Bad, LinkFailed, Device, RecordFailed, Looks, Stopped}
-use Rattle.relay_threads.specs.Hearings.{Ending, AtFrame, AtBad, AtNotYet, AtEnded, AtFailed, AtMost, Hearing, IsHearing, Leaves, held_in, held_by}
+use Rattle.relay_threads.specs.Hearings.{Ending, AtFrame, AtBad, AtNotYet, AtEnded, AtFailed, AtMost, Hearing, Leaves, held_in, held_by}
 use Rattle.relay_threads.specs.Reaching.{Reaches}
 use Rattle.relay_threads.specs.Records.{Made, replies_made, is_recorded, was_full, record_of}
 use Rattle.relay_threads.specs.RecordLines.{look_text, looks_text}
-use Rattle.relay_threads.specs.LowRounds.{Round, with_look, made_after, made_in, looks_of_rounds, looks_heard, moments_of, words_of, reply_bytes, held_after, held_heard, is_lost_in, cause, cause_at, cause_heard, IsRound, GoOn, AreRounds, is_ack_made, acks_in, ask_after, asks_of}
-use Rattle.relay_threads.specs.LowServes.{Leads, Serves, Turns, EndsBy, all_sent, all_kept, asked_in, LeavesIf, bytes_of, bytes_made, text_made, full_after}
+use Rattle.relay_threads.specs.LowRounds.{Round, with_look, made_after, made_in, looks_of_rounds, moments_of, words_of, reply_bytes, held_after, held_heard, is_lost_in, cause, cause_at, cause_heard, IsRound, GoOn, AreRounds, is_ack_made, acks_in, ask_after, asks_of}
+use Rattle.relay_threads.specs.LowServes.{Serves, Turns, EndsBy, all_sent, all_kept, asked_in, LeavesIf, bytes_of, bytes_made, text_made, full_after}
 use Rattle.relay_threads.proofs.Kept.{recorded_at}
 use Rattle.relay_threads.proofs.LowLives.{leads_none, leads_then}
-use Rattle.relay_threads.proofs.Reaching.{reaches_all, reaches_behind, reaches_as}
+use Rattle.relay_threads.proofs.Reaching.{reaches_behind}
 
 -- ---- what one look more adds ----
 

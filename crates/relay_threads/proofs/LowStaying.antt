@@ -1,6 +1,5 @@
 -- Stays of the low worker, one after another.
-use Rattle.std.proofs.Common.{◌≡◌, ℕ, ◌+◌, ◌≤◌, ◌<◌, Bool, true, false, List, [], ◌∷◌, ◌++◌, length, Option, Some, None, refl, sym, ap, ◌∙◌, subst, append-nil, arith}
-use Rattle.std.specs.Prelude.{if◌then◌else◌}
+use Rattle.std.proofs.Common.{◌≡◌, ℕ, ◌+◌, ◌≤◌, ◌<◌, Bool, true, false, List, [], ◌∷◌, Option, Some, None, refl, sym, ap, ◌∙◌, subst, arith}
 use Rattle.std.specs.List.{AllByRecursion}
 use Rattle.std.specs.Io.KnownBytes.{Appends}
 use Rattle.pump_frame.specs.declared.row.SessionRow.{SessionRow}
@@ -21,7 +20,7 @@ use Rattle.relay_threads.specs.Reaching.{Reaches}
 use Rattle.relay_threads.specs.Workers.{IsNobody}
 use Rattle.relay_threads.specs.LowRounds.{newest_cause}
 use Rattle.relay_threads.specs.LowServes.{Lives, Leads}
-use Rattle.relay_threads.specs.LowStays.{Stay, Alone, With, Visit, IsStay, IsVisit, visited, stay_after, stayed, AreStays, StaysSo, IsOver, steps, answers, moments_in, words_in, text_in, text_at, count, count_at, newest_end, stay_end, end_at, EndsStay, EndsVisit, EndsStays, IsRecord, TellsVisit, is_kept_by}
+use Rattle.relay_threads.specs.LowStays.{Stay, Alone, With, Visit, IsStay, IsVisit, visited, stay_after, stayed, AreStays, StaysSo, IsOver, steps, answers, moments_in, words_in, text_in, text_at, count, count_at, stay_end, end_at, EndsStay, EndsVisit, EndsStays, IsRecord, TellsVisit}
 use Rattle.relay_threads.specs.Records.{AreMade}
 use Rattle.relay_threads.proofs.LowRecord.{one_record}
 use Rattle.relay_threads.proofs.LowLives.{leads_none, leads_then}

@@ -1,12 +1,12 @@
 -- One round of the low worker, by what its functions say.
-use Rattle.std.proofs.Common.{◌≡◌, ℕ, ◌≤◌, Bool, true, false, List, [], ◌∷◌, ◌++◌, Option, Some, None, refl, sym, ap, ◌∙◌, subst, le_refl}
+use Rattle.std.proofs.Common.{◌≡◌, ℕ, ◌≤◌, Bool, true, false, List, Option, Some, None, refl, sym, ap, ◌∙◌, subst, le_refl}
 use Rattle.std.specs.Prelude.{IfSome, is_some, if◌then◌else◌, not, ◌||◌}
 use Rattle.disk_model.specs.Disk.{Meaning}
 use Rattle.pump_frame.specs.Counts.{Rose}
 use Rattle.stable_buffer.specs.declared.low.LowStore.{LowStore}
 use Rattle.stable_buffer.specs.Low.{low_disk}
 use Rattle.low_process.specs.Storing.{StoreStep}
-use Rattle.pump_core.specs.History.{Arrival, Opening}
+use Rattle.pump_core.specs.History.{Arrival}
 use Rattle.low_process.specs.declared.process.LowProcess.{LowProcess}
 use Rattle.low_process.specs.declared.values.LowLook.{LowLook}
 use Rattle.low_process.specs.Looks.{row_of, last_of, is_idle, StandsFor, Looks, look_of}
@@ -15,9 +15,8 @@ use Rattle.relay_threads.specs.declared.hear.Heard.TheVariants as hears
 use Rattle.relay_threads.specs.declared.low_round.LowWhy.{LowWhy}
 use Rattle.relay_threads.specs.declared.low_round.LowWhy.TheVariants.{LinkFailed, Device, RecordFailed}
 use Rattle.relay_threads.specs.Hearings.{Ending, AtFrame, AtBad, AtNotYet, AtEnded, AtFailed, AtMost, Hearing, IsHearing, heard_as}
-use Rattle.relay_threads.specs.Records.{Made}
-use Rattle.relay_threads.specs.LowRounds.{Round, offered, offered_at, MakesLook, IsRound, cause_at, cause_heard}
-use Rattle.relay_threads.specs.LowServes.{Lives, Turns, heard_option, is_failed, arrival_heard, why_heard, why_by, CountsFaultIn}
+use Rattle.relay_threads.specs.LowRounds.{Round, offered, offered_at, MakesLook, cause_at, cause_heard}
+use Rattle.relay_threads.specs.LowServes.{Turns, heard_option, is_failed, arrival_heard, why_heard, why_by, CountsFaultIn}
 use Rattle.relay_threads.proofs.LowLives.{wants_is, look_made, lives_on}
 
 -- ---- the disk's count ----

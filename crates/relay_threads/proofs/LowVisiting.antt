@@ -1,24 +1,23 @@
 -- What one link comes to in all.
-use Rattle.std.proofs.Common.{◌≡◌, ℕ, ◌+◌, ◌≤◌, ◌<◌, Bool, true, false, List, [], ◌∷◌, ◌++◌, length, Option, Some, None, refl, sym, ap, ◌∙◌, subst, append_assoc, append-nil, arith, inl, inr}
+use Rattle.std.proofs.Common.{◌≡◌, ℕ, ◌≤◌, ◌<◌, Bool, true, false, List, [], ◌∷◌, length, Option, Some, None, refl, sym, ap, ◌∙◌, subst, append-nil, arith, inl, inr}
 use Rattle.std.specs.Prelude.{◌⊎◌, if◌then◌else◌, not}
 use Rattle.std.specs.Io.KnownBytes.{Appends}
 use Rattle.pump_frame.specs.declared.row.SessionRow.{SessionRow}
 use Rattle.pump_link.proofs.Known.{Appends-then}
-use Rattle.pump_core.specs.History.{Opening}
 use Rattle.low_process.specs.declared.process.LowProcess.{LowProcess}
 use Rattle.relay_threads.specs.declared.low_round.LowWhy.{LowWhy}
 use Rattle.relay_threads.specs.declared.low_round.LowWhy.TheVariants.{Gone, Bad, LinkFailed, Device, RecordFailed, Looks, Stopped}
 use Rattle.relay_threads.specs.declared.rounds_end.RoundsEnd.{RoundsEnd}
-use Rattle.relay_threads.specs.declared.rounds_end.RoundsEnd.TheVariants.{Rounds as RoundsMade, Device as DeviceBroke, RecordFailed as RecordBroke}
+use Rattle.relay_threads.specs.declared.rounds_end.RoundsEnd.TheVariants.{RecordFailed as RecordBroke}
 use Rattle.relay_threads.specs.Reaching.{Reaches}
 use Rattle.relay_threads.specs.Records.{Made, record_of}
 use Rattle.relay_threads.specs.RecordLines.{looks_text}
-use Rattle.relay_threads.specs.LowRounds.{Round, with_look, made_after, made_in, AreRounds, GoOn, newest_cause}
+use Rattle.relay_threads.specs.LowRounds.{Round, made_after, made_in, AreRounds, GoOn, newest_cause}
 use Rattle.relay_threads.specs.LowServes.{Leads, Serves, EndsBy, all_kept, text_made}
 use Rattle.relay_threads.specs.LowStays.{IsGone, GoneAfter, IsVisit, visited, visit_text, end_at, end_by, is_left_so, is_kept_by, IsLeft}
 use Rattle.relay_threads.proofs.LowLives.{leads_then}
 use Rattle.relay_threads.proofs.LowServing.{kept_on, broken_round}
-use Rattle.relay_threads.proofs.Reaching.{reaches_behind, reaches_as}
+use Rattle.relay_threads.proofs.Reaching.{reaches_behind}
 
 -- ---- why the newest round left ----
 

@@ -1,5 +1,5 @@
 -- Bytes that reach the other side, one piece after another.
-use Rattle.std.proofs.Common.{◌≡◌, Option, ℕ, ◌≤◌, Bool, true, false, List, [], ◌++◌, refl, sym, ap, ◌∙◌, subst, append-nil, append_assoc, le_refl, arith}
+use Rattle.std.proofs.Common.{◌≡◌, Option, ℕ, ◌≤◌, Bool, true, List, [], ◌++◌, sym, ap, ◌∙◌, subst, append-nil, append_assoc, arith}
 use Rattle.std.specs.Prelude.{Result, Ok, Err, OnOk, OnErr, is_ok}
 use Rattle.std.specs.Io.KnownBytes.{Appends}
 use Rattle.pump_frame.specs.Counts.{Rose}

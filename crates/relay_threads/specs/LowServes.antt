@@ -1,5 +1,5 @@
 -- What a low worker does on one connection, from the low process before it to the one after it.
-use Rattle.std.specs.Prelude.{◌≡◌, ℕ, ◌+◌, ◌<◌, ◌≤◌, Bool, true, false, if◌then◌else◌, not, List, [], ◌∷◌, ◌++◌, length, Option, Some, None, IfSome, is_some}
+use Rattle.std.specs.Prelude.{◌≡◌, ℕ, ◌<◌, ◌≤◌, Bool, true, false, if◌then◌else◌, not, List, [], ◌∷◌, ◌++◌, length, Option, Some, None, IfSome, is_some}
 use Rattle.pump_frame.specs.Counts.{Rose}
 use Rattle.pump_frame.specs.Spellings.{spelling}
 use Rattle.pump_frame.specs.declared.frame.Frame.{Frame}

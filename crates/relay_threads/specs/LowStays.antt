@@ -11,7 +11,7 @@ use Rattle.pump_core.specs.History.{Opening}
 use Rattle.pump_core.specs.History.{Gone as CameGone}
 use Rattle.low_process.specs.declared.process.LowProcess.{LowProcess}
 use Rattle.relay_threads.specs.declared.low_round.LowWhy.{LowWhy}
-use Rattle.relay_threads.specs.declared.low_round.LowWhy.TheVariants.{Gone, Bad, LinkFailed, Device, RecordFailed, Looks, Stopped}
+use Rattle.relay_threads.specs.declared.low_round.LowWhy.TheVariants.{Bad, LinkFailed, Device, RecordFailed}
 use Rattle.relay_threads.specs.declared.rounds_end.RoundsEnd.{RoundsEnd}
 use Rattle.relay_threads.specs.declared.rounds_end.RoundsEnd.TheVariants.{Rounds, Device as DeviceBroke, RecordFailed as RecordBroke}
 use Rattle.relay_threads.specs.declared.rounds_end.Stayed.{Stayed}

@@ -158,7 +158,6 @@ impl Gate for Two {
 /// What comes on a link to a process that has removed `count` messages, and what becomes of it.
 #[derive(Clone, Copy)]
 struct Case {
-    name: &'static str,
     count: u64,
     quiet: u32,
     coming: &'static str,
@@ -170,8 +169,8 @@ struct Case {
     removed: u64,
 }
 
+// A receiver that attaches and goes.
 const CASE: Case = Case {
-    name: "a receiver that goes",
     count: 0,
     quiet: 0,
     coming: ATTACH,
@@ -183,13 +182,42 @@ const CASE: Case = Case {
     removed: 0,
 };
 
+// Whether a connection goes as the case says.
+fn is_served_so<R: Wait>(rt: &R, alloc: Global, case: Case) -> Result<bool, Fail> {
+    let mut bench = set_up(alloc, PlainDisk::new(alloc, 80)?, case.count)?;
+    let mut link = link(alloc, case.quiet, case.coming, case.is_failing)?;
+    let mut clock = StepClock::new(5, 10);
+    let served = serve_high(
+        rt,
+        &mut link,
+        &mut clock,
+        &mut bench.process,
+        &mut bench.store,
+        &mut bench.ends,
+        &mut Open,
+        case.looks,
+    );
+    let wanted = HighServed {
+        why: case.why,
+        looks: case.rounds,
+    };
+    let sent = bytes(alloc, case.sent)?;
+    let removed = (bench.process.removed(), bench.store.removed());
+    Ok(
+        served == wanted
+            && link.sent() == sent.as_slice()
+            && clock.readings() == case.rounds
+            && removed == (case.removed, case.removed),
+    )
+}
+
 #[test]
 fn connections_are_served(rt: HostRuntime) -> Result<(), Fail> {
     let alloc = rt.alloc();
-    for case in [
+    for (number, case) in [
         CASE,
         Case {
-            name: "TAKEN 0 first",
+            // TAKEN 0 first
             coming: "4e5001070000000100000000000000000000",
             why: HighWhy::NotAttach,
             rounds: 1,
@@ -197,7 +225,7 @@ fn connections_are_served(rt: HostRuntime) -> Result<(), Fail> {
             ..CASE
         },
         Case {
-            name: "ATTACH 0, TAKEN 5",
+            // ATTACH 0, TAKEN 5
             coming: "4e50010600000001000000000000000000004e5001070000000100000000000000050000",
             why: HighWhy::Ahead {
                 number: 5,
@@ -206,7 +234,7 @@ fn connections_are_served(rt: HostRuntime) -> Result<(), Fail> {
             ..CASE
         },
         Case {
-            name: "ATTACH 0 where two are removed",
+            // ATTACH 0 where two are removed
             count: 2,
             why: HighWhy::Behind {
                 count: 0,
@@ -218,13 +246,13 @@ fn connections_are_served(rt: HostRuntime) -> Result<(), Fail> {
             ..CASE
         },
         Case {
-            name: "ATTACH 0, bad bytes",
+            // ATTACH 0, bad bytes
             coming: "4e50010600000001000000000000000000004e51",
             why: HighWhy::Bad,
             ..CASE
         },
         Case {
-            name: "ATTACH 0, TAKEN 0",
+            // ATTACH 0, TAKEN 0
             coming: TAKES,
             rounds: 3,
             sent: "4e5001030000000100000000000000000001614e500103000000010000000000000001000161",
@@ -232,7 +260,7 @@ fn connections_are_served(rt: HostRuntime) -> Result<(), Fail> {
             ..CASE
         },
         Case {
-            name: "nothing, then the end",
+            // nothing, then the end
             quiet: 3,
             coming: "",
             rounds: 4,
@@ -240,12 +268,12 @@ fn connections_are_served(rt: HostRuntime) -> Result<(), Fail> {
             ..CASE
         },
         Case {
-            name: "an ATTACH of session 2",
+            // an ATTACH of session 2
             coming: "4e5001060000000200000000000000000000",
             ..CASE
         },
         Case {
-            name: "the first send fails",
+            // the first send fails
             is_failing: true,
             why: HighWhy::LinkFailed,
             rounds: 1,
@@ -253,41 +281,18 @@ fn connections_are_served(rt: HostRuntime) -> Result<(), Fail> {
             ..CASE
         },
         Case {
-            name: "as many rounds as were given",
+            // as many rounds as were given
             coming: TAKES,
             looks: 1,
             why: HighWhy::Looks,
             rounds: 1,
             ..CASE
         },
-    ] {
-        let mut bench = set_up(alloc, PlainDisk::new(alloc, 80)?, case.count)?;
-        let mut link = link(alloc, case.quiet, case.coming, case.is_failing)?;
-        let mut clock = StepClock::new(5, 10);
-        let served = serve_high(
-            &rt,
-            &mut link,
-            &mut clock,
-            &mut bench.process,
-            &mut bench.store,
-            &mut bench.ends,
-            &mut Open,
-            case.looks,
-        );
-        let wanted = HighServed {
-            why: case.why,
-            looks: case.rounds,
-        };
-        assert_eq!(rt; served, wanted, "{}", case.name);
-        let sent = bytes(alloc, case.sent)?;
-        assert_eq!(rt; link.sent(), sent.as_slice(), "{}", case.name);
-        assert_eq!(rt; clock.readings(), case.rounds, "{}", case.name);
-        assert_eq!(rt;
-            (bench.process.removed(), bench.store.removed()),
-            (case.removed, case.removed),
-            "{}",
-            case.name
-        );
+    ]
+    .into_iter()
+    .enumerate()
+    {
+        assert_eq!(rt; (number, is_served_so(&rt, alloc, case)?), (number, true));
     }
     Ok(())
 }

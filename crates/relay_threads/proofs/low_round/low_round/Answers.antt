@@ -1,9 +1,9 @@
-use Rattle.std.proofs.Common.{◌≡◌, [], refl, sym, ap, ◌∙◌, true, false, None, Some, List, arith, subst, ◌++◌, le_refl, le_trans}
-use Rattle.std.specs.Prelude.{is_some, option_map}
+use Rattle.std.proofs.Common.{[], refl, sym, ◌∙◌, subst, le_refl, le_trans}
+use Rattle.std.specs.Prelude.{option_map}
 use Rattle.std.specs.Io.KnownBytes.{Appends}
 use Rattle.pump_link.proofs.Grown.{Draws-kept, Grows-then}
 use Rattle.pump_link.proofs.Known.{Appends-none}
-use Rattle.low_process.specs.Looks.{arrival_of, is_down, is_idle, hand_of, row_of, StandsFor}
+use Rattle.low_process.specs.Looks.{arrival_of, is_down, hand_of, row_of}
 use Rattle.low_process.specs.Heads.{look_with}
 use Rattle.low_process.specs.Storing.{message_in}
 use Rattle.low_process.specs.Ends.{StandsFitting}

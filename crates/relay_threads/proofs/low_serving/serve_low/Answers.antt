@@ -1,10 +1,10 @@
-use Rattle.std.proofs.Common.{◌≡◌, ◌≤◌, [], ◌∷◌, Some, length, refl, sym, ap, ◌∙◌, subst, arith, rules}
+use Rattle.std.proofs.Common.{◌≤◌, [], ◌∷◌, Some, length, refl, sym, ap, ◌∙◌, subst, arith}
 use Rattle.relay_threads.specs.LowServes.{is_device_in}
 use Rattle.relay_threads.proofs.Reaching.{reaches_whole}
 use Rattle.relay_threads.proofs.LowServing.{acks_few, calm_round, sent_on, kept_on, within_of, serves_more, so_far_none, so_far_more, told_none, sends_more, keeps_more, ended_by, broken_round, asked_by, asks_more}
 use Rattle.low_process.specs.Looks.{row_of}
 use Rattle.pump_link.specs.Tells.{Grows}
-use Rattle.pump_link.proofs.Grown.{Draws-then, Grows-then}
+use Rattle.pump_link.proofs.Grown.{Draws-then}
 use Rattle.relay_threads.proofs.low_serving.serve_low.Goals as goal
 
 pub loop-rounds-init : goal.loop-rounds-init

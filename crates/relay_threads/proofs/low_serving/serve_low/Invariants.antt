@@ -1,4 +1,4 @@
-use Rattle.std.proofs.Common.{◌-◌, ◌≡◌, ℕ, ◌≤◌, List, false}
+use Rattle.std.proofs.Common.{◌-◌, ◌≡◌, ◌≤◌, List, false}
 use Rattle.pump_frame.specs.Readings.{HasBegun}
 use Rattle.stable_buffer.specs.Low.{low_disk}
 use Rattle.low_process.specs.Ready.{Ready}

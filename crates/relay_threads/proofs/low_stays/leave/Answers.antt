@@ -1,9 +1,9 @@
-use Rattle.std.proofs.Common.{◌≡◌, [], Some, refl, subst, sym, ap, ◌∙◌, false, arith, le_trans}
+use Rattle.std.proofs.Common.{[], refl, subst, ◌∙◌, le_trans}
 use Rattle.std.specs.Io.KnownBytes.{Appends}
 use Rattle.pump_frame.specs.declared.row.SessionRow.{SessionRow}
 use Rattle.pump_core.specs.History.{Gone}
 use Rattle.low_process.specs.declared.values.Arrival.TheVariants as arrivals
-use Rattle.low_process.specs.Looks.{row_of, hand_of, is_down}
+use Rattle.low_process.specs.Looks.{row_of, hand_of}
 use Rattle.low_process.specs.Heads.{look_with}
 use Rattle.low_process.specs.Ends.{StandsFitting}
 use Rattle.low_process.proofs.Offering.{stands_for_some}
@@ -12,7 +12,6 @@ use Rattle.relay_threads.specs.Reaching.{Reaches}
 use Rattle.relay_threads.specs.RecordLines.{made_by}
 use Rattle.relay_threads.specs.LowServes.{text_after}
 use Rattle.relay_threads.proofs.LowLives.{look_made, lives_on}
-use Rattle.relay_threads.proofs.LowTurning.{down_is}
 use Rattle.relay_threads.proofs.low_stays.leave.Goals as goal
 
 pub returns-clause-leaves : goal.returns-clause-leaves

@@ -1,4 +1,4 @@
-use Rattle.std.proofs.Common.{◌≡◌, ◌≤◌, ◌+◌, [], ◌∷◌, refl, sym, ap, ◌∙◌, subst, arith, None, Some, true}
+use Rattle.std.proofs.Common.{◌≤◌, ◌+◌, [], ◌∷◌, refl, sym, ap, ◌∙◌, subst, arith, Some, true}
 use Rattle.std.specs.Io.KnownBytes.{Appends}
 use Rattle.pump_link.proofs.Grown.{Draws-then, Grows-then}
 use Rattle.low_process.specs.Looks.{row_of}

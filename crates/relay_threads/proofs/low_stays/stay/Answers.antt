@@ -1,4 +1,4 @@
-use Rattle.std.proofs.Common.{◌≡◌, ◌+◌, ◌-◌, [], ◌∷◌, refl, sym, ap, ◌∙◌, arith, le_refl}
+use Rattle.std.proofs.Common.{◌+◌, ◌-◌, [], refl, arith, le_refl}
 use Rattle.pump_link.specs.Doors.{answered}
 use Rattle.pump_link.proofs.Grown.{Draws-nil, Draws-then, Draws-kept, Grows-then}
 use Rattle.pump_link.proofs.Known.{Appends-none}

@@ -1,4 +1,4 @@
-use Rattle.std.proofs.Common.{◌≡◌, Some, None, refl, sym, ◌∙◌, subst, true, false, append-nil, arith}
+use Rattle.std.proofs.Common.{Some, None, sym, ◌∙◌, subst, true, append-nil, arith}
 use Rattle.pump_link.proofs.Grown.{Draws-then}
 use Rattle.pump_link.specs.Tells.{Draws}
 use Rattle.low_process.specs.Looks.{row_of}

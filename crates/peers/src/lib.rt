@@ -11,3 +11,6 @@ mod send;
 
 pub use receive::{ReceiveEnd, receive_with};
 pub use send::{SendEnd, send_with};
+
+#[cfg(test)]
+mod tests;

@@ -1,0 +1,4 @@
+pub mod PairRule
+pub mod Parting
+pub mod RingEnds
+pub mod RingRule

@@ -114,11 +114,19 @@ impl RingLow<'_> {
 
 impl LowEnd for RingLow<'_> {
     fn forward(&mut self, item: Item) -> Forwarded {
-        if !self.has_room() {
-            return Forwarded::Full(item);
+        if self.offer(&item) {
+            Forwarded::Passed
+        } else {
+            Forwarded::Full(item)
         }
-        self.put(&item);
-        Forwarded::Passed
+    }
+
+    fn offer(&mut self, item: &Item) -> bool {
+        if !self.has_room() {
+            return false;
+        }
+        self.put(item);
+        true
     }
 
     fn average(&mut self) -> Seen {

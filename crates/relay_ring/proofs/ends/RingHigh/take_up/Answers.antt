@@ -1,5 +1,4 @@
 use Rattle.std.proofs.Common.{◌≡◌, ◌+◌, ◌%◌, [], ◌∷◌, length, Some, unwrap_or, sym, ap, ◌∙◌, subst, arith}
-
 use Rattle.atomic_table.specs.Table.{Allows, rest}
 use Rattle.relay_ring.specs.RingRule.{taken_word, RingKept, TookUp, Mine, in_front}
 use Rattle.relay_ring.proofs.RingSteps.{stores_taken}

@@ -6,11 +6,7 @@ use Rattle.stable_buffer.specs.Low.{StandsForCount}
 use Rattle.stable_buffer.specs.Stands.{HighStands as HighDiskStands}
 use Rattle.stable_buffer.specs.Log.{RecvStands}
 use Rattle.pump_core.specs.Passage.{Shape, shape_of_row, Fits}
-use Rattle.pump_core.specs.Passage.{Low, High}
-use Rattle.passage.specs.declared.waiting.Calm.{Calm}
-use Rattle.relay_ring.specs.RingEnds.{high_shape, LowEndStands, HighEndStands, low_shape}
-use Rattle.relay_ring.specs.declared.ends.RingLow.{RingLow}
-use Rattle.relay_ring.specs.declared.ends.RingHigh.{RingHigh}
+use Rattle.passage.specs.QueueEnds.{high_shape, LowEndStands, HighEndStands, low_shape}
 use Rattle.script_reader.specs.Generated.{generated_row}
 use Rattle.relay_threads.specs.Records.{recorded}
 use Rattle.relay_threads.specs.RecordLines.{record_text}
@@ -21,16 +17,6 @@ use Rattle.race.specs.Turns.{turns, AsksHigh}
 use Rattle.race.proofs.Finish.{looks_are, all_acked, printed_by_both, received_by_both, low_count_is, high_count_is, recv_count_is}
 use Rattle.race.proofs.Tapes.{keeps_none, either}
 use Rattle.race.proofs.racing.race_halves.Goals as goal
-
--- what the ends of the ring stand for, where they are given as ends that may wait
-abbrev LowStands : Calm RingLow → Low → High → Type 0
-LowStands end = LowEndStands end.0
-
-abbrev HighStands : Calm RingHigh → Low → High → Type 0
-HighStands end = HighEndStands end.0
-
-abbrev shape_low : Calm RingLow → Shape
-shape_low end = low_shape end.0
 
 pub returns-clause-record : goal.returns-clause-record
 returns-clause-record g c = λ low_on high_on.
@@ -43,7 +29,7 @@ returns-clause-record g c = λ low_on high_on.
     let (b, all) = r.high_ended high_on in
     let same : low.count ≡ high.count = r.low_count ∙ c.requires.count ∙ sym r.high_count in
     let stands = b.fitting.0 in
-    let shape : high_shape high.ends.0 ≡ shape_of_row generated_row = r.high_shape ∙ c.requires.shape in
+    let shape : high_shape high.ends ≡ shape_of_row generated_row = r.high_shape ∙ c.requires.shape in
     let fits : Fits (shape_of_row generated_row) a.low b.high = subst (λ (s : Shape). Fits s a.low b.high) shape
     (c.rejoin.ensures.lawful a.low b.high a.fitting.0 (record { is = stands.is; taken = stands.taken; times = stands.times; taken_before = stands.taken_before; tries = stands.tries })) in
     let times_are : c.as_slice.result.now ≡ high.times.items = c.as_slice.ensures.value in
@@ -51,9 +37,9 @@ returns-clause-record g c = λ low_on high_on.
     let O = g.O.Sink in
     let text = record_text generated_row race_opening made in
     let ends = end_lines (turns c.as_slice.result.now high.count) c.count.result c.next.result c.removed.result in
-    let took_is : c.count.result ≡ high.count = omega (arith, c.count.ensures, b.recv.count_is, recv_count_is LowStands shape_low low made a HighStands high b done all same fits.agrees) in
-    let next_is : c.next.result ≡ high.count = c.next.ensures ∙ low_count_is LowStands shape_low low made a HighStands high b done all same fits.agrees in
-    let gone_is : c.removed.result ≡ high.count = omega (arith, c.removed.ensures, b.is_past.holds.removed, high_count_is LowStands shape_low low made a HighStands high b done all same fits.agrees) in
+    let took_is : c.count.result ≡ high.count = omega (arith, c.count.ensures, b.recv.count_is, recv_count_is LowEndStands low_shape low made a HighEndStands high b done all same fits.agrees) in
+    let next_is : c.next.result ≡ high.count = c.next.ensures ∙ low_count_is LowEndStands low_shape low made a HighEndStands high b done all same fits.agrees in
+    let gone_is : c.removed.result ≡ high.count = omega (arith, c.removed.ensures, b.is_past.holds.removed, high_count_is LowEndStands low_shape low made a HighEndStands high b done all same fits.agrees) in
     let opened = c.open.ensures.prints (O.written c.args.out.now) (O.faults c.args.out.now) [] (keeps_none _ _ _ c.new-tape.ensures.empty c.new-tape.ensures.going) in
     let looked = r.low.3 (O.written c.args.out.now) (O.faults c.args.out.now) _ opened in (
       text ++ ends,
@@ -62,10 +48,10 @@ returns-clause-record g c = λ low_on high_on.
       r.low.2,
       record {
         made = made;
-        looks = subst (λ (seed : ℕ). AreRaceLooks seed made) r.seed (looks_are LowStands shape_low low made a);
+        looks = subst (λ (seed : ℕ). AreRaceLooks seed made) r.seed (looks_are LowEndStands low_shape low made a);
         readings_are = refl;
         printed = subst (λ (z : ℕ × ℕ × List ℕ). ArePrinted z.0 z.1 z.2 (moments_of made) (recorded made)) (λ i. (r.seed i, r.high_count i, ap (λ t. t.items) r.times i))
-            (printed_by_both LowStands shape_low low made a HighStands high b done all same fits.agrees);
+            (printed_by_both LowEndStands low_shape low made a HighEndStands high b done all same fits.agrees);
         bytes_are = ap (λ (z : List ℕ × ℕ × ℕ × ℕ × ℕ). text ++ end_lines (turns z.0 z.1) z.2 z.3 z.4)
             (λ i. ((times_are ∙ ap (λ t. t.items) r.times) i, r.high_count i, (took_is ∙ r.high_count) i, (next_is ∙ r.high_count) i, (gone_is ∙ r.high_count) i));
       },
@@ -88,7 +74,7 @@ returns-clause-cut_short g c = λ stopped.
       r.low.2,
       record {
         made = made;
-        looks = subst (λ (seed : ℕ). AreRaceLooks seed made) r.seed (looks_are LowStands shape_low low made a);
+        looks = subst (λ (seed : ℕ). AreRaceLooks seed made) r.seed (looks_are LowEndStands low_shape low made a);
         readings_are = refl;
         bytes_are = append-nil text;
       },
@@ -105,13 +91,13 @@ returns-clause-disks g c = λ low_on high_on.
     let (b, all) = r.high_ended high_on in
     let same : low.count ≡ high.count = r.low_count ∙ c.requires.count ∙ sym r.high_count in
     let stands = b.fitting.0 in
-    let shape : high_shape high.ends.0 ≡ shape_of_row generated_row = r.high_shape ∙ c.requires.shape in
+    let shape : high_shape high.ends ≡ shape_of_row generated_row = r.high_shape ∙ c.requires.shape in
     let fits : Fits (shape_of_row generated_row) a.low b.high = subst (λ (s : Shape). Fits s a.low b.high) shape
     (c.rejoin.ensures.lawful a.low b.high a.fitting.0 (record { is = stands.is; taken = stands.taken; times = stands.times; taken_before = stands.taken_before; tries = stands.tries })) in
-    let next_is = low_count_is LowStands shape_low low made a HighStands high b done all same fits.agrees ∙ r.high_count in
-    let removed_is = high_count_is LowStands shape_low low made a HighStands high b done all same fits.agrees ∙ r.high_count in
+    let next_is = low_count_is LowEndStands low_shape low made a HighEndStands high b done all same fits.agrees ∙ r.high_count in
+    let removed_is = high_count_is LowEndStands low_shape low made a HighEndStands high b done all same fits.agrees ∙ r.high_count in
     let messages : b.received ≡ payloads c.args.low.seed c.args.high.count =
-    received_by_both LowStands shape_low low made a HighStands high b done all same fits.agrees ∙ ap (λ (z : ℕ × ℕ). payloads z.0 z.1) (λ i. (r.seed i, r.high_count i)) in
+    received_by_both LowEndStands low_shape low made a HighEndStands high b done all same fits.agrees ∙ ap (λ (z : ℕ × ℕ). payloads z.0 z.1) (λ i. (r.seed i, r.high_count i)) in
     let store = a.store a.up in
     record {
       low_stands = subst (λ (z : SessionRow × ℕ × Plain). StandsForCount z.0 z.1 z.2.bytes) (λ i. ((store.row ∙ a.row) i, (store.count ∙ next_is) i, sym c.into_disk.ensures i)) (store.ready.stands tt);
@@ -127,10 +113,10 @@ returns-clause-asked_low g c =
     let a = r.low.1 in
     record {
       made = made;
-      looks = subst (λ (seed : ℕ). AreRaceLooks seed made) r.seed (looks_are LowStands shape_low low made a);
+      looks = subst (λ (seed : ℕ). AreRaceLooks seed made) r.seed (looks_are LowEndStands low_shape low made a);
       readings = r.low.2;
       asked = r.low.4;
-      ended = λ on. all_acked LowStands shape_low low made a (r.low_ended on) ∙ r.low_count;
+      ended = λ on. all_acked LowEndStands low_shape low made a (r.low_ended on) ∙ r.low_count;
     }
 
 pub returns-clause-asked_high : goal.returns-clause-asked_high

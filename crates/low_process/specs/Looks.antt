@@ -55,6 +55,10 @@ last_of p = p.last
 abbrev pub IsBetweenLooks : LowProcess → Type 0
 IsBetweenLooks p = p.asking ≡ AsksNothing
 
+-- what stands in the hand, be it a message or what was there before
+abbrev pub item_in_hand : LowProcess → Item
+item_in_hand p = p.hand
+
 abbrev pub is_down_in : Phase → Bool
 is_down_in Down = true
 is_down_in _ = false

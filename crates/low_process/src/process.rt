@@ -59,7 +59,7 @@ impl LowProcess {
     ghost use Rattle.low_process.specs.declared.values.Asking.TheVariants.{Forward as AsksForward};
     ghost use Rattle.pump_core.specs.Replies.{Sent, LowReplies};
     ghost use Rattle.pump_core.specs.ReplyFrames.{frame_of, IsLawfulReply};
-    ghost use Rattle.low_process.specs.Looks.{state_of, look_of, arrival_of, opening_of, IsLawful, IsHand, StandsFor, Asks, AsksFor, IsAnswerTo, AnswersTo, Tells, Looks, HandBegins, IsBetweenLooks, row_of, next_of, last_of, is_down, is_idle, owes, hand_of, hand_passed};
+    ghost use Rattle.low_process.specs.Looks.{state_of, look_of, arrival_of, opening_of, IsLawful, IsHand, StandsFor, Asks, AsksFor, IsAnswerTo, AnswersTo, Tells, Looks, HandBegins, IsBetweenLooks, row_of, next_of, last_of, is_down, is_idle, owes, hand_of, item_in_hand, hand_passed};
     ghost use Rattle.low_process.specs.Steps.{Stepped, StepBegins};
     ghost use Rattle.low_process.specs.Storing.{message_in, wants};
     ghost use Rattle.low_process.specs.Ends.{number_offered};
@@ -471,10 +471,10 @@ impl LowProcess {
     }
 
     // The message in the hand.
-    pub(crate) fn item(&self) -> Item
-        ensures { result ≡ self.now.hand }
+    pub(crate) fn item(&self) -> &Item
+        ensures { result.now ≡ item_in_hand self.now }
     {
-        self.hand
+        &self.hand
     }
 
     // The whole of what is asked.
@@ -484,7 +484,7 @@ impl LowProcess {
     {
         match asked {
             AskHead::Done => Ask::Done(self.whole(head)),
-            AskHead::Forward => Ask::Forward(self.item()),
+            AskHead::Forward => Ask::Forward(*self.item()),
             AskHead::Average => Ask::Average,
         }
     }

@@ -2,7 +2,7 @@ ghost use Rattle.std.specs.Prelude.{◌≡◌, ◌≤◌, ◌⊎◌, ℕ, true, 
 ghost use Rattle.pump_frame.specs.Counts.{Rose};
 ghost use Rattle.pump_link.specs.Tells.{Draws, Grows};
 ghost use Rattle.pump_core.specs.Passage.{shape_of_row};
-ghost use Rattle.passage.specs.QueueEnds.{LowEndStands, HighEndStands, low_place, high_place, low_shape, high_shape};
+ghost use Rattle.relay_ring.specs.RingEnds.{LowEndStands, HighEndStands, low_place, high_place, low_shape, high_shape};
 ghost use Rattle.low_process.specs.Looks.{last_of};
 ghost use Rattle.high_process.specs.States.{removed_of};
 ghost use Rattle.script_reader.specs.Generated.{generated_row};
@@ -18,9 +18,10 @@ use crate::new_disks::{new_high, new_low, new_receiver};
 use crate::running::run_halves;
 use crate::tape::{Ending, Tape};
 use disk_model::PlainDisk;
-use passage::{QueueHigh, QueueLow, QueuePassage};
+use passage::Calm;
 use pump_frame::OutOfMemory;
 use pump_link::{Clock, Sink};
+use relay_ring::{RingHigh, RingLow, RingPassage};
 use relay_threads::Gate;
 use script_reader::{Generator, generated_row};
 use std::alloc::Global;
@@ -50,19 +51,19 @@ fn race_halves<
     H: Gate + Send,
 >(
     rt: &R,
-    mut low: LowHalf<QueueLow<'_>>,
-    mut high: HighHalf<QueueHigh<'_>>,
+    mut low: LowHalf<Calm<RingLow<'_>>>,
+    mut high: HighHalf<Calm<RingHigh<'_>>>,
     low_clock: &mut K,
     out: &mut O,
     low_gate: &mut G,
     high_gate: &mut H,
 ) -> RaceEnd
-    requires low { LowRests LowEndStands low_shape low [] }
+    requires low { LowRests (λ end. LowEndStands end.0) (λ end. low_shape end.0) low [] }
     requires last { last_of low.process ≡ 0 }
-    requires high { HighAt HighEndStands false high }
+    requires high { HighAt (λ end. HighEndStands end.0) false high }
     requires none_removed { removed_of high.process ≡ 0 }
-    requires place { low_place low.ends ≡ high_place high.ends }
-    requires shape { high_shape high.ends ≡ shape_of_row generated_row }
+    requires place { low_place low.ends.0 ≡ high_place high.ends.0 }
+    requires shape { high_shape high.ends.0 ≡ shape_of_row generated_row }
     requires count { low.count ≡ high.count }
     ensures record { result.low_stopped ≡ false → result.high_stopped ≡ false → (bytes readings : List ℕ) × (asks : List (ℕ × ℕ))
         × Written result.write_failed (O.written out.old) (O.written out.new) (O.faults out.old) (O.faults out.new) bytes
@@ -100,7 +101,7 @@ fn race_halves<
         count,
         ..
     } = high;
-    QueuePassage::rejoin(rt, low_end, high_end);
+    RingPassage::rejoin(low_end.0, high_end.0);
     let ending = Ending {
         times: times.as_slice(),
         count,
@@ -174,10 +175,10 @@ pub fn race_with<
     let low_store = new_low(alloc, &row)?;
     let high_store = new_high(alloc, &row)?;
     let receiver = new_receiver(alloc, &row, count)?;
-    let mut passage = QueuePassage::new(alloc, &row)?;
-    let (low_end, high_end) = passage.ends(rt);
+    let mut passage = RingPassage::new(alloc, &row)?;
+    let (low_end, high_end) = passage.ends();
     let script = Generator::new(seed, count);
-    let low = LowHalf::start(low_end, low_store, &row, script, seed, count);
-    let high = HighHalf::start(high_end, high_store, receiver, &row, times, count);
+    let low = LowHalf::start(Calm(low_end), low_store, &row, script, seed, count);
+    let high = HighHalf::start(Calm(high_end), high_store, receiver, &row, times, count);
     Ok(race_halves(rt, low, high, low_clock, out, low_gate, high_gate))
 }

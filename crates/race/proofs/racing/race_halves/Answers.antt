@@ -6,8 +6,11 @@ use Rattle.stable_buffer.specs.Low.{StandsForCount}
 use Rattle.stable_buffer.specs.Stands.{HighStands as HighDiskStands}
 use Rattle.stable_buffer.specs.Log.{RecvStands}
 use Rattle.pump_link.specs.Tells.{Grows}
-use Rattle.pump_core.specs.Passage.{Shape, shape_of_row, Fits}
-use Rattle.passage.specs.QueueEnds.{high_shape, LowEndStands, HighEndStands, low_shape}
+use Rattle.pump_core.specs.Passage.{Shape, Low, High, shape_of_row, Fits}
+use Rattle.passage.specs.declared.waiting.Calm.{Calm}
+use Rattle.relay_ring.specs.RingEnds as ring
+use Rattle.relay_ring.specs.declared.ends.RingLow.{RingLow}
+use Rattle.relay_ring.specs.declared.ends.RingHigh.{RingHigh}
 use Rattle.script_reader.specs.Generated.{generated_row}
 use Rattle.relay_threads.specs.Records.{recorded}
 use Rattle.relay_threads.specs.RecordLines.{record_text}
@@ -18,6 +21,19 @@ use Rattle.race.specs.Turns.{turns, AsksHigh, asks_of, asks_in_run}
 use Rattle.race.proofs.Finish.{looks_are, all_acked, printed_by_both, received_by_both, low_count_is, high_count_is, recv_count_is}
 use Rattle.race.proofs.Tapes.{keeps_none, either}
 use Rattle.race.proofs.racing.race_halves.Goals as goal
+
+-- what the ends of the ring mean where they are given as ends that may wait
+abbrev LowEndStands : Calm RingLow → Low → High → Type 0
+LowEndStands end = ring.LowEndStands end.0
+
+abbrev HighEndStands : Calm RingHigh → Low → High → Type 0
+HighEndStands end = ring.HighEndStands end.0
+
+abbrev low_shape : Calm RingLow → Shape
+low_shape end = ring.low_shape end.0
+
+abbrev high_shape : Calm RingHigh → Shape
+high_shape end = ring.high_shape end.0
 
 pub returns-clause-record : goal.returns-clause-record
 returns-clause-record g c = λ low_on high_on.

@@ -12,14 +12,6 @@ use stable_buffer::format;
 use std::alloc::Global;
 use std::test::Fail;
 
-// One message on its whole way.
-const SCRIPT: [&str; 4] = [
-    "look 1 10 00000000 hello weather watch",
-    "look 1 100 00000000 data 0 61",
-    "look 1 100 00000000",
-    "done 1 120 50",
-];
-
 // What a crash makes of a call that was not synced, and whether its selector byte is then an odd one,
 // which selects the new value.
 const OUTCOMES: [(Outcome, bool); 5] = [
@@ -123,13 +115,19 @@ fn opened(alloc: Global, failing: Role, number: u64) -> Result<Option<Pump<MemDi
     Ok(Pump::open(alloc, &row, low, high, recv).ok())
 }
 
-// Plays the script over such a pump.
+// One message goes its whole way through such a pump.
 fn run(alloc: Global, failing: Role, number: u64) -> Result<Option<Ended>, Fail> {
     let Some(mut pump) = opened(alloc, failing, number)? else {
         return Ok(None);
     };
+    let script = [
+        "look 1 10 00000000 hello weather watch",
+        "look 1 100 00000000 data 0 61",
+        "look 1 100 00000000",
+        "done 1 120 50",
+    ];
     let mut printed = Vec::new(alloc);
-    let stop = play(&mut pump, &SCRIPT, &mut printed)?;
+    let stop = play(&mut pump, &script, &mut printed)?;
     let (low, high, recv) = pump.close();
     Ok(Some(Ended {
         printed,

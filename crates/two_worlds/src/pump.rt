@@ -10,8 +10,6 @@ mod readied;
 mod reopen;
 mod restart;
 mod state;
-#[cfg(test)]
-mod stop_tests;
 mod surveying;
 #[cfg(test)]
 mod tests;

@@ -1,7 +1,6 @@
-use Rattle.std.proofs.Common.{refl, rules}
+use Rattle.std.proofs.Common.{rules, refl, sym, ◌∙◌}
 use Rattle.command_line.specs.declared.command.Command.TheVariants as commands
 use Rattle.netpump.proofs.Asked.{read_words, not_command, same_command, formats_asked, formats_nothing, shows_asked, shows_nothing, exercise_asked}
-use Rattle.script_replay.proofs.ByStatus.{ends_by_status}
 use Rattle.netpump.proofs.batch.batch.Goals as goal
 
 pub returns-in-Format-clause-format : goal.returns-in-Format-clause-format
@@ -42,3 +41,6 @@ returns-in-Err-NoCommand-clause-exercise g c = λ seed count words.
 pub returns-in-Err-NoCommand-clause-replay : goal.returns-in-Err-NoCommand-clause-replay
 returns-in-Err-NoCommand-clause-replay g c = λ replay.
     absurd (not_command commands.Replay ((rw c.in-Err-NoCommand.field-0-is at c.in-Err-NoCommand.ensures.command) commands.Replay (read_words _ _ commands.Replay c.as_slice.ensures.value (tt, replay))))
+
+pub returns-clause-device : goal.returns-clause-device
+returns-clause-device g c = λ is. c.replay.ensures.device (sym c.status-2.ensures.is ∙ is)

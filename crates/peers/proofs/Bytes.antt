@@ -1,7 +1,7 @@
 -- Bytes that are read ahead.
-use Rattle.std.proofs.Common.{◌≡◌, ℕ, ◌+◌, ◌-◌, ◌<◌, ◌≤◌, List, [], ◌∷◌, ◌++◌, Option, Some, None, length, take, drop, get_or, refl, sym, ap, ◌∙◌, subst, arith, suc}
+use Rattle.std.proofs.Common.{◌≡◌, ℕ, ◌+◌, ◌-◌, ◌<◌, ◌≤◌, List, [], ◌∷◌, ◌++◌, Option, Some, None, length, take, drop, get_or, sym, ap, ◌∙◌, arith, suc}
 use Rattle.std.proofs.Math.Seq.{drop-cons}
-use Rattle.std.specs.Io.KnownBytes.{prepend_known, Consumes, IsAtEnd}
+use Rattle.std.specs.Io.KnownBytes.{prepend_known, Consumes}
 
 -- what is held begins with the byte at the start
 pub held_is : (cells : List ℕ) (start end : ℕ) → start < end → end ≤ length cells → take (end - start) (drop start cells) ≡ get_or cells start 0 ∷ take (end - (start + 1)) (drop (start + 1) cells)

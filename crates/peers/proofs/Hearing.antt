@@ -3,8 +3,8 @@ use Rattle.std.proofs.Common.{◌≡◌, ℕ, ◌+◌, ◌≤◌, List, [], ◌�
 use Rattle.pump_frame.specs.declared.frame.Frame.{Frame}
 use Rattle.pump_frame.specs.declared.reader.Fed.{Fed}
 use Rattle.pump_frame.specs.declared.reader.Fed.TheVariants.{More, Whole, Bad}
-use Rattle.pump_frame.specs.Spellings.{spelling, BeginsSpelling, IsPartial}
-use Rattle.pump_frame.specs.Readings.{Reading, Within, Stopped, HasBegun}
+use Rattle.pump_frame.specs.Spellings.{spelling, IsPartial}
+use Rattle.pump_frame.specs.Readings.{Reading, Within, Stopped}
 use Rattle.pump_frame.specs.Streams.{Feeds, IsStream}
 use Rattle.pump_frame.specs.Counts.{Rose}
 use Rattle.pump_frame.proofs.Streams.{nothing_partial, reads_both, reads_stream, stream_reads}
@@ -12,7 +12,7 @@ use Rattle.pump_link.specs.Tells.{Draws}
 use Rattle.pump_link.specs.declared.link.Looked.{Looked}
 use Rattle.pump_link.specs.declared.link.Looked.TheVariants.{Byte, NotYet, Ended, Failed}
 use Rattle.pump_link.proofs.Grown.{Draws-nil, Draws-then}
-use Rattle.peers.specs.Looks.{bytes_in, AreCalm, Hears, HearsJust, EndsAt, IsBad, IsOver}
+use Rattle.peers.specs.Looks.{bytes_in, AreCalm, Hears, HearsJust, EndsAt, IsOver}
 
 pub bytes_append : (xs ys : List Looked) → bytes_in (xs ++ ys) ≡ bytes_in xs ++ bytes_in ys
 bytes_append [] ys = refl

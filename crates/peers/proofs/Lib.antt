@@ -1,6 +1,8 @@
 pub mod Asking
 pub mod Bytes
+pub mod Comparing
 pub mod Hearing
+pub mod OneReception
 pub mod Outgoing
 pub mod PayloadLaws
 pub mod SendingLines

@@ -1,5 +1,5 @@
 -- Bytes that went out whole.
-use Rattle.std.proofs.Common.{◌≡◌, ℕ, Bool, true, List, [], ◌++◌, Option, subst}
+use Rattle.std.proofs.Common.{◌≡◌, ℕ, Bool, true, List, Option, subst}
 use Rattle.std.specs.Io.KnownBytes.{Appends}
 use Rattle.pump_link.specs.Tells.{Grows}
 use Rattle.peers.specs.Outputs.{SendsPart, PrintsPart}

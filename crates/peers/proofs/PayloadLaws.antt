@@ -1,5 +1,5 @@
 -- Lines of a sender's script, and bytes that begin with none.
-use Rattle.std.proofs.Common.{◌≡◌, ◌≢◌, inl, inr, ℕ, zero, suc, ◌==◌, ◌+◌, ◌*◌, ◌<◌, ◌≤◌, Bool, true, false, List, [], ◌∷◌, ◌++◌, length, Option, Some, None, IfSome, refl, sym, ap, ◌∙◌, subst, append_assoc, append-nil, arith, length-append}
+use Rattle.std.proofs.Common.{◌≡◌, ◌≢◌, inl, inr, ℕ, zero, suc, ◌==◌, ◌<◌, ◌≤◌, false, List, [], ◌∷◌, ◌++◌, length, Option, Some, None, IfSome, sym, ap, ◌∙◌, subst, append_assoc, append-nil, arith, length-append}
 use Rattle.std.proofs.lemmas.Bool.{both_ways, eq-eqb}
 use Rattle.std.proofs.lemmas.List.Elements.{All-head, All-tail}
 use Rattle.std.specs.Io.KnownBytes.{Consumes, IsAtEnd}
@@ -9,7 +9,7 @@ use Rattle.script_reader.specs.Grammar.{IsHex}
 use Rattle.script_reader.specs.Lines.{is_end, IsUnended}
 use Rattle.script_reader.proofs.FieldLaws.{hex_again}
 use Rattle.script_reader.proofs.LineEnds.{one_front}
-use Rattle.peers.specs.Payloads.{IsPayload, IsFaulty}
+use Rattle.peers.specs.Payloads.{IsFaulty}
 
 ten_not : (b : ℕ) → is_end b ≡ false → b ≡ 10 → ⊥
 ten_not b h e = both_ways (is_end b) h (eq-eqb b 10 e)

@@ -1,5 +1,5 @@
 -- What a receiver does with a message, and what its disk then stands for.
-use Rattle.std.proofs.Common.{◌≡◌, ◌⊎◌, inl, inr, ℕ, ◌+◌, ◌<◌, ◌≤◌, Bool, true, false, cond, ltb, List, [], ◌∷◌, ◌++◌, length, Option, Some, None, IfSome, IfErr, Result, Ok, Err, refl, sym, ap, ◌∙◌, subst, append_assoc, append-nil, arith}
+use Rattle.std.proofs.Common.{◌≡◌, ◌⊎◌, inl, inr, ℕ, ◌+◌, ◌<◌, ◌≤◌, Bool, true, false, cond, ltb, List, [], ◌∷◌, ◌++◌, length, Some, None, IfSome, Result, Ok, Err, refl, sym, ap, ◌∙◌, subst, append_assoc, append-nil, arith}
 use Rattle.std.proofs.lemmas.Bool.{ltb-true, ltb-false}
 use Rattle.disk_model.specs.Disk.{Meaning, Settled, Leaves, Moves}
 use Rattle.pump_frame.specs.Counts.{Rose}
@@ -14,9 +14,9 @@ use Rattle.high_receiver.specs.declared.values.Taken.TheVariants as outcome
 use Rattle.high_receiver.specs.declared.values.TakeFault.{TakeFault}
 use Rattle.high_receiver.specs.declared.values.TakeFault.TheVariants as fault
 use Rattle.high_receiver.specs.Steps.{MayTake, TakesMessage}
-use Rattle.high_receiver.specs.Receiving.{IsRecvReady, Stores, answer_at_once, is_device, recv_disk, recv_count, recv_end, recv_row, recv_size, recv_is_open}
+use Rattle.high_receiver.specs.Receiving.{IsRecvReady, Stores, answer_at_once, recv_disk, recv_count, recv_end, recv_row, recv_size, recv_is_open}
 use Rattle.peers.specs.Outputs.{plain_frame}
-use Rattle.peers.specs.Receiving.{Turn, Passed, Took, Again, IsNext, place_of, frame_in, answer_in, line_in, taken_line, is_wanted, StandsForFront}
+use Rattle.peers.specs.Receiving.{Turn, Took, Again, IsNext, place_of, frame_in, answer_in, line_in, taken_line, is_wanted, StandsForFront}
 use Rattle.peers.specs.Takes.{LeavesFront, GrowsBy, GrowsPart, MakesTurn}
 
 -- ---- disks ----

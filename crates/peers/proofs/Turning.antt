@@ -1,5 +1,5 @@
 -- Turns of a receiver, one after another.
-use Rattle.std.proofs.Common.{◌≡◌, ◌≤◌, ◌<◌, inl, inr, ℕ, ◌+◌, Bool, true, false, List, [], ◌∷◌, ◌++◌, length, Option, Some, None, refl, sym, ap, ◌∙◌, subst, append_assoc, append-nil, arith, length-append}
+use Rattle.std.proofs.Common.{◌≡◌, ◌≤◌, ◌<◌, inl, inr, ℕ, ◌+◌, Bool, true, false, List, [], ◌∷◌, ◌++◌, length, Option, Some, None, refl, sym, ap, ◌∙◌, subst, append-nil, arith, length-append}
 use Rattle.std.specs.Io.KnownBytes.{Appends}
 use Rattle.std.proofs.KnownBytes.{Appends-nil, Appends-trans}
 use Rattle.disk_model.specs.Disk.{Meaning}
@@ -10,13 +10,13 @@ use Rattle.pump_frame.specs.declared.row.SessionRow.{SessionRow}
 use Rattle.pump_frame.specs.Spellings.{spelling}
 use Rattle.pump_link.specs.Tells.{Draws, Grows}
 use Rattle.pump_link.specs.declared.link.Looked.{Looked}
-use Rattle.pump_link.proofs.Grown.{Draws-kept, Draws-then, Grows-kept, Grows-then}
+use Rattle.pump_link.proofs.Grown.{Draws-then, Grows-kept, Grows-then}
 use Rattle.high_receiver.specs.declared.receiver.Receiver.{Receiver}
 use Rattle.high_receiver.specs.Receiving.{IsRecvReady, recv_disk, recv_count, recv_end, recv_row, recv_size, recv_is_open}
 use Rattle.peers.specs.declared.receive.ReceiveEnd.{ReceiveEnd}
 use Rattle.peers.specs.declared.receive.ReceiveEnd.TheVariants.{Ended, Looks, Write, Device, Ahead, LogFull}
 use Rattle.peers.specs.Looks.{Hears, HearsJust, IsOver}
-use Rattle.peers.specs.Outputs.{Counts, IsFront, SendsPart, plain_frame}
+use Rattle.peers.specs.Outputs.{Counts, SendsPart, plain_frame}
 use Rattle.peers.specs.Receiving.{Turn, Place, IsTurn, AreTurns, place_of, place_by, place_after, frame_in, frames, messages, message_in, answer_in, line_in, lines, sendings, is_wanted, IsNext, Refuses, Reception, Receives, EndsBy, KeepsReceiver, attempted, is_device}
 use Rattle.peers.specs.Takes.{Step, TakesFrame, MakesTurn, GrowsBy, GrowsPart}
 use Rattle.peers.proofs.Hearing.{hears_none, just_join, over_earlier}
@@ -234,8 +234,7 @@ module _ {D : Type 0} (m : Meaning D) (row : SessionRow) (most left left' : ℕ)
       refused_ends f (counts a now_link c now_out old) (Ahead number count) ready same refl refl
       (f, refuses f hears wanted, subst (λ (p : Place). p.count < f.number) here high, is, expected ∙ ap (λ (p : Place). p.count) here) x.sent x.printed no_sent no_printed sends prints
   frame_ends f x a b now_link c d now_out (LogFull end size limit) ready hears low out_low ((wanted, same), is, long, at, of, most_is, (no_sent, no_printed)) sends prints =
-      refused_ends f (counts a now_link c now_out old) (LogFull end size limit) ready same refl refl
-      (
+      refused_ends f (counts a now_link c now_out old) (LogFull end size limit) ready same refl refl (
         f,
         refuses f hears wanted,
         is ∙ ap (λ (p : Place). p.count) here,

@@ -1,5 +1,5 @@
 -- The lines of a sender's script: one payload each, in hexadecimal digits.
-use Rattle.std.specs.Prelude.{◌≡◌, ◌≢◌, ℕ, List, [], ◌∷◌, ◌++◌, Option, IfSome}
+use Rattle.std.specs.Prelude.{◌≢◌, ℕ, ◌≤◌, List, [], ◌∷◌, ◌++◌, length, Option, IfSome}
 use Rattle.std.specs.Io.KnownBytes.{Consumes, IsAtEnd}
 use Rattle.script_reader.specs.Grammar.{IsHex}
 use Rattle.script_reader.specs.Lines.{IsUnended}
@@ -28,5 +28,9 @@ IsNextPayload old new payload lined.Failed = Unit {0}
 -- .. and a reader of bytes
 abbrev pub IsNextByte : Option (List ℕ) → Option (List ℕ) → NextByte → Type 0
 IsNextByte old new (next.Byte byte) = Consumes old new (byte ∷ [])
-IsNextByte old new next.End = IsAtEnd old
-IsNextByte old new next.Failed = Unit {0}
+IsNextByte old new next.End = IsAtEnd old × Consumes old new []
+IsNextByte old new next.Failed = Consumes old new []
+
+-- so many bytes at most were taken
+abbrev pub TakesAtMost : ℕ → Option (List ℕ) → Option (List ℕ) → Type 0
+TakesAtMost most old new = (taken : List ℕ) × Consumes old new taken × (length taken ≤ most)

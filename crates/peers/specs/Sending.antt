@@ -1,5 +1,5 @@
 -- What Low's sender does on a connection.
-use Rattle.std.specs.Prelude.{◌≡◌, ◌≢◌, ◌⊎◌, ℕ, ◌+◌, ◌-◌, ◌^◌, ◌<◌, ◌≤◌, ◌==◌, ◌&&◌, min, Bool, true, false, List, [], ◌∷◌, ◌++◌, length, slice_index, codes, decimal, Option, Some, None, IfSome}
+use Rattle.std.specs.Prelude.{◌≡◌, ◌⊎◌, ℕ, ◌+◌, ◌-◌, ◌^◌, ◌<◌, ◌≤◌, ◌==◌, ◌&&◌, min, Bool, true, false, List, [], ◌∷◌, ◌++◌, length, slice_index, codes, decimal, Option, IfSome}
 use Rattle.std.specs.List.{AllByRecursion}
 use Rattle.std.specs.Io.KnownBytes.{Consumes, IsAtEnd}
 use Rattle.pump_frame.specs.Counts.{Rose}
@@ -18,7 +18,7 @@ use Rattle.peers.specs.declared.send.SendEnd.{SendEnd}
 use Rattle.peers.specs.declared.send.SendEnd.TheVariants.{Done, Read, Write, Script, Refused, Unfinished}
 use Rattle.peers.specs.Looks.{Hears, HearsJust, IsOver}
 use Rattle.peers.specs.Outputs.{Counts, IsFront}
-use Rattle.peers.specs.Payloads.{IsPayload, IsFaulty}
+use Rattle.peers.specs.Payloads.{IsPayload, IsFaulty, TakesAtMost}
 
 -- ---- one frame that is sent, and its answer ----
 
@@ -164,6 +164,7 @@ MessageEnds f last n end = AskEnds f.session f (wanted.Ack f.number) f.number la
 -- what is to come of the script begins with the line of a message that is to be sent, and it ended the call
 pub record LineEnds (session first number : ℕ) (rest : Option (List ℕ)) (last : Last) (n : Counts) (end : SendEnd) : Type 0 where
   pub below : first ≤ number
+  pub few : number < 2 ^ 32 - 1
   pub payload : List ℕ
   pub line : List ℕ
   pub is : IsPayload payload line
@@ -188,13 +189,15 @@ pub data Sending : Type 0 where
   Ungreeted : (last : Last) → Sending
   Greeted : (wait : Wait) (welcome : Frame) (turns : List Turn) (last : Last) → Sending
 
--- the call, with so many looks at most, over a script of which `all` was to come
-abbrev pub Sends : SessionRow → ℕ → Option (List ℕ) → Sending → Counts → SendEnd → Type 0
-Sends row most all (Ungreeted last) n end = AskEnds row.id (hello_frame row) wanted.Welcome 0 last n end × (most ≡ last.left + length last.wait.looks)
-Sends row most all (Greeted wait welcome turns last) n end = Answers row.id wanted.Welcome wait welcome
-    × AreTurns row.id welcome.number turns
+-- The call, with so many looks at most: `all` was to come of the script before it, and `left` after it. It read at most a line and 4,096
+-- bytes ahead.
+abbrev pub Sends : SessionRow → ℕ → Option (List ℕ) → Option (List ℕ) → Sending → Counts → SendEnd → Type 0
+Sends row most all left (Ungreeted last) n end = AskEnds row.id (hello_frame row) wanted.Welcome 0 last n end
+    × (most ≡ last.left + length last.wait.looks) × TakesAtMost 0 all left
+Sends row most all left (Greeted wait welcome turns last) n end = Answers row.id wanted.Welcome wait welcome
+    × AreTurns row.id welcome.number turns × (length turns < 2 ^ 32)
     × (most ≡ last.left + length (wait.looks ++ (looks_of turns ++ last.wait.looks)))
-    × (rest : Option (List ℕ)) × Consumes all rest (lines turns)
+    × (rest : Option (List ℕ)) × Consumes all rest (lines turns) × TakesAtMost 6145 rest left
     × EndsBy row.id welcome.number (length turns) rest last n end
 
 abbrev pub all_looks : Sending → List Looked

@@ -1,5 +1,5 @@
 -- What becomes of one frame at a receiver. Only clauses of private functions name these.
-use Rattle.std.specs.Prelude.{◌≡◌, ◌⊎◌, ℕ, ◌<◌, ◌≤◌, ◌+◌, Bool, true, false, List, [], ◌∷◌, ◌++◌, length, Option, Some, None}
+use Rattle.std.specs.Prelude.{◌≡◌, ◌⊎◌, ℕ, ◌<◌, ◌≤◌, ◌+◌, true, false, List, [], ◌∷◌, ◌++◌, length, Option, Some, None}
 use Rattle.disk_model.specs.Disk.{Meaning}
 use Rattle.stable_buffer.specs.Log.{RecvStands}
 use Rattle.pump_frame.specs.Counts.{Rose}
@@ -10,7 +10,7 @@ use Rattle.high_receiver.specs.Receiving.{IsRecvReady, recv_disk, recv_row, recv
 use Rattle.peers.specs.declared.receive.ReceiveEnd.{ReceiveEnd}
 use Rattle.peers.specs.declared.receive.ReceiveEnd.TheVariants.{Ended, Looks, Write, Device, Ahead, LogFull}
 use Rattle.peers.specs.Outputs.{Counts, IsFront}
-use Rattle.peers.specs.Receiving.{Turn, IsTurn, IsNext, Place, place_of, place_by, frame_in, message_in, answer_in, line_in, is_wanted, StandsForFront}
+use Rattle.peers.specs.Receiving.{Turn, IsTurn, IsNext, place_of, place_by, frame_in, message_in, answer_in, line_in, is_wanted, StandsForFront}
 
 -- what a crash at some moment since an earlier one may have left: what it might before, or a front of these messages more
 abbrev pub LeavesFront : {D : Type 0} → Meaning D → SessionRow → D → D → List (List ℕ) → Type 0

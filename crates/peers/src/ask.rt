@@ -34,8 +34,7 @@ fn is_wanted(session: u32, wanted: Wanted, frame: &Frame) -> bool
     match wanted {
         Wanted::Welcome => frame.session == session && matches!(frame.kind, Kind::Welcome),
         Wanted::Ack(number) => {
-            frame.session == session
-                && (matches!(frame.kind, Kind::Ack) && frame.number == number)
+            frame.session == session && (matches!(frame.kind, Kind::Ack) && frame.number == number)
         }
     }
 }

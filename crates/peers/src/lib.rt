@@ -3,12 +3,14 @@
 #![tactic(auto)]
 
 mod ask;
+mod laws;
 mod looks;
 mod outputs;
 mod payload_lines;
 mod receive;
 mod send;
 
+pub use laws::receptions_are_one;
 pub use receive::{ReceiveEnd, receive_with};
 pub use send::{SendEnd, send_with};
 

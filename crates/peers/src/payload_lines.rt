@@ -2,7 +2,7 @@ ghost use Rattle.std.specs.Prelude.{◌≡◌, ℕ, ◌+◌, ◌-◌, ◌*◌, �
 ghost use Rattle.std.specs.Io.KnownBytes.{prepend_known, Consumes, IsAtEnd};
 ghost use Rattle.pump_frame.specs.Counts.{Rose};
 ghost use Rattle.script_reader.specs.Parsing.{hex};
-ghost use Rattle.peers.specs.Payloads.{IsNextByte, IsNextPayload};
+ghost use Rattle.peers.specs.Payloads.{IsNextByte, IsNextPayload, TakesAtMost};
 
 use arrayvec::ArrayVec;
 use pump_frame::Payload;
@@ -85,6 +85,7 @@ impl PayloadLines {
 
     fn next_byte<I: Source>(&mut self, script: &mut I) -> NextByte
         ensures byte { IsNextByte (prepend_known self.old (I.left script.old)) (prepend_known self.new (I.left script.new)) result }
+        ensures ahead { length self.new ≤ 4096 }
         ensures later { I.faults script.old ≤ I.faults script.new }
         ensures failed { result ≡ NextByte.Failed → Rose (I.faults script.old) (I.faults script.new) }
     {
@@ -105,6 +106,8 @@ impl PayloadLines {
     /// Sets the payload to that of the next line. After any answer but `Payload` nothing is said of it.
     pub fn next<I: Source>(&mut self, script: &mut I, payload: &mut Payload) -> Lined
         ensures next { IsNextPayload (prepend_known self.old (I.left script.old)) (prepend_known self.new (I.left script.new)) payload.new result }
+        ensures taken { TakesAtMost 2049 (prepend_known self.old (I.left script.old)) (prepend_known self.new (I.left script.new)) }
+        ensures ahead { length self.new ≤ 4096 }
         ensures later { I.faults script.old ≤ I.faults script.new }
         ensures failed { result ≡ Lined.Failed → Rose (I.faults script.old) (I.faults script.new) }
     {
@@ -125,7 +128,11 @@ impl PayloadLines {
                     line.push(byte);
                 }
                 NextByte::End => {
-                    return if line.is_empty() { Lined::End } else { Lined::Bad };
+                    return if line.is_empty() {
+                        Lined::End
+                    } else {
+                        Lined::Bad
+                    };
                 }
                 NextByte::Failed => return Lined::Failed,
             }

@@ -1,9 +1,10 @@
-ghost use Rattle.std.specs.Prelude.{◌≡◌, ℕ, ◌+◌, ◌≤◌, List, ◌++◌, length, Option, true, false};
+ghost use Rattle.std.specs.Prelude.{◌≡◌, ℕ, ◌+◌, ◌^◌, ◌<◌, ◌≤◌, List, ◌++◌, length, Option, true, false};
 ghost use Rattle.std.specs.Io.KnownBytes.{Appends, Consumes};
 ghost use Rattle.pump_frame.specs.Counts.{Rose};
 ghost use Rattle.pump_frame.specs.Frames.{IsLawful};
 ghost use Rattle.pump_link.specs.Tells.{Draws, Grows};
 ghost use Rattle.peers.specs.Outputs.{PrintsPart};
+ghost use Rattle.peers.specs.Payloads.{TakesAtMost};
 ghost use Rattle.peers.specs.Sending.{Turn, AreTurns, Last, EndsBy, Sending, Sends, ack_line, looks_of, sendings, printings, lines, all_looks, all_sent, all_printed};
 ghost use Rattle.peers.specs.Replies.{Sends as SendsMessage};
 
@@ -41,7 +42,8 @@ fn print_ack<O: Sink>(out: &mut O, number: u64) -> bool
     let mut buffer = Buffer::new();
     let mut line: ArrayVec<u8, 64> = ArrayVec::new();
     line.try_extend_from_slice(b"ack ").unwrap();
-    line.try_extend_from_slice(buffer.format(number).as_bytes()).unwrap();
+    line.try_extend_from_slice(buffer.format(number).as_bytes())
+        .unwrap();
     line.try_extend_from_slice(b"\n").unwrap();
     print(out, line.as_slice())
 }
@@ -89,9 +91,9 @@ fn send_lines<C: Link, I: Source, O: Sink>(
     out: &mut O,
 ) -> SendEnd
     ensures lines { (turns : List Turn) × (last : Last) × (rest : Option (List ℕ))
-        × AreTurns session first turns
+        × AreTurns session first turns × (length turns < 2 ^ 32)
         × (left.old ≡ last.left + length (looks_of turns ++ last.wait.looks))
-        × Consumes (I.left script.old) rest (lines turns)
+        × Consumes (I.left script.old) rest (lines turns) × TakesAtMost 6145 rest (I.left script.new)
         × EndsBy session first (length turns) rest last (record { link = C.faults link.old; now_link = C.faults link.new; out = O.faults out.old; now_out = O.faults out.new; other = I.faults script.old; now_other = I.faults script.new }) result
         × Draws (C.gives link.old) (C.gives link.new) (looks_of turns ++ last.wait.looks)
         × Grows (C.sent link.old) (C.sent link.new) (sendings session turns ++ last.sent)
@@ -142,7 +144,7 @@ pub fn send_with<C: Link, I: Source, O: Sink>(
     script: &mut I,
     out: &mut O,
 ) -> SendEnd
-    ensures sends { (x : Sending) × Sends row.now looks (I.left script.old) x (record { link = C.faults link.old; now_link = C.faults link.new; out = O.faults out.old; now_out = O.faults out.new; other = I.faults script.old; now_other = I.faults script.new }) result
+    ensures sends { (x : Sending) × Sends row.now looks (I.left script.old) (I.left script.new) x (record { link = C.faults link.old; now_link = C.faults link.new; out = O.faults out.old; now_out = O.faults out.new; other = I.faults script.old; now_other = I.faults script.new }) result
         × Draws (C.gives link.old) (C.gives link.new) (all_looks x)
         × Grows (C.sent link.old) (C.sent link.new) (all_sent row.now x)
         × Appends (O.written out.old) (O.written out.new) (all_printed x) }

@@ -12,18 +12,31 @@ use std::alloc::{AllocError, Global};
 use std::test::Fail;
 
 const HELLO: &[u8] = b"NP\x01\x01\0\0\0\x01\0\0\0\0\0\0\0\0\0\x0dweather:watch";
+
 const WELCOME_0: &[u8] = b"NP\x01\x02\0\0\0\x01\0\0\0\0\0\0\0\0\0\0";
+
 const WELCOME_1: &[u8] = b"NP\x01\x02\0\0\0\x01\0\0\0\0\0\0\0\x01\0\0";
+
 const DATA_0: &[u8] = b"NP\x01\x03\0\0\0\x01\0\0\0\0\0\0\0\0\0\x01a";
+
 const DATA_1: &[u8] = b"NP\x01\x03\0\0\0\x01\0\0\0\0\0\0\0\x01\0\x01a";
+
 const EMPTY_1: &[u8] = b"NP\x01\x03\0\0\0\x01\0\0\0\0\0\0\0\x01\0\0";
+
 const LONG_0: &[u8] = b"NP\x01\x03\0\0\0\x01\0\0\0\0\0\0\0\0\0\x09123456789";
+
 const OTHER_DATA_0: &[u8] = b"NP\x01\x03\0\0\0\x02\0\0\0\0\0\0\0\0\0\x01a";
+
 const ACK_0: &[u8] = b"NP\x01\x04\0\0\0\x01\0\0\0\0\0\0\0\0\0\0";
+
 const ACK_1: &[u8] = b"NP\x01\x04\0\0\0\x01\0\0\0\0\0\0\0\x01\0\0";
+
 const OTHER_ACK_0: &[u8] = b"NP\x01\x04\0\0\0\x02\0\0\0\0\0\0\0\0\0\0";
+
 const REFUSE_4: &[u8] = b"NP\x01\x05\0\0\0\x01\0\0\0\0\0\0\0\x01\0\x01\x04";
+
 const ATTACH_0: &[u8] = b"NP\x01\x06\0\0\0\x01\0\0\0\0\0\0\0\0\0\0";
+
 const TAKEN_0: &[u8] = b"NP\x01\x07\0\0\0\x01\0\0\0\0\0\0\0\0\0\0";
 
 // Session 1 of message size 8.

@@ -1,4 +1,4 @@
-use Rattle.std.proofs.Common.{◌≡◌, ◌∙◌, ◌++◌, ◌∷◌, [], refl, sym, arith, length-append, inl, inr}
+use Rattle.std.proofs.Common.{◌∙◌, ◌++◌, ◌∷◌, [], refl, sym, arith, length-append, inl, inr}
 use Rattle.pump_link.proofs.Grown.{Draws-nil, Draws-then, Grows-nil, Grows-kept}
 use Rattle.peers.specs.Sending.{IsPassed}
 use Rattle.peers.proofs.Asking.{all_snoc}

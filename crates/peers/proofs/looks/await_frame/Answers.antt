@@ -1,5 +1,5 @@
-use Rattle.std.proofs.Common.{◌≡◌, ◌≤◌, ◌+◌, ◌-◌, ◌++◌, ◌∷◌, length, arith, [], refl}
-use Rattle.pump_link.specs.declared.link.Looked.TheVariants.{Byte, NotYet, Ended, Failed}
+use Rattle.std.proofs.Common.{◌-◌, arith, [], refl}
+use Rattle.pump_link.specs.declared.link.Looked.TheVariants.{Byte, Ended, Failed}
 use Rattle.pump_link.proofs.Grown.{Grows-nil, Grows-then}
 use Rattle.peers.proofs.Hearing.{none_read, read_byte, read_nothing, heard, bad, ended, failed, more, longer, used}
 use Rattle.peers.proofs.looks.await_frame.Goals as goal

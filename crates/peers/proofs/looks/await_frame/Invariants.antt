@@ -1,4 +1,4 @@
-use Rattle.std.proofs.Common.{ℕ, ◌≤◌, []}
+use Rattle.std.proofs.Common.{◌≤◌, []}
 use Rattle.pump_link.specs.Tells.{Grows}
 use Rattle.peers.proofs.Hearing.{Reads}
 use Rattle.peers.proofs.looks.await_frame.Given as goal

@@ -1,4 +1,4 @@
-use Rattle.std.proofs.Common.{rules, ◌≡◌, ◌∙◌, ◌≤◌, [], refl, sym, arith, None}
+use Rattle.std.proofs.Common.{◌∙◌, ◌≤◌, arith, None}
 use Rattle.pump_link.proofs.Grown.{Draws-kept, Grows-after}
 use Rattle.peers.proofs.Outgoing.{whole_sent}
 use Rattle.peers.proofs.Turning.{so_far_none, turn_more, frame_ends, over_ends, used_ends, attach_fails}

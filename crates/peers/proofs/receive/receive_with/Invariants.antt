@@ -1,4 +1,4 @@
-use Rattle.std.proofs.Common.{ℕ, ◌≤◌}
+use Rattle.std.proofs.Common.{◌≤◌}
 use Rattle.peers.proofs.Turning.{SoFar}
 use Rattle.peers.proofs.receive.receive_with.Given as goal
 

@@ -1,7 +1,6 @@
-use Rattle.std.proofs.Common.{rules, ◌≡◌, ◌∙◌, [], ◌∷◌, refl, sym, ap, subst, true, false, Ok, Err}
+use Rattle.std.proofs.Common.{◌≡◌, ◌∙◌, [], refl, sym, true, false}
 use Rattle.std.proofs.KnownBytes.{Appends-nil}
 use Rattle.pump_link.proofs.Grown.{Grows-nil}
-use Rattle.high_receiver.specs.Receiving.{recv_disk}
 use Rattle.peers.specs.Receiving.{Passed, is_wanted}
 use Rattle.peers.proofs.Outgoing.{whole_sent, whole_printed}
 use Rattle.peers.proofs.Taking.{grows_nothing, take_case, case_of, turn_made, device_failed, ahead, log_full}

@@ -1,4 +1,4 @@
-use Rattle.std.proofs.Common.{◌≡◌, [], refl}
+use Rattle.std.proofs.Common.{[], refl}
 use Rattle.peers.proofs.SendingLines.{ungreeted, greeted}
 use Rattle.peers.proofs.send.send_with.Goals as goal
 
@@ -7,7 +7,7 @@ returns-in-Came g c =
     let e = c.hello-hello.ensures in
     let a = c.in-Came.ensures.asks in
     record {
-      sends = greeted c.args.row.now _ _ _ _ _ _ _ _ _ _ _ c.hello-hello.result a.2.0 a.0 c.in-Came.first a.1 _ _ _ _ _ _ _ _
+      sends = greeted c.args.row.now _ _ _ _ _ _ _ _ _ _ _ _ c.hello-hello.result a.2.0 a.0 c.in-Came.first a.1 _ _ _ _ _ _ _ _
           (λ i. record { kind = e.kind i; session = e.session i; number = e.number i; payload = e.payload i }) a.2.1 a.2.2 a.2.3 a.3 a.4 a.5 c.ask.ensures.later c.send_lines.ensures.lines;
     }
 

@@ -1,4 +1,4 @@
-use Rattle.std.proofs.Common.{◌≡◌, ℕ, ◌-◌, ◌≤◌, length}
+use Rattle.std.proofs.Common.{◌-◌, ◌≤◌, length}
 use Rattle.std.specs.Io.KnownBytes.{prepend_known, Consumes}
 use Rattle.script_reader.specs.Lines.{IsUnended}
 use Rattle.peers.proofs.payload_lines.PayloadLines.next.Given as goal

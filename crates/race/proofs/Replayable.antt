@@ -1,5 +1,5 @@
 -- A reader of scripts reads the record of plain looks.
-use Rattle.std.proofs.Common.{◌≡◌, ℕ, ◌^◌, ◌<◌, ◌≤◌, Bool, true, false, List, [], ◌∷◌, length, refl, sym, ◌∙◌, arith}
+use Rattle.std.proofs.Common.{◌≡◌, ℕ, ◌^◌, ◌<◌, ◌≤◌, Bool, true, false, List, [], ◌∷◌, ◌++◌, length, refl, sym, ◌∙◌, arith}
 use Rattle.std.specs.Prelude.{if◌then◌else◌}
 use Rattle.std.specs.List.{AllByRecursion}
 use Rattle.pump_frame.specs.Spellings.{spelling, header_of}
@@ -11,13 +11,18 @@ use Rattle.pump_core.specs.History.{Nothing, Came, Bad, Gone}
 use Rattle.pump_core.specs.Exchanges.{is_gone}
 use Rattle.low_process.specs.Looks.{IsInBounds}
 use Rattle.relay_threads.specs.Records.{Made, is_recorded, recorded, record_of, made_of}
-use Rattle.relay_threads.specs.RecordLines.{tells_fault, taken_by, told_of, arriving_of, line_of, HasLawfulFrame}
-use Rattle.relay_threads.specs.Replays.{breaks, is_broken, AreConnected, TakeLawful, is_lost, IsReadable}
+use Rattle.relay_threads.specs.RecordLines.{record_text, tells_fault, taken_by, told_of, arriving_of, line_of, HasLawfulFrame}
+use Rattle.relay_threads.specs.Replays.{breaks, is_broken, AreConnected, TakeLawful, is_lost, IsReadable, AreReadable}
 use Rattle.script_reader.specs.Generated.{generated_row}
 use Rattle.script_reader.specs.declared.line.Line.TheVariants as lines
 use Rattle.script_reader.specs.Lawful.{IsLawfulLine, IsLawfulFeedback, IsLawfulArriving}
 use Rattle.race.specs.MadeLooks.{IsPlainArrival, IsPlain}
-use Rattle.race.specs.Race.{ReadsBack}
+use Rattle.script_reader.specs.Openings.{Openings}
+use Rattle.relay_threads.proofs.Replaying.{replays}
+use Rattle.relay_threads.proofs.Scripting.{record_reads}
+use Rattle.race.specs.Messages.{race_opening}
+use Rattle.race.specs.Race.{AreRaceLooks, ReadsBack}
+use Rattle.race.specs.Replayed.{ReplaysToItself}
 
 -- ---- one look ----
 
@@ -101,3 +106,15 @@ more_by false m before reads all = all
 -- one look more
 pub readable_more : (before : List Made) (m : Made) → ReadsBack before m → AllByRecursion (IsReadable generated_row) (record_of before) → AllByRecursion (IsReadable generated_row) (record_of (m ∷ before))
 readable_more before m reads all = more_by (is_recorded before m) m before reads all
+
+-- ---- the record ----
+
+pub replays_to_itself : (opens : Openings) (seed : ℕ) (made : List Made) (bytes comments : List ℕ) → AreRaceLooks seed made → AreReadable generated_row race_opening made
+    → bytes ≡ record_text generated_row race_opening made ++ comments → ReplaysToItself opens bytes
+replays_to_itself opens seed made bytes comments looks readable is = record {
+  made = made;
+  comments = comments;
+  bytes_are = is;
+  lines = record_reads generated_row race_opening made readable;
+  replays = replays opens generated_row race_opening refl made looks.are_made looks.lawful looks.connected looks.kept;
+}

@@ -19,9 +19,10 @@ fn found_full(look: &LookHead) -> bool
     matches!(look.feedback, Feedback::Full)
 }
 
-// Where the look found the passage full, the other worker has to take a message up first.
-fn make_way(is_full: bool) {
-    if is_full {
+// Where the look found nothing to do, the other worker may have to take a message up first.
+fn make_way(look: &LookHead) {
+    let is_idle = matches!(look.feedback, Feedback::Quiet | Feedback::Full);
+    if is_idle && !look.taken && look.reply.is_none() {
         thread::yield_now();
     }
 }
@@ -66,7 +67,7 @@ impl<K: Clock, O: Sink, L: WaitLowEnd, G: Gate> Work for LowWork<'_, '_, '_, '_,
             looks = looks.saturating_add(1);
             self.tape.look(self.out, &made, was_full);
             was_full = found_full(&made.look);
-            make_way(was_full);
+            make_way(&made.look);
         }
         unreachable!();
     }

@@ -138,6 +138,12 @@ IsAnswerTo _ _ = ⊥
 abbrev pub AnswersTo : LowProcess → Answer → Type 0
 AnswersTo p answer = IsAnswerTo p.asking answer
 
+-- an average that was told is at most 10^9
+abbrev pub IsInBounds : Feedback → Type 0
+IsInBounds (Passed s) = s.average ≤ 10 ^ 9
+IsInBounds (Repeat s) = s.average ≤ 10 ^ 9
+IsInBounds _ = Unit {0}
+
 -- the feedback is what was told; what passes is released where no acknowledgement is owed
 abbrev pub Tells : Bool → Answer → Feedback → Type 0
 Tells owed ToldFull f = f ≡ Full

@@ -5,7 +5,7 @@ ghost use Rattle.pump_core.specs.ReplyFrames.{IsLawfulReply};
 ghost use Rattle.pump_core.specs.History.{Arrival as Offered};
 ghost use Rattle.pump_core.specs.Passage.{Low, High, ComesNext};
 ghost use Rattle.low_process.specs.declared.values.Asking.TheVariants.{Forward as AsksForward};
-ghost use Rattle.low_process.specs.Looks.{IsAnswerTo, IsBetweenLooks, AsksToForward, AsksFor, IsLawful, Looks, HandBegins, arrival_of, look_of, row_of, next_of, last_of, is_down, owes, hand_of, item_in_hand, hand_after, hand_passed};
+ghost use Rattle.low_process.specs.Looks.{IsAnswerTo, IsInBounds, IsBetweenLooks, AsksToForward, AsksFor, IsLawful, Looks, HandBegins, arrival_of, look_of, row_of, next_of, last_of, is_down, owes, hand_of, item_in_hand, hand_after, hand_passed};
 ghost use Rattle.low_process.specs.Heads.{look_with, ask_with};
 ghost use Rattle.low_process.specs.Ends.{OfferStep, EndStep, FitsEnd, StandsFitting};
 ghost use Rattle.low_process.specs.Whole.{HasStore, BeginStep, LookStep, KeepsAcknowledged, LeavesStored, reply_in};
@@ -133,6 +133,7 @@ impl LowProcess {
         ensures looks { (moment word : ℕ) (arrival : Offered) (is_fault : Bool) →
             Looks (λ h. AsksFor self.old h moment word arrival is_fault) self.new (row_of self.old)
             (look_of moment word arrival is_fault head.new.feedback) (look_with (row_of self.old) head.new) }
+        ensures bounds { IsInBounds head.new.feedback }
         ensures reply { head.new.reply ≡ None }
         ensures stored { head.new.stored ≡ None }
         ensures hand { hand_of self.new ≡ hand_passed (hand_of self.old) head.new.feedback }
@@ -172,6 +173,7 @@ impl LowProcess {
 
         ensures looks { (is_fault : Bool) × LookStep D.told self.old self.new store.old store.new
             moment word (arrival_of arrival.entry) is_fault (look_with (row_of self.old) head.new) }
+        ensures bounds { IsInBounds head.new.feedback }
         ensures store { HasStore D.told self.new store.new }
         ensures images { LeavesStored D.told self.old store.old store.new
             (arrival_of arrival.entry) }
@@ -217,6 +219,7 @@ impl LowProcess {
 
         ensures looks { (is_fault : Bool) × LookStep D.told self.old self.new store.old store.new
             moment word (arrival_of arrival.entry) is_fault (look_with (row_of self.old) head.new) }
+        ensures bounds { IsInBounds head.new.feedback }
         ensures store { HasStore D.told self.new store.new }
         ensures images { LeavesStored D.told self.old store.old store.new
             (arrival_of arrival.entry) }
@@ -260,6 +263,7 @@ impl LowProcess {
 
         ensures looks { (is_fault : Bool) × LookStep D.told self.old self.new store.old store.new
             moment word (arrival_of arrival.entry) is_fault result }
+        ensures bounds { IsInBounds result.feedback }
         ensures store { HasStore D.told self.new store.new }
         ensures images { LeavesStored D.told self.old store.old store.new
             (arrival_of arrival.entry) }

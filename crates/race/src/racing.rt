@@ -1,6 +1,6 @@
 ghost use Rattle.std.specs.Prelude.{◌≡◌, ◌≤◌, ◌⊎◌, ℕ, true, false, List, [], IfOk, OnErr};
 ghost use Rattle.pump_frame.specs.Counts.{Rose};
-ghost use Rattle.pump_link.specs.Tells.{Draws};
+ghost use Rattle.pump_link.specs.Tells.{Draws, Grows};
 ghost use Rattle.pump_core.specs.Passage.{shape_of_row};
 ghost use Rattle.relay_ring.specs.RingEnds.{LowEndStands, HighEndStands, low_place, high_place, low_shape, high_shape};
 ghost use Rattle.low_process.specs.Looks.{last_of};
@@ -8,7 +8,7 @@ ghost use Rattle.high_process.specs.States.{removed_of};
 ghost use Rattle.script_reader.specs.Generated.{generated_row};
 ghost use Rattle.race.specs.HighHalf.{HighAt};
 ghost use Rattle.race.specs.LowHalf.{LowRests};
-ghost use Rattle.race.specs.Race.{IsRaceRecord, IsStoppedRecord, AreRaceDisks, AsksLow};
+ghost use Rattle.race.specs.Race.{IsRaceRecord, IsStoppedRecord, AreRaceDisks};
 ghost use Rattle.race.specs.Tape.{Written};
 ghost use Rattle.race.specs.Turns.{CanTurn, AsksHigh};
 
@@ -65,20 +65,20 @@ fn race_halves<
     requires place { low_place low.ends.0 ≡ high_place high.ends.0 }
     requires shape { high_shape high.ends.0 ≡ shape_of_row generated_row }
     requires count { low.count ≡ high.count }
-    ensures record { result.low_stopped ≡ false → result.high_stopped ≡ false → (bytes readings : List ℕ)
+    ensures record { result.low_stopped ≡ false → result.high_stopped ≡ false → (bytes readings : List ℕ) × (asks : List (ℕ × ℕ))
         × Written result.write_failed (O.written out.old) (O.written out.new) (O.faults out.old) (O.faults out.new) bytes
         × Draws (K.reads low_clock.old) (K.reads low_clock.new) readings
-        × IsRaceRecord low.entry.seed high.entry.count high.entry.times.items readings bytes }
-    ensures cut_short { (result.low_stopped ≡ true) ⊎ (result.high_stopped ≡ true) → (bytes readings : List ℕ)
+        × Grows (G.asked low_gate.old) (G.asked low_gate.new) asks
+        × IsRaceRecord low.entry.seed high.entry.count high.entry.times.items readings asks bytes }
+    ensures cut_short { (result.low_stopped ≡ true) ⊎ (result.high_stopped ≡ true) → (bytes readings : List ℕ) × (asks : List (ℕ × ℕ))
         × Written result.write_failed (O.written out.old) (O.written out.new) (O.faults out.old) (O.faults out.new) bytes
         × Draws (K.reads low_clock.old) (K.reads low_clock.new) readings
-        × IsStoppedRecord low.entry.seed readings bytes }
+        × Grows (G.asked low_gate.old) (G.asked low_gate.new) asks
+        × IsStoppedRecord low.entry.seed low.entry.count result.low_stopped readings asks bytes }
     ensures disks { result.low_stopped ≡ false → result.high_stopped ≡ false
         → AreRaceDisks low.entry.seed high.entry.count result.low.bytes result.high.bytes result.recv.bytes }
     ensures low_stopped { result.low_stopped ≡ true → Rose (G.stops low_gate.old) (G.stops low_gate.new) }
     ensures high_stopped { result.high_stopped ≡ true → Rose (H.stops high_gate.old) (H.stops high_gate.new) }
-    ensures asked_low { AsksLow low.entry.seed low.entry.count result.low_stopped (K.reads low_clock.old) (K.reads low_clock.new)
-        (G.asked low_gate.old) (G.asked low_gate.new) }
     ensures asked_high { AsksHigh high.entry.count result.high_stopped (H.asked high_gate.old) (H.asked high_gate.new) result.recv.bytes }
 {
     let mut tape = Tape::new(&low.row);
@@ -149,25 +149,25 @@ pub fn race_with<
 ) -> Result<RaceEnd, OutOfMemory>
     requires some { 1 ≤ count }
     requires turn { CanTurn times.now count }
-    // Without a stopped worker: all of the record was written, or a front of it where a write failed.
-    ensures record { IfOk result (λ end. end.low_stopped ≡ false → end.high_stopped ≡ false → (bytes readings : List ℕ)
+    // Without a stopped worker: all of the record was written, or a front of it where a write failed. The
+    // low worker's gate was asked before each of its looks, with the messages acknowledged.
+    ensures record { IfOk result (λ end. end.low_stopped ≡ false → end.high_stopped ≡ false → (bytes readings : List ℕ) × (asks : List (ℕ × ℕ))
         × Written end.write_failed (O.written out.old) (O.written out.new) (O.faults out.old) (O.faults out.new) bytes
         × Draws (K.reads low_clock.old) (K.reads low_clock.new) readings
-        × IsRaceRecord seed count times.now readings bytes) }
+        × Grows (G.asked low_gate.old) (G.asked low_gate.new) asks
+        × IsRaceRecord seed count times.now readings asks bytes) }
     // With one: the same of the record of the looks made.
-    ensures cut_short { IfOk result (λ end. (end.low_stopped ≡ true) ⊎ (end.high_stopped ≡ true) → (bytes readings : List ℕ)
+    ensures cut_short { IfOk result (λ end. (end.low_stopped ≡ true) ⊎ (end.high_stopped ≡ true) → (bytes readings : List ℕ) × (asks : List (ℕ × ℕ))
         × Written end.write_failed (O.written out.old) (O.written out.new) (O.faults out.old) (O.faults out.new) bytes
         × Draws (K.reads low_clock.old) (K.reads low_clock.new) readings
-        × IsStoppedRecord seed readings bytes) }
+        × Grows (G.asked low_gate.old) (G.asked low_gate.new) asks
+        × IsStoppedRecord seed count end.low_stopped readings asks bytes) }
     ensures disks { IfOk result (λ end. end.low_stopped ≡ false → end.high_stopped ≡ false
         → AreRaceDisks seed count end.low.bytes end.high.bytes end.recv.bytes) }
     ensures failed { IfOk result (λ end. end.write_failed ≡ true → Rose (O.faults out.old) (O.faults out.new)) }
     ensures low_stopped { IfOk result (λ end. end.low_stopped ≡ true → Rose (G.stops low_gate.old) (G.stops low_gate.new)) }
     ensures high_stopped { IfOk result (λ end. end.high_stopped ≡ true → Rose (H.stops high_gate.old) (H.stops high_gate.new)) }
-    // The gates are asked before each look: the low worker's with the messages acknowledged, the high
-    // worker's with those that the receiver has.
-    ensures asked_low { IfOk result (λ end. AsksLow seed count end.low_stopped (K.reads low_clock.old) (K.reads low_clock.new)
-        (G.asked low_gate.old) (G.asked low_gate.new)) }
+    // The high worker's gate is asked before each look, with the messages that the receiver has.
     ensures asked_high { IfOk result (λ end. AsksHigh count end.high_stopped (H.asked high_gate.old) (H.asked high_gate.new) end.recv.bytes) }
     ensures nothing { OnErr result (out.new ≡ out.old) }
 {

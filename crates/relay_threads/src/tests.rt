@@ -342,8 +342,9 @@ fn is_told(row: &SessionRow, look: &LookMade, text: &[u8]) -> bool {
     if !may_come(look.arrival) || !may_reply(&look.look.reply) {
         return false;
     }
+    let mut body = ArrayVec::new();
     let mut into: ArrayVec<u8, 2700> = ArrayVec::new();
-    append_look(row, look, &mut into);
+    append_look(row, look, &mut body, &mut into);
     into.as_slice() == text
 }
 

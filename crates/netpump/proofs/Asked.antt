@@ -4,7 +4,7 @@ use Rattle.std.specs.Io.KnownBytes.{Appends}
 use Rattle.arrayvec.specs.ArrayVec.{ArrayVec}
 use Rattle.command_line.specs.Commands.{AreWordsOf}
 use Rattle.command_line.specs.declared.command.Command.{Command}
-use Rattle.command_line.specs.declared.command.Command.TheVariants.{Format, Show, Exercise, Race}
+use Rattle.command_line.specs.declared.command.Command.TheVariants.{Format, Show, Exercise, Race, Serve, Receive, Send}
 use Rattle.command_line.specs.declared.command.WordsFault.{WordsFault}
 use Rattle.command_line.specs.declared.command.WordsFault.TheVariants.{NoCommand, Memory}
 use Rattle.netpump.specs.Commands.{EndsSo, EndsWithStatus, end_status}
@@ -85,6 +85,52 @@ pub race_asked : (End : ℕ → ℕ → List ℕ → Type 0) (a b n m : ℕ) (ts
 race_asked End a b n m ts us ends c one other =
     let same = sym one ∙ other in
     subst (λ (p : ℕ × (ℕ × ArrayVec ℕ)). End p.0 p.1.0 p.1.1.items) (λ i. (race_seed_is a b n m ts us same i, (race_count_is a b n m ts us same i, race_times_are a b n m ts us same i))) ends
+
+-- ---- over links and doors ----
+
+serve_table : (t u : List ℕ) (n m k l : ℕ) → Serve t n k ≡ Serve u m l → t ≡ u
+serve_table t u n m k l e = cc
+
+serve_session : (t u : List ℕ) (n m k l : ℕ) → Serve t n k ≡ Serve u m l → n ≡ m
+serve_session t u n m k l e = cc
+
+serve_looks : (t u : List ℕ) (n m k l : ℕ) → Serve t n k ≡ Serve u m l → k ≡ l
+serve_looks t u n m k l e = cc
+
+receive_table : (t u : List ℕ) (n m k l : ℕ) → Receive t n k ≡ Receive u m l → t ≡ u
+receive_table t u n m k l e = cc
+
+receive_session : (t u : List ℕ) (n m k l : ℕ) → Receive t n k ≡ Receive u m l → n ≡ m
+receive_session t u n m k l e = cc
+
+receive_looks : (t u : List ℕ) (n m k l : ℕ) → Receive t n k ≡ Receive u m l → k ≡ l
+receive_looks t u n m k l e = cc
+
+send_table : (t u : List ℕ) (n m k l : ℕ) → Send t n k ≡ Send u m l → t ≡ u
+send_table t u n m k l e = cc
+
+send_session : (t u : List ℕ) (n m k l : ℕ) → Send t n k ≡ Send u m l → n ≡ m
+send_session t u n m k l e = cc
+
+send_looks : (t u : List ℕ) (n m k l : ℕ) → Send t n k ≡ Send u m l → k ≡ l
+send_looks t u n m k l e = cc
+
+-- what holds of the session of the table, and of the looks, that the call was for holds of those that were asked
+module _ (End : List ℕ → ℕ → ℕ → Type 0) (t u : List ℕ) (n m k l : ℕ) (ends : End t n k) (c : Command) where
+  pub serve_asked : c ≡ Serve t n k → c ≡ Serve u m l → End u m l
+  serve_asked one other =
+      let same = sym one ∙ other in
+      subst (λ (x : List ℕ × ℕ × ℕ). End x.0 x.1 x.2) (λ i. (serve_table t u n m k l same i, serve_session t u n m k l same i, serve_looks t u n m k l same i)) ends
+
+  pub receive_asked : c ≡ Receive t n k → c ≡ Receive u m l → End u m l
+  receive_asked one other =
+      let same = sym one ∙ other in
+      subst (λ (x : List ℕ × ℕ × ℕ). End x.0 x.1 x.2) (λ i. (receive_table t u n m k l same i, receive_session t u n m k l same i, receive_looks t u n m k l same i)) ends
+
+  pub send_asked : c ≡ Send t n k → c ≡ Send u m l → End u m l
+  send_asked one other =
+      let same = sym one ∙ other in
+      subst (λ (x : List ℕ × ℕ × ℕ). End x.0 x.1 x.2) (λ i. (send_table t u n m k l same i, send_session t u n m k l same i, send_looks t u n m k l same i)) ends
 
 -- the words as the slice that is read
 pub read_words : (words slice : List (String Global)) (c : Command) → slice ≡ words → AreWordsOf (map string_bytes words) c → AreWordsOf (map string_bytes slice) c

@@ -3,17 +3,12 @@ use Rattle.std.proofs.Common.{ℕ, List, Option, inl, inr, sym, subst}
 use Rattle.std.specs.Io.KnownBytes.{Appends}
 use Rattle.netpump.specs.Commands.{EndsSo, ClosesSo}
 use Rattle.netpump.specs.declared.command_end.CommandEnd.{CommandEnd}
-use Rattle.netpump.specs.declared.command_end.CommandEnd.TheVariants.{Done, Memory, Unread, NoRow, Failed, Refused, Unwritten}
+use Rattle.netpump.specs.declared.command_end.CommandEnd.TheVariants.{Unwritten}
 
 module _ (Writes : CommandEnd → List ℕ → Type 0) (never : (output : List ℕ) → Writes Unwritten output → ⊥) (old new : Option (List ℕ)) where
   written_so : (end : CommandEnd) (bytes : List ℕ) → Writes end bytes → Appends old new bytes → EndsSo Writes old new end
-  written_so Done bytes h a = (bytes, h, a)
-  written_so Memory bytes h a = (bytes, h, a)
-  written_so Unread bytes h a = (bytes, h, a)
-  written_so (NoRow number row) bytes h a = (bytes, h, a)
-  written_so (Failed role) bytes h a = (bytes, h, a)
-  written_so (Refused role why) bytes h a = (bytes, h, a)
   written_so Unwritten bytes h a = absurd (never bytes h)
+  written_so end bytes h a = (bytes, h, a)
 
   pub ends_so : (before now : ℕ) (bytes : List ℕ) (end result : CommandEnd) → ClosesSo old new before now bytes end result → Writes end bytes → EndsSo Writes old new result
   ends_so before now bytes end result (inl h) w = subst (EndsSo Writes old new) (sym h.0) (written_so end bytes w h.1)

@@ -16,7 +16,7 @@ use Rattle.script_replay.specs.Lending.{ReadAt, IsOutAt, RisesAt, AreOnShelf}
 use Rattle.script_replay.specs.Shelves.{Places, reading_in, reading_at, LeavesOtherSessions, ReadsAlike}
 use Rattle.netpump.specs.TakenDisks.{HasBytes, RoseAt, StopsFormat}
 use Rattle.netpump.specs.declared.command_end.CommandEnd.{CommandEnd}
-use Rattle.netpump.specs.declared.command_end.CommandEnd.TheVariants.{Done, Memory, Unread, NoRow, Failed, Refused, Unwritten}
+use Rattle.netpump.specs.declared.command_end.CommandEnd.TheVariants.{Failed, Refused}
 use Rattle.script_replay.specs.declared.disks.TakenDisks.{TakenDisks}
 use Rattle.script_replay.proofs.Shelving.{read_in, name_is, rose_more, others_so, spares_so}
 
@@ -96,11 +96,7 @@ module _ {D : Type 0} (d : Meaning D) (tells : d.tells) (before mid now : Places
         alike_so d tells before mid now row.id old new taken returned low_read high_read recv_read on
             (λ role. elim role as (λ r. d.reading (disk_of r new) ≡ d.reading (disk_of r old)) [ roles.Low ↦ s.0 | roles.High ↦ s.1 | roles.Recv ↦ s.2 ]),
       )
-  stops_so Done h = absurd h
-  stops_so Memory h = absurd h
-  stops_so Unread h = absurd h
-  stops_so (NoRow number r) h = absurd h
-  stops_so Unwritten h = absurd h
+  stops_so end h = absurd h
 
 -- ---- a disk that failed while it was out ----
 
@@ -126,8 +122,4 @@ failed_at d old new (Err end) role h e =
 pub disk_end : {D : Type 0} (d : Meaning D) (old new : TakenDisks D) (end : CommandEnd) → StopsFormat d old new end → IsDiskEnd end
 disk_end d old new (Failed role) h = tt
 disk_end d old new (Refused role why) h = tt
-disk_end d old new Done h = absurd h
-disk_end d old new Memory h = absurd h
-disk_end d old new Unread h = absurd h
-disk_end d old new (NoRow number row) h = absurd h
-disk_end d old new Unwritten h = absurd h
+disk_end d old new end h = absurd h

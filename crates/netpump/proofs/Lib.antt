@@ -2,6 +2,7 @@ pub mod Asked
 pub mod CommandEnds
 pub mod Exercised
 pub mod Formatted
+pub mod LiveEnded
 pub mod Raced
 pub mod Shown
 pub mod TableRows

@@ -147,7 +147,4 @@ shows_so told tells bytes file before mid after session row (Ok text) has id sam
 shows_so told tells bytes file before mid after session row (Err Memory) has id same ok stops t u = (subst (λ (p : Places). ShowStops p after row Memory) same (stops t u), refl)
 shows_so told tells bytes file before mid after session row (Err (Failed role)) has id same ok stops t u = (row, has, subst (λ (p : Places). ShowStops p after row (Failed role)) same (stops t u), refl)
 shows_so told tells bytes file before mid after session row (Err (Refused role why)) has id same ok stops t u = (row, has, subst (λ (p : Places). ShowStops p after row (Refused role why)) same (stops t u), refl)
-shows_so told tells bytes file before mid after session row (Err Done) has id same ok stops t u = absurd (stops t u)
-shows_so told tells bytes file before mid after session row (Err Unread) has id same ok stops t u = absurd (stops t u)
-shows_so told tells bytes file before mid after session row (Err (NoRow number place)) has id same ok stops t u = absurd (stops t u)
-shows_so told tells bytes file before mid after session row (Err Unwritten) has id same ok stops t u = absurd (stops t u)
+shows_so told tells bytes file before mid after session row (Err end) has id same ok stops t u = absurd (stops t u)

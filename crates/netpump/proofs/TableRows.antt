@@ -39,11 +39,7 @@ row_of_bytes : (bytes : List ℕ) (session : ℕ) (given answer : Result Session
 row_of_bytes bytes session given (Ok row) e h = (bytes, refl, e ∙ h)
 row_of_bytes bytes session given (Err Memory) e h = tt
 row_of_bytes bytes session given (Err Unread) e h = tt
-row_of_bytes bytes session given (Err Done) e h = (bytes, refl, e ∙ h)
-row_of_bytes bytes session given (Err (NoRow number row)) e h = (bytes, refl, e ∙ h)
-row_of_bytes bytes session given (Err (Failed role)) e h = (bytes, refl, e ∙ h)
-row_of_bytes bytes session given (Err (Refused role why)) e h = (bytes, refl, e ∙ h)
-row_of_bytes bytes session given (Err Unwritten) e h = (bytes, refl, e ∙ h)
+row_of_bytes bytes session given (Err end) e h = (bytes, refl, e ∙ h)
 
 pub row_read : (file : Option (List ℕ)) (old new slice : List ℕ) (n session : ℕ) (answer : Result SessionRow CommandEnd) → ReadsFile file old new n → length old ≡ 65536 → n ≤ 65536
     → slice ≡ take n new → IsRowIn answer (row_among session (table_of slice)) → IsRowOf file session answer

@@ -10,7 +10,7 @@ use Rattle.recovery.specs.Faults.{why_number, why_values}
 use Rattle.script_reader.specs.Transcript.{fault_line, line_with_end}
 use Rattle.script_reader.specs.declared.fault.Fault.TheVariants as faults
 use Rattle.netpump.specs.declared.command_end.CommandEnd.{CommandEnd}
-use Rattle.netpump.specs.declared.command_end.CommandEnd.TheVariants.{Done, Memory, Unread, NoRow, Failed, Refused, Unwritten}
+use Rattle.netpump.specs.declared.command_end.CommandEnd.TheVariants.{Done, Memory, Unread, BadLine, NoRow, Failed, Refused, Unconnected, Ahead, Full, Denied, Unfinished, Unwritten}
 
 -- ---- the words ----
 
@@ -26,18 +26,26 @@ is_live (Receive table session looks) = true
 is_live (Send table session looks) = true
 is_live _ = false
 
--- those that `live` runs so far
-abbrev pub is_run_live : Command → Bool
-is_run_live (Race seed count times) = true
-is_run_live _ = false
-
 -- the words are no command that `batch` runs
 abbrev pub IsNoCommand : List (List ℕ) → Type 0
 IsNoCommand words = (c : Command) → is_live c ≡ false → AreWordsOf words c → ⊥
 
 -- .. that `live` runs
 abbrev pub IsNoLiveCommand : List (List ℕ) → Type 0
-IsNoLiveCommand words = (c : Command) → is_run_live c ≡ true → AreWordsOf words c → ⊥
+IsNoLiveCommand words = (c : Command) → is_live c ≡ true → AreWordsOf words c → ⊥
+
+-- the words are those of a command over a link or doors
+abbrev pub IsServe : List (List ℕ) → Type 0
+IsServe words = (table : List ℕ) × (session : ℕ) × (looks : ℕ) × AreWordsOf words (Serve table session looks)
+
+abbrev pub IsReceive : List (List ℕ) → Type 0
+IsReceive words = (table : List ℕ) × (session : ℕ) × (looks : ℕ) × AreWordsOf words (Receive table session looks)
+
+abbrev pub IsSend : List (List ℕ) → Type 0
+IsSend words = (table : List ℕ) × (session : ℕ) × (looks : ℕ) × AreWordsOf words (Send table session looks)
+
+abbrev pub IsOverTable : List (List ℕ) → Type 0
+IsOverTable words = IsServe words ⊎ (IsReceive words ⊎ IsSend words)
 
 -- what is written where the words are no command: with status 2 the fault, with status 4 a front of it, and nothing else
 abbrev pub TellsWords : Option (List ℕ) → Option (List ℕ) → ℕ → Type 0
@@ -55,9 +63,15 @@ end_status Done = 0
 end_status Memory = 1
 end_status Unread = 3
 end_status Unwritten = 4
+end_status (BadLine line) = 5
 end_status (NoRow number row) = 6
 end_status (Failed role) = 7
 end_status (Refused role why) = 8
+end_status Unconnected = 9
+end_status (Ahead number count) = 10
+end_status (Full end length size) = 10
+end_status (Denied code number) = 11
+end_status (Unfinished number) = 12
 
 -- the fault of a table that gives no row: a number for the cause, and the row of the table
 abbrev pub table_line : ℕ → ℕ → List ℕ
@@ -69,9 +83,15 @@ end_line session Done = []
 end_line session Memory = []
 end_line session Unread = fault_line faults.Read
 end_line session Unwritten = []
+end_line session (BadLine line) = fault_line (faults.Script line)
 end_line session (NoRow number row) = table_line number row
 end_line session (Failed role) = fault_line (faults.Device session role)
 end_line session (Refused role why) = fault_line (faults.Disk session role (why_number why) (why_values why).0 (why_values why).1)
+end_line session Unconnected = line_with_end (codes "fault" ∷ codes "link" ∷ [])
+end_line session (Ahead number count) = line_with_end (codes "fault" ∷ codes "ahead" ∷ decimal session ∷ decimal number ∷ decimal count ∷ [])
+end_line session (Full end length size) = fault_line (faults.Full session end length size)
+end_line session (Denied code number) = line_with_end (codes "fault" ∷ codes "refused" ∷ decimal code ∷ decimal number ∷ [])
+end_line session (Unfinished number) = line_with_end (codes "fault" ∷ codes "unfinished" ∷ decimal number ∷ [])
 
 -- it ends so, and what it is to write then was written; or a front of that was
 abbrev pub EndsSo : (CommandEnd → List ℕ → Type 0) → Option (List ℕ) → Option (List ℕ) → CommandEnd → Type 0

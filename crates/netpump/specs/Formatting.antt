@@ -53,7 +53,7 @@ Formats file before after session Unread output = (after ≡ before) × (output 
 Formats file before after session (NoRow number row) output = HasNoRow file session number row × (after ≡ before) × (output ≡ end_line session (NoRow number row))
 Formats file before after session (Failed role) output = (row : SessionRow) × HasRow file session row × FormatStops before after row (Failed role) × (output ≡ end_line session (Failed role))
 Formats file before after session (Refused role why) output = (row : SessionRow) × HasRow file session row × FormatStops before after row (Refused role why) × (output ≡ end_line session (Refused role why))
-Formats file before after session Unwritten output = ⊥
+Formats file before after session end output = ⊥
 
 -- before anything is written
 abbrev pub FormatsSo : Option (List ℕ) → Places → Places → ℕ → Result (Unit {0}) CommandEnd → Type 0

@@ -57,7 +57,7 @@ Shows file before after session Unread output = (after ≡ before) × (output �
 Shows file before after session (NoRow number row) output = HasNoRow file session number row × (after ≡ before) × (output ≡ end_line session (NoRow number row))
 Shows file before after session (Failed role) output = (row : SessionRow) × HasRow file session row × ShowStops before after row (Failed role) × (output ≡ end_line session (Failed role))
 Shows file before after session (Refused role why) output = (row : SessionRow) × HasRow file session row × ShowStops before after row (Refused role why) × (output ≡ end_line session (Refused role why))
-Shows file before after session Unwritten output = ⊥
+Shows file before after session end output = ⊥
 
 -- before anything is written
 abbrev pub ShowsSo : {T : Type 0} → (T → List ℕ) → Option (List ℕ) → Places → Places → ℕ → Result T CommandEnd → Type 0

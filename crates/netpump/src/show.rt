@@ -82,7 +82,8 @@ fn text_of(
     }
 }
 
-fn end_at(role: Role, why: &Option<Why>) -> CommandEnd
+/// The end of a command whose disk is refused, or want of memory.
+pub fn end_at(role: Role, why: &Option<Why>) -> CommandEnd
     ensures { result ≡ end_at role why.now }
 {
     match why {

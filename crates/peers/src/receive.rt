@@ -115,6 +115,7 @@ pub fn receive_with<C: Link, D: Disk, O: Sink>(
         × Grows (C.sent link.old) (C.sent link.new) x.sent
         × Appends (O.written out.old) (O.written out.new) x.printed
         × KeepsReceiver D.told row.now receiver.old receiver.new x result }
+    ensures out_later { O.faults out.old ≤ O.faults out.new }
 {
     if !send_frame(link, &plain_frame(Kind::Attach, row.id, receiver.count())) {
         return ReceiveEnd::Ended;

@@ -98,6 +98,7 @@ fn send_lines<C: Link, I: Source, O: Sink>(
         × Draws (C.gives link.old) (C.gives link.new) (looks_of turns ++ last.wait.looks)
         × Grows (C.sent link.old) (C.sent link.new) (sendings session turns ++ last.sent)
         × Appends (O.written out.old) (O.written out.new) (printings turns ++ last.printed) }
+    ensures out_later { O.faults out.old ≤ O.faults out.new }
 {
     let mut script_lines = PayloadLines::new();
     let mut frame = Frame {
@@ -148,6 +149,7 @@ pub fn send_with<C: Link, I: Source, O: Sink>(
         × Draws (C.gives link.old) (C.gives link.new) (all_looks x)
         × Grows (C.sent link.old) (C.sent link.new) (all_sent row.now x)
         × Appends (O.written out.old) (O.written out.new) (all_printed x) }
+    ensures out_later { O.faults out.old ≤ O.faults out.new }
 {
     let mut left = looks;
     let hello = Frame::hello(row.id, &row.low, &row.high);

@@ -14,6 +14,7 @@ use pump_frame::SessionRow;
 use pump_link::{Clock, ListWords, Looked, MemLink, MemPorts, MemSink, Ports, Sink, StepClock};
 use stable_buffer::{LowStore, Register, format};
 use std::alloc::Global;
+use std::sync::Wait;
 use std::test::Fail;
 
 const HELLO: &str = "4e500101000000010000000000000000000d776561746865723a7761746368";
@@ -89,7 +90,6 @@ fn set_up<D: Disk + Drop>(alloc: Global, disk: D, room: usize) -> Result<Bench<D
 /// What comes on a link, and what becomes of it.
 #[derive(Clone, Copy)]
 struct Case {
-    name: &'static str,
     coming: &'static str,
     is_failing: bool,
     looks: u64,
@@ -100,8 +100,8 @@ struct Case {
     record: &'static str,
 }
 
+// A message is stored, passed on and acknowledged.
 const CASE: Case = Case {
-    name: "a message is stored, passed on and acknowledged",
     coming: SENDS,
     is_failing: false,
     looks: 10,
@@ -118,13 +118,43 @@ const CASE: Case = Case {
              gone 1 410\n",
 };
 
+// Whether a connection goes as the case says.
+fn is_served_so<R: Wait>(rt: &R, alloc: Global, case: Case) -> Result<bool, Fail> {
+    let mut bench = set_up(alloc, PlainDisk::new(alloc, 110)?, 1000)?;
+    let mut link = link(alloc, 0, case.coming, case.is_failing)?;
+    let served = serve_low(
+        rt,
+        &mut link,
+        &mut bench.clock,
+        &mut bench.words,
+        &mut bench.process,
+        &mut bench.store,
+        &mut bench.ends,
+        &mut bench.tape,
+        &mut Open,
+        case.looks,
+    );
+    let wanted = LowServed {
+        why: case.why,
+        looks: case.rounds,
+    };
+    let sent = bytes(alloc, case.sent)?;
+    Ok(
+        served == wanted
+            && link.sent() == sent.as_slice()
+            && bench.clock.readings() == case.rounds
+            && bench.store.accepted() == case.stored
+            && bench.tape.written() == case.record.as_bytes(),
+    )
+}
+
 #[test]
 fn connections_are_served(rt: HostRuntime) -> Result<(), Fail> {
     let alloc = rt.alloc();
-    for case in [
+    for (number, case) in [
         CASE,
         Case {
-            name: "the first send fails",
+            // the first send fails
             is_failing: true,
             why: LowWhy::LinkFailed,
             rounds: 1,
@@ -135,7 +165,7 @@ fn connections_are_served(rt: HostRuntime) -> Result<(), Fail> {
             ..CASE
         },
         Case {
-            name: "half a header, then the end",
+            // half a header, then the end
             coming: "4e500101000000",
             rounds: 1,
             sent: "",
@@ -144,7 +174,7 @@ fn connections_are_served(rt: HostRuntime) -> Result<(), Fail> {
             ..CASE
         },
         Case {
-            name: "an ACK before the HELLO",
+            // an ACK before the HELLO
             coming: "4e50010400000001000000000000000000004e500101000000010000000000000000000d776561746865723a7761746368",
             rounds: 3,
             sent: "4e5001050000000100000000000000000001024e5001020000000100000000000000000000",
@@ -157,7 +187,7 @@ fn connections_are_served(rt: HostRuntime) -> Result<(), Fail> {
             ..CASE
         },
         Case {
-            name: "a DATA of session 2",
+            // a DATA of session 2
             coming: "4e500101000000010000000000000000000d776561746865723a77617463684e500103000000020000000000000000000161",
             rounds: 3,
             sent: "4e50010200000001000000000000000000004e500105000000010000000000000000000102",
@@ -170,7 +200,7 @@ fn connections_are_served(rt: HostRuntime) -> Result<(), Fail> {
             ..CASE
         },
         Case {
-            name: "bad bytes",
+            // bad bytes
             coming: "4e51",
             why: LowWhy::Bad,
             rounds: 1,
@@ -180,7 +210,7 @@ fn connections_are_served(rt: HostRuntime) -> Result<(), Fail> {
             ..CASE
         },
         Case {
-            name: "as many rounds as were given",
+            // as many rounds as were given
             looks: 1,
             why: LowWhy::Looks,
             rounds: 1,
@@ -190,36 +220,11 @@ fn connections_are_served(rt: HostRuntime) -> Result<(), Fail> {
                      # low 1 10 welcome 0\n",
             ..CASE
         },
-    ] {
-        let mut bench = set_up(alloc, PlainDisk::new(alloc, 110)?, 1000)?;
-        let mut link = link(alloc, 0, case.coming, case.is_failing)?;
-        let served = serve_low(
-            &rt,
-            &mut link,
-            &mut bench.clock,
-            &mut bench.words,
-            &mut bench.process,
-            &mut bench.store,
-            &mut bench.ends,
-            &mut bench.tape,
-            &mut Open,
-            case.looks,
-        );
-        let wanted = LowServed {
-            why: case.why,
-            looks: case.rounds,
-        };
-        assert_eq!(rt; served, wanted, "{}", case.name);
-        let sent = bytes(alloc, case.sent)?;
-        assert_eq!(rt; link.sent(), sent.as_slice(), "{}", case.name);
-        assert_eq!(rt; bench.clock.readings(), case.rounds, "{}", case.name);
-        assert_eq!(rt; bench.store.accepted(), case.stored, "{}", case.name);
-        assert_eq!(rt;
-            bench.tape.written(),
-            case.record.as_bytes(),
-            "{}",
-            case.name
-        );
+    ]
+    .into_iter()
+    .enumerate()
+    {
+        assert!(rt; is_served_so(&rt, alloc, case)?, "case {number}");
     }
     Ok(())
 }
@@ -296,12 +301,45 @@ const DOOR_CASE: DoorCase = DoorCase {
              gone 1 510\n",
 };
 
+// Whether a worker with seven rounds goes as the case says.
+fn is_kept_so<R: Wait>(rt: &R, alloc: Global, case: DoorCase) -> Result<bool, Fail> {
+    let disk = MemDisk::new(alloc, 110, 40, vec![in alloc; case.failing]?)?;
+    let mut bench = set_up(alloc, disk, case.room)?;
+    let links = vec![in alloc; link(alloc, 0, case.coming, false)?]?;
+    let mut ports = MemPorts::new(links, Vec::new(alloc));
+    let Ok(mut door) = ports.listen(7001) else {
+        return Err(Fail::new("no door"));
+    };
+    let end = low_rounds(
+        rt,
+        &mut door,
+        &mut bench.clock,
+        &mut bench.words,
+        &mut bench.process,
+        &mut bench.store,
+        &mut bench.ends,
+        &mut bench.tape,
+        7,
+    );
+    ports.shut(door);
+    let Some(back) = ports.given_back().first() else {
+        return Err(Fail::new("no link back"));
+    };
+    let sent = bytes(alloc, case.sent)?;
+    Ok(
+        end == case.end
+            && bench.clock.readings() == case.readings
+            && back.sent() == sent.as_slice()
+            && bench.tape.written() == case.record.as_bytes(),
+    )
+}
+
 // The look with Gone after bad bytes reads the clock once more. A new disk takes three calls and its
 // opening two, so the second call of a store has number 6.
 #[test]
 fn links_of_a_door_are_served(rt: HostRuntime) -> Result<(), Fail> {
     let alloc = rt.alloc();
-    for case in [
+    for (number, case) in [
         DOOR_CASE,
         DoorCase {
             coming: "4e51",
@@ -329,33 +367,11 @@ fn links_of_a_door_are_served(rt: HostRuntime) -> Result<(), Fail> {
                      # low 1 210 refuse 5 0\n",
             ..DOOR_CASE
         },
-    ] {
-        let disk = MemDisk::new(alloc, 110, 40, vec![in alloc; case.failing]?)?;
-        let mut bench = set_up(alloc, disk, case.room)?;
-        let links = vec![in alloc; link(alloc, 0, case.coming, false)?]?;
-        let mut ports = MemPorts::new(links, Vec::new(alloc));
-        let Ok(mut door) = ports.listen(7001) else {
-            return Err(Fail::new("no door"));
-        };
-        let end = low_rounds(
-            &rt,
-            &mut door,
-            &mut bench.clock,
-            &mut bench.words,
-            &mut bench.process,
-            &mut bench.store,
-            &mut bench.ends,
-            &mut bench.tape,
-            7,
-        );
-        assert_eq!(rt; (end, bench.clock.readings()), (case.end, case.readings));
-        ports.shut(door);
-        let Some(back) = ports.given_back().first() else {
-            return Err(Fail::new("no link back"));
-        };
-        let sent = bytes(alloc, case.sent)?;
-        assert_eq!(rt; back.sent(), sent.as_slice());
-        assert_eq!(rt; bench.tape.written(), case.record.as_bytes());
+    ]
+    .into_iter()
+    .enumerate()
+    {
+        assert!(rt; is_kept_so(&rt, alloc, case)?, "case {number}");
     }
     Ok(())
 }

@@ -1,14 +1,12 @@
 -- The messages that an opening deals out, as the two processes begin with them.
-use Rattle.std.proofs.Common.{◌≡◌, ℕ, ◌+◌, ◌-◌, ◌<◌, ◌≤◌, ◌^◌, Bool, true, false, List, length, Option, Some, None, refl, sym, ap, ◌∙◌, subst, arith}
-use Rattle.std.specs.Prelude.{◌==◌, nat_lt, if◌then◌else◌, is_some}
-use Rattle.pump_core.specs.Passage.{Low, High, ComesNext, new_low, new_high}
+use Rattle.std.proofs.Common.{◌≡◌, ℕ, ◌+◌, ◌-◌, ◌≤◌, Bool, true, false, List, length, Option, Some, None, refl, sym, ap, ◌∙◌, subst}
+use Rattle.std.specs.Prelude.{◌==◌, if◌then◌else◌, is_some, IfSome}
+use Rattle.pump_core.specs.Passage.{ComesNext}
 use Rattle.pump_frame.specs.declared.frame.Item.{Item}
 use Rattle.low_process.specs.Ends.{number_offered}
-use Rattle.high_process.specs.Looks as high
-use Rattle.recovery.specs.Deals.{IsDealt, HandsFit, number_of, numbered, passing}
+use Rattle.recovery.specs.Deals.{HandsFit, number_of, numbered, passing}
 use Rattle.recovery.proofs.Refill.{passing_next}
 use Rattle.two_worlds.proofs.Opening.Restarting.{number_some}
-use Rattle.pump_frame.specs.declared.row.SessionRow.{SessionRow}
 
 abbrev number_in : Option ℕ → ℕ
 number_in None = 0
@@ -28,12 +26,10 @@ comes_next capacity removed next messages high low wide count places fit =
     passing_next capacity removed next (number_offered next low) messages wide count places (offered low (next == removed + capacity) (next - 1) next fit.last)
 
 -- the message in the high hand is the first that is not removed
-pub high_hand : (hand : Option Item) (removed next : ℕ) → next ≤ 2 ^ 48 → number_of hand ≡ (if nat_lt removed next then Some removed else None) → high.IsHand removed hand
-high_hand None removed next few is = tt
-high_hand (Some x) removed next few is = by_some (nat_lt removed next) refl is where
-  by_some : (b : Bool) → nat_lt removed next ≡ b → Some x.number ≡ (if b then Some removed else None) → (x.number ≡ removed) × (removed < 2 ^ 48)
-  by_some true less is = let low : removed < next = grind (arith, less) in (ap number_in is, omega (arith, low, few))
-  by_some false less is = absurd (cc)
+pub first_number : (hand : Option Item) (b : Bool) (removed : ℕ) → number_of hand ≡ (if b then Some removed else None) → IfSome hand (λ item. item.number ≡ removed)
+first_number None b removed is = tt
+first_number (Some x) true removed is = ap number_in is
+first_number (Some x) false removed is = absurd (cc)
 
 some_if : (b : Bool) (n : ℕ) → is_some (if b then Some n else None) ≡ b
 some_if true n = refl

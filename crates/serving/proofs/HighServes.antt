@@ -1,5 +1,5 @@
 -- What the high worker did, from the run of its half.
-use Rattle.std.proofs.Common.{◌≡◌, ℕ, ◌≤◌, ◌<◌, ◌^◌, false, List, [], Option, Some, IfSome, refl, sym, ap, ◌∙◌, subst}
+use Rattle.std.proofs.Common.{◌≡◌, ℕ, ◌≤◌, ◌<◌, ◌^◌, false, List, [], Option, Some, IfSome, refl, sym, ap, ◌∙◌, subst, arith}
 use Rattle.std.specs.List.{AllByRecursion}
 use Rattle.disk_model.specs.Disk.{Meaning}
 use Rattle.pump_frame.specs.declared.frame.Item.{Item}
@@ -23,10 +23,11 @@ use Rattle.serving.specs.declared.high_half.HighParts.{HighParts}
 use Rattle.serving.proofs.LowServes.{counts_from}
 
 module _ {D L S E : Type 0} (t : DoorsTell D L) (m : Meaning S) (row : SessionRow) (rounds : ℕ) (ports now_ports : List (PortsStep L D) → Type 0) (reads now_reads : List ℕ → Type 0)
-    (removed : ℕ) (hand : Option Item) (parts : HighParts S E) (store : HighStore S) (disk : S) (end : RoundsEnd)
+    (removed : ℕ) (hand : Option Item) (parts : HighParts S E) (was store : HighStore S) (disk now_disk : S) (end : RoundsEnd)
     (lent : HighLent t m ports now_ports reads now_reads row.high_port rounds parts store end)
     (row_is : row_of parts.process ≡ row) (stands : StandsFor parts.process (fresh removed hand))
-    (found : m.tells → HighStands row removed (m.reading disk)) (next : IfSome hand (λ item. item.number ≡ removed)) (counts : m.count disk ≤ m.count (high_disk parts.store)) where
+    (found : m.tells → HighStands row removed (m.reading disk)) (next : IfSome hand (λ item. item.number ≡ removed))
+    (store_was : parts.store ≡ was) (now_is : now_disk ≡ high_disk store) (counts : m.count disk ≤ m.count (high_disk was)) where
   abbrev p : HighProcess
   p = lent.v.parts.process
 
@@ -39,17 +40,24 @@ module _ {D L S E : Type 0} (t : DoorsTell D L) (m : Meaning S) (row : SessionRo
   stood : StandsFor p (fresh removed hand)
   stood = subst (λ (x : HighParts S E). StandsFor x.process (fresh removed hand)) (sym lent.parts_are) stands
 
+  -- the disk at the end is that of the half
+  now_disk_is : high_disk lent.w.parts.store ≡ now_disk
+  now_disk_is = ap high_disk lent.store_is ∙ sym now_is
+
+  first_counts : m.count disk ≤ m.count (high_disk lent.v.parts.store)
+  first_counts = subst (λ (x : HighStore S). m.count disk ≤ m.count (high_disk x)) (sym (ap (λ (x : HighParts S E). x.store) lent.parts_are ∙ store_was)) counts
+
   abbrev past : ProcessPast
   past = stayed row (fresh removed hand) lent.ran.stays
 
-  left_by : is_broken (Some end) ≡ false → m.tells → StandsForRemoved past.removed (m.reading (high_disk store))
+  left_by : is_broken (Some end) ≡ false → m.tells → StandsForRemoved past.removed (m.reading now_disk)
   left_by sound told =
       let up = ap (λ (e : RoundsEnd). is_broken (Some e)) lent.end_is ∙ sound in
       let has = lent.ran.store up in
       let stands = subst (λ (r : SessionRow). StandsFor q (stayed r (fresh removed hand) lent.ran.stays)) row_before (lent.ran.so.past has.up (fresh removed hand) stood) in
-      subst (λ (x : ℕ × HighStore S). StandsForRemoved x.0 (m.reading (high_disk x.1))) (λ i. ((has.count ∙ stands.holds.removed) i, lent.store_is i)) (has.ready.stands told)
+      subst (λ (x : ℕ × S). StandsForRemoved x.0 (m.reading x.1)) (λ i. ((has.count ∙ stands.holds.removed) i, now_disk_is i)) (has.ready.stands told)
 
-  pub high_served : HighServed t m row rounds ports now_ports reads now_reads disk (high_disk store) end
+  pub high_served : HighServed t m row rounds ports now_ports reads now_reads disk now_disk end
   high_served = record {
     removed = removed;
     hand = hand;
@@ -69,6 +77,10 @@ module _ {D L S E : Type 0} (t : DoorsTell D L) (m : Meaning S) (row : SessionRo
     links = subst (λ (r : SessionRow). AllByRecursion (TellsVisit t.links.gives t.links.sent t.links.faults r.id) lent.ran.stays) row_before lent.ran.links;
     moments = lent.ran.moments;
     left = left_by;
-    device = counts_from (Some end) _ _ _ counts
-        (subst (λ (x : RoundsEnd × HighStore S × HighParts S E). CountsEnd (Some x.0) (m.count (high_disk x.2.store)) (m.count (high_disk x.1))) (λ i. (lent.end_is i, lent.store_is i, lent.parts_are i)) lent.ran.device);
+    device = counts_from (Some end) (m.count disk) (m.count (high_disk lent.v.parts.store)) (m.count now_disk) first_counts
+        (subst (λ (x : RoundsEnd × S). CountsEnd (Some x.0) (m.count (high_disk lent.v.parts.store)) (m.count x.1)) (λ i. (lent.end_is i, now_disk_is i)) lent.ran.device);
   }
+
+  -- the disk has not failed less often
+  pub high_counts : m.count disk ≤ m.count now_disk
+  high_counts = subst (λ (x : S). m.count disk ≤ m.count x) now_disk_is (omega (arith, first_counts, lent.ran.counts))

@@ -1,6 +1,6 @@
 -- What the low worker did, from the run of its half.
 use Rattle.std.proofs.Common.{◌≡◌, ℕ, ◌≤◌, ◌<◌, Bool, true, false, List, [], ◌++◌, length, Option, Some, None, refl, sym, ap, ◌∙◌, subst, arith}
-use Rattle.std.specs.Prelude.{is_some}
+use Rattle.std.specs.Prelude.{Result, Ok, Err, OnOk, is_err, is_some}
 use Rattle.std.specs.Io.KnownBytes.{Appends}
 use Rattle.rand_chacha.specs.ChaCha.{ChaCha, key_of}
 use Rattle.delay_table.specs.Streams.{AreWords}
@@ -23,14 +23,14 @@ use Rattle.low_process.specs.Looks.{row_of, next_of, opening_of, is_down, is_dow
 use Rattle.relay_threads.specs.LowServes.{Lives}
 use Rattle.relay_threads.specs.LowStays.{AreStays, is_kept_by, stayed, words_in, text_in}
 use Rattle.relay_threads.specs.Reaching.{Reaches}
-use Rattle.relay_threads.specs.RecordLines.{opening_line}
+use Rattle.relay_threads.specs.RecordLines.{opening_line, record_text}
 use Rattle.relay_threads.specs.Records.{AreMade, life_made}
 use Rattle.relay_threads.specs.Workers.{CountsEnd}
 use Rattle.relay_threads.specs.declared.rounds_end.RoundsEnd.{RoundsEnd}
 use Rattle.relay_threads.specs.declared.rounds_end.RoundsEnd.TheVariants as ends
 use Rattle.serving.specs.Doors.{DoorsTell}
 use Rattle.serving.specs.LowEnds.{EndsLow}
-use Rattle.serving.specs.LowRuns.{LowLent}
+use Rattle.serving.specs.LowRuns.{LowLent, opening_text}
 use Rattle.serving.specs.LowServing.{FindsLow, LowServed, is_lost}
 use Rattle.serving.specs.declared.low_half.LowParts.{LowParts}
 
@@ -48,6 +48,16 @@ counts_from (Some ends.Rounds) first before now le h = tt
 counts_from (Some (ends.Device faults)) first before now le h = (h.0, (let rose = h.1 in omega (arith, le, rose)))
 counts_from (Some ends.RecordFailed) first before now le h = tt
 
+-- the opening line of the half was written
+pub opening_written : {W S E T F : Type 0} (old new : Option (List ℕ)) (result : Result T F) (row : SessionRow) (next : ℕ) (parts : LowParts W S E) {failed : Bool}
+    → row ≡ row_of parts.process → next ≡ next_of parts.process → failed ≡ is_err result → failed ≡ false
+    → OnOk result (Appends old new (line_text (opening_line row (record { count = next; is_held = parts.is_held })))) → Appends old new (opening_text parts)
+opening_written {W} {S} {E} {T} {F} old new result row next parts row_is next_is asked fine ok =
+    subst (λ (x : SessionRow × ℕ). Appends old new (line_text (opening_line x.0 (record { count = x.1; is_held = parts.is_held })))) (λ i. (row_is i, next_is i)) (by_result result (sym asked ∙ fine) ok) where
+  by_result : (r : Result T F) → is_err r ≡ false → OnOk r (Appends old new (line_text (opening_line row (record { count = next; is_held = parts.is_held })))) → Appends old new (line_text (opening_line row (record { count = next; is_held = parts.is_held })))
+  by_result (Ok x) fine ok = ok
+  by_result (Err x) fine ok = absurd (cc)
+
 lost_is : (phase : Phase) (hand : ℕ) → is_lost (phase_of phase hand) ≡ is_down_in phase
 lost_is phases.Idle hand = refl
 lost_is (phases.Passing true) hand = refl
@@ -56,11 +66,12 @@ lost_is (phases.Waiting number due) hand = refl
 lost_is phases.Down hand = refl
 
 module _ {D L S E : Type 0} (t : DoorsTell D L) (m : Meaning S) (row : SessionRow) (rounds : ℕ) (key : List ℕ) (ports now_ports : List (PortsStep L D) → Type 0) (reads now_reads : List ℕ → Type 0)
-    (written now_written : Option (List ℕ)) (faults now_faults next : ℕ) (hand : Option Item) (parts : LowParts ChaCha S E) (store : LowStore S) (disk : S) (end : RoundsEnd)
+    (written now_written : Option (List ℕ)) (faults now_faults next : ℕ) (hand : Option Item) (parts : LowParts ChaCha S E) (was store : LowStore S) (disk now_disk : S) (end : RoundsEnd)
     (lent : LowLent t m words_given ports now_ports reads now_reads written now_written faults now_faults row.low_port rounds parts store end)
     (row_is : row_of parts.process ≡ row) (next_is : next_of parts.process ≡ next) (held_is : parts.is_held ≡ is_some hand)
     (lives : Lives parts.process (opening_of next hand) []) (words_are : parts.words ≡ record { key = key_of key; stream = 0; word_pos = 0 })
-    (found : FindsLow m row (opening_of next hand) disk) (counts : m.count disk ≤ m.count (low_disk parts.store)) where
+    (store_was : parts.store ≡ was) (now_is : now_disk ≡ low_disk store)
+    (found : FindsLow m row (opening_of next hand) disk) (counts : m.count disk ≤ m.count (low_disk was)) where
   abbrev o : Opening
   o = opening_of next hand
 
@@ -96,6 +107,19 @@ module _ {D L S E : Type 0} (t : DoorsTell D L) (m : Meaning S) (row : SessionRo
       let has = lent.ran.store up in
       subst (λ (x : SessionRow × ℕ). StandsForCount x.0 x.1 (m.reading (low_disk lent.w.parts.store))) (λ i. ((has.row ∙ row_after) i, has.count i)) (has.ready.stands told)
 
+  -- what is to be written is the record of all looks
+  record_is : opening_text lent.v.parts ++ text_in (row_of p) lent.ran.stays ≡ record_text row o (stayed [] lent.ran.stays)
+  record_is =
+      ap (λ (b : List ℕ). opening_text lent.v.parts ++ b) (lent.ran.is_record o lived)
+      ∙ ap (λ (x : SessionRow × ℕ × Bool). record_text x.0 (record { count = x.1; is_held = x.2 }) (stayed [] lent.ran.stays)) (λ i. (row_before i, next_before i, held_before i))
+
+  -- the disk at the end is that of the half
+  now_disk_is : low_disk lent.w.parts.store ≡ now_disk
+  now_disk_is = ap low_disk lent.store_is ∙ sym now_is
+
+  first_counts : m.count disk ≤ m.count (low_disk lent.v.parts.store)
+  first_counts = subst (λ (x : LowStore S). m.count disk ≤ m.count (low_disk x)) (sym (ap (λ (x : LowParts ChaCha S E). x.store) lent.parts_are ∙ store_was)) counts
+
   abbrev lived_parts : List Part
   lived_parts = lives_on.stands.stands.parts
 
@@ -104,11 +128,11 @@ module _ {D L S E : Type 0} (t : DoorsTell D L) (m : Meaning S) (row : SessionRo
       let state = lives_on.stands.stands.state in
       sym (lost_is q.phase q.hand.number) ∙ ap (λ (s : State). is_lost s.phase) state ∙ ap (λ (r : SessionRow). is_lost (phase_after r o lived_parts)) row_after ∙ sound
 
-  left_by : m.tells → is_lost (phase_after row o lived_parts) ≡ false → StandsForCount row (count_after o lived_parts) (m.reading (low_disk store))
+  left_by : m.tells → is_lost (phase_after row o lived_parts) ≡ false → StandsForCount row (count_after o lived_parts) (m.reading now_disk)
   left_by told sound =
-      subst (λ (x : ℕ × LowStore S). StandsForCount row x.0 (m.reading (low_disk x.1))) (λ i. (ap (λ (s : State). s.next) lives_on.stands.stands.state i, lent.store_is i)) (stands_for told (is_up sound))
+      subst (λ (x : ℕ × S). StandsForCount row x.0 (m.reading x.1)) (λ i. (ap (λ (s : State). s.next) lives_on.stands.stands.state i, now_disk_is i)) (stands_for told (is_up sound))
 
-  pub low_served : LowServed t m row rounds key ports now_ports reads now_reads written now_written faults now_faults disk (low_disk store) end
+  pub low_served : LowServed t m row rounds key ports now_ports reads now_reads written now_written faults now_faults disk now_disk end
   low_served = record {
     opening = o;
     found = found;
@@ -128,9 +152,12 @@ module _ {D L S E : Type 0} (t : DoorsTell D L) (m : Meaning S) (row : SessionRo
     links = lent.ran.links;
     moments = lent.ran.moments;
     words = subst (λ (s : ChaCha). words_given s (words_in lent.ran.stays)) words_before (Draws-all (words_given lent.v.parts.words) (words_given lent.w.parts.words) (words_in lent.ran.stays) (no_words lent.w.parts.words) lent.ran.words);
-    tape = subst (λ (x : RoundsEnd × SessionRow × ℕ × Bool). Reaches (Appends written now_written) faults now_faults (is_kept_by (Some x.0)) (line_text (opening_line x.1 (record { count = x.2; is_held = x.3 })) ++ text_in x.1 lent.ran.stays))
-        (λ i. (lent.end_is i, row_before i, next_before i, held_before i)) lent.ran.tape;
+    tape = subst (λ (x : RoundsEnd × List ℕ). Reaches (Appends written now_written) faults now_faults (is_kept_by (Some x.0)) x.1) (λ i. (lent.end_is i, record_is i)) lent.ran.tape;
     left = λ told. (lived_parts, subst (λ (r : SessionRow). IsCut r (life_made o (stayed [] lent.ran.stays)) lived_parts) row_after lives_on.stands.stands.cut, left_by told);
-    device = counts_from (Some end) _ _ _ counts
-        (subst (λ (x : RoundsEnd × LowStore S × LowParts ChaCha S E). CountsEnd (Some x.0) (m.count (low_disk x.2.store)) (m.count (low_disk x.1))) (λ i. (lent.end_is i, lent.store_is i, lent.parts_are i)) lent.ran.device);
+    device = counts_from (Some end) (m.count disk) (m.count (low_disk lent.v.parts.store)) (m.count now_disk) first_counts
+        (subst (λ (x : RoundsEnd × S). CountsEnd (Some x.0) (m.count (low_disk lent.v.parts.store)) (m.count x.1)) (λ i. (lent.end_is i, now_disk_is i)) lent.ran.device);
   }
+
+  -- the disk has not failed less often
+  pub low_counts : m.count disk ≤ m.count now_disk
+  low_counts = subst (λ (x : S). m.count disk ≤ m.count x) now_disk_is (omega (arith, first_counts, lent.ran.counts))

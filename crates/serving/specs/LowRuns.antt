@@ -5,12 +5,14 @@ use Rattle.std.specs.Io.KnownBytes.{Appends}
 use Rattle.disk_model.specs.Disk.{Meaning}
 use Rattle.pump_link.specs.Ports.{PortsStep}
 use Rattle.pump_link.specs.Tells.{Draws, Grows}
+use Rattle.pump_core.specs.History.{Opening}
 use Rattle.script_reader.specs.Spelling.{line_text}
 use Rattle.stable_buffer.specs.Low.{low_disk}
 use Rattle.stable_buffer.specs.declared.low.LowStore.{LowStore}
 use Rattle.low_process.specs.Looks.{row_of, next_of}
 use Rattle.low_process.specs.Whole.{HasStore}
-use Rattle.relay_threads.specs.LowStays.{Stay, StaysSo, TellsVisit, is_kept_by, steps, answers, moments_in, words_in, text_in}
+use Rattle.relay_threads.specs.LowServes.{Lives}
+use Rattle.relay_threads.specs.LowStays.{Stay, IsRecord, StaysSo, TellsVisit, is_kept_by, steps, answers, moments_in, words_in, text_in}
 use Rattle.relay_threads.specs.Reaching.{Reaches}
 use Rattle.relay_threads.specs.RecordLines.{opening_line}
 use Rattle.relay_threads.specs.Workers.{CountsEnd}
@@ -37,6 +39,7 @@ pub record LowRan {R L W S E : Type 0} (t : DoorsTell R L) (m : Meaning S) (give
   pub moments : Draws reads now_reads (moments_in stays)
   pub words : Draws (gives v.parts.words) (gives w.parts.words) (words_in stays)
   pub tape : Reaches (Appends written now_written) faults now_faults (is_kept_by (Some w.end)) (opening_text v.parts ++ text_in (row_of v.parts.process) stays)
+  pub is_record : (o : Opening) → Lives v.parts.process o [] → IsRecord (row_of v.parts.process) stays
   pub store : HasStore m w.parts.process w.parts.store
   pub counts : m.count (low_disk v.parts.store) ≤ m.count (low_disk w.parts.store)
   pub device : CountsEnd (Some w.end) (m.count (low_disk v.parts.store)) (m.count (low_disk w.parts.store))

@@ -1,5 +1,5 @@
 -- What the low worker of a session does.
-use Rattle.std.specs.Prelude.{◌≡◌, ℕ, ◌+◌, ◌==◌, true, false, Bool, List, [], ◌++◌, Option, Some}
+use Rattle.std.specs.Prelude.{◌≡◌, ℕ, ◌+◌, ◌==◌, true, false, Bool, List, [], Option, Some}
 use Rattle.std.specs.List.{AllByRecursion}
 use Rattle.std.specs.Io.KnownBytes.{Appends}
 use Rattle.rand_chacha.specs.ChaCha.{key_of}
@@ -14,11 +14,10 @@ use Rattle.pump_core.specs.Phases.{Phase, Idle, Passing, Waiting, Down}
 use Rattle.pump_core.specs.Standing.{phase_after}
 use Rattle.stable_buffer.specs.Low.{StandsForCount}
 use Rattle.stable_buffer.specs.Stands.{LowStands}
-use Rattle.relay_threads.specs.LowStays.{Stay, AreStays, TellsVisit, is_kept_by, stayed, steps, answers, moments_in, words_in, text_in}
+use Rattle.relay_threads.specs.LowStays.{Stay, AreStays, TellsVisit, is_kept_by, stayed, steps, answers, moments_in, words_in}
 use Rattle.relay_threads.specs.Reaching.{Reaches}
 use Rattle.relay_threads.specs.Records.{AreMade, life_made}
-use Rattle.relay_threads.specs.RecordLines.{opening_line}
-use Rattle.script_reader.specs.Spelling.{line_text}
+use Rattle.relay_threads.specs.RecordLines.{record_text}
 use Rattle.relay_threads.specs.Workers.{CountsEnd}
 use Rattle.relay_threads.specs.declared.rounds_end.RoundsEnd.{RoundsEnd}
 use Rattle.serving.specs.Doors.{DoorsTell, AtDoor}
@@ -53,7 +52,7 @@ pub record LowServed {D L S : Type 0} (t : DoorsTell D L) (m : Meaning S) (row :
   pub moments : Draws reads now_reads (moments_in stays)
   pub words : AreWords (key_of key) 0 0 (words_in stays)
   -- the record of these looks was written, or a front of it
-  pub tape : Reaches (Appends written now_written) faults now_faults (is_kept_by (Some end)) (line_text (opening_line row opening) ++ text_in row stays)
+  pub tape : Reaches (Appends written now_written) faults now_faults (is_kept_by (Some end)) (record_text row opening (stayed [] stays))
   -- the disk counts what the life stored, unless it failed
   pub left : m.tells → (parts : List Part) × IsCut row (life_made opening (stayed [] stays)) parts
       × (is_lost (phase_after row opening parts) ≡ false → StandsForCount row (count_after opening parts) (m.reading now_disk))

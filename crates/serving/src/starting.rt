@@ -48,12 +48,14 @@ pub fn start_low<D: Disk, L: WaitLowEnd>(
     ensures words { result.words ≡ record { key = key_of key; stream = 0; word_pos = 0 } }
     ensures store { result.store ≡ store }
 {
+    let is_held = hand.is_some();
+    let process = LowProcess::open(row, next, hand);
     LowParts {
-        is_held: hand.is_some(),
-        process: LowProcess::open(row, next, hand),
+        process,
         store,
         ends,
         words: StreamWords::new(key, 0),
+        is_held,
     }
 }
 
@@ -75,8 +77,9 @@ pub fn start_high<D: Disk, H: WaitHighEnd>(
     ensures stands { StandsFor result.process (fresh removed hand) }
     ensures store { result.store ≡ store }
 {
+    let process = HighProcess::open(row, removed, hand);
     HighParts {
-        process: HighProcess::open(row, removed, hand),
+        process,
         store,
         ends,
     }

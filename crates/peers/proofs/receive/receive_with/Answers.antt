@@ -7,6 +7,7 @@ use Rattle.peers.proofs.receive.receive_with.Goals as goal
 pub returns-then-not-send_frame : goal.returns-then-not-send_frame
 returns-then-not-send_frame g c = record {
   receives = attach_fails _ _ _ _ _ _ _ _ _ _ _ c.requires.ready c.send_frame.ensures.gives (rw (c.plain_frame.ensures, c.count.ensures) at c.send_frame.ensures.sent) (c.send_frame.ensures.failed c.if-not-send_frame.true);
+  out_later = omega arith;
 }
 
 pub frames-init : goal.frames-init
@@ -36,6 +37,7 @@ returns-in-Some g c =
     record {
       receives = frame_ends _ _ _ _ _ _ _ _ _ _ _ _ _ _ _ _ _ w.0 was.so_far w.2 (Draws-kept _ _ _ _ w.1 c.serve_frame.ensures.gives) c.in-Frame.frame s.0 _ _ _ _ _ _ c.in-Some.end c.requires.ready w.3 low was.out_later s.1
           (Grows-after _ _ _ _ c.await_frame.ensures.sent s.2) s.3;
+      out_later = omega (arith, was.out_later, c.serve_frame.ensures.out_later);
     }
 
 pub frames-preserved : goal.frames-preserved
@@ -53,10 +55,10 @@ pub returns-in-Over : goal.returns-in-Over
 returns-in-Over g c =
     let was = c.frames.invariant in
     let w = c.in-Over.ensures.wait in
-    record { receives = over_ends _ _ _ _ _ _ _ _ _ _ _ _ _ None _ _ c.frames.receiver w.0 was.so_far w.2 w.1 _ _ _ _ _ _ _ c.requires.ready was.later w.3 c.await_frame.ensures.sent }
+    record { receives = over_ends _ _ _ _ _ _ _ _ _ _ _ _ _ None _ _ c.frames.receiver w.0 was.so_far w.2 w.1 _ _ _ _ _ _ _ c.requires.ready was.later w.3 c.await_frame.ensures.sent; out_later = was.out_later }
 
 pub returns-in-Used : goal.returns-in-Used
 returns-in-Used g c =
     let was = c.frames.invariant in
     let w = c.in-Used.ensures.wait in
-    record { receives = used_ends _ _ _ _ _ _ _ _ _ _ _ _ _ None _ _ c.frames.receiver w.0 was.so_far w.2 w.1 _ c.requires.ready w.3.0 w.3.1 c.await_frame.ensures.sent }
+    record { receives = used_ends _ _ _ _ _ _ _ _ _ _ _ _ _ None _ _ c.frames.receiver w.0 was.so_far w.2 w.1 _ c.requires.ready w.3.0 w.3.1 c.await_frame.ensures.sent; out_later = was.out_later }

@@ -16,22 +16,22 @@ lines-init g c = record {
 }
 
 pub returns-in-Bad : goal.returns-in-Bad
-returns-in-Bad g c = record { lines = script_ends _ _ _ _ _ _ _ _ _ _ _ _ _ c.lines.invariant.so_far _ (omega (arith, c.lines.auto.number-fits)) (read_ahead _ _ _ c.next.ensures.taken c.next.ensures.ahead) (counts 0 0 0 0 0 0) _ c.saturating_add.ensures (inl c.in-Bad.ensures.next) }
+returns-in-Bad g c = record { lines = script_ends _ _ _ _ _ _ _ _ _ _ _ _ _ c.lines.invariant.so_far _ (omega (arith, c.lines.auto.number-fits)) (read_ahead _ _ _ c.next.ensures.taken c.next.ensures.ahead) (counts 0 0 0 0 0 0) _ c.saturating_add.ensures (inl c.in-Bad.ensures.next); out_later = c.lines.invariant.out_later }
 
 pub returns-in-End : goal.returns-in-End
-returns-in-End g c = record { lines = done_ends _ _ _ _ _ _ _ _ _ _ _ _ _ c.lines.invariant.so_far _ (omega (arith, c.lines.auto.number-fits)) (read_ahead _ _ _ c.next.ensures.taken c.next.ensures.ahead) (counts 0 0 0 0 0 0) c.in-End.ensures.next }
+returns-in-End g c = record { lines = done_ends _ _ _ _ _ _ _ _ _ _ _ _ _ c.lines.invariant.so_far _ (omega (arith, c.lines.auto.number-fits)) (read_ahead _ _ _ c.next.ensures.taken c.next.ensures.ahead) (counts 0 0 0 0 0 0) c.in-End.ensures.next; out_later = c.lines.invariant.out_later }
 
 pub returns-in-Failed : goal.returns-in-Failed
 returns-in-Failed g c =
     let was = c.lines.invariant in
-    record { lines = read_ends _ _ _ _ _ _ _ _ _ _ _ _ _ was.so_far _ (omega (arith, c.lines.auto.number-fits)) (read_ahead _ _ _ c.next.ensures.taken c.next.ensures.ahead) (counts 0 0 0 0 (g.I.Source.faults c.args.script.now) (g.I.Source.faults c.next.new.script)) (rose_earlier _ _ _ was.source_later (c.in-Failed.ensures.failed refl)) }
+    record { lines = read_ends _ _ _ _ _ _ _ _ _ _ _ _ _ was.so_far _ (omega (arith, c.lines.auto.number-fits)) (read_ahead _ _ _ c.next.ensures.taken c.next.ensures.ahead) (counts 0 0 0 0 (g.I.Source.faults c.args.script.now) (g.I.Source.faults c.next.new.script)) (rose_earlier _ _ _ was.source_later (c.in-Failed.ensures.failed refl)); out_later = was.out_later }
 
 pub returns-then-number : goal.returns-then-number
 returns-then-number g c =
     let was = c.lines.invariant in
     let p = c.in-Payload.ensures.next in
     let line : 4294967295 ≡ min (c.lines.number + 1) 4294967295 = omega (arith, c.if-number.true) in
-    record { lines = script_ends _ _ _ _ _ _ _ _ _ _ _ _ _ was.so_far _ (omega (arith, c.lines.auto.number-fits)) (read_ahead _ _ _ c.next.ensures.taken c.next.ensures.ahead) (counts 0 0 0 0 0 0) _ line (inr (c.if-number.true, comes_some _ _ p.0 p.2)) }
+    record { lines = script_ends _ _ _ _ _ _ _ _ _ _ _ _ _ was.so_far _ (omega (arith, c.lines.auto.number-fits)) (read_ahead _ _ _ c.next.ensures.taken c.next.ensures.ahead) (counts 0 0 0 0 0 0) _ line (inr (c.if-number.true, comes_some _ _ p.0 p.2)); out_later = was.out_later }
 
 pub returns-in-Some : goal.returns-in-Some
 returns-in-Some g c =
@@ -45,6 +45,7 @@ returns-in-Some g c =
       lines = message_ends _ _ _ _ _ _ _ _ _ _ _ _ _ was.so_far _ (omega (arith, c.lines.auto.number-fits)) (read_ahead _ _ _ c.next.ensures.taken c.next.ensures.ahead) c.next.new.payload p.0 _ _
           (λ i. record { kind = was.kind i; session = was.session i; number = number_is i; payload = c.next.new.payload }) low few p.1 p.2 _ _ _ _ s.0 s.2 s.3 s.4 s.5 s.6 _ c.in-Some.end
           (message_earlier _ s.0 _ _ _ _ _ _ 0 0 (g.I.Source.faults c.args.script.now) (g.I.Source.faults c.next.new.script) c.in-Some.end was.link_later was.out_later s.1);
+      out_later = omega (arith, was.out_later, c.send_message.ensures.out_later);
     }
 
 pub lines-preserved-then-frame-first : goal.lines-preserved-then-frame-first

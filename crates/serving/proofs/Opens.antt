@@ -1,0 +1,67 @@
+-- How a session that was opened, or not, comes to its end.
+use Rattle.std.proofs.Common.{◌≡◌, ◌⊎◌, ℕ, ◌≤◌, ◌&&◌, Bool, true, false, List, Option, Some, None, inl, inr, IfSome, IfNone, refl, sym, ap, ◌∙◌, subst, arith}
+use Rattle.disk_model.specs.Disk.{Meaning}
+use Rattle.disk_model.specs.declared.name.Role.{Role}
+use Rattle.disk_model.specs.declared.name.Role.TheVariants as roles
+use Rattle.pump_frame.specs.Counts.{Rose}
+use Rattle.pump_frame.specs.declared.frame.Item.{Item}
+use Rattle.pump_frame.specs.declared.row.SessionRow.{SessionRow}
+use Rattle.recovery.specs.Calls.{Calls, CallsHigh, is_device, is_low, is_high}
+use Rattle.recovery.specs.Refusals.{refused_pump}
+use Rattle.recovery.specs.declared.why.Why.{Why}
+use Rattle.serving.specs.Sessions.{IfEnded, OpensBy, RoseAt, end_of, has_run, is_opened}
+use Rattle.serving.specs.declared.doors.WorkersEnd.{WorkersEnd}
+use Rattle.serving.specs.declared.session.SessionEnd.{SessionEnd}
+use Rattle.serving.specs.declared.session.SessionEnd.TheVariants as ends
+
+-- ---- opened: with doors or without ----
+
+module _ (o : Option WorkersEnd) (end : SessionEnd) (is : end ≡ end_of o) where
+  pub ended_so : (P Q : WorkersEnd → Type 0) → IfSome o Q → ((e : WorkersEnd) → Q e → P e) → IfEnded end P
+  ended_so P Q h f = subst (λ (x : SessionEnd). IfEnded x P) (sym is) (by_ends o h) where
+    by_ends : (x : Option WorkersEnd) → IfSome x Q → IfEnded (end_of x) P
+    by_ends None h = tt
+    by_ends (Some e) h = f e h
+
+  pub no_doors : (P : Type 0) → IfNone o P → has_run end ≡ false → P
+  no_doors P h none = by_ends o h (sym (ap has_run is) ∙ none) where
+    by_ends : (x : Option WorkersEnd) → IfNone x P → has_run (end_of x) ≡ false → P
+    by_ends None h none = h
+    by_ends (Some e) h none = absurd (cc)
+
+  pub wants_door : (P : Type 0) → IfNone o P → end ≡ ends.NoDoor → P
+  wants_door P h none = no_doors P h (ap has_run none)
+
+  pub always_opened : is_opened end ≡ false → ⊥
+  always_opened none = by_ends o (sym (ap is_opened is) ∙ none) where
+    by_ends : (x : Option WorkersEnd) → is_opened (end_of x) ≡ false → ⊥
+    by_ends None none = cc
+    by_ends (Some e) none = cc
+
+  pub opens_so : {S : Type 0} (m : Meaning S) (row : SessionRow) (low high now_low now_high : S) → (m.tells → refused_pump row (m.reading low) (m.reading high) ≡ None) → OpensBy m row low high now_low now_high end
+  opens_so m row low high now_low now_high fine = subst (λ (x : SessionEnd). OpensBy m row low high now_low now_high x) (sym is) (by_ends o) where
+    by_ends : (x : Option WorkersEnd) → OpensBy m row low high now_low now_high (end_of x)
+    by_ends None = fine
+    by_ends (Some e) = fine
+
+-- so with doors or without
+pub both_ways : (o : Option WorkersEnd) (P : Type 0) (Q : WorkersEnd → Type 0) (R : Type 0) → IfNone o R → (R → P) → IfSome o Q → ((e : WorkersEnd) → Q e → P) → P
+both_ways None P Q R none f some g = f none
+both_ways (Some e) P Q R none f some g = g e some
+
+-- ---- refused ----
+
+-- the high disk has not failed less often
+pub high_calls : {S : Type 0} (m : Meaning S) (row : SessionRow) (low old new : S) (failed : Bool) → CallsHigh m row low old new failed → m.count old ≤ m.count new
+high_calls m row low old new failed (inl called) = called.0.counts
+high_calls {S} m row low old new failed (inr left) = subst (λ (x : S). m.count old ≤ m.count x) (sym left.0) (omega arith)
+
+-- a disk that failed is the one that is named
+pub rose_so : {S : Type 0} (m : Meaning S) (row : SessionRow) (role : Role) (device : Bool) (low high now_low now_high : S) → (role ≡ roles.Low) ⊎ (role ≡ roles.High)
+    → Calls m low now_low (is_low role && device) → CallsHigh m row low high now_high (is_high role && device) → device ≡ true → RoseAt m role low high now_low now_high
+rose_so m row roles.Low true low high now_low now_high either low_calls high_calls failed = low_calls.rose refl
+rose_so m row roles.Low false low high now_low now_high either low_calls high_calls failed = absurd (cc)
+rose_so m row roles.High true low high now_low now_high either low_calls (inl called) failed = called.0.rose refl
+rose_so m row roles.High true low high now_low now_high either low_calls (inr left) failed = (let e = left.1 in absurd (cc))
+rose_so m row roles.High false low high now_low now_high either low_calls high_calls failed = absurd (cc)
+rose_so m row roles.Recv device low high now_low now_high either low_calls high_calls failed = elim either [ inl e ↦ absurd (cc) | inr e ↦ absurd (cc) ]

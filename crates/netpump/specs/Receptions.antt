@@ -29,17 +29,17 @@ end_of_receiver (receiver.Device faults) = Failed roles.Recv
 end_of_receiver (receiver.Ahead number count) = Ahead number count
 end_of_receiver (receiver.LogFull end length size) = Full end length size
 
+-- the receiver's disk, which reads this, could not be taken, or not be opened
+abbrev pub StopsAtDisk : List ℕ → SessionRow → CommandEnd → Type 0
+StopsAtDisk found row Memory = Unit {0}
+StopsAtDisk found row (Failed roles.Recv) = Unit {0}
+StopsAtDisk found row (Refused roles.Recv why) = refused_receiver row receiver_size found ≡ Some why
+StopsAtDisk found row end = ⊥
+
 -- Of the ports' steps and of the sink the second value is that at the end; `found` is what the receiver's disk
 -- reads before, and `left` what it reads then.
 module _ {D L : Type 0} (t : LinksTell L) (looks : ℕ) (ports now_ports : List (PortsStep L D) → Type 0)
     (written : Option (List ℕ)) (out_faults : ℕ) (found left : List ℕ) where
-  -- the receiver's disk could not be taken, or not be opened
-  abbrev pub StopsAtDisk : SessionRow → CommandEnd → Type 0
-  StopsAtDisk row Memory = Unit {0}
-  StopsAtDisk row (Failed roles.Recv) = Unit {0}
-  StopsAtDisk row (Refused roles.Recv why) = refused_receiver row receiver_size found ≡ Some why
-  StopsAtDisk row end = ⊥
-
   -- High's receiver worked with the row, from where its disk stood, over the one link that the ports gave, to the
   -- row's high port, and took back. The list on the disk grew by the messages that it took.
   pub record HasReceived (row : SessionRow) (end : ReceiveEnd) (now_written : Option (List ℕ)) (now_out_faults : ℕ) : Type 0 where
@@ -67,7 +67,7 @@ module _ {D L : Type 0} (t : LinksTell L) (looks : ℕ) (ports now_ports : List 
   -- .. on a disk that can be opened; or it can't
   abbrev pub ReceivesFor : SessionRow → CommandEnd → Option (List ℕ) → ℕ → Type 0
   ReceivesFor row end mid mid_faults =
-      (StopsAtDisk row end × (left ≡ found) × Grows ports now_ports [] × (mid ≡ written))
+      (StopsAtDisk found row end × (left ≡ found) × Grows ports now_ports [] × (mid ≡ written))
       ⊎ ((refused_receiver row receiver_size found ≡ None) × ReceivesOver row end mid mid_faults)
 
 -- With the row of the session, if the table has one; `file` is the table's. `before` and `after` say where each

@@ -5,6 +5,7 @@ mod batch;
 mod command_end;
 #[cfg(test)]
 mod command_tests;
+mod disk_pair;
 mod exercise;
 mod explain;
 mod file_disk;

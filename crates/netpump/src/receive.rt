@@ -7,7 +7,7 @@ ghost use Rattle.disk_model.specs.declared.name.Role.TheVariants as roles;
 ghost use Rattle.high_receiver.specs.Receiving.{IsRecvReady, recv_disk, recv_row, recv_size};
 ghost use Rattle.pump_frame.specs.Counts.{Rose};
 ghost use Rattle.pump_frame.specs.Rows.{IsLawfulRow};
-ghost ghost use Rattle.stable_buffer.specs.Format.{receiver_size};
+ghost use Rattle.stable_buffer.specs.Format.{receiver_size};
 ghost use Rattle.script_replay.specs.Shelves.{AllAreBack, disk_name, reading_at};
 ghost use Rattle.serving.specs.Doors.{links};
 ghost use Rattle.netpump.specs.LentDisks.{LeavesOtherDisks};

@@ -13,6 +13,7 @@ ghost use Rattle.netpump.specs.Servings.{end_of_workers, end_of_session, ServesW
 ghost use Rattle.netpump.specs.declared.command_end.CommandEnd.TheVariants as ends;
 
 use crate::command_end::{CommandEnd, finish};
+use crate::disk_pair::{put_pair_back, take_pair};
 use crate::format::untaken;
 use crate::show::end_at;
 use crate::table_row::row_in_file;
@@ -21,7 +22,6 @@ use disk_model::{Role, Shelf};
 use pump_frame::SessionRow;
 use pump_link::{Clock, Ports, Sink, Source};
 use relay_threads::RoundsEnd;
-use script_replay::{put_disk_back, take_disk};
 use serving::{SessionEnd, WorkersEnd, read_key, serve_session};
 use std::alloc::Global;
 use std::sync::Wait;
@@ -81,22 +81,14 @@ where
     ensures link { result ≡ ends.Unconnected → Rose (P.faults ports.old) (P.faults ports.new) }
     ensures later { O.faults out.old ≤ O.faults out.new }
 {
-    let low = match take_disk(shelf, row.id, Role::Low) {
-        Ok(low) => low,
+    let disks = match take_pair(shelf, row.id) {
+        Ok(disks) => disks,
         Err(not_taken) => return untaken(not_taken),
     };
-    let high = match take_disk(shelf, row.id, Role::High) {
-        Ok(high) => high,
-        Err(not_taken) => {
-            put_disk_back(shelf, row.id, Role::Low, low);
-            return untaken(not_taken);
-        }
-    };
     let served = serve_session(
-        rt, alloc, row, low, high, ports, low_clock, high_clock, key, out, looks,
+        rt, alloc, row, disks.low, disks.high, ports, low_clock, high_clock, key, out, looks,
     );
-    put_disk_back(shelf, row.id, Role::Low, served.low);
-    put_disk_back(shelf, row.id, Role::High, served.high);
+    put_pair_back(shelf, row.id, served.low, served.high);
     end_of_session(&served.end)
 }
 

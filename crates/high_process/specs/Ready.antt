@@ -1,4 +1,4 @@
--- What the tests keep from look to look, so that the next one may be made; it serves them alone.
+-- What a caller keeps from look to look, so that the next one may be made.
 use Rattle.std.specs.Prelude.{◌≡◌, false}
 use Rattle.disk_model.specs.Disk.{Meaning}
 use Rattle.stable_buffer.specs.High.{IsHighReady, high_count}

@@ -1,5 +1,5 @@
 -- The rounds of a call of the high worker, one after the other.
-use Rattle.std.proofs.Common.{◌≡◌, ℕ, ◌+◌, ◌≤◌, ◌<◌, Bool, true, false, List, [], ◌∷◌, ◌++◌, length, Option, Some, None, Result, Ok, Err, refl, sym, ap, ◌∙◌, subst, append_assoc, append-nil, arith}
+use Rattle.std.proofs.Common.{◌≡◌, ℕ, ◌+◌, ◌≤◌, Bool, true, false, List, [], ◌∷◌, ◌++◌, length, Option, Some, None, Result, Ok, Err, refl, sym, ap, ◌∙◌, subst, append_assoc, append-nil, arith}
 use Rattle.std.specs.Prelude.{if◌then◌else◌, ◌||◌}
 use Rattle.std.proofs.lemmas.Grind.{flat_map-append}
 use Rattle.pump_frame.specs.declared.frame.Frame.{Frame}
@@ -20,9 +20,9 @@ use Rattle.high_process.specs.Looks.{StandsFor}
 use Rattle.relay_threads.specs.declared.high_served.HighWhy.{HighWhy}
 use Rattle.relay_threads.specs.declared.high_served.HighWhy.TheVariants.{Gone, Bad, NotAttach, LinkFailed, Device, Ahead, Behind, Looks, Stopped}
 use Rattle.relay_threads.specs.declared.high_round.Plan.TheVariants.{End, Look}
-use Rattle.relay_threads.specs.Hearings.{Ending, AtFrame, AtBad, AtNotYet, AtEnded, AtFailed, AtMost, Hearing, IsHearing, Leaves, heard_as, held_by, held_in, looks_in}
+use Rattle.relay_threads.specs.Hearings.{Ending, AtFrame, AtBad, AtNotYet, AtEnded, AtFailed, AtMost, IsHearing, Leaves, heard_as, held_by, held_in}
 use Rattle.relay_threads.specs.Workers.{SendsFront}
-use Rattle.relay_threads.specs.HighRounds.{Made, Round, MakesLook, IsRound, AreRounds, GoOn, plan_of, frame_heard, cause, cause_by, cause_made, cause_look, why_of, is_frame, past_after, served, looks_of_rounds, looks_in_round, moments, data_sent, data_made, removes, removals, asks_before, asks_of, held_after, is_attached}
+use Rattle.relay_threads.specs.HighRounds.{Made, Round, MakesLook, IsRound, GoOn, plan_of, frame_heard, cause, cause_by, cause_made, cause_look, why_of, is_frame, past_after, served, looks_of_rounds, looks_in_round, moments, data_sent, data_made, removes, removals, asks_before, asks_of, held_after, is_attached}
 use Rattle.relay_threads.specs.HighServes.{IsData, RoundMade, Serves, EndsBy}
 use Rattle.pump_link.proofs.Grown.{Draws-nil, Draws-then, Grows-nil, Grows-then}
 

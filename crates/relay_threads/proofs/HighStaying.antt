@@ -1,5 +1,5 @@
 -- Stays of the high worker, one after the other.
-use Rattle.std.proofs.Common.{◌≡◌, ◌⊎◌, inl, inr, ℕ, ◌+◌, ◌≤◌, ◌<◌, Bool, true, false, List, [], ◌∷◌, ◌++◌, length, Option, Some, None, refl, sym, ap, ◌∙◌, subst, arith}
+use Rattle.std.proofs.Common.{◌≡◌, ◌⊎◌, inl, inr, ℕ, ◌+◌, ◌≤◌, ◌<◌, false, List, [], ◌∷◌, length, Some, None, refl, sym, ap, ◌∙◌, subst, arith}
 use Rattle.std.specs.List.{AllByRecursion}
 use Rattle.pump_frame.specs.declared.row.SessionRow.{SessionRow}
 use Rattle.pump_frame.specs.Counts.{Rose}
@@ -10,7 +10,6 @@ use Rattle.pump_link.specs.Doors.{DoorStep, answered}
 use Rattle.pump_link.specs.declared.link.Looked.{Looked}
 use Rattle.high_process.specs.declared.process.HighProcess.{HighProcess}
 use Rattle.high_process.specs.States.{row_of, is_down}
-use Rattle.high_process.specs.Past.{ProcessPast}
 use Rattle.high_process.specs.Looks.{StandsFor}
 use Rattle.relay_threads.specs.declared.high_served.HighWhy.{HighWhy}
 use Rattle.relay_threads.specs.declared.high_served.HighWhy.TheVariants.{Gone, Bad, NotAttach, LinkFailed, Device, Ahead, Behind, Looks, Stopped}
@@ -19,8 +18,7 @@ use Rattle.relay_threads.specs.declared.rounds_end.RoundsEnd.TheVariants.{Rounds
 use Rattle.relay_threads.specs.Workers.{IsNobody}
 use Rattle.relay_threads.specs.HighRounds.{Round, GoOn, newest_cause}
 use Rattle.relay_threads.specs.HighServes.{Serves, EndsBy, device_in, is_device}
-use Rattle.relay_threads.specs.HighStays.{Visit, Stay, Alone, With, IsStay, IsOver, AreStays, stay_after, stayed, StaySo, StaysSo, EndsStay, EndsStayBy, EndsStays, end_by, steps, steps_at, answers, answers_at, moments_in, moments_at, count, count_at, stay_cause, newest_stay_cause, TellsVisit}
-use Rattle.pump_link.proofs.Grown.{Draws-nil, Grows-nil}
+use Rattle.relay_threads.specs.HighStays.{Visit, Stay, Alone, With, IsStay, IsOver, stay_after, stayed, StaySo, StaysSo, EndsStay, EndsStayBy, EndsStays, end_by, steps, answers, moments_in, count, count_at, TellsVisit}
 
 -- a door that failed counts as one that found nobody
 pub nobody : {L : Type 0} (answer : Accepted L) → (answer ≡ NotYet) ⊎ (answer ≡ Failed) → IsNobody (answered answer)

@@ -1,6 +1,6 @@
 -- One look and one round of the high worker, by what their calls say.
-use Rattle.std.proofs.Common.{◌≡◌, ℕ, ◌+◌, ◌≤◌, Bool, true, false, List, [], ◌∷◌, ◌++◌, Option, Some, None, Result, Ok, Err, refl, sym, ap, ◌∙◌, subst}
-use Rattle.std.specs.Prelude.{IfSome, IfOk, OnErr, ◌||◌, ◌&&◌, not, is_some}
+use Rattle.std.proofs.Common.{◌≡◌, ℕ, Bool, true, false, List, Option, Some, None, Result, Ok, Err, refl, sym, ap, ◌∙◌, subst}
+use Rattle.std.specs.Prelude.{IfSome, ◌||◌, ◌&&◌, not, is_some}
 use Rattle.disk_model.specs.Disk.{Meaning}
 use Rattle.stable_buffer.specs.declared.high.HighStore.{HighStore}
 use Rattle.pump_frame.specs.declared.frame.Frame.{Frame}
@@ -9,13 +9,12 @@ use Rattle.pump_frame.specs.declared.row.SessionRow.{SessionRow}
 use Rattle.pump_core.specs.Passage.{Shape, Low, High}
 use Rattle.high_process.specs.declared.process.HighProcess.{HighProcess}
 use Rattle.high_process.specs.declared.values.HighFault.{HighFault}
-use Rattle.high_process.specs.declared.values.HighFault.TheVariants.{Device}
 use Rattle.high_process.specs.declared.values.HighLook.{HighLook}
 use Rattle.high_process.specs.declared.values.Task.{Task}
 use Rattle.high_process.specs.declared.values.Task.TheVariants.{Refuse, Remove, Keep}
-use Rattle.high_process.specs.Tasks.{task_of, attaches_in}
+use Rattle.high_process.specs.Tasks.{task_of}
 use Rattle.high_process.specs.Past.{ProcessPast, begun, removed_in, published_in, taken_up, finished, wants, sent_in}
-use Rattle.high_process.specs.States.{row_of, removed_of, hand_of, is_down, task_at, attaches_at}
+use Rattle.high_process.specs.States.{row_of, hand_of, is_down, task_at, attaches_at}
 use Rattle.high_process.specs.Ready.{Ready}
 use Rattle.high_process.specs.Storing.{GivenBack, Fares}
 use Rattle.high_process.specs.Ends.{TakesUp, told_time}
@@ -27,7 +26,7 @@ use Rattle.relay_threads.specs.declared.high_served.HighWhy.{HighWhy}
 use Rattle.relay_threads.specs.declared.high_round.Plan.{Plan}
 use Rattle.relay_threads.specs.declared.high_round.Plan.TheVariants.{End, Pass, Look}
 use Rattle.relay_threads.specs.Hearings.{Hearing, IsHearing, Leaves, heard_as}
-use Rattle.relay_threads.specs.HighRounds.{Made, Round, MakesLook, plan_of, frame_heard, cause, cause_by, cause_made, cause_look, is_frame, IsLook, IsDone, LooksBy, with_hand, past_by, past_after, removed_by}
+use Rattle.relay_threads.specs.HighRounds.{Made, Round, MakesLook, plan_of, frame_heard, cause, cause_by, cause_look, is_frame, IsDone, LooksBy, with_hand, past_by}
 use Rattle.relay_threads.specs.HighServes.{LookMade, RoundMade}
 
 -- what is in the hand after a look tells what was taken up

@@ -10,7 +10,7 @@ use Rattle.high_process.specs.States.{row_of, is_down}
 use Rattle.high_process.specs.Past.{ProcessPast}
 use Rattle.high_process.specs.Looks.{StandsFor}
 use Rattle.relay_threads.specs.declared.high_served.HighWhy.{HighWhy}
-use Rattle.relay_threads.specs.declared.high_served.HighWhy.TheVariants.{Gone, Bad, NotAttach, LinkFailed, Device, Ahead, Behind, Looks, Stopped}
+use Rattle.relay_threads.specs.declared.high_served.HighWhy.TheVariants.{Device, Looks, Stopped}
 use Rattle.relay_threads.specs.declared.high_served.HighServed.{HighServed}
 use Rattle.relay_threads.specs.declared.high_round.HighConnection.{HighConnection}
 use Rattle.relay_threads.specs.Hearings.{IsHearing, Leaves, heard_as, held_in}

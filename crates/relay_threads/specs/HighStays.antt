@@ -6,7 +6,7 @@ use Rattle.pump_frame.specs.Counts.{Rose}
 use Rattle.pump_frame.specs.Streams.{spellings}
 use Rattle.pump_frame.specs.declared.row.SessionRow.{SessionRow}
 use Rattle.pump_link.specs.Tells.{Draws}
-use Rattle.pump_link.specs.Doors.{DoorStep, CameLink, NoLink, FailedAccept, BackLink}
+use Rattle.pump_link.specs.Doors.{DoorStep, CameLink, BackLink}
 use Rattle.pump_link.specs.declared.link.Looked.{Looked}
 use Rattle.high_process.specs.declared.process.HighProcess.{HighProcess}
 use Rattle.high_process.specs.States.{row_of, is_down}

@@ -1,5 +1,6 @@
 use Rattle.std.proofs.Common.{rules, [], refl, ap, true}
 use Rattle.high_process.specs.Tasks.{frame_of}
+use Rattle.high_process.specs.Ends.{StandsFitting}
 use Rattle.high_process.proofs.Fitting.{looked_some}
 use Rattle.pump_link.proofs.Grown.{Grows-nil}
 use Rattle.relay_threads.proofs.HighTurning.{look_ok, look_err, made_ok, made_err, same_err, ready_again}
@@ -15,7 +16,7 @@ returns-in-Ok-clause-look g c =
     let sent = c.send_hand-is_sent.ensures.sent in (
       made_ok q frame c.in-Ok.look,
       c.send_hand-is_sent.result,
-      look_ok g.D.Disk.told _ _ _ was.l was.h p q c.args.store.now c.look_waiting.new.store c.args.moment frame c.in-Ok.look e.row e.fares (λ t st. e.looks was.l was.h t was.fitting st),
+      look_ok g.D.Disk.told (g.H.HighSide.shape c.args.ends.now) g.H.HighSide.on_one_thread (StandsFitting (g.H.HighSide.stands c.look_waiting.new.ends) q) was.l was.h p q c.args.store.now c.look_waiting.new.store c.args.moment frame c.in-Ok.look e.row e.fares (λ t st. e.looks was.l was.h t was.fitting st),
       (sent.0, sent.1, (search rules), sent.3, sent.4),
       c.why_sent.ensures.why,
       c.is_some.ensures,

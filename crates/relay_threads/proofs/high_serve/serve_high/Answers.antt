@@ -1,7 +1,6 @@
-use Rattle.std.proofs.Common.{◌≡◌, ◌≤◌, [], ◌∷◌, length, refl, sym, ap, ◌∙◌, subst, arith, rules}
-use Rattle.pump_link.specs.Tells.{Grows}
+use Rattle.std.proofs.Common.{◌≤◌, [], ◌∷◌, length, refl, sym, ◌∙◌, subst, arith, rules}
 use Rattle.relay_threads.specs.HighServes.{IsData}
-use Rattle.relay_threads.proofs.HighServing.{within_of, data_at, so_far_none, so_far_more, serves_more, told_none, told_more, exact_sends, looks_more, moments_more, sends_more, sends_at, asks_more, asks_ended, counts_more, counts_few, ended_by}
+use Rattle.relay_threads.proofs.HighServing.{within_of, data_at, so_far_none, so_far_more, serves_more, told_none, told_more, looks_more, moments_more, sends_more, sends_at, asks_more, asks_ended, counts_more, counts_few, ended_by}
 use Rattle.relay_threads.proofs.high_serve.serve_high.Goals as goal
 
 pub loop-rounds-init : goal.loop-rounds-init

@@ -1,4 +1,4 @@
-use Rattle.std.proofs.Common.{◌-◌, ◌≡◌, ℕ, ◌≤◌, List, false}
+use Rattle.std.proofs.Common.{◌-◌, ◌≡◌, ◌≤◌, List}
 use Rattle.pump_frame.specs.Readings.{HasBegun}
 use Rattle.stable_buffer.specs.High.{high_disk}
 use Rattle.high_process.specs.Ready.{Ready}

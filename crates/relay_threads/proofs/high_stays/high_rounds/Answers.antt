@@ -1,4 +1,4 @@
-use Rattle.std.proofs.Common.{◌≡◌, ◌≤◌, ◌+◌, ◌-◌, ◌<◌, [], ◌∷◌, refl, sym, ap, ◌∙◌, subst, arith, None, Some, rules}
+use Rattle.std.proofs.Common.{◌≤◌, ◌+◌, ◌-◌, [], ◌∷◌, refl, ap, ◌∙◌, subst, arith, None}
 use Rattle.pump_link.proofs.Grown.{Draws-nil, Draws-then, Grows-nil, Grows-then}
 use Rattle.relay_threads.specs.HighStays.{count, count_at, EndsStayBy, is_broken}
 use Rattle.relay_threads.proofs.HighStaying.{stays_none, stays_more, tells_at, worker_ends}

@@ -2,7 +2,7 @@ use Rattle.std.proofs.Common.{◌-◌, ◌≡◌, ℕ, ◌≤◌, ◌<◌, List,
 use Rattle.std.specs.List.{AllByRecursion}
 use Rattle.stable_buffer.specs.High.{high_disk}
 use Rattle.high_process.specs.Ready.{Ready}
-use Rattle.high_process.specs.States.{row_of, last_of, is_down}
+use Rattle.high_process.specs.States.{row_of, last_of}
 use Rattle.relay_threads.specs.HighServes.{device_in}
 use Rattle.relay_threads.specs.HighStays.{Stay, StaysSo, IsOver, count, newest_stay_cause}
 use Rattle.relay_threads.proofs.HighStaying.{StaysTold}

@@ -1,9 +1,8 @@
-use Rattle.std.proofs.Common.{◌≡◌, ◌≤◌, ◌+◌, ◌-◌, [], refl, sym, ap, subst, arith, rules}
+use Rattle.std.proofs.Common.{◌≡◌, ◌+◌, ◌-◌, sym, subst, arith}
 use Rattle.pump_link.specs.Doors.{answered}
 use Rattle.pump_link.proofs.Grown.{Draws-kept, Draws-then, Grows-then}
 use Rattle.relay_threads.specs.declared.high_served.HighWhy.TheVariants.{Stopped}
-use Rattle.relay_threads.specs.declared.rounds_end.Stayed.{Stayed}
-use Rattle.relay_threads.specs.HighStays.{Stay, Alone, With, Visit, EndsStay}
+use Rattle.relay_threads.specs.HighStays.{Alone, With, Visit, EndsStay}
 use Rattle.relay_threads.proofs.HighStaying.{nobody, alone_so, alone_ends, with_so, with_ends, failed_link}
 use Rattle.relay_threads.proofs.high_stays.stay.Goals as goal
 

@@ -55,6 +55,10 @@ last_of p = p.last
 abbrev pub IsBetweenLooks : LowProcess → Type 0
 IsBetweenLooks p = p.asking ≡ AsksNothing
 
+-- what stands in the hand, be it a message or what was there before
+abbrev pub item_in_hand : LowProcess → Item
+item_in_hand p = p.hand
+
 abbrev pub is_down_in : Phase → Bool
 is_down_in Down = true
 is_down_in _ = false
@@ -133,6 +137,12 @@ IsAnswerTo _ _ = ⊥
 -- .. to the open question
 abbrev pub AnswersTo : LowProcess → Answer → Type 0
 AnswersTo p answer = IsAnswerTo p.asking answer
+
+-- an average that was told is at most 10^9
+abbrev pub IsInBounds : Feedback → Type 0
+IsInBounds (Passed s) = s.average ≤ 10 ^ 9
+IsInBounds (Repeat s) = s.average ≤ 10 ^ 9
+IsInBounds _ = Unit {0}
 
 -- the feedback is what was told; what passes is released where no acknowledgement is owed
 abbrev pub Tells : Bool → Answer → Feedback → Type 0

@@ -1,25 +1,24 @@
 // How a look makes the calls of a low end: at once, or with the leave to wait.
-ghost use Rattle.std.specs.Prelude.{◌≡◌, ◌^◌, ◌<◌, ◌≤◌};
+ghost use Rattle.std.specs.Prelude.{◌≡◌, ◌^◌, ◌<◌, ◌≤◌, MatchBool};
 ghost use Rattle.pump_core.specs.Passage.{Low, High, ComesNext, Passes, Refuses, Reads};
-ghost use Rattle.passage.specs.Answers.{MatchForwarded};
 
-use passage::{Forwarded, LowEnd, LowSide, WaitLowEnd};
+use passage::{LowEnd, LowSide, WaitLowEnd};
 use pump_core::Seen;
 use pump_frame::Item;
 use std::sync::Wait;
 
 /// The two calls of a low end of this type.
 pub trait Asks<L: LowSide> {
-    /// As `forward` of the end.
-    fn forward(&self, item: Item, ends: &mut L) -> Forwarded
+    /// As `offer` of the end.
+    fn offer(&self, item: &Item, ends: &mut L) -> bool
         requires stands { (l : Low) × (h : High)
-            × L.stands ends.old l h × ComesNext l.forwarded item.number }
-        requires number { item.number < 2 ^ 48 }
+            × L.stands ends.old l h × ComesNext l.forwarded item.now.number }
+        requires number { item.now.number < 2 ^ 48 }
         ensures shape { L.shape ends.new ≡ L.shape ends.old }
         ensures place { L.place ends.new ≡ L.place ends.old }
-        ensures step { (l : Low) (h : High) → L.stands ends.old l h → ComesNext l.forwarded item.number
-            → MatchForwarded result
-            (Passes (L.shape ends.old) L.on_one_thread (L.stands ends.new) l h item)
+        ensures step { (l : Low) (h : High) → L.stands ends.old l h → ComesNext l.forwarded item.now.number
+            → MatchBool result
+            (Passes (L.shape ends.old) L.on_one_thread (L.stands ends.new) l h item.now)
             (Refuses (L.shape ends.old) L.on_one_thread (L.stands ends.new) l h) };
 
     /// As `average` of the end.
@@ -44,8 +43,8 @@ pub struct Waits<'r, R> {
 }
 
 impl<L: LowEnd> Asks<L> for AtOnce {
-    fn forward(&self, item: Item, ends: &mut L) -> Forwarded {
-        ends.forward(item)
+    fn offer(&self, item: &Item, ends: &mut L) -> bool {
+        ends.offer(item)
     }
 
     fn average(&self, ends: &mut L) -> Seen {
@@ -54,8 +53,8 @@ impl<L: LowEnd> Asks<L> for AtOnce {
 }
 
 impl<L: WaitLowEnd, R: Wait> Asks<L> for Waits<'_, R> {
-    fn forward(&self, item: Item, ends: &mut L) -> Forwarded {
-        ends.forward(self.rt, item)
+    fn offer(&self, item: &Item, ends: &mut L) -> bool {
+        ends.offer(self.rt, item)
     }
 
     fn average(&self, ends: &mut L) -> Seen {

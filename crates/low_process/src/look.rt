@@ -5,7 +5,7 @@ ghost use Rattle.pump_core.specs.ReplyFrames.{IsLawfulReply};
 ghost use Rattle.pump_core.specs.History.{Arrival as Offered};
 ghost use Rattle.pump_core.specs.Passage.{Low, High, ComesNext};
 ghost use Rattle.low_process.specs.declared.values.Asking.TheVariants.{Forward as AsksForward};
-ghost use Rattle.low_process.specs.Looks.{IsAnswerTo, IsBetweenLooks, AsksToForward, AsksFor, IsLawful, Looks, HandBegins, arrival_of, look_of, row_of, next_of, last_of, is_down, owes, hand_of, hand_after, hand_passed};
+ghost use Rattle.low_process.specs.Looks.{IsAnswerTo, IsInBounds, IsBetweenLooks, AsksToForward, AsksFor, IsLawful, Looks, HandBegins, arrival_of, look_of, row_of, next_of, last_of, is_down, owes, hand_of, item_in_hand, hand_after, hand_passed};
 ghost use Rattle.low_process.specs.Heads.{look_with, ask_with};
 ghost use Rattle.low_process.specs.Ends.{OfferStep, EndStep, FitsEnd, StandsFitting};
 ghost use Rattle.low_process.specs.Whole.{HasStore, BeginStep, LookStep, KeepsAcknowledged, LeavesStored, reply_in};
@@ -15,7 +15,7 @@ use crate::how::{Asks, AtOnce};
 use crate::store::store_message;
 use crate::values::{Answer, Arrival, Ask, AskHead, LookHead, LowLook};
 use disk_model::Disk;
-use passage::{Forwarded, LowEnd, LowSide};
+use passage::{LowEnd, LowSide};
 use pump_core::Seen;
 use pump_frame::Item;
 use stable_buffer::LowStore;
@@ -27,25 +27,23 @@ const UNREAD: Seen = Seen {
 };
 
 // Offers a message, and reads the average where it passed and an acknowledgement is owed.
-fn offer<L: LowSide, A: Asks<L>>(how: &A, item: Item, is_owed: bool, ends: &mut L) -> Answer
+fn offer<L: LowSide, A: Asks<L>>(how: &A, item: &Item, is_owed: bool, ends: &mut L) -> Answer
     requires ends { (l : Low) × (h : High)
-        × L.stands ends.old l h × ComesNext l.forwarded item.number }
-    requires number { item.number < 2 ^ 48 }
+        × L.stands ends.old l h × ComesNext l.forwarded item.now.number }
+    requires number { item.now.number < 2 ^ 48 }
     ensures shape { L.shape ends.new ≡ L.shape ends.old }
     ensures place { L.place ends.new ≡ L.place ends.old }
     ensures fits { IsAnswerTo AsksForward result }
-    ensures step { (l : Low) (h : High) → L.stands ends.old l h → ComesNext l.forwarded item.number
-        → OfferStep (L.shape ends.old) L.on_one_thread (L.stands ends.new) l h item is_owed result }
+    ensures step { (l : Low) (h : High) → L.stands ends.old l h → ComesNext l.forwarded item.now.number
+        → OfferStep (L.shape ends.old) L.on_one_thread (L.stands ends.new) l h item.now is_owed result }
 {
-    match how.forward(item, ends) {
-        Forwarded::Full(_) => Answer::Full,
-        Forwarded::Passed => {
-            if is_owed {
-                Answer::Passed(how.average(ends))
-            } else {
-                Answer::Passed(UNREAD)
-            }
-        }
+    if !how.offer(item, ends) {
+        return Answer::Full;
+    }
+    if is_owed {
+        Answer::Passed(how.average(ends))
+    } else {
+        Answer::Passed(UNREAD)
     }
 }
 
@@ -125,22 +123,17 @@ impl LowProcess {
     }
 
     // Offers the message in the hand, and ends the look.
-    fn offer_hand<L: LowSide, A: Asks<L>>(
-        &mut self,
-        how: &A,
-        item: Item,
-        ends: &mut L,
-        head: &mut LookHead,
-    )
+    fn offer_hand<L: LowSide, A: Asks<L>>(&mut self, how: &A, ends: &mut L, head: &mut LookHead)
         requires asking { AsksToForward self.old }
-        requires hand { hand_of self.old ≡ Some item }
-        requires number { item.number + 1 ≡ next_of self.old }
+        requires hand { hand_of self.old ≡ Some (item_in_hand self.old) }
+        requires number { (item_in_hand self.old).number + 1 ≡ next_of self.old }
         requires ends { (l : Low) × (h : High)
-            × L.stands ends.old l h × ComesNext l.forwarded item.number }
+            × L.stands ends.old l h × ComesNext l.forwarded (item_in_hand self.old).number }
 
         ensures looks { (moment word : ℕ) (arrival : Offered) (is_fault : Bool) →
             Looks (λ h. AsksFor self.old h moment word arrival is_fault) self.new (row_of self.old)
             (look_of moment word arrival is_fault head.new.feedback) (look_with (row_of self.old) head.new) }
+        ensures bounds { IsInBounds head.new.feedback }
         ensures reply { head.new.reply ≡ None }
         ensures stored { head.new.stored ≡ None }
         ensures hand { hand_of self.new ≡ hand_passed (hand_of self.old) head.new.feedback }
@@ -151,12 +144,12 @@ impl LowProcess {
         ensures shape { L.shape ends.new ≡ L.shape ends.old }
         ensures place { L.place ends.new ≡ L.place ends.old }
         ensures ends { (l : Low) (h : High)
-            → L.stands ends.old l h → ComesNext l.forwarded item.number
+            → L.stands ends.old l h → ComesNext l.forwarded (item_in_hand self.old).number
             → EndStep (L.shape ends.old) L.on_one_thread (StandsFitting (L.stands ends.new) self.new) l h
-            (Some item) head.new.feedback }
+            (Some (item_in_hand self.old)) head.new.feedback }
     {
         let is_owed = self.owes();
-        let answer = offer(how, item, is_owed, ends);
+        let answer = offer(how, self.item(), is_owed, ends);
         self.finish_into(answer, head)
     }
 
@@ -180,6 +173,7 @@ impl LowProcess {
 
         ensures looks { (is_fault : Bool) × LookStep D.told self.old self.new store.old store.new
             moment word (arrival_of arrival.entry) is_fault (look_with (row_of self.old) head.new) }
+        ensures bounds { IsInBounds head.new.feedback }
         ensures store { HasStore D.told self.new store.new }
         ensures images { LeavesStored D.told self.old store.old store.new
             (arrival_of arrival.entry) }
@@ -201,7 +195,7 @@ impl LowProcess {
     {
         match self.begin_into(moment, word, arrival, store, head) {
             AskHead::Done => {}
-            AskHead::Forward => self.offer_hand(how, self.item(), ends, head),
+            AskHead::Forward => self.offer_hand(how, ends, head),
             AskHead::Average => self.finish_into(Answer::Average(how.average(ends)), head),
         }
     }
@@ -225,6 +219,7 @@ impl LowProcess {
 
         ensures looks { (is_fault : Bool) × LookStep D.told self.old self.new store.old store.new
             moment word (arrival_of arrival.entry) is_fault (look_with (row_of self.old) head.new) }
+        ensures bounds { IsInBounds head.new.feedback }
         ensures store { HasStore D.told self.new store.new }
         ensures images { LeavesStored D.told self.old store.old store.new
             (arrival_of arrival.entry) }
@@ -268,6 +263,7 @@ impl LowProcess {
 
         ensures looks { (is_fault : Bool) × LookStep D.told self.old self.new store.old store.new
             moment word (arrival_of arrival.entry) is_fault result }
+        ensures bounds { IsInBounds result.feedback }
         ensures store { HasStore D.told self.new store.new }
         ensures images { LeavesStored D.told self.old store.old store.new
             (arrival_of arrival.entry) }

@@ -4,7 +4,7 @@ ghost use Rattle.stable_buffer.specs.Low.{low_disk};
 ghost use Rattle.pump_frame.specs.Frames.{IsLawful as IsLawfulFrame};
 ghost use Rattle.pump_core.specs.ReplyFrames.{IsLawfulReply};
 ghost use Rattle.pump_core.specs.Passage.{Low, High};
-ghost use Rattle.low_process.specs.Looks.{IsBetweenLooks, IsLawful, arrival_of, row_of, last_of, is_down, hand_of, hand_after};
+ghost use Rattle.low_process.specs.Looks.{IsInBounds, IsBetweenLooks, IsLawful, arrival_of, row_of, last_of, is_down, hand_of, hand_after};
 ghost use Rattle.low_process.specs.Heads.{look_with};
 ghost use Rattle.low_process.specs.Ends.{EndStep, StandsFitting};
 ghost use Rattle.low_process.specs.Whole.{HasStore, LookStep, KeepsAcknowledged, LeavesStored};
@@ -38,6 +38,7 @@ impl LowProcess {
 
         ensures looks { (is_fault : Bool) × LookStep D.told self.old self.new store.old store.new
             moment word (arrival_of arrival.entry) is_fault (look_with (row_of self.old) head.new) }
+        ensures bounds { IsInBounds head.new.feedback }
         ensures store { HasStore D.told self.new store.new }
         ensures images { LeavesStored D.told self.old store.old store.new
             (arrival_of arrival.entry) }
@@ -79,6 +80,7 @@ impl LowProcess {
 
         ensures looks { (is_fault : Bool) × LookStep D.told self.old self.new store.old store.new
             moment word (arrival_of arrival.entry) is_fault result }
+        ensures bounds { IsInBounds result.feedback }
         ensures store { HasStore D.told self.new store.new }
         ensures images { LeavesStored D.told self.old store.old store.new
             (arrival_of arrival.entry) }

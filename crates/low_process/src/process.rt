@@ -59,7 +59,7 @@ impl LowProcess {
     ghost use Rattle.low_process.specs.declared.values.Asking.TheVariants.{Forward as AsksForward};
     ghost use Rattle.pump_core.specs.Replies.{Sent, LowReplies};
     ghost use Rattle.pump_core.specs.ReplyFrames.{frame_of, IsLawfulReply};
-    ghost use Rattle.low_process.specs.Looks.{state_of, look_of, arrival_of, opening_of, IsLawful, IsHand, StandsFor, Asks, AsksFor, IsAnswerTo, AnswersTo, Tells, Looks, HandBegins, IsBetweenLooks, row_of, next_of, last_of, is_down, is_idle, owes, hand_of, hand_passed};
+    ghost use Rattle.low_process.specs.Looks.{state_of, look_of, arrival_of, opening_of, IsLawful, IsHand, StandsFor, Asks, AsksFor, IsAnswerTo, AnswersTo, IsInBounds, Tells, Looks, HandBegins, IsBetweenLooks, row_of, next_of, last_of, is_down, is_idle, owes, hand_of, item_in_hand, hand_passed};
     ghost use Rattle.low_process.specs.Steps.{Stepped, StepBegins};
     ghost use Rattle.low_process.specs.Storing.{message_in, wants};
     ghost use Rattle.low_process.specs.Ends.{number_offered};
@@ -377,6 +377,7 @@ impl LowProcess {
         ensures asking { self.new.asking ≡ Asking.Nothing }
         ensures last { self.new.last ≡ self.old.last }
         ensures tells { Tells (owes self.old) (Answer.Passed seen) head.new.feedback }
+        ensures bounds { IsInBounds head.new.feedback }
     {
         if let Phase::Passing { is_owed: true } = &self.phase {
             let number = self.hand.number;
@@ -405,6 +406,7 @@ impl LowProcess {
         ensures asking { self.new.asking ≡ Asking.Nothing }
         ensures last { self.new.last ≡ self.old.last }
         ensures tells { Tells (owes self.old) answer head.new.feedback }
+        ensures bounds { IsInBounds head.new.feedback }
     {
         head.clear();
         let asking = self.asking;
@@ -434,6 +436,7 @@ impl LowProcess {
             Looks (λ h. AsksFor self.old h moment word arrival is_fault) self.new (row_of self.old)
             (look_of moment word arrival is_fault head.new.feedback) (look_with (row_of self.old) head.new) }
         ensures tells { Tells (owes self.old) answer head.new.feedback }
+        ensures bounds { IsInBounds head.new.feedback }
         ensures reply { head.new.reply ≡ None }
         ensures stored { head.new.stored ≡ None }
         ensures hand { hand_of self.new ≡ hand_passed (hand_of self.old) head.new.feedback }
@@ -471,10 +474,10 @@ impl LowProcess {
     }
 
     // The message in the hand.
-    pub(crate) fn item(&self) -> Item
-        ensures { result ≡ self.now.hand }
+    pub(crate) fn item(&self) -> &Item
+        ensures { result.now ≡ item_in_hand self.now }
     {
-        self.hand
+        &self.hand
     }
 
     // The whole of what is asked.
@@ -484,7 +487,7 @@ impl LowProcess {
     {
         match asked {
             AskHead::Done => Ask::Done(self.whole(head)),
-            AskHead::Forward => Ask::Forward(self.item()),
+            AskHead::Forward => Ask::Forward(*self.item()),
             AskHead::Average => Ask::Average,
         }
     }
@@ -496,6 +499,7 @@ impl LowProcess {
             Looks (λ h. AsksFor self.old h moment word arrival is_fault) self.new (row_of self.old)
             (look_of moment word arrival is_fault result.feedback) result }
         ensures tells { Tells (owes self.old) answer result.feedback }
+        ensures bounds { IsInBounds result.feedback }
         ensures reply { result.reply ≡ None }
         ensures stored { result.stored ≡ None }
         ensures hand { hand_of self.new ≡ hand_passed (hand_of self.old) result.feedback }

@@ -23,7 +23,7 @@ use Rattle.netpump.specs.Showing.{live_messages, shown_counts, shown, IsShown, S
 use Rattle.netpump.specs.Tables.{HasRow}
 use Rattle.netpump.specs.TakenDisks.{RoseAt}
 use Rattle.netpump.specs.declared.command_end.CommandEnd.{CommandEnd}
-use Rattle.netpump.specs.declared.command_end.CommandEnd.TheVariants.{Done, Memory, Unread, NoRow, Failed, Refused, Unwritten}
+use Rattle.netpump.specs.declared.command_end.CommandEnd.TheVariants.{Memory, Failed, Refused}
 use Rattle.script_replay.specs.declared.disks.TakenDisks.{TakenDisks}
 use Rattle.netpump.proofs.Formatted.{disk_of, was, alike_so}
 use Rattle.script_replay.proofs.Shelving.{others_so}

@@ -9,7 +9,7 @@ use Rattle.pump_frame.specs.declared.row.SessionRow.{SessionRow}
 use Rattle.session_table.specs.Documents.{table_of}
 use Rattle.netpump.specs.Tables.{row_among, row_in, IsRowIn, IsRowOf}
 use Rattle.netpump.specs.declared.command_end.CommandEnd.{CommandEnd}
-use Rattle.netpump.specs.declared.command_end.CommandEnd.TheVariants.{Done, Memory, Unread, NoRow, Failed, Refused, Unwritten}
+use Rattle.netpump.specs.declared.command_end.CommandEnd.TheVariants.{Memory, Unread}
 
 -- ---- the session of a row that is found ----
 

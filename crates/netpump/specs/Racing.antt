@@ -5,9 +5,11 @@ use Rattle.pump_link.specs.Causes.{AppendsFront}
 use Rattle.pump_link.specs.Tells.{Draws}
 use Rattle.race.specs.Race.{IsRaceRecord}
 
--- the bytes are the record of a race whose looks had these readings of the clock, one each
+-- the bytes are the record of a race whose looks had these readings of the clock, one each, whatever the low worker's gate
+-- was asked
 abbrev pub IsRecordOf : ℕ → ℕ → List ℕ → (List ℕ → Type 0) → (List ℕ → Type 0) → List ℕ → Type 0
-IsRecordOf seed count times before after bytes = (readings : List ℕ) × Draws before after readings × IsRaceRecord seed count times readings bytes
+IsRecordOf seed count times before after bytes =
+    (readings : List ℕ) × (asks : List (ℕ × ℕ)) × Draws before after readings × IsRaceRecord seed count times readings asks bytes
 
 -- how a race ends, by its status: its record was written, or nothing for want of memory, or a front of the record
 abbrev pub EndsRace : (List ℕ → Type 0) → Option (List ℕ) → Option (List ℕ) → ℕ → Type 0

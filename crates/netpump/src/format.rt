@@ -6,7 +6,7 @@ ghost use Rattle.disk_model.specs.declared.name.Role.{Role as DiskRole};
 ghost use Rattle.pump_frame.specs.Counts.{Rose};
 ghost use Rattle.pump_frame.specs.Rows.{IsLawfulRow};
 ghost use Rattle.stable_buffer.specs.Format.{new_bytes};
-ghost use Rattle.netpump.specs.Commands.{EndsSo};
+ghost use Rattle.netpump.specs.Commands.{EndsSo, end_status};
 ghost use Rattle.netpump.specs.Formatting.{IsFormatted, FormatStops, Formats, FormatsSo, IsDiskEnd, formatted_line};
 ghost use Rattle.script_replay.specs.Shelves.{AllAreBack};
 ghost use Rattle.netpump.specs.TakenDisks.{HasBytes, CountOn, ReadOn, IsNotEmpty, AreNotEmpty, FailsAmong, StopsFormat};
@@ -131,6 +131,7 @@ fn format_row<S: Shelf>(
     ensures device { (role : DiskRole) → result ≡ Err (ends.Failed role) → Rose (S.told.disk_faults shelf.old) (S.told.disk_faults shelf.new) }
     ensures read { result ≡ Err ends.Unread → Rose (S.told.faults shelf.old) (S.told.faults shelf.new) }
     ensures unwritten { result ≡ Err ends.Unwritten → ⊥ }
+    ensures status { IfErr result (λ end. end_status end ≤ 8) }
 {
     let row = row_in_file(alloc, shelf, table.as_str(), session)?;
     format_disks(shelf, &row)
@@ -162,6 +163,7 @@ pub fn format_session<S: Shelf, O: Sink>(
     ensures device { (role : DiskRole) → result ≡ ends.Failed role → Rose (S.told.disk_faults shelf.old) (S.told.disk_faults shelf.new) }
     ensures read { result ≡ ends.Unread → Rose (S.told.faults shelf.old) (S.told.faults shelf.new) }
     ensures unwritten { result ≡ ends.Unwritten → Rose (O.faults out.old) (O.faults out.new) }
+    ensures status { end_status result ≤ 8 }
 {
     match format_row(alloc, table, session, shelf) {
         Ok(()) => {

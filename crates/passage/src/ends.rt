@@ -1,4 +1,4 @@
-ghost use Rattle.std.specs.Prelude.{◌≡◌, ◌+◌, ◌-◌, ◌^◌, ◌<◌, ◌≤◌, false, length};
+ghost use Rattle.std.specs.Prelude.{◌≡◌, ◌+◌, ◌-◌, ◌^◌, ◌<◌, ◌≤◌, false, length, MatchBool};
 ghost use Rattle.pump_core.specs.Passage.{Low, High, ComesNext, publishes, Passes, Refuses, Reads, Gives, GivesNone};
 ghost use Rattle.passage.specs.Answers.{IfFull, MatchForwarded, MatchNext, MatchTaken};
 
@@ -78,6 +78,24 @@ pub trait LowEnd: LowSide {
             → MatchForwarded result
             (Passes (Self.shape self.old) Self.on_one_thread (Self.stands self.new) l h item)
             (Refuses (Self.shape self.old) Self.on_one_thread (Self.stands self.new) l h) };
+
+    /// As `forward`, with the item where it lies. False says that all places were full.
+    fn offer(&mut self, item: &Item) -> bool
+        requires stands { (l : Low) × (h : High)
+            × Self.stands self.old l h × ComesNext l.forwarded item.now.number }
+        requires number { item.now.number < 2 ^ 48 }
+        ensures shape { Self.shape self.new ≡ Self.shape self.old }
+        ensures place { Self.place self.new ≡ Self.place self.old }
+        ensures step { (l : Low) (h : High) → Self.stands self.old l h → ComesNext l.forwarded item.now.number
+            → MatchBool result
+            (Passes (Self.shape self.old) Self.on_one_thread (Self.stands self.new) l h item.now)
+            (Refuses (Self.shape self.old) Self.on_one_thread (Self.stands self.new) l h) }
+    {
+        match self.forward(*item) {
+            Forwarded::Passed => true,
+            Forwarded::Full(_) => false,
+        }
+    }
 
     /// What was published at a step of this call: how many times, not fewer than were read before,
     /// and their average in microseconds, at most 10^9.

@@ -1,4 +1,4 @@
-ghost use Rattle.std.specs.Prelude.{◌≡◌, ◌+◌, ◌-◌, ◌^◌, ◌<◌, ◌≤◌, false, length};
+ghost use Rattle.std.specs.Prelude.{◌≡◌, ◌+◌, ◌-◌, ◌^◌, ◌<◌, ◌≤◌, false, length, MatchBool};
 ghost use Rattle.pump_core.specs.Passage.{Low, High, ComesNext, publishes, Passes, Refuses, Reads, Gives, GivesNone};
 ghost use Rattle.passage.specs.Answers.{IfFull, MatchForwarded, MatchNext, MatchTaken};
 
@@ -22,6 +22,24 @@ pub trait WaitLowEnd: LowSide {
             → MatchForwarded result
             (Passes (Self.shape self.old) Self.on_one_thread (Self.stands self.new) l h item)
             (Refuses (Self.shape self.old) Self.on_one_thread (Self.stands self.new) l h) };
+
+    /// As `LowEnd::offer`.
+    fn offer<R: Wait>(&mut self, rt: &R, item: &Item) -> bool
+        requires stands { (l : Low) × (h : High)
+            × Self.stands self.old l h × ComesNext l.forwarded item.now.number }
+        requires number { item.now.number < 2 ^ 48 }
+        ensures shape { Self.shape self.new ≡ Self.shape self.old }
+        ensures place { Self.place self.new ≡ Self.place self.old }
+        ensures step { (l : Low) (h : High) → Self.stands self.old l h → ComesNext l.forwarded item.now.number
+            → MatchBool result
+            (Passes (Self.shape self.old) Self.on_one_thread (Self.stands self.new) l h item.now)
+            (Refuses (Self.shape self.old) Self.on_one_thread (Self.stands self.new) l h) }
+    {
+        match self.forward(rt, *item) {
+            Forwarded::Passed => true,
+            Forwarded::Full(_) => false,
+        }
+    }
 
     /// As `LowEnd::average`.
     fn average<R: Wait>(&mut self, rt: &R) -> Seen
@@ -104,6 +122,10 @@ impl<E: HighSide> HighSide for Calm<E> {
 impl<E: LowEnd> WaitLowEnd for Calm<E> {
     fn forward<R: Wait>(&mut self, _rt: &R, item: Item) -> Forwarded {
         self.0.forward(item)
+    }
+
+    fn offer<R: Wait>(&mut self, _rt: &R, item: &Item) -> bool {
+        self.0.offer(item)
     }
 
     fn average<R: Wait>(&mut self, _rt: &R) -> Seen {

@@ -12,7 +12,7 @@ use Rattle.pump_link.specs.Tells.{Draws}
 use Rattle.pump_link.specs.declared.link.Looked.{Looked}
 use Rattle.pump_link.specs.declared.link.Looked.TheVariants.{Byte, NotYet, Ended, Failed}
 use Rattle.pump_link.proofs.Grown.{Draws-nil, Draws-then}
-use Rattle.peers.specs.Looks.{bytes_in, AreCalm, Hears, HearsJust, EndsAt, IsOver}
+use Rattle.peers.specs.Looks.{IsBad, bytes_in, AreCalm, Hears, HearsJust, EndsAt, IsOver}
 
 pub bytes_append : (xs ys : List Looked) → bytes_in (xs ++ ys) ≡ bytes_in xs ++ bytes_in ys
 bytes_append [] ys = refl
@@ -136,8 +136,11 @@ module _ (xs ys : List Looked) (fs gs : List Frame) (h : HearsJust xs fs) where
 pub ends_join : (xs ys : List Looked) (fs gs : List Frame) (last : Looked) → HearsJust xs fs → EndsAt ys gs last → EndsAt (xs ++ ys) (fs ++ gs) last
 ends_join xs ys fs gs last h (front, e, k) = (xs ++ front, ap (λ (l : List Looked). xs ++ l) e ∙ sym (append_assoc xs front (last ∷ [])), hears_join xs front fs gs h k)
 
+pub bad_join : (xs ys : List Looked) (fs gs : List Frame) → HearsJust xs fs → IsBad ys gs → IsBad (xs ++ ys) (fs ++ gs)
+bad_join xs ys fs gs h (byte, at, ends, stream) = (byte, at, ends_join xs ys fs gs (Byte byte) h ends, both_heard xs ys fs gs (Stopped at) h stream)
+
 pub over_join : (xs ys : List Looked) (fs gs : List Frame) (before now : ℕ) → HearsJust xs fs → IsOver ys gs before now → IsOver (xs ++ ys) (fs ++ gs) before now
-over_join xs ys fs gs before now h (inl (byte, at, ends, stream)) = inl (byte, at, ends_join xs ys fs gs (Byte byte) h ends, both_heard xs ys fs gs (Stopped at) h stream)
+over_join xs ys fs gs before now h (inl bad) = inl (bad_join xs ys fs gs h bad)
 over_join xs ys fs gs before now h (inr (inl ends)) = inr (inl (ends_join xs ys fs gs Ended h ends))
 over_join xs ys fs gs before now h (inr (inr (ends, rose))) = inr (inr (ends_join xs ys fs gs Failed h ends, rose))
 

@@ -3,6 +3,7 @@ pub mod Bytes
 pub mod Comparing
 pub mod Hearing
 pub mod OneReception
+pub mod OneSending
 pub mod Outgoing
 pub mod PayloadLaws
 pub mod SendingLines

@@ -10,7 +10,7 @@ mod payload_lines;
 mod receive;
 mod send;
 
-pub use laws::receptions_are_one;
+pub use laws::{receptions_are_one, sendings_are_one};
 pub use receive::{ReceiveEnd, receive_with};
 pub use send::{SendEnd, send_with};
 

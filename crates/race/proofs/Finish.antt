@@ -22,6 +22,7 @@ use Rattle.race.specs.declared.low.LowHalf.{LowHalf}
 use Rattle.race.proofs.LowAsks.{acks_are}
 use Rattle.race.proofs.Derived.{printed, received_is}
 use Rattle.race.proofs.RaceItems.{items_count}
+use Rattle.race.proofs.Replayable.{take_lawful, are_connected, not_lost}
 
 empty_hand : (ph : Phase) (item : Item) → is_idle_in ph ≡ true → hand_in ph item ≡ None
 empty_hand Idle item e = refl
@@ -36,7 +37,15 @@ nothing_behind items (x ∷ left) whole is le = absurd (omega (arith, ap length 
 
 module _ {L : Type 0} (stands : L → Low → High → Type 0) (shape : L → Shape) (w : LowHalf L) (made : List Made) (a : LowRests stands shape w made) where
   pub looks_are : AreRaceLooks w.seed made
-  looks_are = record { are_made = a.are_made; words = a.words; take_all = a.take_all; full = a.full }
+  looks_are = record {
+    are_made = a.are_made;
+    words = a.words;
+    take_all = a.take_all;
+    full = a.full;
+    lawful = take_lawful made a.plain;
+    connected = are_connected made a.plain;
+    kept = not_lost made a.plain;
+  }
 
   -- not more are stored than there are
   pub next_few : next_of w.process ≤ w.count

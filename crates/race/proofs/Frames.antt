@@ -9,6 +9,7 @@ use Rattle.pump_core.specs.Exchanges.{is_data}
 use Rattle.low_process.specs.Looks.{IsLawful as CanCome}
 use Rattle.relay_threads.specs.RecordLines.{HasLawfulFrame}
 use Rattle.race.specs.LowHalf.{arrival_in}
+use Rattle.race.specs.MadeLooks.{IsPlainArrival}
 
 number_of : (kind : Kind) (number : ℕ) (payload : List ℕ) → IsForm kind number payload → is_data kind ≡ true → number < 2 ^ 48
 number_of Data number payload h e = h.0
@@ -26,3 +27,7 @@ can_come (Some f) h = number_of f.kind f.number f.payload h.form
 pub has_lawful : (frame : Option Frame) → IfSome frame IsLawful → HasLawfulFrame (arrival_in frame)
 has_lawful None h = tt
 has_lawful (Some f) h = h
+
+pub is_plain : (frame : Option Frame) → IfSome frame IsLawful → IsPlainArrival (arrival_in frame)
+is_plain None h = tt
+is_plain (Some f) h = h

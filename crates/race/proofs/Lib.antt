@@ -15,4 +15,5 @@ pub mod Printing
 pub mod RaceItems
 pub mod Receiving
 pub mod RecordTexts
+pub mod Replayable
 pub mod Tapes

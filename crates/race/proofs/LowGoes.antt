@@ -1,7 +1,8 @@
 -- A look carries the low half of a race on.
-use Rattle.std.proofs.Common.{◌≡◌, inl, inr, ℕ, ◌+◌, ◌<◌, ◌≤◌, suc, Bool, true, false, List, [], ◌∷◌, ◌++◌, length, Option, Some, None, refl, sym, ap, ◌∙◌, subst, arith, append-nil, append_assoc}
-use Rattle.std.specs.Prelude.{◌||◌, is_some}
+use Rattle.std.proofs.Common.{◌≡◌, inl, inr, ℕ, ◌+◌, ◌^◌, ◌<◌, ◌≤◌, suc, Bool, true, false, List, [], ◌∷◌, ◌++◌, length, Option, Some, None, refl, sym, ap, ◌∙◌, subst, arith, append-nil, append_assoc}
+use Rattle.std.specs.Prelude.{◌||◌, is_some, IfSome}
 use Rattle.std.proofs.lemmas.List.{length-append, map-append}
+use Rattle.pump_frame.specs.Frames.{IsLawful}
 use Rattle.pump_frame.specs.declared.frame.Frame.{Frame}
 use Rattle.pump_frame.specs.declared.frame.Item.{Item}
 use Rattle.pump_frame.specs.declared.row.SessionRow.{SessionRow}
@@ -22,7 +23,7 @@ use Rattle.pump_core.proofs.Cuts.{one_cut}
 use Rattle.low_process.specs.declared.values.Phase.{Phase}
 use Rattle.low_process.specs.declared.values.Phase.TheVariants.{Idle, Passing, Waiting as Waits, Down}
 use Rattle.low_process.specs.declared.values.LowLook.{LowLook}
-use Rattle.low_process.specs.Looks.{StandsFor, Looks, row_of, next_of, last_of, is_down_in, is_idle_in, hand_of, hand_in, hand_after, hand_stored, hand_passed, look_of, phase_of, state_of}
+use Rattle.low_process.specs.Looks.{StandsFor, Looks, IsInBounds, row_of, next_of, last_of, is_down_in, is_idle_in, hand_of, hand_in, hand_after, hand_stored, hand_passed, look_of, phase_of, state_of}
 use Rattle.low_process.specs.Ends.{StandsFitting, EndStep}
 use Rattle.low_process.specs.Whole.{LookStep, HasStore}
 use Rattle.relay_threads.specs.Records.{Made, looks_made, life_made, history_made, replies_made, IsMade}
@@ -35,6 +36,7 @@ use Rattle.race.specs.MadeLooks.{HaveWords, frames_of, frame_in, pair_in, is_ack
 use Rattle.race.specs.Turns.{done_in}
 use Rattle.race.specs.Messages.{messages_in, race_items, race_opening, hello_frame, data_frame}
 use Rattle.race.specs.declared.low.LowHalf.{LowHalf}
+use Rattle.race.proofs.Frames.{is_plain}
 use Rattle.race.proofs.HighAsks.{one_if, done_more}
 use Rattle.race.proofs.LowLooks.{Hears, Went, IsFine, nothing_comes, hello_comes, data_comes}
 use Rattle.race.proofs.LowStores.{StaysCalm, stays_calm}
@@ -151,6 +153,9 @@ module _ {L : Type 0} (stands : L → Low → High → Type 0) (shape : L → Sh
     (order : last_of w.process ≤ moment)
     (offer : IsOffer w frame left)
     (leaves : Leaves w w' word frame)
+    (lawful : IfSome frame IsLawful)
+    (bound : moment ≤ 2 ^ 62)
+    (bounds : IsInBounds l.feedback)
   where
     abbrev h : History
     h = history_made race_opening made
@@ -320,6 +325,7 @@ module _ {L : Type 0} (stands : L → Low → High → Type 0) (shape : L → Sh
           word = leaves.word_is ∙ word_here ∙ ap (λ (z : ℕ × ℕ). word_after z.0 z.1) (λ i. (sym leaves.seed i, one i));
           words = subst (λ (z : ℕ). HaveWords z (m ∷ made)) (sym leaves.seed) (word_here, a.words);
           take_all = (taken_is ∙ went.taken, a.take_all);
+          plain = (record { arrival = is_plain frame lawful; fine = no_fault l.reply fine; moment = bound; bounds = bounds }, a.plain);
           full = ((λ t parts c. subst (λ (n : ℕ). 6 < n) (sym went.next_is ∙ sym (ap (λ (q : State). q.next) goes.state) ∙ ap (count_after race_opening) (one_cut generated_row (life_made race_opening (m ∷ made)) parts' parts stands'.cut c)) (ended.full t)), a.full);
           low = ended.low;
           fitting = ended.stands;

@@ -6,5 +6,6 @@ pub mod LowWorks
 pub mod MadeLooks
 pub mod Messages
 pub mod Race
+pub mod Replayed
 pub mod Tape
 pub mod Turns

@@ -1,6 +1,7 @@
 -- The low half of a race between two looks: the low process with its store and its end, and what is
 -- left of the generated script.
 use Rattle.std.specs.Prelude.{◌≡◌, ◌⊎◌, ℕ, ◌+◌, ◌≤◌, Bool, true, false, if◌then◌else◌, List, [], ◌∷◌, ◌++◌, length, map, Option, Some, None}
+use Rattle.std.specs.List.{AllByRecursion}
 use Rattle.pump_frame.specs.declared.frame.Frame.{Frame}
 use Rattle.pump_frame.specs.declared.frame.Item.{Item}
 use Rattle.disk_model.specs.Plain.{plain_meaning}
@@ -20,7 +21,7 @@ use Rattle.low_process.specs.Whole.{HasStore}
 use Rattle.relay_threads.specs.Records.{Made, life_made, history_made, replies_made, AreMade}
 use Rattle.script_reader.specs.Generated.{generated_row}
 use Rattle.race.specs.LookWords.{word_after}
-use Rattle.race.specs.MadeLooks.{HaveWords, TakeAll, FullFrom, frames_of, pairs_of, acks_of}
+use Rattle.race.specs.MadeLooks.{HaveWords, TakeAll, IsPlain, FullFrom, frames_of, pairs_of, acks_of}
 use Rattle.race.specs.Messages.{messages_in, race_items, race_opening, hello_frame, data_frame}
 use Rattle.race.specs.Turns.{done_in}
 use Rattle.race.specs.declared.low.LowHalf.{LowHalf}
@@ -69,6 +70,7 @@ pub record LowAt {L : Type 0} (stands : L → Low → High → Type 0) (shape : 
   pub word : w.word ≡ word_after w.seed (length made)
   pub words : HaveWords w.seed made
   pub take_all : TakeAll made
+  pub plain : AllByRecursion IsPlain made
   pub full : FullFrom 6 generated_row race_opening made
   pub low : Low
   pub fitting : StandsFitting (stands w.ends) w.process low new_high
@@ -91,6 +93,10 @@ IsOffer w None left = left ≡ messages_in w.script
 IsOffer w (Some f) left = (is_idle w.process ≡ true)
     × (((w.is_greeted ≡ false) × (f ≡ hello_frame) × (left ≡ messages_in w.script))
     ⊎ ((w.is_greeted ≡ true) × ((x : Item) × (f ≡ data_frame x) × (left ≡ x ∷ messages_in w.script))))
+
+-- the frame in a room, where one comes
+abbrev pub offered : Bool → Frame → Option Frame
+offered comes frame = if comes then Some frame else None
 
 abbrev pub arrival_in : Option Frame → Arrival
 arrival_in None = Nothing

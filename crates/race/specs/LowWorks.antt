@@ -1,5 +1,6 @@
 -- What the low worker of a race does.
 use Rattle.std.specs.Prelude.{◌≡◌, ℕ, ◌≤◌, true, false, List, [], Option}
+use Rattle.std.specs.List.{AllByRecursion}
 use Rattle.atomic_table.specs.Seated.{TableId}
 use Rattle.pump_frame.specs.Counts.{Rose}
 use Rattle.pump_link.specs.Tells.{Draws, Grows}
@@ -7,6 +8,7 @@ use Rattle.pump_core.specs.Passage.{Low, High, Shape}
 use Rattle.low_process.specs.Looks.{last_of, next_of, is_idle}
 use Rattle.relay_threads.specs.Records.{Made, record_of}
 use Rattle.relay_threads.specs.RecordLines.{looks_text}
+use Rattle.relay_threads.specs.Replays.{IsReadable}
 use Rattle.script_reader.specs.Generated.{generated_row}
 use Rattle.race.specs.LowHalf.{LowRests}
 use Rattle.race.specs.MadeLooks.{moments_of, acks_of}
@@ -47,6 +49,7 @@ module _ {K O L G : Type 0} (reads : K → List ℕ → Type 0) (floor : K → �
     pub row : row_in w.tape.now ≡ generated_row
     pub draws : Draws (reads v.clock.now) (reads w.clock.now) (moments_of made)
     pub prints : Prints v.tape.now w.tape.now (written v.out.now) (written w.out.now) (faults v.out.now) (faults w.out.now) (looks_text generated_row (record_of made))
+    pub readable : AllByRecursion (IsReadable generated_row) (record_of made)
     pub asks_are : Grows (asked v.gate.now) (asked w.gate.now) asks
     pub stops_rise : stops v.gate.now ≤ stops w.gate.now
 

@@ -1,6 +1,7 @@
 -- Readings of the looks of a race. Each list of looks has its newest one first.
-use Rattle.std.specs.Prelude.{◌≡◌, ℕ, ◌<◌, Bool, true, false, not, List, [], ◌∷◌, ◌++◌, length, slice_get, Option, Some, None}
+use Rattle.std.specs.Prelude.{◌≡◌, ℕ, ◌^◌, ◌<◌, ◌≤◌, Bool, true, false, not, List, [], ◌∷◌, ◌++◌, length, slice_get, Option, Some, None}
 use Rattle.std.specs.List.{All}
+use Rattle.pump_frame.specs.Frames.{IsLawful}
 use Rattle.pump_frame.specs.declared.frame.Frame.{Frame}
 use Rattle.pump_frame.specs.declared.frame.Kind.{Kind}
 use Rattle.pump_frame.specs.declared.frame.Kind.TheVariants.{Ack}
@@ -8,11 +9,13 @@ use Rattle.pump_frame.specs.declared.row.SessionRow.{SessionRow}
 use Rattle.pump_core.specs.declared.feedback.Feedback.{Feedback}
 use Rattle.pump_core.specs.declared.feedback.Feedback.TheVariants.{Passed, Repeat}
 use Rattle.pump_core.specs.History.{Arrival, Opening}
-use Rattle.pump_core.specs.History.{Came}
+use Rattle.pump_core.specs.History.{Nothing, Came, Bad, Gone}
 use Rattle.pump_core.specs.Comings.{is_nothing}
 use Rattle.pump_core.specs.Exchanges.{Part, IsCut, count_after}
 use Rattle.pump_core.specs.Step.{is_full}
+use Rattle.low_process.specs.Looks.{IsInBounds}
 use Rattle.relay_threads.specs.Records.{Made, Shown, life_made}
+use Rattle.relay_threads.specs.RecordLines.{tells_fault}
 use Rattle.race.specs.LookWords.{word_of_look}
 
 -- the moments, the oldest first
@@ -61,6 +64,21 @@ is_ack (Some f) = is_ack_kind f.kind
 abbrev pub acks_of : List Made → List Bool
 acks_of [] = []
 acks_of (m ∷ before) = is_ack m.reply ∷ acks_of before
+
+-- nothing came, or a lawful frame
+abbrev pub IsPlainArrival : Arrival → Type 0
+IsPlainArrival Nothing = Unit {0}
+IsPlainArrival (Came f) = IsLawful f
+IsPlainArrival Bad = ⊥
+IsPlainArrival Gone = ⊥
+
+-- A look to which nothing or a lawful frame came, whose device did not fail, and whose numbers are in the
+-- ranges of a script's lines.
+pub record IsPlain (m : Made) : Type 0 where
+  pub arrival : IsPlainArrival m.look.arrival
+  pub fine : tells_fault m.reply ≡ false
+  pub moment : m.look.moment ≤ 2 ^ 62
+  pub bounds : IsInBounds m.look.feedback
 
 -- A look finds the passage full only with a message numbered `least` or more. It is the last one
 -- stored, so more than `least` are stored then.

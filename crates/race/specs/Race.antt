@@ -1,7 +1,6 @@
 -- What a race prints and leaves.
-use Rattle.std.specs.Prelude.{◌≡◌, ℕ, ◌≤◌, Bool, false, if◌then◌else◌, List, [], ◌∷◌, ◌++◌, length, take, map, codes, decimal}
+use Rattle.std.specs.Prelude.{◌≡◌, ℕ, ◌≤◌, Bool, true, false, if◌then◌else◌, List, [], ◌∷◌, ◌++◌, length, take, map, codes, decimal}
 use Rattle.std.specs.List.{All}
-use Rattle.pump_link.specs.Tells.{Draws, Grows}
 use Rattle.stable_buffer.specs.Low.{StandsForCount}
 use Rattle.stable_buffer.specs.Stands.{HighStands}
 use Rattle.stable_buffer.specs.Log.{RecvStands}
@@ -9,11 +8,12 @@ use Rattle.pump_core.specs.Passage.{Low, High, shape_of_row, IsAverage, NeverFal
 use Rattle.script_reader.specs.Generated.{generated_row}
 use Rattle.script_reader.specs.Transcript.{line_with_end}
 use Rattle.script_reader.specs.Spelling.{line_text}
-use Rattle.relay_threads.specs.Records.{Made, Shown, AreMade, is_recorded, recorded, made_of}
+use Rattle.relay_threads.specs.Records.{Made, Shown, AreMade, is_recorded, recorded, made_of, record_of}
 use Rattle.relay_threads.specs.RecordLines.{look_text, opening_line, record_text}
+use Rattle.relay_threads.specs.Replays.{TakeLawful, AreConnected, is_lost, IsReadable, AreReadable}
 use Rattle.race.specs.MadeLooks.{moments_of, acks_of, HaveWords, TakeAll, frames_of, pairs_of, FullFrom, NumbersFall, HasItsOwn}
 use Rattle.race.specs.Messages.{race_items, race_frames, race_opening}
-use Rattle.race.specs.Turns.{turns, payload_in, done_in, asks_in_run}
+use Rattle.race.specs.Turns.{turns, payload_in, done_in, asks_of, asks_in_run}
 
 -- ---- the two works ----
 
@@ -23,6 +23,10 @@ pub record AreRaceLooks (seed : ℕ) (made : List Made) : Type 0 where
   pub words : HaveWords seed made
   pub take_all : TakeAll made
   pub full : FullFrom 6 generated_row race_opening made
+  -- each frame is lawful, the connection goes on, and the device did not fail
+  pub lawful : TakeLawful made
+  pub connected : AreConnected made
+  pub kept : is_lost (record_of made) ≡ false
 
 -- what the low work did: these looks, while its end did this
 pub record IsLowRun (seed count : ℕ) (made : List Made) (low : Low) : Type 0 where
@@ -60,6 +64,10 @@ pub record ArePrinted (seed count : ℕ) (times readings : List ℕ) (shown : Li
 abbrev pub look_lines : List Made → Made → List ℕ
 look_lines before m = if is_recorded before m then look_text generated_row m else []
 
+-- .. read back
+abbrev pub ReadsBack : List Made → Made → Type 0
+ReadsBack before m = is_recorded before m ≡ true → IsReadable generated_row m
+
 -- the line that the record begins with
 abbrev pub opening_text : List ℕ
 opening_text = line_text (opening_line generated_row race_opening)
@@ -79,30 +87,30 @@ end_line accepted removed = line_with_end (codes "#" ∷ codes "end" ∷ decimal
 abbrev pub end_lines : List ℕ → ℕ → ℕ → ℕ → List ℕ
 end_lines times received accepted removed = time_lines times ++ (number_line (codes "took") received ++ end_line accepted removed)
 
--- the bytes are the record of these readings: of all looks of the low process those are printed that a
--- record has
-pub record IsRaceRecord (seed count : ℕ) (times readings bytes : List ℕ) : Type 0 where
+-- The bytes are the record of looks that had these readings, each behind one of these asks of the low
+-- worker's gate: of all looks of the low process those are printed that a record has. Each line of it
+-- reads back.
+pub record IsRaceRecord (seed count : ℕ) (times readings : List ℕ) (asks : List (ℕ × ℕ)) (bytes : List ℕ) : Type 0 where
   pub made : List Made
   pub looks : AreRaceLooks seed made
   pub readings_are : moments_of made ≡ readings
+  -- all messages were acknowledged in the end
+  pub asks_are : asks ≡ asks_of (acks_of made)
+  pub acked : done_in (acks_of made) ≡ count
   pub printed : ArePrinted seed count times readings (recorded made)
+  pub readable : AreReadable generated_row race_opening made
   pub bytes_are : bytes ≡ record_text generated_row race_opening made ++ end_lines (turns times count) count count count
 
--- the same of a race of which a worker was stopped: its record has no end
-pub record IsStoppedRecord (seed : ℕ) (readings bytes : List ℕ) : Type 0 where
+-- The same of a race of which the low worker or the high one was stopped: its record has no end. The last
+-- ask stopped the low worker, or all messages were acknowledged.
+pub record IsStoppedRecord (seed count : ℕ) (is_low_stopped : Bool) (readings : List ℕ) (asks : List (ℕ × ℕ)) (bytes : List ℕ) : Type 0 where
   pub made : List Made
   pub looks : AreRaceLooks seed made
   pub readings_are : moments_of made ≡ readings
+  pub asks_are : asks ≡ asks_in_run is_low_stopped (acks_of made)
+  pub acked : is_low_stopped ≡ false → done_in (acks_of made) ≡ count
+  pub readable : AreReadable generated_row race_opening made
   pub bytes_are : bytes ≡ record_text generated_row race_opening made
-
--- What the gate of a low worker was asked in a run whose looks had these readings: before each look, with
--- the messages acknowledged till then; in the end these are all, where the worker was not stopped.
-pub record AsksLow (seed count : ℕ) (is_stopped : Bool) (reads reads' : List ℕ → Type 0) (old new : List (ℕ × ℕ) → Type 0) : Type 0 where
-  pub made : List Made
-  pub looks : AreRaceLooks seed made
-  pub readings : Draws reads reads' (moments_of made)
-  pub asked : Grows old new (asks_in_run is_stopped (acks_of made))
-  pub ended : is_stopped ≡ false → done_in (acks_of made) ≡ count
 
 -- ---- what is left ----
 

@@ -12,7 +12,7 @@ mod racing;
 mod running;
 mod tape;
 
-pub use laws::works_and_ends_decide;
+pub use laws::{race_records_replay, works_and_ends_decide};
 pub use racing::{RaceEnd, race_with};
 
 #[cfg(test)]

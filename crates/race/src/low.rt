@@ -10,10 +10,10 @@ ghost use Rattle.script_reader.specs.Generated.{generated_row};
 ghost use Rattle.pump_frame.specs.Frames.{IsLawful};
 ghost use Rattle.pump_core.specs.ReplyFrames.{IsLawfulReply};
 ghost use Rattle.relay_threads.specs.RecordLines.{made_by};
-ghost use Rattle.race.specs.LowHalf.{LowAt, LowRests, IsOffer, arrival_in};
+ghost use Rattle.race.specs.LowHalf.{LowAt, LowRests, IsOffer, offered, arrival_in};
 ghost use Rattle.race.specs.Messages.{messages_in, race_items};
 
-use crate::messages::{hello, next_message, next_word};
+use crate::messages::{next_message, next_word, put_hello};
 use disk_model::PlainDisk;
 use low_process::{Arrival, LookHead, LowProcess};
 use passage::WaitLowEnd;
@@ -42,13 +42,14 @@ pub struct LowHalf<L> {
     pub is_greeted: bool,
 }
 
-// What comes: a frame, or nothing.
-fn arrival_of_frame(frame: &Option<Frame>) -> Arrival<'_>
-    ensures { arrival_of result ≡ arrival_in frame.now }
+// What comes: this frame, or nothing.
+fn arrival_of_frame(comes: bool, frame: &Frame) -> Arrival<'_>
+    ensures { arrival_of result ≡ arrival_in (offered comes frame.now) }
 {
-    match frame {
-        None => Arrival::Nothing,
-        Some(frame) => Arrival::Frame(frame),
+    if comes {
+        Arrival::Frame(frame)
+    } else {
+        Arrival::Nothing
     }
 }
 
@@ -94,42 +95,45 @@ impl<L: WaitLowEnd> LowHalf<L> {
         }
     }
 
-    /// The frame that comes to the next look: the low party sends where it is taken at once.
-    pub fn next_frame(&mut self) -> Option<Frame>
+    /// Puts the frame that comes to the next look into `into`, and says whether one comes: the low party
+    /// sends where it is taken at once.
+    pub fn next_frame(&mut self, into: &mut Frame) -> bool
         requires at { (made : List Made) × LowRests L.stands L.shape self.old made }
         ensures offer { (made : List Made) → LowRests L.stands L.shape self.old made
-            → (left : List Item) × LowAt L.stands L.shape self.new left made × IsOffer self.new result left }
-        ensures lawful { IfSome result IsLawful }
+            → (left : List Item) × LowAt L.stands L.shape self.new left made × IsOffer self.new (offered result into.new) left }
+        ensures lawful { IfSome (offered result into.new) IsLawful }
         ensures process { self.new.process ≡ self.old.process }
         ensures ends { self.new.ends ≡ self.old.ends }
         ensures seed { self.new.seed ≡ self.old.seed }
         ensures count { self.new.count ≡ self.old.count }
     {
         if !self.process.wants() {
-            return None;
+            return false;
         }
         if !self.is_greeted {
-            return Some(hello(&self.row));
+            put_hello(&self.row, into);
+            return true;
         }
-        next_message(&mut self.script, &mut self.body)
+        next_message(&mut self.script, &mut self.body, into)
     }
 
-    /// A look at this moment, to which this frame comes.
+    /// A look at this moment, to which this frame comes, or nothing.
     pub fn look_with<'f, R: Wait>(
         &mut self,
         rt: &R,
         moment: u64,
-        frame: &'f Option<Frame>,
+        comes: bool,
+        frame: &'f Frame,
     ) -> LookMade<'f>
         requires at { (made : List Made) × ((left : List Item)
-            × LowAt L.stands L.shape self.old left made × IsOffer self.old frame.now left) }
-        requires lawful { IfSome frame.now IsLawful }
+            × LowAt L.stands L.shape self.old left made × IsOffer self.old (offered comes frame.now) left) }
+        requires lawful { IfSome (offered comes frame.now) IsLawful }
         requires order { last_of self.old.process ≤ moment }
         requires moment { moment ≤ 2 ^ 62 }
         ensures at { (made : List Made) (left : List Item) → LowAt L.stands L.shape self.old left made
-            → IsOffer self.old frame.now left → LowRests L.stands L.shape self.new (made_by generated_row result ∷ made) }
+            → IsOffer self.old (offered comes frame.now) left → LowRests L.stands L.shape self.new (made_by generated_row result ∷ made) }
         ensures moment { result.moment ≡ moment }
-        ensures arrival { arrival_of result.arrival ≡ arrival_in frame.now }
+        ensures arrival { arrival_of result.arrival ≡ arrival_in (offered comes frame.now) }
         ensures reply { IfSome result.look.reply IsLawfulReply }
         ensures last { last_of self.new.process ≡ moment }
         ensures seed { self.new.seed ≡ self.old.seed }
@@ -139,7 +143,7 @@ impl<L: WaitLowEnd> LowHalf<L> {
     {
         let word = next_word(self.word);
         self.word = word;
-        let arrival = arrival_of_frame(frame);
+        let arrival = arrival_of_frame(comes, frame);
         let mut look = LookHead::new();
         self.process.look_waiting_into(
             rt,
@@ -150,7 +154,7 @@ impl<L: WaitLowEnd> LowHalf<L> {
             &mut self.ends,
             &mut look,
         );
-        self.is_greeted = self.is_greeted | frame.is_some();
+        self.is_greeted = self.is_greeted | comes;
         LookMade {
             moment,
             word,

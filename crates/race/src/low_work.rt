@@ -2,6 +2,7 @@ ghost use Rattle.std.specs.Prelude.{◌≡◌};
 ghost use Rattle.pump_core.specs.Step.{is_full};
 
 use crate::low::LowHalf;
+use crate::messages::no_frame;
 use crate::tape::Tape;
 use low_process::LookHead;
 use passage::WaitLowEnd;
@@ -49,6 +50,8 @@ impl<K: Clock, O: Sink, L: WaitLowEnd, G: Gate> Work for LowWork<'_, '_, '_, '_,
     fn run<R: Wait>(&mut self, rt: &R) {
         let mut looks = 0u64;
         let mut was_full = false;
+        // The frame that comes to a look: it is written over by the next one.
+        let mut frame = no_frame();
         for _ in rt.forever() {
             if self.half.is_done() {
                 return;
@@ -58,9 +61,9 @@ impl<K: Clock, O: Sink, L: WaitLowEnd, G: Gate> Work for LowWork<'_, '_, '_, '_,
                 self.is_stopped = true;
                 return;
             }
-            let frame = self.half.next_frame();
+            let comes = self.half.next_frame(&mut frame);
             let moment = self.clock.moment();
-            let made = self.half.look_with(rt, moment, &frame);
+            let made = self.half.look_with(rt, moment, comes, &frame);
             looks = looks.saturating_add(1);
             self.tape.look(self.out, &made, was_full);
             was_full = found_full(&made.look);

@@ -1,14 +1,14 @@
 ghost use Rattle.std.specs.Prelude.{◌≡◌, ◌≤◌, ◌⊎◌, ℕ, true, false, List, [], IfOk, OnErr};
 ghost use Rattle.pump_frame.specs.Counts.{Rose};
-ghost use Rattle.pump_link.specs.Tells.{Draws};
+ghost use Rattle.pump_link.specs.Tells.{Draws, Grows};
 ghost use Rattle.pump_core.specs.Passage.{shape_of_row};
-ghost use Rattle.passage.specs.QueueEnds.{LowEndStands, HighEndStands, low_place, high_place, low_shape, high_shape};
+ghost use Rattle.relay_ring.specs.RingEnds.{LowEndStands, HighEndStands, low_place, high_place, low_shape, high_shape};
 ghost use Rattle.low_process.specs.Looks.{last_of};
 ghost use Rattle.high_process.specs.States.{removed_of};
 ghost use Rattle.script_reader.specs.Generated.{generated_row};
 ghost use Rattle.race.specs.HighHalf.{HighAt};
 ghost use Rattle.race.specs.LowHalf.{LowRests};
-ghost use Rattle.race.specs.Race.{IsRaceRecord, IsStoppedRecord, AreRaceDisks, AsksLow};
+ghost use Rattle.race.specs.Race.{IsRaceRecord, IsStoppedRecord, AreRaceDisks};
 ghost use Rattle.race.specs.Tape.{Written};
 ghost use Rattle.race.specs.Turns.{CanTurn, AsksHigh};
 
@@ -18,9 +18,10 @@ use crate::new_disks::{new_high, new_low, new_receiver};
 use crate::running::run_halves;
 use crate::tape::{Ending, Tape};
 use disk_model::PlainDisk;
-use passage::{QueueHigh, QueueLow, QueuePassage};
+use passage::Calm;
 use pump_frame::OutOfMemory;
 use pump_link::{Clock, Sink};
+use relay_ring::{RingHigh, RingLow, RingPassage};
 use relay_threads::Gate;
 use script_reader::{Generator, generated_row};
 use std::alloc::Global;
@@ -50,34 +51,34 @@ fn race_halves<
     H: Gate + Send,
 >(
     rt: &R,
-    mut low: LowHalf<QueueLow<'_>>,
-    mut high: HighHalf<QueueHigh<'_>>,
+    mut low: LowHalf<Calm<RingLow<'_>>>,
+    mut high: HighHalf<Calm<RingHigh<'_>>>,
     low_clock: &mut K,
     out: &mut O,
     low_gate: &mut G,
     high_gate: &mut H,
 ) -> RaceEnd
-    requires low { LowRests LowEndStands low_shape low [] }
+    requires low { LowRests (λ end. LowEndStands end.0) (λ end. low_shape end.0) low [] }
     requires last { last_of low.process ≡ 0 }
-    requires high { HighAt HighEndStands false high }
+    requires high { HighAt (λ end. HighEndStands end.0) false high }
     requires none_removed { removed_of high.process ≡ 0 }
-    requires place { low_place low.ends ≡ high_place high.ends }
-    requires shape { high_shape high.ends ≡ shape_of_row generated_row }
+    requires place { low_place low.ends.0 ≡ high_place high.ends.0 }
+    requires shape { high_shape high.ends.0 ≡ shape_of_row generated_row }
     requires count { low.count ≡ high.count }
-    ensures record { result.low_stopped ≡ false → result.high_stopped ≡ false → (bytes readings : List ℕ)
+    ensures record { result.low_stopped ≡ false → result.high_stopped ≡ false → (bytes readings : List ℕ) × (asks : List (ℕ × ℕ))
         × Written result.write_failed (O.written out.old) (O.written out.new) (O.faults out.old) (O.faults out.new) bytes
         × Draws (K.reads low_clock.old) (K.reads low_clock.new) readings
-        × IsRaceRecord low.entry.seed high.entry.count high.entry.times.items readings bytes }
-    ensures cut_short { (result.low_stopped ≡ true) ⊎ (result.high_stopped ≡ true) → (bytes readings : List ℕ)
+        × Grows (G.asked low_gate.old) (G.asked low_gate.new) asks
+        × IsRaceRecord low.entry.seed high.entry.count high.entry.times.items readings asks bytes }
+    ensures cut_short { (result.low_stopped ≡ true) ⊎ (result.high_stopped ≡ true) → (bytes readings : List ℕ) × (asks : List (ℕ × ℕ))
         × Written result.write_failed (O.written out.old) (O.written out.new) (O.faults out.old) (O.faults out.new) bytes
         × Draws (K.reads low_clock.old) (K.reads low_clock.new) readings
-        × IsStoppedRecord low.entry.seed readings bytes }
+        × Grows (G.asked low_gate.old) (G.asked low_gate.new) asks
+        × IsStoppedRecord low.entry.seed low.entry.count result.low_stopped readings asks bytes }
     ensures disks { result.low_stopped ≡ false → result.high_stopped ≡ false
         → AreRaceDisks low.entry.seed high.entry.count result.low.bytes result.high.bytes result.recv.bytes }
     ensures low_stopped { result.low_stopped ≡ true → Rose (G.stops low_gate.old) (G.stops low_gate.new) }
     ensures high_stopped { result.high_stopped ≡ true → Rose (H.stops high_gate.old) (H.stops high_gate.new) }
-    ensures asked_low { AsksLow low.entry.seed low.entry.count result.low_stopped (K.reads low_clock.old) (K.reads low_clock.new)
-        (G.asked low_gate.old) (G.asked low_gate.new) }
     ensures asked_high { AsksHigh high.entry.count result.high_stopped (H.asked high_gate.old) (H.asked high_gate.new) result.recv.bytes }
 {
     let mut tape = Tape::new(&low.row);
@@ -100,7 +101,7 @@ fn race_halves<
         count,
         ..
     } = high;
-    QueuePassage::rejoin(rt, low_end, high_end);
+    RingPassage::rejoin(low_end.0, high_end.0);
     let ending = Ending {
         times: times.as_slice(),
         count,
@@ -148,25 +149,25 @@ pub fn race_with<
 ) -> Result<RaceEnd, OutOfMemory>
     requires some { 1 ≤ count }
     requires turn { CanTurn times.now count }
-    // Without a stopped worker: all of the record was written, or a front of it where a write failed.
-    ensures record { IfOk result (λ end. end.low_stopped ≡ false → end.high_stopped ≡ false → (bytes readings : List ℕ)
+    // Without a stopped worker: all of the record was written, or a front of it where a write failed. The
+    // low worker's gate was asked before each of its looks, with the messages acknowledged.
+    ensures record { IfOk result (λ end. end.low_stopped ≡ false → end.high_stopped ≡ false → (bytes readings : List ℕ) × (asks : List (ℕ × ℕ))
         × Written end.write_failed (O.written out.old) (O.written out.new) (O.faults out.old) (O.faults out.new) bytes
         × Draws (K.reads low_clock.old) (K.reads low_clock.new) readings
-        × IsRaceRecord seed count times.now readings bytes) }
+        × Grows (G.asked low_gate.old) (G.asked low_gate.new) asks
+        × IsRaceRecord seed count times.now readings asks bytes) }
     // With one: the same of the record of the looks made.
-    ensures cut_short { IfOk result (λ end. (end.low_stopped ≡ true) ⊎ (end.high_stopped ≡ true) → (bytes readings : List ℕ)
+    ensures cut_short { IfOk result (λ end. (end.low_stopped ≡ true) ⊎ (end.high_stopped ≡ true) → (bytes readings : List ℕ) × (asks : List (ℕ × ℕ))
         × Written end.write_failed (O.written out.old) (O.written out.new) (O.faults out.old) (O.faults out.new) bytes
         × Draws (K.reads low_clock.old) (K.reads low_clock.new) readings
-        × IsStoppedRecord seed readings bytes) }
+        × Grows (G.asked low_gate.old) (G.asked low_gate.new) asks
+        × IsStoppedRecord seed count end.low_stopped readings asks bytes) }
     ensures disks { IfOk result (λ end. end.low_stopped ≡ false → end.high_stopped ≡ false
         → AreRaceDisks seed count end.low.bytes end.high.bytes end.recv.bytes) }
     ensures failed { IfOk result (λ end. end.write_failed ≡ true → Rose (O.faults out.old) (O.faults out.new)) }
     ensures low_stopped { IfOk result (λ end. end.low_stopped ≡ true → Rose (G.stops low_gate.old) (G.stops low_gate.new)) }
     ensures high_stopped { IfOk result (λ end. end.high_stopped ≡ true → Rose (H.stops high_gate.old) (H.stops high_gate.new)) }
-    // The gates are asked before each look: the low worker's with the messages acknowledged, the high
-    // worker's with those that the receiver has.
-    ensures asked_low { IfOk result (λ end. AsksLow seed count end.low_stopped (K.reads low_clock.old) (K.reads low_clock.new)
-        (G.asked low_gate.old) (G.asked low_gate.new)) }
+    // The high worker's gate is asked before each look, with the messages that the receiver has.
     ensures asked_high { IfOk result (λ end. AsksHigh count end.high_stopped (H.asked high_gate.old) (H.asked high_gate.new) end.recv.bytes) }
     ensures nothing { OnErr result (out.new ≡ out.old) }
 {
@@ -174,10 +175,10 @@ pub fn race_with<
     let low_store = new_low(alloc, &row)?;
     let high_store = new_high(alloc, &row)?;
     let receiver = new_receiver(alloc, &row, count)?;
-    let mut passage = QueuePassage::new(alloc, &row)?;
-    let (low_end, high_end) = passage.ends(rt);
+    let mut passage = RingPassage::new(alloc, &row)?;
+    let (low_end, high_end) = passage.ends();
     let script = Generator::new(seed, count);
-    let low = LowHalf::start(low_end, low_store, &row, script, seed, count);
-    let high = HighHalf::start(high_end, high_store, receiver, &row, times, count);
+    let low = LowHalf::start(Calm(low_end), low_store, &row, script, seed, count);
+    let high = HighHalf::start(Calm(high_end), high_store, receiver, &row, times, count);
     Ok(race_halves(rt, low, high, low_clock, out, low_gate, high_gate))
 }

@@ -1,4 +1,5 @@
 ghost use Rattle.std.specs.Prelude.{◌≡◌, ◌≤◌, List, [], true, false};
+ghost use Rattle.std.specs.List.{AllByRecursion};
 ghost use Rattle.pump_frame.specs.Counts.{Rose};
 ghost use Rattle.pump_link.specs.Tells.{Draws, Grows};
 ghost use Rattle.pump_core.specs.Passage.{High, new_low};
@@ -7,6 +8,7 @@ ghost use Rattle.high_process.specs.States.{removed_of};
 ghost use Rattle.high_receiver.specs.Receiving.{recv_disk};
 ghost use Rattle.relay_threads.specs.Records.{Made, record_of};
 ghost use Rattle.relay_threads.specs.RecordLines.{looks_text};
+ghost use Rattle.relay_threads.specs.Replays.{IsReadable};
 ghost use Rattle.script_reader.specs.Generated.{generated_row};
 ghost use Rattle.race.specs.HighHalf.{HighAt};
 ghost use Rattle.race.specs.HighWorks.{HighCan, HighRuns};
@@ -86,7 +88,8 @@ pub fn run_halves<
     ensures low { (made : List Made) × LowRests L.stands L.shape low.new made
         × Draws (K.reads low_clock.old) (K.reads low_clock.new) (moments_of made)
         × Prints tape.old tape.new (O.written out.old) (O.written out.new) (O.faults out.old) (O.faults out.new) (looks_text generated_row (record_of made))
-        × Grows (G.asked low_gate.old) (G.asked low_gate.new) (asks_in_run result.low_stopped (acks_of made)) }
+        × Grows (G.asked low_gate.old) (G.asked low_gate.new) (asks_in_run result.low_stopped (acks_of made))
+        × AllByRecursion (IsReadable generated_row) (record_of made) }
     ensures low_ended { result.low_stopped ≡ false → IsLowDone low.new }
     ensures low_stopped { result.low_stopped ≡ true → Rose (G.stops low_gate.old) (G.stops low_gate.new) }
     ensures low_place { L.place low.new.ends ≡ L.place low.old.ends }

@@ -2,9 +2,13 @@ ghost use Rattle.std.specs.Prelude.{◌≡◌, ◌+◌, ◌<◌, ◌≤◌, List
 ghost use Rattle.pump_core.specs.ReplyFrames.{IsLawfulReply};
 ghost use Rattle.low_process.specs.Looks.{arrival_of};
 ghost use Rattle.relay_threads.specs.Records.{Made, was_full as full_before};
-ghost use Rattle.relay_threads.specs.RecordLines.{made_by, HasLawfulFrame};
+ghost use Rattle.relay_threads.specs.RecordLines.{made_by, opening_line, HasLawfulFrame};
+ghost use Rattle.script_reader.specs.Grammar.{IsLine};
+ghost use Rattle.script_reader.specs.Spelling.{line_spelling};
 ghost use Rattle.script_reader.specs.Generated.{generated_row};
-ghost use Rattle.race.specs.Race.{opening_text, look_lines, number_line, time_lines, end_line, end_lines};
+ghost use Rattle.race.specs.MadeLooks.{IsPlain};
+ghost use Rattle.race.specs.Messages.{race_opening};
+ghost use Rattle.race.specs.Race.{opening_text, look_lines, ReadsBack, number_line, time_lines, end_line, end_lines};
 ghost use Rattle.race.specs.Tape.{held_of, has_failed, row_in, Prints, Stays, Shuts, Closes};
 ghost use Rattle.race.specs.Turns.{turns};
 
@@ -23,6 +27,8 @@ const LINES_ROOM: usize = 2700;
 pub struct Tape {
     row: SessionRow,
     held: ArrayVec<u8, 8192>,
+    // A room for the bytes of what a look took.
+    body: ArrayVec<u8, 1042>,
     has_failed: bool,
 }
 
@@ -90,6 +96,7 @@ impl Tape {
         Tape {
             row: *row,
             held: ArrayVec::new(),
+            body: ArrayVec::new(),
             has_failed: false,
         }
     }
@@ -128,6 +135,7 @@ impl Tape {
     pub fn open<O: Sink>(&mut self, out: &mut O)
         requires { row_in self.old ≡ generated_row }
         ensures prints { Prints self.old self.new (O.written out.old) (O.written out.new) (O.faults out.old) (O.faults out.new) opening_text }
+        ensures reads { IsLine (opening_line generated_row race_opening) (line_spelling (opening_line generated_row race_opening)) }
         ensures row { row_in self.new ≡ row_in self.old }
     {
         self.make_room(out);
@@ -140,15 +148,17 @@ impl Tape {
         requires row { row_in self.old ≡ generated_row }
         requires lawful { HasLawfulFrame (arrival_of made.now.arrival) }
         requires reply { IfSome made.now.look.reply IsLawfulReply }
+        requires plain { IsPlain (made_by generated_row made.now) }
         ensures prints { (before : List Made) → was_full ≡ full_before before
             → Prints self.old self.new (O.written out.old) (O.written out.new) (O.faults out.old) (O.faults out.new) (look_lines before (made_by generated_row made.now)) }
+        ensures reads { (before : List Made) → was_full ≡ full_before before → ReadsBack before (made_by generated_row made.now) }
         ensures row { row_in self.new ≡ row_in self.old }
     {
         if !is_recorded(made, was_full) {
             return;
         }
         self.make_room(out);
-        append_look(&self.row, made, &mut self.held);
+        append_look(&self.row, made, &mut self.body, &mut self.held);
     }
 
     /// Prints a comment of a word and a number.

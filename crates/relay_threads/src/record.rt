@@ -119,15 +119,19 @@ fn head_of(row: &SessionRow, made: &LookMade, body: &mut ArrayVec<u8, 1042>) -> 
 }
 
 // The line of a look, without the comment of its reply.
-fn append_line_of<const N: usize>(row: &SessionRow, made: &LookMade, into: &mut ArrayVec<u8, N>)
+fn append_line_of<const N: usize>(
+    row: &SessionRow,
+    made: &LookMade,
+    body: &mut ArrayVec<u8, 1042>,
+    into: &mut ArrayVec<u8, N>,
+)
     requires room { array_vec_len into.old + 2400 ≤ N }
     requires frame { HasLawfulFrame (arrival_of made.now.arrival) }
     ensures text { into.new.items ≡ into.old.items ++ line_text (line_of row.now (made_by row.now made.now)) }
     ensures len { array_vec_len into.new ≤ array_vec_len into.old + 2400 }
     ensures reads { IsLawfulLine (line_of row.now (made_by row.now made.now)) → IsLine (line_of row.now (made_by row.now made.now)) (line_spelling (line_of row.now (made_by row.now made.now))) }
 {
-    let mut body = ArrayVec::new();
-    let head = head_of(row, made, &mut body);
+    let head = head_of(row, made, body);
     append_line(&head, body.as_slice(), into);
 }
 
@@ -150,8 +154,14 @@ fn append_comment<const N: usize>(row: &SessionRow, made: &LookMade, into: &mut 
 
 /// Puts a look behind what the room holds, as a record has it: a `told` line, or a `gone` line where
 /// the connection was lost, and behind it a comment with the reply's line of a transcript, where there
-/// is one. `docs/formats.md`, "Records", has the lines.
-pub fn append_look<const N: usize>(row: &SessionRow, made: &LookMade, into: &mut ArrayVec<u8, N>)
+/// is one. `docs/formats.md`, "Records", has the lines. `body` is a room for the bytes of what the look
+/// took, and holds nothing else: one room serves a whole record.
+pub fn append_look<const N: usize>(
+    row: &SessionRow,
+    made: &LookMade,
+    body: &mut ArrayVec<u8, 1042>,
+    into: &mut ArrayVec<u8, N>,
+)
     requires room { array_vec_len into.old + 2700 ≤ N }
     requires frame { HasLawfulFrame (arrival_of made.now.arrival) }
     requires reply { IfSome made.now.look.reply IsLawfulReply }
@@ -164,7 +174,7 @@ pub fn append_look<const N: usize>(row: &SessionRow, made: &LookMade, into: &mut
 {
     // Their ranges bound the length.
     let (_session, _moment) = (row.id, made.moment);
-    append_line_of(row, made, into);
+    append_line_of(row, made, body, into);
     append_comment(row, made, into);
 }
 

@@ -44,7 +44,8 @@ pub fn record_look<O: Sink>(tape: &mut O, row: &SessionRow, made: &LookMade, was
     if !is_recorded(made, was_full) {
         return true;
     }
+    let mut body = ArrayVec::new();
     let mut lines: ArrayVec<u8, 2700> = ArrayVec::new();
-    append_look(row, made, &mut lines);
+    append_look(row, made, &mut body, &mut lines);
     write_all(tape, lines.as_slice()).is_ok()
 }

@@ -1,5 +1,6 @@
 ghost use Rattle.std.specs.Prelude.{◌≡◌, ◌+◌, ◌<◌, true, IfSome};
 ghost use Rattle.pump_frame.specs.Rows.{IsLawfulRow};
+ghost use Rattle.pump_core.specs.Passage.{Low, High};
 ghost use Rattle.passage.specs.Ready.{LowReady, HighReady};
 ghost use Rattle.low_process.specs.Looks.{arrival_of};
 ghost use Rattle.pump_core.specs.ReplyFrames.{IsLawfulReply};
@@ -8,13 +9,15 @@ ghost use Rattle.relay_threads.specs.RecordLines.{HasLawfulFrame};
 use crate::{Gate, LookMade, Open, Work, append_look, append_opening, is_recorded, run_pair};
 use arrayvec::ArrayVec;
 use low_process::{Arrival, LookHead};
-use passage::{Forwarded, Joined, Next, QueuePassage, WaitHighEnd, WaitLowEnd};
+use passage::{Calm, Forwarded, Joined, Next, QueuePassage, WaitHighEnd, WaitLowEnd};
 use pump_core::{Feedback, Refusal, Reply, Seen};
 use pump_frame::{Frame, Item, Kind, Name, Payload, SessionRow};
+use relay_ring::RingPassage;
 use std::sync::Wait;
 use std::sync::atomic::{AtomicBool, Ordering};
 use std::test::Fail;
 use std::thread;
+use std::thread::Threads;
 
 /// A work that says that it is here, and waits a while until the other one has said so.
 #[derive(Drop)]
@@ -213,31 +216,59 @@ fn two_works_run_side_by_side(rt: HostRuntime) {
     assert_eq!(rt; (low.has_met, high.has_met), (true, true));
 }
 
-#[test]
-fn items_pass_between_two_threads(rt: HostRuntime) -> Result<(), Fail> {
-    let Some(row) = row() else {
-        return Err(Fail::new("no row"));
-    };
-    let mut passage = QueuePassage::new(rt.alloc(), &row)?;
-    let (low_end, high_end) = passage.ends(&rt);
+/// Passes 1000 items from one end to the other, each in a thread of its own, and gives the ends back.
+fn pass_items<L: WaitLowEnd + Send, H: WaitHighEnd + Send, R: Threads + Wait + Sync>(
+    rt: &R,
+    low: L,
+    high: H,
+) -> (L, H)
+    requires low { LowReady (L.stands low) 0 }
+    requires high { HighReady (H.stands high) 0 0 }
+    ensures low { (l : Low) × (h : High) × L.stands result.0 l h }
+    ensures high { (l : Low) × (h : High) × H.stands result.1 l h }
+    ensures low_place { L.place result.0 ≡ L.place low }
+    ensures high_place { H.place result.1 ≡ H.place high }
+{
     let mut low = Forwards {
-        end: low_end,
+        end: low,
         next: 0,
         most: 1000,
     };
     let mut high = TakesUp {
-        end: high_end,
+        end: high,
         removed: 0,
         most: 1000,
     };
-    run_pair(&rt, &mut low, &mut high);
-    let Forwards { end: low_end, .. } = low;
-    let TakesUp { end: high_end, .. } = high;
-    let wanted = Joined {
-        forwarded: 1000,
-        taken: 1000,
+    run_pair(rt, &mut low, &mut high);
+    (low.end, high.end)
+}
+
+const ALL_PASSED: Joined = Joined {
+    forwarded: 1000,
+    taken: 1000,
+};
+
+#[test]
+fn items_pass_through_the_queue(rt: HostRuntime) -> Result<(), Fail> {
+    let Some(row) = row() else {
+        return Err(Fail::new("no row"));
     };
-    assert_eq!(rt; QueuePassage::rejoin(&rt, low_end, high_end), wanted);
+    let mut passage = QueuePassage::new(rt.alloc(), &row)?;
+    let (low, high) = passage.ends(&rt);
+    let (low, high) = pass_items(&rt, low, high);
+    assert_eq!(rt; QueuePassage::rejoin(&rt, low, high), ALL_PASSED);
+    Ok(())
+}
+
+#[test]
+fn items_pass_through_the_ring(rt: HostRuntime) -> Result<(), Fail> {
+    let Some(row) = row() else {
+        return Err(Fail::new("no row"));
+    };
+    let mut passage = RingPassage::new(rt.alloc(), &row)?;
+    let (low, high) = passage.ends();
+    let (low, high) = pass_items(&rt, Calm(low), Calm(high));
+    assert_eq!(rt; RingPassage::rejoin(low.0, high.0), ALL_PASSED);
     Ok(())
 }
 
@@ -311,8 +342,9 @@ fn is_told(row: &SessionRow, look: &LookMade, text: &[u8]) -> bool {
     if !may_come(look.arrival) || !may_reply(&look.look.reply) {
         return false;
     }
+    let mut body = ArrayVec::new();
     let mut into: ArrayVec<u8, 2700> = ArrayVec::new();
-    append_look(row, look, &mut into);
+    append_look(row, look, &mut body, &mut into);
     into.as_slice() == text
 }
 

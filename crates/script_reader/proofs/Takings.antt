@@ -1,5 +1,5 @@
 -- A generator's payloads byte by byte, and its takings one by one.
-use Rattle.std.proofs.Common.{◌≡◌, ℕ, ◌+◌, ◌-◌, ◌%◌, ◌<◌, zero, suc, [], ◌∷◌, ◌++◌, length, refl, ap, append_assoc, ◌∙◌, arith}
+use Rattle.std.proofs.Common.{◌≡◌, ℕ, ◌+◌, ◌-◌, ◌%◌, ◌<◌, ◌≤◌, zero, suc, [], ◌∷◌, ◌++◌, length, take, refl, ap, append_assoc, ◌∙◌, arith}
 use Rattle.script_reader.specs.declared.line.Line.TheVariants.{Look, Done}
 use Rattle.script_reader.specs.declared.line.Arriving.TheVariants.{Data}
 use Rattle.script_reader.specs.declared.generator.Turn.TheVariants.{Pass}
@@ -15,6 +15,11 @@ counting_more zero from = let e : from % 256 ≡ (from + 0) % 256 = ap (λ x. x 
 counting_more (suc n) from =
     let e : (from + 1 + n) % 256 ≡ (from + suc n) % 256 = ap (λ x. x % 256) (omega arith) in
     ap (λ r. from % 256 ∷ r) (counting_more n (from + 1) ∙ ap (λ x. counting n (from + 1) ++ x ∷ []) e)
+
+pub counting_front : (n m from : ℕ) → n ≤ m → take n (counting m from) ≡ counting n from
+counting_front zero m from le = refl
+counting_front (suc n) zero from le = absurd (omega (arith, le))
+counting_front (suc n) (suc m) from le = ap (λ r. from % 256 ∷ r) (counting_front n m (from + 1) (omega (arith, le)))
 
 -- the first of the takings that are left
 pub taking_first : (count number n : ℕ) (at : Mark) → 0 < n

@@ -48,12 +48,13 @@ impl Body {
         self.len = 0;
     }
 
-    pub(crate) fn push(&mut self, byte: u8)
-        requires { length self.old < 1042 }
-        ensures { self.new ≡ self.old ++ byte ∷ [] }
+    /// Holds these bytes.
+    pub(crate) fn set(&mut self, bytes: &[u8])
+        requires { length bytes.now ≤ 1042 }
+        ensures { self.new ≡ bytes.now }
     {
-        self.cells[self.len] = byte;
-        self.len += 1;
+        self.cells[..bytes.len()].copy_from_slice(bytes);
+        self.len = bytes.len();
     }
 
     /// Holds so many bytes, each of two digits; false where they are not so many digits.

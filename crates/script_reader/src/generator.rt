@@ -75,11 +75,13 @@ fn fill(body: &mut Body, message: u32, draw: u32)
     ensures value { body.new ≡ counting (draw / 2 ^ 24 % 65) message }
     ensures few { length body.new ≤ 64 }
 {
-    body.clear();
     let count = (draw >> 24) % 65;
-    'bytes: for i in 0..count {
-        body.push(((u64::from(message) + u64::from(i)) % 256) as u8);
+    // All are counted, in a loop whose length is known, and as many are taken as there are.
+    let mut bytes = [0; 64];
+    'bytes: for i in 0..64u32 {
+        bytes[i as usize] = ((u64::from(message) + u64::from(i)) % 256) as u8;
     }
+    body.set(&bytes[..count as usize]);
 }
 
 fn is_seventh(message: u32) -> bool

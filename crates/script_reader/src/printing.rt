@@ -3,6 +3,7 @@ ghost use Rattle.arrayvec.specs.ArrayVec.{array_vec_len};
 ghost use Rattle.script_reader.specs.EventHeads.{event_of};
 ghost use Rattle.script_reader.specs.Transcript.{role_field, reply_fields, high_fields, time_field, event_line, fault_line, line_with_end};
 ghost use Rattle.script_reader.specs.Grammar.{held_field};
+ghost use Rattle.hex.specs.Hex.{encode_lower};
 ghost use Rattle.script_reader.specs.HexFields.{hex_field};
 ghost use Rattle.script_reader.specs.Typed.{IsPrinted};
 
@@ -44,6 +45,21 @@ pub(crate) fn put_field<const N: usize>(into: &mut ArrayVec<u8, N>, number: u64)
     put_number(into, number);
 }
 
+/// A space and two digits for each byte: at most `M` digits.
+fn put_digits<const N: usize, const M: usize>(into: &mut ArrayVec<u8, N>, bytes: &[u8])
+    requires few { 2 * length bytes.now ≤ M }
+    requires most { M ≤ 2084 }
+    requires room { array_vec_len into.old + 1 + 2 * length bytes.now ≤ N }
+    ensures items { into.new.items ≡ into.old.items ++ 32 ∷ encode_lower bytes.now }
+    ensures len { array_vec_len into.new ≤ array_vec_len into.old + 1 + 2 * length bytes.now }
+{
+    let mut digits = [0; M];
+    let digits = &mut digits[..2 * bytes.len()];
+    hex::encode_to_slice(bytes, digits).unwrap();
+    put(into, b" ");
+    put(into, digits);
+}
+
 /// A space and two digits for each byte, or a dash for none.
 pub(crate) fn put_hex<const N: usize>(into: &mut ArrayVec<u8, N>, bytes: &[u8])
     requires few { length bytes.now ≤ 1042 }
@@ -56,11 +72,12 @@ pub(crate) fn put_hex<const N: usize>(into: &mut ArrayVec<u8, N>, bytes: &[u8])
         put(into, b" -");
         return;
     }
-    let mut digits = [0; 2084];
-    let digits = &mut digits[..2 * bytes.len()];
-    hex::encode_to_slice(bytes, digits).unwrap();
-    put(into, b" ");
-    put(into, digits);
+    // The room for the digits is zeroed first, so a short frame gets a short one.
+    if bytes.len() <= 96 {
+        put_digits::<N, 192>(into, bytes);
+    } else {
+        put_digits::<N, 2084>(into, bytes);
+    }
 }
 
 /// A line of a word and one number.

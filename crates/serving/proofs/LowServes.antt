@@ -54,9 +54,9 @@ pub opening_written : {W S E T F : Type 0} (old new : Option (List ℕ)) (result
     → OnOk result (Appends old new (line_text (opening_line row (record { count = next; is_held = parts.is_held })))) → Appends old new (opening_text parts)
 opening_written {W} {S} {E} {T} {F} old new result row next parts row_is next_is asked fine ok =
     subst (λ (x : SessionRow × ℕ). Appends old new (line_text (opening_line x.0 (record { count = x.1; is_held = parts.is_held })))) (λ i. (row_is i, next_is i)) (by_result result (sym asked ∙ fine) ok) where
-  by_result : (r : Result T F) → is_err r ≡ false → OnOk r (Appends old new (line_text (opening_line row (record { count = next; is_held = parts.is_held })))) → Appends old new (line_text (opening_line row (record { count = next; is_held = parts.is_held })))
-  by_result (Ok x) fine ok = ok
-  by_result (Err x) fine ok = absurd (cc)
+      by_result : (r : Result T F) → is_err r ≡ false → OnOk r (Appends old new (line_text (opening_line row (record { count = next; is_held = parts.is_held })))) → Appends old new (line_text (opening_line row (record { count = next; is_held = parts.is_held })))
+      by_result (Ok x) fine ok = ok
+      by_result (Err x) fine ok = absurd (cc)
 
 lost_is : (phase : Phase) (hand : ℕ) → is_lost (phase_of phase hand) ≡ is_down_in phase
 lost_is phases.Idle hand = refl

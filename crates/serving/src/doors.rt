@@ -41,10 +41,7 @@ pub struct ServedStores<D> {
 
 // Opens the doors of both ports of the row, the low one first. Where the second is wanting, the first is
 // shut again.
-fn open_doors<P: Ports>(
-    ports: &mut P,
-    row: &SessionRow,
-) -> Result<(P::Door, P::Door), PortsFault>
+fn open_doors<P: Ports>(ports: &mut P, row: &SessionRow) -> Result<(P::Door, P::Door), PortsFault>
     ensures opened { IfOk result (λ doors. Grows (P.did ports.old) (P.did ports.new) (Listened row.now.low_port doors.0 ∷ Listened row.now.high_port doors.1 ∷ [])) }
     ensures low { IfOk result (λ doors. P.Door.port doors.0 row.now.low_port × P.Door.did doors.0 []) }
     ensures high { IfOk result (λ doors. P.Door.port doors.1 row.now.high_port × P.Door.did doors.1 []) }

@@ -67,8 +67,7 @@ fn serve_low<T: Wait, R: Door, K: Clock, W: Words, D: Disk, L: WaitLowEnd, O: Si
 }
 
 impl<R: Door, K: Clock, W: Words, D: Disk, L: WaitLowEnd, O: Sink> ServesLow<K, O>
-    for LowHalf<R, W, D, L>
-{
+    for LowHalf<R, W, D, L> {
     ghost can_serve = { λ v k o. Ready D.told v.parts.process v.parts.store (L.stands v.parts.ends) × (is_down v.parts.process ≡ false) × (last_of v.parts.process ≤ K.floor k) };
 
     ghost served = { λ n v w k j o t. LowRan (doors R.port R.did R.gives (links R.Link.gives R.Link.sent R.Link.faults)) D.told W.gives (K.reads k) (K.reads j)

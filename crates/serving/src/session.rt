@@ -10,10 +10,11 @@ ghost use Rattle.serving.specs.Sessions.{IfEnded, end_of, has_run, is_opened, Op
 use crate::doors::{WorkersEnd, serve_doors};
 use crate::starting::{start_high, start_low};
 use disk_model::{Disk, Role};
-use passage::{QueuePassage, WaitHighEnd, WaitLowEnd};
+use passage::{Calm, WaitHighEnd, WaitLowEnd};
 use pump_frame::SessionRow;
 use pump_link::{Clock, Ports, Sink};
 use recovery::{Why, open_pump_waiting};
+use relay_ring::RingPassage;
 use std::alloc::Global;
 use std::sync::Wait;
 use std::thread::Threads;
@@ -95,15 +96,14 @@ where
             };
         }
     };
-    let low = start_low(
+    let low = start_low(row, opened.low, opened.next, opened.low_hand, low_ends, key);
+    let high = start_high(
         row,
-        opened.low,
-        opened.next,
-        opened.low_hand,
-        low_ends,
-        key,
+        opened.high,
+        opened.removed,
+        opened.high_hand,
+        high_ends,
     );
-    let high = start_high(row, opened.high, opened.removed, opened.high_hand, high_ends);
     let served = serve_doors(
         rt, row, ports, low_clock, high_clock, low, high, tape, rounds,
     );
@@ -170,15 +170,26 @@ where
     ensures still { has_run result.end ≡ false → D.told.tells → (D.told.reading result.low ≡ D.told.reading low) × (D.told.reading result.high ≡ D.told.reading high) }
     ensures counts { (D.told.count low ≤ D.told.count result.low) × (D.told.count high ≤ D.told.count result.high) }
 {
-    let Ok(mut passage) = QueuePassage::new(alloc, row) else {
+    let Ok(mut passage) = RingPassage::new(alloc, row) else {
         return Served {
             end: SessionEnd::Memory,
             low,
             high,
         };
     };
-    let (low_ends, high_ends) = passage.ends(rt);
+    let (low_end, high_end) = passage.ends();
     serve_over(
-        rt, row, low, high, low_ends, high_ends, ports, low_clock, high_clock, key, tape, rounds,
+        rt,
+        row,
+        low,
+        high,
+        Calm(low_end),
+        Calm(high_end),
+        ports,
+        low_clock,
+        high_clock,
+        key,
+        tape,
+        rounds,
     )
 }

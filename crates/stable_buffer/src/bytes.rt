@@ -34,13 +34,13 @@ pub fn read_length(bytes: &[u8]) -> u32
     BigEndian::read_u16(bytes) as u32
 }
 
-// A message as it stands on a disk, at the front of a slot of the greatest size.
-pub fn spell(payload: &Payload) -> [u8; 1026]
-    ensures { take (2 + length payload.now) result ≡ spelled payload.now }
+// Puts a message as it stands on a disk at the front of a slot.
+pub fn spell(payload: &Payload, slot: &mut [u8])
+    requires { 2 + length payload.now ≤ length slot.old }
+    ensures spelled { take (2 + length payload.now) slot.new ≡ spelled payload.now }
+    ensures size { length slot.new ≡ length slot.old }
 {
-    let mut slot = [0; 1026];
     let bytes = payload.as_slice();
-    BigEndian::write_u16(&mut slot, bytes.len() as u16);
+    BigEndian::write_u16(slot, bytes.len() as u16);
     slot[2..2 + bytes.len()].copy_from_slice(bytes);
-    slot
 }

@@ -158,25 +158,29 @@ impl<D: Disk> Register<D> {
         self.disk.faults()
     }
 
-    // Writes beside the register.
-    fn write_beside(&mut self, at: u64, bytes: &[u8]) -> Result<(), Device>
+    // Writes a message beside the register, spelled in a room of so many bytes.
+    fn write_spelled<const N: usize>(&mut self, at: u64, message: &Payload) -> Result<(), Device>
         requires ready { IsReady D.told self.old }
         requires beside { 80 ≤ at }
         requires within { D.told.tells → at ≤ length (D.told.reading (register_disk self.old)) }
+        requires room { (2 + length message.now ≤ N) × (N ≤ 1026) }
 
         ensures ready { OnOk result (IsReady D.told self.new) }
         ensures value { register_value self.new ≡ register_value self.old }
         ensures written { OnOk result (D.told.tells → IsWritten (D.told.reading (register_disk self.old))
-            at bytes.now (D.told.reading (register_disk self.new))) }
-        ensures moves { Moves D.told (Torn at (length bytes.now))
+            at (spelled message.now) (D.told.reading (register_disk self.new))) }
+        ensures moves { Moves D.told (Torn at (2 + length message.now))
             (register_disk self.old) (register_disk self.new) }
 
         ensures closed { OnErr result (register_is_open self.new ≡ false) }
-        ensures answers { Answers D.told (at + length bytes.now ≤ D.told.room (register_disk self.old))
+        ensures answers { Answers D.told
+            (at + 2 + length message.now ≤ D.told.room (register_disk self.old))
             (register_disk self.old) (register_disk self.new) result }
         ensures device { IfErr result (λ e. e.faults ≡ D.told.count (register_disk self.new)) }
     {
-        if let Err(device) = write(&mut self.disk, at, bytes) {
+        let mut record = [0; N];
+        spell(message, &mut record);
+        if let Err(device) = write(&mut self.disk, at, &record[..2 + message.len() as usize]) {
             self.is_open = false;
             return Err(device);
         }
@@ -202,8 +206,12 @@ impl<D: Disk> Register<D> {
             (register_disk self.old) (register_disk self.new) result }
         ensures device { IfErr result (λ e. e.faults ≡ D.told.count (register_disk self.new)) }
     {
-        let record = spell(message);
-        self.write_beside(at, &record[..2 + message.len() as usize])
+        // The room is zeroed first, so a short message gets a short one.
+        if message.len() <= 126 {
+            self.write_spelled::<128>(at, message)
+        } else {
+            self.write_spelled::<1026>(at, message)
+        }
     }
 
     /// The length of the message that stands beside the register.

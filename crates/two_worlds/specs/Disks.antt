@@ -9,6 +9,7 @@ use Rattle.stable_buffer.specs.Log.{RecvStands}
 use Rattle.pump_core.specs.World.{World}
 use Rattle.pump_core.specs.Events.{with_kept, pump_crashed, receiver_crashed}
 use Rattle.pump_core.specs.Lawful.{IsLawful}
+use Rattle.recovery.specs.Joint.{Opens as IsFound}
 use Rattle.script_reader.specs.Highs.{log_end, receiver_size}
 
 -- the accepted messages that are not removed
@@ -90,6 +91,22 @@ pub record StandFor (row : SessionRow) (w : World) (low high recv : List ℕ) : 
 abbrev pub StandForLeft : SessionRow → World → List ℕ → List ℕ → List ℕ → Type 0
 StandForLeft row w low high recv =
     (stored : Bool) × (removed : Bool) × (taken : Bool) × StandFor row (crashed w stored removed taken) low high recv
+
+-- three readings are refused for nothing, neither by the openings nor where the receiver's list is compared
+-- with low's, and the counts found are those of this world
+abbrev pub AreFound : SessionRow → World → List ℕ → List ℕ → List ℕ → Type 0
+AreFound row w low high recv =
+    IsFound row receiver_size (length w.accepted) w.removed (length w.received) w.received low high recv
+
+-- .. of this world after a crash: each call that is unfinished was kept or lost
+abbrev pub AreFoundAgain : SessionRow → World → List ℕ → List ℕ → List ℕ → Type 0
+AreFoundAgain row w low high recv =
+    (stored : Bool) × (removed : Bool) × (taken : Bool) × AreFound row (crashed w stored removed taken) low high recv
+
+-- whatever crashes leave of each of three disks is found again
+abbrev pub OpenAgain : {D : Type 0} → Meaning D → SessionRow → World → D → D → D → Type 0
+OpenAgain m row w low high recv = m.tells_images → (a b c : List ℕ)
+    → m.images low a → m.images high b → m.images recv c → AreFoundAgain row w a b c
 
 -- what is read of three disks, and whatever crashes leave of each of them, stands for what a crash leaves
 -- of this world

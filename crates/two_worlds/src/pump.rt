@@ -47,7 +47,7 @@ impl<D: Disk> Pump<D> {
     ghost use Rattle.two_worlds.specs.Printing.{lines_in};
     ghost use Rattle.script_reader.specs.Past.{Past};
     ghost use Rattle.script_reader.specs.Openings.{Found, first_past, nothing_found};
-    ghost use Rattle.two_worlds.specs.Disks.{Opens, CrashesOpen, LeaveWorld};
+    ghost use Rattle.two_worlds.specs.Disks.{Opens, CrashesOpen, LeaveWorld, OpenAgain};
     ghost use Rattle.recovery.specs.Calls.{is_device};
     ghost use Rattle.two_worlds.specs.LowPumps.{stops_at_disk};
     ghost use Rattle.two_worlds.specs.Pumps.{row_of, StandsFor, StandsOrFails, is_down, kept_moment, disk_at, Applies, AppliesOn};
@@ -162,16 +162,21 @@ impl<D: Disk> Pump<D> {
 
     /// The low, the high and the receiver's disk, with no further call. What is read of them stands for
     /// the world to which the session came, also where a call of one of them failed, and so does whatever
-    /// crashes leave of them, with each call that is unfinished kept or lost. The law
-    /// `acknowledged_outlives` says what that means for the messages.
+    /// crashes leave of them, with each call that is unfinished kept or lost: over such disks no opening
+    /// refuses anything, and the receiver's list agrees with low's. The law `acknowledged_outlives` says
+    /// what that means for the messages.
     pub fn close(self) -> (D, D, D)
         ensures disks { result ≡ (disk_at roles.Low self, disk_at roles.High self, disk_at roles.Recv self) }
         ensures left { (p : Past) → StandsOrFails D.told self p
             → LeaveWorld D.told (row_of self) p.world result.0 result.1 result.2 }
+        ensures again { (p : Past) → StandsOrFails D.told self p
+            → OpenAgain D.told (row_of self) p.world result.0 result.1 result.2 }
         ensures open { CrashesOpen D.told (row_of self) result.0 result.1 result.2 }
         ensures read { D.told.tells → Opens (row_of self) (D.told.reading result.0) (D.told.reading result.1) (D.told.reading result.2) }
     {
         let disks = self.state.into_disks();
+        // Its range: an opening is spoken of for rows of this type.
+        let _session = disks.row.id;
         (disks.low, disks.high, disks.recv)
     }
 }

@@ -1,19 +1,22 @@
 -- What crashes leave of the disks of a pump stands for its world, with each unfinished call kept or lost.
-use Rattle.std.proofs.Common.{◌≡◌, inl, inr, ℕ, ◌≤◌, ◌<◌, Bool, true, false, List, [], ◌∷◌, length, Option, Some, None, refl, ap, arith, length-append}
+use Rattle.std.proofs.Common.{◌≡◌, inl, inr, ℕ, ◌^◌, ◌≤◌, ◌<◌, Bool, true, false, List, [], ◌∷◌, length, Option, Some, None, refl, ap, arith, length-append}
 use Rattle.std.specs.Prelude.{◌&&◌}
 use Rattle.disk_model.specs.Disk.{Meaning}
 use Rattle.disk_model.specs.declared.name.Role.TheVariants as roles
+use Rattle.pump_frame.specs.Rows.{IsLawfulRow}
 use Rattle.pump_frame.specs.declared.row.SessionRow.{SessionRow}
+use Rattle.stable_buffer.specs.Format.{receiver_size}
 use Rattle.pump_frame.specs.declared.payload.Payload.{Payload}
 use Rattle.pump_core.specs.declared.event.Event.TheVariants.{Crash}
 use Rattle.pump_core.specs.World.{World}
 use Rattle.pump_core.specs.Events.{with_kept}
 use Rattle.pump_core.specs.Lawful.{IsLawful}
 use Rattle.pump_core.proofs.Laws.{stays_lawful}
+use Rattle.recovery.proofs.Triples.{each_world}
 use Rattle.script_reader.specs.Past.{Past}
 use Rattle.script_reader.specs.Highs.{log_end}
 use Rattle.two_worlds.specs.declared.pump.parts.Parts.{Parts}
-use Rattle.two_worlds.specs.Disks.{LowFits, HighFits, RecvFits, DisksFit, FitsRow, StandForLeft, LeaveWorld}
+use Rattle.two_worlds.specs.Disks.{LowFits, HighFits, RecvFits, DisksFit, FitsRow, crashed, StandFor, StandForLeft, AreFound, OpenAgain, LeaveWorld}
 use Rattle.two_worlds.specs.declared.pump.Pump.{Pump}
 use Rattle.two_worlds.specs.declared.pump.state.PumpState.{PumpState}
 use Rattle.two_worlds.specs.declared.pump.state.PumpState.TheVariants.{Open, Shut}
@@ -21,6 +24,7 @@ use Rattle.two_worlds.specs.Pumps.{StandsOrFails, row_of, disk_at}
 use Rattle.two_worlds.specs.Standing.{Stands}
 use Rattle.two_worlds.specs.States.{disks_in, StandsIn}
 use Rattle.two_worlds.proofs.Carry.Carried.{log_end_push}
+use Rattle.two_worlds.proofs.Opening.Opened.{received_end}
 use Rattle.two_worlds.proofs.Disks.Crashes.{low_case, high_case, recv_case, low_from, kept_longer, prefix_length, and_right}
 
 shorter : (kept : Bool) (o : Option Payload) (ps : List Payload) → length (with_kept kept o ps) ≤ length (with_kept true o ps)
@@ -62,6 +66,23 @@ leaves_world m row w low high recv lawful fits disks = record {
   readings = λ told. stands_left row w _ _ _ lawful fits (disks.low_disk.reading told) (disks.high_disk.reading told) (disks.recv_disk.reading told);
   crashes = λ told a b c ia ib ic. stands_left row w a b c lawful fits (disks.low_disk.images told a ia) (disks.high_disk.images told b ib) (disks.recv_disk.images told c ic);
 }
+
+-- .. so nothing is refused of them
+found : (row : SessionRow) (w : World) (low high recv : List ℕ) → IsLawfulRow row → row.id < 2 ^ 32 → StandFor row w low high recv → AreFound row w low high recv
+found row w low high recv lawful small s = each_world row w receiver_size low high recv lawful small (record {
+  lawful = s.lawful;
+  capacity = s.capacity;
+  count = s.count;
+  room = (let e = received_end row w.received recv s.recv_is in let l = s.end in omega (arith, e, l));
+  low_stands = s.low_is;
+  high_stands = s.high_is;
+  recv_stands = s.recv_is;
+})
+
+pub opens_again : {D : Type 0} (m : Meaning D) (row : SessionRow) (w : World) (low high recv : D) → IsLawfulRow row → row.id < 2 ^ 32 → LeaveWorld m row w low high recv → OpenAgain m row w low high recv
+opens_again m row w low high recv lawful small leaves told a b c ia ib ic =
+    let s = leaves.crashes told a b c ia ib ic in
+    (s.0, s.1, s.2, found row (crashed w s.0 s.1 s.2) a b c lawful small s.3)
 
 -- ---- a world whose calls are finished ----
 

@@ -5,18 +5,35 @@ use Rattle.pump_frame.specs.declared.row.SessionRow.{SessionRow}
 use Rattle.stable_buffer.specs.Low.{StandsForCount}
 use Rattle.stable_buffer.specs.Stands.{HighStands as HighDiskStands}
 use Rattle.stable_buffer.specs.Log.{RecvStands}
-use Rattle.pump_core.specs.Passage.{Shape, shape_of_row, Fits}
-use Rattle.passage.specs.QueueEnds.{high_shape, LowEndStands, HighEndStands, low_shape}
+use Rattle.pump_link.specs.Tells.{Grows}
+use Rattle.pump_core.specs.Passage.{Shape, Low, High, shape_of_row, Fits}
+use Rattle.passage.specs.declared.waiting.Calm.{Calm}
+use Rattle.relay_ring.specs.RingEnds as ring
+use Rattle.relay_ring.specs.declared.ends.RingLow.{RingLow}
+use Rattle.relay_ring.specs.declared.ends.RingHigh.{RingHigh}
 use Rattle.script_reader.specs.Generated.{generated_row}
 use Rattle.relay_threads.specs.Records.{recorded}
 use Rattle.relay_threads.specs.RecordLines.{record_text}
-use Rattle.race.specs.MadeLooks.{moments_of}
+use Rattle.race.specs.MadeLooks.{moments_of, acks_of}
 use Rattle.race.specs.Messages.{race_opening}
 use Rattle.race.specs.Race.{AreRaceLooks, ArePrinted, end_lines, payloads}
-use Rattle.race.specs.Turns.{turns, AsksHigh}
+use Rattle.race.specs.Turns.{turns, AsksHigh, asks_of, asks_in_run}
 use Rattle.race.proofs.Finish.{looks_are, all_acked, printed_by_both, received_by_both, low_count_is, high_count_is, recv_count_is}
 use Rattle.race.proofs.Tapes.{keeps_none, either}
 use Rattle.race.proofs.racing.race_halves.Goals as goal
+
+-- what the ends of the ring mean where they are given as ends that may wait
+abbrev LowEndStands : Calm RingLow → Low → High → Type 0
+LowEndStands end = ring.LowEndStands end.0
+
+abbrev HighEndStands : Calm RingHigh → Low → High → Type 0
+HighEndStands end = ring.HighEndStands end.0
+
+abbrev low_shape : Calm RingLow → Shape
+low_shape end = ring.low_shape end.0
+
+abbrev high_shape : Calm RingHigh → Shape
+high_shape end = ring.high_shape end.0
 
 pub returns-clause-record : goal.returns-clause-record
 returns-clause-record g c = λ low_on high_on.
@@ -44,12 +61,17 @@ returns-clause-record g c = λ low_on high_on.
     let looked = r.low.3 (O.written c.args.out.now) (O.faults c.args.out.now) _ opened in (
       text ++ ends,
       moments_of made,
+      asks_of (acks_of made),
       c.close-write_failed.ensures.ended none (O.written c.args.out.now) (O.faults c.args.out.now) text looked,
       r.low.2,
+      subst (λ (stopped : Bool). Grows (g.G.Gate.asked c.args.low_gate.now) (g.G.Gate.asked c.run_halves-raced.new.low_gate) (asks_in_run stopped (acks_of made))) low_on r.low.4,
       record {
         made = made;
         looks = subst (λ (seed : ℕ). AreRaceLooks seed made) r.seed (looks_are LowEndStands low_shape low made a);
         readings_are = refl;
+        asks_are = refl;
+        acked = all_acked LowEndStands low_shape low made a done ∙ same ∙ r.high_count;
+        readable = record { opening = c.open.ensures.reads; looks = r.low.5 };
         printed = subst (λ (z : ℕ × ℕ × List ℕ). ArePrinted z.0 z.1 z.2 (moments_of made) (recorded made)) (λ i. (r.seed i, r.high_count i, ap (λ t. t.items) r.times i))
             (printed_by_both LowEndStands low_shape low made a HighEndStands high b done all same fits.agrees);
         bytes_are = ap (λ (z : List ℕ × ℕ × ℕ × ℕ × ℕ). text ++ end_lines (turns z.0 z.1) z.2 z.3 z.4)
@@ -70,12 +92,17 @@ returns-clause-cut_short g c = λ stopped.
     let looked = r.low.3 (O.written c.args.out.now) (O.faults c.args.out.now) _ opened in (
       text ++ [],
       moments_of made,
+      asks_in_run c.run_halves-raced.result.low_stopped (acks_of made),
       c.close-write_failed.ensures.stopped one (O.written c.args.out.now) (O.faults c.args.out.now) text looked,
       r.low.2,
+      r.low.4,
       record {
         made = made;
         looks = subst (λ (seed : ℕ). AreRaceLooks seed made) r.seed (looks_are LowEndStands low_shape low made a);
         readings_are = refl;
+        asks_are = refl;
+        acked = λ on. all_acked LowEndStands low_shape low made a (r.low_ended on) ∙ r.low_count;
+        readable = record { opening = c.open.ensures.reads; looks = r.low.5 };
         bytes_are = append-nil text;
       },
     )
@@ -103,20 +130,6 @@ returns-clause-disks g c = λ low_on high_on.
       low_stands = subst (λ (z : SessionRow × ℕ × Plain). StandsForCount z.0 z.1 z.2.bytes) (λ i. ((store.row ∙ a.row) i, (store.count ∙ next_is) i, sym c.into_disk.ensures i)) (store.ready.stands tt);
       high_stands = subst (λ (z : ℕ × Plain). HighDiskStands generated_row z.0 z.1.bytes) (λ i. (removed_is i, sym c.into_disk-2.ensures i)) b.disk;
       recv_stands = subst (λ (z : List (List ℕ) × Plain). RecvStands generated_row z.0 z.1.bytes) (λ i. (messages i, sym c.into_disk-3.ensures i)) b.recv.stands;
-    }
-
-pub returns-clause-asked_low : goal.returns-clause-asked_low
-returns-clause-asked_low g c =
-    let r = c.run_halves-raced.ensures in
-    let low = c.run_halves-raced.new.low in
-    let made = r.low.0 in
-    let a = r.low.1 in
-    record {
-      made = made;
-      looks = subst (λ (seed : ℕ). AreRaceLooks seed made) r.seed (looks_are LowEndStands low_shape low made a);
-      readings = r.low.2;
-      asked = r.low.4;
-      ended = λ on. all_acked LowEndStands low_shape low made a (r.low_ended on) ∙ r.low_count;
     }
 
 pub returns-clause-asked_high : goal.returns-clause-asked_high

@@ -1,7 +1,7 @@
 use Rattle.std.proofs.Common.{ℕ, List, subst}
 use Rattle.pump_frame.specs.Counts.{Rose}
 use Rattle.pump_core.specs.Passage.{new_low, new_high}
-use Rattle.race.specs.Race.{IsRaceRecord, IsStoppedRecord, AreRaceDisks, AsksLow}
+use Rattle.race.specs.Race.{IsRaceRecord, IsStoppedRecord, AreRaceDisks}
 use Rattle.race.specs.Turns.{AsksHigh}
 use Rattle.race.proofs.Tapes.{failed_of}
 use Rattle.race.proofs.racing.race_with.Goals as goal
@@ -14,14 +14,14 @@ start-high-requires-clause-stands g c = c.ends-low_end.ensures.high new_low
 
 pub returns-clause-record : goal.returns-clause-record
 returns-clause-record g c = λ low_on high_on.
-    let (bytes, readings, written, draws, is) = c.race_halves.ensures.record low_on high_on in
+    let (bytes, readings, asks, written, draws, asked, is) = c.race_halves.ensures.record low_on high_on in
     let high = c.start-high.ensures in
-    (bytes, readings, written, draws, subst (λ (z : ℕ × ℕ × List ℕ). IsRaceRecord z.0 z.1 z.2 readings bytes) (λ i. (c.start-low.ensures.seed i, high.count i, high.times i)) is)
+    (bytes, readings, asks, written, draws, asked, subst (λ (z : ℕ × ℕ × List ℕ). IsRaceRecord z.0 z.1 z.2 readings asks bytes) (λ i. (c.start-low.ensures.seed i, high.count i, high.times i)) is)
 
 pub returns-clause-cut_short : goal.returns-clause-cut_short
 returns-clause-cut_short g c = λ stopped.
-    let (bytes, readings, written, draws, is) = c.race_halves.ensures.cut_short stopped in
-    (bytes, readings, written, draws, subst (λ (seed : ℕ). IsStoppedRecord seed readings bytes) c.start-low.ensures.seed is)
+    let (bytes, readings, asks, written, draws, asked, is) = c.race_halves.ensures.cut_short stopped in
+    (bytes, readings, asks, written, draws, asked, subst (λ (z : ℕ × ℕ). IsStoppedRecord z.0 z.1 c.race_halves.result.low_stopped readings asks bytes) (λ i. (c.start-low.ensures.seed i, c.start-low.ensures.count i)) is)
 
 pub returns-clause-disks : goal.returns-clause-disks
 returns-clause-disks g c = λ low_on high_on.
@@ -33,15 +33,7 @@ returns-clause-failed g c =
     let O = g.O.Sink in
     let end = c.race_halves.result in
     failed_of end.low_stopped end.high_stopped end.write_failed (Rose (O.faults c.args.out.now) (O.faults c.race_halves.new.out))
-    (λ low_on high_on. (c.race_halves.ensures.record low_on high_on).2.cause) (λ stopped. (c.race_halves.ensures.cut_short stopped).2.cause)
-
-pub returns-clause-asked_low : goal.returns-clause-asked_low
-returns-clause-asked_low g c =
-    let G = g.G.Gate in
-    let K = g.K.Clock in
-    let end = c.race_halves.result in
-    subst (λ (z : ℕ × ℕ). AsksLow z.0 z.1 end.low_stopped (K.reads c.args.low_clock.now) (K.reads c.race_halves.new.low_clock) (G.asked c.args.low_gate.now) (G.asked c.race_halves.new.low_gate))
-    (λ i. (c.start-low.ensures.seed i, c.start-low.ensures.count i)) c.race_halves.ensures.asked_low
+    (λ low_on high_on. (c.race_halves.ensures.record low_on high_on).3.cause) (λ stopped. (c.race_halves.ensures.cut_short stopped).3.cause)
 
 pub returns-clause-asked_high : goal.returns-clause-asked_high
 returns-clause-asked_high g c =

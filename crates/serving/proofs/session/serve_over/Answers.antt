@@ -89,9 +89,10 @@ returns-clause-still g c = λ none told.
     let served = c.serve_doors-served in
     let low = no_doors served.result.ends c.end_of.result c.end_of.ensures _ served.ensures.low_kept none in
     let high = no_doors served.result.ends c.end_of.result c.end_of.ensures _ served.ensures.high_kept none in
-    let m = g.D.Disk.told in
-    (ap m.reading (c.into_disk.ensures ∙ ap low_disk (low ∙ c.start_low-low.ensures.store)) ∙ c.in-Ok.ensures.moves_low.reads told,
-     ap m.reading (c.into_disk-2.ensures ∙ ap high_disk (high ∙ c.start_high-high.ensures.store)) ∙ c.in-Ok.ensures.moves_high.reads told)
+    let m = g.D.Disk.told in (
+      ap m.reading (c.into_disk.ensures ∙ ap low_disk (low ∙ c.start_low-low.ensures.store)) ∙ c.in-Ok.ensures.moves_low.reads told,
+      ap m.reading (c.into_disk-2.ensures ∙ ap high_disk (high ∙ c.start_high-high.ensures.store)) ∙ c.in-Ok.ensures.moves_high.reads told,
+    )
 
 pub returns-clause-counts : goal.returns-clause-counts
 returns-clause-counts g c =

@@ -5,6 +5,7 @@ use Rattle.pump_link.proofs.Grown.{Grows-nil}
 use Rattle.relay_threads.specs.Records.{record_of}
 use Rattle.relay_threads.specs.RecordLines.{looks_text, made_by, HasLawfulFrame}
 use Rattle.script_reader.specs.Generated.{generated_row}
+use Rattle.race.specs.LowHalf.{offered}
 use Rattle.race.specs.MadeLooks.{moments_of, is_ack, acks_of}
 use Rattle.race.specs.Messages.{messages_in}
 use Rattle.race.specs.Race.{look_lines}
@@ -13,6 +14,7 @@ use Rattle.race.proofs.Frames.{has_lawful}
 use Rattle.race.proofs.HighAsks.{asks_more}
 use Rattle.race.proofs.LowAsks.{acks_are}
 use Rattle.race.proofs.LowRuns.{draws_none, draws_then, looks_more}
+use Rattle.race.proofs.Replayable.{readable_more}
 use Rattle.race.proofs.Tapes.{prints_none, prints_then}
 use Rattle.race.proofs.low_work.LowWorkWork.run.Goals as goal
 
@@ -26,6 +28,7 @@ loop-init g c = (
     row = c.requires.row;
     draws = draws_none _;
     prints = prints_none _ _ _;
+    readable = tt;
     asks_are = Grows-nil _;
     stops_rise = le_refl _;
   },
@@ -37,10 +40,16 @@ loop-init g c = (
 pub look_with-made-requires-clause-at : goal.look_with-made-requires-clause-at
 look_with-made-requires-clause-at g c =
     let i = c.loop.invariant in
-    (i.0, c.next_frame-frame.ensures.offer i.0 i.1.at)
+    (i.0, c.next_frame-comes.ensures.offer i.0 i.1.at)
 
 pub look-requires-clause-lawful : goal.look-requires-clause-lawful
-look-requires-clause-lawful g c = subst HasLawfulFrame (sym c.look_with-made.ensures.arrival) (has_lawful c.next_frame-frame.result c.next_frame-frame.ensures.lawful)
+look-requires-clause-lawful g c = subst HasLawfulFrame (sym c.look_with-made.ensures.arrival) (has_lawful (offered c.next_frame-comes.result c.next_frame-comes.new.into) c.next_frame-comes.ensures.lawful)
+
+pub look-requires-clause-plain : goal.look-requires-clause-plain
+look-requires-clause-plain g c =
+    let i = c.loop.invariant in
+    let (left, at, offer) = c.next_frame-comes.ensures.offer i.0 i.1.at in
+    (c.look_with-made.ensures.at i.0 left at offer).plain.0
 
 pub loop-preserved : goal.loop-preserved
 loop-preserved g c =
@@ -52,7 +61,7 @@ loop-preserved g c =
     let K = g.K.Clock in
     let O = g.O.Sink in
     let done = acks_are g.L.LowSide.stands g.L.LowSide.shape c.loop.self.half.now (messages_in c.loop.self.half.now.script) made s.at c.acknowledged-acknowledged.result c.acknowledged-acknowledged.ensures.idle c.acknowledged-acknowledged.ensures.busy in
-    let (left, at, offer) = c.next_frame-frame.ensures.offer made s.at in (
+    let (left, at, offer) = c.next_frame-comes.ensures.offer made s.at in (
       m ∷ made,
       record {
         keeps = record {
@@ -75,6 +84,7 @@ loop-preserved g c =
             (prints_then c.args.self.now.tape.now c.loop.self.tape.now c.look.new.self (O.written c.args.self.now.out.now) (O.written c.loop.self.out.now) (O.written c.look.new.out)
             (O.faults c.args.self.now.out.now) (O.faults c.loop.self.out.now) (O.faults c.look.new.out)
             (looks_text generated_row (record_of made)) (look_lines made m) s.prints (c.look.ensures.prints made i.2));
+        readable = readable_more made m (c.look.ensures.reads made i.2) s.readable;
         asks_are = asks_more _ _ _ (is_ack m.reply) (acks_of made) c.loop.looks c.acknowledged-acknowledged.result i.4 done s.asks_are c.pass.ensures.asked;
         stops_rise = search rules;
       },
@@ -109,6 +119,7 @@ returns-then-not-pass g c =
         row = s.row;
         draws = s.draws;
         prints = s.prints;
+        readable = s.readable;
         asks_are = asks_more _ _ _ false (acks_of made) c.loop.looks taken.result i.4 done s.asks_are c.pass.ensures.asked;
         stops_rise = search rules;
       };

@@ -1,6 +1,7 @@
-use Rattle.std.proofs.Common.{◌++◌, refl, ap, ◌∙◌}
+use Rattle.std.proofs.Common.{◌++◌, refl, ap, ◌∙◌, subst, arith}
 use Rattle.pump_frame.specs.declared.row.SessionRow.{SessionRow}
-use Rattle.script_reader.specs.Spelling.{line_text}
+use Rattle.script_reader.specs.Grammar.{IsLine}
+use Rattle.script_reader.specs.Spelling.{line_spelling, line_text}
 use Rattle.relay_threads.specs.RecordLines.{opening_line}
 use Rattle.race.specs.Messages.{race_opening}
 use Rattle.race.specs.Race.{opening_text}
@@ -14,3 +15,7 @@ returns-clause-prints g c = λ start first earlier k.
     keeps_more tape (record tape { held = c.append_opening.new.into }) start (g.O.Sink.written c.make_room.new.out) first (g.O.Sink.faults c.make_room.new.out) earlier opening_text
     (c.append_opening.ensures.text ∙ ap (λ (row : SessionRow). held_of tape ++ line_text (opening_line row race_opening)) (c.make_room.ensures.row ∙ c.requires))
     refl (c.make_room.ensures.stays start first earlier k)
+
+pub returns-clause-reads : goal.returns-clause-reads
+returns-clause-reads g c = subst (λ (row : SessionRow). IsLine (opening_line row race_opening) (line_spelling (opening_line row race_opening))) (c.make_room.ensures.row ∙ c.requires)
+    (c.append_opening.ensures.reads (refl, refl, record { most = omega arith; some = λ e. absurd (cc) }))

@@ -1,0 +1,6 @@
+mod Begins
+mod Joins
+mod PairSteps
+mod Places
+mod RingSteps
+mod Seats

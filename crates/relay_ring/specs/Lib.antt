@@ -1,0 +1,5 @@
+pub mod PairRule
+pub mod Parting
+pub mod Ready
+pub mod RingEnds
+pub mod RingRule

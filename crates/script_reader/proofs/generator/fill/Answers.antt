@@ -11,8 +11,8 @@ bytes-preserved c =
     let sum : byte ≡ (c.args.message + c.bytes.i) % 256 = ap (λ (n : ℕ). n % 256) (omega (arith, c.from.ensures, c.from-in-bytes.ensures)) in (
       length-set c.bytes.bytes c.bytes.i byte ∙ c.bytes.invariant.0,
       take_more_set c.bytes.bytes c.bytes.i byte within ∙ ap (λ (xs : List ℕ). xs ++ byte ∷ []) c.bytes.invariant.1
-      ∙ ap (λ (b : ℕ). counting c.bytes.i c.args.message ++ b ∷ []) sum ∙ sym (counting_more c.bytes.i c.args.message)
-      ∙ ap (λ (n : ℕ). counting n c.args.message) (sym (add-one c.bytes.i)),
+          ∙ ap (λ (b : ℕ). counting c.bytes.i c.args.message ++ b ∷ []) sum ∙ sym (counting_more c.bytes.i c.args.message)
+          ∙ ap (λ (n : ℕ). counting n c.args.message) (sym (add-one c.bytes.i)),
     )
 
 pub returns-clause-value : goal.returns-clause-value

@@ -7,8 +7,13 @@ use std::time::{self, Duration};
 /// The latest moment of a clock.
 const LATEST: u64 = 1 << 62;
 
+/// How many microseconds lie between two readings at least.
+const STEP: u64 = 100;
+
 /// The machine's clock: microseconds since its start, which never fall and stay at 2^62. It tells how
 /// many readings it gave, and not what they were. While the machine's clock can't be read it stands still.
+/// A reading that would come less than 100 microseconds after the one before waits until then, so that a
+/// worker whose rounds wait for a moment leaves the processor to others.
 #[derive(Drop)]
 pub struct RealClock<'a, R> {
     machine: &'a R,
@@ -42,6 +47,14 @@ impl<'a, R: time::Clock> RealClock<'a, R> {
             Err(_) => 0,
         }
     }
+
+    // Waits where the last reading was just now.
+    fn rest(&self) {
+        let since = self.passed().saturating_sub(self.last);
+        if since < STEP {
+            self.machine.sleep(Duration::from_micros(STEP - since));
+        }
+    }
 }
 
 impl<R: time::Clock> Clock for RealClock<'_, R> {
@@ -53,6 +66,7 @@ impl<R: time::Clock> Clock for RealClock<'_, R> {
     ghost readings = { λ s. s.readings };
 
     fn moment(&mut self) -> u64 {
+        self.rest();
         self.last = self.passed().max(self.last).min(LATEST);
         self.readings = raised(self.readings);
         self.last

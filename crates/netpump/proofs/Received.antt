@@ -36,8 +36,12 @@ module _ {D L : Type 0} (t : LinksTell L) (looks : ℕ) (ports now_ports : List 
       → ReceivesFor t looks ports now_ports written out_faults (reading_at between row.id roles.Recv) (reading_at after row.id roles.Recv) row end mid mid_faults
       → ReceiveComes t looks ports now_ports written out_faults file before after session end mid mid_faults
   receives_row file before between after session row end mid mid_faults has same others h =
-      inr (row, has, subst (λ (places : Places). LeavesOtherDisks places after (disk_name row.id roles.Recv)) same others,
-      subst (λ (places : Places). ReceivesFor t looks ports now_ports written out_faults (reading_at places row.id roles.Recv) (reading_at after row.id roles.Recv) row end mid mid_faults) same h)
+      inr (
+        row,
+        has,
+        subst (λ (places : Places). LeavesOtherDisks places after (disk_name row.id roles.Recv)) same others,
+        subst (λ (places : Places). ReceivesFor t looks ports now_ports written out_faults (reading_at places row.id roles.Recv) (reading_at after row.id roles.Recv) row end mid mid_faults) same h,
+      )
 
 -- a disk that could not be taken
 pub untaken_stops : (found : List ℕ) (row : SessionRow) (fault : ShelfFault) (end : CommandEnd) → (fault ≡ shelf_faults.Memory → end ≡ Memory) → (fault ≡ shelf_faults.Failed → end ≡ Failed roles.Recv) → StopsAtDisk found row end

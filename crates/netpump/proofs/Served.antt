@@ -142,5 +142,9 @@ module _ {D L S : Type 0} (t : DoorsTell D L) (m : Meaning S) (looks : ℕ) (por
       → ServesFor t m looks ports now_ports low_reads now_low_reads high_reads now_high_reads written out_faults between after left now_left read_faults now_read_faults row end mid mid_faults
       → ServeComes t m looks ports now_ports low_reads now_low_reads high_reads now_high_reads written out_faults before after left now_left read_faults now_read_faults file session end mid mid_faults
   serves_row has same others h =
-      inr (row, has, subst (λ (places : Places). LeavesBut places after row.id) same others,
-      subst (λ (places : Places). ServesFor t m looks ports now_ports low_reads now_low_reads high_reads now_high_reads written out_faults places after left now_left read_faults now_read_faults row end mid mid_faults) same h)
+      inr (
+        row,
+        has,
+        subst (λ (places : Places). LeavesBut places after row.id) same others,
+        subst (λ (places : Places). ServesFor t m looks ports now_ports low_reads now_low_reads high_reads now_high_reads written out_faults places after left now_left read_faults now_read_faults row end mid mid_faults) same h,
+      )

@@ -76,11 +76,7 @@ fn links(alloc: Global, frames: &[&[u8]]) -> Result<Vec<MemLink>, AllocError> {
     for byte in joined(alloc, frames)?.iter() {
         looks.push(Looked::Byte(*byte))?;
     }
-    links.push(MemLink::new(
-        looks,
-        vec![in alloc; 0; 256]?,
-        Vec::new(alloc),
-    ))?;
+    links.push(MemLink::new(looks, vec![in alloc; 0; 256]?, Vec::new(alloc)))?;
     Ok(links)
 }
 
@@ -144,9 +140,11 @@ fn run<R: Threads + Wait + Sync>(
 fn ends<R: Threads + Wait + Sync>(rt: &R, alloc: Global, case: &Case) -> Result<bool, Fail> {
     let ran = run(rt, alloc, case, 32)?;
     let sent = joined(alloc, case.sent)?;
-    Ok(ran.status == case.status
-        && ran.output.as_slice() == case.output.as_bytes()
-        && ran.sent.as_slice() == sent.as_slice())
+    Ok(
+        ran.status == case.status
+            && ran.output.as_slice() == case.output.as_bytes()
+            && ran.sent.as_slice() == sent.as_slice(),
+    )
 }
 
 const SEND: Case<'static> = Case {

@@ -20,22 +20,26 @@ returns-clause-receives g c = λ tells.
     let row = c.args.row.now in
     let (x, receives, gave, sent, printed, keeps) = e.ensures.receives in
     let disk = sym c.into_disk-2.ensures in
-    inr (e.result, c.end_of_receiver.ensures, record {
-      came = c.in-Ok.link;
-      back = e.new.link;
-      over = Grows-then _ _ _ (Connected row.high_port c.in-Ok.link ∷ []) (BackToPorts e.new.link ∷ []) c.in-Ok.ensures.did c.back.ensures.did;
-      start = place_of c.args.receiver;
-      stood = sym (value_by _ _ _ _ (c.requires.ready.ready.each.reading tells));
-      reception = x;
-      disk_faults = g.D.Disk.told.count (recv_disk c.args.receiver);
-      now_disk_faults = g.D.Disk.told.count (recv_disk e.new.receiver);
-      receives = sized _ _ _ _ _ _ _ c.requires.size receives;
-      gave = gave;
-      sent = sent;
-      printed = printed;
-      grown = λ sound list stands. subst (λ (d : g.row.D.Denot). RecvStands row (list ++ messages x.turns) (m.reading d)) disk (keeps.grown sound tells list stands);
-      kept = λ list stands. subst (λ (d : g.row.D.Denot). StandsForFront row list (attempted x e.result) (m.reading d)) disk (keeps.reads tells list stands);
-    })
+    inr (
+      e.result,
+      c.end_of_receiver.ensures,
+      record {
+        came = c.in-Ok.link;
+        back = e.new.link;
+        over = Grows-then _ _ _ (Connected row.high_port c.in-Ok.link ∷ []) (BackToPorts e.new.link ∷ []) c.in-Ok.ensures.did c.back.ensures.did;
+        start = place_of c.args.receiver;
+        stood = sym (value_by _ _ _ _ (c.requires.ready.ready.each.reading tells));
+        reception = x;
+        disk_faults = g.D.Disk.told.count (recv_disk c.args.receiver);
+        now_disk_faults = g.D.Disk.told.count (recv_disk e.new.receiver);
+        receives = sized _ _ _ _ _ _ _ c.requires.size receives;
+        gave = gave;
+        sent = sent;
+        printed = printed;
+        grown = λ sound list stands. subst (λ (d : g.row.D.Denot). RecvStands row (list ++ messages x.turns) (m.reading d)) disk (keeps.grown sound tells list stands);
+        kept = λ list stands. subst (λ (d : g.row.D.Denot). StandsForFront row list (attempted x e.result) (m.reading d)) disk (keeps.reads tells list stands);
+      },
+    )
 
 pub returns-clause-device : goal.returns-clause-device
 returns-clause-device g c = λ role is.

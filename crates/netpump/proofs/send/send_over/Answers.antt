@@ -11,16 +11,20 @@ returns-in-Err-clause-sends g c = inl (refl, c.in-Err.ensures.did, refl)
 pub returns-clause-sends : goal.returns-clause-sends
 returns-clause-sends g c =
     let (sending, sends, gave, sent, printed) = c.send_with-end.ensures.sends in
-    inr (c.send_with-end.result, c.end_of_sender.ensures, record {
-      came = c.in-Ok.link;
-      back = c.send_with-end.new.link;
-      over = Grows-then _ _ _ (Connected c.args.row.now.low_port c.in-Ok.link ∷ []) (BackToPorts c.send_with-end.new.link ∷ []) c.in-Ok.ensures.did c.back.ensures.did;
-      sending = sending;
-      sends = sends;
-      gave = gave;
-      sent = sent;
-      printed = printed;
-    })
+    inr (
+      c.send_with-end.result,
+      c.end_of_sender.ensures,
+      record {
+        came = c.in-Ok.link;
+        back = c.send_with-end.new.link;
+        over = Grows-then _ _ _ (Connected c.args.row.now.low_port c.in-Ok.link ∷ []) (BackToPorts c.send_with-end.new.link ∷ []) c.in-Ok.ensures.did c.back.ensures.did;
+        sending = sending;
+        sends = sends;
+        gave = gave;
+        sent = sent;
+        printed = printed;
+      },
+    )
 
 pub returns-clause-read : goal.returns-clause-read
 returns-clause-read g c = λ is.

@@ -15,5 +15,7 @@ returns-in-Ok-clause-comes g c = λ told tells.
 
 pub returns-in-Err-clause-comes : goal.returns-in-Err-clause-comes
 returns-in-Err-clause-comes g c = λ told tells.
-    inl (stops_at_table (g.S.Shelf.told.file c.args.shelf.now c.args.table.now) c.args.session c.in-Err.end c.in-Err.ensures.only (subst (λ (n : List ℕ). IsRowOf (g.S.Shelf.told.file c.args.shelf.now n) c.args.session (Err c.in-Err.end)) c.as_str.ensures.value (c.in-Err.ensures.row told)),
-    record { unopened = Grows-nil _; low_unread = Draws-nil _; high_unread = Draws-nil _; unwritten = refl; unchanged = same_places _ _ c.in-Err.ensures.disks })
+    inl (
+      stops_at_table (g.S.Shelf.told.file c.args.shelf.now c.args.table.now) c.args.session c.in-Err.end c.in-Err.ensures.only (subst (λ (n : List ℕ). IsRowOf (g.S.Shelf.told.file c.args.shelf.now n) c.args.session (Err c.in-Err.end)) c.as_str.ensures.value (c.in-Err.ensures.row told)),
+      record { unopened = Grows-nil _; low_unread = Draws-nil _; high_unread = Draws-nil _; unwritten = refl; unchanged = same_places _ _ c.in-Err.ensures.disks },
+    )

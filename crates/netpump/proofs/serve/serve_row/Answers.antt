@@ -16,8 +16,10 @@ use Rattle.netpump.proofs.serve.serve_row.Goals as goal
 
 pub returns-in-Err-clause-serves : goal.returns-in-Err-clause-serves
 returns-in-Err-clause-serves g c = λ told tells.
-    inl (pair_stops c.in-Err.not_taken.role c.in-Err.not_taken.fault c.untaken.result c.in-Err.ensures.role c.untaken.ensures.memory c.untaken.ensures.failed,
-    record { unopened = Grows-nil _; low_unread = Draws-nil _; high_unread = Draws-nil _; unwritten = refl; unchanged = c.in-Err.ensures.alike told })
+    inl (
+      pair_stops c.in-Err.not_taken.role c.in-Err.not_taken.fault c.untaken.result c.in-Err.ensures.role c.untaken.ensures.memory c.untaken.ensures.failed,
+      record { unopened = Grows-nil _; low_unread = Draws-nil _; high_unread = Draws-nil _; unwritten = refl; unchanged = c.in-Err.ensures.alike told },
+    )
 
 pub put_pair_back-requires-clause-low : goal.put_pair_back-requires-clause-low
 put_pair_back-requires-clause-low g c = is_out _ _ c.in-Ok.ensures.low_out
@@ -30,30 +32,34 @@ returns-clause-serves g c = λ told tells.
     let t = c.in-Ok.ensures in
     let s = c.serve_session-served in
     let b = c.put_pair_back.ensures in
-    inr (s.result.end, c.end_of_session.ensures, record {
-      low = c.in-Ok.disks.low;
-      now_low = s.result.low;
-      high = c.in-Ok.disks.high;
-      now_high = s.result.high;
-      low_found = sym (read_in _ _ (t.low told));
-      low_left = sym (ap reading_in (b.low_back told));
-      high_found = sym (read_in _ _ (t.high told));
-      high_left = sym (ap reading_in (b.high_back told));
-      opens = s.ensures.opens;
-      wanting = λ none. (s.ensures.wanting none).0;
-      low_worker = s.ensures.low;
-      high_worker = s.ensures.high;
-      still = λ none.
-          let idle = s.ensures.idle none in
-          let still = s.ensures.still none tells in (
-            still.0,
-            still.1,
-            ap g.O.Sink.written idle.2,
-            subst (λ (k : g.row.K.Denot). Draws (g.K.Clock.reads c.args.low_clock.now) (g.K.Clock.reads k) []) (sym idle.0) (Draws-nil _),
-            subst (λ (k : g.row.K.Denot). Draws (g.K.Clock.reads c.args.high_clock.now) (g.K.Clock.reads k) []) (sym idle.1) (Draws-nil _),
-          );
-      closed = λ none. subst (λ (p : g.row.P.Denot). Grows (g.P.Ports.did c.args.ports.now) (g.P.Ports.did p) []) (sym (s.ensures.closed none)) (Grows-nil _);
-    })
+    inr (
+      s.result.end,
+      c.end_of_session.ensures,
+      record {
+        low = c.in-Ok.disks.low;
+        now_low = s.result.low;
+        high = c.in-Ok.disks.high;
+        now_high = s.result.high;
+        low_found = sym (read_in _ _ (t.low told));
+        low_left = sym (ap reading_in (b.low_back told));
+        high_found = sym (read_in _ _ (t.high told));
+        high_left = sym (ap reading_in (b.high_back told));
+        opens = s.ensures.opens;
+        wanting = λ none. (s.ensures.wanting none).0;
+        low_worker = s.ensures.low;
+        high_worker = s.ensures.high;
+        still = λ none.
+            let idle = s.ensures.idle none in
+            let still = s.ensures.still none tells in (
+              still.0,
+              still.1,
+              ap g.O.Sink.written idle.2,
+              subst (λ (k : g.row.K.Denot). Draws (g.K.Clock.reads c.args.low_clock.now) (g.K.Clock.reads k) []) (sym idle.0) (Draws-nil _),
+              subst (λ (k : g.row.K.Denot). Draws (g.K.Clock.reads c.args.high_clock.now) (g.K.Clock.reads k) []) (sym idle.1) (Draws-nil _),
+            );
+        closed = λ none. subst (λ (p : g.row.P.Denot). Grows (g.P.Ports.did c.args.ports.now) (g.P.Ports.did p) []) (sym (s.ensures.closed none)) (Grows-nil _);
+      },
+    )
 
 pub returns-clause-others : goal.returns-clause-others
 returns-clause-others g c = both_others (g.S.Shelf.told.disk c.args.shelf.now) (g.S.Shelf.told.disk c.take_pair.new.shelf) (g.S.Shelf.told.disk c.put_pair_back.new.shelf) c.args.row.now.id c.take_pair.ensures.others c.put_pair_back.ensures.others
@@ -85,8 +91,8 @@ returns-clause-device g c = λ role is.
     let d = g.S.Disk.Disk.told in
     let id = c.args.row.now.id in
     let rose : RoseAt d role c.in-Ok.disks.low c.in-Ok.disks.high s.result.low s.result.high =
-        session_device d c.in-Ok.disks.low c.in-Ok.disks.high s.result.low s.result.high c.args.row.now s.result.end role s.ensures.opens
-        (if_ended s.result.end _ _ s.ensures.low (λ (ends : WorkersEnd) low. low.device)) (if_ended s.result.end _ _ s.ensures.high (λ (ends : WorkersEnd) high. high.device)) (sym c.end_of_session.ensures ∙ is) in
+    session_device d c.in-Ok.disks.low c.in-Ok.disks.high s.result.low s.result.high c.args.row.now s.result.end role s.ensures.opens
+    (if_ended s.result.end _ _ s.ensures.low (λ (ends : WorkersEnd) low. low.device)) (if_ended s.result.end _ _ s.ensures.high (λ (ends : WorkersEnd) high. high.device)) (sym c.end_of_session.ensures ∙ is) in
     pair_rises d (g.S.Shelf.told.disk c.take_pair.new.shelf) id c.in-Ok.disks.low c.in-Ok.disks.high s.result.low s.result.high _ _ _ t.low_out t.high_out c.take_pair.ensures.later b.low_rises b.high_rises role rose
 
 pub returns-clause-link : goal.returns-clause-link

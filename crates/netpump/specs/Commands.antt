@@ -47,6 +47,10 @@ IsSend words = (table : List ℕ) × (session : ℕ) × (looks : ℕ) × AreWord
 abbrev pub IsOverTable : List (List ℕ) → Type 0
 IsOverTable words = IsServe words ⊎ (IsReceive words ⊎ IsSend words)
 
+-- .. of a command that reads the low clock
+abbrev pub IsTimed : List (List ℕ) → Type 0
+IsTimed words = IsServe words ⊎ ((seed : ℕ) × (count : ℕ) × (times : List ℕ) × AreWordsOf words (Race seed count (record { items = times })))
+
 -- what is written where the words are no command: with status 2 the fault, with status 4 a front of it, and nothing else
 abbrev pub TellsWords : Option (List ℕ) → Option (List ℕ) → ℕ → Type 0
 TellsWords old new status =

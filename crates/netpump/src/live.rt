@@ -9,7 +9,7 @@ ghost use Rattle.command_line.specs.TimeLists.{AreTimes};
 ghost use Rattle.pump_frame.specs.Counts.{Rose};
 ghost use Rattle.script_replay.specs.Shelves.{AllAreBack};
 ghost use Rattle.serving.specs.Doors.{doors, links};
-ghost use Rattle.netpump.specs.Commands.{is_live, IsNoLiveCommand, IsOverTable, IsSend, IsServe, RefusesWords};
+ghost use Rattle.netpump.specs.Commands.{is_live, IsNoLiveCommand, IsOverTable, IsSend, IsServe, IsTimed, RefusesWords};
 ghost use Rattle.netpump.specs.LiveEnds.{EndsLive};
 ghost use Rattle.netpump.specs.Racing.{IsRecordOf, EndsRace};
 ghost use Rattle.netpump.specs.Receptions.{ReceiveComes};
@@ -114,6 +114,7 @@ where
     ensures ports { (IsOverTable (map string_bytes words.now.items) → ⊥) → ports.new ≡ ports.old }
     ensures script { (IsSend (map string_bytes words.now.items) → ⊥) → script.new ≡ script.old }
     ensures keys { (IsServe (map string_bytes words.now.items) → ⊥) → (keys.new ≡ keys.old) × (high_clock.new ≡ high_clock.old) }
+    ensures clock { (IsTimed (map string_bytes words.now.items) → ⊥) → low_clock.new ≡ low_clock.old }
     // Whatever the status is, every disk is back on the shelf.
     ensures back { S.told.tells → AllAreBack (S.told.disk shelf.old) (S.told.disk shelf.new) }
     // The statuses that come only where a count rose, or a source ended.

@@ -112,6 +112,12 @@ returns-in-Send-clause-ports g c = λ none. absurd (none (inr (inr (_, _, _, wor
 pub returns-in-Serve-clause-keys : goal.returns-in-Serve-clause-keys
 returns-in-Serve-clause-keys g c = λ none. absurd (none (_, _, _, words_are _ _ c.in-Ok.asked _ c.as_slice.ensures.value c.in-Ok.ensures.found c.in-Serve.is))
 
+pub returns-in-Serve-clause-clock : goal.returns-in-Serve-clause-clock
+returns-in-Serve-clause-clock g c = λ none. absurd (none (inl (_, _, _, words_are _ _ c.in-Ok.asked _ c.as_slice.ensures.value c.in-Ok.ensures.found c.in-Serve.is)))
+
+pub returns-in-Race-clause-clock : goal.returns-in-Race-clause-clock
+returns-in-Race-clause-clock g c = λ none. absurd (none (inr (_, _, c.in-Race.times.items, words_are _ _ c.in-Ok.asked _ c.as_slice.ensures.value c.in-Ok.ensures.found c.in-Race.is)))
+
 pub returns-in-Send-clause-script : goal.returns-in-Send-clause-script
 returns-in-Send-clause-script g c = λ none. absurd (none (_, _, _, words_are _ _ c.in-Ok.asked _ c.as_slice.ensures.value c.in-Ok.ensures.found c.in-Send.is))
 

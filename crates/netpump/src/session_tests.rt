@@ -42,12 +42,13 @@ struct Case<'a> {
 }
 
 /// How a command came to its end.
+#[derive(Drop)]
 struct Ran {
     status: u8,
     output: Vec<u8>,
     sent: Vec<u8>,
-    /// What the clocks give next.
-    clocks: (u64, u64),
+    /// How often each clock was read.
+    readings: (u64, u64),
 }
 
 fn joined(alloc: Global, parts: &[&[u8]]) -> Result<Vec<u8>, AllocError> {
@@ -132,7 +133,7 @@ fn run<R: Threads + Wait + Sync>(
         status,
         output: Vec::from_slice(alloc, out.written())?,
         sent,
-        clocks: (low_clock.now(), high_clock.now()),
+        readings: (low_clock.readings(), high_clock.readings()),
     })
 }
 
@@ -275,9 +276,10 @@ fn a_served_record_replays_to_its_comments(rt: HostRuntime) -> Result<(), Fail> 
     let ran = run(&rt, alloc, &case, 32)?;
     assert_eq!(rt; ran.status, 0);
     assert!(rt; ran.output.as_slice().starts_with(OPENING.as_bytes()));
-    assert!(rt; ran.sent.as_slice().starts_with(WELCOME_0));
+    let sent = joined(alloc, &[WELCOME_0, ACK_0])?;
+    assert!(rt; ran.sent.as_slice() == sent.as_slice());
     let comments = lines_after(alloc, ran.output.as_slice(), b"# low ")?;
-    assert!(rt; comments.as_slice().ends_with(b" welcome 0\n"));
+    assert!(rt; comments.as_slice().ends_with(b" ack 0\n"));
     let mut shelf = new_shelf(alloc, &[])?;
     let (status, transcript) = run_batch(alloc, &mut shelf, "replay", ran.output)?;
     assert_eq!(rt; status, 0);
@@ -290,10 +292,10 @@ fn a_served_record_replays_to_its_comments(rt: HostRuntime) -> Result<(), Fail> 
 fn serving_makes_its_rounds(rt: HostRuntime) -> Result<(), Fail> {
     let alloc = rt.alloc();
     let ran = run(&rt, alloc, &SERVE, 32)?;
-    assert_eq!(rt; (ran.status, ran.clocks), (0, (5000, 5000)));
+    assert_eq!(rt; (ran.status, ran.readings), (0, (5, 5)));
     assert_eq!(rt; ran.output.as_slice(), OPENING.as_bytes());
     let ran = run(&rt, alloc, &SERVE, 31)?;
-    assert_eq!(rt; (ran.status, ran.clocks), (3, (0, 0)));
+    assert_eq!(rt; (ran.status, ran.readings), (3, (0, 0)));
     assert_eq!(rt; ran.output.as_slice(), b"fault read\n".as_slice());
     for fails in [[0], [1]] {
         let case = Case {

@@ -108,6 +108,10 @@ where
 fn main(rt: HostRuntime) -> ExitCode {
     let words = match words(&rt) {
         Ok(words) => words,
+        Err(fault) if fault.kind() == io::ErrorKind::OutOfMemory => {
+            let _ = explain(&rt, &[], 1, b"", Trouble::Told);
+            return ExitCode::from(1);
+        }
         // Words that can't be told are no command.
         Err(_) => Vec::new(rt.alloc()),
     };

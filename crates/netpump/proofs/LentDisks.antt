@@ -1,16 +1,13 @@
 -- Disks of a session, one by one, off the shelf and back on it.
-use Rattle.std.proofs.Common.{◌≡◌, ◌⊎◌, ◌≤◌, ℕ, Bool, true, false, List, [], Some, inl, inr, refl, sym, ap, ◌∙◌, subst, arith}
+use Rattle.std.proofs.Common.{◌≡◌, ◌⊎◌, ℕ, List, inl, inr, refl, sym, ap, ◌∙◌, subst}
 use Rattle.std.proofs.lemmas.Bool.{cases_eq}
 use Rattle.disk_model.specs.declared.name.DiskName.{DiskName}
 use Rattle.disk_model.specs.declared.name.Role.{Role}
 use Rattle.disk_model.specs.declared.name.Role.TheVariants as roles
-use Rattle.disk_model.specs.declared.shelf.ShelfFault.{ShelfFault}
-use Rattle.disk_model.specs.declared.shelf.ShelfFault.TheVariants as shelf_faults
-use Rattle.disk_model.specs.Shelf.{Whereabouts, OnShelf, Out, Nowhere, IsOut}
-use Rattle.pump_frame.specs.Counts.{Rose}
-use Rattle.script_replay.specs.Lending.{ReadAt, IsOutAt, RisesAt}
-use Rattle.script_replay.specs.Shelves.{Places, disk_name, reading_in, reading_at, AllAreBack, ReadsAlike}
-use Rattle.script_replay.proofs.Shelving.{read_in, is_out}
+use Rattle.disk_model.specs.Shelf.{Whereabouts, OnShelf, IsOut}
+use Rattle.script_replay.specs.Lending.{ReadAt}
+use Rattle.script_replay.specs.Shelves.{Places, disk_name, reading_in, AllAreBack, ReadsAlike}
+use Rattle.script_replay.proofs.Shelving.{read_in}
 use Rattle.netpump.specs.LentDisks.{LeavesOtherDisks, LeavesBut}
 
 -- ---- names ----

@@ -1,6 +1,5 @@
 -- A receiver's disk that is off the shelf and back on it.
-use Rattle.std.proofs.Common.{◌≡◌, ◌⊎◌, ◌≤◌, ℕ, List, [], Option, Some, inl, inr, refl, sym, ap, ◌∙◌, subst, arith}
-use Rattle.disk_model.specs.Disk.{Meaning}
+use Rattle.std.proofs.Common.{◌≡◌, ◌≤◌, ℕ, List, Option, inr, refl, sym, ap, subst, arith}
 use Rattle.disk_model.specs.Shelf.{OnShelf}
 use Rattle.disk_model.specs.declared.name.Role.{Role}
 use Rattle.disk_model.specs.declared.name.Role.TheVariants as roles

@@ -22,7 +22,7 @@ use Rattle.netpump.specs.Sendings.{end_of_sender}
 use Rattle.netpump.specs.Showing.{end_at}
 use Rattle.netpump.specs.Tables.{IsRowOf, IsTableEnd}
 use Rattle.netpump.specs.declared.command_end.CommandEnd.{CommandEnd}
-use Rattle.netpump.specs.declared.command_end.CommandEnd.TheVariants.{Memory, Unread, NoRow, Failed, Refused, Unwritten, Unconnected}
+use Rattle.netpump.specs.declared.command_end.CommandEnd.TheVariants.{Memory, Unread, NoRow, Failed, Unwritten, Unconnected}
 
 -- ---- the table ----
 

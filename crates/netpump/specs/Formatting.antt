@@ -13,7 +13,7 @@ use Rattle.netpump.specs.Commands.{end_line}
 use Rattle.script_replay.specs.Shelves.{Places, OfDisks, reading_at, LeavesOtherSessions, ReadsAlike, Spares}
 use Rattle.netpump.specs.Tables.{HasRow, HasNoRow}
 use Rattle.netpump.specs.declared.command_end.CommandEnd.{CommandEnd}
-use Rattle.netpump.specs.declared.command_end.CommandEnd.TheVariants.{Done, Memory, Unread, NoRow, Failed, Refused, Unwritten}
+use Rattle.netpump.specs.declared.command_end.CommandEnd.TheVariants.{Done, Memory, Unread, NoRow, Failed, Refused}
 
 -- every disk that was not empty reads as it did, and disks of other sessions are where they were
 pub record IsSpared (before after : Places) (session : ℕ) : Type 0 where

@@ -1,5 +1,5 @@
 -- How a call of `serve` comes to its end.
-use Rattle.std.specs.Prelude.{◌≡◌, ◌⊎◌, ℕ, ◌<◌, false, List, [], length, Option, None, Some, IfSome}
+use Rattle.std.specs.Prelude.{◌≡◌, ◌⊎◌, ℕ, ◌<◌, false, List, [], length, Option, Some, IfSome}
 use Rattle.std.specs.Io.KnownBytes.{Consumes}
 use Rattle.disk_model.specs.Disk.{Meaning}
 use Rattle.disk_model.specs.declared.name.Role.TheVariants as roles
@@ -21,7 +21,7 @@ use Rattle.netpump.specs.LiveEnds.{StopsAtTable}
 use Rattle.netpump.specs.Showing.{end_at}
 use Rattle.netpump.specs.Tables.{HasRow}
 use Rattle.netpump.specs.declared.command_end.CommandEnd.{CommandEnd}
-use Rattle.netpump.specs.declared.command_end.CommandEnd.TheVariants.{Done, Memory, Unread, Failed, Refused, Unwritten, Unconnected}
+use Rattle.netpump.specs.declared.command_end.CommandEnd.TheVariants.{Done, Memory, Unread, Failed, Unwritten, Unconnected}
 
 -- how the call ends where the workers ended so: the record comes first, then the low disk, then the high one
 abbrev pub end_of_workers : RoundsEnd → RoundsEnd → CommandEnd

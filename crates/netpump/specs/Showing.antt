@@ -14,7 +14,7 @@ use Rattle.netpump.specs.Commands.{end_line}
 use Rattle.script_replay.specs.Shelves.{Places, OfDisks, LeavesOtherSessions, ReadsAlike}
 use Rattle.netpump.specs.Tables.{HasRow, HasNoRow}
 use Rattle.netpump.specs.declared.command_end.CommandEnd.{CommandEnd}
-use Rattle.netpump.specs.declared.command_end.CommandEnd.TheVariants.{Done, Memory, Unread, NoRow, Failed, Refused, Unwritten}
+use Rattle.netpump.specs.declared.command_end.CommandEnd.TheVariants.{Done, Memory, Unread, NoRow, Failed, Refused}
 
 -- ---- the lines ----
 

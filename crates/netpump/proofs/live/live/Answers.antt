@@ -1,4 +1,4 @@
-use Rattle.std.proofs.Common.{◌≡◌, ◌≤◌, ℕ, List, inl, inr, refl, subst, rules, arith}
+use Rattle.std.proofs.Common.{ℕ, List, inl, inr, refl, subst, rules, arith}
 use Rattle.command_line.specs.declared.command.Command.TheVariants as commands
 use Rattle.disk_model.specs.Shelf.{IsOut}
 use Rattle.script_replay.specs.Shelves.{Places}

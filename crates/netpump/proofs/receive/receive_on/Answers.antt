@@ -1,4 +1,4 @@
-use Rattle.std.proofs.Common.{◌≡◌, List, ℕ, inl, inr, refl, sym, ap, ◌∙◌, subst, arith}
+use Rattle.std.proofs.Common.{inl, inr, refl, sym, ◌∙◌, subst, arith}
 use Rattle.disk_model.specs.declared.name.Role.TheVariants as roles
 use Rattle.pump_link.proofs.Grown.{Grows-nil}
 use Rattle.netpump.specs.Receptions.{StopsAtDisk}

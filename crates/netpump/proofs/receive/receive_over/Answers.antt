@@ -1,4 +1,4 @@
-use Rattle.std.proofs.Common.{◌≡◌, [], ◌∷◌, ◌++◌, List, ℕ, inl, inr, refl, sym, ap, ◌∙◌, subst}
+use Rattle.std.proofs.Common.{[], ◌∷◌, ◌++◌, inl, inr, refl, sym, ap, ◌∙◌, subst}
 use Rattle.high_receiver.specs.Receiving.{recv_disk}
 use Rattle.pump_frame.specs.Counts.{Rose}
 use Rattle.pump_link.specs.Ports.{Connected, BackToPorts}

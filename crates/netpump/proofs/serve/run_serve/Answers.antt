@@ -1,6 +1,5 @@
-use Rattle.std.proofs.Common.{List, ℕ, Err, inl, inr, refl, subst}
+use Rattle.std.proofs.Common.{List, ℕ, Err, inl, refl, subst}
 use Rattle.pump_link.proofs.Grown.{Grows-nil, Draws-nil}
-use Rattle.script_replay.specs.Shelves.{Places, reading_in}
 use Rattle.netpump.specs.Tables.{HasRow, IsRowOf}
 use Rattle.netpump.proofs.Sent.{stops_at_table}
 use Rattle.netpump.proofs.Served.{serves_row, same_places}

@@ -1,4 +1,4 @@
-use Rattle.std.proofs.Common.{List, ℕ, Err, inl, inr, refl, ap, rules}
+use Rattle.std.proofs.Common.{Err, inl, inr, refl, ap, rules}
 use Rattle.pump_link.proofs.Grown.{Grows-nil, Draws-nil}
 use Rattle.netpump.proofs.Served.{no_key}
 use Rattle.netpump.proofs.serve.serve_keyed.Goals as goal

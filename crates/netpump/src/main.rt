@@ -11,6 +11,7 @@ mod explain;
 mod file_disk;
 mod file_shelf;
 mod format;
+mod keep_alive;
 mod key_source;
 mod live;
 mod read_ahead;

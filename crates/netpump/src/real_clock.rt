@@ -1,4 +1,4 @@
-ghost use Rattle.std.specs.Prelude.{ℕ, min, ◌^◌};
+ghost use Rattle.std.specs.Prelude.{◌≡◌, ℕ, min, ◌^◌};
 
 use pump_frame::raised;
 use pump_link::Clock;
@@ -7,19 +7,27 @@ use std::time::{self, Duration};
 /// The latest moment of a clock.
 const LATEST: u64 = 1 << 62;
 
-/// How many microseconds lie between two readings at least.
-const STEP: u64 = 100;
+/// Readings that lie less than so many microseconds apart follow one another at once.
+const CLOSE: u64 = 100;
+
+/// How many readings may follow one another at once.
+const FREE: u32 = 32;
+
+/// How many times `CLOSE` a reading waits at most.
+const MOST: u32 = 10;
 
 /// The machine's clock: microseconds since its start, which never fall and stay at 2^62. It tells how
 /// many readings it gave, and not what they were. While the machine's clock can't be read it stands still.
-/// A reading that would come less than 100 microseconds after the one before waits until then, so that a
-/// worker whose rounds wait for a moment leaves the processor to others.
+/// Where many readings follow one another at once, as those of a worker do whose rounds wait for a moment,
+/// further ones wait, up to a millisecond each, so that such a worker leaves the processor to others.
 #[derive(Drop)]
 pub struct RealClock<'a, R> {
     machine: &'a R,
     start: Duration,
     last: u64,
     readings: u64,
+    // How many readings followed one another at once.
+    close: u32,
 }
 
 /// What the machine's clock says now, for the start of clocks.
@@ -35,6 +43,7 @@ impl<'a, R: time::Clock> RealClock<'a, R> {
             start,
             last: 0,
             readings: 0,
+            close: 0,
         }
     }
 
@@ -48,11 +57,21 @@ impl<'a, R: time::Clock> RealClock<'a, R> {
         }
     }
 
-    // Waits where the last reading was just now.
-    fn rest(&self) {
-        let since = self.passed().saturating_sub(self.last);
-        if since < STEP {
-            self.machine.sleep(Duration::from_micros(STEP - since));
+    // Waits where too many readings follow one another at once: a tenth of a millisecond longer each time,
+    // up to one.
+    fn rest(&mut self)
+        ensures last { self.new.last ≡ self.old.last }
+        ensures readings { self.new.readings ≡ self.old.readings }
+    {
+        if self.passed().saturating_sub(self.last) >= CLOSE {
+            self.close = 0;
+            return;
+        }
+        self.close = self.close.saturating_add(1);
+        let over = self.close.saturating_sub(FREE).min(MOST);
+        if over > 0 {
+            self.machine
+                .sleep(Duration::from_micros(u64::from(over) * CLOSE));
         }
     }
 }

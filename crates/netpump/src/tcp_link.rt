@@ -2,6 +2,7 @@ ghost use Rattle.std.specs.Prelude.{◌≡◌, ◌≤◌, IfOk};
 ghost use Rattle.pump_frame.specs.Counts.{raised};
 ghost use Rattle.pump_link.specs.declared.link.Looked.{Looked as Look};
 
+use crate::keep_alive::keep_alive;
 use crate::read_ahead::ReadAhead;
 use crate::readiness::is_readable;
 use pump_frame::raised;
@@ -28,6 +29,7 @@ impl TcpLink {
         ensures { IfOk result (λ link. link.faults ≡ 0) }
     {
         stream.set_nodelay(true)?;
+        keep_alive(&stream);
         // A read that finds nothing, though it was said to be there, has to end too.
         stream.set_read_timeout(Some(Duration::from_millis(1)))?;
         stream.set_write_timeout(Some(Duration::from_secs(1)))?;

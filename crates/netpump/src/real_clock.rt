@@ -13,13 +13,10 @@ const CLOSE: u64 = 100;
 /// How many readings may follow one another at once.
 const FREE: u32 = 32;
 
-/// How many times `CLOSE` a reading waits at most.
-const MOST: u32 = 10;
-
 /// The machine's clock: microseconds since its start, which never fall and stay at 2^62. It tells how
 /// many readings it gave, and not what they were. While the machine's clock can't be read it stands still.
 /// Where many readings follow one another at once, as those of a worker do whose rounds wait for a moment,
-/// further ones wait, up to a millisecond each, so that such a worker leaves the processor to others.
+/// each further one waits 100 microseconds, so that such a worker leaves the processor to others.
 #[derive(Drop)]
 pub struct RealClock<'a, R> {
     machine: &'a R,
@@ -57,8 +54,7 @@ impl<'a, R: time::Clock> RealClock<'a, R> {
         }
     }
 
-    // Waits where too many readings follow one another at once: a tenth of a millisecond longer each time,
-    // up to one.
+    // Waits where too many readings follow one another at once.
     fn rest(&mut self)
         ensures last { self.new.last ≡ self.old.last }
         ensures readings { self.new.readings ≡ self.old.readings }
@@ -67,11 +63,10 @@ impl<'a, R: time::Clock> RealClock<'a, R> {
             self.close = 0;
             return;
         }
-        self.close = self.close.saturating_add(1);
-        let over = self.close.saturating_sub(FREE).min(MOST);
-        if over > 0 {
-            self.machine
-                .sleep(Duration::from_micros(u64::from(over) * CLOSE));
+        if self.close < FREE {
+            self.close += 1;
+        } else {
+            self.machine.sleep(Duration::from_micros(CLOSE));
         }
     }
 }

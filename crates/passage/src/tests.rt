@@ -232,6 +232,7 @@ fn row() -> Option<SessionRow>
         resend: 500000,
         low_port: 0,
         high_port: 0,
+        coarse: false,
     })
 }
 

@@ -55,6 +55,7 @@ fn row() -> Option<SessionRow>
         resend: 500_000,
         low_port: 7001,
         high_port: 7002,
+        coarse: false,
     })
 }
 

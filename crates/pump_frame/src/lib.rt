@@ -1,6 +1,7 @@
 //! The values that every layer of the relay speaks of: names, payloads, frames and session rows.
 #![tactic(auto)]
 
+mod averaging;
 mod count;
 mod frame;
 mod laws;
@@ -12,6 +13,7 @@ mod reader;
 mod row;
 mod spelling;
 
+pub use averaging::Averaging;
 pub use count::raised;
 pub use frame::{Frame, Item, Kind};
 pub use laws::{

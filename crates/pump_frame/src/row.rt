@@ -31,6 +31,8 @@ pub struct SessionRow {
     pub resend: u32,
     pub low_port: u16,
     pub high_port: u16,
+    /// Whether only the level of an average comes down to Low.
+    pub coarse: bool,
 }
 
 /// A key of the session table.

@@ -64,7 +64,7 @@ line_of row m =
 
 -- the row without its ports, which no line has
 abbrev pub without_ports : SessionRow → SessionRow
-without_ports row = record row { low_port = 0; high_port = 0 }
+without_ports row = record row { low_port = 0; high_port = 0; coarse = false }
 
 -- the line that a record begins with: what was found at the opening
 abbrev pub opening_line : SessionRow → Opening → Line

@@ -40,6 +40,7 @@ pub fn row() -> Option<SessionRow>
         resend: 500_000,
         low_port: 0,
         high_port: 0,
+        coarse: false,
     })
 }
 

@@ -74,7 +74,7 @@ row_at fields = do
   resend ← field_at (number (2 ^ 32)) longest.1
   low ← field_at name resend.1
   high ← field_at name low.1
-  Some (record { id = id.0; low = low.0; high = high.0; capacity = capacity.0; message = message.0; window = window.0; start = start.0; longest = longest.0; resend = resend.0; low_port = 0; high_port = 0 }, high.1)
+  Some (record { id = id.0; low = low.0; high = high.0; capacity = capacity.0; message = message.0; window = window.0; start = start.0; longest = longest.0; resend = resend.0; low_port = 0; high_port = 0; coarse = false }, high.1)
 
 unfoldable pub session_of : List (List ℕ) → Option Line
 session_of fields = do

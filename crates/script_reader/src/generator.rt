@@ -106,6 +106,7 @@ pub fn generated_row() -> SessionRow
         resend: 500_000,
         low_port: 0,
         high_port: 0,
+        coarse: false,
     }
 }
 

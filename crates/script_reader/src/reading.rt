@@ -125,6 +125,7 @@ fn read_row(fields: &mut Fields) -> Option<SessionRow>
         resend,
         low_port: 0,
         high_port: 0,
+        coarse: false,
     })
 }
 

@@ -14,7 +14,7 @@ use Rattle.toml.specs.Data.{Members}
 -- A row of these three. Its numbers are some that are in their ranges; the document's own replace
 -- them one by one.
 abbrev pub begun : ℕ → List ℕ → List ℕ → SessionRow
-begun id low high = record { id = id; low = low; high = high; capacity = 3; message = 1; window = 1; start = 0; longest = 0; resend = 1; low_port = 1; high_port = 1 }
+begun id low high = record { id = id; low = low; high = high; capacity = 3; message = 1; window = 1; start = 0; longest = 0; resend = 1; low_port = 1; high_port = 1; coarse = false }
 
 -- the row with this number at this key
 abbrev pub with_number : SessionRow → RowKey → ℕ → SessionRow

@@ -29,6 +29,7 @@ fn begun(id: u32, low: Name, high: Name) -> SessionRow
         resend: 1,
         low_port: 1,
         high_port: 1,
+        coarse: false,
     }
 }
 

@@ -26,6 +26,7 @@ fn row() -> Option<SessionRow>
         resend: 500_000,
         low_port: 4001,
         high_port: 4002,
+        coarse: false,
     })
 }
 

@@ -1,11 +1,12 @@
 -- What a window stands for.
 use Rattle.std.specs.Prelude.{◌≡◌, ℕ, List, length}
-use Rattle.pump_frame.specs.Averages.{Averaging, latest}
+use Rattle.pump_frame.specs.declared.averaging.Averaging.{Averaging}
+use Rattle.pump_frame.specs.Averages.{latest}
 use Rattle.moving_avg.specs.declared.Window.{Window}
 
--- how it averages: how many of the last times, and its average while there is none
+-- how it averages: how many of the last times, its mean while there is none, and whether it is coarse
 abbrev pub averaging_in : Window → Averaging
-averaging_in w = record { window = w.ring.capacity; start = w.start }
+averaging_in w = record { window = w.ring.capacity; start = w.start; coarse = w.coarse }
 
 -- how many times there are
 abbrev pub count_of : Window → ℕ

@@ -4,16 +4,14 @@ use Rattle.std.specs.Prelude.{◌≡◌, ℕ, ◌+◌, ◌≤◌, ◌==◌, true
 use Rattle.std.specs.List.{All}
 use mathlib.Core.Option.{some}
 use lib.ListN.{get_elem?}
-use Rattle.pump_frame.specs.Averages.{Averaging, average_of}
+use Rattle.pump_frame.specs.declared.averaging.Averaging.{Averaging}
+use Rattle.pump_frame.specs.Averages.{average_of}
 use Rattle.pump_core.specs.Passage.{Shape, NeverFall, IsAverage}
 use Rattle.passage.specs.declared.high_cell.HighWord.{HighWord}
 use Rattle.passage.specs.declared.high_cell.HighView.{HighView}
 
-abbrev pub averaging_told : HighView → Averaging
-averaging_told v = record { window = v.window; start = v.start }
-
 abbrev pub shape_told : HighView → Shape
-shape_told v = record { places = v.places; averaging = averaging_told v }
+shape_told v = record { places = v.places; averaging = v.averaging }
 
 -- beside each time stands the number taken up when it was published
 abbrev pub CountsTimes : HighView → Type 0
@@ -51,13 +49,17 @@ pub record HighKept (x : HighWord) (views : List HighView) : Type 0 where
   pub average : x.average ≡ average_of shape.averaging times
   pub each : (pass : ℕ) (v : HighView) → get_elem? views pass ≡ some v → HighFits x writer reader times shape pass v
 
+-- how nothing is averaged
+abbrev pub no_averaging : Averaging
+no_averaging = record { averaging = no_averaging; coarse = false }
+
 -- before any step, with both roles in one view and a row of zeroes
 abbrev pub high_first : HighView
-high_first = record { writes = true; places = 0; window = 0; start = 0; taken = 0; times = []; taken_before = []; reads = true; room = 0; found = 0; tries = []; pairs = [] }
+high_first = record { writes = true; places = 0; averaging = no_averaging; taken = 0; times = []; taken_before = []; reads = true; room = 0; found = 0; tries = []; pairs = [] }
 
 -- the first swap puts the row into the view
-abbrev pub with_row : HighView → ℕ → ℕ → ℕ → HighView
-with_row v places window start = record v { places = places; window = window; start = start; room = places }
+abbrev pub with_row : HighView → ℕ → Averaging → HighView
+with_row v places averaging = record v { places = places; averaging = averaging; room = places }
 
 -- an offer of one more item finds the number taken up; it is a try where all places are full
 abbrev pub with_try : ℕ → HighView → ℕ → HighView
@@ -87,13 +89,13 @@ abbrev pub high_writer : HighView → HighView
 high_writer v = record v { reads = false; room = 0; found = 0; tries = []; pairs = [] }
 
 abbrev pub high_reader : HighView → HighView
-high_reader v = record { writes = false; places = 0; window = 0; start = 0; taken = 0; times = []; taken_before = []; reads = v.reads; room = v.room; found = v.found; tries = v.tries; pairs = v.pairs }
+high_reader v = record { writes = false; places = 0; averaging = no_averaging; taken = 0; times = []; taken_before = []; reads = v.reads; room = v.room; found = v.found; tries = v.tries; pairs = v.pairs }
 
 abbrev pub high_both : HighView → HighView → HighView
 high_both v w = record v { reads = w.reads; room = w.room; found = w.found; tries = w.tries; pairs = w.pairs }
 
 abbrev pub high_spent : HighView
-high_spent = record { writes = false; places = 0; window = 0; start = 0; taken = 0; times = []; taken_before = []; reads = false; room = 0; found = 0; tries = []; pairs = [] }
+high_spent = record { writes = false; places = 0; averaging = no_averaging; taken = 0; times = []; taken_before = []; reads = false; room = 0; found = 0; tries = []; pairs = [] }
 
 -- what a view with both roles knows
 pub record HighTies (v : HighView) : Type 0 where

@@ -13,7 +13,7 @@ use Rattle.passage.specs.declared.queue_passage.QueuePassage.{QueuePassage}
 
 -- the passage's places, and how times are averaged in it
 abbrev pub queue_shape : QueuePassage → Shape
-queue_shape p = record { places = p.places; averaging = record { window = p.window; start = p.start } }
+queue_shape p = record { places = p.places; averaging = p.averaging }
 
 -- the passes are new ones of the passage's objects, and nothing was published
 pub record IsPartOf (p : QueuePassage) (u : Unparted) : Type 0 where
@@ -26,7 +26,6 @@ pub record IsPartOf (p : QueuePassage) (u : Unparted) : Type 0 where
   pub times : HoldsTimes u.window []
   pub places : p.places ≤ greatest_capacity - 2
   pub averaging : averaging_in u.window ≡ (queue_shape p).averaging
-  pub start : p.start ≤ 10 ^ 9
 
 -- its ends were not parted yet
 abbrev pub IsUnparted : QueuePassage → Type 0

@@ -6,7 +6,7 @@ use Rattle.atomic_table.specs.Seated.{TableId}
 use Rattle.pump_frame.specs.Rows.{greatest_capacity}
 use Rattle.pump_core.specs.Passage.{Shape, Low, High}
 use Rattle.moving_avg.specs.Windows.{HoldsTimes, averaging_in}
-use Rattle.passage.specs.HighRule.{averaging_told, shape_told}
+use Rattle.passage.specs.HighRule.{shape_told}
 use Rattle.passage.specs.declared.queue_ends.QueueLow.{QueueLow}
 use Rattle.passage.specs.declared.queue_ends.QueueHigh.{QueueHigh}
 
@@ -25,7 +25,7 @@ pub record IsLow (e : QueueLow) : Type 0 where
   pub small : e.places ≤ greatest_capacity - 2
 
 abbrev pub low_shape : QueueLow → Shape
-low_shape e = record { places = e.places; averaging = record { window = e.window; start = e.start } }
+low_shape e = record { places = e.places; averaging = e.averaging }
 
 -- what it did, as its passes tell
 abbrev pub low_side : QueueLow → Low
@@ -45,7 +45,7 @@ pub record IsHigh (e : QueueHigh) : Type 0 where
   pub high_cell : e.told.table_id ≡ e.high_cell.now.table.shared.table_id
   pub writes : ((cell_view e.told).writes ≡ true) × ((cell_view e.told).reads ≡ false)
   pub tells : (cell_view e.told).taken ≡ e.taken
-  pub averaging : averaging_told (cell_view e.told) ≡ averaging_in e.window
+  pub averaging : (cell_view e.told).averaging ≡ averaging_in e.window
   pub times : HoldsTimes e.window (cell_view e.told).times
 
 abbrev pub high_shape : QueueHigh → Shape

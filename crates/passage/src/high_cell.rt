@@ -6,6 +6,7 @@ use atomic_table::{Join, Split};
 use crossbeam_utils::atomic::Words;
 use crossbeam_utils::atomic::seq_cell::{Pass, RuledSeqCell};
 use crossbeam_utils::rule::{Outcome, Protocol};
+use pump_frame::Averaging;
 use std::collections::LinkedList;
 use std::marker::PhantomData;
 
@@ -39,8 +40,7 @@ pub struct HighView {
     // The high end's part: the row, and what it took up and published.
     pub writes: bool,
     pub places: u64,
-    pub window: u64,
-    pub start: u64,
+    pub averaging: Averaging,
     pub taken: u64,
     pub times: LinkedList<u32>,
     pub taken_before: LinkedList<u64>,
@@ -119,11 +119,11 @@ impl<K: TimeTold> Outcome<HighWord, HighView> for TellsTime<K> {
 
 /// What of a session's row the ends know.
 pub trait RowTold {
+    ghost use Rattle.pump_frame.specs.declared.averaging.Averaging.{Averaging};
+
     ghost places: { ℕ };
 
-    ghost window: { ℕ };
-
-    ghost start: { ℕ };
+    ghost averaging: { Averaging };
 }
 
 /// The first swap.
@@ -134,7 +134,7 @@ pub struct TellsRow<K> {
 impl<K: RowTold> Outcome<HighWord, HighView> for TellsRow<K> {
     ghost use Rattle.passage.specs.HighRule.{with_row};
 
-    ghost then = { λ v x y w. w ≡ with_row v K.places K.window K.start };
+    ghost then = { λ v x y w. w ≡ with_row v K.places K.averaging };
 }
 
 /// The two roles are parted, or a reader's whole view is cut off.

@@ -3,13 +3,14 @@ ghost use Rattle.std.specs.Prelude.{◌≡◌, ℕ, ◌+◌, ◌≤◌, ◌++◌
 ghost use Rattle.crossbeam_queue.specs.Passes.{view};
 ghost use Rattle.crossbeam_utils.specs.Seq.{cell_view, IsSamePass};
 ghost use Rattle.pump_frame.specs.Averages.{average_of};
-ghost use Rattle.passage.specs.HighRule.{averaging_told, with_row, with_try, with_pair, PairsUpTo, with_taken, with_time, high_first};
+ghost use Rattle.passage.specs.HighRule.{no_averaging, with_row, with_try, with_pair, PairsUpTo, with_taken, with_time, high_first};
 
 use crate::high_cell::{
     FindsPair, FindsTaken, HighCell, HighPass, HighWord, LowTry, RowTold, TellsRow, TellsTaken,
     TellsTime, TimeTold,
 };
 use crate::queue::QueuePass;
+use pump_frame::Averaging;
 use std::marker::Brand;
 use std::sync::Wait;
 
@@ -24,9 +25,7 @@ impl TimeTold for Brand {
 impl RowTold for Brand {
     ghost places = { 0 };
 
-    ghost window = { 0 };
-
-    ghost start = { 0 };
+    ghost averaging = { no_averaging };
 }
 
 fn load_taken<K: LowTry, R: Wait>(
@@ -80,7 +79,7 @@ pub fn tell_taken<R: Wait>(
     requires role { ((cell_view pass.old).writes ≡ true) × ((cell_view pass.old).reads ≡ false) }
     requires taken { word.taken ≡ (cell_view pass.old).taken + 1 }
     requires count { word.count ≡ length (cell_view pass.old).times }
-    requires average { word.average ≡ average_of (averaging_told (cell_view pass.old)) (cell_view pass.old).times }
+    requires average { word.average ≡ average_of (cell_view pass.old).averaging (cell_view pass.old).times }
     ensures cell { IsSamePass pass.old pass.new }
     ensures rule { cell_view pass.new ≡ with_taken (cell_view pass.old) }
 {
@@ -98,7 +97,7 @@ fn swap_time<K: TimeTold, R: Wait>(
     requires role { ((cell_view pass.old).writes ≡ true) × ((cell_view pass.old).reads ≡ false) }
     requires taken { word.taken ≡ (cell_view pass.old).taken }
     requires count { word.count ≡ length ((cell_view pass.old).times ++ micros ∷ []) }
-    requires average { word.average ≡ average_of (averaging_told (cell_view pass.old)) ((cell_view pass.old).times ++ micros ∷ []) }
+    requires average { word.average ≡ average_of (cell_view pass.old).averaging ((cell_view pass.old).times ++ micros ∷ []) }
     requires time { micros ≡ K.micros }
     ensures cell { IsSamePass pass.old pass.new }
     ensures rule { cell_view pass.new ≡ with_time (cell_view pass.old) micros }
@@ -112,7 +111,7 @@ pub fn tell_time<R: Wait>(rt: &R, cell: &HighCell, pass: &mut HighPass, word: Hi
     requires role { ((cell_view pass.old).writes ≡ true) × ((cell_view pass.old).reads ≡ false) }
     requires taken { word.taken ≡ (cell_view pass.old).taken }
     requires count { word.count ≡ length ((cell_view pass.old).times ++ micros ∷ []) }
-    requires average { word.average ≡ average_of (averaging_told (cell_view pass.old)) ((cell_view pass.old).times ++ micros ∷ []) }
+    requires average { word.average ≡ average_of (cell_view pass.old).averaging ((cell_view pass.old).times ++ micros ∷ []) }
     ensures cell { IsSamePass pass.old pass.new }
     ensures rule { cell_view pass.new ≡ with_time (cell_view pass.old) micros }
 {
@@ -124,33 +123,36 @@ fn swap_row<K: RowTold, R: Wait>(
     cell: &HighCell,
     pass: &mut HighPass,
     places: u64,
-    window: u32,
+    averaging: Averaging,
     word: HighWord,
 )
     requires cell { pass.old.table_id ≡ cell.now.table.shared.table_id }
     requires fresh { cell_view pass.old ≡ high_first }
     requires word { (word.count ≡ 0) × (word.taken ≡ 0) }
-    requires row { (places ≡ K.places) × (window ≡ K.window) × (word.average ≡ K.start) }
+    requires average { word.average ≡ average_of averaging [] }
+    requires row { (places ≡ K.places) × (averaging ≡ K.averaging) }
     ensures cell { IsSamePass pass.old pass.new }
-    ensures rule { cell_view pass.new ≡ with_row (cell_view pass.old) places window word.average }
+    ensures rule { cell_view pass.new ≡ with_row (cell_view pass.old) places averaging }
 {
     cell.swap_as::<TellsRow<K>, R>(rt, pass, word);
 }
 
-/// The first swap, under the pass that is not parted yet. Its word has the row's start as average.
+/// The first swap, under the pass that is not parted yet. Its word has the average of no
+/// times.
 pub fn tell_row<R: Wait>(
     rt: &R,
     cell: &HighCell,
     pass: &mut HighPass,
     places: u64,
-    window: u32,
+    averaging: Averaging,
     word: HighWord,
 )
     requires cell { pass.old.table_id ≡ cell.now.table.shared.table_id }
     requires fresh { cell_view pass.old ≡ high_first }
     requires word { (word.count ≡ 0) × (word.taken ≡ 0) }
+    requires average { word.average ≡ average_of averaging [] }
     ensures cell { IsSamePass pass.old pass.new }
-    ensures rule { cell_view pass.new ≡ with_row (cell_view pass.old) places window word.average }
+    ensures rule { cell_view pass.new ≡ with_row (cell_view pass.old) places averaging }
 {
-    swap_row::<Brand, R>(rt, cell, pass, places, window, word);
+    swap_row::<Brand, R>(rt, cell, pass, places, averaging, word);
 }

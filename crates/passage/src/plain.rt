@@ -47,7 +47,8 @@ impl HighSide for PlainEnds {
 
 impl PlainEnds {
     ghost use Rattle.pump_frame.specs.Rows.{IsLawfulRow};
-    ghost use Rattle.pump_core.specs.Passage.{Low, High, new_low, new_high, shape_of_row};
+    ghost use Rattle.std.specs.Prelude.{[]};
+    ghost use Rattle.pump_core.specs.Passage.{Low, High, new_low, new_high, shape_of_row, coarse_shape};
     ghost use Rattle.passage.specs.Plain.{shape_of, StandsFor};
 
     /// The passage of a lawful row. It has two places fewer than the row's capacity, since two
@@ -58,11 +59,20 @@ impl PlainEnds {
         ensures shape { IfOk result (λ ends. shape_of ends ≡ shape_of_row row.now) }
     {
         let items = HeapCircularBuffer::with_capacity(alloc, row.capacity as usize - 2)?;
-        let window = Window::new(alloc, row.window, row.start)?;
+        let window = Window::of_row(alloc, row)?;
         Ok(PlainEnds { items, window })
     }
 
-    /// Forgets all items and times. It is then as it was made.
+    /// From now on an average is its level. It is made so before a time is published or an average
+    /// read.
+    pub fn make_coarse(&mut self)
+        ensures stands { (l : Low) (h : High) → StandsFor self.old l h → l.pairs ≡ [] → StandsFor self.new l h }
+        ensures shape { shape_of self.new ≡ coarse_shape (shape_of self.old) }
+    {
+        self.window.make_coarse();
+    }
+
+    /// Forgets all items and times. It is then as it was made, and coarse where it was coarse before.
     pub fn clear(&mut self)
         ensures empty { StandsFor self.new new_low new_high }
         ensures shape { shape_of self.new ≡ shape_of self.old }

@@ -12,7 +12,7 @@ use crate::queue::{Queue, QueuePass, pop, push};
 use crate::waiting::{WaitHighEnd, WaitLowEnd};
 use moving_avg::Window;
 use pump_core::Seen;
-use pump_frame::Item;
+use pump_frame::{Averaging, Item};
 use std::sync::Wait;
 
 /// The low end of a passage between two threads. It says that all places are full where a load of
@@ -27,8 +27,7 @@ pub struct QueueLow<'a> {
     pub(crate) read: HighPass,
     pub(crate) forwarded: u64,
     pub(crate) places: u64,
-    pub(crate) window: u32,
-    pub(crate) start: u32,
+    pub(crate) averaging: Averaging,
 }
 
 /// The high end of a passage between two threads. It says that nothing is held where a load of

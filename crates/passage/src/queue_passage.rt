@@ -11,7 +11,7 @@ use crate::low_cell::{LowCell, LowLearns, LowMeets, LowParts, LowPass, LowWord};
 use crate::queue::{Queue, QueueLearns, QueueMeets, QueueParts, QueuePass};
 use crate::queue_ends::{QueueHigh, QueueLow};
 use moving_avg::Window;
-use pump_frame::{OutOfMemory, SessionRow};
+use pump_frame::{Averaging, OutOfMemory, SessionRow};
 use std::alloc::Global;
 use std::sync::Wait;
 
@@ -32,8 +32,7 @@ pub struct QueuePassage {
     low_cell: LowCell,
     high_cell: HighCell,
     places: u64,
-    window: u32,
-    start: u32,
+    averaging: Averaging,
     // Nothing once the ends are parted.
     unparted: Option<Unparted>,
 }
@@ -54,7 +53,7 @@ impl QueuePassage {
         ensures shape { IfOk result (λ passage. queue_shape passage ≡ shape_of_row row.now) }
     {
         let places = row.capacity - 2;
-        let window = Window::new(alloc, row.window, row.start)?;
+        let window = Window::of_row(alloc, row)?;
         let (queue, queue_pass) = Queue::ruled(alloc, places as usize)?;
         let (low_cell, low_pass) = LowCell::ruled(alloc, LowWord { forwarded: 0 })?;
         let nothing = HighWord {
@@ -68,8 +67,7 @@ impl QueuePassage {
             low_cell,
             high_cell,
             places: places as u64,
-            window: row.window,
-            start: row.start,
+            averaging: row.averaging(),
             unparted: Some(Unparted {
                 queue: queue_pass,
                 low: low_pass,
@@ -100,16 +98,16 @@ impl QueuePassage {
         let passage: &'a QueuePassage = self;
         let first = HighWord {
             count: 0,
-            average: passage.start,
+            average: window.average(),
             taken: 0,
         };
-        let (places, start) = (passage.places, passage.start);
+        let (places, averaging) = (passage.places, passage.averaging);
         tell_row(
             rt,
             &passage.high_cell,
             &mut high_told,
             places,
-            passage.window,
+            averaging,
             first,
         );
         let popped = passage.queue.another::<QueueParts>(&mut sent);
@@ -124,8 +122,7 @@ impl QueuePassage {
             read,
             forwarded: 0,
             places,
-            window: passage.window,
-            start,
+            averaging,
         };
         let high = QueueHigh {
             queue: &passage.queue,
@@ -160,8 +157,7 @@ impl QueuePassage {
             mut read,
             forwarded,
             places: _,
-            window: _,
-            start: _,
+            averaging: _,
         } = low;
         let QueueHigh {
             queue: _,

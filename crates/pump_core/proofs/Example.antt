@@ -1,5 +1,6 @@
 -- A run that there is: a HELLO, a message that is stored, passed on and acknowledged.
 use Rattle.std.proofs.Common.{ℕ, false, List, [], ◌∷◌, Some, None, refl, arith}
+use Rattle.pump_frame.specs.Averages.{down}
 use Rattle.pump_frame.specs.declared.row.SessionRow.{SessionRow}
 use Rattle.pump_frame.specs.declared.frame.Frame.{Frame}
 use Rattle.pump_frame.specs.declared.frame.Kind.TheVariants.{Hello, Data}
@@ -27,6 +28,7 @@ row = record {
   resend = 50;
   low_port = 0;
   high_port = 0;
+  coarse = false;
 }
 
 abbrev payload : List ℕ
@@ -129,6 +131,7 @@ steps =
     ∷ LowLook 10 0 false false ∷ Arrives (Whole hello) ∷ []
 
 leads : LeadsTo row steps (point done e₄ (s₄ ∷ s₃ ∷ s₂ ∷ [] ∷ []))
+unfolding down
 leads = (
   _,
   (

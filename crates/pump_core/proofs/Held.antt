@@ -26,6 +26,7 @@ row = record {
   resend = 50;
   low_port = 0;
   high_port = 0;
+  coarse = false;
 }
 
 abbrev p : List ℕ

@@ -2,7 +2,8 @@
 -- one call of an end leaves.
 use Rattle.std.specs.Prelude.{◌≡◌, ℕ, ◌+◌, ◌-◌, ◌<◌, ◌≤◌, Bool, true, List, [], ◌∷◌, ◌++◌, length, take}
 use Rattle.std.specs.List.{All}
-use Rattle.pump_frame.specs.Averages.{Averaging, averaging_of, average_of}
+use Rattle.pump_frame.specs.declared.averaging.Averaging.{Averaging}
+use Rattle.pump_frame.specs.Averages.{averaging_of, average_of}
 use Rattle.pump_frame.specs.declared.frame.Item.{Item}
 use Rattle.pump_frame.specs.declared.row.SessionRow.{SessionRow}
 
@@ -14,6 +15,10 @@ pub record Shape : Type 0 where
 -- the passage of a session: two of its messages are in the hands of the processes
 abbrev pub shape_of_row : SessionRow → Shape
 shape_of_row row = record { places = row.capacity - 2; averaging = averaging_of row }
+
+-- .. in which only levels come down
+abbrev pub coarse_shape : Shape → Shape
+coarse_shape s = record s { averaging = record s.averaging { coarse = true } }
 
 -- what a low end did: the items forwarded; its tries that found no room, each with the number
 -- forwarded and the number taken up; the pairs of count and average that it read

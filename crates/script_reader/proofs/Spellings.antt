@@ -35,8 +35,8 @@ printed_word n fits = (fits, decode_of-encode_lower (to_be_bytes w32 n) (word_by
 pub short_line : (old bytes all : List ℕ) → all ≡ old ++ bytes → length all < length old + 2400 → length bytes ≤ 2400
 short_line old bytes all e below = omega (arith, ap length e ∙ length-append old bytes)
 
-printed_row : (row : SessionRow) → row.low_port ≡ 0 → row.high_port ≡ 0 → IsTypedRow row → IsRow row
-printed_row row low high t = record {
+printed_row : (row : SessionRow) → row.low_port ≡ 0 → row.high_port ≡ 0 → row.coarse ≡ false → IsTypedRow row → IsRow row
+printed_row row low high plain t = record {
   id = t.id;
   capacity = t.capacity;
   message = t.message;
@@ -48,6 +48,7 @@ printed_row row low high t = record {
   high = t.high;
   low_port = low;
   high_port = high;
+  coarse = plain;
 }
 
 printed_hex : (bytes : List ℕ) → length bytes ≤ 1024 → IsPrinted bytes → IsHex bytes (hex_field bytes)

@@ -108,6 +108,7 @@ generated_row = record {
   resend = 500000;
   low_port = 0;
   high_port = 0;
+  coarse = false;
 }
 
 abbrev pub first_hello : Line

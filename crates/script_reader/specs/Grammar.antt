@@ -43,6 +43,7 @@ pub record IsRow (row : SessionRow) : Type 0 where
   pub high : IsName row.high
   pub low_port : row.low_port ≡ 0
   pub high_port : row.high_port ≡ 0
+  pub coarse : row.coarse ≡ false
 
 -- the fields after the word "session"
 abbrev pub row_fields : SessionRow → List (List ℕ)

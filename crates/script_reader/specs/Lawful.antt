@@ -21,11 +21,15 @@ IsLawfulFeedback Quiet = Unit {0}
 IsLawfulFeedback Full = Unit {0}
 IsLawfulFeedback (Pair count average) = average ≤ 10 ^ 9
 
--- moments are at most 2^62, times at most 10^9, and a row has no ports
+-- a row as a line tells it: without ports, and not coarse
+abbrev pub IsTold : SessionRow → Type 0
+IsTold row = (row.low_port ≡ 0) × (row.high_port ≡ 0) × (row.coarse ≡ false)
+
+-- moments are at most 2^62, times at most 10^9, and a row is told as a line tells it
 abbrev pub IsLawfulLine : Line → Type 0
 IsLawfulLine Skip = Unit {0}
-IsLawfulLine (Session row) = (row.low_port ≡ 0) × (row.high_port ≡ 0)
-IsLawfulLine (LowSession row next held) = (row.low_port ≡ 0) × (row.high_port ≡ 0) × IsCount next held
+IsLawfulLine (Session row) = IsTold row
+IsLawfulLine (LowSession row next held) = IsTold row × IsCount next held
 IsLawfulLine (Look session moment word arrival) = (moment ≤ 2 ^ 62) × IsLawfulArriving arrival
 IsLawfulLine (Told session moment word fault feedback arrival) =
     (moment ≤ 2 ^ 62) × IsLawfulFeedback feedback × IsLawfulArriving arrival

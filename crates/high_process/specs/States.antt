@@ -13,6 +13,10 @@ use Rattle.high_process.specs.Tasks.{task_of, attaches_in}
 abbrev pub row_of : HighProcess → SessionRow
 row_of p = p.row
 
+-- the process, with its row made coarse
+abbrev pub made_coarse : HighProcess → HighProcess
+made_coarse p = record p { row = record p.row { coarse = true } }
+
 -- how many messages are removed
 abbrev pub removed_of : HighProcess → ℕ
 removed_of p = p.removed

@@ -39,8 +39,8 @@ impl HighProcess {
     ghost use Rattle.stable_buffer.specs.High.{IsHighReady, high_count};
     ghost use Rattle.pump_core.specs.Passage.{Low, High};
     ghost use Rattle.high_process.specs.Tasks.{frame_of};
-    ghost use Rattle.high_process.specs.Past.{fresh};
-    ghost use Rattle.high_process.specs.States.{state_of, row_of, removed_of, hand_of, published_of, last_of, is_down, task_at, attaches_at, IsBetweenLooks};
+    ghost use Rattle.high_process.specs.Past.{ProcessPast, fresh};
+    ghost use Rattle.high_process.specs.States.{state_of, row_of, made_coarse, removed_of, hand_of, published_of, last_of, is_down, task_at, attaches_at, IsBetweenLooks};
     ghost use Rattle.high_process.specs.Looks.{IsHand, StandsFor, Finishes, AsksJust, TakesItem};
     ghost use Rattle.high_process.specs.Ends.{IsTime};
     ghost use Rattle.high_process.specs.Storing.{Fares, Removing, IsAfter};
@@ -71,6 +71,14 @@ impl HighProcess {
             asking: None,
             is_down: false,
         }
+    }
+
+    /// Makes its row coarse. All else is as before: it stands for what it stood for.
+    pub fn make_coarse(&mut self)
+        ensures same { self.new ≡ made_coarse self.old }
+        ensures stands { (t : ProcessPast) → StandsFor self.old t → StandsFor self.new t }
+    {
+        self.row.coarse = true;
     }
 
     /// The message that is sent until it is taken.

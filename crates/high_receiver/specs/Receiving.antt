@@ -32,6 +32,10 @@ recv_row receiver = receiver.row
 abbrev pub recv_size : {D : Type 0} → Receiver D → ℕ
 recv_size receiver = receiver.size
 
+-- the receiver, with its row made coarse
+abbrev pub recv_made_coarse : {D : Type 0} → Receiver D → Receiver D
+recv_made_coarse receiver = record receiver { row = record receiver.row { coarse = true } }
+
 -- no call of the receiver has failed
 abbrev pub recv_is_open : {D : Type 0} → Receiver D → Bool
 recv_is_open receiver = receiver.is_open

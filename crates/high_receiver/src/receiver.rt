@@ -22,7 +22,7 @@ pub struct Receiver<D> {
 impl<D: Disk> Receiver<D> {
     ghost use Rattle.stable_buffer.specs.Register.{IsReady, register_disk, register_value};
     ghost use Rattle.high_receiver.specs.Steps.{MayTake, TakesMessage, StandsOrTakes};
-    ghost use Rattle.high_receiver.specs.Receiving.{IsRecvReady, StandsForSome, Stores, answer_at_once, is_device, recv_disk, recv_count, recv_end, recv_row, recv_size, recv_is_open};
+    ghost use Rattle.high_receiver.specs.Receiving.{IsRecvReady, StandsForSome, Stores, answer_at_once, is_device, recv_disk, recv_count, recv_end, recv_row, recv_size, recv_made_coarse, recv_is_open};
 
     /// A receiver over a register, whose disk stands for a list of at most 2^48 messages, and has
     /// `size` bytes to fill.
@@ -69,6 +69,14 @@ impl<D: Disk> Receiver<D> {
         ensures { result ≡ recv_count self.now }
     {
         self.register.value().0
+    }
+
+    /// Makes its row coarse. All else is as before, and no call of the disk is made.
+    pub fn make_coarse(&mut self)
+        ensures same { self.new ≡ recv_made_coarse self.old }
+        ensures ready { IsRecvReady D.told self.old → IsRecvReady D.told self.new }
+    {
+        self.row.coarse = true;
     }
 
     // What a message of this number and length is answered where it isn't to be stored.

@@ -1,4 +1,5 @@
 pub mod Asked
+pub mod Coarse
 pub mod Effects
 pub mod Greetings
 pub mod Keeping

@@ -43,6 +43,10 @@ phase_of Down hand = phases.Down
 abbrev pub row_of : LowProcess → SessionRow
 row_of p = p.row
 
+-- the process, with its row made coarse
+abbrev pub made_coarse : LowProcess → LowProcess
+made_coarse p = record p { row = record p.row { coarse = true } }
+
 -- the number of the next message
 abbrev pub next_of : LowProcess → ℕ
 next_of p = p.next

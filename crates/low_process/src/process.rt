@@ -59,7 +59,7 @@ impl LowProcess {
     ghost use Rattle.low_process.specs.declared.values.Asking.TheVariants.{Forward as AsksForward};
     ghost use Rattle.pump_core.specs.Replies.{Sent, LowReplies};
     ghost use Rattle.pump_core.specs.ReplyFrames.{frame_of, IsLawfulReply};
-    ghost use Rattle.low_process.specs.Looks.{state_of, look_of, arrival_of, opening_of, IsLawful, IsHand, StandsFor, Asks, AsksFor, IsAnswerTo, AnswersTo, IsInBounds, Tells, Looks, HandBegins, IsBetweenLooks, row_of, next_of, last_of, is_down, is_idle, owes, hand_of, item_in_hand, hand_passed};
+    ghost use Rattle.low_process.specs.Looks.{state_of, look_of, arrival_of, opening_of, IsLawful, IsHand, StandsFor, Asks, AsksFor, IsAnswerTo, AnswersTo, IsInBounds, Tells, Looks, HandBegins, IsBetweenLooks, row_of, made_coarse, next_of, last_of, is_down, is_idle, owes, hand_of, item_in_hand, hand_passed};
     ghost use Rattle.low_process.specs.Steps.{Stepped, StepBegins};
     ghost use Rattle.low_process.specs.Storing.{message_in, wants};
     ghost use Rattle.low_process.specs.Ends.{number_offered};
@@ -98,6 +98,14 @@ impl LowProcess {
             word: 0,
             asking: Asking::Nothing,
         }
+    }
+
+    /// Makes its row coarse. All else is as before: it stands for what it stood for.
+    pub fn make_coarse(&mut self)
+        ensures same { self.new ≡ made_coarse self.old }
+        ensures stands { (h : History) → StandsFor self.old h → StandsFor self.new h }
+    {
+        self.row.coarse = true;
     }
 
     /// The row of the session.

@@ -1,4 +1,5 @@
 pub mod Cells
+pub mod Coarse
 pub mod Fresh
 pub mod Logs
 mod Numbers

@@ -1,5 +1,5 @@
 -- An open store of low's messages.
-use Rattle.std.specs.Prelude.{◌≡◌, ℕ, ◌^◌, ◌≤◌, Bool, List}
+use Rattle.std.specs.Prelude.{◌≡◌, ℕ, ◌^◌, ◌≤◌, Bool, true, List}
 use Rattle.pump_frame.specs.Rows.{IsLawfulRow, greatest_capacity}
 use Rattle.pump_frame.specs.declared.row.SessionRow.{SessionRow}
 use Rattle.disk_model.specs.Disk.{Meaning, Settled}
@@ -46,3 +46,7 @@ low_row store = store.row
 -- no call of the store has failed
 abbrev pub low_is_open : {D : Type 0} → LowStore D → Bool
 low_is_open store = store.register.is_open
+
+-- the store, with its row made coarse
+abbrev pub low_made_coarse : {D : Type 0} → LowStore D → LowStore D
+low_made_coarse store = record store { row = record store.row { coarse = true } }

@@ -18,7 +18,7 @@ pub struct LowStore<D> {
 impl<D: Disk> LowStore<D> {
     ghost use Rattle.std.specs.Borrow.{sem, Lends};
     ghost use Rattle.stable_buffer.specs.contracts.low.LowStore.{the_row};
-    ghost use Rattle.stable_buffer.specs.Low.{IsLowReady, HasRanges, StandsForCount, low_disk, low_with_disk, low_count, low_row, low_is_open};
+    ghost use Rattle.stable_buffer.specs.Low.{IsLowReady, HasRanges, StandsForCount, low_disk, low_with_disk, low_made_coarse, low_count, low_row, low_is_open};
     ghost use Rattle.stable_buffer.specs.Register.{IsReady, register_disk, register_value};
 
     /// A store over a register, whose disk stands for a count of at most 2^48 and some messages.
@@ -77,6 +77,14 @@ impl<D: Disk> LowStore<D> {
         ensures { result ≡ low_count self.now }
     {
         self.register.value().0
+    }
+
+    /// Makes its row coarse. All else is as before, and no call of the disk is made.
+    pub fn make_coarse(&mut self)
+        ensures same { self.new ≡ low_made_coarse self.old }
+        ensures ready { IsLowReady D.told self.old → IsLowReady D.told self.new }
+    {
+        self.row.coarse = true;
     }
 
     // Where a message stands.

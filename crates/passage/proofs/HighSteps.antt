@@ -6,17 +6,19 @@ use Rattle.std.proofs.lemmas.List.Elements.{All-nil}
 use mathlib.Core.Option.{some}
 use lib.ListN.{get_elem?}
 use Rattle.crossbeam_utils.specs.Register.{Turns, Forks, Merges}
-use Rattle.pump_frame.specs.Averages.{average_of}
+use Rattle.pump_frame.specs.declared.averaging.Averaging.{Averaging}
+use Rattle.pump_frame.specs.Averages.{average_of, down}
 use Rattle.pump_core.specs.Passage.{Shape, NeverFall, IsAverage}
 use Rattle.pump_core.proofs.PassageSteps.{all_snoc, all_weaken, average_stays, average_now, never_fall_snoc}
 use Rattle.passage.specs.declared.high_cell.HighWord.{HighWord}
 use Rattle.passage.specs.declared.high_cell.HighView.{HighView}
-use Rattle.passage.specs.HighRule.{averaging_told, shape_told, CountsTimes, IsWriter, IsReader, HighFits, HighKept, high_first, with_row, with_try, with_pair, PairsUpTo, with_taken, with_time, high_writer, high_reader, high_both, high_spent, HighTies}
+use Rattle.passage.specs.HighRule.{shape_told, no_averaging, CountsTimes, IsWriter, IsReader, HighFits, HighKept, high_first, with_row, with_try, with_pair, PairsUpTo, with_taken, with_time, high_writer, high_reader, high_both, high_spent, HighTies}
 use Rattle.passage.proofs.Views.{Each, each_set, each_snoc, each_alone, was, all_maybe}
 
 pub begins : (x : HighWord) → x.count ≡ 0 → x.average ≡ 0 → x.taken ≡ 0 → HighKept x (high_first ∷ [])
+unfolding down
 begins x c a t =
-    let s : Shape = record { places = 0; averaging = record { window = 0; start = 0 } } in
+    let s : Shape = record { places = 0; averaging = no_averaging } in
     record {
       writer = 0;
       reader = 0;
@@ -81,7 +83,7 @@ reads pass v idle may x views h at =
 -- the writer puts what is then true
 module _ (pass : ℕ) (v w : HighView) (y : HighWord) (writes : v.writes ≡ true) (idle : w.reads ≡ false) where
   puts : (more : List ℕ) → w.times ≡ v.times ++ more → shape_told w ≡ shape_told v → v.taken ≤ y.taken → w.taken ≡ y.taken → (CountsTimes v → CountsTimes w)
-      → y.count ≡ length w.times → y.average ≡ average_of (averaging_told w) w.times
+      → y.count ≡ length w.times → y.average ≡ average_of w.averaging w.times
       → ((times : List ℕ) (p : ℕ × ℕ) → IsAverage (shape_told v) times p → IsAverage (shape_told v) (times ++ more) p)
       → (x : HighWord) (views : List HighView) → HighKept x views → get_elem? views pass ≡ some v → HighKept y (set views pass w)
   puts more is row up tk counts cn av stays x views h at =
@@ -114,7 +116,7 @@ module _ (pass : ℕ) (v w : HighView) (y : HighWord) (writes : v.writes ≡ tru
             ));
       }
 
-pub takes_up : (pass : ℕ) (v : HighView) (y : HighWord) → v.writes ≡ true → v.reads ≡ false → y.taken ≡ v.taken + 1 → y.count ≡ length v.times → y.average ≡ average_of (averaging_told v) v.times
+pub takes_up : (pass : ℕ) (v : HighView) (y : HighWord) → v.writes ≡ true → v.reads ≡ false → y.taken ≡ v.taken + 1 → y.count ≡ length v.times → y.average ≡ average_of v.averaging v.times
     → Turns HighKept pass v (λ _. y) (λ v x y w. w ≡ with_taken v)
 takes_up pass v y a b tk cn av x views h at = (
   with_taken v,
@@ -124,7 +126,7 @@ takes_up pass v y a b tk cn av x views h at = (
   refl,
 )
 
-pub publishes : (pass : ℕ) (v : HighView) (t : ℕ) (y : HighWord) → v.writes ≡ true → v.reads ≡ false → y.taken ≡ v.taken → y.count ≡ length (v.times ++ t ∷ []) → y.average ≡ average_of (averaging_told v) (v.times ++ t ∷ [])
+pub publishes : (pass : ℕ) (v : HighView) (t : ℕ) (y : HighWord) → v.writes ≡ true → v.reads ≡ false → y.taken ≡ v.taken → y.count ≡ length (v.times ++ t ∷ []) → y.average ≡ average_of v.averaging (v.times ++ t ∷ [])
     → Turns HighKept pass v (λ _. y) (λ v x y w. w ≡ with_time v t)
 publishes pass v t y a b tk cn av x views h at = (
   with_time v t,
@@ -136,11 +138,11 @@ publishes pass v t y a b tk cn av x views h at = (
 
 -- the first swap puts the row into the view; nothing was read or published before, and no other pass
 -- reads or writes
-pub starts : (pass : ℕ) (v : HighView) (places window start : ℕ) (y : HighWord) → v ≡ high_first → y.count ≡ 0 → y.average ≡ start → y.taken ≡ 0
-    → Turns HighKept pass v (λ _. y) (λ v x y w. w ≡ with_row v places window start)
-starts pass v places window start y is cn av tk x views h at =
-    let w = with_row v places window start in
-    let s : Shape = record { places = places; averaging = record { window = window; start = start } } in
+pub starts : (pass : ℕ) (v : HighView) (places : ℕ) (averaging : Averaging) (y : HighWord) → v ≡ high_first → y.count ≡ 0 → y.average ≡ average_of averaging [] → y.taken ≡ 0
+    → Turns HighKept pass v (λ _. y) (λ v x y w. w ≡ with_row v places averaging)
+starts pass v places averaging y is cn av tk x views h at =
+    let w = with_row v places averaging in
+    let s : Shape = record { places = places; averaging = averaging } in
     let mine = (h.each pass v at).0 (ap (λ z. z.writes) is) in
     let read = (h.each pass v at).1 (ap (λ z. z.reads) is) in
     let none_read : v.pairs ≡ [] = ap (λ z. z.pairs) is in

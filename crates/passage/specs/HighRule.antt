@@ -51,7 +51,7 @@ pub record HighKept (x : HighWord) (views : List HighView) : Type 0 where
 
 -- how nothing is averaged
 abbrev pub no_averaging : Averaging
-no_averaging = record { averaging = no_averaging; coarse = false }
+no_averaging = record { window = 0; start = 0; coarse = false }
 
 -- before any step, with both roles in one view and a row of zeroes
 abbrev pub high_first : HighView

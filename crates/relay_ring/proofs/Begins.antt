@@ -7,6 +7,7 @@ use lib.ListN.{get_elem?}
 use Rattle.atomic_table.specs.Table.{opening}
 use Rattle.passage.proofs.Views.{each_alone}
 use Rattle.pump_core.specs.Passage.{IsAverage}
+use Rattle.pump_frame.specs.Averages.{average_of}
 use Rattle.pump_frame.specs.declared.frame.Item.{Item}
 use Rattle.relay_ring.specs.RingRule.{word_count, AreHome, RingFits, RingKept, ring_first}
 use Rattle.relay_ring.specs.PairRule.{pair_word, pair_words, shape_told, PairFits, PairKept, pair_first}
@@ -56,7 +57,7 @@ ring_begins n some_places =
       );
     }
 
-pub pairs_begin : (row : RowTold) (words : List ℕ) → row.start ≤ 10 ^ 9 → slice_index words pair_word ≡ row.start → length words ≡ pair_words → PairKept row (opening words [] (pair_first row))
+pub pairs_begin : (row : RowTold) (words : List ℕ) → average_of row.averaging [] ≤ 10 ^ 9 → slice_index words pair_word ≡ average_of row.averaging [] → length words ≡ pair_words → PairKept row (opening words [] (pair_first row))
 pairs_begin row words bound word width = record {
   writer = 0;
   times = [];

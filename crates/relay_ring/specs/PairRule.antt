@@ -6,6 +6,7 @@ use lib.ListN.{get_elem?}
 use Rattle.atomic_table.specs.Table.{State, Me}
 use Rattle.pump_frame.specs.Averages.{average_of}
 use Rattle.pump_core.specs.Passage.{Shape, NeverFall, IsAverage}
+use Rattle.passage.specs.HighRule.{no_averaging}
 use Rattle.relay_ring.specs.declared.pairs.RowTold.{RowTold}
 use Rattle.relay_ring.specs.declared.pairs.PairView.{PairView}
 
@@ -18,11 +19,11 @@ pair_words = 32
 
 -- the passage's places, and how times are averaged in it, as the table was told
 abbrev pub shape_told : RowTold → Shape
-shape_told row = record { places = row.places; averaging = record { window = row.window; start = row.start } }
+shape_told row = record { places = row.places; averaging = row.averaging }
 
 -- .. and as the writer knows
 abbrev pub pair_shape : PairView → Shape
-pair_shape v = record { places = v.places; averaging = record { window = v.window; start = v.start } }
+pair_shape v = record { places = v.places; averaging = v.averaging }
 
 -- the one writer knows the row and what was published
 pub record IsWriter (row : RowTold) (writer : ℕ) (published : List ℕ) (id : ℕ) (v : PairView) : Type 0 where
@@ -53,7 +54,7 @@ pub record PairKept (row : RowTold) (s : State (Unit {0}) PairView) : Type 0 whe
 
 -- before any step, with both roles in one view
 abbrev pub pair_first : RowTold → PairView
-pair_first row = record { writes = true; places = row.places; window = row.window; start = row.start; times = []; taken_before = []; reads = true; pairs = [] }
+pair_first row = record { writes = true; places = row.places; averaging = row.averaging; times = []; taken_before = []; reads = true; pairs = [] }
 
 -- a seat: what it knows; it has no slot
 abbrev pub Mine : Type 0
@@ -80,13 +81,13 @@ abbrev pub pair_writer : PairView → PairView
 pair_writer v = record v { reads = false; pairs = [] }
 
 abbrev pub pair_reader : PairView → PairView
-pair_reader v = record { writes = false; places = 0; window = 0; start = 0; times = []; taken_before = []; reads = v.reads; pairs = v.pairs }
+pair_reader v = record { writes = false; places = 0; averaging = no_averaging; times = []; taken_before = []; reads = v.reads; pairs = v.pairs }
 
 abbrev pub pair_both : PairView → PairView → PairView
 pair_both v w = record v { reads = w.reads; pairs = w.pairs }
 
 abbrev pub pair_spent : PairView
-pair_spent = record { writes = false; places = 0; window = 0; start = 0; times = []; taken_before = []; reads = false; pairs = [] }
+pair_spent = record { writes = false; places = 0; averaging = no_averaging; times = []; taken_before = []; reads = false; pairs = [] }
 
 -- what a view with both roles knows
 pub record PairTies (v : PairView) : Type 0 where

@@ -10,7 +10,7 @@ use Rattle.relay_ring.specs.declared.ring_passage.RingPassage.{RingPassage}
 
 -- the passage's places, and how times are averaged in it
 abbrev pub ring_shape : RingPassage → Shape
-ring_shape p = record { places = p.places; averaging = record { window = p.window; start = p.start } }
+ring_shape p = record { places = p.places; averaging = p.averaging }
 
 -- the seats are new ones of the passage's tables, and nothing was published
 pub record IsPartOf (p : RingPassage) (u : Unparted) : Type 0 where
@@ -19,7 +19,7 @@ pub record IsPartOf (p : RingPassage) (u : Unparted) : Type 0 where
   pub view : u.seat.me ≡ (ring_first, [])
   pub pairs : u.pair_seat.table_id ≡ p.pairs.shared.table_id
   pub width : u.pair_seat.table_id.words ≡ pair_words
-  pub pair_view : u.pair_seat.me ≡ (pair_first (record { places = p.places; window = p.window; start = p.start }), [])
+  pub pair_view : u.pair_seat.me ≡ (pair_first (record { places = p.places; averaging = p.averaging }), [])
   pub times : HoldsTimes u.window []
   pub averaging : averaging_in u.window ≡ (ring_shape p).averaging
 

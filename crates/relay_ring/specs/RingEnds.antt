@@ -32,7 +32,7 @@ pub record IsLow (e : RingLow) : Type 0 where
   pub reads : (e.reader.me.0.writes ≡ false) × (e.reader.me.0.reads ≡ true) × (e.reader.me.1 ≡ [])
 
 abbrev pub low_shape : RingLow → Shape
-low_shape e = record { places = e.places; averaging = record { window = e.window; start = e.start } }
+low_shape e = record { places = e.places; averaging = e.averaging }
 
 -- what it did, as its seats tell
 abbrev pub low_side : RingLow → Low

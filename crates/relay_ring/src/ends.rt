@@ -12,7 +12,7 @@ use crate::slots::{copy_out, fill};
 use moving_avg::Window;
 use passage::{Forwarded, HighEnd, HighSide, LowEnd, LowSide};
 use pump_core::Seen;
-use pump_frame::Item;
+use pump_frame::{Averaging, Item};
 
 /// The low end of a ring. It says that all places are full where a load of the number taken up found
 /// so many fewer than it has forwarded. It looks only once what it found before gives no room.
@@ -26,8 +26,7 @@ pub struct RingLow<'a> {
     // How many items may be forwarded in all, as far as it knows.
     pub(crate) limit: u64,
     pub(crate) places: u64,
-    pub(crate) window: u32,
-    pub(crate) start: u32,
+    pub(crate) averaging: Averaging,
 }
 
 /// The high end of a ring. It says that nothing is held where a load of the number forwarded found

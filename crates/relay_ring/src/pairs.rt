@@ -6,6 +6,7 @@ ghost use Rattle.relay_ring.specs.PairRule.{pair_words, pair_shape, with_pair, w
 
 use atomic_table::{Join, Play, Seat, Split, Table, TableRule};
 use pump_core::Seen;
+use pump_frame::Averaging;
 use std::alloc::Global;
 use std::collections::LinkedList;
 use std::marker::{Brand, PhantomData};
@@ -17,13 +18,11 @@ pub const PAIR: usize = 16;
 /// All words, of which the others stay 0.
 pub const PAIR_WORDS: usize = 32;
 
-/// What the table is told of a session's row: the passage's places, how many times are averaged,
-/// and the average before the first.
+/// What the table is told of a session's row: the passage's places, and how times are averaged.
 #[derive(Clone, Copy)]
 pub struct RowTold {
     pub places: u64,
-    pub window: u64,
-    pub start: u64,
+    pub averaging: Averaging,
 }
 
 /// What an end knows of the word. No value of it is made.
@@ -31,8 +30,7 @@ pub struct PairView {
     // The high end's part: the row, what it published, and beside each time the number taken up.
     pub writes: bool,
     pub places: u64,
-    pub window: u64,
-    pub start: u64,
+    pub averaging: Averaging,
     pub times: LinkedList<u32>,
     pub taken_before: LinkedList<u64>,
     // The low end's part.

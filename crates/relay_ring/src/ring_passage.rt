@@ -13,7 +13,7 @@ use crate::pairs::{
 use crate::ring::{FORWARDED, Ring, RingLearns, RingMeets, RingParts, RingSeat, WORDS};
 use moving_avg::Window;
 use passage::Joined;
-use pump_frame::{OutOfMemory, SessionRow};
+use pump_frame::{Averaging, OutOfMemory, SessionRow};
 use std::alloc::Global;
 
 /// What the two ends take with them.
@@ -32,19 +32,18 @@ pub struct RingPassage {
     ring: Ring,
     pairs: PairTable,
     places: u64,
-    window: u32,
-    start: u32,
+    averaging: Averaging,
     // Nothing once the ends are parted.
     unparted: Option<Unparted>,
 }
 
 // The words of the second table before any time is published.
-fn first_words(start: u32) -> [u64; PAIR_WORDS]
-    ensures pair { slice_index result pair_word ≡ start }
+fn first_words(average: u32) -> [u64; PAIR_WORDS]
+    ensures pair { slice_index result pair_word ≡ average }
     ensures width { length result ≡ pair_words }
 {
     let mut words = [0; PAIR_WORDS];
-    words[PAIR] = start as u64;
+    words[PAIR] = average as u64;
     words
 }
 
@@ -57,20 +56,18 @@ impl RingPassage {
         ensures shape { IfOk result (λ passage. ring_shape passage ≡ shape_of_row row.now) }
     {
         let places = row.capacity - 2;
-        let window = Window::new(alloc, row.window, row.start)?;
+        let window = Window::of_row(alloc, row)?;
         let (ring, seat) = Ring::vacant(alloc, &[0; WORDS], places as usize, &())?;
         let told = RowTold {
             places: places as u64,
-            window: row.window as u64,
-            start: row.start as u64,
+            averaging: row.averaging(),
         };
-        let (pairs, pair_seat) = PairTable::of_words(alloc, &first_words(row.start), &told)?;
+        let (pairs, pair_seat) = PairTable::of_words(alloc, &first_words(window.average()), &told)?;
         Ok(RingPassage {
             ring,
             pairs,
             places: places as u64,
-            window: row.window,
-            start: row.start,
+            averaging: row.averaging(),
             unparted: Some(Unparted {
                 seat,
                 pair_seat,
@@ -107,8 +104,7 @@ impl RingPassage {
             forwarded: 0,
             limit: 0,
             places: passage.places,
-            window: passage.window,
-            start: passage.start,
+            averaging: passage.averaging,
         };
         let high = RingHigh {
             ring: &passage.ring,
@@ -142,8 +138,7 @@ impl RingPassage {
             forwarded,
             limit: _,
             places: _,
-            window: _,
-            start: _,
+            averaging: _,
         } = low;
         let RingHigh {
             ring: _,

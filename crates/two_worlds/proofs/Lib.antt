@@ -1,6 +1,7 @@
 pub mod Answered
 pub mod Arriving
 pub mod Carry
+pub mod Coarse
 pub mod Disks
 pub mod High
 pub mod Lines

@@ -13,6 +13,10 @@ abbrev pub disks_in : {D : Type 0} → PumpState D → BareDisks D
 disks_in (Open c) = bare_of c
 disks_in (Shut d) = d
 
+-- the disks, with their row made coarse
+abbrev pub coarse_disks : {D : Type 0} → BareDisks D → BareDisks D
+coarse_disks d = record d { row = record d.row { coarse = true } }
+
 -- a pump that is shut is down
 abbrev pub is_down_in : {D : Type 0} → PumpState D → Bool
 is_down_in (Open c) = is_down c

@@ -55,6 +55,17 @@ impl LowPump {
         Ok(LowPump { parts })
     }
 
+    /// Makes the session coarse: from now on what comes down of an average is its level. It is called
+    /// before the first line, takes no memory, and makes no call of the disk. The pump is as before but
+    /// for its row, and stands for what it stood for.
+    pub fn make_coarse(&mut self)
+        ensures row { low_row_of self.new ≡ record (low_row_of self.old) { coarse = true } }
+        ensures stands { (p : PastAlone) → LowStandsFor self.old p → LowStandsFor self.new p }
+        ensures up { low_is_down self.new ≡ low_is_down self.old }
+    {
+        self.parts.make_coarse();
+    }
+
     /// A line of the script, which must not come after a device fault: what it prints. It stops with
     /// `Line` exactly where the line can't be applied, and then nothing is printed or changed; with
     /// `Device` exactly where the disk fails in a store, and then the store's refusal was printed.

@@ -1,6 +1,7 @@
 //! The whole pump of a session over three disks, on one thread.
 
 mod carry;
+mod coarse;
 mod high_look;
 mod lines;
 mod low_look;
@@ -39,6 +40,7 @@ ghost use Rattle.two_worlds.specs.Keeping.{Keeps};
 
 impl<D: Disk> Pump<D> {
     ghost use Rattle.std.specs.Prelude.{◌≡◌, true, false, [], length, None, IfOk, IfErr, IfSome};
+    ghost use Rattle.disk_model.specs.declared.name.Role.{Role};
     ghost use Rattle.disk_model.specs.declared.name.Role.TheVariants as roles;
     ghost use Rattle.pump_frame.specs.Rows.{IsLawfulRow};
     ghost use Rattle.two_worlds.specs.Openings.{DisksStandFor, LeavesDisk, ComeBack};
@@ -88,6 +90,21 @@ impl<D: Disk> Pump<D> {
         Ok(Pump {
             state: PumpState::Open(parts),
         })
+    }
+
+    /// Makes the session coarse: from now on what comes down of an average is its level. It is called
+    /// before the first line, takes no memory, and makes no call of a disk. The pump is as before but
+    /// for its row, and stands for what it stood for.
+    pub fn make_coarse(&mut self)
+        ensures row { row_of self.new ≡ record (row_of self.old) { coarse = true } }
+        ensures stands { (p : Past) → StandsFor D.told self.old p → StandsFor D.told self.new p }
+        ensures disks { (role : Role) → disk_at role self.new ≡ disk_at role self.old }
+        ensures room { HasRoom D.told (row_of self.old) (disk_at roles.Low self.old) (disk_at roles.High self.old) (disk_at roles.Recv self.old)
+            → HasRoom D.told (row_of self.new) (disk_at roles.Low self.new) (disk_at roles.High self.new) (disk_at roles.Recv self.new) }
+        ensures up { is_down self.new ≡ is_down self.old }
+        ensures moment { kept_moment self.new ≡ kept_moment self.old }
+    {
+        self.state.make_coarse();
     }
 
     /// A line of the script: what it prints, and whether it stops the session. Until a call of a disk

@@ -16,6 +16,7 @@ use crate::low_side::end_look;
 use arrayvec::ArrayVec;
 use disk_model::{PlainDisk, Role};
 use low_process::{Answer, Arrival, AskHead, LookHead, LowProcess};
+use moving_avg::down;
 use pump_core::Seen;
 use pump_frame::{Item, OutOfMemory, Payload, SessionRow};
 use script_reader::{ArrivingHead, EventHead, LineHead, ToldFeedback};
@@ -92,12 +93,13 @@ fn answer_to_offer(told: ToldFeedback) -> Answer
 
 /// What a read of High's times gives.
 fn times_read(row: &SessionRow, told: ToldFeedback) -> Seen
+    requires { IsLawfulRow row.now }
     ensures { result ≡ told_of_read row.now told }
 {
     match told {
         ToldFeedback::Quiet | ToldFeedback::Full => Seen {
             count: 0,
-            average: row.start,
+            average: down(&row.averaging(), row.start),
         },
         ToldFeedback::Pair { count, average } => Seen { count, average },
     }
@@ -105,7 +107,7 @@ fn times_read(row: &SessionRow, told: ToldFeedback) -> Seen
 
 impl LowParts {
     ghost use Rattle.pump_core.specs.History.{Gone};
-    ghost use Rattle.low_process.specs.Looks.{row_of};
+    ghost use Rattle.low_process.specs.Looks.{row_of, is_down};
     ghost use Rattle.low_process.specs.Heads.{ask_with, look_with};
     ghost use Rattle.script_reader.specs.declared.event.Event.TheVariants.{End};
     ghost use Rattle.script_reader.specs.declared.line.ToldFeedback.TheVariants.{Quiet};
@@ -141,6 +143,17 @@ impl LowParts {
             store,
             moment: 0,
         })
+    }
+
+    /// Makes the session's row coarse, and keeps all else.
+    pub fn make_coarse(&mut self)
+        ensures stands { (p : PastAlone) → PartsStand self.old p → PartsStand self.new p }
+        ensures row { self.new.row ≡ record self.old.row { coarse = true } }
+        ensures up { is_down self.new.process ≡ is_down self.old.process }
+    {
+        self.row.coarse = true;
+        self.process.make_coarse();
+        self.store.make_coarse();
     }
 
     /// How many messages are stored.

@@ -173,6 +173,49 @@ fn packets_are_lost_or_come_again(rt: HostRuntime) -> Result<(), Fail> {
     Ok(())
 }
 
+// In a coarse session the start comes down as 32768, and the time 100 as 128.
+#[test]
+fn averages_come_down_as_levels(rt: HostRuntime) -> Result<(), Fail> {
+    let alloc = rt.alloc();
+    let start: &[&str] = &[
+        HELLO,
+        "look 1 100 00000000 data 0 61",
+        "look 1 100 00000000",
+        "look 1 227 00000000",
+        "look 1 228 00000000",
+    ];
+    let time: &[&str] = &[
+        HELLO,
+        "look 1 10 00000000 data 0 61",
+        "look 1 10 00000000",
+        "look 1 138 00000000",
+        "done 1 200 100",
+        "look 1 400 00000000 data 1 62",
+        "look 1 400 00000000",
+        "look 1 400 00000000",
+    ];
+    for (script, wanted, counts) in [
+        (
+            start,
+            "low 1 10 welcome 0\nstored 1 100 0\npassed 1 100 0 32768\nlow 1 228 ack 0\n",
+            (1, 0, 0),
+        ),
+        (
+            time,
+            "low 1 10 welcome 0\nstored 1 10 0\npassed 1 10 0 32768\nlow 1 138 ack 0\nsent 1 200 0\ntook 1 0\nremoved 1 300 0 100\nstored 1 400 1\npassed 1 400 1 128\nlow 1 400 ack 1\n",
+            (2, 1, 1),
+        ),
+    ] {
+        let mut pump = new_pump(alloc)?;
+        pump.make_coarse();
+        let mut output = Vec::new(alloc);
+        assert_eq!(rt; play(&mut pump, script, &mut output)?, None);
+        assert_eq!(rt; output.as_slice(), wanted.as_bytes());
+        assert_eq!(rt; pump.counts(), counts);
+    }
+    Ok(())
+}
+
 // A new pump over disks in memory; this call of low's disk fails.
 fn failing_pump(alloc: Global, fails: u64) -> Result<Option<Pump<MemDisk>>, Fail>
     ensures up { IfOk result (λ made. IfSome made (λ pump. is_down pump ≡ false)) }

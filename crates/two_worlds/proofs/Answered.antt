@@ -21,7 +21,7 @@ use Rattle.script_reader.specs.Openings.{Found, Openings, first_past}
 use Rattle.script_reader.specs.Restarts.{IsRestart, IsReceiverRestart}
 use Rattle.script_reader.specs.Steps.{joined, lost, IsCarriedBack, LineStep, Overfills}
 use Rattle.pump_core.specs.History.{Look}
-use Rattle.script_reader.specs.Scripts.{Running, Begun, Whole, Alone, GoesOn, Leads, LeadTo, Stops, StopsAfter, ComesTo}
+use Rattle.script_reader.specs.Scripts.{Running, Begun, Whole, Alone, GoesOn, made_coarse, Leads, LeadTo, Stops, StopsAfter, ComesTo}
 use Rattle.script_reader.proofs.Leading.{IsNew, led}
 use Rattle.two_worlds.specs.Answered.{HasAnswered, KeepsAnswers}
 use Rattle.two_worlds.proofs.Runs.Worlds.{world_after}
@@ -239,6 +239,7 @@ pub line_goes : (row : SessionRow) (p : Past) (line : Line) (q : Past) (printed 
 line_goes row p lines.Skip q printed h = absurd h
 line_goes row p (lines.Session other) q printed h = absurd h
 line_goes row p (lines.LowSession other next held) q printed h = absurd h
+line_goes row p (lines.Coarse session) q printed h = absurd h
 line_goes row p (lines.Told session m w fault told a) q printed h = absurd h
 line_goes row p (lines.Look session m w a) q printed (c, comes, (few, (f, i))) = both p (joined p c) q (same_past p (joined p c) refl refl) (low_look_goes row (joined p c) _ q printed i)
 line_goes row p (lines.Gone session m) q printed (f, i) = both p (lost p) q (same_past p (lost p) refl refl) (low_look_goes row (lost p) _ q printed i)
@@ -257,6 +258,7 @@ stopped_goes row p (lines.Done session m t) q printed end k size h = look_goes r
 stopped_goes row p lines.Skip q printed end k size h = absurd h
 stopped_goes row p (lines.Session other) q printed end k size h = absurd h
 stopped_goes row p (lines.LowSession other next held) q printed end k size h = absurd h
+stopped_goes row p (lines.Coarse session) q printed end k size h = absurd h
 stopped_goes row p (lines.Told session m w fault told a) q printed end k size h = absurd h
 stopped_goes row p (lines.Look session m w a) q printed end k size h = absurd h
 stopped_goes row p (lines.Gone session m) q printed end k size h = absurd h
@@ -290,6 +292,7 @@ leads_keeps o running line after printed h k =
     (λ skip e f. subst Keeps (sym e) k)
     (λ s none new e f. subst Keeps (sym e) (new_keeps o s new))
     (λ s some goes. goes_keeps s line after printed goes (subst Keeps some k))
+    (λ s session some is new made e f. subst Keeps (sym e) (new_keeps o (made_coarse s) made))
 
 pub lead_keeps : (o : Openings) (running : Option Begun) (script : List Line) (after : Option Begun) (printed : List Printed) → LeadTo o running script after printed → Keeps running → Keeps after
 lead_keeps o running [] after printed (e, f) k = subst Keeps (sym e) k

@@ -5,7 +5,7 @@ use Rattle.pump_frame.specs.declared.row.SessionRow.{SessionRow}
 use Rattle.low_process.specs.Looks.{is_down}
 use Rattle.script_reader.specs.declared.event.Event.{Event}
 use Rattle.script_reader.specs.declared.line.Line.{Line}
-use Rattle.script_reader.specs.Alone.{PastAlone, is_timely_alone, StepAlone, IsRefusedAlone}
+use Rattle.script_reader.specs.Alone.{PastAlone, is_apt_alone, StepAlone, IsRefusedAlone}
 use Rattle.two_worlds.specs.LowParts.{PartsStand, disk_of}
 use Rattle.two_worlds.specs.declared.applied.Stop.{Stop}
 use Rattle.two_worlds.specs.declared.applied.Stop.TheVariants as stops
@@ -32,12 +32,12 @@ low_faults_of pump = (disk_of pump.parts).faults
 -- be, and the disk failed in it.
 abbrev pub AppliesAlone : LowPump → LowPump → Line → PastAlone → List Event → Option Stop → Type 0
 AppliesAlone old new line p printed None =
-    (is_timely_alone (low_row_of old) p line ≡ true)
+    (is_apt_alone (low_row_of old) p line ≡ true)
     × ((q : PastAlone) × StepAlone (low_row_of old) p line false q printed × LowStandsFor new q)
 AppliesAlone old new line p printed (Some stops.Line) =
     IsRefusedAlone (low_row_of old) p line × (printed ≡ []) × (new ≡ old)
 AppliesAlone old new line p printed (Some (stops.Device roles.Low faults)) =
-    (is_timely_alone (low_row_of old) p line ≡ true)
+    (is_apt_alone (low_row_of old) p line ≡ true)
     × ((q : PastAlone) × StepAlone (low_row_of old) p line true q printed)
     × (low_is_down new ≡ true) × (faults ≡ low_faults_of new)
 AppliesAlone old new line p printed (Some (stops.Device roles.High faults)) = ⊥

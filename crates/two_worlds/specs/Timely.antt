@@ -17,6 +17,7 @@ abbrev pub is_timely_by : {D : Type 0} → Parts D → ScriptLine → Bool
 is_timely_by c lines.Skip = false
 is_timely_by c (lines.Session other) = false
 is_timely_by c (lines.LowSession other next held) = false
+is_timely_by c (lines.Coarse session) = false
 is_timely_by c (lines.Told session m w fault told a) = false
 is_timely_by c (lines.Look session m w a) = session == c.row.id && nat_le c.moment m
 is_timely_by c (lines.Gone session m) = session == c.row.id && nat_le c.moment m
@@ -34,6 +35,7 @@ abbrev pub opens_again : ScriptLine → Bool
 opens_again lines.Skip = false
 opens_again (lines.Session other) = false
 opens_again (lines.LowSession other next held) = false
+opens_again (lines.Coarse session) = false
 opens_again (lines.Told session m w fault told a) = false
 opens_again (lines.Look session m w a) = false
 opens_again (lines.Gone session m) = false

@@ -16,7 +16,7 @@ use Rattle.script_reader.specs.declared.event.Event.{Event}
 use Rattle.script_reader.specs.Lows.{first_of}
 use Rattle.script_reader.specs.Openings.{Openings}
 use Rattle.script_reader.specs.Alone.{PastAlone, fresh_alone, joined_alone, lost_alone, IsToldLook, StepAlone}
-use Rattle.script_reader.specs.Scripts.{RunningAlone, Begun, Whole, Alone, GoesAlone, GoesOn, Leads, LeadTo}
+use Rattle.script_reader.specs.Scripts.{RunningAlone, Begun, Whole, Alone, GoesAlone, GoesOn, made_coarse, Leads, LeadTo}
 use Rattle.script_reader.proofs.Leading.{IsNew, led}
 use Rattle.two_worlds.specs.Timelines.{arrived, AreLeft}
 use Rattle.two_worlds.specs.TimelinesAlone.{side_of, IsTimelineAlone, GoesOnAlone}
@@ -123,6 +123,7 @@ pub low_line_goes : (row : SessionRow) (p : PastAlone) (line : Line) (q : PastAl
 low_line_goes row p lines.Skip q printed events h i = absurd h
 low_line_goes row p (lines.Session other) q printed events h i = absurd h
 low_line_goes row p (lines.LowSession other next held) q printed events h i = absurd h
+low_line_goes row p (lines.Coarse session) q printed events h i = absurd h
 low_line_goes row p (lines.Look session m w a) q printed events h i = absurd h
 low_line_goes row p (lines.High session m) q printed events h i = absurd h
 low_line_goes row p (lines.Carry session back) q printed events h i = absurd h
@@ -170,6 +171,7 @@ leads_events o running after line printed h k =
     (λ skip same none. subst HasEvents (sym same) k)
     (λ s none new e printed_none. subst HasEvents (sym e) (new_events o s new))
     (λ s e goes. goes_on_events s line after printed goes (subst HasEvents e k))
+    (λ s session some is new made e printed_none. subst HasEvents (sym e) (new_events o (made_coarse s) made))
 
 pub script_events : (o : Openings) (running : Option Begun) (script : List Line) (after : Option Begun) (printed : List Event) → LeadTo o running script after printed → HasEvents running → HasEvents after
 script_events o running [] after printed (e, f) k = subst HasEvents (sym e) k

@@ -23,7 +23,7 @@ use Rattle.script_reader.specs.Highs.{IsHighLook, place}
 use Rattle.script_reader.specs.Lows.{IsLook}
 use Rattle.script_reader.specs.Steps as coming
 use Rattle.script_reader.specs.Steps.{bad_of, came, IsRead, Arrives as ArrivesWith, joined, lost, goes_on, is_timely, IsCarriedBack as CarriesOn, LineStep}
-use Rattle.script_reader.specs.Scripts.{Running, Begun, Whole as WholeSession, Alone, GoesWhole, GoesOn as GoesOn, Leads, LeadTo}
+use Rattle.script_reader.specs.Scripts.{Running, Begun, Whole as WholeSession, Alone, GoesWhole, GoesOn as GoesOn, made_coarse, Leads, LeadTo}
 use Rattle.script_reader.proofs.Leading.{IsNew, led}
 use Rattle.two_worlds.specs.Timelines.{arrived, IsTimeline, high_steps, return_steps, carry_steps, AreLookSteps, AreDoneSteps, AreSteps, RunGoesOn}
 use Rattle.two_worlds.proofs.Timeline.Looks.{HasMore, both, all_come, offered_look, lost_look}
@@ -102,6 +102,7 @@ pub line_goes : (row : SessionRow) (p : Past) (line : Line) (q : Past) (printed 
 line_goes row p lines.Skip q printed steps t timely h i = absurd h
 line_goes row p (lines.Session other) q printed steps t timely h i = absurd h
 line_goes row p (lines.LowSession other next held) q printed steps t timely h i = absurd h
+line_goes row p (lines.Coarse session) q printed steps t timely h i = absurd h
 line_goes row p (lines.Told session m w fault told a) q printed steps t timely h i = absurd h
 line_goes row p (lines.High session m) q printed steps t timely h i =
     goes_by row p (lines.High session m) steps q (high_steps m None p q) (high_look row p steps t m i (later session row.id p.moment m timely) false None q printed h) refl
@@ -171,6 +172,7 @@ leads_run o running after line printed h k =
     (λ skip same none. subst HasRun (sym same) k)
     (λ s none new e printed_none. subst HasRun (sym e) (new_run o s new))
     (λ s e goes. goes_on_run s line after printed goes (subst HasRun e k))
+    (λ s session some is new made e printed_none. subst HasRun (sym e) (new_run o (made_coarse s) made))
 
 pub script_runs : (o : Openings) (running : Option Begun) (script : List Line) (after : Option Begun) (printed : List Event) → LeadTo o running script after printed → HasRun running → HasRun after
 script_runs o running [] after printed (e, f) k = subst HasRun (sym e) k

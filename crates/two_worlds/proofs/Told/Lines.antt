@@ -22,7 +22,7 @@ use Rattle.script_reader.specs.declared.line.ToldFeedback.{ToldFeedback}
 use Rattle.script_reader.specs.declared.line.ToldFeedback.TheVariants.{Quiet}
 use Rattle.script_reader.specs.Lows.{first_of}
 use Rattle.script_reader.specs.Steps.{LineComing, Arrives}
-use Rattle.script_reader.specs.Alone.{PastAlone, IsToldAt, joined_alone, lost_alone, is_timely_alone, IsRefusedAlone, StepAlone}
+use Rattle.script_reader.specs.Alone.{PastAlone, IsToldAt, joined_alone, lost_alone, tells_level, is_apt_alone, IsRefusedAlone, StepAlone}
 use Rattle.two_worlds.specs.Connections.{Connected, waits_of, is_broken_of, reading_of, unused, joined, Joins}
 use Rattle.two_worlds.specs.LowParts.{PartsStand, StandsForSome, armed_if, EndsBy, Crowds, IsJoinedTold}
 use Rattle.two_worlds.specs.declared.applied.Stop.{Stop}
@@ -185,29 +185,33 @@ module _ (c : LowParts) (p : PastAlone) (was : PartsStand c p) where
   timely_is : (session m : ℕ) → (session == c.row.id && nat_le c.moment m) ≡ (session == c.row.id && nat_le p.moment m)
   timely_is session m = ap (λ (n : ℕ). session == c.row.id && nat_le n m) was.moment
 
-  names : (session m : ℕ) → (session == c.row.id && nat_le c.moment m) ≡ true → c.row.id ≡ session
-  names session m timely = sym (eqb-true session c.row.id (and_parts (session == c.row.id) (nat_le c.moment m) timely).0)
+  apt_is : (session m : ℕ) (told : ToldFeedback)
+      → (session == c.row.id && (nat_le c.moment m && tells_level c.row told)) ≡ (session == c.row.id && (nat_le p.moment m && tells_level c.row told))
+  apt_is session m told = ap (λ (n : ℕ). session == c.row.id && (nat_le n m && tells_level c.row told)) was.moment
+
+  names : (session : ℕ) (more : Bool) → (session == c.row.id && more) ≡ true → c.row.id ≡ session
+  names session more apt = sym (eqb-true session c.row.id (and_parts (session == c.row.id) more apt).0)
 
   module _ (session m w : ℕ) (fault : Bool) (told : ToldFeedback) (a : Arriving) (d : LowParts) (events : List Event) (stop : Option Stop)
-      (timely : (session == c.row.id && nat_le c.moment m) ≡ true) where
+      (apt : (session == c.row.id && (nat_le c.moment m && tells_level c.row told)) ≡ true) where
     abbrev told_line : Line
     told_line = lines.Told session m w fault told a
 
     pub applies_told : EndsBy (Crowds c.row fault a p) (IsJoinedTold c.row m w fault told a p) c d events stop
-        → EndsBy (IsRefusedAlone c.row p told_line) (λ is_fault q printed. (is_timely_alone c.row p told_line ≡ true) × StepAlone c.row p told_line is_fault q printed) c d events stop
+        → EndsBy (IsRefusedAlone c.row p told_line) (λ is_fault q printed. (is_apt_alone c.row p told_line ≡ true) × StepAlone c.row p told_line is_fault q printed) c d events stop
     applies_told h =
         ends_as (Crowds c.row fault a p) (IsRefusedAlone c.row p told_line) (IsJoinedTold c.row m w fault told a p)
-        (λ is_fault q printed. (is_timely_alone c.row p told_line ≡ true) × StepAlone c.row p told_line is_fault q printed) c d events stop
-        (λ crowds. inr (crowds.0, subst (λ (n : ℕ). Arrives n p.reading a crowds.0) (names session m timely) crowds.1, crowds.2))
-        (λ is_fault q printed look. (sym (timely_is session m) ∙ timely, (look.0, subst (λ (n : ℕ). Arrives n p.reading a look.0) (names session m timely) look.1, look.2))) h
+        (λ is_fault q printed. (is_apt_alone c.row p told_line ≡ true) × StepAlone c.row p told_line is_fault q printed) c d events stop
+        (λ crowds. inr (crowds.0, subst (λ (n : ℕ). Arrives n p.reading a crowds.0) (names session (nat_le c.moment m && tells_level c.row told) apt) crowds.1, crowds.2))
+        (λ is_fault q printed look. (sym (apt_is session m told) ∙ apt, (look.0, subst (λ (n : ℕ). Arrives n p.reading a look.0) (names session (nat_le c.moment m && tells_level c.row told) apt) look.1, look.2))) h
 
   module _ (session m : ℕ) (d : LowParts) (events : List Event) (stop : Option Stop) (timely : (session == c.row.id && nat_le c.moment m) ≡ true) where
     abbrev gone_line : Line
     gone_line = lines.Gone session m
 
     pub applies_gone : EndsBy ⊥ (λ is_fault q printed. IsToldAt c.row (lost_alone p) m 0 Quiet Gone is_fault q printed) c d events stop
-        → EndsBy (IsRefusedAlone c.row p gone_line) (λ is_fault q printed. (is_timely_alone c.row p gone_line ≡ true) × StepAlone c.row p gone_line is_fault q printed) c d events stop
+        → EndsBy (IsRefusedAlone c.row p gone_line) (λ is_fault q printed. (is_apt_alone c.row p gone_line ≡ true) × StepAlone c.row p gone_line is_fault q printed) c d events stop
     applies_gone h =
         ends_after (IsRefusedAlone c.row p gone_line) (λ is_fault q printed. IsToldAt c.row (lost_alone p) m 0 Quiet Gone is_fault q printed)
-        (λ is_fault q printed. (is_timely_alone c.row p gone_line ≡ true) × StepAlone c.row p gone_line is_fault q printed) c c d events stop
+        (λ is_fault q printed. (is_apt_alone c.row p gone_line ≡ true) × StepAlone c.row p gone_line is_fault q printed) c c d events stop
         (λ is_fault q printed look. (sym (timely_is session m) ∙ timely, look)) h

@@ -7,7 +7,7 @@ use Rattle.disk_model.specs.declared.name.Role.TheVariants as roles
 use Rattle.low_process.specs.Looks.{is_down}
 use Rattle.script_reader.specs.declared.event.Event.{Event}
 use Rattle.script_reader.specs.declared.line.Line.{Line}
-use Rattle.script_reader.specs.Alone.{PastAlone, is_timely_alone, IsRefusedAlone, StepAlone}
+use Rattle.script_reader.specs.Alone.{PastAlone, is_apt_alone, IsRefusedAlone, StepAlone}
 use Rattle.two_worlds.specs.LowParts.{PartsStand, StandsForSome, EndsBy, Ends}
 use Rattle.two_worlds.specs.LowPumps.{low_row_of, AppliesAlone, stops_at_disk}
 use Rattle.two_worlds.specs.declared.applied.Stop.{Stop}
@@ -29,7 +29,7 @@ same_pump old new same =
     (λ h. (λ i. record { parts = old.parts; stands = holds_prop old.parts h old.stands i })) (sym same) new.stands
 
 pub applies_low : (old new : LowPump) (line : Line) (p : PastAlone) (printed : List Event) (stop : Option Stop)
-    → EndsBy (IsRefusedAlone (low_row_of old) p line) (λ is_fault q printed. (is_timely_alone (low_row_of old) p line ≡ true) × StepAlone (low_row_of old) p line is_fault q printed) old.parts new.parts printed stop
+    → EndsBy (IsRefusedAlone (low_row_of old) p line) (λ is_fault q printed. (is_apt_alone (low_row_of old) p line ≡ true) × StepAlone (low_row_of old) p line is_fault q printed) old.parts new.parts printed stop
     → AppliesAlone old new line p printed stop
 applies_low old new line p printed None h = (h.1.0, (h.0, h.1.1, h.2))
 applies_low old new line p printed (Some stops.Line) h = (h.0, h.1, same_pump old new h.2)

@@ -7,7 +7,8 @@ ghost use Rattle.stable_buffer.specs.Stands.{low_size};
 ghost use Rattle.stable_buffer.specs.Low.{IsLowReady, low_disk, low_count, low_row};
 ghost use Rattle.pump_frame.specs.Rows.{IsLawfulRow};
 ghost use Rattle.low_process.specs.Looks.{IsHand};
-ghost use Rattle.script_reader.specs.Alone.{told_of_read};
+ghost use Rattle.script_reader.specs.Alone.{told_of_read, tells_level};
+ghost use Rattle.script_reader.specs.Lawful.{IsLawfulFeedback};
 ghost use Rattle.two_worlds.specs.LowParts.{armed_if, answer_of};
 
 use crate::applied::Stop;
@@ -16,7 +17,7 @@ use crate::low_side::end_look;
 use arrayvec::ArrayVec;
 use disk_model::{PlainDisk, Role};
 use low_process::{Answer, Arrival, AskHead, LookHead, LowProcess};
-use moving_avg::down;
+use moving_avg::{down, is_level};
 use pump_core::Seen;
 use pump_frame::{Item, OutOfMemory, Payload, SessionRow};
 use script_reader::{ArrivingHead, EventHead, LineHead, ToldFeedback};
@@ -105,17 +106,28 @@ fn times_read(row: &SessionRow, told: ToldFeedback) -> Seen
     }
 }
 
+/// A coarse session is told no average but a level.
+fn tells_level(row: &SessionRow, told: ToldFeedback) -> bool
+    requires { IsLawfulFeedback told }
+    ensures { result ≡ tells_level row.now told }
+{
+    match told {
+        ToldFeedback::Quiet | ToldFeedback::Full => true,
+        ToldFeedback::Pair { average, .. } => !row.coarse || is_level(average),
+    }
+}
+
 impl LowParts {
     ghost use Rattle.pump_core.specs.History.{Gone};
     ghost use Rattle.low_process.specs.Looks.{row_of, is_down};
     ghost use Rattle.low_process.specs.Heads.{ask_with, look_with};
     ghost use Rattle.script_reader.specs.declared.event.Event.TheVariants.{End};
     ghost use Rattle.script_reader.specs.declared.line.ToldFeedback.TheVariants.{Quiet};
-    ghost use Rattle.script_reader.specs.Lawful.{IsLawfulArriving, IsLawfulFeedback, IsLawfulLine};
+    ghost use Rattle.script_reader.specs.Lawful.{IsLawfulArriving, IsLawfulLine};
     ghost use Rattle.script_reader.specs.Heads.{arriving_with, line_with, CanHold, CanHoldLine};
     ghost use Rattle.script_reader.specs.Lows.{first_of};
     ghost use Rattle.script_reader.specs.Scripts.{IsEndAlone};
-    ghost use Rattle.script_reader.specs.Alone.{PastAlone, fresh_alone, lost_alone, is_timely_alone, IsRefusedAlone, StepAlone, IsToldAt};
+    ghost use Rattle.script_reader.specs.Alone.{PastAlone, fresh_alone, lost_alone, is_apt_alone, IsRefusedAlone, StepAlone, IsToldAt};
     ghost use Rattle.two_worlds.specs.LowParts.{PartsStand, StandsForSome, HasAsked, AnsweredBy, Ends, NeverBars, Crowds, IsJoinedTold};
     ghost use Rattle.two_worlds.specs.Printing.{lines_in};
 
@@ -169,6 +181,14 @@ impl LowParts {
         ensures { result ≡ (session == self.now.row.id && nat_le self.now.moment moment) }
     {
         session == self.row.id && self.moment <= moment
+    }
+
+    /// The same of a `told` line, and a coarse session is told no average but a level.
+    fn is_apt(&self, session: u32, moment: u64, told: ToldFeedback) -> bool
+        requires told { IsLawfulFeedback told }
+        ensures { result ≡ (session == self.now.row.id && (nat_le self.now.moment moment && tells_level self.now.row told)) }
+    {
+        self.is_timely(session, moment) && tells_level(&self.row, told)
     }
 
     /// The rest of a look, which is answered by what was told.
@@ -294,7 +314,7 @@ impl LowParts {
         requires room { CanHoldLine line.now bytes.now }
         requires stands { ∥ StandsForSome self.old ∥₁ }
         ensures ends { Ends self.old self.new (λ p. IsRefusedAlone self.old.row p (line_with bytes.now line.now))
-            (λ p is_fault q printed. (is_timely_alone self.old.row p (line_with bytes.now line.now) ≡ true)
+            (λ p is_fault q printed. (is_apt_alone self.old.row p (line_with bytes.now line.now) ≡ true)
             × StepAlone self.old.row p (line_with bytes.now line.now) is_fault q printed) (lines_in out.new.items) result }
         ensures row { self.new.row ≡ self.old.row }
     {
@@ -308,7 +328,7 @@ impl LowParts {
                 feedback,
                 arrival,
             } => {
-                if !self.is_timely(*session, *moment) {
+                if !self.is_apt(*session, *moment, *feedback) {
                     return Some(Stop::Line);
                 }
                 self.told(*moment, *word, *fault, *feedback, arrival, bytes, out)

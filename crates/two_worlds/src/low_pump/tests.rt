@@ -50,6 +50,10 @@ fn run(
         let Some(line) = read_line(text.as_bytes()) else {
             return Err(Fail::new("no line"));
         };
+        if matches!(line, Line::Coarse { .. }) {
+            pump.make_coarse();
+            continue;
+        }
         let applied = pump.apply(&line);
         print_all(applied.events.as_slice(), printed)?;
         if applied.stop.is_some() {
@@ -199,5 +203,45 @@ fn other_lines_are_barred(rt: HostRuntime) -> Result<(), Fail> {
             "at {line}"
         );
     }
+    Ok(())
+}
+
+#[test]
+fn a_coarse_session_is_told_levels(rt: HostRuntime) -> Result<(), Fail> {
+    let alloc = rt.alloc();
+    for (told, wanted, stop) in [
+        ("told 1 10 00000000 fine 0/20000", "", Some(Stop::Line)),
+        (
+            "told 1 10 00000000 fine 0/32768",
+            "released 1 10\nend 1 1 - -\n",
+            None,
+        ),
+    ] {
+        assert!(rt;
+            prints(alloc, HELD, &["coarse 1", told], &[wanted], stop)?,
+            "at {told}"
+        );
+    }
+    // A repeat that is told nothing reads the level of the start.
+    assert!(rt;
+        prints(
+            alloc,
+            EMPTY,
+            &[
+                "coarse 1",
+                HELLO,
+                "told 1 20 00000000 fine - data 0 61",
+                "told 1 20 00000000 fine 0/32768",
+                "told 1 148 00000000 fine -",
+                "told 1 200 00000000 fine - data 0 61",
+            ],
+            &[
+                WELCOME,
+                "stored 1 20 0\npassed 1 20 0 32768\nlow 1 148 ack 0\n",
+                "repeat 1 200 0 32768\nend 1 1 - -\n",
+            ],
+            None,
+        )?
+    );
     Ok(())
 }

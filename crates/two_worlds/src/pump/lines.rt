@@ -46,6 +46,7 @@ impl<D: Disk> Parts<D> {
             LineHead::Skip
             | LineHead::Session(_)
             | LineHead::LowSession { .. }
+            | LineHead::Coarse { .. }
             | LineHead::Told { .. } => false,
             LineHead::Look {
                 session,
@@ -202,6 +203,7 @@ impl<D: Disk> Parts<D> {
             LineHead::Skip
             | LineHead::Session(_)
             | LineHead::LowSession { .. }
+            | LineHead::Coarse { .. }
             | LineHead::Told { .. }
             | LineHead::Restart { .. }
             | LineHead::ReceiverRestart { .. } => { Err(Stop::Line) }

@@ -94,8 +94,10 @@ fn answer_to_offer(told: ToldFeedback) -> Answer
 
 /// What a read of High's times gives.
 fn times_read(row: &SessionRow, told: ToldFeedback) -> Seen
-    requires { IsLawfulRow row.now }
-    ensures { result ≡ told_of_read row.now told }
+    requires row { IsLawfulRow row.now }
+    requires told { IsLawfulFeedback told }
+    ensures value { result ≡ told_of_read row.now told }
+    ensures bound { result.average ≤ 10 ^ 9 }
 {
     match told {
         ToldFeedback::Quiet | ToldFeedback::Full => Seen {

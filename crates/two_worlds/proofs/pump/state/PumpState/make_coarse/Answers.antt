@@ -2,7 +2,7 @@ use Rattle.std.proofs.Common.{sym, ap, ◌∙◌, subst}
 use Rattle.two_worlds.specs.declared.pump.state.PumpState.{PumpState}
 use Rattle.two_worlds.specs.States.{coarse_disks, disks_in, is_down_in, kept_moment_in, IsOpenWith, StandsIn}
 use Rattle.two_worlds.specs.Working.{IsAble}
-use Rattle.two_worlds.proofs.pump.coarse.PumpState.make_coarse.Goals as goal
+use Rattle.two_worlds.proofs.pump.state.PumpState.make_coarse.Goals as goal
 
 pub returns-in-Open-clause-disks : goal.returns-in-Open-clause-disks
 returns-in-Open-clause-disks g c = c.make_coarse.ensures.disks ∙ ap (λ (x : PumpState _). coarse_disks (disks_in x)) (sym c.in-Open.is)

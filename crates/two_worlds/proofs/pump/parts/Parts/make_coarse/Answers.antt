@@ -3,7 +3,7 @@ use Rattle.two_worlds.specs.declared.pump.parts.Parts.{Parts}
 use Rattle.two_worlds.specs.Standing.{Stands, bare_of, is_down}
 use Rattle.two_worlds.specs.Working.{IsAble}
 use Rattle.two_worlds.proofs.Coarse.{parts_are, coarse_able, coarse_stands}
-use Rattle.two_worlds.proofs.pump.coarse.Parts.make_coarse.Goals as goal
+use Rattle.two_worlds.proofs.pump.parts.Parts.make_coarse.Goals as goal
 
 pub returns-clause-disks : goal.returns-clause-disks
 returns-clause-disks g c =

@@ -18,7 +18,7 @@ use Rattle.script_reader.specs.Openings.{Openings}
 use Rattle.script_reader.specs.Restarts.{IsReceiverRestart}
 use Rattle.script_reader.specs.Steps.{IsCarriedBack, LineStep}
 use Rattle.script_reader.specs.Alone.{PastAlone}
-use Rattle.script_reader.specs.Scripts.{Begun, Whole, Alone, GoesOn, Leads, LeadTo}
+use Rattle.script_reader.specs.Scripts.{Begun, Whole, Alone, GoesOn, made_coarse, Leads, LeadTo}
 use Rattle.script_reader.specs.Readouts.{KeepsBounds}
 use Rattle.script_reader.proofs.Opened.{opened_lawful}
 use Rattle.script_reader.proofs.Leading.{IsNew, led}
@@ -117,6 +117,7 @@ step_lawful : (n : ℕ) (s : SessionRow) (p : Past) (line : Line) (q : Past) (pr
 step_lawful n s p lines.Skip q printed l h = absurd h
 step_lawful n s p (lines.Session row) q printed l h = absurd h
 step_lawful n s p (lines.LowSession row next held) q printed l h = absurd h
+step_lawful n s p (lines.Coarse session) q printed l h = absurd h
 step_lawful n s p (lines.Told session m w fault told a) q printed l h = absurd h
 step_lawful n s p (lines.Look session m w a) q printed l (c, comes, (few, (f, i))) = stays_by n p.world _ q.world l i.world
 step_lawful n s p (lines.Gone session m) q printed l (f, i) = stays_by n p.world _ q.world l i.world
@@ -150,6 +151,7 @@ leads_so o running line after printed h k =
     (λ skip e f. subst Holds (sym e) k)
     (λ s none new e f. subst Holds (sym e) (begins_so o s new))
     (λ s some goes. goes_so s line after printed goes (subst Holds some k))
+    (λ s session some is new again e f. subst Holds (sym e) (begins_so o (made_coarse s) again))
 
 pub lead_so : (o : Openings) (running : Option Begun) (script : List Line) (after : Option Begun) (printed : List Event) → LeadTo o running script after printed → Holds running → Holds after
 lead_so o running [] after printed (e, f) k = subst Holds (sym e) k

@@ -8,7 +8,7 @@ use Rattle.script_reader.specs.declared.fault.Fault.{Fault}
 use Rattle.script_reader.specs.declared.event.Event.{Event}
 use Rattle.script_reader.specs.Openings.{Openings}
 use Rattle.script_reader.specs.Scripts.{Begun, Leads, Stops, Ends}
-use Rattle.script_reader.specs.Sessions.{session_in, begins_session, moment_in, moment_of, session_at, with_session, Sessions, no_sessions, led_to, is_from, is_in_turn, LeadsOne, ScriptLeads, StopsOne, ScriptStops, ScriptLeadsTo, AllEnd, IsScriptTranscript, ScriptStopsAfter, ScriptComesTo, is_number, lines_of, event_session, events_of}
+use Rattle.script_reader.specs.Sessions.{session_in, begins_session, stands_first, moment_in, moment_of, session_at, with_session, Sessions, no_sessions, led_to, is_from, is_in_turn, LeadsOne, ScriptLeads, StopsOne, ScriptStops, ScriptLeadsTo, AllEnd, IsScriptTranscript, ScriptStopsAfter, ScriptComesTo, is_number, lines_of, event_session, events_of}
 use Rattle.script_reader.proofs.Beside.{Own, Other, beside, own_line, other_line, own_end, rises}
 use Rattle.script_reader.proofs.BesideStop.{OwnStop, stop_by}
 use Rattle.script_reader.proofs.Apart.{found_number, session_at-alone, with_alone}
@@ -30,12 +30,13 @@ from_less a b (Some m) less h = le-leb a m (let after = leb-true b m h in omega 
 -- a line in its turn is so without the lines of others
 turn_alone : (number : ℕ) (t v : Sessions) (line : Line) → IsAlone number t v → is_in_turn t line ≡ true → is_in_turn v line ≡ true
 turn_alone number t v line a =
-    elim (begins_session line) as (λ b. (if b then (not t.is_under_way && nat_lt (length t.begun) 16) else is_from t.moment (moment_in line)) ≡ true
-    → (if b then (not v.is_under_way && nat_lt (length v.begun) 16) else is_from v.moment (moment_in line)) ≡ true) [
+    let begins = not (begins_session line) in
+    elim (stands_first line) as (λ b. (if b then (not t.is_under_way && (begins || nat_lt (length t.begun) 16)) else is_from t.moment (moment_in line)) ≡ true
+    → (if b then (not v.is_under_way && (begins || nat_lt (length v.begun) 16)) else is_from v.moment (moment_in line)) ≡ true) [
       | true ↦ λ h.
           let still = not-true t.is_under_way (and_parts (not t.is_under_way) _ h).0 in
           and_from (not v.is_under_way) _ (not_from_false v.is_under_way (false_from_ne_true v.is_under_way (λ e. let way = a.under_way e in cc)))
-          (lt-ltb (length v.begun) 16 (rw a.begun (few (session_at number t.begun))))
+          (or_right begins _ (lt-ltb (length v.begun) 16 (rw a.begun (few (session_at number t.begun)))))
       | false ↦ λ h. from_less v.moment t.moment (moment_in line) a.moment h
     ]
 
@@ -61,7 +62,7 @@ still_alone o number t v line u printed a x = record {
       ∙ with_alone x.session (session_at number t.begun) (λ r e. found_number number t.begun r e ∙ sym x.numbered)
       ∙ ap option_to_list (sym x.found);
   moment = subst (λ (w : Sessions). max v.moment (moment_of x.session) ≤ w.moment) (sym x.led) (max_less v.moment t.moment (moment_of x.session) a.moment);
-  under_way = λ e. ap (λ (w : Sessions). w.is_under_way) x.led ∙ under_either v.is_under_way t.is_under_way (not (begins_session line)) a.under_way e;
+  under_way = λ e. ap (λ (w : Sessions). w.is_under_way) x.led ∙ under_either v.is_under_way t.is_under_way (not (stands_first line)) a.under_way e;
 }
 
 -- what no line takes back

@@ -6,7 +6,7 @@ use Rattle.script_reader.specs.declared.line.Line.{Line}
 use Rattle.script_reader.specs.declared.line.Line.TheVariants as lines
 use Rattle.script_reader.specs.declared.event.Event.{Event}
 use Rattle.script_reader.specs.Openings.{Openings}
-use Rattle.script_reader.specs.Scripts.{RunningAlone, Begun, Alone, GoesAlone, Leads, LeadTo, IsTranscript}
+use Rattle.script_reader.specs.Scripts.{RunningAlone, Begun, Alone, GoesAlone, coarsened, Leads, LeadTo, IsTranscript}
 use Rattle.script_reader.specs.Sides.{is_lows, low_side_of}
 use Rattle.script_reader.proofs.OneScript.{transcript_one}
 
@@ -19,6 +19,7 @@ left_alone : (o : Openings) (s : RunningAlone) (line : Line) (after : Option Beg
 left_alone o s lines.Skip after printed own h = record { same = h.0; silent = h.1 }
 left_alone o s (lines.Session row) after printed own h = absurd (cc)
 left_alone o s (lines.LowSession row next held) after printed own h = absurd (cc)
+left_alone o s (lines.Coarse session) after printed own h = absurd (cc)
 left_alone o s (lines.Look session m w z) after printed own h = absurd (cc)
 left_alone o s (lines.Told session m w fault told z) after printed own h = absurd (cc)
 left_alone o s (lines.Gone session m) after printed own h = absurd (cc)
@@ -41,6 +42,7 @@ stays_alone : (o : Openings) (s : RunningAlone) (line : Line) (after : Option Be
 stays_alone o s lines.Skip after printed h = record { session = s; is = h.0 }
 stays_alone o s (lines.Session row) after printed h = goes_alone s (lines.Session row) after printed h
 stays_alone o s (lines.LowSession row next held) after printed h = goes_alone s (lines.LowSession row next held) after printed h
+stays_alone o s (lines.Coarse session) after printed h = record { session = record { row = coarsened s.row; past = s.past }; is = h.0.2 }
 stays_alone o s (lines.Look session m w z) after printed h = goes_alone s (lines.Look session m w z) after printed h
 stays_alone o s (lines.Told session m w fault told z) after printed h = goes_alone s (lines.Told session m w fault told z) after printed h
 stays_alone o s (lines.Gone session m) after printed h = goes_alone s (lines.Gone session m) after printed h
@@ -51,11 +53,12 @@ stays_alone o s (lines.Done session m t) after printed h = goes_alone s (lines.D
 stays_alone o s (lines.Restart session m) after printed h = goes_alone s (lines.Restart session m) after printed h
 stays_alone o s (lines.ReceiverRestart session m) after printed h = goes_alone s (lines.ReceiverRestart session m) after printed h
 
--- what was found plays no part in a session that is begun
-pub leads_any : (o p : Openings) (s : Begun) (line : Line) (after : Option Begun) (printed : List Event) → Leads o (Some s) line after printed → Leads p (Some s) line after printed
+-- what was found plays no part in one that is begun
+pub leads_any : (o p : Openings) (s : RunningAlone) (line : Line) (after : Option Begun) (printed : List Event) → Leads o (Some (Alone s)) line after printed → Leads p (Some (Alone s)) line after printed
 leads_any o p s lines.Skip after printed h = h
 leads_any o p s (lines.Session row) after printed h = h
 leads_any o p s (lines.LowSession row next held) after printed h = h
+leads_any o p s (lines.Coarse session) after printed h = h
 leads_any o p s (lines.Look session m w z) after printed h = h
 leads_any o p s (lines.Told session m w fault told z) after printed h = h
 leads_any o p s (lines.Gone session m) after printed h = h
@@ -74,7 +77,7 @@ alone_leads o p s (line ∷ script) after printed (mid, first, second, h, later,
       | true ↦ λ own.
           let t = stays_alone o s line mid first h in
           let rest = alone_leads o p t.session script after second (subst (λ r. LeadTo o r script after second) t.is later) in
-          (mid, first, second, leads_any o p (Alone s) line mid first h, subst (λ r. LeadTo p r (low_side_of script) after second) (sym t.is) rest, e)
+          (mid, first, second, leads_any o p s line mid first h, subst (λ r. LeadTo p r (low_side_of script) after second) (sym t.is) rest, e)
       | false ↦ λ own.
           let n = left_alone o s line mid first own h in
           let here = subst (λ r. LeadTo o r script after second) n.same later in
@@ -92,6 +95,7 @@ begun_alone o p (lines.LowSession row next held ∷ script) after printed row' n
     let there = alone_leads o p _ script after second (subst (λ r. LeadTo o r script after second) h.0.1 later) in
     (mid, first, second, h, subst (λ r. LeadTo p r (low_side_of script) after second) (sym h.0.1) there, e)
 begun_alone o p (lines.Session row ∷ script) after printed row' next held rest is h = absurd (cc)
+begun_alone o p (lines.Coarse session ∷ script) after printed row next held rest is (mid, first, second, h, later, e) = absurd h
 begun_alone o p (lines.Look session m w z ∷ script) after printed row next held rest is (mid, first, second, h, later, e) = absurd h
 begun_alone o p (lines.Told session m w fault told z ∷ script) after printed row next held rest is (mid, first, second, h, later, e) = absurd h
 begun_alone o p (lines.Gone session m ∷ script) after printed row next held rest is (mid, first, second, h, later, e) = absurd h

@@ -96,6 +96,7 @@ pub step_aside : (s : SessionRow) (p : Past) (line : Line) (q : Past) (printed :
 step_aside s p lines.Skip q printed e h = absurd h
 step_aside s p (lines.Session row) q printed e h = absurd h
 step_aside s p (lines.LowSession row next held) q printed e h = absurd h
+step_aside s p (lines.Coarse session) q printed e h = absurd h
 step_aside s p (lines.Told session m w fault told a) q printed e h = absurd h
 step_aside s p (lines.Look session m w a) q printed e h = absurd (cc)
 step_aside s p (lines.Gone session m) q printed e h = absurd (cc)

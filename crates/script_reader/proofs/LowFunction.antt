@@ -27,7 +27,7 @@ use Rattle.script_reader.specs.Restarts.{IsRestart}
 use Rattle.script_reader.specs.Lows.{first_of, IsLook}
 use Rattle.script_reader.specs.Alone.{PastAlone, IsToldLook, StepAlone}
 use Rattle.script_reader.specs.Steps.{LineComing, Arrives, joined, lost, LineStep, Overfills}
-use Rattle.script_reader.specs.Scripts.{Running, RunningAlone, Begun, Whole, Alone, GoesWhole, GoesOn, Leads, LeadTo, Stops, ComesTo, Ends, IsTranscript}
+use Rattle.script_reader.specs.Scripts.{Running, RunningAlone, Begun, Whole, Alone, GoesWhole, coarsened, Leads, LeadTo, Stops, ComesTo, Ends, IsTranscript}
 use Rattle.script_reader.specs.Readouts.{low_lines}
 use Rattle.script_reader.specs.Sides.{is_lows, low_side_of, told_to_low, full_moments, averages, restarts_in, look_moment, HaveOwnMoments, OpensAlike, OpenAlike}
 use Rattle.script_reader.proofs.One.{arrives_one}
@@ -116,6 +116,7 @@ step_alike row p q (lines.Gone session m) p' q' xs ys own alike h k decide =
 step_alike row p q lines.Skip p' q' xs ys own alike h k decide = absurd h
 step_alike row p q (lines.Session other) p' q' xs ys own alike h k decide = absurd h
 step_alike row p q (lines.LowSession other next held) p' q' xs ys own alike h k decide = absurd h
+step_alike row p q (lines.Coarse session) p' q' xs ys own alike h k decide = absurd h
 step_alike row p q (lines.Told session m w fault told z) p' q' xs ys own alike h k decide = absurd h
 step_alike row p q (lines.High session m) p' q' xs ys own alike h k decide = absurd (cc)
 step_alike row p q (lines.Carry session back) p' q' xs ys own alike h k decide = absurd (cc)
@@ -162,6 +163,7 @@ leads_aside o running line after printed own h = by running line own h
     by (Some s) lines.Skip own h = record { same = sym (ap lows h.0); said = ap said_to_low h.1 }
     by running (lines.Session row) own h = absurd (cc)
     by running (lines.LowSession row next held) own h = absurd (cc)
+    by running (lines.Coarse session) own h = absurd (cc)
     by running (lines.Look session m w z) own h = absurd (cc)
     by running (lines.Told session m w fault told z) own h = absurd (cc)
     by running (lines.Gone session m) own h = absurd (cc)
@@ -260,6 +262,7 @@ unsaid : (o : Openings) (r : Option Begun) (line : Line) (s : Option Begun) (pri
     → Leads o r line s printed → ((k : ℕ) → look_moment line ≡ Some k → m ≢ k) → IsUnsaid m (said_to_low printed)
 unsaid o None (lines.Session row) s printed m own h off = unsaid_none m printed h.1
 unsaid o None (lines.LowSession row next held) s printed m own h off = unsaid_none m printed h.1
+unsaid o None (lines.Coarse session) s printed m own h off = absurd h
 unsaid o None (lines.Look session k w z) s printed m own h off = absurd h
 unsaid o None (lines.Told session k w fault told z) s printed m own h off = absurd h
 unsaid o None (lines.Gone session k) s printed m own h off = absurd h
@@ -268,11 +271,13 @@ unsaid o (Some (Whole t)) (lines.Gone session k) s printed m own (timely, (q, (f
 unsaid o (Some (Whole t)) (lines.Told session k w fault told z) s printed m own h off = absurd (h.1.1)
 unsaid o (Some (Whole t)) (lines.Session row) s printed m own h off = absurd (h.1.1)
 unsaid o (Some (Whole t)) (lines.LowSession row next held) s printed m own h off = absurd (h.1.1)
+unsaid o (Some (Whole t)) (lines.Coarse session) s printed m own h off = unsaid_none m printed h.1
 unsaid o (Some (Alone t)) (lines.Told session k w fault told z) s printed m own (timely, (q, (c, comes, (few, (f, i))), e)) off = unsaid_told t.row _ told _ q printed m i (off k refl)
 unsaid o (Some (Alone t)) (lines.Gone session k) s printed m own (timely, (q, (f, i), e)) off = unsaid_told t.row _ _ _ q printed m i (off k refl)
 unsaid o (Some (Alone t)) (lines.Look session k w z) s printed m own h off = absurd (h.1.1)
 unsaid o (Some (Alone t)) (lines.Session row) s printed m own h off = absurd (h.1.1)
 unsaid o (Some (Alone t)) (lines.LowSession row next held) s printed m own h off = absurd (h.1.1)
+unsaid o (Some (Alone t)) (lines.Coarse session) s printed m own h off = unsaid_none m printed h.1
 unsaid o r lines.Skip s printed m own h off = absurd (cc)
 unsaid o r (lines.High session k) s printed m own h off = absurd (cc)
 unsaid o r (lines.Carry session back) s printed m own h off = absurd (cc)
@@ -288,6 +293,7 @@ own_fits : (row : SessionRow) (p : Past) (line : Line) (q : Past) (printed : Lis
 own_fits row p lines.Skip q printed end n size own h = absurd h
 own_fits row p (lines.Session other) q printed end n size own h = absurd h
 own_fits row p (lines.LowSession other next held) q printed end n size own h = absurd h
+own_fits row p (lines.Coarse session) q printed end n size own h = absurd h
 own_fits row p (lines.Look session m w z) q printed end n size own h = absurd h
 own_fits row p (lines.Told session m w fault told z) q printed end n size own h = absurd h
 own_fits row p (lines.Gone session m) q printed end n size own h = absurd h
@@ -304,6 +310,7 @@ unsaid_step s (lines.Gone session k) q printed m (f, i) off = unsaid_told s.row 
 unsaid_step s lines.Skip q printed m h off = absurd h
 unsaid_step s (lines.Session row) q printed m h off = absurd h
 unsaid_step s (lines.LowSession row next held) q printed m h off = absurd h
+unsaid_step s (lines.Coarse session) q printed m h off = absurd h
 unsaid_step s (lines.Look session k w z) q printed m h off = absurd h
 unsaid_step s (lines.High session k) q printed m h off = absurd h
 unsaid_step s (lines.Carry session back) q printed m h off = absurd h
@@ -348,11 +355,11 @@ record Both (m n : Lows) (xs ys : List Event) : Type 0 where
   alike : AlikeFor m n
   said : said_to_low xs ≡ said_to_low ys
 
--- a line in one session that is begun
-one_session : (o p : Openings) (s : Begun) (t : Option Begun) (r' s' : Option Begun) (line : Line) (xs ys : List Event) → Some s ≡ t
-    → Leads o (Some s) line r' xs → Leads p t line s' ys → Both (lows r') (lows s') xs ys
+-- a line in one low side alone that is begun
+one_session : (o p : Openings) (s : RunningAlone) (t : Option Begun) (r' s' : Option Begun) (line : Line) (xs ys : List Event) → Some (Alone s) ≡ t
+    → Leads o (Some (Alone s)) line r' xs → Leads p t line s' ys → Both (lows r') (lows s') xs ys
 one_session o p s t r' s' line xs ys same h k =
-    let one = leads_one o (Some s) line r' s' xs ys h (leads_any p o s line s' ys (subst (λ t. Leads p t line s' ys) (sym same) k)) in
+    let one = leads_one o (Some (Alone s)) line r' s' xs ys h (leads_any p o s line s' ys (subst (λ t. Leads p t line s' ys) (sym same) k)) in
     record { alike = subst (λ t. AlikeFor (lows r') (lows t)) one.after (self (lows r')); said = ap said_to_low one.printed }
 
 -- a line that begins a session
@@ -375,6 +382,7 @@ begins_alike o p r' s' (lines.LowSession row next held) xs ys own opens h k = re
   said = ap said_to_low (h.1 ∙ sym k.1);
 }
 begins_alike o p r' s' lines.Skip xs ys own opens h k = absurd (cc)
+begins_alike o p r' s' (lines.Coarse session) xs ys own opens h k = absurd h
 begins_alike o p r' s' (lines.Look session m w z) xs ys own opens h k = absurd h
 begins_alike o p r' s' (lines.Told session m w fault told z) xs ys own opens h k = absurd h
 begins_alike o p r' s' (lines.Gone session m) xs ys own opens h k = absurd h
@@ -384,20 +392,6 @@ begins_alike o p r' s' (lines.Return session m back) xs ys own opens h k = absur
 begins_alike o p r' s' (lines.Done session m t) xs ys own opens h k = absurd h
 begins_alike o p r' s' (lines.Restart session m) xs ys own opens h k = absurd h
 begins_alike o p r' s' (lines.ReceiverRestart session m) xs ys own opens h k = absurd h
-
-goes_of : (o : Openings) (s : Begun) (line : Line) (after : Option Begun) (printed : List Event) → is_lows line ≡ true → Leads o (Some s) line after printed → GoesOn s line after printed
-goes_of o s lines.Skip after printed own h = absurd (cc)
-goes_of o s (lines.Session row) after printed own h = h
-goes_of o s (lines.LowSession row next held) after printed own h = h
-goes_of o s (lines.Look session m w z) after printed own h = h
-goes_of o s (lines.Told session m w fault told z) after printed own h = h
-goes_of o s (lines.Gone session m) after printed own h = h
-goes_of o s (lines.High session m) after printed own h = absurd (cc)
-goes_of o s (lines.Carry session back) after printed own h = absurd (cc)
-goes_of o s (lines.Return session m back) after printed own h = absurd (cc)
-goes_of o s (lines.Done session m t) after printed own h = absurd (cc)
-goes_of o s (lines.Restart session m) after printed own h = h
-goes_of o s (lines.ReceiverRestart session m) after printed own h = absurd (cc)
 
 -- a line in two whole sessions
 whole_sessions : (s t : Running) (r' s' : Option Begun) (line : Line) (xs ys : List Event) → is_lows line ≡ true
@@ -410,13 +404,38 @@ whole_sessions s t r' s' line xs ys own (row, alike) (timely, (p', h, e)) (timel
       said = both.said;
     }
 
+coarse_sessions : (o p : Openings) (s t : Running) (r' s' : Option Begun) (session : ℕ) (xs ys : List Event)
+    → AlikeFor (lows (Some (Whole s))) (lows (Some (Whole t))) → Leads o (Some (Whole s)) (lines.Coarse session) r' xs → Leads p (Some (Whole t)) (lines.Coarse session) s' ys
+    → Both (lows r') (lows s') xs ys
+coarse_sessions o p s t r' s' session xs ys (row, alike) (made, e) (made', f) = record {
+  alike = subst (λ (u : Option Begun × Option Begun). AlikeFor (lows u.0) (lows u.1)) (λ i. (sym made.2 i, sym made'.2 i)) (ap coarsened row, alike);
+  said = ap said_to_low (e ∙ sym f);
+}
+
+whole_alike : (o p : Openings) (s t : Running) (r' s' : Option Begun) (line : Line) (xs ys : List Event) → is_lows line ≡ true
+    → AlikeFor (lows (Some (Whole s))) (lows (Some (Whole t))) → Leads o (Some (Whole s)) line r' xs → Leads p (Some (Whole t)) line s' ys
+    → DecidedAt line xs ys → Both (lows r') (lows s') xs ys
+whole_alike o p s t r' s' lines.Skip xs ys own alike h k decide = absurd (cc)
+whole_alike o p s t r' s' (lines.Session row) xs ys own alike h k decide = whole_sessions s t r' s' (lines.Session row) xs ys own alike h k decide
+whole_alike o p s t r' s' (lines.LowSession row next held) xs ys own alike h k decide = whole_sessions s t r' s' (lines.LowSession row next held) xs ys own alike h k decide
+whole_alike o p s t r' s' (lines.Coarse session) xs ys own alike h k decide = coarse_sessions o p s t r' s' session xs ys alike h k
+whole_alike o p s t r' s' (lines.Look session m w z) xs ys own alike h k decide = whole_sessions s t r' s' (lines.Look session m w z) xs ys own alike h k decide
+whole_alike o p s t r' s' (lines.Told session m w fault told z) xs ys own alike h k decide = whole_sessions s t r' s' (lines.Told session m w fault told z) xs ys own alike h k decide
+whole_alike o p s t r' s' (lines.Gone session m) xs ys own alike h k decide = whole_sessions s t r' s' (lines.Gone session m) xs ys own alike h k decide
+whole_alike o p s t r' s' (lines.High session m) xs ys own alike h k decide = absurd (cc)
+whole_alike o p s t r' s' (lines.Carry session back) xs ys own alike h k decide = absurd (cc)
+whole_alike o p s t r' s' (lines.Return session m back) xs ys own alike h k decide = absurd (cc)
+whole_alike o p s t r' s' (lines.Done session m time) xs ys own alike h k decide = absurd (cc)
+whole_alike o p s t r' s' (lines.Restart session m) xs ys own alike h k decide = whole_sessions s t r' s' (lines.Restart session m) xs ys own alike h k decide
+whole_alike o p s t r' s' (lines.ReceiverRestart session m) xs ys own alike h k decide = absurd (cc)
+
 goes_alike : (o p : Openings) (r s r' s' : Option Begun) (line : Line) (xs ys : List Event) → is_lows line ≡ true → OpensAlike o p line
     → AlikeFor (lows r) (lows s) → Leads o r line r' xs → Leads p s line s' ys → DecidedAt line xs ys → Both (lows r') (lows s') xs ys
 goes_alike o p None None r' s' line xs ys own opens alike h k decide = begins_alike o p r' s' line xs ys own opens h k
 goes_alike o p (Some (Whole s)) (Some (Whole t)) r' s' line xs ys own opens alike h k decide =
-    whole_sessions s t r' s' line xs ys own alike (goes_of o (Whole s) line r' xs own h) (goes_of p (Whole t) line s' ys own k) decide
+    whole_alike o p s t r' s' line xs ys own alike h k decide
 goes_alike o p (Some (Alone s)) (Some (Alone t)) r' s' line xs ys own opens alike h k decide =
-    one_session o p (Alone s) (Some (Alone t)) r' s' line xs ys (ap (λ u. Some (Alone u)) alike) h k
+    one_session o p s (Some (Alone t)) r' s' line xs ys (ap (λ u. Some (Alone u)) alike) h k
 goes_alike o p None (Some (Whole t)) r' s' line xs ys own opens alike h k decide = absurd alike
 goes_alike o p None (Some (Alone t)) r' s' line xs ys own opens alike h k decide = absurd alike
 goes_alike o p (Some (Whole s)) None r' s' line xs ys own opens alike h k decide = absurd alike
@@ -536,6 +555,7 @@ overfills_aside s p (lines.Done session m t) q printed end n size (h, hand, o) =
 overfills_aside s p lines.Skip q printed end n size h = absurd h
 overfills_aside s p (lines.Session row) q printed end n size h = absurd h
 overfills_aside s p (lines.LowSession row next held) q printed end n size h = absurd h
+overfills_aside s p (lines.Coarse session) q printed end n size h = absurd h
 overfills_aside s p (lines.Look session m w z) q printed end n size h = absurd h
 overfills_aside s p (lines.Told session m w fault told z) q printed end n size h = absurd h
 overfills_aside s p (lines.Gone session m) q printed end n size h = absurd h
@@ -550,6 +570,7 @@ step_own s (lines.Gone session m) q printed own h = absurd (cc)
 step_own s lines.Skip q printed own h = h
 step_own s (lines.Session row) q printed own h = h
 step_own s (lines.LowSession row next held) q printed own h = h
+step_own s (lines.Coarse session) q printed own h = h
 step_own s (lines.Look session m w z) q printed own h = h
 step_own s (lines.High session m) q printed own h = h
 step_own s (lines.Carry session back) q printed own h = h

@@ -2,9 +2,9 @@
 use Rattle.std.proofs.Common.{◌≡◌, ℕ, ◌+◌, ◌^◌, ◌<◌, ◌≤◌, List, [], ◌∷◌, Some, codes, decimal, refl, ap, subst, arith}
 use Rattle.std.proofs.lemmas.Option.{same_Some}
 use Rattle.script_reader.specs.declared.line.Line.{Line}
-use Rattle.script_reader.specs.declared.line.Line.TheVariants.{Gone, High, Carry, Return, Done, Restart, ReceiverRestart}
+use Rattle.script_reader.specs.declared.line.Line.TheVariants.{Coarse, Gone, High, Carry, Return, Done, Restart, ReceiverRestart}
 use Rattle.script_reader.specs.Grammar.{HasFields}
-use Rattle.script_reader.specs.Parsing.{session_and_moment, gone_of, high_of, carry_of, return_of, done_of, restart_of, receiver_restart_of}
+use Rattle.script_reader.specs.Parsing.{coarse_of, session_and_moment, gone_of, high_of, carry_of, return_of, done_of, restart_of, receiver_restart_of}
 use Rattle.script_reader.proofs.FieldChains.{bind_some, take_number, number_put, end_at}
 
 session_and_moment_takes : (fields : List (List ℕ)) (at : ℕ × ℕ) → session_and_moment fields ≡ Some at → (at.0 < 2 ^ 32) × (at.1 ≤ 2 ^ 62) × (fields ≡ decimal at.0 ∷ decimal at.1 ∷ [])
@@ -64,6 +64,18 @@ receiver_restart_takes fields line e =
 pub receiver_restart_put : (session moment : ℕ) → session < 2 ^ 32 → moment ≤ 2 ^ 62 → receiver_restart_of (decimal session ∷ decimal moment ∷ []) ≡ Some (ReceiverRestart session moment)
 unfolding receiver_restart_of
 receiver_restart_put session moment hs hm = rw (session_and_moment_put session moment hs hm) refl
+
+pub coarse_takes : (fields : List (List ℕ)) (line : Line) → coarse_of fields ≡ Some line → HasFields line (codes "coarse" ∷ fields)
+unfolding coarse_of
+coarse_takes fields line e =
+    take_number (2 ^ 32) fields _ line e (λ session fa ha ea e.
+    let k = end_at _ fa line e in
+    subst (λ l. HasFields l (codes "coarse" ∷ fields)) k.1 (ha, rw (ea, k.0) refl)
+    )
+
+pub coarse_put : (session : ℕ) → session < 2 ^ 32 → coarse_of (decimal session ∷ []) ≡ Some (Coarse session)
+unfolding coarse_of
+coarse_put session hs = rw (number_put (2 ^ 32) session _ hs (omega arith)) refl
 
 pub carry_takes : (fields : List (List ℕ)) (line : Line) → carry_of fields ≡ Some line → HasFields line (codes "carry" ∷ fields)
 unfolding carry_of

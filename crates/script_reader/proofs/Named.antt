@@ -25,7 +25,7 @@ use Rattle.script_reader.specs.Highs.{printed_sending, IsRemoval, IsSending, IsW
 use Rattle.script_reader.specs.Restarts.{IsReceiverRestart}
 use Rattle.script_reader.specs.Steps.{joined, lost, IsCarriedBack, IsDone, LineStep, Overfills}
 use Rattle.script_reader.specs.Alone.{PastAlone, IsToldLook, joined_alone, lost_alone, StepAlone}
-use Rattle.script_reader.specs.Scripts.{Begun, Whole, Alone, GoesOn, Leads, Stops, Ends}
+use Rattle.script_reader.specs.Scripts.{Begun, Whole, Alone, GoesOn, made_coarse, Leads, Stops, Ends}
 use Rattle.script_reader.specs.Sessions.{session_number, session_in, event_session, events_of}
 use Rattle.script_reader.proofs.Leading.{led}
 
@@ -142,6 +142,7 @@ pub step_names : (s : SessionRow) (p : Past) (line : Line) (q : Past) (printed :
 step_names s p lines.Skip q printed h = absurd h
 step_names s p (lines.Session row) q printed h = absurd h
 step_names s p (lines.LowSession row next held) q printed h = absurd h
+step_names s p (lines.Coarse session) q printed h = absurd h
 step_names s p (lines.Told session m w fault told a) q printed h = absurd h
 step_names s p (lines.Look session m w a) q printed (c, comes, (few, (f, i))) = look_names s (joined p c) _ q printed i
 step_names s p (lines.Gone session m) q printed (f, i) = look_names s (lost p) _ q printed i
@@ -161,6 +162,7 @@ step_low_names s p (lines.Gone session m) is_fault q printed (f, i) = told_names
 step_low_names s p lines.Skip is_fault q printed h = absurd h
 step_low_names s p (lines.Session row) is_fault q printed h = absurd h
 step_low_names s p (lines.LowSession row next held) is_fault q printed h = absurd h
+step_low_names s p (lines.Coarse session) is_fault q printed h = absurd h
 step_low_names s p (lines.Look session m w a) is_fault q printed h = absurd h
 step_low_names s p (lines.High session m) is_fault q printed h = absurd h
 step_low_names s p (lines.Carry session back) is_fault q printed h = absurd h
@@ -175,6 +177,7 @@ overfills_names s p (lines.Done session m t) q printed end n size (h, hand, o) =
 overfills_names s p lines.Skip q printed end n size h = absurd h
 overfills_names s p (lines.Session row) q printed end n size h = absurd h
 overfills_names s p (lines.LowSession row next held) q printed end n size h = absurd h
+overfills_names s p (lines.Coarse session) q printed end n size h = absurd h
 overfills_names s p (lines.Look session m w z) q printed end n size h = absurd h
 overfills_names s p (lines.Told session m w fault told z) q printed end n size h = absurd h
 overfills_names s p (lines.Gone session m) q printed end n size h = absurd h
@@ -194,6 +197,7 @@ pub breaks_names : (s : SessionRow) (p : Past) (line : Line) (role : Role) (q : 
 breaks_names s p lines.Skip role q printed h = absurd h
 breaks_names s p (lines.Session other) role q printed h = absurd h
 breaks_names s p (lines.LowSession other next held) role q printed h = absurd h
+breaks_names s p (lines.Coarse session) role q printed h = absurd h
 breaks_names s p (lines.Told session m w fault told a) role q printed h = absurd h
 breaks_names s p (lines.Gone session m) role q printed h = absurd h
 breaks_names s p (lines.High session m) role q printed h = absurd h
@@ -234,6 +238,11 @@ goes_of (Whole s) line after printed (timely, (q, step, e)) =
 goes_of (Alone s) line after printed (timely, (q, step, e)) =
     record { session = subst (HasNumber s.row.id) (sym e) refl; events = step_low_names s.row s.past line false q printed step }
 
+-- a session that is made coarse keeps its number
+coarse_number : (s : Begun) → session_number (made_coarse s) ≡ session_number s
+coarse_number (Whole s) = refl
+coarse_number (Alone s) = refl
+
 runs_of : (o : Openings) (s : Begun) (line : Line) (number : ℕ) (after : Option Begun) (printed : List Event) → session_in line ≡ Some number → session_number s ≡ number
     → Leads o (Some s) line after printed → IsOf number after printed
 runs_of o s line number after printed names same h =
@@ -242,6 +251,10 @@ runs_of o s line number after printed names same h =
     (λ r none new e f. absurd (cc))
     (λ r some goes. let is : s ≡ r = same_Some s r some in
     subst (λ (n : ℕ). IsOf n after printed) (ap session_number (sym is) ∙ same) (goes_of r line after printed goes))
+    (λ r session some is new again e f. record {
+      session = subst (HasNumber number) (sym e) (coarse_number r ∙ ap session_number (sym (same_Some s r some)) ∙ same);
+      events = subst (AreOf number) (sym f) tt;
+    })
 
 -- of one that begins
 begins_of : (row : SessionRow) (s : Begun) (number : ℕ) (after : Option Begun) (printed : List Event) → Some row.id ≡ Some number → session_number s ≡ row.id → after ≡ Some s → printed ≡ [] → IsOf number after printed
@@ -254,6 +267,7 @@ leads_of o (Some s) line number after printed names same h = runs_of o s line nu
 leads_of o None (lines.Session row) number after printed names same h = begins_of row _ number after printed names refl h.0.2 h.1
 leads_of o None (lines.LowSession row next held) number after printed names same h = begins_of row _ number after printed names refl h.0.1 h.1
 leads_of o None lines.Skip number after printed names same h = absurd (cc)
+leads_of o None (lines.Coarse session) number after printed names same h = absurd h
 leads_of o None (lines.Look session m w z) number after printed names same h = absurd h
 leads_of o None (lines.Told session m w fault told z) number after printed names same h = absurd h
 leads_of o None (lines.Gone session m) number after printed names same h = absurd h

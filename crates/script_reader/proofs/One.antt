@@ -237,6 +237,7 @@ pub step_one : (s : SessionRow) (p : Past) (line : Line) (q r : Past) (xs ys : L
 step_one s p lines.Skip q r xs ys h k = absurd h
 step_one s p (lines.Session row) q r xs ys h k = absurd h
 step_one s p (lines.LowSession row next held) q r xs ys h k = absurd h
+step_one s p (lines.Coarse session) q r xs ys h k = absurd h
 step_one s p (lines.Told session m w fault told a) q r xs ys h k = absurd h
 step_one s p (lines.Look session m w a) q r xs ys (c, comes, (few, h)) (d, comes', (few', k)) =
     let same = arrives_one session p.reading a c d comes comes' in

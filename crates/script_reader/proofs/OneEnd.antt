@@ -6,7 +6,7 @@ use Rattle.script_reader.specs.declared.line.Line.{Line}
 use Rattle.script_reader.specs.declared.line.Line.TheVariants as lines
 use Rattle.script_reader.specs.Grammar.{IsLine}
 use Rattle.script_reader.specs.Lines.{AreLines, IsUnended}
-use Rattle.script_reader.specs.Scripts.{Running, RunningAlone, Begun, Whole, Alone, GoesWhole, GoesAlone, Leads, LeadTo, IsRefused, IsTranscript}
+use Rattle.script_reader.specs.Scripts.{Running, RunningAlone, Begun, Whole, Alone, GoesWhole, GoesAlone, may_coarsen, Coarsens, IsNew, Leads, LeadTo, IsRefused, IsTranscript}
 use Rattle.script_reader.specs.Faults.{IsFaultyBy, IsFaulty}
 use Rattle.script_reader.proofs.LineEnds.{one_front}
 use Rattle.script_reader.proofs.LineLaws.{one_line}
@@ -29,6 +29,7 @@ crowded_steps s p (lines.Look session m w z) q printed (c, comes, many) (d, come
 crowded_steps s p lines.Skip q printed h k = h
 crowded_steps s p (lines.Session row) q printed h k = h
 crowded_steps s p (lines.LowSession row next held) q printed h k = h
+crowded_steps s p (lines.Coarse session) q printed h k = h
 crowded_steps s p (lines.Told session m w fault told z) q printed h k = h
 crowded_steps s p (lines.Gone session m) q printed h k = h
 crowded_steps s p (lines.High session m) q printed h k = h
@@ -49,6 +50,7 @@ crowded_low s p (lines.Told session m w fault told z) q printed (c, comes, many)
 crowded_low s p lines.Skip q printed h k = h
 crowded_low s p (lines.Session row) q printed h k = h
 crowded_low s p (lines.LowSession row next held) q printed h k = h
+crowded_low s p (lines.Coarse session) q printed h k = h
 crowded_low s p (lines.Look session m w z) q printed h k = h
 crowded_low s p (lines.Gone session m) q printed h k = h
 crowded_low s p (lines.High session m) q printed h k = h
@@ -62,11 +64,15 @@ refused_low : (s : RunningAlone) (line : Line) (mid : Option Begun) (printed : L
 refused_low s line mid printed h (timely, (q, step, e)) =
     elim h [ inl late ↦ both_ways _ late timely | inr crowded ↦ crowded_low s.row s.past line q printed crowded step ]
 
+refused_coarse : (o : Openings) (s : Begun) (session : ℕ) (after : Option Begun) → IsRefused (Some s) (lines.Coarse session) → Coarsens o s session after → ⊥
+refused_coarse o s session after r (may, new, e) = elim r [ inl not_so ↦ both_ways (may_coarsen session s) not_so may | inr never ↦ never o new ]
+
 -- a line that can't be applied leads nowhere
 pub refused_leads : (o : Openings) (running : Option Begun) (line : Line) (mid : Option Begun) (printed : List Event) → IsRefused running line → Leads o running line mid printed → ⊥
 refused_leads o running lines.Skip mid printed r h = absurd r
 refused_leads o None (lines.Session row) mid printed r h = no_key _ r.0 h.0.0 r.1
 refused_leads o None (lines.LowSession row next held) mid printed r h = no_key _ r.0 h.0.0 r.1
+refused_leads o None (lines.Coarse session) mid printed r h = absurd h
 refused_leads o None (lines.Look session m w z) mid printed r h = absurd h
 refused_leads o None (lines.Told session m w fault told z) mid printed r h = absurd h
 refused_leads o None (lines.Gone session m) mid printed r h = absurd h
@@ -78,6 +84,7 @@ refused_leads o None (lines.Restart session m) mid printed r h = absurd h
 refused_leads o None (lines.ReceiverRestart session m) mid printed r h = absurd h
 refused_leads o (Some (Whole s)) (lines.Session row) mid printed r h = refused_goes s (lines.Session row) mid printed r h
 refused_leads o (Some (Whole s)) (lines.LowSession row next held) mid printed r h = refused_goes s (lines.LowSession row next held) mid printed r h
+refused_leads o (Some (Whole s)) (lines.Coarse session) mid printed r h = refused_coarse o (Whole s) session mid r h.0
 refused_leads o (Some (Whole s)) (lines.Look session m w z) mid printed r h = refused_goes s (lines.Look session m w z) mid printed r h
 refused_leads o (Some (Whole s)) (lines.Told session m w fault told z) mid printed r h = refused_goes s (lines.Told session m w fault told z) mid printed r h
 refused_leads o (Some (Whole s)) (lines.Gone session m) mid printed r h = refused_goes s (lines.Gone session m) mid printed r h
@@ -89,6 +96,7 @@ refused_leads o (Some (Whole s)) (lines.Restart session m) mid printed r h = ref
 refused_leads o (Some (Whole s)) (lines.ReceiverRestart session m) mid printed r h = refused_goes s (lines.ReceiverRestart session m) mid printed r h
 refused_leads o (Some (Alone s)) (lines.Session row) mid printed r h = refused_low s (lines.Session row) mid printed r h
 refused_leads o (Some (Alone s)) (lines.LowSession row next held) mid printed r h = refused_low s (lines.LowSession row next held) mid printed r h
+refused_leads o (Some (Alone s)) (lines.Coarse session) mid printed r h = refused_coarse o (Alone s) session mid r h.0
 refused_leads o (Some (Alone s)) (lines.Look session m w z) mid printed r h = refused_low s (lines.Look session m w z) mid printed r h
 refused_leads o (Some (Alone s)) (lines.Told session m w fault told z) mid printed r h = refused_low s (lines.Told session m w fault told z) mid printed r h
 refused_leads o (Some (Alone s)) (lines.Gone session m) mid printed r h = refused_low s (lines.Gone session m) mid printed r h

@@ -36,6 +36,7 @@ leads_one o None lines.Skip a b xs ys h k = record { after = h.0 ∙ sym k.0; pr
 leads_one o (Some s) lines.Skip a b xs ys h k = record { after = h.0 ∙ sym k.0; printed = h.1 ∙ sym k.1 }
 leads_one o None (lines.Session row) a b xs ys h k = record { after = h.0.2 ∙ sym k.0.2; printed = h.1 ∙ sym k.1 }
 leads_one o None (lines.LowSession row next held) a b xs ys h k = record { after = h.0.1 ∙ sym k.0.1; printed = h.1 ∙ sym k.1 }
+leads_one o None (lines.Coarse session) a b xs ys h k = absurd h
 leads_one o None (lines.Look session m w z) a b xs ys h k = absurd h
 leads_one o None (lines.Told session m w fault told z) a b xs ys h k = absurd h
 leads_one o None (lines.Gone session m) a b xs ys h k = absurd h
@@ -47,6 +48,7 @@ leads_one o None (lines.Restart session m) a b xs ys h k = absurd h
 leads_one o None (lines.ReceiverRestart session m) a b xs ys h k = absurd h
 leads_one o (Some s) (lines.Session row) a b xs ys h k = goes_on_one s (lines.Session row) a b xs ys h k
 leads_one o (Some s) (lines.LowSession row next held) a b xs ys h k = goes_on_one s (lines.LowSession row next held) a b xs ys h k
+leads_one o (Some s) (lines.Coarse session) a b xs ys h k = record { after = h.0.2 ∙ sym k.0.2; printed = h.1 ∙ sym k.1 }
 leads_one o (Some s) (lines.Look session m w z) a b xs ys h k = goes_on_one s (lines.Look session m w z) a b xs ys h k
 leads_one o (Some s) (lines.Told session m w fault told z) a b xs ys h k = goes_on_one s (lines.Told session m w fault told z) a b xs ys h k
 leads_one o (Some s) (lines.Gone session m) a b xs ys h k = goes_on_one s (lines.Gone session m) a b xs ys h k

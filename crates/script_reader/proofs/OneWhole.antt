@@ -1,6 +1,6 @@
 -- A whole script has one transcript at most; a line of it that is refused or stops it leads nowhere.
-use Rattle.std.proofs.Common.{◌≡◌, inl, inr, ℕ, ◌≤◌, true, false, nat_lt, List, [], ◌∷◌, ◌++◌, length, Option, Some, None, refl, sym, ap, ◌∙◌, subst, append_assoc, arith}
-use Rattle.std.specs.Prelude.{◌&&◌, not, if◌then◌else◌}
+use Rattle.std.proofs.Common.{◌≡◌, inl, inr, ℕ, ◌<◌, ◌≤◌, true, false, List, [], ◌∷◌, ◌++◌, length, Option, Some, None, refl, sym, ap, ◌∙◌, subst, append_assoc, arith}
+use Rattle.std.specs.Prelude.{not}
 use Rattle.std.proofs.lemmas.Bool.{both_ways, ltb-true, and_parts}
 use Rattle.std.proofs.lemmas.Option.{same_Some}
 use Rattle.script_reader.specs.declared.line.Line.{Line}
@@ -11,7 +11,7 @@ use Rattle.script_reader.specs.Lines.{AreLines}
 use Rattle.script_reader.specs.Faults.{IsScriptFaulty}
 use Rattle.script_reader.specs.Openings.{Openings}
 use Rattle.script_reader.specs.Scripts.{Begun, Leads}
-use Rattle.script_reader.specs.Sessions.{session_number, session_in, begins_session, moment_in, session_at, with_session, AreRising, Sessions, no_sessions, led_to, is_from, is_in_turn, LeadsOne, ScriptLeads, RefusesOne, ScriptRefuses, StopsOne, ScriptStops, ScriptLeadsTo, AllEnd, IsScriptTranscript}
+use Rattle.script_reader.specs.Sessions.{session_number, session_in, begins_session, session_at, with_session, AreRising, Sessions, no_sessions, led_to, is_in_turn, LeadsOne, ScriptLeads, RefusesOne, ScriptRefuses, StopsOne, ScriptStops, ScriptLeadsTo, AllEnd, IsScriptTranscript}
 use Rattle.script_reader.proofs.OneScript.{leads_one, ends_one}
 use Rattle.script_reader.proofs.OneEnd.{refused_leads, GoTo, both_end}
 use Rattle.script_reader.proofs.Stopping.{stops_leads, stops_one}
@@ -139,6 +139,7 @@ runs o (Some r) line s printed n named begins h = (r, refl)
 runs o None lines.Skip s printed n named begins h = absurd (cc)
 runs o None (lines.Session row) s printed n named begins h = absurd (cc)
 runs o None (lines.LowSession row next held) s printed n named begins h = absurd (cc)
+runs o None (lines.Coarse session) s printed n named begins h = absurd h
 runs o None (lines.Look session m w z) s printed n named begins h = absurd h
 runs o None (lines.Told session m w fault told z) s printed n named begins h = absurd h
 runs o None (lines.Gone session m) s printed n named begins h = absurd h
@@ -149,22 +150,38 @@ runs o None (lines.Done session m t) s printed n named begins h = absurd h
 runs o None (lines.Restart session m) s printed n named begins h = absurd h
 runs o None (lines.ReceiverRestart session m) s printed n named begins h = absurd h
 
+-- a line that begins one finds fewer than 16
+fewer : (t : Sessions) (line : Line) → begins_session line ≡ true → is_in_turn t line ≡ true → length t.begun < 16
+fewer t (lines.Session row) begins turn = ltb-true (length t.begun) 16 (and_parts (not t.is_under_way) _ turn).1
+fewer t (lines.LowSession row next held) begins turn = ltb-true (length t.begun) 16 (and_parts (not t.is_under_way) _ turn).1
+fewer t lines.Skip begins turn = absurd (cc)
+fewer t (lines.Coarse session) begins turn = absurd (cc)
+fewer t (lines.Look session m w z) begins turn = absurd (cc)
+fewer t (lines.Told session m w fault told z) begins turn = absurd (cc)
+fewer t (lines.Gone session m) begins turn = absurd (cc)
+fewer t (lines.High session m) begins turn = absurd (cc)
+fewer t (lines.Carry session back) begins turn = absurd (cc)
+fewer t (lines.Return session m back) begins turn = absurd (cc)
+fewer t (lines.Done session m time) begins turn = absurd (cc)
+fewer t (lines.Restart session m) begins turn = absurd (cc)
+fewer t (lines.ReceiverRestart session m) begins turn = absurd (cc)
+
 few_by : (o : Openings) (t : Sessions) (line : Line) (at : Option ℕ) (u : Sessions) (printed : List Event) → session_in line ≡ at → LeadsOne o t line at u printed
     → AreRising t.begun → length t.begun ≤ 16 → length u.begun ≤ 16
 few_by o t line None u printed named (e, f) rising few = subst (λ (v : Sessions). length v.begun ≤ 16) (sym e) few
 few_by o t line (Some n) u printed named (turn, (s, h, e)) rising few =
     subst (λ (v : Sessions). length v.begun ≤ 16) (sym e)
-    (elim (begins_session line) as (λ b. begins_session line ≡ b → (if b then (not t.is_under_way && nat_lt (length t.begun) 16) else is_from t.moment (moment_in line)) ≡ true → length (with_session s t.begun) ≤ 16) [
-      | true ↦ λ begins ready.
-          let less = ltb-true (length t.begun) 16 (and_parts (not t.is_under_way) _ ready).1 in
+    (elim (begins_session line) as (λ b. begins_session line ≡ b → length (with_session s t.begun) ≤ 16) [
+      | true ↦ λ begins.
+          let less = fewer t line begins turn in
           let more = one_more s t.begun in
           omega (arith, less, more)
-      | false ↦ λ begins ready.
+      | false ↦ λ begins.
           let r = runs o (session_at n t.begun) line s printed n named begins h in
           let number : session_number s ≡ n = (leads_of o (session_at n t.begun) line n (Some s) printed named (has_number n t.begun (session_at n t.begun) refl) h).session in
           let same = as_many s r.0 t.begun rising (ap (λ (k : ℕ). session_at k t.begun) number ∙ r.1) in
           omega (arith, same, few)
-    ] refl turn)
+    ] refl)
 
 pub at_most_16 : (o : Openings) (t : Sessions) (script : List Line) (u : Sessions) (printed : List Event) → ScriptLeadsTo o t script u printed → AreRising t.begun → length t.begun ≤ 16
     → length u.begun ≤ 16

@@ -22,7 +22,7 @@ use Rattle.script_reader.specs.Openings.{Openings, opened_world}
 use Rattle.script_reader.specs.Restarts.{IsRestart, IsReceiverRestart}
 use Rattle.script_reader.specs.Steps.{joined, lost, IsCarriedBack, IsDone, LineStep}
 use Rattle.script_reader.specs.Alone.{PastAlone, IsToldLook, joined_alone, lost_alone, StepAlone}
-use Rattle.script_reader.specs.Scripts.{Begun, Whole, Alone, GoesOn, Leads, LeadTo}
+use Rattle.script_reader.specs.Scripts.{Begun, Whole, Alone, GoesOn, made_coarse, Leads, LeadTo}
 use Rattle.script_reader.specs.Readouts.{low_line, low_lines, row_of, history_of}
 use Rattle.script_reader.proofs.Leading.{IsNew, led}
 
@@ -148,6 +148,7 @@ step_grows : (s : SessionRow) (p : Past) (line : Line) (q : Past) (printed : Lis
 step_grows s p lines.Skip q printed h = absurd h
 step_grows s p (lines.Session row) q printed h = absurd h
 step_grows s p (lines.LowSession row next held) q printed h = absurd h
+step_grows s p (lines.Coarse session) q printed h = absurd h
 step_grows s p (lines.Told session m w fault told a) q printed h = absurd h
 step_grows s p (lines.Look session m w a) q printed (c, comes, (few, (f, i))) = look_grows s (joined p c) _ q printed i
 step_grows s p (lines.Gone session m) q printed (f, i) = look_grows s (lost p) _ q printed i
@@ -168,6 +169,7 @@ step_low_grows s p (lines.Gone session m) is_fault q printed (f, i) = told_grows
 step_low_grows s p lines.Skip is_fault q printed h = absurd h
 step_low_grows s p (lines.Session row) is_fault q printed h = absurd h
 step_low_grows s p (lines.LowSession row next held) is_fault q printed h = absurd h
+step_low_grows s p (lines.Coarse session) is_fault q printed h = absurd h
 step_low_grows s p (lines.Look session m w z) is_fault q printed h = absurd h
 step_low_grows s p (lines.High session m) is_fault q printed h = absurd h
 step_low_grows s p (lines.Carry session back) is_fault q printed h = absurd h
@@ -187,6 +189,10 @@ opened_replies row o = ([], [], refl, ([], record { are_parts = tt; looks = refl
 new_replies : (o : Openings) (s : Begun) → IsNew o s → Replies (Some s) []
 new_replies o (Whole s) new = subst (λ (p : Past). LowReplies s.row p.history []) (sym new.2) (opened_replies s.row (opening_in (opened_world s.row (o s.row.id))))
 new_replies o (Alone s) (next, held, e) = subst (λ (p : PastAlone). LowReplies s.row p.history []) (sym e) (opened_replies s.row (record { count = next; is_held = held }))
+
+-- a new session has replied nothing
+nothing_yet : (o : Openings) (s : Begun) (rs : List Sent) → IsNew o s → Replies (Some s) rs → rs ≡ []
+nothing_yet o s rs new k = one_list_of_lives (row_of s) ((history_of s).life ∷ (history_of s).earlier) rs [] k (new_replies o s new)
 
 stays_so : (running after : Option Begun) (printed : List Event) (rs : List Sent) → after ≡ running → printed ≡ [] → Replies running rs → Replies after (rs ++ low_lines printed)
 stays_so running after printed rs e f k =
@@ -209,6 +215,7 @@ leads_so o running line after printed rs h k =
     (λ skip e f. stays_so running after printed rs e f k)
     (λ s none new e f. begins_so o s after printed rs new e f (subst (λ (r : Option Begun). Replies r rs) none k))
     (λ s some goes. goes_so s line after printed rs goes (subst (λ (r : Option Begun). Replies r rs) some k))
+    (λ s session some is new again e f. begins_so o (made_coarse s) after printed rs again e f (nothing_yet o s rs new (subst (λ (r : Option Begun). Replies r rs) some k)))
 
 pub lead_so : (o : Openings) (running : Option Begun) (script : List Line) (after : Option Begun) (printed : List Event) (rs : List Sent) → LeadTo o running script after printed → Replies running rs → Replies after (rs ++ low_lines printed)
 lead_so o running [] after printed rs (e, f) k = stays_so running after printed rs e f k

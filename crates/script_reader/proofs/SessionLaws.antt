@@ -28,7 +28,7 @@ row_takes fields x e =
     take_name fh _ x e (λ low fi hi ei e.
     take_name fi _ x e (λ high fj hj ej e.
     subst (λ (y : SessionRow × List (List ℕ)). IsRow y.0 × (fields ≡ row_fields y.0 ++ y.1)) (same_Some _ x e) (
-      record { id = ha; capacity = hb; message = hc; window = hd; start = hf; longest = hg; resend = hh; low = hi; high = hj; low_port = refl; high_port = refl; coarse = false },
+      record { id = ha; capacity = hb; message = hc; window = hd; start = hf; longest = hg; resend = hh; low = hi; high = hj; low_port = refl; high_port = refl; coarse = refl },
       rw (ea, eb, ec, ed, ef, eg, eh, ei, ej) refl,
     )
     )))))))))
@@ -54,7 +54,7 @@ row_put row rest h =
       name_put row.low _ h.low,
       name_put row.high _ h.high,
     )
-    (ap (λ p. Some (record row { low_port = p; high_port = 0; coarse = false }, rest)) (sym h.low_port) ∙ ap (λ p. Some (record row { high_port = p; coarse = false }, rest)) (sym h.high_port))
+    (λ i. Some (record row { low_port = sym h.low_port i; high_port = sym h.high_port i; coarse = sym h.coarse i }, rest))
 
 -- no space stands in a row's fields
 pub free_row : (row : SessionRow) (rest : List (List ℕ)) → IsRow row → AreFree rest → AreFree (row_fields row ++ rest)

@@ -35,6 +35,7 @@ leads_begins o running line after printed more h k =
     (λ skip e f. subst (λ (t : Option Begun × List Event). Begins t.0 t.1) (λ i. (sym e i, (sym (append-nil printed) ∙ ap (λ xs. printed ++ xs) (sym f)) i)) k)
     (λ s none new e f. subst (λ (r : Option Begun). Begins r (printed ++ more)) (sym e) tt)
     (λ s some goes. goes_begins s line after more (printed ++ more) goes)
+    (λ s session some is new again e f. subst (λ (r : Option Begun). Begins r (printed ++ more)) (sym e) tt)
 
 lead_begins : (o : Openings) (running : Option Begun) (script : List Line) (after : Option Begun) (printed more : List Event) → LeadTo o running script after more → Begins running printed → Begins after (printed ++ more)
 lead_begins o running [] after printed more (e, f) k = subst (λ (t : Option Begun × List Event). Begins t.0 t.1) (λ i. (sym e i, (sym (append-nil printed) ∙ ap (λ xs. printed ++ xs) (sym f)) i)) k
@@ -61,6 +62,7 @@ overfills_grows s p (lines.Done session m t) q printed end n size (h, hand, o) =
 overfills_grows s p lines.Skip q printed end n size h = absurd h
 overfills_grows s p (lines.Session row) q printed end n size h = absurd h
 overfills_grows s p (lines.LowSession row next held) q printed end n size h = absurd h
+overfills_grows s p (lines.Coarse session) q printed end n size h = absurd h
 overfills_grows s p (lines.Look session m w z) q printed end n size h = absurd h
 overfills_grows s p (lines.Told session m w fault told z) q printed end n size h = absurd h
 overfills_grows s p (lines.Gone session m) q printed end n size h = absurd h
@@ -77,6 +79,7 @@ overfills_holds s p (lines.Done session m t) q printed end n size (h, hand, o) (
 overfills_holds s p lines.Skip q printed end n size h k = absurd h
 overfills_holds s p (lines.Session row) q printed end n size h k = absurd h
 overfills_holds s p (lines.LowSession row next held) q printed end n size h k = absurd h
+overfills_holds s p (lines.Coarse session) q printed end n size h k = absurd h
 overfills_holds s p (lines.Look session m w z) q printed end n size h k = absurd h
 overfills_holds s p (lines.Told session m w fault told z) q printed end n size h k = absurd h
 overfills_holds s p (lines.Gone session m) q printed end n size h k = absurd h

@@ -1,5 +1,5 @@
 -- What is printed of a lawful line is this line of the grammar.
-use Rattle.std.proofs.Common.{◌≡◌, ℕ, ◌+◌, ◌^◌, ◌<◌, ◌≤◌, zero, suc, inl, inr, Bool, List, [], ◌∷◌, ◌++◌, length, slice_index, codes, decimal, refl, sym, ap, ◌∙◌, append_assoc, arith}
+use Rattle.std.proofs.Common.{◌≡◌, ℕ, ◌+◌, ◌^◌, ◌<◌, ◌≤◌, zero, suc, inl, inr, Bool, false, List, [], ◌∷◌, ◌++◌, length, slice_index, codes, decimal, refl, sym, ap, ◌∙◌, append_assoc, arith}
 use Rattle.std.proofs.lemmas.Grind.{flat_map-append}
 use Rattle.std.proofs.lemmas.List.{append-nil, length-append}
 use Rattle.std.specs.Int.{to_be_bytes, w32}
@@ -7,7 +7,7 @@ use Rattle.hex.specs.Hex.{encode_lower}
 use Rattle.hex.proofs.HexLemmas.{decode_of-encode_lower}
 use Rattle.pump_frame.specs.declared.row.SessionRow.{SessionRow}
 use Rattle.script_reader.specs.declared.line.Line.{Line}
-use Rattle.script_reader.specs.declared.line.Line.TheVariants.{Skip, Session, LowSession, Look, Told, Gone, High, Carry, Return, Done, Restart, ReceiverRestart}
+use Rattle.script_reader.specs.declared.line.Line.TheVariants.{Skip, Session, LowSession, Coarse, Look, Told, Gone, High, Carry, Return, Done, Restart, ReceiverRestart}
 use Rattle.script_reader.specs.declared.line.Arriving.{Arriving}
 use Rattle.script_reader.specs.declared.line.Arriving.TheVariants.{Nothing, Hello, Data, Raw}
 use Rattle.script_reader.specs.declared.line.ToldFeedback.{ToldFeedback}
@@ -73,9 +73,10 @@ printed_feedback (Pair count average) l t = (t, l, refl)
 
 printed_fields : (line : Line) → IsLawfulLine line → IsTypedLine line → IsSpelled line (line_spelling line)
 printed_fields Skip l t = inl (refl, tt)
-printed_fields (Session row) l t = inr (line_fields (Session row), (printed_row row l.0 l.1 t, refl), refl)
+printed_fields (Session row) l t = inr (line_fields (Session row), (printed_row row l.0 l.1 l.2 t, refl), refl)
 printed_fields (LowSession row next held) l t =
-    inr (line_fields (LowSession row next held), (printed_row row l.0 l.1 t, l.2, refl), refl)
+    inr (line_fields (LowSession row next held), (printed_row row l.0.0 l.0.1 l.0.2 t, l.1, refl), refl)
+printed_fields (Coarse session) l t = inr (line_fields (Coarse session), (t, refl), refl)
 printed_fields (Look session moment w arrival) l t =
     inr (
       line_fields (Look session moment w arrival),

@@ -40,6 +40,7 @@ overfills_steps s p (lines.Done session m t) r first end n size q printed (h, (n
 overfills_steps s p lines.Skip r first end n size q printed h k = absurd h
 overfills_steps s p (lines.Session row) r first end n size q printed h k = absurd h
 overfills_steps s p (lines.LowSession row next held) r first end n size q printed h k = absurd h
+overfills_steps s p (lines.Coarse session) r first end n size q printed h k = absurd h
 overfills_steps s p (lines.Look session m w z) r first end n size q printed h k = absurd h
 overfills_steps s p (lines.Told session m w fault told z) r first end n size q printed h k = absurd h
 overfills_steps s p (lines.Gone session m) r first end n size q printed h k = absurd h
@@ -65,6 +66,7 @@ overfills_one s p (lines.Done session m t) q r xs ys end n size end' n' size' (h
 overfills_one s p lines.Skip q r xs ys end n size end' n' size' h k = absurd h
 overfills_one s p (lines.Session row) q r xs ys end n size end' n' size' h k = absurd h
 overfills_one s p (lines.LowSession row next held) q r xs ys end n size end' n' size' h k = absurd h
+overfills_one s p (lines.Coarse session) q r xs ys end n size end' n' size' h k = absurd h
 overfills_one s p (lines.Look session m w z) q r xs ys end n size end' n' size' h k = absurd h
 overfills_one s p (lines.Told session m w fault told z) q r xs ys end n size end' n' size' h k = absurd h
 overfills_one s p (lines.Gone session m) q r xs ys end n size end' n' size' h k = absurd h
@@ -84,12 +86,17 @@ skip_goes_on None end first fault h = h
 skip_goes_on (Some (Whole s)) end first fault h = cc h.0
 skip_goes_on (Some (Alone s)) end first fault h = cc h.0
 
+coarse_goes_on : (s : Begun) (session : ℕ) (end : Option Begun) (first : List Event) (fault : Fault) → Stops (Some s) (lines.Coarse session) end first fault → ⊥
+coarse_goes_on (Whole s) session end first fault h = cc h.0
+coarse_goes_on (Alone s) session end first fault h = cc h.0
+
 pub stops_leads : (o : Openings) (running : Option Begun) (line : Line) (end : Option Begun) (first : List Event) (fault : Fault) (after : Option Begun) (printed : List Event) → Stops running line end first fault → Leads o running line after printed → ⊥
 stops_leads o running line end first fault after printed h k =
     led o running line after printed k
     (λ skip e f. skip_goes_on running end first fault (subst (λ (l : Line). Stops running l end first fault) skip h))
     (λ s none new e f. subst (λ (r : Option Begun). Stops r line end first fault) none h)
     (λ s some goes. stops_goes s line end first fault after printed (subst (λ (r : Option Begun). Stops r line end first fault) some h) goes)
+    (λ s session some is new again e f. coarse_goes_on s session end first fault (subst (λ (t : Option Begun × Line). Stops t.0 t.1 end first fault) (λ i. (some i, is i)) h))
 
 -- it stops it in one way
 pub record OneStop (after other : Option Begun) (xs ys : List Event) (fault stop : Fault) : Type 0 where

@@ -46,6 +46,7 @@ pub step_waits : (s : SessionRow) (p : Past) (line : Line) (q : Past) (printed :
 step_waits s p lines.Skip q printed h t = absurd t
 step_waits s p (lines.Session row) q printed h t = absurd t
 step_waits s p (lines.LowSession row next held) q printed h t = absurd t
+step_waits s p (lines.Coarse session) q printed h t = absurd t
 step_waits s p (lines.Told session m w fault told a) q printed h t = absurd t
 step_waits s p (lines.Look session m w a) q printed h (c, comes, (few, (f, i))) = rw i.waits (dropped (takes i.after) (joined p c).waits few)
 step_waits s p (lines.Gone session m) q printed h (f, i) = rw i.waits (dropped (takes i.after) [] (omega arith))
@@ -62,6 +63,7 @@ step_low_waits s p (lines.Gone session m) is_fault q printed (f, i) = rw i.waits
 step_low_waits s p lines.Skip is_fault q printed h = absurd h
 step_low_waits s p (lines.Session row) is_fault q printed h = absurd h
 step_low_waits s p (lines.LowSession row next held) is_fault q printed h = absurd h
+step_low_waits s p (lines.Coarse session) is_fault q printed h = absurd h
 step_low_waits s p (lines.Look session m w z) is_fault q printed h = absurd h
 step_low_waits s p (lines.High session m) is_fault q printed h = absurd h
 step_low_waits s p (lines.Carry session back) is_fault q printed h = absurd h

@@ -1,7 +1,7 @@
 -- A low side alone, to which a script tells what the passage answers: what it has been through, and
 -- what a line does to it.
 use Rattle.std.specs.Prelude.{◌≡◌, ◌⊎◌, ℕ, ◌<◌, ◌≤◌, Bool, true, false, ◌&&◌, ◌||◌, ◌==◌, not, nat_le, if◌then◌else◌, List, [], ◌∷◌, ◌++◌, length, drop}
-use Rattle.pump_frame.specs.Averages.{averaging_of, average_of}
+use Rattle.pump_frame.specs.Averages.{level, averaging_of, average_of}
 use Rattle.pump_frame.specs.Readings.{Reading, Within}
 use Rattle.pump_frame.specs.declared.row.SessionRow.{SessionRow}
 use Rattle.pump_core.specs.declared.feedback.Seen.{Seen}
@@ -150,11 +150,17 @@ IsOfferedTold row p m w told is_fault q printed =
 
 -- ---- lines ----
 
--- the line is one for a low side alone, names this session, and no moment falls
-abbrev pub is_timely_alone : SessionRow → PastAlone → Line → Bool
-is_timely_alone row p (lines.Told session m w fault told a) = session == row.id && nat_le p.moment m
-is_timely_alone row p (lines.Gone session m) = session == row.id && nat_le p.moment m
-is_timely_alone row p _ = false
+-- a coarse session is told no average but a level
+abbrev pub tells_level : SessionRow → ToldFeedback → Bool
+tells_level row (Pair count average) = not row.coarse || level average == average
+tells_level row Quiet = true
+tells_level row Full = true
+
+-- the line is one for a low side alone, names this session, no moment falls, and a coarse session is told a level
+abbrev pub is_apt_alone : SessionRow → PastAlone → Line → Bool
+is_apt_alone row p (lines.Told session m w fault told a) = session == row.id && (nat_le p.moment m && tells_level row told)
+is_apt_alone row p (lines.Gone session m) = session == row.id && nat_le p.moment m
+is_apt_alone row p _ = false
 
 -- with what comes with the line, more than 64 arrivals would wait
 abbrev pub IsCrowdedAlone : PastAlone → Line → Type 0
@@ -164,7 +170,7 @@ IsCrowdedAlone p line = ⊥
 
 -- the line can't be applied
 abbrev pub IsRefusedAlone : SessionRow → PastAlone → Line → Type 0
-IsRefusedAlone row p line = (is_timely_alone row p line ≡ false) ⊎ IsCrowdedAlone p line
+IsRefusedAlone row p line = (is_apt_alone row p line ≡ false) ⊎ IsCrowdedAlone p line
 
 -- the line leads from p to q and prints this, and the disk fails in it or not
 abbrev pub StepAlone : SessionRow → PastAlone → Line → Bool → PastAlone → List Event → Type 0

@@ -6,7 +6,7 @@ use Rattle.hex.specs.Hex.{decode_of}
 use Rattle.pump_frame.specs.Names.{IsName}
 use Rattle.pump_frame.specs.declared.row.SessionRow.{SessionRow}
 use Rattle.script_reader.specs.declared.line.Line.{Line}
-use Rattle.script_reader.specs.declared.line.Line.TheVariants.{Skip, Session, LowSession, Look, Told, Gone, High, Carry, Return, Done, Restart, ReceiverRestart}
+use Rattle.script_reader.specs.declared.line.Line.TheVariants.{Skip, Session, LowSession, Coarse, Look, Told, Gone, High, Carry, Return, Done, Restart, ReceiverRestart}
 use Rattle.script_reader.specs.declared.line.ToldFeedback.{ToldFeedback}
 use Rattle.script_reader.specs.declared.line.ToldFeedback.TheVariants.{Quiet, Full, Pair}
 use Rattle.script_reader.specs.declared.line.Arriving.{Arriving}
@@ -84,6 +84,7 @@ HasFields Skip fields = ⊥
 HasFields (Session row) fields = IsRow row × (fields ≡ codes "session" ∷ row_fields row)
 HasFields (LowSession row next held) fields = IsRow row × IsCount next held
     × (fields ≡ codes "low-session" ∷ (row_fields row ++ decimal next ∷ held_field held ∷ []))
+HasFields (Coarse session) fields = (session < 2 ^ 32) × (fields ≡ codes "coarse" ∷ decimal session ∷ [])
 HasFields (Look session moment word arrival) fields = (session < 2 ^ 32) × (moment ≤ 2 ^ 62)
     × (hex : List ℕ) × IsWord word hex × (rest : List (List ℕ)) × IsArriving arrival rest
     × (fields ≡ codes "look" ∷ decimal session ∷ decimal moment ∷ hex ∷ rest)

@@ -11,7 +11,7 @@ use Rattle.script_reader.specs.declared.lines.Lined.TheVariants as lined
 use Rattle.script_reader.specs.declared.head.LinedHead.{LinedHead}
 use Rattle.script_reader.specs.declared.head.LinedHead.TheVariants as heads
 use Rattle.script_reader.specs.declared.head.LineHead.{LineHead}
-use Rattle.script_reader.specs.declared.head.LineHead.TheVariants.{Skip, Session, LowSession, Look, Told, Gone, High, Carry, Return, Done, Restart, ReceiverRestart}
+use Rattle.script_reader.specs.declared.head.LineHead.TheVariants.{Skip, Session, LowSession, Coarse, Look, Told, Gone, High, Carry, Return, Done, Restart, ReceiverRestart}
 
 abbrev pub arriving_with : List ℕ → ArrivingHead → Arriving
 arriving_with bytes Nothing = arriving.Nothing
@@ -23,6 +23,7 @@ abbrev pub line_with : List ℕ → LineHead → Line
 line_with bytes Skip = line.Skip
 line_with bytes (Session row) = line.Session row
 line_with bytes (LowSession row next held) = line.LowSession row next held
+line_with bytes (Coarse session) = line.Coarse session
 line_with bytes (Look session moment word arrival) = line.Look session moment word (arriving_with bytes arrival)
 line_with bytes (Told session moment word fault feedback arrival) = line.Told session moment word fault feedback (arriving_with bytes arrival)
 line_with bytes (Gone session moment) = line.Gone session moment
@@ -46,6 +47,7 @@ CanHoldLine (Told session moment word fault feedback arrival) bytes = CanHold ar
 CanHoldLine Skip bytes = Unit {0}
 CanHoldLine (Session row) bytes = Unit {0}
 CanHoldLine (LowSession row next held) bytes = Unit {0}
+CanHoldLine (Coarse session) bytes = Unit {0}
 CanHoldLine (Gone session moment) bytes = Unit {0}
 CanHoldLine (High session moment) bytes = Unit {0}
 CanHoldLine (Carry session back) bytes = Unit {0}

@@ -1,7 +1,8 @@
 -- The lines that a reader gives: their numbers are in the ranges of the grammar.
-use Rattle.std.specs.Prelude.{◌≡◌, ◌^◌, ◌<◌, ◌≤◌, length}
+use Rattle.std.specs.Prelude.{◌≡◌, ◌^◌, ◌<◌, ◌≤◌, false, length}
+use Rattle.pump_frame.specs.declared.row.SessionRow.{SessionRow}
 use Rattle.script_reader.specs.declared.line.Line.{Line}
-use Rattle.script_reader.specs.declared.line.Line.TheVariants.{Skip, Session, LowSession, Look, Told, Gone, High, Carry, Return, Done, Restart, ReceiverRestart}
+use Rattle.script_reader.specs.declared.line.Line.TheVariants.{Skip, Session, LowSession, Coarse, Look, Told, Gone, High, Carry, Return, Done, Restart, ReceiverRestart}
 use Rattle.script_reader.specs.declared.line.ToldFeedback.{ToldFeedback}
 use Rattle.script_reader.specs.declared.line.ToldFeedback.TheVariants.{Quiet, Full, Pair}
 use Rattle.script_reader.specs.Grammar.{IsCount}
@@ -30,6 +31,7 @@ abbrev pub IsLawfulLine : Line → Type 0
 IsLawfulLine Skip = Unit {0}
 IsLawfulLine (Session row) = IsTold row
 IsLawfulLine (LowSession row next held) = IsTold row × IsCount next held
+IsLawfulLine (Coarse session) = Unit {0}
 IsLawfulLine (Look session moment word arrival) = (moment ≤ 2 ^ 62) × IsLawfulArriving arrival
 IsLawfulLine (Told session moment word fault feedback arrival) =
     (moment ≤ 2 ^ 62) × IsLawfulFeedback feedback × IsLawfulArriving arrival

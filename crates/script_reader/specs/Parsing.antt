@@ -12,7 +12,7 @@ use Rattle.pump_frame.specs.Names.{is_name_byte}
 use Rattle.pump_frame.specs.declared.row.SessionRow.{SessionRow}
 use Rattle.script_reader.specs.Fields.{is_space}
 use Rattle.script_reader.specs.declared.line.Line.{Line}
-use Rattle.script_reader.specs.declared.line.Line.TheVariants.{Skip, Session, LowSession, Look, Told, Gone, High, Carry, Return, Done, Restart, ReceiverRestart}
+use Rattle.script_reader.specs.declared.line.Line.TheVariants.{Skip, Session, LowSession, Coarse, Look, Told, Gone, High, Carry, Return, Done, Restart, ReceiverRestart}
 use Rattle.script_reader.specs.declared.line.ToldFeedback.{ToldFeedback}
 use Rattle.script_reader.specs.declared.line.ToldFeedback.TheVariants.{Quiet, Full, Pair}
 use Rattle.script_reader.specs.declared.line.Arriving.{Arriving}
@@ -95,6 +95,11 @@ low_session_of fields = do
   next ← field_at (number (2 ^ 48 + 1)) row.1
   held ← field_at (choice (codes "0") (codes "1")) next.1
   at_count next.0 held.0 (at_end (LowSession row.0 next.0 held.0) held.1)
+
+unfoldable pub coarse_of : List (List ℕ) → Option Line
+coarse_of fields = do
+  session ← field_at (number (2 ^ 32)) fields
+  at_end (Coarse session.0) session.1
 
 abbrev pub is_slash : ℕ → Bool
 is_slash b = b == 47
@@ -222,12 +227,10 @@ done_of fields = do
   time ← field_at (number (10 ^ 9 + 1)) moment.1
   at_end (Done session.0 moment.0 time.0) time.1
 
-unfoldable pub line_of : List (List ℕ) → Option Line
-line_of [] = None
-line_of (word ∷ fields) =
-    if bytes_eq word (codes "session") then session_of fields
-    else if bytes_eq word (codes "low-session") then low_session_of fields
-    else if bytes_eq word (codes "look") then look_of fields
+-- a line of a session that has begun
+unfoldable pub step_of : List ℕ → List (List ℕ) → Option Line
+step_of word fields =
+    if bytes_eq word (codes "look") then look_of fields
     else if bytes_eq word (codes "told") then told_of fields
     else if bytes_eq word (codes "gone") then gone_of fields
     else if bytes_eq word (codes "high") then high_of fields
@@ -237,6 +240,14 @@ line_of (word ∷ fields) =
     else if bytes_eq word (codes "restart") then restart_of fields
     else if bytes_eq word (codes "receiver-restart") then receiver_restart_of fields
     else None
+
+unfoldable pub line_of : List (List ℕ) → Option Line
+line_of [] = None
+line_of (word ∷ fields) =
+    if bytes_eq word (codes "session") then session_of fields
+    else if bytes_eq word (codes "low-session") then low_session_of fields
+    else if bytes_eq word (codes "coarse") then coarse_of fields
+    else step_of word fields
 
 abbrev pub is_skipped : List ℕ → Bool
 is_skipped [] = true

@@ -1,6 +1,6 @@
 -- The transcript of a whole script, which has one session: a whole one, or a low side alone. It depends on
 -- what the disks of a whole session were found to hold.
-use Rattle.std.specs.Prelude.{◌≡◌, ◌⊎◌, ℕ, Bool, true, false, List, [], ◌∷◌, ◌++◌, length, Option, Some, None}
+use Rattle.std.specs.Prelude.{◌≡◌, ◌⊎◌, ℕ, Bool, true, false, ◌&&◌, ◌==◌, not, List, [], ◌∷◌, ◌++◌, length, Option, Some, None}
 use Rattle.disk_model.specs.declared.name.Role.TheVariants as roles
 use Rattle.pump_frame.specs.Rows.{first_bad, IsLawfulRow}
 use Rattle.pump_frame.specs.declared.row.RowKey.{RowKey}
@@ -15,7 +15,7 @@ use Rattle.script_reader.specs.declared.event.Event.TheVariants.{End}
 use Rattle.script_reader.specs.Past.{Past}
 use Rattle.script_reader.specs.Openings.{Openings, CanOpen, first_past}
 use Rattle.script_reader.specs.Steps.{is_timely, LineStep, IsRefusedWhole, Overfills}
-use Rattle.script_reader.specs.Alone.{PastAlone, fresh_alone, is_timely_alone, StepAlone, IsRefusedAlone}
+use Rattle.script_reader.specs.Alone.{PastAlone, fresh_alone, is_apt_alone, StepAlone, IsRefusedAlone}
 
 -- a whole session that a script has begun: its row, and what it has been through
 pub record Running : Type 0 where
@@ -50,29 +50,60 @@ GoesWhole s line running printed =
 
 abbrev pub GoesAlone : RunningAlone → Line → Option Begun → List Event → Type 0
 GoesAlone s line running printed =
-    (is_timely_alone s.row s.past line ≡ true)
+    (is_apt_alone s.row s.past line ≡ true)
     × ((q : PastAlone) × StepAlone s.row s.past line false q printed × (running ≡ Some (Alone (record { row = s.row; past = q }))))
 
 abbrev pub GoesOn : Begun → Line → Option Begun → List Event → Type 0
 GoesOn (Whole s) line running printed = GoesWhole s line running printed
 GoesOn (Alone s) line running printed = GoesAlone s line running printed
 
+-- ---- a session that is made coarse ----
+
+-- before its first line: of a lawful row, on what its disks were found to hold
+abbrev pub IsNew : Openings → Begun → Type 0
+IsNew o (Whole s) = IsLawfulRow s.row × CanOpen s.row (o s.row.id) × (s.past ≡ first_past s.row (o s.row.id))
+IsNew o (Alone s) = (next : ℕ) × (held : Bool) × (s.past ≡ fresh_alone next held)
+
+-- the row of a coarse session
+abbrev pub coarsened : SessionRow → SessionRow
+coarsened row = record row { coarse = true }
+
+-- the session with such a row, and all else as it was
+abbrev pub made_coarse : Begun → Begun
+made_coarse (Whole s) = Whole (record { row = coarsened s.row; past = s.past })
+made_coarse (Alone s) = Alone (record { row = coarsened s.row; past = s.past })
+
+-- the line names the session, which is not coarse
+abbrev pub may_coarsen : ℕ → Begun → Bool
+may_coarsen session (Whole s) = session == s.row.id && not s.row.coarse
+may_coarsen session (Alone s) = session == s.row.id && not s.row.coarse
+
+-- such a line, before all else that is done with the session, makes it coarse
+abbrev pub Coarsens : Openings → Begun → ℕ → Option Begun → Type 0
+Coarsens o s session after = (may_coarsen session s ≡ true) × IsNew o s × (after ≡ Some (made_coarse s))
+
+-- ---- lines ----
+
 -- the line can be applied, leads from `running` to `after`, and prints this: a skipped line does
--- nothing, the first line that is not skipped begins the session, and all others are the session's
+-- nothing, the first line that is not skipped begins the session, one may make it coarse, and all others
+-- are the session's
 abbrev pub Leads : Openings → Option Begun → Line → Option Begun → List Event → Type 0
 Leads o running lines.Skip after printed = (after ≡ running) × (printed ≡ [])
 Leads o None (lines.Session row) after printed = BeginsWhole o row after × (printed ≡ [])
 Leads o None (lines.LowSession row next held) after printed = BeginsAlone row next held after × (printed ≡ [])
 Leads o None line after printed = ⊥
+Leads o (Some s) (lines.Coarse session) after printed = Coarsens o s session after × (printed ≡ [])
 Leads o (Some s) line after printed = GoesOn s line after printed
 
 -- the line can't be applied: it is another line where there is no session, a session line with a
--- number outside its range, or what the session has been through refuses it
+-- number outside its range, one that would make coarse what is coarse or not new, or what the session has
+-- been through refuses it
 abbrev pub IsRefused : Option Begun → Line → Type 0
 IsRefused running lines.Skip = ⊥
 IsRefused None (lines.Session row) = (key : RowKey) × (first_bad row ≡ Some key)
 IsRefused None (lines.LowSession row next held) = (key : RowKey) × (first_bad row ≡ Some key)
 IsRefused None line = Unit {0}
+IsRefused (Some s) (lines.Coarse session) = (may_coarsen session s ≡ false) ⊎ ((o : Openings) → IsNew o s → ⊥)
 IsRefused (Some (Whole s)) line = IsRefusedWhole s.row s.past line
 IsRefused (Some (Alone s)) line = IsRefusedAlone s.row s.past line
 
@@ -85,7 +116,7 @@ Stops (Some (Whole s)) line after printed fault =
     × ((q : Past) × (end size_of_message size : ℕ) × Overfills s.row s.past line q printed end size_of_message size
     × (fault ≡ faults.Full s.row.id end size_of_message size) × (after ≡ Some (Whole (record { row = s.row; past = q }))))
 Stops (Some (Alone s)) line after printed fault =
-    (is_timely_alone s.row s.past line ≡ true)
+    (is_apt_alone s.row s.past line ≡ true)
     × ((q : PastAlone) × StepAlone s.row s.past line true q printed
     × (fault ≡ faults.Device s.row.id roles.Low) × (after ≡ Some (Alone (record { row = s.row; past = q }))))
 

@@ -1,6 +1,6 @@
 -- The transcript of a whole script, which may have up to 16 sessions of either kind. What a line does to its own session
 -- stands in Scripts, as if the script had this session alone. Here each line finds its session by the number that it
--- names; the lines that begin sessions stand before all others; and no moment falls, whichever session's line has it.
+-- names; the lines that begin sessions, and those that make them coarse, stand before all others; and no moment falls, whichever session's line has it.
 use Rattle.std.specs.Prelude.{◌≡◌, ◌⊎◌, ℕ, ◌<◌, Bool, true, false, ◌&&◌, ◌||◌, ◌==◌, not, nat_lt, nat_le, max, if◌then◌else◌, List, [], ◌∷◌, ◌++◌, length, filter, find, Option, Some, None}
 use Rattle.std.specs.List.{AllByRecursion}
 use Rattle.script_reader.specs.declared.line.Line.{Line}
@@ -18,6 +18,7 @@ abbrev pub session_in : Line → Option ℕ
 session_in lines.Skip = None
 session_in (lines.Session row) = Some row.id
 session_in (lines.LowSession row next held) = Some row.id
+session_in (lines.Coarse session) = Some session
 session_in (lines.Look session m w a) = Some session
 session_in (lines.Told session m w fault told a) = Some session
 session_in (lines.Gone session m) = Some session
@@ -33,6 +34,13 @@ abbrev pub begins_session : Line → Bool
 begins_session (lines.Session row) = true
 begins_session (lines.LowSession row next held) = true
 begins_session _ = false
+
+-- it stands before all lines of another kind: it begins a session, or makes one coarse
+abbrev pub stands_first : Line → Bool
+stands_first (lines.Session row) = true
+stands_first (lines.LowSession row next held) = true
+stands_first (lines.Coarse session) = true
+stands_first _ = false
 
 -- the moment of a line that has one
 abbrev pub moment_in : Line → Option ℕ
@@ -74,7 +82,7 @@ AreRising [] = Unit {0}
 AreRising (s ∷ later) = AllByRecursion (λ t. session_number s < session_number t) later × AreRising later
 
 -- what a script has come to: its sessions, the moment of the last line of any of them that had one, and whether a line came
--- that began none
+-- that needs not stand first
 pub record Sessions : Type 0 where
   pub begun : List Begun
   pub moment : ℕ
@@ -88,7 +96,7 @@ abbrev pub led_to : Sessions → Line → Begun → Sessions
 led_to t line s = record {
   begun = with_session s t.begun;
   moment = max t.moment (moment_of s);
-  is_under_way = t.is_under_way || not (begins_session line);
+  is_under_way = t.is_under_way || not (stands_first line);
 }
 
 -- ---- a line ----
@@ -97,10 +105,11 @@ abbrev pub is_from : ℕ → Option ℕ → Bool
 is_from last None = true
 is_from last (Some m) = nat_le last m
 
--- a session begins before every line that begins none, and at most 16 do; no moment is below one that came before it
+-- a line that stands first comes before every line that does not, and at most 16 begin sessions; no moment is below one that
+-- came before it
 abbrev pub is_in_turn : Sessions → Line → Bool
 is_in_turn t line =
-    if begins_session line then (not t.is_under_way && nat_lt (length t.begun) 16)
+    if stands_first line then (not t.is_under_way && (not (begins_session line) || nat_lt (length t.begun) 16))
     else is_from t.moment (moment_in line)
 
 -- the line can be applied, leads from t to u, and prints this: it does to the session that it names what it does in a

@@ -8,11 +8,12 @@ use Rattle.script_reader.specs.declared.line.Line.TheVariants as lines
 use Rattle.script_reader.specs.declared.event.Event.{Event}
 use Rattle.script_reader.specs.declared.event.Event.TheVariants as prints
 
--- a line is low's own: it begins the session, makes a low look, says that low's connection is gone, or
--- opens both processes again. The others are High's, the network's and the receiver's, or are skipped
+-- a line is low's own: it begins the session, makes it coarse, makes a low look, says that low's connection is
+-- gone, or opens both processes again. The others are High's, the network's and the receiver's, or are skipped
 abbrev pub is_lows : Line → Bool
 is_lows (lines.Session row) = true
 is_lows (lines.LowSession row next held) = true
+is_lows (lines.Coarse session) = true
 is_lows (lines.Look session m w a) = true
 is_lows (lines.Told session m w fault told a) = true
 is_lows (lines.Gone session m) = true

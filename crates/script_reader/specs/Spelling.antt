@@ -1,7 +1,7 @@
 -- The one spelling in which a line of a script is printed: digits in lower case, and `-` for no bytes.
 use Rattle.std.specs.Prelude.{ℕ, List, [], ◌∷◌, ◌++◌, codes, decimal}
 use Rattle.script_reader.specs.declared.line.Line.{Line}
-use Rattle.script_reader.specs.declared.line.Line.TheVariants.{Skip, Session, LowSession, Look, Told, Gone, High, Carry, Return, Done, Restart, ReceiverRestart}
+use Rattle.script_reader.specs.declared.line.Line.TheVariants.{Skip, Session, LowSession, Coarse, Look, Told, Gone, High, Carry, Return, Done, Restart, ReceiverRestart}
 use Rattle.script_reader.specs.declared.line.ToldFeedback.{ToldFeedback}
 use Rattle.script_reader.specs.declared.line.ToldFeedback.TheVariants.{Quiet, Full, Pair}
 use Rattle.script_reader.specs.declared.line.Arriving.{Arriving}
@@ -28,6 +28,7 @@ abbrev pub line_fields : Line → List (List ℕ)
 line_fields Skip = []
 line_fields (Session row) = codes "session" ∷ row_fields row
 line_fields (LowSession row next held) = codes "low-session" ∷ (row_fields row ++ decimal next ∷ held_field held ∷ [])
+line_fields (Coarse session) = codes "coarse" ∷ decimal session ∷ []
 line_fields (Look session moment word arrival) =
     codes "look" ∷ decimal session ∷ decimal moment ∷ word_field word ∷ arriving_fields arrival
 line_fields (Told session moment word fault feedback arrival) =

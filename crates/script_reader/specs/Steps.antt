@@ -84,6 +84,7 @@ abbrev pub is_timely : SessionRow → Past → Line → Bool
 is_timely row p lines.Skip = false
 is_timely row p (lines.Session other) = false
 is_timely row p (lines.LowSession other next held) = false
+is_timely row p (lines.Coarse session) = false
 is_timely row p (lines.Told session m w fault told a) = false
 is_timely row p (lines.Look session m w a) = session == row.id && nat_le p.moment m
 is_timely row p (lines.Gone session m) = session == row.id && nat_le p.moment m
@@ -144,6 +145,7 @@ abbrev pub LineStep : SessionRow → Past → Line → Past → List Event → T
 LineStep row p lines.Skip q printed = ⊥
 LineStep row p (lines.Session other) q printed = ⊥
 LineStep row p (lines.LowSession other next held) q printed = ⊥
+LineStep row p (lines.Coarse session) q printed = ⊥
 LineStep row p (lines.Told session m w fault told a) q printed = ⊥
 LineStep row p (lines.Look session m w a) q printed =
     (c : LineComing) × Arrives session p.reading a c × IsJoinedLook row p m w c q printed

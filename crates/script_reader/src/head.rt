@@ -28,6 +28,9 @@ pub enum LineHead {
         next: u64,
         held: bool,
     },
+    Coarse {
+        session: u32,
+    },
     Look {
         session: u32,
         moment: u64,
@@ -122,6 +125,7 @@ impl LineHead {
                 next: *next,
                 held: *held,
             },
+            LineHead::Coarse { session } => Line::Coarse { session: *session },
             LineHead::Look {
                 session,
                 moment,
@@ -240,6 +244,7 @@ impl Line {
                 next: *next,
                 held: *held,
             },
+            Line::Coarse { session } => LineHead::Coarse { session: *session },
             Line::Look {
                 session,
                 moment,

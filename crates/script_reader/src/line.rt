@@ -41,6 +41,10 @@ pub enum Line {
         /// The last one, without bytes, is in the low hand; then `next` is at least 1.
         held: bool,
     },
+    /// The session becomes coarse: of each average only its level comes down to Low.
+    Coarse {
+        session: u32,
+    },
     /// What comes is added to what waits, then the low process looks once.
     Look {
         session: u32,

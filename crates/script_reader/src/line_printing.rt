@@ -161,6 +161,10 @@ fn put_line<const N: usize>(into: &mut ArrayVec<u8, N>, head: &LineHead, body: &
             put_field(into, *next);
             put_held(into, *held);
         }
+        LineHead::Coarse { session } => {
+            put(into, b"coarse");
+            put_field(into, u64::from(*session));
+        }
         LineHead::Look {
             session,
             moment,

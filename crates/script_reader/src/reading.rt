@@ -2,7 +2,7 @@ ghost use Rattle.std.specs.Prelude.{◌≡◌, ℕ, ◌+◌, ◌^◌, List, IfSo
 ghost use Rattle.script_reader.specs.Heads.{arriving_with, line_with, CanHold, CanHoldLine};
 ghost use Rattle.script_reader.specs.Grammar.{IsLine};
 ghost use Rattle.script_reader.specs.Lawful.{IsLawfulLine};
-ghost use Rattle.script_reader.specs.Parsing.{Reads, field_at, number, row_at, session_of, low_session_of, hello_of, data_of, raw_of, arriving_of, look_of, told_of, session_and_moment, gone_of, high_of, carry_of, return_of, done_of, restart_of, receiver_restart_of, line_of, line_at};
+ghost use Rattle.script_reader.specs.Parsing.{Reads, field_at, number, row_at, session_of, low_session_of, coarse_of, hello_of, data_of, raw_of, arriving_of, look_of, told_of, session_and_moment, gone_of, high_of, carry_of, return_of, done_of, restart_of, receiver_restart_of, step_of, line_of, line_at};
 
 use crate::body::Body;
 use crate::fields::Fields;
@@ -69,6 +69,18 @@ fn read_fields(fields: &mut Fields, body: &mut Body) -> Option<LineHead>
     if word == b"low-session".as_slice() {
         return read_low_session(fields);
     }
+    if word == b"coarse".as_slice() {
+        return read_coarse(fields);
+    }
+    read_step(word, fields, body)
+}
+
+/// A line of a session that has begun, behind its first word.
+#[tactic(auto, unfolding(crate::specs::Parsing::step_of))]
+fn read_step(word: &[u8], fields: &mut Fields, body: &mut Body) -> Option<LineHead>
+    ensures value { option_map (line_with body.new) result ≡ step_of word.now fields.old }
+    ensures room { IfSome result (λ it. CanHoldLine it body.new) }
+{
     if word == b"look".as_slice() {
         return read_look(fields, body);
     }
@@ -156,6 +168,18 @@ fn read_low_session(fields: &mut Fields) -> Option<LineHead>
         return None;
     }
     Some(LineHead::LowSession { row, next, held })
+}
+
+#[tactic(auto, unfolding(crate::specs::Parsing::coarse_of))]
+fn read_coarse(fields: &mut Fields) -> Option<LineHead>
+    ensures value { (bytes : List ℕ) → option_map (line_with bytes) result ≡ coarse_of fields.old }
+    ensures room { (bytes : List ℕ) → IfSome result (λ it. CanHoldLine it bytes) }
+{
+    let session = fields.small()?;
+    if !fields.is_done() {
+        return None;
+    }
+    Some(LineHead::Coarse { session })
 }
 
 #[tactic(auto, unfolding(crate::specs::Parsing::hello_of))]

@@ -1,8 +1,9 @@
-ghost use Rattle.std.specs.Prelude.{◌≡◌, ℕ, ◌+◌, ◌≤◌, List, ◌++◌, IfSome, option_map};
+ghost use Rattle.std.specs.Prelude.{◌≡◌, true, ℕ, ◌+◌, ◌≤◌, List, ◌++◌, IfSome, option_map};
 ghost use Rattle.arrayvec.specs.ArrayVec.{array_vec_len};
 ghost use Rattle.pump_frame.specs.declared.row.SessionRow.{SessionRow as Row};
 ghost use Rattle.pump_core.specs.ReplyFrames.{frame_of, IsLawfulReply};
 ghost use Rattle.low_process.specs.Looks.{arrival_of};
+ghost use Rattle.script_reader.specs.declared.line.Line.TheVariants.{Coarse};
 ghost use Rattle.script_reader.specs.Grammar.{IsLine};
 ghost use Rattle.script_reader.specs.Heads.{arriving_with, line_with, CanHold, CanHoldLine};
 ghost use Rattle.script_reader.specs.Lawful.{IsLawfulLine};
@@ -208,7 +209,10 @@ pub fn append_coarse<const N: usize>(row: &SessionRow, into: &mut ArrayVec<u8, N
     requires room { array_vec_len into.old + 2400 ≤ N }
     ensures text { into.new.items ≡ into.old.items ++ coarse_text row.now }
     ensures len { array_vec_len into.new ≤ array_vec_len into.old + 2400 }
+    ensures reads { row.now.coarse ≡ true → IsLine (Coarse row.now.id) (line_spelling (Coarse row.now.id)) }
 {
+    // Its range bounds the length.
+    let _session = row.id;
     if row.coarse {
         append_line(&LineHead::Coarse { session: row.id }, &[], into);
     }

@@ -23,6 +23,7 @@ pub mod LowAside
 pub mod LowFunction
 pub mod MomentLaws
 pub mod Named
+pub mod NewSessions
 pub mod NextLaws
 pub mod One
 pub mod OneEnd

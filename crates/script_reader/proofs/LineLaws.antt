@@ -55,7 +55,7 @@ line_takes (w ∷ fields) line e =
     by_word w (codes "coarse") fields line (coarse_of fields) _ e (coarse_takes fields line) (step_takes w fields line)))
 
 line_put : (line : Line) (fields : List (List ℕ)) → HasFields line fields → line_of fields ≡ Some line
-unfolding line_of, step_of
+unfolding line_of step_of
 line_put Skip fields h = absurd h
 line_put (Session row) fields h = rw h.1 (session_put row h.0)
 line_put (LowSession row next held) fields h = rw h.2 (low_session_put row next held h.0 h.1)

@@ -1,10 +1,10 @@
-ghost use Rattle.std.specs.Prelude.{◌≡◌, ℕ, ◌≤◌, Bool, List, [], ◌∷◌, ◌++◌, length, Option, None, Some};
+ghost use Rattle.std.specs.Prelude.{◌≡◌, ℕ, ◌≤◌, Bool, false, List, [], ◌∷◌, ◌++◌, length, Option, None, Some};
 ghost use Rattle.script_reader.specs.declared.line.Line.{Line};
 ghost use Rattle.script_reader.specs.Lines.{AreLines};
 ghost use Rattle.pump_core.specs.Replies.{LowReplies};
 ghost use Rattle.script_reader.specs.declared.event.Event.{Event as Printed};
 ghost use Rattle.script_reader.specs.Openings.{Openings, nothing_found, CanOpen, opened_world};
-ghost use Rattle.script_reader.specs.Scripts.{Begun, LeadTo, Stops, ComesTo, IsTranscript};
+ghost use Rattle.script_reader.specs.Scripts.{Begun, IsNew, LeadTo, Stops, ComesTo, IsTranscript};
 ghost use Rattle.script_reader.specs.Faults.{IsFaulty, IsScriptFaulty};
 ghost use Rattle.script_reader.specs.Sessions.{session_at, AreRising, Sessions, no_sessions, ScriptLeadsTo, ScriptStops, IsScriptTranscript, ScriptComesTo, lines_of, events_of};
 ghost use Rattle.script_reader.specs.Readouts.{row_of, history_of, low_lines, KeepsBounds, Sound};
@@ -152,6 +152,15 @@ pub fn sessions_stand_alone()
 pub fn sessions_rise()
     ensures { (o : Openings) (script : List Line) (t : Sessions) (printed : List Printed) →
         ScriptLeadsTo o no_sessions script t printed → AreRising t.begun × (length t.begun ≤ 16) }
+{}
+
+/// Until a line comes that begins no session and makes none coarse, each session of a script is as a line
+/// begins it: what its disks were found to hold, and no step since. So a coarse session was coarse from
+/// its first step on.
+pub fn sessions_begin_new()
+    ensures { (o : Openings) (script : List Line) (t : Sessions) (printed : List Printed) →
+        ScriptLeadsTo o no_sessions script t printed → t.is_under_way ≡ false →
+        (number : ℕ) (s : Begun) → session_at number t.begun ≡ Some s → IsNew o s }
 {}
 
 /// What a script of several sessions has printed of each of them is sound at each of its lines, also where

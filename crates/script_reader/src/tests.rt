@@ -42,6 +42,29 @@ fn a_low_side_alone_begins(rt: HostRuntime) {
     assert_eq!(rt; low_session(last), Some((281474976710656, true)));
 }
 
+#[test]
+fn a_session_is_made_coarse(rt: HostRuntime) {
+    let coarse = read_line(b"coarse 4294967295");
+    assert!(rt;
+        matches!(
+            coarse,
+            Some(Line::Coarse {
+                session: 4294967295
+            })
+        )
+    );
+    // no number, another, one past its bound, a field too many, another word
+    for line in [
+        b"coarse".as_slice(),
+        b"coarse x",
+        b"coarse 4294967296",
+        b"coarse 1 2",
+        b"Coarse 1",
+    ] {
+        assert!(rt; is_no_line(line));
+    }
+}
+
 // The outcome and the feedback of a look of session 1 at 5 with the word 10 to which nothing comes.
 fn told(bytes: &[u8]) -> Option<(bool, ToldFeedback)> {
     match read_line(bytes) {

@@ -19,6 +19,7 @@ fn lines_are_printed_as_they_are_spelled(rt: HostRuntime) {
     for text in [
         b"session 1 8 64 4 20000 100000 500000 weather watch".as_slice(),
         b"low-session 4294967295 3 8 2 20000 100000 500000 weather watch 281474976710656 1",
+        b"coarse 1",
         b"look 1 0 00000000 hello weather watch",
         b"look 1 1000 3c6ef35f data 0 -",
         b"look 1 1000 3c6ef35f data 281474976710655 00ff",

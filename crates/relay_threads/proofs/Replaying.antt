@@ -155,7 +155,7 @@ coarse_leads opens row o true =
     let r : SessionRow = told_row row in
     let after : Begun = alone (coarsened r) (newly o) in
     let goes : Leads opens (Some (alone r (newly o))) (lines.Coarse row.id) (Some after) [] =
-    ((ap (λ b. b && true) (own_again row.id), ((o.count, o.is_held, refl), refl)), refl) in (
+    ((ap (λ b. b && true) (own_again row.id), (o.count, o.is_held, refl), refl), refl) in (
       one_session (coarsened r) (newly o) false,
       [],
       [],

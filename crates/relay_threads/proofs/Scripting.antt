@@ -255,7 +255,7 @@ module _ (row : SessionRow) where
   coarse_reads false rest later readable h = h
   coarse_reads true rest later readable h =
       let line = line_spelling (lines.Coarse row.id) in
-      (line, Some rest, coarse_free row.id line (readable refl), readable refl, ap Some (append_assoc line (10 ∷ []) rest), h)
+      (line, Some rest, coarse_free row.id line (readable refl), readable refl, refl, h)
 
   looks_read : (made : List Made) (rest : List ℕ) (later : List Line) → AllByRecursion (IsReadable row) made → AreLines (Some rest) later (Some []) → AreLines (Some (looks_text row made ++ rest)) (looks_script row made ++ later) (Some [])
   looks_read [] rest later readable h = h

@@ -98,6 +98,10 @@ looks_text row (m ∷ before) = looks_text row before ++ look_text row m
 abbrev pub coarse_text : SessionRow → List ℕ
 coarse_text row = if row.coarse then line_text (lines.Coarse row.id) else []
 
+-- what a record begins with
+abbrev pub first_text : SessionRow → Opening → List ℕ
+first_text row o = line_text (opening_line row o) ++ coarse_text row
+
 -- the record of the looks that were made
 abbrev pub record_text : SessionRow → Opening → List Made → List ℕ
 record_text row o made = line_text (opening_line row o) ++ (coarse_text row ++ looks_text row (record_of made))

@@ -1,12 +1,11 @@
-ghost use Rattle.std.specs.Prelude.{◌≡◌, ◌++◌, List, IfSome, OnOk, OnErr};
+ghost use Rattle.std.specs.Prelude.{◌≡◌, List, IfSome, OnOk, OnErr};
 ghost use Rattle.std.specs.Io.KnownBytes.{Appends};
 ghost use Rattle.pump_link.specs.Causes.{AppendsFront, HasCause};
 ghost use Rattle.pump_core.specs.ReplyFrames.{IsLawfulReply};
 ghost use Rattle.low_process.specs.Looks.{arrival_of};
-ghost use Rattle.script_reader.specs.Spelling.{line_text};
 ghost use Rattle.relay_threads.specs.Reaching.{Reaches};
 ghost use Rattle.relay_threads.specs.Records.{Made, was_full as full_before};
-ghost use Rattle.relay_threads.specs.RecordLines.{opening_line, coarse_text, made_by, HasLawfulFrame};
+ghost use Rattle.relay_threads.specs.RecordLines.{first_text, made_by, HasLawfulFrame};
 ghost use Rattle.relay_threads.specs.LowServes.{text_after};
 
 use crate::record::{LookMade, append_coarse, append_look, append_opening, is_recorded};
@@ -23,8 +22,8 @@ pub fn write_opening<O: Sink>(
     next: u64,
     is_held: bool,
 ) -> Result<(), WriteFault>
-    ensures ok { OnOk result (Appends (O.written tape.old) (O.written tape.new) (line_text (opening_line row.now (record { count = next; is_held = is_held })) ++ coarse_text row.now)) }
-    ensures err { OnErr result (AppendsFront (O.written tape.old) (O.written tape.new) (line_text (opening_line row.now (record { count = next; is_held = is_held })) ++ coarse_text row.now)) }
+    ensures ok { OnOk result (Appends (O.written tape.old) (O.written tape.new) (first_text row.now (record { count = next; is_held = is_held }))) }
+    ensures err { OnErr result (AppendsFront (O.written tape.old) (O.written tape.new) (first_text row.now (record { count = next; is_held = is_held }))) }
     ensures cause { HasCause (O.faults tape.old) (O.faults tape.new) result }
 {
     let mut lines: ArrayVec<u8, 4800> = ArrayVec::new();

@@ -7,12 +7,11 @@ use pump_frame::Averaging;
 /// The greatest level, which is the greatest average.
 const GREATEST_LEVEL: u32 = 1_000_000_000;
 
-/// The least of 1, 2, 4 and so on to 2^29, and 10^9, that is not below this average, at most 10^9:
-/// one of 31 levels. It is at most twice the average, or 1.
+/// The least of 1, 2, 4 and so on to 2^29, and 10^9, that is not below this average: one of 31
+/// levels; 10^9 for what is above. It is at most twice the average, or 1.
 pub fn level(average: u32) -> u32
-    requires { average ≤ 10 ^ 9 }
     ensures value { result ≡ level average }
-    ensures above { average ≤ result }
+    ensures above { average ≤ 10 ^ 9 → average ≤ result }
     ensures near { result ≤ max 1 (2 * average) }
     ensures bound { result ≤ 10 ^ 9 }
 {
@@ -22,19 +21,17 @@ pub fn level(average: u32) -> u32
     (average as u64).next_power_of_two() as u32
 }
 
-/// Whether this average, at most 10^9, is a level.
+/// Whether this average is a level.
 pub fn is_level(average: u32) -> bool
-    requires { average ≤ 10 ^ 9 }
     ensures { result ≡ (level average == average) }
 {
     level(average) == average
 }
 
-/// What comes down to Low of a mean, at most 10^9: in a coarse session its level, else the mean.
+/// What comes down to Low of a mean: in a coarse session its level, else the mean itself.
 pub fn down(averaging: &Averaging, mean: u32) -> u32
-    requires { mean ≤ 10 ^ 9 }
     ensures value { result ≡ down averaging.now mean }
-    ensures bound { result ≤ 10 ^ 9 }
+    ensures bound { mean ≤ 10 ^ 9 → result ≤ 10 ^ 9 }
 {
     if averaging.coarse { level(mean) } else { mean }
 }

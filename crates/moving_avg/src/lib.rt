@@ -160,7 +160,28 @@ mod tests {
         assert_eq!(rt; window.count(), 3);
         window.clear();
         assert_eq!(rt; window.average(), 20000);
+        window.make_coarse();
+        assert_eq!(rt; window.average(), 32768);
+        window.push(100);
+        assert_eq!(rt; window.average(), 128);
+        window.clear();
+        assert_eq!(rt; window.average(), 32768);
         assert_eq!(rt; window.count(), 0);
         Ok(())
+    }
+
+    #[test]
+    fn levels_are_powers_of_two_and_the_greatest_average(rt: HostRuntime) {
+        for (average, found) in [
+            (0, 1),
+            (1, 1),
+            (3, 4),
+            (4, 4),
+            (536_870_912, 536_870_912),
+            (536_870_913, 1_000_000_000),
+            (1_000_000_000, 1_000_000_000),
+        ] {
+            assert_eq!(rt; level(average), found);
+        }
     }
 }

@@ -12,7 +12,8 @@ use Rattle.pump_core.specs.Exchanges.{is_gone}
 use Rattle.low_process.specs.Looks.{IsInBounds}
 use Rattle.relay_threads.specs.Records.{Made, is_recorded, recorded, record_of, made_of}
 use Rattle.relay_threads.specs.RecordLines.{record_text, tells_fault, taken_by, told_of, arriving_of, line_of, HasLawfulFrame}
-use Rattle.relay_threads.specs.Replays.{breaks, is_broken, AreConnected, TakeLawful, is_lost, IsReadable, AreReadable}
+use Rattle.relay_threads.specs.Replays.{breaks, is_broken, AreConnected, TakeLawful, TellLevels, is_lost, IsReadable, AreReadable}
+use Rattle.script_reader.specs.Alone.{tells_level}
 use Rattle.script_reader.specs.Generated.{generated_row}
 use Rattle.script_reader.specs.declared.line.Line.TheVariants as lines
 use Rattle.script_reader.specs.Lawful.{IsLawfulLine, IsLawfulFeedback, IsLawfulArriving}
@@ -109,6 +110,18 @@ readable_more before m reads all = more_by (is_recorded before m) m before reads
 
 -- ---- the record ----
 
+plain_levels : (f : Feedback) → tells_level generated_row (told_of generated_row f) ≡ true
+plain_levels Quiet = refl
+plain_levels Full = refl
+plain_levels Released = refl
+plain_levels (Passed seen) = refl
+plain_levels (Repeat seen) = refl
+
+-- a race is not coarse
+tell_levels : (made : List Made) → TellLevels generated_row made
+tell_levels [] = tt
+tell_levels (m ∷ before) = (plain_levels m.look.feedback, tell_levels before)
+
 pub replays_to_itself : (opens : Openings) (seed : ℕ) (made : List Made) (bytes comments : List ℕ) → AreRaceLooks seed made → AreReadable generated_row race_opening made
     → bytes ≡ record_text generated_row race_opening made ++ comments → ReplaysToItself opens bytes
 replays_to_itself opens seed made bytes comments looks readable is = record {
@@ -116,5 +129,5 @@ replays_to_itself opens seed made bytes comments looks readable is = record {
   comments = comments;
   bytes_are = is;
   lines = record_reads generated_row race_opening made readable;
-  replays = replays opens generated_row race_opening refl made looks.are_made looks.lawful looks.connected looks.kept;
+  replays = replays opens generated_row race_opening refl made looks.are_made (tell_levels made) looks.lawful looks.connected looks.kept;
 }

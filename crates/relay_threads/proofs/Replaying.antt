@@ -26,16 +26,17 @@ use Rattle.script_reader.specs.declared.event.Event.TheVariants.{End}
 use Rattle.script_reader.specs.declared.fault.Fault.TheVariants.{Device}
 use Rattle.script_reader.specs.declared.line.Line.{Line}
 use Rattle.script_reader.specs.declared.line.Line.TheVariants as lines
+use Rattle.script_reader.specs.declared.line.ToldFeedback.{ToldFeedback}
 use Rattle.script_reader.specs.declared.line.ToldFeedback.TheVariants as told
-use Rattle.script_reader.specs.Alone.{PastAlone, lost_alone, joined_alone, is_timely_alone, StepAlone, IsToldAt}
+use Rattle.script_reader.specs.Alone.{PastAlone, fresh_alone, lost_alone, joined_alone, tells_level, is_apt_alone, StepAlone, IsToldAt}
 use Rattle.script_reader.specs.Lows.{printed_replies, is_bad}
 use Rattle.script_reader.specs.Openings.{Openings}
-use Rattle.script_reader.specs.Scripts.{Begun, Alone, Leads, Stops}
-use Rattle.script_reader.specs.Sessions.{session_in, begins_session, moment_in, session_at, with_session, Sessions, no_sessions, led_to, is_from, is_in_turn, LeadsOne, ScriptLeads, StopsOne, ScriptStops, ScriptLeadsTo}
+use Rattle.script_reader.specs.Scripts.{Begun, Alone, coarsened, Leads, Stops}
+use Rattle.script_reader.specs.Sessions.{session_in, begins_session, stands_first, moment_in, session_at, with_session, Sessions, no_sessions, led_to, is_from, is_in_turn, LeadsOne, ScriptLeads, StopsOne, ScriptStops, ScriptLeadsTo}
 use Rattle.script_reader.proofs.Hearing.{Hears, quiet_is}
 use Rattle.relay_threads.specs.Records.{Made, looks_made, replies_made, life_made, history_made, AreMade, passes_on, was_full, is_recorded, record_of}
-use Rattle.relay_threads.specs.RecordLines.{taken_by, tells_fault, told_of, arriving_of, line_of, without_ports, opening_line, comment_lines, looks_script, HasLawfulFrame}
-use Rattle.relay_threads.specs.Replays.{is_reply, breaks, is_broken, has_bytes, AreConnected, TakeLawful, is_lost, low_events, reply_events, Replays, StopsAtLast}
+use Rattle.relay_threads.specs.RecordLines.{taken_by, tells_fault, told_of, arriving_of, line_of, without_ports, told_row, opening_line, coarse_lines, comment_lines, looks_script, HasLawfulFrame}
+use Rattle.relay_threads.specs.Replays.{is_reply, breaks, is_broken, has_bytes, AreConnected, TakeLawful, TellLevels, is_lost, low_events, reply_events, Replays, StopsAtLast}
 use Rattle.relay_threads.proofs.Machine.{led, reply_led}
 use Rattle.relay_threads.proofs.Kept.{thin_of, same_replies, recorded_at}
 use Rattle.relay_threads.proofs.Alike.{Same, same_gone, same_told, down_after}
@@ -73,18 +74,18 @@ under_way false = refl
 greater : (a b : ℕ) → a ≤ b → max a b ≡ b
 greater a b le = omega arith
 
-led_is : (row : SessionRow) (p q : PastAlone) (way : Bool) (line : Line) → p.moment ≤ q.moment → begins_session line ≡ false → led_to (one_session row p way) line (alone row q) ≡ one_session row q true
+led_is : (row : SessionRow) (p q : PastAlone) (way : Bool) (line : Line) → p.moment ≤ q.moment → stands_first line ≡ false → led_to (one_session row p way) line (alone row q) ≡ one_session row q true
 led_is row p q way line le plain = λ i. record {
   begun = placed row p q i;
   moment = greater p.moment q.moment le i;
   is_under_way = (ap (λ b. way || not b) plain ∙ under_way way) i;
 }
 
-in_turn : (row : SessionRow) (p : PastAlone) (way : Bool) (line : Line) (m : ℕ) → begins_session line ≡ false → moment_in line ≡ Some m → p.moment ≤ m → is_in_turn (one_session row p way) line ≡ true
+in_turn : (row : SessionRow) (p : PastAlone) (way : Bool) (line : Line) (m : ℕ) → stands_first line ≡ false → moment_in line ≡ Some m → p.moment ≤ m → is_in_turn (one_session row p way) line ≡ true
 in_turn row p way line m plain dated le =
-    ap (λ (t : Bool × Option ℕ). if t.0 then (not way && nat_lt 1 16) else is_from p.moment t.1) (λ i. (plain i, dated i)) ∙ le-leb p.moment m le
+    ap (λ (t : Bool × Option ℕ). if t.0 then (not way && (not (begins_session line) || nat_lt 1 16)) else is_from p.moment t.1) (λ i. (plain i, dated i)) ∙ le-leb p.moment m le
 
-leads_on : (opens : Openings) (row : SessionRow) (p q : PastAlone) (way : Bool) (line : Line) (printed : List Event) → session_in line ≡ Some row.id → begins_session line ≡ false → moment_in line ≡ Some q.moment → p.moment ≤ q.moment
+leads_on : (opens : Openings) (row : SessionRow) (p q : PastAlone) (way : Bool) (line : Line) (printed : List Event) → session_in line ≡ Some row.id → stands_first line ≡ false → moment_in line ≡ Some q.moment → p.moment ≤ q.moment
     → Leads opens (Some (alone row p)) line (Some (alone row q)) printed → ScriptLeads opens (one_session row p way) line (one_session row q true) printed
 leads_on opens row p q way line printed named plain dated le goes =
     subst (λ (at : Option ℕ). LeadsOne opens (one_session row p way) line at (one_session row q true) printed) (sym named) (
@@ -96,7 +97,7 @@ leads_on opens row p q way line printed named plain dated le goes =
       ),
     )
 
-stops_on : (row : SessionRow) (p q : PastAlone) (way : Bool) (line : Line) (printed : List Event) → session_in line ≡ Some row.id → begins_session line ≡ false → moment_in line ≡ Some q.moment → p.moment ≤ q.moment
+stops_on : (row : SessionRow) (p q : PastAlone) (way : Bool) (line : Line) (printed : List Event) → session_in line ≡ Some row.id → stands_first line ≡ false → moment_in line ≡ Some q.moment → p.moment ≤ q.moment
     → Stops (Some (alone row p)) line (Some (alone row q)) printed (Device row.id roles.Low) → ScriptStops (one_session row p way) line (one_session row q true) printed (Device row.id roles.Low)
 stops_on row p q way line printed named plain dated le goes =
     subst (λ (at : Option ℕ). StopsOne (one_session row p way) line at (one_session row q true) printed (Device row.id roles.Low)) (sym named) (
@@ -136,6 +137,46 @@ gone_armed : (stores : Bool) → false ≡ (not stores && false)
 gone_armed true = refl
 gone_armed false = refl
 
+-- the low side alone before its first look
+abbrev newly : Opening → PastAlone
+newly o = past (first_life o) false (Within []) 0
+
+again_placed : (row : SessionRow) (p q : PastAlone) → with_session (alone (coarsened row) q) (alone row p ∷ []) ≡ alone (coarsened row) q ∷ []
+again_placed row p q =
+    ap (λ (t : Bool × Bool). if t.0 then alone (coarsened row) q ∷ alone row p ∷ [] else (if t.1 then alone (coarsened row) q ∷ [] else alone row p ∷ alone (coarsened row) q ∷ []))
+    (λ i. (not_below row.id i, own_again row.id i))
+
+-- the second line of a coarse session's record
+coarse_leads : (opens : Openings) (row : SessionRow) (o : Opening) (c : Bool)
+    → ScriptLeadsTo opens (one_session (told_row row) (newly o) false) ((if c then lines.Coarse row.id ∷ [] else []) ++ [])
+    (one_session (record (told_row row) { coarse = c }) (newly o) false) []
+coarse_leads opens row o false = (refl, refl)
+coarse_leads opens row o true =
+    let r : SessionRow = told_row row in
+    let after : Begun = alone (coarsened r) (newly o) in
+    let goes : Leads opens (Some (alone r (newly o))) (lines.Coarse row.id) (Some after) [] =
+    ((ap (λ b. b && true) (own_again row.id), (o.count, o.is_held, refl), refl), refl) in (
+      one_session (coarsened r) (newly o) false,
+      [],
+      [],
+      (
+        refl,
+        (
+          after,
+          subst (λ (found : Option Begun). Leads opens found (lines.Coarse row.id) (Some after) []) (sym (found r (newly o))) goes,
+          λ i. record { begun = sym (again_placed r (newly o) (newly o)) i; moment = 0; is_under_way = false },
+        ),
+      ),
+      (refl, refl),
+      refl,
+    )
+
+-- a pair is a level for a row without its ports where it is one for the row
+bare_levels : (row : SessionRow) (told : ToldFeedback) → tells_level (without_ports row) told ≡ tells_level row told
+bare_levels row told.Quiet = refl
+bare_levels row told.Full = refl
+bare_levels row (told.Pair count average) = refl
+
 module _ (opens : Openings) (row : SessionRow) (o : Opening) where
   abbrev bare : SessionRow
   bare = without_ports row
@@ -148,7 +189,7 @@ module _ (opens : Openings) (row : SessionRow) (o : Opening) where
     pub moment : ℕ
     pub way : Bool
     pub printed : List Event
-    pub leads : ScriptLeadsTo opens no_sessions (opening_line row o ∷ looks_script row made) (one_session bare (past history broken reading moment) way) printed
+    pub leads : ScriptLeadsTo opens no_sessions (opening_line row o ∷ (coarse_lines row ++ looks_script row made)) (one_session bare (past history broken reading moment) way) printed
     pub at : StandsAt bare s moment history
     pub replies : LowReplies bare history (replies_made made)
     pub newest : moment ≡ last_moment (looks_made made)
@@ -164,7 +205,7 @@ module _ (opens : Openings) (row : SessionRow) (o : Opening) where
     moment = 0;
     way = false;
     printed = [];
-    leads = (one_session bare (past (first_life o) false (Within []) 0) false, [], [], (refl, (alone bare (past (first_life o) false (Within []) 0), ((lawful, refl), refl), refl)), (refl, refl), refl);
+    leads = (one_session (told_row row) (newly o) false, [], [], (refl, (alone (told_row row) (newly o), ((lawful, refl), refl), refl)), coarse_leads opens row o row.coarse, refl);
     at = record { earlier = tt; parts = []; cut = record { are_parts = tt; looks = refl }; state = refl; newest = refl; ordered = tt };
     replies = ([], [], refl, ([], record { are_parts = tt; looks = refl }, refl), refl);
     newest = refl;
@@ -178,13 +219,13 @@ module _ (opens : Openings) (row : SessionRow) (o : Opening) where
     pub line : Line
     pub line_is : line_of row m ≡ line
     pub named : session_in line ≡ Some bare.id
-    pub plain : begins_session line ≡ false
+    pub plain : stands_first line ≡ false
     pub dated : moment_in line ≡ Some m.look.moment
     pub history : History
     pub broken : Bool
     pub reading : Reading
     pub printed : List Event
-    pub timely : is_timely_alone bare (past t.history t.broken t.reading t.moment) line ≡ true
+    pub timely : is_apt_alone bare (past t.history t.broken t.reading t.moment) line ≡ true
     pub step : StepAlone bare (past t.history t.broken t.reading t.moment) line (tells_fault m.reply) (past history broken reading m.look.moment) printed
     pub leads : StepAlone bare (past t.history t.broken t.reading t.moment) line false (past history broken reading m.look.moment) printed
         → Leads opens (Some (alone bare (past t.history t.broken t.reading t.moment))) line (Some (alone bare (past history broken reading m.look.moment))) printed
@@ -208,9 +249,12 @@ module _ (opens : Openings) (row : SessionRow) (o : Opening) where
     timely_now : (row.id == row.id && nat_le t.moment m) ≡ true
     timely_now = ap (λ (z : Bool × Bool). z.0 && z.1) (λ i. (own_again row.id i, le-leb t.moment m order i))
 
-    told_step : (a : Arrival) → is_gone a ≡ false → FeedbackFits row s (x a) → HasLawfulFrame (taken_by (mk a)) → (is_broken before ≡ true → has_bytes (taken_by (mk a)) ≡ false) → line_of row (mk a) ≡ lines.Told row.id m w (tells_fault (mk a).reply) (told_of row f) (arriving_of (taken_by (mk a)))
+    apt_now : tells_level row (told_of row f) ≡ true → (row.id == row.id && (nat_le t.moment m && tells_level bare (told_of row f))) ≡ true
+    apt_now level = ap (λ (z : Bool × Bool × Bool). z.0 && (z.1 && z.2)) (λ i. (own_again row.id i, le-leb t.moment m order i, (bare_levels row (told_of row f) ∙ level) i))
+
+    told_step : (a : Arrival) → tells_level row (told_of row f) ≡ true → is_gone a ≡ false → FeedbackFits row s (x a) → HasLawfulFrame (taken_by (mk a)) → (is_broken before ≡ true → has_bytes (taken_by (mk a)) ≡ false) → line_of row (mk a) ≡ lines.Told row.id m w (tells_fault (mk a).reply) (told_of row f) (arriving_of (taken_by (mk a)))
         → Stepped s before t (mk a)
-    told_step a stays fits lawful free line_is =
+    told_step a level stays fits lawful free line_is =
         let same = same_told row s m w d f s.phase a stays fits in
         let x' : Look = alike.told row s m w d f a s.phase in
         let fault : Bool = tells_fault (mk a).reply in
@@ -235,9 +279,9 @@ module _ (opens : Openings) (row : SessionRow) (o : Opening) where
           broken = breaks (taken_by (mk a)) t.broken;
           reading = c.c.reading;
           printed = out;
-          timely = timely_now;
+          timely = apt_now level;
           step = (c.c, c.arrives, (c.few, subst (λ (z : Arrival). IsToldAt bare pj m w (told_of row f) z fault q out) (sym c.offered) (f, look)));
-          leads = λ step. (timely_now, (q, step, refl));
+          leads = λ step. (apt_now level, (q, step, refl));
           at = subst (λ (z : State). StandsAt bare z m (looked t.history x')) same.after (stood bare s pj (told_of row f) x' (replies_made before) t.at t.replies same.fits order hears);
           replies = subst (λ (z : List Sent). LowReplies bare (looked t.history x') (replies_made before ++ z)) sends (replied bare s pj (told_of row f) x' (replies_made before) t.at t.replies same.fits order hears);
           breaking = ap (λ b. breaks (taken_by (mk a)) b) t.breaking;
@@ -292,11 +336,11 @@ module _ (opens : Openings) (row : SessionRow) (o : Opening) where
           low = low_of bare.id m _ f (sent x' (reply_at bare s x')) ∙ ap (printed_replies row.id) sends;
         }
 
-    pub stepped : (a : Arrival) → FeedbackFits row s (x a) → (is_gone a ≡ true → takes_at s (x a) ≡ true) → HasLawfulFrame (taken_by (mk a)) → (is_broken before ≡ true → has_bytes (taken_by (mk a)) ≡ false) → Stepped s before t (mk a)
-    stepped Gone fits takes lawful free = gone_step fits (takes refl)
-    stepped Nothing fits takes lawful free = told_step Nothing refl fits lawful free refl
-    stepped Bad fits takes lawful free = told_step Bad refl fits lawful free refl
-    stepped (Came g) fits takes lawful free = told_step (Came g) refl fits lawful free refl
+    pub stepped : (a : Arrival) → tells_level row (told_of row f) ≡ true → FeedbackFits row s (x a) → (is_gone a ≡ true → takes_at s (x a) ≡ true) → HasLawfulFrame (taken_by (mk a)) → (is_broken before ≡ true → has_bytes (taken_by (mk a)) ≡ false) → Stepped s before t (mk a)
+    stepped Gone level fits takes lawful free = gone_step fits (takes refl)
+    stepped Nothing level fits takes lawful free = told_step Nothing level refl fits lawful free refl
+    stepped Bad level fits takes lawful free = told_step Bad level refl fits lawful free refl
+    stepped (Came g) level fits takes lawful free = told_step (Came g) level refl fits lawful free refl
 
   -- ---- all looks ----
 
@@ -357,16 +401,16 @@ module _ (opens : Openings) (row : SessionRow) (o : Opening) where
       idle_gone (Came f) e = absurd (cc)
 
   -- the step that a look's line makes
-  step_of : (m : Made) (before : List Made) (are : AreMade row o (m ∷ before)) (t : Told before (state before are.1)) → counts m ≡ true → HasLawfulFrame (taken_by m) → (is_broken before ≡ true → has_bytes (taken_by m) ≡ false)
+  step_of : (m : Made) (before : List Made) (are : AreMade row o (m ∷ before)) (t : Told before (state before are.1)) → counts m ≡ true → tells_level row (told_of row m.look.feedback) ≡ true → HasLawfulFrame (taken_by m) → (is_broken before ≡ true → has_bytes (taken_by m) ≡ false)
       → Stepped (state before are.1) before t m
-  step_of m before are t counted lawful free =
+  step_of m before are t counted level lawful free =
       let v = moves m before are in
       let s = state before are.1 in
       let x = m.look in
       let is_it : m ≡ mk s before t x.moment x.word x.is_fault x.feedback (subst (λ (n : ℕ). n ≤ x.moment) (sym t.newest) are.0.order) x.arrival = λ i. record { look = x; taken = v.taken i; reply = v.reply i } in
       let up : s.phase ≡ Down → ⊥ = λ down. still s m v.fits v.taken v.reply down counted in
       subst (λ (z : Made). Stepped s before t z) (sym is_it) (
-      stepped s before t x.moment x.word x.is_fault x.feedback (subst (λ (n : ℕ). n ≤ x.moment) (sym t.newest) are.0.order) x.arrival v.fits (gone_taken s x s.phase up)
+      stepped s before t x.moment x.word x.is_fault x.feedback (subst (λ (n : ℕ). n ≤ x.moment) (sym t.newest) are.0.order) x.arrival level v.fits (gone_taken s x s.phase up)
       (subst (λ (z : Made). HasLawfulFrame (taken_by z)) is_it lawful)
       (subst (λ (z : Made). is_broken before ≡ true → has_bytes (taken_by z) ≡ false) is_it free)
       )
@@ -390,8 +434,9 @@ module _ (opens : Openings) (row : SessionRow) (o : Opening) where
         moment = m.look.moment;
         way = true;
         printed = t.printed ++ st.printed;
-        leads = leads_then opens no_sessions (opening_line row o ∷ looks_script row before) (line_of row m ∷ comment_lines m.reply) (one_session bare p t.way) (one_session bare q true) t.printed st.printed t.leads
-            (one_session bare q true, st.printed, [], one, comments_lead opens (one_session bare q true) m.reply, sym (append-nil st.printed));
+        leads = subst (λ (z : List Line). ScriptLeadsTo opens no_sessions (opening_line row o ∷ z) (one_session bare q true) (t.printed ++ st.printed)) (append_assoc (coarse_lines row) (looks_script row before) (line_of row m ∷ comment_lines m.reply))
+            (leads_then opens no_sessions (opening_line row o ∷ (coarse_lines row ++ looks_script row before)) (line_of row m ∷ comment_lines m.reply) (one_session bare p t.way) (one_session bare q true) t.printed st.printed t.leads
+            (one_session bare q true, st.printed, [], one, comments_lead opens (one_session bare q true) m.reply, sym (append-nil st.printed)));
         at = subst (λ (z : State). StandsAt bare z m.look.moment st.history) (sym (moves m before are).state_is) st.at;
         replies = st.replies;
         newest = refl;
@@ -408,13 +453,13 @@ module _ (opens : Openings) (row : SessionRow) (o : Opening) where
       let v = moves m before are in
       elim (is_lost before) as (λ b. is_lost before ≡ b → b ≡ false) [ true ↦ λ e. absurd (still (state before are.1) m v.fits v.taken v.reply (lost_down before are.1 e) counted) | false ↦ λ e. refl ] refl
 
-  told_all : IsLawfulRow row → (made : List Made) (are : AreMade row o made) → Count made → TakeLawful made → AreConnected made → is_lost made ≡ false → Told made (state made are)
-  told_all lawful [] are count takes connected fine =
+  told_all : IsLawfulRow row → (made : List Made) (are : AreMade row o made) → Count made → TellLevels row made → TakeLawful made → AreConnected made → is_lost made ≡ false → Told made (state made are)
+  told_all lawful [] are count levels takes connected fine =
       let t = thin_of row o [] are in
       subst (λ (z : List Part). Told [] (end_of row o z)) (one_cut row (life_made o []) [] t.parts (record { are_parts = tt; looks = refl }) t.cut) (begin lawful)
-  told_all lawful (m ∷ before) are count takes connected fine =
-      let t = told_all lawful before are.1 count.1 takes.1 connected.1 (not_lost m before are count.0) in
-      extend m before are t (step_of m before are t count.0 takes.0 connected.0) fine
+  told_all lawful (m ∷ before) are count levels takes connected fine =
+      let t = told_all lawful before are.1 count.1 levels.1 takes.1 connected.1 (not_lost m before are count.0) in
+      extend m before are t (step_of m before are t count.0 levels.0 takes.0 connected.0) fine
 
   -- ---- the recorded looks ----
 
@@ -438,37 +483,40 @@ module _ (opens : Openings) (row : SessionRow) (o : Opening) where
   -- what is asked of the looks holds of those that are recorded
   pub record Kept (made : List Made) : Type 0 where
     pub count : Count (record_of made)
+    pub levels : TellLevels row (record_of made)
     pub takes : TakeLawful (record_of made)
     pub connected : AreConnected (record_of made)
     pub broken : is_broken (record_of made) ≡ is_broken made
 
-  kept_at : (m : Made) (before : List Made) (b : Bool) → is_recorded before m ≡ b → Kept before → HasLawfulFrame (taken_by m) → (is_broken before ≡ true → has_bytes (taken_by m) ≡ false) → Kept (m ∷ before)
-  kept_at m before true e k lawful free =
+  kept_at : (m : Made) (before : List Made) (b : Bool) → is_recorded before m ≡ b → Kept before → tells_level row (told_of row m.look.feedback) ≡ true → HasLawfulFrame (taken_by m) → (is_broken before ≡ true → has_bytes (taken_by m) ≡ false) → Kept (m ∷ before)
+  kept_at m before true e k level lawful free =
       let is_it : record_of (m ∷ before) ≡ m ∷ record_of before = recorded_at m before true e in
       record {
         count = subst Count (sym is_it) (counted before m e, k.count);
+        levels = subst (TellLevels row) (sym is_it) (level, k.levels);
         takes = subst TakeLawful (sym is_it) (lawful, k.takes);
         connected = subst AreConnected (sym is_it) ((λ broken. free (sym k.broken ∙ broken)), k.connected);
         broken = ap is_broken is_it ∙ ap (breaks (taken_by m)) k.broken;
       }
-  kept_at m before false e k lawful free =
+  kept_at m before false e k level lawful free =
       let is_it : record_of (m ∷ before) ≡ record_of before = recorded_at m before false e in
       record {
         count = subst Count (sym is_it) k.count;
+        levels = subst (TellLevels row) (sym is_it) k.levels;
         takes = subst TakeLawful (sym is_it) k.takes;
         connected = subst AreConnected (sym is_it) k.connected;
         broken = ap is_broken is_it ∙ k.broken ∙ sym (ap (λ a. breaks a (is_broken before)) (untaken before m e));
       }
 
-  kept : (made : List Made) → TakeLawful made → AreConnected made → Kept made
-  kept [] takes connected = record { count = tt; takes = tt; connected = tt; broken = refl }
-  kept (m ∷ before) takes connected = kept_at m before (is_recorded before m) refl (kept before takes.1 connected.1) takes.0 connected.0
+  kept : (made : List Made) → TellLevels row made → TakeLawful made → AreConnected made → Kept made
+  kept [] levels takes connected = record { count = tt; levels = tt; takes = tt; connected = tt; broken = refl }
+  kept (m ∷ before) levels takes connected = kept_at m before (is_recorded before m) refl (kept before levels.1 takes.1 connected.1) levels.0 takes.0 connected.0
 
-  pub replays : IsLawfulRow row → (made : List Made) → AreMade row o made → TakeLawful made → AreConnected made → is_lost (record_of made) ≡ false → Replays opens row o made
-  replays lawful made are takes connected fine =
-      let k = kept made takes connected in
+  pub replays : IsLawfulRow row → (made : List Made) → AreMade row o made → TellLevels row made → TakeLawful made → AreConnected made → is_lost (record_of made) ≡ false → Replays opens row o made
+  replays lawful made are levels takes connected fine =
+      let k = kept made levels takes connected in
       let few = (thin_of row o made are).are_made in
-      let t = told_all lawful (record_of made) few k.count k.takes k.connected fine in
+      let t = told_all lawful (record_of made) few k.count k.levels k.takes k.connected fine in
       let p : PastAlone = past t.history t.broken t.reading t.moment in
       let last : Event = End row.id (count_after t.history.life.opening t.at.parts) None in
       record {
@@ -477,11 +525,11 @@ module _ (opens : Openings) (row : SessionRow) (o : Opening) where
         low = filter-append is_reply t.printed (last ∷ []) ∙ append-nil (low_events t.printed) ∙ t.low ∙ ap (printed_replies row.id) (same_replies made);
       }
 
-  stops_after : IsLawfulRow row → (made few : List Made) → record_of made ≡ few → AreMade row o few → Count few → TakeLawful few → AreConnected few → is_lost few ≡ true → replies_made few ≡ replies_made made → StopsAtLast opens row o made
-  stops_after lawful made [] is_it are count takes connected lost same = absurd (cc)
-  stops_after lawful made (m ∷ before) is_it are count takes connected lost same =
-      let t = told_all lawful before are.1 count.1 takes.1 connected.1 (not_lost m before are count.0) in
-      let st = step_of m before are t count.0 takes.0 connected.0 in
+  stops_after : IsLawfulRow row → (made few : List Made) → record_of made ≡ few → AreMade row o few → Count few → TellLevels row few → TakeLawful few → AreConnected few → is_lost few ≡ true → replies_made few ≡ replies_made made → StopsAtLast opens row o made
+  stops_after lawful made [] is_it are count levels takes connected lost same = absurd (cc)
+  stops_after lawful made (m ∷ before) is_it are count levels takes connected lost same =
+      let t = told_all lawful before are.1 count.1 levels.1 takes.1 connected.1 (not_lost m before are count.0) in
+      let st = step_of m before are t count.0 levels.0 takes.0 connected.0 in
       let p : PastAlone = past t.history t.broken t.reading t.moment in
       let q : PastAlone = past st.history st.broken st.reading m.look.moment in
       let order = subst (λ (n : ℕ). n ≤ m.look.moment) (sym t.newest) are.0.order in
@@ -499,7 +547,7 @@ module _ (opens : Openings) (row : SessionRow) (o : Opening) where
         low = low_then t.printed st.printed m before t.low st.low ∙ ap (printed_replies row.id) same;
       }
 
-  pub stops_at_last : IsLawfulRow row → (made : List Made) → AreMade row o made → TakeLawful made → AreConnected made → is_lost (record_of made) ≡ true → StopsAtLast opens row o made
-  stops_at_last lawful made are takes connected lost =
-      let k = kept made takes connected in
-      stops_after lawful made (record_of made) refl (thin_of row o made are).are_made k.count k.takes k.connected lost (same_replies made)
+  pub stops_at_last : IsLawfulRow row → (made : List Made) → AreMade row o made → TellLevels row made → TakeLawful made → AreConnected made → is_lost (record_of made) ≡ true → StopsAtLast opens row o made
+  stops_at_last lawful made are levels takes connected lost =
+      let k = kept made levels takes connected in
+      stops_after lawful made (record_of made) refl (thin_of row o made are).are_made k.count k.levels k.takes k.connected lost (same_replies made)

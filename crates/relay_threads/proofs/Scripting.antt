@@ -32,7 +32,7 @@ use Rattle.script_reader.specs.Spelling.{line_spelling, line_text}
 use Rattle.script_reader.specs.Transcript.{event_fields, reply_fields}
 use Rattle.script_reader.proofs.FreeFields.{digits_without}
 use Rattle.relay_threads.specs.Records.{Made, record_of}
-use Rattle.relay_threads.specs.RecordLines.{tells_fault, told_of, arriving_of, taken_by, line_of, opening_line, comment, comment_lines, look_text, looks_text, record_text, looks_script, record_script, is_reply_kind, IsReplyFrame}
+use Rattle.relay_threads.specs.RecordLines.{tells_fault, told_of, arriving_of, taken_by, line_of, opening_line, coarse_text, comment, comment_lines, look_text, looks_text, record_text, looks_script, record_script, is_reply_kind, IsReplyFrame}
 use Rattle.relay_threads.specs.Replays.{IsReadable, AreReadable}
 use Rattle.relay_threads.proofs.ReplyKinds.{reply_frames}
 
@@ -128,6 +128,13 @@ opening_free row next held bytes (short, spelled) =
       | inr (fields, (r, n, e), e') ↦
           let most = n.most in
           rw (e', e) (free_spaced (codes "low-session" ∷ (row_fields row ++ decimal next ∷ held_field held ∷ [])) (free_text (codes "low-session") refl, (free_decimal row.id (let h = r.id in omega (arith, h)), (free_decimal row.capacity (let h = r.capacity in omega (arith, h)), (free_decimal row.message (let h = r.message in omega (arith, h)), (free_decimal row.window (let h = r.window in omega (arith, h)), (free_decimal row.start (let h = r.start in omega (arith, h)), (free_decimal row.longest (let h = r.longest in omega (arith, h)), (free_decimal row.resend (let h = r.resend in omega (arith, h)), (free_name row.low r.low, (free_name row.high r.high, (free_decimal next (omega (arith, most)), (free_held held, tt)))))))))))))
+    ]
+
+coarse_free : (session : ℕ) (bytes : List ℕ) → IsLine (lines.Coarse session) bytes → IsUnended bytes
+coarse_free session bytes (short, spelled) =
+    elim spelled [
+      | inl skip ↦ let e = skip.0 in absurd (cc)
+      | inr (fields, (hs, e), e') ↦ rw (e', e) (free_spaced (codes "coarse" ∷ decimal session ∷ []) (free_text (codes "coarse") refl, (free_decimal session (omega (arith, hs)), tt)))
     ]
 
 look_line : (row : SessionRow) (m : Made) (bytes : List ℕ) → IsLine (line_of row m) bytes → IsUnended bytes × (row.id < 2 ^ 32) × (m.look.moment ≤ 2 ^ 62)
@@ -242,6 +249,14 @@ module _ (row : SessionRow) where
     comments_read m rest later readable h,
   )
 
+  -- the second line of a coarse session's record
+  coarse_reads : (c : Bool) (rest : List ℕ) (later : List Line) → (c ≡ true → IsLine (lines.Coarse row.id) (line_spelling (lines.Coarse row.id))) → AreLines (Some rest) later (Some [])
+      → AreLines (Some ((if c then line_text (lines.Coarse row.id) else []) ++ rest)) ((if c then lines.Coarse row.id ∷ [] else []) ++ later) (Some [])
+  coarse_reads false rest later readable h = h
+  coarse_reads true rest later readable h =
+      let line = line_spelling (lines.Coarse row.id) in
+      (line, Some rest, coarse_free row.id line (readable refl), readable refl, refl, h)
+
   looks_read : (made : List Made) (rest : List ℕ) (later : List Line) → AllByRecursion (IsReadable row) made → AreLines (Some rest) later (Some []) → AreLines (Some (looks_text row made ++ rest)) (looks_script row made ++ later) (Some [])
   looks_read [] rest later readable h = h
   looks_read (m ∷ before) rest later readable h =
@@ -253,9 +268,10 @@ module _ (row : SessionRow) where
   record_reads o made readable =
       let looks : List ℕ = looks_text row (record_of made) in (
         line_spelling (opening_line row o),
-        Some looks,
+        Some (coarse_text row ++ looks),
         opening_free _ o.count o.is_held (line_spelling (opening_line row o)) readable.opening,
         readable.opening,
         refl,
-        subst (λ (z : List ℕ × List Line). AreLines (Some z.0) z.1 (Some [])) (λ i. (append-nil looks i, append-nil (looks_script row (record_of made)) i)) (looks_read (record_of made) [] [] readable.looks refl),
+        coarse_reads row.coarse looks (looks_script row (record_of made)) readable.coarse
+            (subst (λ (z : List ℕ × List Line). AreLines (Some z.0) z.1 (Some [])) (λ i. (append-nil looks i, append-nil (looks_script row (record_of made)) i)) (looks_read (record_of made) [] [] readable.looks refl)),
       )

@@ -1,6 +1,7 @@
 -- A record: the looks that are recorded, as a script of the low side alone. A list of looks has its newest
 -- look first, a script its oldest line.
 use Rattle.std.specs.Prelude.{◌≡◌, ℕ, Bool, true, false, ◌&&◌, ◌==◌, if◌then◌else◌, List, [], ◌∷◌, ◌++◌, Option, Some, None, option_map, codes, slice_index}
+use Rattle.pump_frame.specs.Averages.{averaging_of, average_of}
 use Rattle.pump_frame.specs.Frames.{IsLawful}
 use Rattle.pump_frame.specs.Spellings.{spelling}
 use Rattle.pump_frame.specs.declared.frame.Frame.{Frame}
@@ -33,7 +34,7 @@ abbrev pub told_of : SessionRow → Feedback → ToldFeedback
 told_of row Quiet = told.Quiet
 told_of row Full = told.Full
 told_of row (Passed seen) = told.Pair seen.count seen.average
-told_of row Released = told.Pair 0 row.start
+told_of row Released = told.Pair 0 (average_of (averaging_of row) [])
 told_of row (Repeat seen) = told.Pair seen.count seen.average
 
 -- the arrival that a look took
@@ -64,11 +65,19 @@ line_of row m =
 
 -- the row without its ports, which no line has
 abbrev pub without_ports : SessionRow → SessionRow
-without_ports row = record row { low_port = 0; high_port = 0; coarse = false }
+without_ports row = record row { low_port = 0; high_port = 0 }
+
+-- .. and as the line of a session tells it, which is never coarse
+abbrev pub told_row : SessionRow → SessionRow
+told_row row = record row { low_port = 0; high_port = 0; coarse = false }
 
 -- the line that a record begins with: what was found at the opening
 abbrev pub opening_line : SessionRow → Opening → Line
-opening_line row o = lines.LowSession (without_ports row) o.count o.is_held
+opening_line row o = lines.LowSession (told_row row) o.count o.is_held
+
+-- the record of a coarse session says so in its second line
+abbrev pub coarse_lines : SessionRow → List Line
+coarse_lines row = if row.coarse then lines.Coarse row.id ∷ [] else []
 
 -- ---- a record as text ----
 
@@ -85,9 +94,17 @@ abbrev pub looks_text : SessionRow → List Made → List ℕ
 looks_text row [] = []
 looks_text row (m ∷ before) = looks_text row before ++ look_text row m
 
+-- the second line of a coarse session's record
+abbrev pub coarse_text : SessionRow → List ℕ
+coarse_text row = if row.coarse then line_text (lines.Coarse row.id) else []
+
+-- what a record begins with
+abbrev pub first_text : SessionRow → Opening → List ℕ
+first_text row o = line_text (opening_line row o) ++ coarse_text row
+
 -- the record of the looks that were made
 abbrev pub record_text : SessionRow → Opening → List Made → List ℕ
-record_text row o made = line_text (opening_line row o) ++ looks_text row (record_of made)
+record_text row o made = line_text (opening_line row o) ++ (coarse_text row ++ looks_text row (record_of made))
 
 -- ---- a record as a script ----
 
@@ -101,7 +118,7 @@ looks_script row [] = []
 looks_script row (m ∷ before) = looks_script row before ++ line_of row m ∷ comment_lines m.reply
 
 abbrev pub record_script : SessionRow → Opening → List Made → List Line
-record_script row o made = opening_line row o ∷ looks_script row (record_of made)
+record_script row o made = opening_line row o ∷ (coarse_lines row ++ looks_script row (record_of made))
 
 -- ---- what is handed over ----
 

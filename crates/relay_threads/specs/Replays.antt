@@ -8,13 +8,15 @@ use Rattle.pump_core.specs.History.{Nothing, Came, Bad, Gone}
 use Rattle.script_reader.specs.declared.event.Event.{Event}
 use Rattle.script_reader.specs.declared.event.Event.TheVariants as prints
 use Rattle.script_reader.specs.declared.fault.Fault.TheVariants.{Device}
+use Rattle.script_reader.specs.declared.line.Line.TheVariants as lines
+use Rattle.script_reader.specs.Alone.{tells_level}
 use Rattle.script_reader.specs.Grammar.{IsLine}
 use Rattle.script_reader.specs.Lows.{printed_replies}
 use Rattle.script_reader.specs.Openings.{Openings}
 use Rattle.script_reader.specs.Spelling.{line_spelling}
 use Rattle.script_reader.specs.Sessions.{Sessions, no_sessions, ScriptLeadsTo, ScriptStops, IsScriptTranscript}
 use Rattle.relay_threads.specs.Records.{Made, record_of, replies_made}
-use Rattle.relay_threads.specs.RecordLines.{taken_by, tells_fault, line_of, opening_line, looks_script, record_script, HasLawfulFrame, IsReplyFrame}
+use Rattle.relay_threads.specs.RecordLines.{taken_by, tells_fault, told_of, line_of, opening_line, coarse_lines, looks_script, record_script, HasLawfulFrame, IsReplyFrame}
 
 -- ---- the connections of a life ----
 
@@ -44,6 +46,10 @@ AreConnected (m ∷ before) = (is_broken before ≡ true → has_bytes (taken_by
 -- each frame that was taken is lawful
 abbrev pub TakeLawful : List Made → Type 0
 TakeLawful made = AllByRecursion (λ m. HasLawfulFrame (taken_by m)) made
+
+-- each average that was told is a level, where the session is coarse
+abbrev pub TellLevels : SessionRow → List Made → Type 0
+TellLevels row made = AllByRecursion (λ m. tells_level row (told_of row m.look.feedback) ≡ true) made
 
 -- the newest look lost its message: the device failed
 abbrev pub is_lost : List Made → Bool
@@ -79,7 +85,7 @@ pub record StopsAtLast (opens : Openings) (row : SessionRow) (o : Opening) (made
   pub recorded : record_of made ≡ last ∷ before
   pub sessions : Sessions
   pub first : List Event
-  pub leads : ScriptLeadsTo opens no_sessions (opening_line row o ∷ looks_script row before) sessions first
+  pub leads : ScriptLeadsTo opens no_sessions (opening_line row o ∷ (coarse_lines row ++ looks_script row before)) sessions first
   pub after : Sessions
   pub second : List Event
   pub stops : ScriptStops sessions (line_of row last) after second (Device row.id roles.Low)
@@ -95,4 +101,5 @@ pub record IsReadable (row : SessionRow) (m : Made) : Type 0 where
 -- so do all lines of a record
 pub record AreReadable (row : SessionRow) (o : Opening) (made : List Made) : Type 0 where
   pub opening : IsLine (opening_line row o) (line_spelling (opening_line row o))
+  pub coarse : row.coarse ≡ true → IsLine (lines.Coarse row.id) (line_spelling (lines.Coarse row.id))
   pub looks : AllByRecursion (IsReadable row) (record_of made)

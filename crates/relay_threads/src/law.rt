@@ -5,7 +5,7 @@ ghost use Rattle.pump_core.specs.History.{Opening};
 ghost use Rattle.pump_core.specs.Exchanges.{Part, IsCut};
 ghost use Rattle.pump_core.specs.Standing.{end_of};
 ghost use Rattle.relay_threads.specs.Records.{Made, AreMade, life_made, replies_made, record_of};
-ghost use Rattle.relay_threads.specs.Replays.{TakeLawful, AreConnected, is_lost, AreReadable, Replays, StopsAtLast};
+ghost use Rattle.relay_threads.specs.Replays.{TellLevels, TakeLawful, AreConnected, is_lost, AreReadable, Replays, StopsAtLast};
 ghost use Rattle.relay_threads.specs.RecordLines.{record_text, record_script};
 ghost use Rattle.script_reader.specs.Lines.{AreLines};
 ghost use Rattle.script_reader.specs.Openings.{Openings};
@@ -26,16 +26,17 @@ pub fn records_are_lives()
 /// Where the last recorded look lost its message, that look stops the script, as a device that failed,
 /// and the `low` lines up to and with it are all replies (`stopped`). Whatever any disks were found to
 /// hold plays no part. Each frame that was taken is lawful, and after bad bytes nothing more was taken of
-/// a connection but its loss, as a reader of frames gives it.
+/// a connection but its loss, as a reader of frames gives it; and where the session is coarse, each
+/// average that was told is a level, as a coarse passage gives it.
 pub fn records_replay()
     ensures whole { (opens : Openings) (row : SessionRow) (o : Opening) (made : List Made) → IsLawfulRow row → AreMade row o made
-        → TakeLawful made → AreConnected made → is_lost (record_of made) ≡ false → Replays opens row o made }
+        → TellLevels row made → TakeLawful made → AreConnected made → is_lost (record_of made) ≡ false → Replays opens row o made }
     ensures stopped { (opens : Openings) (row : SessionRow) (o : Opening) (made : List Made) → IsLawfulRow row → AreMade row o made
-        → TakeLawful made → AreConnected made → is_lost (record_of made) ≡ true → StopsAtLast opens row o made }
+        → TellLevels row made → TakeLawful made → AreConnected made → is_lost (record_of made) ≡ true → StopsAtLast opens row o made }
 {}
 
 /// The bytes of a record are its script, each comment a line that is skipped, where each of its lines
-/// reads back, as `append_opening` and `append_look` say of what they put down.
+/// reads back, as `append_opening`, `append_coarse` and `append_look` say of what they put down.
 pub fn records_are_scripts()
     ensures { (row : SessionRow) (o : Opening) (made : List Made) → AreReadable row o made
         → AreLines (Some (record_text row o made)) (record_script row o made) (Some []) }

@@ -1,17 +1,19 @@
-ghost use Rattle.std.specs.Prelude.{◌≡◌, ℕ, ◌+◌, ◌≤◌, List, ◌++◌, IfSome, option_map};
+ghost use Rattle.std.specs.Prelude.{◌≡◌, true, ℕ, ◌+◌, ◌≤◌, List, ◌++◌, IfSome, option_map};
 ghost use Rattle.arrayvec.specs.ArrayVec.{array_vec_len};
 ghost use Rattle.pump_frame.specs.declared.row.SessionRow.{SessionRow as Row};
 ghost use Rattle.pump_core.specs.ReplyFrames.{frame_of, IsLawfulReply};
 ghost use Rattle.low_process.specs.Looks.{arrival_of};
+ghost use Rattle.script_reader.specs.declared.line.Line.TheVariants.{Coarse};
 ghost use Rattle.script_reader.specs.Grammar.{IsLine};
 ghost use Rattle.script_reader.specs.Heads.{arriving_with, line_with, CanHold, CanHoldLine};
 ghost use Rattle.script_reader.specs.Lawful.{IsLawfulLine};
 ghost use Rattle.script_reader.specs.Spelling.{line_spelling, line_text};
 ghost use Rattle.relay_threads.specs.Records.{Made, is_recorded as is_recorded_after, was_full as is_full_after};
-ghost use Rattle.relay_threads.specs.RecordLines.{told_of, taken_by, arriving_of, tells_fault as fault_in, line_of, opening_line, comment, look_text, made_by, HasLawfulFrame, IsReplyFrame};
+ghost use Rattle.relay_threads.specs.RecordLines.{told_of, taken_by, arriving_of, tells_fault as fault_in, line_of, opening_line, coarse_text, comment, look_text, made_by, HasLawfulFrame, IsReplyFrame};
 
 use arrayvec::ArrayVec;
 use low_process::{Arrival, LookHead};
+use moving_avg::down;
 use pump_core::{Feedback, Refusal, Reply};
 use pump_frame::{SessionRow, encode};
 use script_reader::{ArrivingHead, EventHead, LineHead, ToldFeedback, append_head, append_line};
@@ -62,7 +64,7 @@ fn told(row: &SessionRow, feedback: &Feedback) -> ToldFeedback
         },
         Feedback::Released => ToldFeedback::Pair {
             count: 0,
-            average: row.start,
+            average: down(&row.averaging(), row.start),
         },
         Feedback::Repeat(seen) => ToldFeedback::Pair {
             count: seen.count,
@@ -195,7 +197,23 @@ pub fn append_opening<const N: usize>(
     let row = SessionRow {
         low_port: 0,
         high_port: 0,
+        coarse: false,
         ..*row
     };
     append_line(&LineHead::LowSession { row, next, held }, &[], into);
+}
+
+/// Puts the second line of a coarse session's record behind what the room holds; nothing where the
+/// session is not coarse.
+pub fn append_coarse<const N: usize>(row: &SessionRow, into: &mut ArrayVec<u8, N>)
+    requires room { array_vec_len into.old + 2400 ≤ N }
+    ensures text { into.new.items ≡ into.old.items ++ coarse_text row.now }
+    ensures len { array_vec_len into.new ≤ array_vec_len into.old + 2400 }
+    ensures reads { row.now.coarse ≡ true → IsLine (Coarse row.now.id) (line_spelling (Coarse row.now.id)) }
+{
+    // Its range bounds the length.
+    let _session = row.id;
+    if row.coarse {
+        append_line(&LineHead::Coarse { session: row.id }, &[], into);
+    }
 }

@@ -3,33 +3,33 @@ ghost use Rattle.std.specs.Io.KnownBytes.{Appends};
 ghost use Rattle.pump_link.specs.Causes.{AppendsFront, HasCause};
 ghost use Rattle.pump_core.specs.ReplyFrames.{IsLawfulReply};
 ghost use Rattle.low_process.specs.Looks.{arrival_of};
-ghost use Rattle.script_reader.specs.Spelling.{line_text};
 ghost use Rattle.relay_threads.specs.Reaching.{Reaches};
 ghost use Rattle.relay_threads.specs.Records.{Made, was_full as full_before};
-ghost use Rattle.relay_threads.specs.RecordLines.{opening_line, made_by, HasLawfulFrame};
+ghost use Rattle.relay_threads.specs.RecordLines.{first_text, made_by, HasLawfulFrame};
 ghost use Rattle.relay_threads.specs.LowServes.{text_after};
 
-use crate::record::{LookMade, append_look, append_opening, is_recorded};
+use crate::record::{LookMade, append_coarse, append_look, append_opening, is_recorded};
 use arrayvec::ArrayVec;
 use pump_frame::SessionRow;
 use pump_link::{Sink, WriteFault, write_all};
 
-/// Writes the line that a record begins with: the row, how many messages were found stored, and whether
-/// the last of them is in the low hand. After an `Err`, which comes only where the tape's count of
-/// faults rose, a front of it was written.
+/// Writes what a record begins with: a line with the row, how many messages were found stored, and
+/// whether the last of them is in the low hand, and a second one where the session is coarse. After an
+/// `Err`, which comes only where the tape's count of faults rose, a front of them was written.
 pub fn write_opening<O: Sink>(
     tape: &mut O,
     row: &SessionRow,
     next: u64,
     is_held: bool,
 ) -> Result<(), WriteFault>
-    ensures ok { OnOk result (Appends (O.written tape.old) (O.written tape.new) (line_text (opening_line row.now (record { count = next; is_held = is_held })))) }
-    ensures err { OnErr result (AppendsFront (O.written tape.old) (O.written tape.new) (line_text (opening_line row.now (record { count = next; is_held = is_held })))) }
+    ensures ok { OnOk result (Appends (O.written tape.old) (O.written tape.new) (first_text row.now (record { count = next; is_held = is_held }))) }
+    ensures err { OnErr result (AppendsFront (O.written tape.old) (O.written tape.new) (first_text row.now (record { count = next; is_held = is_held }))) }
     ensures cause { HasCause (O.faults tape.old) (O.faults tape.new) result }
 {
-    let mut line: ArrayVec<u8, 2700> = ArrayVec::new();
-    append_opening(row, next, is_held, &mut line);
-    write_all(tape, line.as_slice())
+    let mut lines: ArrayVec<u8, 4800> = ArrayVec::new();
+    append_opening(row, next, is_held, &mut lines);
+    append_coarse(row, &mut lines);
+    write_all(tape, lines.as_slice())
 }
 
 /// Writes a look's lines, if a record has them: the look before it found the passage full or not. False

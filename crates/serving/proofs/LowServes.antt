@@ -1,5 +1,5 @@
 -- What the low worker did, from the run of its half.
-use Rattle.std.proofs.Common.{◌≡◌, ℕ, ◌≤◌, ◌<◌, Bool, true, false, List, [], ◌++◌, length, Option, Some, None, refl, sym, ap, ◌∙◌, subst, arith}
+use Rattle.std.proofs.Common.{◌≡◌, ℕ, ◌≤◌, ◌<◌, Bool, true, false, List, [], ◌++◌, length, Option, Some, None, refl, sym, ap, ◌∙◌, subst, append_assoc, arith}
 use Rattle.std.specs.Prelude.{Result, Ok, Err, OnOk, is_err, is_some}
 use Rattle.std.specs.Io.KnownBytes.{Appends}
 use Rattle.rand_chacha.specs.ChaCha.{ChaCha, key_of}
@@ -23,8 +23,8 @@ use Rattle.low_process.specs.Looks.{row_of, next_of, opening_of, is_down, is_dow
 use Rattle.relay_threads.specs.LowServes.{Lives}
 use Rattle.relay_threads.specs.LowStays.{AreStays, is_kept_by, stayed, words_in, text_in}
 use Rattle.relay_threads.specs.Reaching.{Reaches}
-use Rattle.relay_threads.specs.RecordLines.{opening_line, record_text}
-use Rattle.relay_threads.specs.Records.{AreMade, life_made}
+use Rattle.relay_threads.specs.RecordLines.{opening_line, coarse_text, first_text, looks_text, record_text}
+use Rattle.relay_threads.specs.Records.{AreMade, life_made, record_of}
 use Rattle.relay_threads.specs.Workers.{CountsEnd}
 use Rattle.relay_threads.specs.declared.rounds_end.RoundsEnd.{RoundsEnd}
 use Rattle.relay_threads.specs.declared.rounds_end.RoundsEnd.TheVariants as ends
@@ -51,10 +51,10 @@ counts_from (Some ends.RecordFailed) first before now le h = tt
 -- the opening line of the half was written
 pub opening_written : {W S E T F : Type 0} (old new : Option (List ℕ)) (result : Result T F) (row : SessionRow) (next : ℕ) (parts : LowParts W S E) {failed : Bool}
     → row ≡ row_of parts.process → next ≡ next_of parts.process → failed ≡ is_err result → failed ≡ false
-    → OnOk result (Appends old new (line_text (opening_line row (record { count = next; is_held = parts.is_held })))) → Appends old new (opening_text parts)
+    → OnOk result (Appends old new (first_text row (record { count = next; is_held = parts.is_held }))) → Appends old new (opening_text parts)
 opening_written {W} {S} {E} {T} {F} old new result row next parts row_is next_is asked fine ok =
-    subst (λ (x : SessionRow × ℕ). Appends old new (line_text (opening_line x.0 (record { count = x.1; is_held = parts.is_held })))) (λ i. (row_is i, next_is i)) (by_result result (sym asked ∙ fine) ok) where
-      by_result : (r : Result T F) → is_err r ≡ false → OnOk r (Appends old new (line_text (opening_line row (record { count = next; is_held = parts.is_held })))) → Appends old new (line_text (opening_line row (record { count = next; is_held = parts.is_held })))
+    subst (λ (x : SessionRow × ℕ). Appends old new (first_text x.0 (record { count = x.1; is_held = parts.is_held }))) (λ i. (row_is i, next_is i)) (by_result result (sym asked ∙ fine) ok) where
+      by_result : (r : Result T F) → is_err r ≡ false → OnOk r (Appends old new (first_text row (record { count = next; is_held = parts.is_held }))) → Appends old new (first_text row (record { count = next; is_held = parts.is_held }))
       by_result (Ok x) fine ok = ok
       by_result (Err x) fine ok = absurd (cc)
 
@@ -111,7 +111,8 @@ module _ {D L S E : Type 0} (t : DoorsTell D L) (m : Meaning S) (row : SessionRo
   record_is : opening_text lent.v.parts ++ text_in (row_of p) lent.ran.stays ≡ record_text row o (stayed [] lent.ran.stays)
   record_is =
       ap (λ (b : List ℕ). opening_text lent.v.parts ++ b) (lent.ran.is_record o lived)
-      ∙ ap (λ (x : SessionRow × ℕ × Bool). record_text x.0 (record { count = x.1; is_held = x.2 }) (stayed [] lent.ran.stays)) (λ i. (row_before i, next_before i, held_before i))
+      ∙ ap (λ (x : SessionRow × ℕ × Bool). first_text x.0 (record { count = x.1; is_held = x.2 }) ++ looks_text x.0 (record_of (stayed [] lent.ran.stays))) (λ i. (row_before i, next_before i, held_before i))
+      ∙ append_assoc (line_text (opening_line row o)) (coarse_text row) (looks_text row (record_of (stayed [] lent.ran.stays)))
 
   -- the disk at the end is that of the half
   now_disk_is : low_disk lent.w.parts.store ≡ now_disk

@@ -14,7 +14,7 @@ use Rattle.low_process.specs.Whole.{HasStore}
 use Rattle.relay_threads.specs.LowServes.{Lives}
 use Rattle.relay_threads.specs.LowStays.{Stay, IsRecord, StaysSo, TellsVisit, is_kept_by, steps, answers, moments_in, words_in, text_in}
 use Rattle.relay_threads.specs.Reaching.{Reaches}
-use Rattle.relay_threads.specs.RecordLines.{opening_line}
+use Rattle.relay_threads.specs.RecordLines.{first_text}
 use Rattle.relay_threads.specs.Workers.{CountsEnd}
 use Rattle.relay_threads.specs.declared.rounds_end.RoundsEnd.{RoundsEnd}
 use Rattle.serving.specs.Doors.{DoorsTell, IsOpenedAndShut}
@@ -22,9 +22,9 @@ use Rattle.serving.specs.LowEnds.{EndsLow}
 use Rattle.serving.specs.declared.low_half.LowHalf.{LowHalf}
 use Rattle.serving.specs.declared.low_half.LowParts.{LowParts}
 
--- the line that opens the record
+-- what the record begins with
 abbrev pub opening_text : {W S E : Type 0} → LowParts W S E → List ℕ
-opening_text parts = line_text (opening_line (row_of parts.process) (record { count = next_of parts.process; is_held = parts.is_held }))
+opening_text parts = first_text (row_of parts.process) (record { count = next_of parts.process; is_held = parts.is_held })
 
 -- the stays at its door lead from v to w
 pub record LowRan {R L W S E : Type 0} (t : DoorsTell R L) (m : Meaning S) (gives : W → List ℕ → Type 0) (reads now_reads : List ℕ → Type 0) (written now_written : Option (List ℕ)) (faults now_faults rounds : ℕ) (v w : LowHalf R W S E) : Type 0 where

@@ -1,0 +1,13 @@
+use Rattle.std.proofs.Common.{◌++◌, List, ℕ, OnErr, ap, subst, ◌∙◌}
+use Rattle.pump_link.specs.Causes.{AppendsFront}
+use Rattle.script_reader.specs.Spelling.{line_text}
+use Rattle.relay_threads.specs.RecordLines.{opening_line, coarse_text}
+use Rattle.relay_threads.proofs.tape.write_opening.Goals as goal
+
+pub returns-clause-err : goal.returns-clause-err
+returns-clause-err g c =
+    let row = c.args.row.now in
+    let opening = line_text (opening_line row (record { count = c.args.next; is_held = c.args.is_held })) in
+    let first = c.append_opening.ensures.text ∙ ap (λ (z : List ℕ). z ++ opening) c.new-lines.ensures in
+    let lines = c.as_slice.ensures.value ∙ c.append_coarse.ensures.text ∙ ap (λ (z : List ℕ). z ++ coarse_text row) first in
+    subst (λ (bytes : List ℕ). OnErr c.write_all.result (AppendsFront (g.O.Sink.written c.args.tape.now) (g.O.Sink.written c.write_all.new.out) bytes)) lines c.write_all.ensures.err

@@ -2,6 +2,7 @@
 use Rattle.std.proofs.Common.{◌≡◌, ℕ, ◌^◌, ◌<◌, ◌≤◌, Bool, true, false, List, [], ◌∷◌, ◌++◌, length, refl, sym, ◌∙◌, arith}
 use Rattle.std.specs.Prelude.{if◌then◌else◌}
 use Rattle.std.specs.List.{AllByRecursion}
+use Rattle.pump_frame.specs.Averages.{down}
 use Rattle.pump_frame.specs.Spellings.{spelling, header_of}
 use Rattle.pump_frame.specs.declared.frame.Frame.{Frame}
 use Rattle.pump_core.specs.declared.feedback.Feedback.{Feedback}
@@ -42,6 +43,7 @@ still Bad true was p = absurd p
 still Gone true was p = absurd p
 
 feedback_lawful : (f : Feedback) → IsInBounds f → IsLawfulFeedback (told_of generated_row f)
+unfolding down
 feedback_lawful Quiet b = tt
 feedback_lawful Full b = tt
 feedback_lawful (Passed seen) b = b

@@ -1,4 +1,4 @@
-use Rattle.std.proofs.Common.{◌≡◌, ℕ, Bool, true, false, List, [], ◌++◌, refl, sym, ap, ◌∙◌, subst, append-nil, arith}
+use Rattle.std.proofs.Common.{◌≡◌, ℕ, Bool, true, false, true≢false, List, [], ◌++◌, refl, sym, ap, ◌∙◌, subst, append-nil, arith}
 use Rattle.std.specs.Prelude.{◌||◌}
 use Rattle.disk_model.specs.Plain.{Plain}
 use Rattle.pump_frame.specs.declared.row.SessionRow.{SessionRow}
@@ -71,7 +71,7 @@ returns-clause-record g c = λ low_on high_on.
         readings_are = refl;
         asks_are = refl;
         acked = all_acked LowEndStands low_shape low made a done ∙ same ∙ r.high_count;
-        readable = record { opening = c.open.ensures.reads; coarse = λ e. absurd (cc); looks = r.low.5 };
+        readable = record { opening = c.open.ensures.reads; coarse = λ e. absurd (true≢false (sym e)); looks = r.low.5 };
         printed = subst (λ (z : ℕ × ℕ × List ℕ). ArePrinted z.0 z.1 z.2 (moments_of made) (recorded made)) (λ i. (r.seed i, r.high_count i, ap (λ t. t.items) r.times i))
             (printed_by_both LowEndStands low_shape low made a HighEndStands high b done all same fits.agrees);
         bytes_are = ap (λ (z : List ℕ × ℕ × ℕ × ℕ × ℕ). text ++ end_lines (turns z.0 z.1) z.2 z.3 z.4)
@@ -102,7 +102,7 @@ returns-clause-cut_short g c = λ stopped.
         readings_are = refl;
         asks_are = refl;
         acked = λ on. all_acked LowEndStands low_shape low made a (r.low_ended on) ∙ r.low_count;
-        readable = record { opening = c.open.ensures.reads; coarse = λ e. absurd (cc); looks = r.low.5 };
+        readable = record { opening = c.open.ensures.reads; coarse = λ e. absurd (true≢false (sym e)); looks = r.low.5 };
         bytes_are = append-nil text;
       },
     )

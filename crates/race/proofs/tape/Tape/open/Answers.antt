@@ -18,4 +18,4 @@ returns-clause-prints c = λ written faults start first earlier k.
 
 pub returns-clause-reads : goal.returns-clause-reads
 returns-clause-reads c = subst (λ (row : SessionRow). IsLine (opening_line row race_opening) (line_spelling (opening_line row race_opening))) c.requires.row
-    (c.append_opening.ensures.reads (refl, refl, record { most = omega arith; some = λ e. absurd (cc) }))
+    (c.append_opening.ensures.reads ((refl, refl, refl), record { most = omega arith; some = λ e. absurd (cc) }))

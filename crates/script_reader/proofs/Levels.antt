@@ -1,17 +1,17 @@
 -- In a coarse session each average that Low is told is a level.
-use Rattle.std.proofs.Common.{◌≡◌, inl, inr, ⊎_elim, ℕ, zero, suc, ◌+◌, ◌-◌, ◌*◌, ◌^◌, ◌<◌, ◌≤◌, ◌&&◌, ◌||◌, min, Bool, true, false, nat_le, pow_mono, List, [], ◌∷◌, ◌++◌, length, Option, Some, None, refl, sym, ap, ◌∙◌, subst, arith, append_assoc, append-nil}
-use Rattle.std.specs.Prelude.{◌⊎◌, ◌==◌, not, if◌then◌else◌, filter_map}
+use Rattle.std.proofs.Common.{◌≡◌, ⊎_elim, ℕ, zero, suc, ◌+◌, ◌-◌, ◌*◌, ◌^◌, ◌<◌, ◌≤◌, ◌&&◌, ◌||◌, min, Bool, true, false, nat_le, pow_mono, List, [], ◌∷◌, ◌++◌, length, Option, Some, None, refl, sym, ap, ◌∙◌, subst, arith, append_assoc, append-nil}
+use Rattle.std.specs.Prelude.{◌==◌, not, if◌then◌else◌, filter_map}
 use Rattle.std.specs.List.{AllByRecursion}
 use Rattle.std.proofs.lemmas.Bool.{eqb-true, le-leb, and_parts}
 use Rattle.std.proofs.lemmas.Bool.Decides.{nat_tests}
 use Rattle.std.proofs.lemmas.List.Elements.{filter_map-append}
 use native.Mathlib.Nat.{pow-succ'}
-use Rattle.pump_frame.specs.Averages.{level_from, level, IsLevel, down, averaging_of, average_of, mean_of}
+use Rattle.pump_frame.specs.Averages.{level_from, level, IsLevel, down, averaging_of, mean_of}
 use Rattle.pump_frame.specs.declared.averaging.Averaging.{Averaging}
 use Rattle.pump_frame.specs.declared.row.SessionRow.{SessionRow}
 use Rattle.pump_core.specs.declared.feedback.Feedback.{Feedback}
 use Rattle.pump_core.specs.declared.feedback.Feedback.TheVariants.{Quiet, Full, Passed, Released, Repeat}
-use Rattle.pump_core.specs.History.{Arrival, Look, Opening, History, looked}
+use Rattle.pump_core.specs.History.{Arrival, Look, Opening, History}
 use Rattle.pump_core.specs.Exchanges.{is_gone, Part, count_after, greeted_after}
 use Rattle.pump_core.specs.Comings.{may_take}
 use Rattle.script_reader.specs.declared.line.Line.{Line}
@@ -22,7 +22,7 @@ use Rattle.script_reader.specs.declared.fault.Fault.{Fault}
 use Rattle.script_reader.specs.declared.event.Event.{Event}
 use Rattle.script_reader.specs.Past.{Past, pair}
 use Rattle.script_reader.specs.Openings.{Openings}
-use Rattle.script_reader.specs.Lows.{is_owed, comes_again, offer_feedback, arrival_feedback, feedback_at, feedback, IsLook}
+use Rattle.script_reader.specs.Lows.{is_owed, comes_again, offer_feedback, feedback_at, feedback, IsLook}
 use Rattle.script_reader.specs.Steps.{joined, lost, LineStep}
 use Rattle.script_reader.specs.Alone.{PastAlone, has_message, told_of_offer, told_of_read, told_of_arrival, told_feedback, IsToldLook, joined_alone, lost_alone, tells_level, is_apt_alone, StepAlone}
 use Rattle.script_reader.specs.Scripts.{Begun, Whole, Alone, IsNew, made_coarse, GoesOn, Leads, LeadTo, Stops, StopsAfter, ComesTo}

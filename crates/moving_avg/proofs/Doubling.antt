@@ -1,5 +1,5 @@
 -- The level of a mean.
-use Rattle.std.proofs.Common.{◌≡◌, ℕ, zero, suc, ◌+◌, ◌-◌, ◌*◌, ◌/◌, ◌^◌, ◌≤◌, ◌<◌, Bool, true, false, max, if◌then◌else◌, nat_le, nat_lt, pow_mono, arith, refl, ap, sym, ◌∙◌}
+use Rattle.std.proofs.Common.{◌≡◌, ℕ, zero, suc, ◌+◌, ◌-◌, ◌*◌, ◌/◌, ◌^◌, ◌≤◌, ◌<◌, Bool, true, false, max, if◌then◌else◌, nat_le, nat_lt, pow_mono, le_refl, ◌⊎◌, inl, inr, arith, refl, ap, sym, ◌∙◌}
 use Rattle.std.proofs.lemmas.Bool.Decides.{nat_tests}
 use native.Mathlib.Nat.{pow-succ'}
 use Rattle.pump_frame.specs.Averages.{level_from, level}
@@ -67,3 +67,34 @@ pub level_found : (k mean q : ℕ) → q ≡ 2 ^ k → mean ≤ 2 ^ 29 → mean 
 unfolding level
 level_found k mean q is low above near =
     found k 30 0 mean q (small_power k mean q is low near) (is ∙ ap (λ n. 2 ^ n) (omega arith)) above near
+
+-- a power of two below 2^30, or the greatest level
+abbrev IsPower : ℕ → Type 0
+IsPower n = ((k : ℕ) × (k < 30) × (n ≡ 2 ^ k)) ⊎ (n ≡ 10 ^ 9)
+
+power_by : (many i mean : ℕ) (b : Bool) → i < 30 → nat_le mean (2 ^ i) ≡ b → IsPower (level_from many (2 ^ suc i) mean) → IsPower (level_from (suc many) (2 ^ i) mean)
+power_by many i mean true few e later = inl (i, few, step many i mean true e)
+power_by many i mean false few e later = elim later [
+  | inl (k, below, is) ↦ inl (k, below, step many i mean false e ∙ is)
+  | inr is ↦ inr (step many i mean false e ∙ is)
+]
+
+-- a level is one of these
+level_is : (many i mean : ℕ) → i + many ≤ 30 → IsPower (level_from many (2 ^ i) mean)
+unfolding level_from
+level_is zero i mean few = inr refl
+level_is (suc many) i mean few = power_by many i mean (nat_le mean (2 ^ i)) (omega (arith, few)) refl (level_is many (suc i) mean (omega (arith, few)))
+
+power_stays : (k : ℕ) → k < 30 → level (2 ^ k) ≡ 2 ^ k
+power_stays k below =
+    let most : 2 ^ k ≤ 2 ^ 29 = pow_mono {j = 29} (omega (arith, below)) in
+    let some : 2 ^ 0 ≤ 2 ^ k = pow_mono {i = 0} (omega arith) in
+    level_found k (2 ^ k) (2 ^ k) refl most (le_refl (2 ^ k)) (omega (arith, some))
+
+-- a level is its own level
+pub own_level : (mean : ℕ) → level (level mean) ≡ level mean
+unfolding level
+own_level mean = elim (level_is 30 0 mean (omega arith)) [
+  | inl (k, below, is) ↦ ap level is ∙ power_stays k below ∙ sym is
+  | inr is ↦ ap level is ∙ level_above (10 ^ 9) (omega arith) ∙ sym is
+]

@@ -17,3 +17,4 @@ pub mod Receiving
 pub mod RecordTexts
 pub mod Replayable
 pub mod Tapes
+pub mod Unstarted

@@ -42,7 +42,8 @@ pub struct RaceEnd {
     pub recv: PlainDisk,
 }
 
-/// Races the two halves over the ends of one passage, and prints the record.
+/// Races the two halves over the ends of one passage, and prints the record. `OutOfMemory` where the second
+/// thread can't be started: then nothing was written.
 fn race_halves<
     R: Threads + Wait + Sync,
     K: Clock + Send,
@@ -57,7 +58,7 @@ fn race_halves<
     out: &mut O,
     low_gate: &mut G,
     high_gate: &mut H,
-) -> RaceEnd
+) -> Result<RaceEnd, OutOfMemory>
     requires low { LowRests (λ end. LowEndStands end.0) (λ end. low_shape end.0) low [] }
     requires last { last_of low.process ≡ 0 }
     requires high { HighAt (λ end. HighEndStands end.0) false high }
@@ -65,27 +66,28 @@ fn race_halves<
     requires place { low_place low.ends.0 ≡ high_place high.ends.0 }
     requires shape { high_shape high.ends.0 ≡ shape_of_row generated_row }
     requires count { low.count ≡ high.count }
-    ensures record { result.low_stopped ≡ false → result.high_stopped ≡ false → (bytes readings : List ℕ) × (asks : List (ℕ × ℕ))
-        × Written result.write_failed (O.written out.old) (O.written out.new) (O.faults out.old) (O.faults out.new) bytes
+    ensures record { IfOk result (λ end. end.low_stopped ≡ false → end.high_stopped ≡ false → (bytes readings : List ℕ) × (asks : List (ℕ × ℕ))
+        × Written end.write_failed (O.written out.old) (O.written out.new) (O.faults out.old) (O.faults out.new) bytes
         × Draws (K.reads low_clock.old) (K.reads low_clock.new) readings
         × Grows (G.asked low_gate.old) (G.asked low_gate.new) asks
-        × IsRaceRecord low.entry.seed high.entry.count high.entry.times.items readings asks bytes }
-    ensures cut_short { (result.low_stopped ≡ true) ⊎ (result.high_stopped ≡ true) → (bytes readings : List ℕ) × (asks : List (ℕ × ℕ))
-        × Written result.write_failed (O.written out.old) (O.written out.new) (O.faults out.old) (O.faults out.new) bytes
+        × IsRaceRecord low.entry.seed high.entry.count high.entry.times.items readings asks bytes) }
+    ensures cut_short { IfOk result (λ end. (end.low_stopped ≡ true) ⊎ (end.high_stopped ≡ true) → (bytes readings : List ℕ) × (asks : List (ℕ × ℕ))
+        × Written end.write_failed (O.written out.old) (O.written out.new) (O.faults out.old) (O.faults out.new) bytes
         × Draws (K.reads low_clock.old) (K.reads low_clock.new) readings
         × Grows (G.asked low_gate.old) (G.asked low_gate.new) asks
-        × IsStoppedRecord low.entry.seed low.entry.count result.low_stopped readings asks bytes }
-    ensures disks { result.low_stopped ≡ false → result.high_stopped ≡ false
-        → AreRaceDisks low.entry.seed high.entry.count result.low.bytes result.high.bytes result.recv.bytes }
-    ensures low_stopped { result.low_stopped ≡ true → Rose (G.stops low_gate.old) (G.stops low_gate.new) }
-    ensures high_stopped { result.high_stopped ≡ true → Rose (H.stops high_gate.old) (H.stops high_gate.new) }
-    ensures asked_high { AsksHigh high.entry.count result.high_stopped (H.asked high_gate.old) (H.asked high_gate.new) result.recv.bytes }
+        × IsStoppedRecord low.entry.seed low.entry.count end.low_stopped readings asks bytes) }
+    ensures disks { IfOk result (λ end. end.low_stopped ≡ false → end.high_stopped ≡ false
+        → AreRaceDisks low.entry.seed high.entry.count end.low.bytes end.high.bytes end.recv.bytes) }
+    ensures low_stopped { IfOk result (λ end. end.low_stopped ≡ true → Rose (G.stops low_gate.old) (G.stops low_gate.new)) }
+    ensures high_stopped { IfOk result (λ end. end.high_stopped ≡ true → Rose (H.stops high_gate.old) (H.stops high_gate.new)) }
+    ensures asked_high { IfOk result (λ end. AsksHigh high.entry.count end.high_stopped (H.asked high_gate.old) (H.asked high_gate.new) end.recv.bytes) }
+    ensures nothing { OnErr result (out.new ≡ out.old) }
 {
     let mut tape = Tape::new(&low.row);
-    tape.open(out);
+    tape.open();
     let raced = run_halves(
         rt, &mut low, &mut high, low_clock, out, &mut tape, low_gate, high_gate,
-    );
+    )?;
     let LowHalf {
         ends: low_end,
         process: low_process,
@@ -110,14 +112,14 @@ fn race_halves<
         removed: high_process.removed(),
     };
     let write_failed = tape.close(out, raced.low_stopped | raced.high_stopped, &ending);
-    RaceEnd {
+    Ok(RaceEnd {
         write_failed,
         low_stopped: raced.low_stopped,
         high_stopped: raced.high_stopped,
         low: low_store.into_disk(),
         high: high_store.into_disk(),
         recv: receiver.into_disk(),
-    }
+    })
 }
 
 /// Races the two workers of a session over disks in memory, each in a thread of its own, and prints the
@@ -180,5 +182,5 @@ pub fn race_with<
     let script = Generator::new(seed, count);
     let low = LowHalf::start(Calm(low_end), low_store, &row, script, seed, count);
     let high = HighHalf::start(Calm(high_end), high_store, receiver, &row, times, count);
-    Ok(race_halves(rt, low, high, low_clock, out, low_gate, high_gate))
+    race_halves(rt, low, high, low_clock, out, low_gate, high_gate)
 }

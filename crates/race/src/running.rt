@@ -1,4 +1,4 @@
-ghost use Rattle.std.specs.Prelude.{◌≡◌, ◌≤◌, List, [], true, false};
+ghost use Rattle.std.specs.Prelude.{◌≡◌, ◌≤◌, List, [], true, false, IfOk, OnOk, OnErr};
 ghost use Rattle.std.specs.List.{AllByRecursion};
 ghost use Rattle.pump_frame.specs.Counts.{Rose};
 ghost use Rattle.pump_link.specs.Tells.{Draws, Grows};
@@ -24,12 +24,14 @@ use crate::low::LowHalf;
 use crate::low_work::LowWork;
 use crate::tape::Tape;
 use passage::{WaitHighEnd, WaitLowEnd};
+use pump_frame::OutOfMemory;
 use pump_link::{Clock, Sink};
 use relay_threads::{Gate, run_pair};
 use std::sync::Wait;
 use std::thread::Threads;
 
-/// Runs the two works of a race side by side. They keep what they borrowed.
+/// Runs the two works of a race side by side. They keep what they borrowed. `OutOfMemory` where the
+/// second thread can't be started: then both are as they were.
 fn run_works<
     R: Threads + Wait + Sync,
     K: Clock + Send,
@@ -38,7 +40,11 @@ fn run_works<
     G: Gate + Send,
     H: WaitHighEnd + Send,
     I: Gate + Send,
->(rt: &R, low: &mut LowWork<'_, '_, '_, '_, '_, K, O, L, G>, high: &mut HighWork<'_, '_, H, I>)
+>(
+    rt: &R,
+    low: &mut LowWork<'_, '_, '_, '_, '_, K, O, L, G>,
+    high: &mut HighWork<'_, '_, H, I>,
+) -> Result<(), OutOfMemory>
     requires low { LowCan K.reads K.floor O.written O.faults L.stands L.place L.shape G.asked G.stops low.old }
     requires high { HighCan H.stands H.place H.shape I.asked I.stops high.old }
     ensures low_half { low.new.half.ghost_name ≡ low.old.half.ghost_name }
@@ -48,10 +54,11 @@ fn run_works<
     ensures tape { low.new.tape.ghost_name ≡ low.old.tape.ghost_name }
     ensures low_gate { low.new.gate.ghost_name ≡ low.old.gate.ghost_name }
     ensures high_gate { high.new.gate.ghost_name ≡ high.old.gate.ghost_name }
-    ensures low { LowRuns K.reads K.floor O.written O.faults L.stands L.place L.shape G.asked G.stops low.old low.new }
-    ensures high { HighRuns H.stands H.place H.shape I.asked I.stops high.old high.new }
+    ensures low { OnOk result (LowRuns K.reads K.floor O.written O.faults L.stands L.place L.shape G.asked G.stops low.old low.new) }
+    ensures high { OnOk result (HighRuns H.stands H.place H.shape I.asked I.stops high.old high.new) }
+    ensures kept { OnErr result (low.new ≡ low.old) }
 {
-    run_pair(rt, low, high);
+    run_pair(rt, low, high)
 }
 
 /// Which workers were stopped.
@@ -61,7 +68,8 @@ pub struct Raced {
     pub high_stopped: bool,
 }
 
-/// Runs the works of the two halves side by side.
+/// Runs the works of the two halves side by side. `OutOfMemory` where the second thread can't be started:
+/// then nothing was written.
 pub fn run_halves<
     R: Threads + Wait + Sync,
     K: Clock + Send,
@@ -79,30 +87,31 @@ pub fn run_halves<
     tape: &mut Tape,
     low_gate: &mut G,
     high_gate: &mut I,
-) -> Raced
+) -> Result<Raced, OutOfMemory>
     requires low { LowRests L.stands L.shape low.old [] }
     requires last { last_of low.old.process ≡ 0 }
     requires row { row_in tape.old ≡ generated_row }
     requires high { HighAt H.stands false high.old }
     requires none_removed { removed_of high.old.process ≡ 0 }
-    ensures low { (made : List Made) × LowRests L.stands L.shape low.new made
+    ensures low { IfOk result (λ raced. (made : List Made) × LowRests L.stands L.shape low.new made
         × Draws (K.reads low_clock.old) (K.reads low_clock.new) (moments_of made)
         × Prints tape.old tape.new (O.written out.old) (O.written out.new) (O.faults out.old) (O.faults out.new) (looks_text generated_row (record_of made))
-        × Grows (G.asked low_gate.old) (G.asked low_gate.new) (asks_in_run result.low_stopped (acks_of made))
-        × AllByRecursion (IsReadable generated_row) (record_of made) }
-    ensures low_ended { result.low_stopped ≡ false → IsLowDone low.new }
-    ensures low_stopped { result.low_stopped ≡ true → Rose (G.stops low_gate.old) (G.stops low_gate.new) }
-    ensures low_place { L.place low.new.ends ≡ L.place low.old.ends }
-    ensures seed { low.new.seed ≡ low.old.seed }
-    ensures low_count { low.new.count ≡ low.old.count }
-    ensures high { (h : High) × H.stands high.new.ends new_low h }
-    ensures high_ended { result.high_stopped ≡ false → HighAt H.stands false high.new × (high.new.count ≤ removed_of high.new.process) }
-    ensures high_stopped { result.high_stopped ≡ true → Rose (I.stops high_gate.old) (I.stops high_gate.new) }
-    ensures high_asks { AsksHigh high.new.count result.high_stopped (I.asked high_gate.old) (I.asked high_gate.new) (recv_disk high.new.receiver).bytes }
-    ensures high_place { H.place high.new.ends ≡ H.place high.old.ends }
-    ensures high_shape { H.shape high.new.ends ≡ H.shape high.old.ends }
-    ensures high_count { high.new.count ≡ high.old.count }
-    ensures times { high.new.times ≡ high.old.times }
+        × Grows (G.asked low_gate.old) (G.asked low_gate.new) (asks_in_run raced.low_stopped (acks_of made))
+        × AllByRecursion (IsReadable generated_row) (record_of made)) }
+    ensures low_ended { IfOk result (λ raced. raced.low_stopped ≡ false → IsLowDone low.new) }
+    ensures low_stopped { IfOk result (λ raced. raced.low_stopped ≡ true → Rose (G.stops low_gate.old) (G.stops low_gate.new)) }
+    ensures low_place { IfOk result (λ _. L.place low.new.ends ≡ L.place low.old.ends) }
+    ensures seed { IfOk result (λ _. low.new.seed ≡ low.old.seed) }
+    ensures low_count { IfOk result (λ _. low.new.count ≡ low.old.count) }
+    ensures high { IfOk result (λ _. (h : High) × H.stands high.new.ends new_low h) }
+    ensures high_ended { IfOk result (λ raced. raced.high_stopped ≡ false → HighAt H.stands false high.new × (high.new.count ≤ removed_of high.new.process)) }
+    ensures high_stopped { IfOk result (λ raced. raced.high_stopped ≡ true → Rose (I.stops high_gate.old) (I.stops high_gate.new)) }
+    ensures high_asks { IfOk result (λ raced. AsksHigh high.new.count raced.high_stopped (I.asked high_gate.old) (I.asked high_gate.new) (recv_disk high.new.receiver).bytes) }
+    ensures high_place { IfOk result (λ _. H.place high.new.ends ≡ H.place high.old.ends) }
+    ensures high_shape { IfOk result (λ _. H.shape high.new.ends ≡ H.shape high.old.ends) }
+    ensures high_count { IfOk result (λ _. high.new.count ≡ high.old.count) }
+    ensures times { IfOk result (λ _. high.new.times ≡ high.old.times) }
+    ensures nothing { OnErr result (out.new ≡ out.old) }
 {
     let mut low_work = LowWork {
         half: low,
@@ -117,9 +126,9 @@ pub fn run_halves<
         gate: high_gate,
         is_stopped: false,
     };
-    run_works(rt, &mut low_work, &mut high_work);
-    Raced {
+    run_works(rt, &mut low_work, &mut high_work)?;
+    Ok(Raced {
         low_stopped: low_work.is_stopped,
         high_stopped: high_work.is_stopped,
-    }
+    })
 }

@@ -1,4 +1,4 @@
-ghost use Rattle.std.specs.Prelude.{◌≡◌, ◌+◌, ◌<◌, ◌≤◌, List, [], ◌++◌, length, decimal, IfSome, true, false};
+ghost use Rattle.std.specs.Prelude.{◌≡◌, ◌+◌, ◌<◌, ◌≤◌, ℕ, Option, List, [], ◌++◌, length, decimal, IfSome, true, false};
 ghost use Rattle.pump_core.specs.ReplyFrames.{IsLawfulReply};
 ghost use Rattle.low_process.specs.Looks.{arrival_of};
 ghost use Rattle.relay_threads.specs.Records.{Made, was_full as full_before};
@@ -131,14 +131,14 @@ impl Tape {
         }
     }
 
-    /// Prints the line that the record of a new session begins with.
-    pub fn open<O: Sink>(&mut self, out: &mut O)
-        requires { row_in self.old ≡ generated_row }
-        ensures prints { Prints self.old self.new (O.written out.old) (O.written out.new) (O.faults out.old) (O.faults out.new) opening_text }
+    /// Holds the line that the record of a new session begins with. Nothing is written yet.
+    pub fn open(&mut self)
+        requires row { row_in self.old ≡ generated_row }
+        requires empty { held_of self.old ≡ [] }
+        ensures prints { (written : Option (List ℕ)) (faults : ℕ) → Prints self.old self.new written written faults faults opening_text }
         ensures reads { IsLine (opening_line generated_row race_opening) (line_spelling (opening_line generated_row race_opening)) }
         ensures row { row_in self.new ≡ row_in self.old }
     {
-        self.make_room(out);
         append_opening(&self.row, 0, false, &mut self.held);
     }
 

@@ -4,6 +4,7 @@ pub mod HighServes
 pub mod HighStays
 pub mod LowRounds
 pub mod LowServes
+pub mod Pairs
 pub mod LowStays
 pub mod Reaching
 pub mod RecordLines

@@ -1,4 +1,4 @@
-ghost use Rattle.std.specs.Prelude.{◌≡◌, ◌+◌, ◌<◌, true, IfSome};
+ghost use Rattle.std.specs.Prelude.{◌≡◌, ◌+◌, ◌<◌, true, IfOk, IfSome};
 ghost use Rattle.pump_frame.specs.Rows.{IsLawfulRow};
 ghost use Rattle.pump_core.specs.Passage.{Low, High};
 ghost use Rattle.passage.specs.Ready.{LowReady, HighReady};
@@ -11,7 +11,7 @@ use arrayvec::ArrayVec;
 use low_process::{Arrival, LookHead};
 use passage::{Calm, Forwarded, Joined, Next, QueuePassage, WaitHighEnd, WaitLowEnd};
 use pump_core::{Feedback, Refusal, Reply, Seen};
-use pump_frame::{Frame, Item, Kind, Name, Payload, SessionRow};
+use pump_frame::{Frame, Item, Kind, Name, OutOfMemory, Payload, SessionRow};
 use relay_ring::RingPassage;
 use std::sync::Wait;
 use std::sync::atomic::{AtomicBool, Ordering};
@@ -212,23 +212,23 @@ fn two_works_run_side_by_side(rt: HostRuntime) {
         runs: 4,
         has_met: false,
     };
-    run_pair(&rt, &mut low, &mut high);
+    assert!(rt; run_pair(&rt, &mut low, &mut high).is_ok());
     assert_eq!(rt; (low.runs, high.runs), (1, 5));
     assert_eq!(rt; (low.has_met, high.has_met), (true, true));
 }
 
 /// Passes 1000 items from one end to the other, each in a thread of its own, and gives the ends back.
-fn pass_items<L: WaitLowEnd + Send, H: WaitHighEnd + Send, R: Threads + Wait + Sync>(
+fn pass_items<L: WaitLowEnd + Send + Drop, H: WaitHighEnd + Send + Drop, R: Threads + Wait + Sync>(
     rt: &R,
     low: L,
     high: H,
-) -> (L, H)
+) -> Result<(L, H), OutOfMemory>
     requires low { LowReady (L.stands low) 0 }
     requires high { HighReady (H.stands high) 0 0 }
-    ensures low { (l : Low) × (h : High) × L.stands result.0 l h }
-    ensures high { (l : Low) × (h : High) × H.stands result.1 l h }
-    ensures low_place { L.place result.0 ≡ L.place low }
-    ensures high_place { H.place result.1 ≡ H.place high }
+    ensures low { IfOk result (λ ends. (l : Low) × (h : High) × L.stands ends.0 l h) }
+    ensures high { IfOk result (λ ends. (l : Low) × (h : High) × H.stands ends.1 l h) }
+    ensures low_place { IfOk result (λ ends. L.place ends.0 ≡ L.place low) }
+    ensures high_place { IfOk result (λ ends. H.place ends.1 ≡ H.place high) }
 {
     let mut low = Forwards {
         end: low,
@@ -240,8 +240,8 @@ fn pass_items<L: WaitLowEnd + Send, H: WaitHighEnd + Send, R: Threads + Wait + S
         removed: 0,
         most: 1000,
     };
-    run_pair(rt, &mut low, &mut high);
-    (low.end, high.end)
+    run_pair(rt, &mut low, &mut high)?;
+    Ok((low.end, high.end))
 }
 
 const ALL_PASSED: Joined = Joined {
@@ -256,7 +256,7 @@ fn items_pass_through_the_queue(rt: HostRuntime) -> Result<(), Fail> {
     };
     let mut passage = QueuePassage::new(rt.alloc(), &row)?;
     let (low, high) = passage.ends(&rt);
-    let (low, high) = pass_items(&rt, low, high);
+    let (low, high) = pass_items(&rt, low, high)?;
     assert_eq!(rt; QueuePassage::rejoin(&rt, low, high), ALL_PASSED);
     Ok(())
 }
@@ -268,7 +268,7 @@ fn items_pass_through_the_ring(rt: HostRuntime) -> Result<(), Fail> {
     };
     let mut passage = RingPassage::new(rt.alloc(), &row)?;
     let (low, high) = passage.ends();
-    let (low, high) = pass_items(&rt, Calm(low), Calm(high));
+    let (low, high) = pass_items(&rt, Calm(low), Calm(high))?;
     assert_eq!(rt; RingPassage::rejoin(low.0, high.0), ALL_PASSED);
     Ok(())
 }

@@ -4,6 +4,8 @@
 
 mod disks;
 mod ended;
+#[cfg(test)]
+mod failing_tests;
 mod outcome;
 mod output;
 mod replaying;

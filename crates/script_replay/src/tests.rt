@@ -6,21 +6,21 @@ use pump_link::{MemSink, MemSource};
 use std::alloc::{AllocError, Global};
 use std::test::Fail;
 
-const P: &str = "session 1 3 8 2 20000 100000 500000 weather watch\n";
+pub const P: &str = "session 1 3 8 2 20000 100000 500000 weather watch\n";
 
-const H: &str = "look 1 10 00000000 hello weather watch\n";
+pub const H: &str = "look 1 10 00000000 hello weather watch\n";
 
-const WELCOME: &str = "low 1 10 welcome 0\n";
+pub const WELCOME: &str = "low 1 10 welcome 0\n";
 
-const STORE: &str = "look 1 100 00000000 data 0 61\nlook 1 100 00000000\n";
+pub const STORE: &str = "look 1 100 00000000 data 0 61\nlook 1 100 00000000\n";
 
-const STORED: &str = "stored 1 100 0\npassed 1 100 0 20000\n";
+pub const STORED: &str = "stored 1 100 0\npassed 1 100 0 20000\n";
 
 const ACK: &str = "look 1 177 00000000\nlook 1 178 00000000\n";
 
 const ACKED: &str = "low 1 178 ack 0\n";
 
-fn joined(alloc: Global, parts: &[&str]) -> Result<Vec<u8>, AllocError> {
+pub fn joined(alloc: Global, parts: &[&str]) -> Result<Vec<u8>, AllocError> {
     let mut bytes = Vec::new(alloc);
     for part in parts {
         bytes.extend_from_slice(part.as_bytes())?;
@@ -55,7 +55,7 @@ fn run_on<D: Disk>(
 }
 
 /// The status and the output of a replay of a script that comes in pieces, and new disks.
-fn run(
+pub fn run(
     alloc: Global,
     script: Vec<u8>,
     piece: usize,
@@ -292,9 +292,9 @@ fn replays_one_full_look_fewer(rt: HostRuntime) -> Result<(), Fail> {
 }
 
 /// A message is sent, and the receiver is given it twice.
-const CARRIED: &str = "high 1 110\ncarry 1 0\ncarry 1 0\n";
+pub const CARRIED: &str = "high 1 110\ncarry 1 0\ncarry 1 0\n";
 
-const TAKEN: &str = "sent 1 110 0\ntook 1 0\nagain 1 0\n";
+pub const TAKEN: &str = "sent 1 110 0\ntook 1 0\nagain 1 0\n";
 
 #[test]
 fn replays_packets(rt: HostRuntime) -> Result<(), Fail> {

@@ -1,5 +1,6 @@
 -- The laws over worlds and runs.
 pub mod Acknowledged
+pub mod Classes
 pub mod Outliving
 pub mod Pairs
 pub mod Worlds

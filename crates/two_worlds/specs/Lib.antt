@@ -1,5 +1,6 @@
 pub mod Agreement
 pub mod Answered
+pub mod Classes
 pub mod Connections
 pub mod Disks
 pub mod Doing

@@ -2,6 +2,7 @@
 //! whose contract is the law; calling it does nothing.
 
 ghost use Rattle.two_worlds.specs.Laws.{EventsAreCertain, EveryWorldIsLawful, ForgedWorldsAreBounded, TimedWorldsAreLawful, RunsHaveReplies, PairsAgree, AcknowledgedIsAccepted, ThinnedHistoriesAgree, AcceptedOutlives, AcknowledgedOutlives};
+ghost use Rattle.two_worlds.specs.Classes.{CoarsePairsAgree, ClassesAreFew};
 ghost use Rattle.two_worlds.specs.Answered.{EveryWorldHasAnswered, TimedWorldsHaveAnswered, SessionsKeepAnswers};
 ghost use Rattle.two_worlds.specs.Timelines.{LinesAreSteps, ScriptsAreTimedRuns};
 ghost use Rattle.two_worlds.specs.TimelinesAlone.{LowLinesAreEvents, LowScriptsAreTimed};
@@ -57,6 +58,17 @@ pub fn pairs_agree()
     ensures { PairsAgree }
 {
     pump_core::sides_decide();
+}
+
+/// Where the session is coarse, what comes down from High is one of 31 classes for each exchange, and
+/// which looks found the buffer full (`pairs`): two timed runs of its row that agree in what is low's
+/// own, and look by look in what was told, each average by its class alone, have the same replies. A
+/// class is a number below 31 (`few`).
+pub fn coarse_pairs_agree()
+    ensures pairs { CoarsePairsAgree }
+    ensures few { ClassesAreFew }
+{
+    pairs_agree();
 }
 
 /// Leaving out looks that find nothing, looks of a wait before its end and looks that find the

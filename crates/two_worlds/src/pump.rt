@@ -11,6 +11,8 @@ mod readied;
 mod reopen;
 mod restart;
 mod state;
+#[cfg(test)]
+mod stop_tests;
 mod surveying;
 #[cfg(test)]
 mod tests;

@@ -15,7 +15,7 @@ use std::test::Fail;
 const HELLO: &str = "look 1 10 00000000 hello weather watch";
 
 // Session 1: capacity 3, message size 8, window 2, start 20000, longest delay 100000.
-fn row() -> Option<SessionRow>
+pub fn row() -> Option<SessionRow>
     ensures lawful { IfSome result (λ row. IsLawfulRow row) }
 {
     Some(SessionRow {
@@ -51,7 +51,7 @@ fn new_pump(alloc: Global) -> Result<Pump<PlainDisk>, Fail>
 }
 
 // Adds what the lines print, until one stops.
-fn play<D: Disk>(
+pub fn play<D: Disk>(
     pump: &mut Pump<D>,
     script: &[&str],
     output: &mut Vec<u8>,

@@ -37,9 +37,9 @@ high_shape end = ring.high_shape end.0
 
 pub returns-clause-record : goal.returns-clause-record
 returns-clause-record g c = λ low_on high_on.
-    let r = c.run_halves-raced.ensures in
-    let low = c.run_halves-raced.new.low in
-    let high = c.run_halves-raced.new.high in
+    let r = c.in_ok-raced.ensures in
+    let low = c.run_halves.new.low in
+    let high = c.run_halves.new.high in
     let made = r.low.0 in
     let a = r.low.1 in
     let done = r.low_ended low_on in
@@ -50,21 +50,21 @@ returns-clause-record g c = λ low_on high_on.
     let fits : Fits (shape_of_row generated_row) a.low b.high = subst (λ (s : Shape). Fits s a.low b.high) shape
     (c.rejoin.ensures.lawful a.low b.high a.fitting.0 (record { is = stands.is; taken = stands.taken; times = stands.times; taken_before = stands.taken_before; tries = stands.tries })) in
     let times_are : c.as_slice.result.now ≡ high.times.items = c.as_slice.ensures.value in
-    let none : c.run_halves-raced.result.low_stopped || c.run_halves-raced.result.high_stopped ≡ false = ap (λ (z : Bool × Bool). z.0 || z.1) (λ i. (low_on i, high_on i)) in
+    let none : c.in_ok-raced.raced.low_stopped || c.in_ok-raced.raced.high_stopped ≡ false = ap (λ (z : Bool × Bool). z.0 || z.1) (λ i. (low_on i, high_on i)) in
     let O = g.O.Sink in
     let text = record_text generated_row race_opening made in
     let ends = end_lines (turns c.as_slice.result.now high.count) c.count.result c.next.result c.removed.result in
     let took_is : c.count.result ≡ high.count = omega (arith, c.count.ensures, b.recv.count_is, recv_count_is LowEndStands low_shape low made a HighEndStands high b done all same fits.agrees) in
     let next_is : c.next.result ≡ high.count = c.next.ensures ∙ low_count_is LowEndStands low_shape low made a HighEndStands high b done all same fits.agrees in
     let gone_is : c.removed.result ≡ high.count = omega (arith, c.removed.ensures, b.is_past.holds.removed, high_count_is LowEndStands low_shape low made a HighEndStands high b done all same fits.agrees) in
-    let opened = c.open.ensures.prints (O.written c.args.out.now) (O.faults c.args.out.now) [] (keeps_none _ _ _ c.new-tape.ensures.empty c.new-tape.ensures.going) in
+    let opened = c.open.ensures.prints (O.written c.args.out.now) (O.faults c.args.out.now) (O.written c.args.out.now) (O.faults c.args.out.now) [] (keeps_none _ _ _ c.new-tape.ensures.empty c.new-tape.ensures.going) in
     let looked = r.low.3 (O.written c.args.out.now) (O.faults c.args.out.now) _ opened in (
       text ++ ends,
       moments_of made,
       asks_of (acks_of made),
       c.close-write_failed.ensures.ended none (O.written c.args.out.now) (O.faults c.args.out.now) text looked,
       r.low.2,
-      subst (λ (stopped : Bool). Grows (g.G.Gate.asked c.args.low_gate.now) (g.G.Gate.asked c.run_halves-raced.new.low_gate) (asks_in_run stopped (acks_of made))) low_on r.low.4,
+      subst (λ (stopped : Bool). Grows (g.G.Gate.asked c.args.low_gate.now) (g.G.Gate.asked c.run_halves.new.low_gate) (asks_in_run stopped (acks_of made))) low_on r.low.4,
       record {
         made = made;
         looks = subst (λ (seed : ℕ). AreRaceLooks seed made) r.seed (looks_are LowEndStands low_shape low made a);
@@ -81,18 +81,18 @@ returns-clause-record g c = λ low_on high_on.
 
 pub returns-clause-cut_short : goal.returns-clause-cut_short
 returns-clause-cut_short g c = λ stopped.
-    let r = c.run_halves-raced.ensures in
-    let low = c.run_halves-raced.new.low in
+    let r = c.in_ok-raced.ensures in
+    let low = c.run_halves.new.low in
     let made = r.low.0 in
     let a = r.low.1 in
     let O = g.O.Sink in
     let text = record_text generated_row race_opening made in
-    let one : c.run_halves-raced.result.low_stopped || c.run_halves-raced.result.high_stopped ≡ true = either c.run_halves-raced.result.low_stopped c.run_halves-raced.result.high_stopped stopped in
-    let opened = c.open.ensures.prints (O.written c.args.out.now) (O.faults c.args.out.now) [] (keeps_none _ _ _ c.new-tape.ensures.empty c.new-tape.ensures.going) in
+    let one : c.in_ok-raced.raced.low_stopped || c.in_ok-raced.raced.high_stopped ≡ true = either c.in_ok-raced.raced.low_stopped c.in_ok-raced.raced.high_stopped stopped in
+    let opened = c.open.ensures.prints (O.written c.args.out.now) (O.faults c.args.out.now) (O.written c.args.out.now) (O.faults c.args.out.now) [] (keeps_none _ _ _ c.new-tape.ensures.empty c.new-tape.ensures.going) in
     let looked = r.low.3 (O.written c.args.out.now) (O.faults c.args.out.now) _ opened in (
       text ++ [],
       moments_of made,
-      asks_in_run c.run_halves-raced.result.low_stopped (acks_of made),
+      asks_in_run c.in_ok-raced.raced.low_stopped (acks_of made),
       c.close-write_failed.ensures.stopped one (O.written c.args.out.now) (O.faults c.args.out.now) text looked,
       r.low.2,
       r.low.4,
@@ -109,9 +109,9 @@ returns-clause-cut_short g c = λ stopped.
 
 pub returns-clause-disks : goal.returns-clause-disks
 returns-clause-disks g c = λ low_on high_on.
-    let r = c.run_halves-raced.ensures in
-    let low = c.run_halves-raced.new.low in
-    let high = c.run_halves-raced.new.high in
+    let r = c.in_ok-raced.ensures in
+    let low = c.run_halves.new.low in
+    let high = c.run_halves.new.high in
     let made = r.low.0 in
     let a = r.low.1 in
     let done = r.low_ended low_on in
@@ -134,6 +134,6 @@ returns-clause-disks g c = λ low_on high_on.
 
 pub returns-clause-asked_high : goal.returns-clause-asked_high
 returns-clause-asked_high g c =
-    let r = c.run_halves-raced in
+    let r = c.in_ok-raced.ensures in
     let H = g.H.Gate in
-    subst (λ (z : ℕ × Plain). AsksHigh z.0 r.result.high_stopped (H.asked c.args.high_gate.now) (H.asked r.new.high_gate) z.1.bytes) (λ i. (r.ensures.high_count i, sym c.into_disk-3.ensures i)) r.ensures.high_asks
+    subst (λ (z : ℕ × Plain). AsksHigh z.0 c.in_ok-raced.raced.high_stopped (H.asked c.args.high_gate.now) (H.asked c.run_halves.new.high_gate) z.1.bytes) (λ i. (r.high_count i, sym c.into_disk-3.ensures i)) r.high_asks

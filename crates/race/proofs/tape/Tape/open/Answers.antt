@@ -10,12 +10,12 @@ use Rattle.race.proofs.Tapes.{keeps_more}
 use Rattle.race.proofs.tape.Tape.open.Goals as goal
 
 pub returns-clause-prints : goal.returns-clause-prints
-returns-clause-prints g c = λ start first earlier k.
-    let tape = c.make_room.new.self in
-    keeps_more tape (record tape { held = c.append_opening.new.into }) start (g.O.Sink.written c.make_room.new.out) first (g.O.Sink.faults c.make_room.new.out) earlier opening_text
-    (c.append_opening.ensures.text ∙ ap (λ (row : SessionRow). held_of tape ++ line_text (opening_line row race_opening)) (c.make_room.ensures.row ∙ c.requires))
-    refl (c.make_room.ensures.stays start first earlier k)
+returns-clause-prints c = λ written faults start first earlier k.
+    let tape = c.args.self.now in
+    keeps_more tape (record tape { held = c.append_opening.new.into }) start written first faults earlier opening_text
+    (c.append_opening.ensures.text ∙ ap (λ (row : SessionRow). held_of tape ++ line_text (opening_line row race_opening)) c.requires.row)
+    refl k
 
 pub returns-clause-reads : goal.returns-clause-reads
-returns-clause-reads g c = subst (λ (row : SessionRow). IsLine (opening_line row race_opening) (line_spelling (opening_line row race_opening))) (c.make_room.ensures.row ∙ c.requires)
+returns-clause-reads c = subst (λ (row : SessionRow). IsLine (opening_line row race_opening) (line_spelling (opening_line row race_opening))) c.requires.row
     (c.append_opening.ensures.reads (refl, refl, record { most = omega arith; some = λ e. absurd (cc) }))

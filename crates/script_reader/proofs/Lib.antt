@@ -12,6 +12,7 @@ pub mod Generating
 pub mod Heads
 pub mod Hearing
 pub mod Leading
+pub mod Levels
 pub mod LineEnds
 pub mod LineLaws
 pub mod LoneSession

@@ -549,7 +549,7 @@ low_then o a b c [] later ts us h k = subst (λ l. LowLeads o a later c (l ++ us
 low_then o a b c (line ∷ script) later ts us (r, s, first, second, e, own, h, hs, is) k =
     (r, s, first, second ++ us, e, own, h, low_then o (lows s) b c script later second us hs k, ap (λ l. l ++ us) is ∙ append_assoc (said_to_low first) second us)
 
-overfills_aside : (s : SessionRow) (p : Past) (line : Line) (q : Past) (printed : List Event) (end n size : ℕ) → Overfills s p line q printed end n size → Aside p q printed
+pub overfills_aside : (s : SessionRow) (p : Past) (line : Line) (q : Past) (printed : List Event) (end n size : ℕ) → Overfills s p line q printed end n size → Aside p q printed
 overfills_aside s p (lines.Carry session back) q printed end n size (o, e, f) = record { half = sym (ap half e); said = ap said_to_low f }
 overfills_aside s p (lines.Done session m t) q printed end n size (h, hand, o) = high_aside s false p m None q printed h
 overfills_aside s p lines.Skip q printed end n size h = absurd h

@@ -1,4 +1,5 @@
-ghost use Rattle.std.specs.Prelude.{◌≡◌, ℕ, ◌≤◌, Bool, false, List, [], ◌∷◌, ◌++◌, length, Option, None, Some};
+ghost use Rattle.std.specs.Prelude.{◌≡◌, ℕ, ◌≤◌, Bool, false, true, List, [], ◌∷◌, ◌++◌, length, Option, None, Some};
+ghost use Rattle.std.specs.List.{AllByRecursion};
 ghost use Rattle.script_reader.specs.declared.line.Line.{Line};
 ghost use Rattle.script_reader.specs.Lines.{AreLines};
 ghost use Rattle.pump_core.specs.Replies.{LowReplies};
@@ -12,6 +13,7 @@ ghost use Rattle.script_reader.specs.declared.fault.Fault.{Fault};
 ghost use Rattle.script_reader.specs.Sides.{low_side_of, told_to_low, full_moments, averages, restarts_in, HaveOwnMoments, OpenAlike};
 ghost use Rattle.script_reader.specs.declared.line.Line.TheVariants.{LowSession};
 ghost use Rattle.pump_frame.specs.declared.row.SessionRow.{SessionRow};
+ghost use Rattle.pump_frame.specs.Averages.{IsLevel};
 ghost use Rattle.pump_frame.specs.Rows.{IsLawfulRow};
 ghost use Rattle.pump_core.specs.World.{empty};
 
@@ -112,6 +114,14 @@ pub fn full_moments_and_averages_decide()
         low_side_of script ≡ low_side_of other → HaveOwnMoments (low_side_of script) →
         full_moments xs ≡ full_moments ys → restarts_in xs ≡ restarts_in ys → averages xs ≡ averages ys →
         low_lines xs ≡ low_lines ys }
+{}
+
+/// Of a coarse session each average that a transcript says Low was told is one of the 31 levels, also in
+/// what was printed so far, where a line may have stopped the script. So of such sessions the laws above
+/// speak of levels in place of averages.
+pub fn coarse_sessions_are_told_levels()
+    ensures { (o : Openings) (script : List Line) (s : Begun) (printed : List Printed) →
+        ComesTo o script (Some s) printed → (row_of s).coarse ≡ true → AllByRecursion IsLevel (averages printed) }
 {}
 
 /// A low side alone has one transcript, whatever lines are skipped in its script, and whatever any disks

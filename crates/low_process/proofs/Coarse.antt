@@ -1,11 +1,9 @@
 -- A history that is cut into exchanges by a row is cut into the same by the row made coarse.
-use Rattle.std.proofs.Common.{◌≡◌, ℕ, Bool, true, false, List, [], ◌∷◌, refl, sym, ap, ◌∙◌, subst}
-use Rattle.std.specs.Prelude.{if◌then◌else◌}
+use Rattle.std.proofs.Common.{◌≡◌, ℕ, Bool, true, false, List, [], ◌∷◌, refl, ap, ◌∙◌, subst}
 use Rattle.std.specs.List.{AllByRecursion}
 use Rattle.pump_frame.specs.declared.row.SessionRow.{SessionRow}
-use Rattle.pump_core.specs.History.{Arrival, Nothing, Came, Bad, Gone}
-use Rattle.pump_core.specs.History.{Look, Opening, Life, History}
-use Rattle.pump_core.specs.Exchanges.{Wait, Waiting, Over, Part, Holding, Release, Empty, Leaving, Answer, Repeated, Offering, Dropped, Delivery, Loss, is_repeat, is_next, count_after, greeted_by, greeted_in, greeted_after, IsAnswered, IsFrame, IsStore, IsPart, Follows, AreParts, IsCut}
+use Rattle.pump_core.specs.History.{Arrival, Nothing, Came, Bad, Gone, Look, Opening, Life, History}
+use Rattle.pump_core.specs.Exchanges.{Waiting, Over, Part, Holding, Release, Empty, Leaving, Answer, Repeated, Offering, Dropped, Delivery, Loss, is_repeat, is_next, count_after, greeted_by, greeted_in, greeted_after, IsAnswered, IsFrame, IsStore, IsPart, AreParts, IsCut}
 use Rattle.pump_core.specs.Standing.{State, HasCut, StandsAt, phase_after}
 use Rattle.low_process.specs.Looks.{StandsFor, state_of, made_coarse}
 use Rattle.low_process.specs.declared.process.LowProcess.{LowProcess}

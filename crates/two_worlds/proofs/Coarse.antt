@@ -1,5 +1,5 @@
 -- A pump that is made coarse stands for what it stood for.
-use Rattle.std.proofs.Common.{◌≡◌, inl, inr, ⊎_elim, ℕ, ◌+◌, true, false, List, [], length, map, Option, Some, None, refl, sym, ap, ◌∙◌, subst}
+use Rattle.std.proofs.Common.{◌≡◌, inl, inr, ℕ, true, List, [], map, Option, Some, None, refl, sym, ap, ◌∙◌, subst}
 use Rattle.std.specs.List.{All, AllByRecursion}
 use Rattle.std.proofs.Math.Logic.{∥∥₁_map}
 use Rattle.std.proofs.lemmas.List.{append_cancel_left}
@@ -37,12 +37,11 @@ use Rattle.two_worlds.specs.declared.low_pump.parts.LowParts.{LowParts}
 use Rattle.two_worlds.specs.declared.pump.parts.Parts.{Parts}
 use Rattle.two_worlds.specs.declared.pump.state.BareDisks.{BareDisks}
 use Rattle.two_worlds.specs.declared.pump.state.PumpState.{PumpState}
-use Rattle.two_worlds.specs.declared.pump.state.PumpState.TheVariants.{Open, Shut}
 use Rattle.two_worlds.specs.Disks.{LowFits, HighFits, RecvFits, DisksFit, Hold}
 use Rattle.two_worlds.specs.Keeping.{Keeps}
 use Rattle.two_worlds.specs.Rooms.{HasRoom}
 use Rattle.two_worlds.specs.Standing.{Stands, HoldsWorld, IsAccepted, LowIsReady, HighIsReady, RecvIsReady, EndsAreReady, kept_of, bare_disk}
-use Rattle.two_worlds.specs.States.{coarse_disks, disks_in, is_down_in, IsOpenWith, StandsIn}
+use Rattle.two_worlds.specs.States.{coarse_disks, disks_in, is_down_in, IsOpenWith}
 use Rattle.two_worlds.specs.Working.{Works, IsAble, IsShort, IsShortHand}
 
 abbrev pub coarse_row : SessionRow → SessionRow

@@ -110,7 +110,6 @@ fn times_read(row: &SessionRow, told: ToldFeedback) -> Seen
 
 /// A coarse session is told no average but a level.
 fn tells_level(row: &SessionRow, told: ToldFeedback) -> bool
-    requires { IsLawfulFeedback told }
     ensures { result ≡ tells_level row.now told }
 {
     match told {
@@ -187,7 +186,6 @@ impl LowParts {
 
     /// The same of a `told` line, and a coarse session is told no average but a level.
     fn is_apt(&self, session: u32, moment: u64, told: ToldFeedback) -> bool
-        requires told { IsLawfulFeedback told }
         ensures { result ≡ (session == self.now.row.id && (nat_le self.now.moment moment && tells_level self.now.row told)) }
     {
         self.is_timely(session, moment) && tells_level(&self.row, told)

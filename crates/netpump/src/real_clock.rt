@@ -3,24 +3,36 @@ ghost use Rattle.std.specs.Prelude.{◌≡◌, ℕ, min, ◌^◌};
 use crate::traffic::Traffic;
 use pump_frame::raised;
 use pump_link::Clock;
+use std::hint;
 use std::time::{self, Duration};
 
 /// The latest moment of a clock.
 const LATEST: u64 = 1 << 62;
 
-/// For so many microseconds after something came or went readings follow one another at once.
-const FREE: u64 = 200;
+/// So many readings follow at once what came or went on a side.
+const AT_ONCE: u32 = 4;
 
-/// Later ones lie so many microseconds apart at most, which the machine's sleep makes a little more.
-const APART: u64 = 900;
+/// The next ones, up to so many in all, lie `CLOSE` apart.
+const SOON: u32 = 16;
+
+/// How many microseconds readings lie apart at least that come soon. It is too short for a sleep.
+const CLOSE: u64 = 4;
+
+/// More readings of the machine's clock than there are in that time.
+const SPINS: u32 = 1000;
+
+/// The least and the greatest number of microseconds that a later reading sleeps. The machine adds some 60.
+const SHORTEST: u64 = 20;
+
+const LONGEST: u64 = 900;
 
 /// The machine's clock: microseconds since its start, which never fall and stay at 2^62. It tells how
 /// many readings it gave, and not what they were. While the machine's clock can't be read it stands still.
 ///
-/// It paces the worker that reads it. Readings that follow what came or went on the worker's side are
-/// free. Where nothing does they come further and further apart, by a quarter of the time since then, up
-/// to a millisecond: rounds that wait for a moment leave the processor to others, and no reading is late by
-/// more than that. A worker that waited elsewhere, as for a peer, does not wait here too.
+/// It paces the worker that reads it. The first readings after something came or went on the worker's side
+/// are free. Later ones come further and further apart, by a quarter of the time that is waited already, up
+/// to a millisecond: rounds that wait for a moment leave the processor to others, and none is late by more
+/// than that. A worker that waited elsewhere, as for a peer, does not wait here too.
 #[derive(Drop)]
 pub struct RealClock<'a, R> {
     machine: &'a R,
@@ -28,8 +40,10 @@ pub struct RealClock<'a, R> {
     traffic: &'a Traffic,
     last: u64,
     readings: u64,
-    // How much had come and gone at the last reading, and the moment of the reading that saw it first.
+    // How much had come and gone at the last reading.
     seen: u64,
+    // How many readings there were since then, and the moment of the last one that came soon.
+    idle: u32,
     since: u64,
 }
 
@@ -38,13 +52,9 @@ pub fn now<R: time::Clock>(machine: &R) -> Duration {
     machine.monotonic().unwrap_or_default()
 }
 
-/// How many microseconds readings lie apart where nothing came or went for so many.
-fn gap(quiet: u64) -> u64 {
-    if quiet < FREE {
-        0
-    } else {
-        (quiet / 4).min(APART)
-    }
+/// How many microseconds a reading lies after the one before, where so many have been waited.
+fn gap(waited: u64) -> u64 {
+    (waited / 4).clamp(SHORTEST, LONGEST)
 }
 
 impl<'a, R: time::Clock> RealClock<'a, R> {
@@ -58,6 +68,7 @@ impl<'a, R: time::Clock> RealClock<'a, R> {
             last: 0,
             readings: 0,
             seen: 0,
+            idle: 0,
             since: 0,
         }
     }
@@ -72,22 +83,50 @@ impl<'a, R: time::Clock> RealClock<'a, R> {
         }
     }
 
+    // Counts the readings since something came or went.
+    fn notice(&mut self)
+        ensures last { self.new.last ≡ self.old.last }
+        ensures readings { self.new.readings ≡ self.old.readings }
+    {
+        let count = self.traffic.count();
+        self.idle = if count == self.seen {
+            self.idle.saturating_add(1)
+        } else {
+            0
+        };
+        self.seen = count;
+    }
+
+    // Waits for the moment, which is too near for a sleep.
+    fn spin(&self, until: u64) {
+        for _ in 0..SPINS {
+            if self.passed() >= until {
+                return;
+            }
+            hint::spin_loop();
+        }
+    }
+
     // Waits where nothing came or went for a while.
     fn rest(&mut self)
         ensures last { self.new.last ≡ self.old.last }
         ensures readings { self.new.readings ≡ self.old.readings }
     {
+        self.notice();
         let now = self.passed();
-        let count = self.traffic.count();
-        if count != self.seen {
-            self.seen = count;
+        if self.idle < SOON {
+            self.traffic.set_quiet(false);
             self.since = now;
+            if self.idle >= AT_ONCE {
+                self.spin(self.last.saturating_add(CLOSE));
+            }
+            return;
         }
         let gap = gap(now.saturating_sub(self.since));
-        self.traffic.set_quiet(gap == APART);
-        let waited = now.saturating_sub(self.last);
-        if waited < gap {
-            self.machine.sleep(Duration::from_micros(gap - waited));
+        self.traffic.set_quiet(gap == LONGEST);
+        let left = self.last.saturating_add(gap).saturating_sub(now);
+        if left > 0 {
+            self.machine.sleep(Duration::from_micros(left));
         }
     }
 }
@@ -133,17 +172,20 @@ mod tests {
 
     #[test]
     fn readings_come_apart_where_nothing_comes(rt: HostRuntime) {
-        let gaps = [(0, 0), (199, 0), (200, 50), (2000, 500), (3600, 900), (u64::MAX, 900)];
-        for (quiet, apart) in gaps {
-            assert_eq!(rt; gap(quiet), apart);
+        let gaps = [(0, 20), (80, 20), (2000, 500), (3600, 900), (u64::MAX, 900)];
+        for (waited, apart) in gaps {
+            assert_eq!(rt; gap(waited), apart);
         }
         let traffic = Traffic::new();
         let mut clock = RealClock::new(&rt, now(&rt), &traffic);
-        thread::sleep(&rt, Duration::from_millis(5));
-        let first = clock.moment();
-        let second = clock.moment();
-        assert!(rt; second >= first.saturating_add(APART));
+        clock.moment();
+        assert!(rt; !traffic.is_quiet());
+        for _ in 0..100 {
+            clock.moment();
+        }
         assert!(rt; traffic.is_quiet());
+        let first = clock.moment();
+        assert!(rt; clock.moment() >= first.saturating_add(LONGEST));
         traffic.note();
         clock.moment();
         assert!(rt; !traffic.is_quiet());

@@ -49,7 +49,11 @@ impl<'a, R: Net<Listener = TcpListener, Stream = TcpStream>> TcpPorts<'a, R> {
     // SO_REUSEADDR.
     fn open(&self, port: u16) -> io::Result<TcpDoor<'a>> {
         let listener = TcpListener::bind(self.net, (Ipv4Addr::LOCALHOST, port))?;
-        let side = if self.has_low_door { self.high } else { self.low };
+        let side = if self.has_low_door {
+            self.high
+        } else {
+            self.low
+        };
         TcpDoor::over(listener, side)
     }
 

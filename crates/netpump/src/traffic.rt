@@ -12,11 +12,11 @@ pub struct Traffic {
 }
 
 impl Traffic {
-    /// Nothing came yet, and it may come at once.
+    /// Nothing came yet, and looks wait where no clock says otherwise.
     pub fn new() -> Traffic {
         Traffic {
             count: AtomicU64::new(0),
-            is_quiet: AtomicBool::new(false),
+            is_quiet: AtomicBool::new(true),
         }
     }
 
@@ -30,7 +30,7 @@ impl Traffic {
         self.count.load(Ordering::SeqCst)
     }
 
-    /// From now on looks wait for what comes, or do not.
+    /// Says whether looks are to wait for what comes.
     pub fn set_quiet(&self, is_quiet: bool) {
         self.is_quiet.store(is_quiet, Ordering::SeqCst);
     }

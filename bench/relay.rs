@@ -1,10 +1,11 @@
 // A plain, unproved relay, which does what `netpump serve` does for one session: what a user would write instead; and a Low
 // and a High that drive either relay. For timing only.
 //   rustc --edition=2021 -O relay.rs -o relay; ./relay serve LOW_PORT HIGH_PORT & ./relay drive LOW_PORT HIGH_PORT COUNT
+// (with `bare` for `serve` it prints no record).
 // `serve` makes the files plain.low and plain.high in its folder and serves one connection at each port. It has two threads,
 // the low one with Low's port and file, the high one with High's, and a bounded channel and an average between. Frames, and the
 // writes and syncs of a message, are those of docs/formats.md; an acknowledgement waits for the average's time, at most LONGEST.
-// It keeps no record, repeats nothing and picks nothing up after a restart.
+// It prints the record of `netpump serve`, each line as it comes up. It repeats nothing and picks nothing up after a restart.
 // `drive` hands in COUNT messages of 64 bytes, each as soon as the one before it is acknowledged, and takes them at the other
 // port in a second thread. It prints the seconds from the first to the last acknowledgement.
 use std::collections::VecDeque;
@@ -35,6 +36,17 @@ const TAKEN: u8 = 7;
 
 struct Message { number: u64, payload: Vec<u8> }
 
+fn frame(kind: u8, number: u64, payload: &[u8]) -> Vec<u8> {
+    let mut frame = Vec::with_capacity(18 + payload.len());
+    frame.extend_from_slice(b"NP\x01");
+    frame.push(kind);
+    frame.extend_from_slice(&SESSION.to_be_bytes());
+    frame.extend_from_slice(&number.to_be_bytes());
+    frame.extend_from_slice(&(payload.len() as u16).to_be_bytes());
+    frame.extend_from_slice(payload);
+    frame
+}
+
 struct Link { reader: BufReader<TcpStream> }
 impl Link {
     fn over(stream: TcpStream) -> io::Result<Link> {
@@ -52,14 +64,7 @@ impl Link {
         Ok(Message { number: u64::from_be_bytes(head[8..16].try_into().unwrap()), payload })
     }
     fn send(&mut self, kind: u8, number: u64, payload: &[u8]) -> io::Result<()> {
-        let mut frame = Vec::with_capacity(18 + payload.len());
-        frame.extend_from_slice(b"NP\x01");
-        frame.push(kind);
-        frame.extend_from_slice(&SESSION.to_be_bytes());
-        frame.extend_from_slice(&number.to_be_bytes());
-        frame.extend_from_slice(&(payload.len() as u16).to_be_bytes());
-        frame.extend_from_slice(payload);
-        self.reader.get_mut().write_all(&frame)
+        self.reader.get_mut().write_all(&frame(kind, number, payload))
     }
 }
 
@@ -97,9 +102,30 @@ impl Register {
     }
 }
 
+// ---- the record ----
+
+// The lines of what the low side does, where they are wanted.
+struct Record { begin: Instant, word: u32, is_wanted: bool, line: Vec<u8> }
+impl Record {
+    fn new(is_wanted: bool) -> Record { Record { begin: Instant::now(), word: 1, is_wanted, line: Vec::with_capacity(512) } }
+    fn hex(&mut self, bytes: &[u8]) {
+        for byte in bytes { self.line.extend_from_slice(&[b"0123456789abcdef"[(byte >> 4) as usize], b"0123456789abcdef"[(byte & 15) as usize]]) }
+    }
+    fn tell(&mut self, told: impl FnOnce(&mut Record, u64) -> io::Result<()>) -> io::Result<()> {
+        if !self.is_wanted { return Ok(()) }
+        let moment = self.begin.elapsed().as_micros() as u64;
+        self.word = self.word.wrapping_mul(1_664_525).wrapping_add(1_013_904_223);
+        self.line.clear();
+        write!(self.line, "told {SESSION} {moment} {:08x} fine ", self.word)?;
+        told(self, moment)?;
+        self.line.push(b'\n');
+        io::stdout().write_all(&self.line)
+    }
+}
+
 // ---- the relay ----
 
-fn serve_low(door: &TcpListener, passage: SyncSender<Message>, average: &AtomicU64) -> Result<(), Box<dyn Error>> {
+fn serve_low(door: &TcpListener, passage: SyncSender<Message>, average: &AtomicU64, mut record: Record) -> Result<(), Box<dyn Error>> {
     let mut file = Register::new("plain.low", b'L', 80 + CAPACITY * (2 + MESSAGE as u64))?;
     let mut link = Link::over(door.accept()?.0)?;
     if link.read(HELLO)?.payload != NAMES { return Err("other names".into()) }
@@ -108,10 +134,17 @@ fn serve_low(door: &TcpListener, passage: SyncSender<Message>, average: &AtomicU
         let message = link.read(DATA)?;
         if message.number != next || message.payload.len() > MESSAGE { return Err("another message is wanted".into()) }
         file.store(&message)?;
+        record.tell(|record, _| {
+            record.line.extend_from_slice(b"- raw ");
+            record.hex(&frame(DATA, message.number, &message.payload));
+            Ok(())
+        })?;
         passage.send(message)?;
-        let delay = average.load(SeqCst).min(LONGEST);
-        if delay > 0 { thread::sleep(Duration::from_micros(delay)) }
+        let average = average.load(SeqCst);
+        record.tell(|record, _| write!(record.line, "{next}/{average}"))?;
+        if average.min(LONGEST) > 0 { thread::sleep(Duration::from_micros(average.min(LONGEST))) }
         link.send(ACK, next, &[])?;
+        record.tell(|record, moment| write!(record.line, "-\n# low {SESSION} {moment} ack {next}"))?;
     }
     Ok(())
 }
@@ -135,12 +168,13 @@ fn serve_high(door: &TcpListener, passage: Receiver<Message>, average: &AtomicU6
     Ok(())
 }
 
-fn serve(low_port: u16, high_port: u16) -> Result<(), Box<dyn Error>> {
+fn serve(low_port: u16, high_port: u16, is_recorded: bool) -> Result<(), Box<dyn Error>> {
     let (low_door, high_door) = (TcpListener::bind((Ipv4Addr::LOCALHOST, low_port))?, TcpListener::bind((Ipv4Addr::LOCALHOST, high_port))?);
     let (into, out_of) = sync_channel(CAPACITY as usize - 2);
     let average = AtomicU64::new(0);
     thread::scope(|scope| {
-        let (low, high) = (scope.spawn(|| serve_low(&low_door, into, &average).map_err(|e| e.to_string())), scope.spawn(|| serve_high(&high_door, out_of, &average).map_err(|e| e.to_string())));
+        let low = scope.spawn(|| serve_low(&low_door, into, &average, Record::new(is_recorded)).map_err(|e| e.to_string()));
+        let high = scope.spawn(|| serve_high(&high_door, out_of, &average).map_err(|e| e.to_string()));
         eprintln!("low: {:?}, high: {:?}", low.join(), high.join());
     });
     Ok(())
@@ -184,10 +218,11 @@ fn drive(low_port: u16, high_port: u16, count: u64) -> Result<(), Box<dyn Error>
 fn main() -> Result<(), Box<dyn Error>> {
     let words: Vec<String> = env::args().skip(1).collect();
     match words.iter().map(String::as_str).collect::<Vec<_>>()[..] {
-        ["serve", low, high] => serve(low.parse()?, high.parse()?),
+        ["serve", low, high] => serve(low.parse()?, high.parse()?, true),
+        ["serve", low, high, "bare"] => serve(low.parse()?, high.parse()?, false),
         ["drive", low, high, count] => drive(low.parse()?, high.parse()?, count.parse()?),
         _ => {
-            eprintln!("relay serve LOW_PORT HIGH_PORT | relay drive LOW_PORT HIGH_PORT COUNT");
+            eprintln!("relay serve LOW_PORT HIGH_PORT [bare] | relay drive LOW_PORT HIGH_PORT COUNT");
             process::exit(2);
         }
     }

@@ -97,18 +97,20 @@ impl<'a, R: time::Clock> RealClock<'a, R> {
         self.seen = count;
     }
 
-    // Waits for the moment, which is too near for a sleep.
-    fn spin(&self, until: u64) {
+    // Waits for the moment, which is too near for a sleep, and says what time it is then.
+    fn spin(&self, until: u64) -> u64 {
         for _ in 0..SPINS {
-            if self.passed() >= until {
-                return;
+            let now = self.passed();
+            if now >= until {
+                return now;
             }
             hint::spin_loop();
         }
+        self.passed()
     }
 
-    // Waits where nothing came or went for a while.
-    fn rest(&mut self)
+    // Waits where nothing came or went for a while, and says what time it is then.
+    fn rest(&mut self) -> u64
         ensures last { self.new.last ≡ self.old.last }
         ensures readings { self.new.readings ≡ self.old.readings }
     {
@@ -117,17 +119,20 @@ impl<'a, R: time::Clock> RealClock<'a, R> {
         if self.idle < SOON {
             self.traffic.set_quiet(false);
             self.since = now;
-            if self.idle >= AT_ONCE {
-                self.spin(self.last.saturating_add(CLOSE));
-            }
-            return;
+            return if self.idle < AT_ONCE {
+                now
+            } else {
+                self.spin(self.last.saturating_add(CLOSE))
+            };
         }
         let gap = gap(now.saturating_sub(self.since));
         self.traffic.set_quiet(gap == LONGEST);
-        let left = self.last.saturating_add(gap).saturating_sub(now);
-        if left > 0 {
-            self.machine.sleep(Duration::from_micros(left));
+        let left = gap.saturating_sub(now.saturating_sub(self.last));
+        if left == 0 {
+            return now;
         }
+        self.machine.sleep(Duration::from_micros(left));
+        self.passed()
     }
 }
 
@@ -140,8 +145,7 @@ impl<R: time::Clock> Clock for RealClock<'_, R> {
     ghost readings = { λ s. s.readings };
 
     fn moment(&mut self) -> u64 {
-        self.rest();
-        self.last = self.passed().max(self.last).min(LATEST);
+        self.last = self.rest().max(self.last).min(LATEST);
         self.readings = raised(self.readings);
         self.last
     }

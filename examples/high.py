@@ -36,7 +36,7 @@ def main():
             _, _, kind, of, number, length = struct.unpack(">2sBBIQH", head)
             payload = read(link, length)
             if payload is None:
-                return
+                break
             if kind != DATA or of != session:
                 continue
             if number > count:
@@ -48,6 +48,7 @@ def main():
                 count += 1
                 print(f"took {number}", flush=True)
             link.sendall(frame(TAKEN, session, number))
+    print(f"the relay has ended the connection; {count} messages are in {name}", file=sys.stderr)
 
 
 main()

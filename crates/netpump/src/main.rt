@@ -28,6 +28,7 @@ mod table_row;
 mod tcp_door;
 mod tcp_link;
 mod tcp_ports;
+mod traffic;
 
 use batch::batch;
 use disk_model::Shelf;
@@ -46,6 +47,7 @@ use std::sync::Wait;
 use std::thread::Threads;
 use std::{env, io};
 use tcp_ports::TcpPorts;
+use traffic::Traffic;
 
 /// The words after the program's name.
 fn words(rt: &HostRuntime) -> io::Result<Vec<String>> {
@@ -68,7 +70,8 @@ fn is_live(words: &[String]) -> bool {
         .any(|name| begin_with(words, name))
 }
 
-/// Runs the command with threads or over a socket that the words are, by two clocks.
+/// Runs the command with threads or over a socket that the words are, by two clocks. The ports tell what
+/// comes and goes on either side.
 fn run_with<
     R: Threads
         + Wait
@@ -86,6 +89,8 @@ fn run_with<
     words: &Vec<String>,
     shelf: &mut S,
     (mut low_clock, mut high_clock): (K, K),
+    low: &Traffic,
+    high: &Traffic,
     script: &mut I,
     out: &mut O,
 ) -> u8
@@ -97,7 +102,7 @@ where
         alloc,
         words,
         shelf,
-        &mut TcpPorts::new(rt),
+        &mut TcpPorts::new(rt, low, high),
         &mut low_clock,
         &mut high_clock,
         &mut KeySource::new(rt),
@@ -119,6 +124,7 @@ fn main(rt: HostRuntime) -> ExitCode {
     let mut shelf = FileShelf::new(&rt);
     let mut script = StdSource::new(rt.stdin());
     let mut out = StdSink::new(rt.stdout());
+    let (low, high) = (Traffic::new(), Traffic::new());
     let status = if begin_with(words.as_slice(), "race") {
         // The looks of a race are a millisecond apart.
         let clocks = (StepClock::new(0, 1000), StepClock::new(0, 1000));
@@ -128,18 +134,25 @@ fn main(rt: HostRuntime) -> ExitCode {
             &words,
             &mut shelf,
             clocks,
+            &low,
+            &high,
             &mut script,
             &mut out,
         )
     } else if is_live(words.as_slice()) {
         let start = now(&rt);
-        let clocks = (RealClock::new(&rt, start), RealClock::new(&rt, start));
+        let clocks = (
+            RealClock::new(&rt, start, &low),
+            RealClock::new(&rt, start, &high),
+        );
         run_with(
             &rt,
             rt.alloc(),
             &words,
             &mut shelf,
             clocks,
+            &low,
+            &high,
             &mut script,
             &mut out,
         )

@@ -8,15 +8,16 @@ use std::os::fd::AsRawFd;
 /// How many milliseconds one call waits at most.
 const WAIT: i32 = 1;
 
-/// Waits a millisecond at most until the socket has something to read, and says whether it has. An end
-/// and an error count too: the read that follows gives them.
-pub fn is_readable<S: AsRawFd>(socket: &S) -> bool {
+/// Says whether the socket has something to read, and waits a millisecond at most until it has, if it is
+/// to wait. An end and an error count too: the read that follows gives them.
+pub fn is_readable<S: AsRawFd>(socket: &S, waits: bool) -> bool {
+    let wait = if waits { WAIT } else { 0 };
     let mut asked = [pollfd {
         fd: socket.as_raw_fd(),
         events: POLLIN,
         revents: 0,
     }];
-    poll(&mut asked, WAIT) > 0
+    poll(&mut asked, wait) > 0
 }
 
 /// Waits a millisecond.

@@ -1,30 +1,50 @@
 ghost use Rattle.std.specs.Prelude.{◌≡◌, ℕ, min, ◌^◌};
 
+use crate::traffic::Traffic;
 use pump_frame::raised;
 use pump_link::Clock;
+use std::hint;
 use std::time::{self, Duration};
 
 /// The latest moment of a clock.
 const LATEST: u64 = 1 << 62;
 
-/// Readings that lie less than so many microseconds apart follow one another at once.
-const CLOSE: u64 = 100;
+/// So many readings follow at once what came or went on a side.
+const AT_ONCE: u32 = 4;
 
-/// How many readings may follow one another at once.
-const FREE: u32 = 32;
+/// The next ones, up to so many in all, lie `CLOSE` apart.
+const SOON: u32 = 16;
+
+/// How many microseconds readings lie apart at least that come soon. It is too short for a sleep.
+const CLOSE: u64 = 4;
+
+/// More readings of the machine's clock than there are in that time.
+const SPINS: u32 = 1000;
+
+/// The least and the greatest number of microseconds that a later reading sleeps. The machine adds some 60.
+const SHORTEST: u64 = 20;
+
+const LONGEST: u64 = 900;
 
 /// The machine's clock: microseconds since its start, which never fall and stay at 2^62. It tells how
 /// many readings it gave, and not what they were. While the machine's clock can't be read it stands still.
-/// Where many readings follow one another at once, as those of a worker do whose rounds wait for a moment,
-/// each further one waits 100 microseconds, so that such a worker leaves the processor to others.
+///
+/// It paces the worker that reads it. The first readings after something came or went on the worker's side
+/// are free. Later ones come further and further apart, by a quarter of the time that is waited already, up
+/// to a millisecond: rounds that wait for a moment leave the processor to others, and none is late by more
+/// than that. A worker that waited elsewhere, as for a peer, does not wait here too.
 #[derive(Drop)]
 pub struct RealClock<'a, R> {
     machine: &'a R,
     start: Duration,
+    traffic: &'a Traffic,
     last: u64,
     readings: u64,
-    // How many readings followed one another at once.
-    close: u32,
+    // How much had come and gone at the last reading.
+    seen: u64,
+    // How many readings there were since then, and the moment of the last one that came soon.
+    idle: u32,
+    since: u64,
 }
 
 /// What the machine's clock says now, for the start of clocks.
@@ -32,15 +52,24 @@ pub fn now<R: time::Clock>(machine: &R) -> Duration {
     machine.monotonic().unwrap_or_default()
 }
 
+/// How many microseconds a reading lies after the one before, where so many have been waited.
+fn gap(waited: u64) -> u64 {
+    (waited / 4).clamp(SHORTEST, LONGEST)
+}
+
 impl<'a, R: time::Clock> RealClock<'a, R> {
-    /// A clock that has its 0 where the machine's clock said `start`.
-    pub fn new(machine: &'a R, start: Duration) -> RealClock<'a, R> {
+    /// A clock that has its 0 where the machine's clock said `start`, for the worker whose side has this
+    /// traffic.
+    pub fn new(machine: &'a R, start: Duration, traffic: &'a Traffic) -> RealClock<'a, R> {
         RealClock {
             machine,
             start,
+            traffic,
             last: 0,
             readings: 0,
-            close: 0,
+            seen: 0,
+            idle: 0,
+            since: 0,
         }
     }
 
@@ -54,20 +83,56 @@ impl<'a, R: time::Clock> RealClock<'a, R> {
         }
     }
 
-    // Waits where too many readings follow one another at once.
-    fn rest(&mut self)
+    // Counts the readings since something came or went.
+    fn notice(&mut self)
         ensures last { self.new.last ≡ self.old.last }
         ensures readings { self.new.readings ≡ self.old.readings }
     {
-        if self.passed().saturating_sub(self.last) >= CLOSE {
-            self.close = 0;
-            return;
-        }
-        if self.close < FREE {
-            self.close += 1;
+        let count = self.traffic.count();
+        self.idle = if count == self.seen {
+            self.idle.saturating_add(1)
         } else {
-            self.machine.sleep(Duration::from_micros(CLOSE));
+            0
+        };
+        self.seen = count;
+    }
+
+    // Waits for the moment, which is too near for a sleep, and says what time it is then.
+    fn spin(&self, until: u64) -> u64 {
+        for _ in 0..SPINS {
+            let now = self.passed();
+            if now >= until {
+                return now;
+            }
+            hint::spin_loop();
         }
+        self.passed()
+    }
+
+    // Waits where nothing came or went for a while, and says what time it is then.
+    fn rest(&mut self) -> u64
+        ensures last { self.new.last ≡ self.old.last }
+        ensures readings { self.new.readings ≡ self.old.readings }
+    {
+        self.notice();
+        let now = self.passed();
+        if self.idle < SOON {
+            self.traffic.set_quiet(false);
+            self.since = now;
+            return if self.idle < AT_ONCE {
+                now
+            } else {
+                self.spin(self.last.saturating_add(CLOSE))
+            };
+        }
+        let gap = gap(now.saturating_sub(self.since));
+        self.traffic.set_quiet(gap == LONGEST);
+        let left = gap.saturating_sub(now.saturating_sub(self.last));
+        if left == 0 {
+            return now;
+        }
+        self.machine.sleep(Duration::from_micros(left));
+        self.passed()
     }
 }
 
@@ -80,8 +145,7 @@ impl<R: time::Clock> Clock for RealClock<'_, R> {
     ghost readings = { λ s. s.readings };
 
     fn moment(&mut self) -> u64 {
-        self.rest();
-        self.last = self.passed().max(self.last).min(LATEST);
+        self.last = self.rest().max(self.last).min(LATEST);
         self.readings = raised(self.readings);
         self.last
     }
@@ -99,12 +163,35 @@ mod tests {
     #[test]
     fn moments_are_microseconds_of_the_machine(rt: HostRuntime) {
         let start = now(&rt);
-        let mut clock = RealClock::new(&rt, start);
+        let traffic = Traffic::new();
+        let mut clock = RealClock::new(&rt, start, &traffic);
         let first = clock.moment();
         thread::sleep(&rt, Duration::from_millis(2));
         let second = clock.moment();
         assert!(rt; second >= first.saturating_add(2000));
         assert_eq!(rt; clock.readings(), 2);
-        assert_eq!(rt; RealClock::new(&rt, Duration::MAX).moment(), 0);
+        let mut late = RealClock::new(&rt, Duration::MAX, &traffic);
+        assert_eq!(rt; late.moment(), 0);
+    }
+
+    #[test]
+    fn readings_come_apart_where_nothing_comes(rt: HostRuntime) {
+        let gaps = [(0, 20), (80, 20), (2000, 500), (3600, 900), (u64::MAX, 900)];
+        for (waited, apart) in gaps {
+            assert_eq!(rt; gap(waited), apart);
+        }
+        let traffic = Traffic::new();
+        let mut clock = RealClock::new(&rt, now(&rt), &traffic);
+        clock.moment();
+        assert!(rt; !traffic.is_quiet());
+        for _ in 0..100 {
+            clock.moment();
+        }
+        assert!(rt; traffic.is_quiet());
+        let first = clock.moment();
+        assert!(rt; clock.moment() >= first.saturating_add(LONGEST));
+        traffic.note();
+        clock.moment();
+        assert!(rt; !traffic.is_quiet());
     }
 }

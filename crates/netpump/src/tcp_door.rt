@@ -2,6 +2,7 @@ ghost use Rattle.std.specs.Prelude.{◌≡◌, IfOk};
 
 use crate::readiness::{is_readable, pause};
 use crate::tcp_link::TcpLink;
+use crate::traffic::Traffic;
 use pump_frame::raised;
 use pump_link::{Accepted, Door};
 use std::io::{self, ErrorKind};
@@ -12,32 +13,35 @@ use std::net::TcpListener;
 /// A call waits a millisecond at most for a connection, and about as long where it fails, so that a
 /// caller that asks again and again leaves the processor to others.
 #[derive(Drop)]
-pub struct TcpDoor {
+pub struct TcpDoor<'a> {
     listener: TcpListener,
+    // The traffic of the door's side.
+    traffic: &'a Traffic,
     faults: u64,
 }
 
-impl TcpDoor {
+impl<'a> TcpDoor<'a> {
     /// A door at which the listener's connections come.
-    pub fn over(listener: TcpListener) -> io::Result<TcpDoor>
+    pub fn over(listener: TcpListener, traffic: &'a Traffic) -> io::Result<TcpDoor<'a>>
         ensures { IfOk result (λ door. door.faults ≡ 0) }
     {
         // A connection that is gone before it is taken in must not keep the call.
         listener.set_nonblocking(true)?;
         Ok(TcpDoor {
             listener,
+            traffic,
             faults: 0,
         })
     }
 
-    fn next(&self) -> io::Result<TcpLink> {
+    fn next(&self) -> io::Result<TcpLink<'a>> {
         let (stream, _) = self.listener.accept()?;
-        TcpLink::over(stream)
+        TcpLink::over(stream, self.traffic)
     }
 }
 
-impl Door for TcpDoor {
-    type Link = TcpLink;
+impl<'a> Door for TcpDoor<'a> {
+    type Link = TcpLink<'a>;
 
     // It tells no port and no answers, and anything may have been done.
     ghost port = { λ s number. Unit {0} };
@@ -48,8 +52,8 @@ impl Door for TcpDoor {
 
     ghost faults = { λ s. s.faults };
 
-    fn accept(&mut self) -> Accepted<TcpLink> {
-        if !is_readable(&self.listener) {
+    fn accept(&mut self) -> Accepted<TcpLink<'a>> {
+        if !is_readable(&self.listener, true) {
             return Accepted::NotYet;
         }
         match self.next() {
@@ -64,7 +68,7 @@ impl Door for TcpDoor {
     }
 
     // The connection is closed.
-    fn back(&mut self, _link: TcpLink) {}
+    fn back(&mut self, _link: TcpLink<'a>) {}
 
     fn faults(&self) -> u64 {
         self.faults

@@ -5,6 +5,7 @@ ghost use Rattle.pump_link.specs.declared.link.Looked.{Looked as Look};
 use crate::keep_alive::keep_alive;
 use crate::read_ahead::ReadAhead;
 use crate::readiness::is_readable;
+use crate::traffic::Traffic;
 use pump_frame::raised;
 use pump_link::{Link, Looked, SendFault};
 use std::io::{self, ErrorKind, Write};
@@ -15,17 +16,23 @@ use std::time::Duration;
 /// received.
 ///
 /// A look at a byte that an earlier one read ahead asks nothing of the system. Any other look waits a
-/// millisecond at most for bytes to come. A send fails where the peer takes no byte for a second.
+/// millisecond at most for bytes to come; where bytes came just now and nothing was sent since, no answer
+/// is to come, and it waits only if its side is quiet. A send fails where the peer takes no byte for a
+/// second.
 #[derive(Drop)]
-pub struct TcpLink {
+pub struct TcpLink<'a> {
     stream: TcpStream,
     ahead: ReadAhead,
+    // The traffic of the link's side.
+    traffic: &'a Traffic,
+    // Whether the peer is to speak next.
+    awaits: bool,
     faults: u64,
 }
 
-impl TcpLink {
+impl<'a> TcpLink<'a> {
     /// A link over this connection, whose bytes are sent at once and not gathered first.
-    pub fn over(stream: TcpStream) -> io::Result<TcpLink>
+    pub fn over(stream: TcpStream, traffic: &'a Traffic) -> io::Result<TcpLink<'a>>
         ensures { IfOk result (λ link. link.faults ≡ 0) }
     {
         stream.set_nodelay(true)?;
@@ -33,9 +40,12 @@ impl TcpLink {
         // A read that finds nothing, though it was said to be there, has to end too.
         stream.set_read_timeout(Some(Duration::from_millis(1)))?;
         stream.set_write_timeout(Some(Duration::from_secs(1)))?;
+        traffic.note();
         Ok(TcpLink {
             stream,
             ahead: ReadAhead::new(),
+            traffic,
+            awaits: true,
             faults: 0,
         })
     }
@@ -55,7 +65,7 @@ impl TcpLink {
     }
 }
 
-impl Link for TcpLink {
+impl Link for TcpLink<'_> {
     // It tells no looks, and any bytes may have been sent.
     ghost gives = { λ s looks. ⊥ };
 
@@ -67,12 +77,14 @@ impl Link for TcpLink {
         if let Some(byte) = self.ahead.next() {
             return Looked::Byte(byte);
         }
-        if !is_readable(&self.stream) {
+        if !is_readable(&self.stream, self.awaits || self.traffic.is_quiet()) {
             return Looked::NotYet;
         }
         if let Err(error) = self.ahead.fill(&mut self.stream) {
             return self.unread(&error);
         }
+        self.awaits = false;
+        self.traffic.note();
         match self.ahead.next() {
             Some(byte) => Looked::Byte(byte),
             None => Looked::Ended,
@@ -81,7 +93,11 @@ impl Link for TcpLink {
 
     fn send(&mut self, bytes: &[u8]) -> Result<(), SendFault> {
         match self.stream.write_all(bytes) {
-            Ok(()) => Ok(()),
+            Ok(()) => {
+                self.awaits = true;
+                self.traffic.note();
+                Ok(())
+            }
             Err(_) => {
                 self.faults = raised(self.faults);
                 Err(SendFault)

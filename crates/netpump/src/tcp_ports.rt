@@ -3,21 +3,36 @@ ghost use Rattle.pump_frame.specs.Counts.{raised};
 
 use crate::tcp_door::TcpDoor;
 use crate::tcp_link::TcpLink;
+use crate::traffic::Traffic;
 use pump_frame::raised;
 use pump_link::{Ports, PortsFault};
 use std::io;
 use std::net::{Ipv4Addr, Net, TcpListener, TcpStream};
 
 /// The TCP ports of 127.0.0.1. They tell how often a call failed, and nothing else.
+///
+/// The first door that they open is Low's, and each further one is High's: what comes and goes at a door
+/// is the traffic of its side. A link that is asked for here has the traffic of High's side, of which no
+/// clock is told then.
 #[derive(Drop)]
 pub struct TcpPorts<'a, R> {
     net: &'a R,
+    low: &'a Traffic,
+    high: &'a Traffic,
+    has_low_door: bool,
     faults: u64,
 }
 
 impl<'a, R> TcpPorts<'a, R> {
-    pub fn new(net: &'a R) -> TcpPorts<'a, R> {
-        TcpPorts { net, faults: 0 }
+    /// Ports of which none is listened at yet.
+    pub fn new(net: &'a R, low: &'a Traffic, high: &'a Traffic) -> TcpPorts<'a, R> {
+        TcpPorts {
+            net,
+            low,
+            high,
+            has_low_door: false,
+            faults: 0,
+        }
     }
 
     fn fault(&mut self) -> PortsFault
@@ -29,24 +44,29 @@ impl<'a, R> TcpPorts<'a, R> {
     }
 }
 
-impl<R: Net<Listener = TcpListener, Stream = TcpStream>> TcpPorts<'_, R> {
+impl<'a, R: Net<Listener = TcpListener, Stream = TcpStream>> TcpPorts<'a, R> {
     // The port may have been listened at a moment ago, by a process that was killed: std sets
     // SO_REUSEADDR.
-    fn open(&self, port: u16) -> io::Result<TcpDoor> {
+    fn open(&self, port: u16) -> io::Result<TcpDoor<'a>> {
         let listener = TcpListener::bind(self.net, (Ipv4Addr::LOCALHOST, port))?;
-        TcpDoor::over(listener)
+        let side = if self.has_low_door {
+            self.high
+        } else {
+            self.low
+        };
+        TcpDoor::over(listener, side)
     }
 
-    fn call(&self, port: u16) -> io::Result<TcpLink> {
+    fn call(&self, port: u16) -> io::Result<TcpLink<'a>> {
         let stream = TcpStream::connect(self.net, (Ipv4Addr::LOCALHOST, port))?;
-        TcpLink::over(stream)
+        TcpLink::over(stream, self.high)
     }
 }
 
-impl<R: Net<Listener = TcpListener, Stream = TcpStream>> Ports for TcpPorts<'_, R> {
-    type Link = TcpLink;
+impl<'a, R: Net<Listener = TcpListener, Stream = TcpStream>> Ports for TcpPorts<'a, R> {
+    type Link = TcpLink<'a>;
 
-    type Door = TcpDoor;
+    type Door = TcpDoor<'a>;
 
     // They tell no answers, and anything may have been done.
     ghost gives = { λ s steps. ⊥ };
@@ -55,14 +75,17 @@ impl<R: Net<Listener = TcpListener, Stream = TcpStream>> Ports for TcpPorts<'_, 
 
     ghost faults = { λ s. s.faults };
 
-    fn listen(&mut self, port: u16) -> Result<TcpDoor, PortsFault> {
+    fn listen(&mut self, port: u16) -> Result<TcpDoor<'a>, PortsFault> {
         match self.open(port) {
-            Ok(door) => Ok(door),
+            Ok(door) => {
+                self.has_low_door = true;
+                Ok(door)
+            }
             Err(_) => Err(self.fault()),
         }
     }
 
-    fn connect(&mut self, port: u16) -> Result<TcpLink, PortsFault> {
+    fn connect(&mut self, port: u16) -> Result<TcpLink<'a>, PortsFault> {
         match self.call(port) {
             Ok(link) => Ok(link),
             Err(_) => Err(self.fault()),
@@ -70,10 +93,10 @@ impl<R: Net<Listener = TcpListener, Stream = TcpStream>> Ports for TcpPorts<'_, 
     }
 
     // The connection is closed.
-    fn back(&mut self, _link: TcpLink) {}
+    fn back(&mut self, _link: TcpLink<'a>) {}
 
     // The port is free again.
-    fn shut(&mut self, _door: TcpDoor) {}
+    fn shut(&mut self, _door: TcpDoor<'a>) {}
 
     fn faults(&self) -> u64 {
         self.faults

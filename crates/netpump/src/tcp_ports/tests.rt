@@ -1,16 +1,17 @@
 use super::TcpPorts;
 use crate::tcp_door::TcpDoor;
 use crate::tcp_link::TcpLink;
+use crate::traffic::Traffic;
 use pump_frame::raised;
 use pump_link::{Accepted, Door, Link, Looked, Ports};
 use std::net::{Net, TcpListener, TcpStream};
 use std::process;
 
 /// A door, and its port: the first of a hundred that is free.
-fn open<R: Net<Listener = TcpListener, Stream = TcpStream>>(
-    ports: &mut TcpPorts<'_, R>,
+fn open<'a, R: Net<Listener = TcpListener, Stream = TcpStream>>(
+    ports: &mut TcpPorts<'a, R>,
     process: u32,
-) -> Option<(TcpDoor, u16)> {
+) -> Option<(TcpDoor<'a>, u16)> {
     let first = 20_000 + (process % 100) as u16 * 100;
     for port in first..first + 100 {
         if let Ok(door) = ports.listen(port) {
@@ -21,7 +22,7 @@ fn open<R: Net<Listener = TcpListener, Stream = TcpStream>>(
 }
 
 /// The next link that comes.
-fn come(door: &mut TcpDoor) -> Option<TcpLink> {
+fn come<'a>(door: &mut TcpDoor<'a>) -> Option<TcpLink<'a>> {
     for _ in 0..1000 {
         if let Accepted::Came(link) = door.accept() {
             return Some(link);
@@ -31,17 +32,17 @@ fn come(door: &mut TcpDoor) -> Option<TcpLink> {
 }
 
 /// Both ends of a connection to the door, first the one that called.
-fn meet<R: Net<Listener = TcpListener, Stream = TcpStream>>(
-    ports: &mut TcpPorts<'_, R>,
-    door: &mut TcpDoor,
+fn meet<'a, R: Net<Listener = TcpListener, Stream = TcpStream>>(
+    ports: &mut TcpPorts<'a, R>,
+    door: &mut TcpDoor<'a>,
     port: u16,
-) -> Option<(TcpLink, TcpLink)> {
+) -> Option<(TcpLink<'a>, TcpLink<'a>)> {
     let near = ports.connect(port).ok()?;
     Some((near, come(door)?))
 }
 
 /// What the next look gives that gives anything.
-fn see(link: &mut TcpLink) -> Looked {
+fn see(link: &mut TcpLink<'_>) -> Looked {
     for _ in 0..1000 {
         match link.look() {
             Looked::NotYet => {}
@@ -53,7 +54,8 @@ fn see(link: &mut TcpLink) -> Looked {
 
 #[test]
 fn ports_of_this_machine(rt: HostRuntime) {
-    let mut ports = TcpPorts::new(&rt);
+    let (low, high) = (Traffic::new(), Traffic::new());
+    let mut ports = TcpPorts::new(&rt, &low, &high);
     let Some((mut door, port)) = open(&mut ports, process::id(rt.process())) else {
         assert!(rt; false);
         return;
@@ -76,7 +78,8 @@ fn ports_of_this_machine(rt: HostRuntime) {
 
 #[test]
 fn a_listener_is_a_door(rt: HostRuntime) {
-    let mut ports = TcpPorts::new(&rt);
+    let (low, high) = (Traffic::new(), Traffic::new());
+    let mut ports = TcpPorts::new(&rt, &low, &high);
     let Some((mut door, port)) = open(&mut ports, process::id(rt.process())) else {
         assert!(rt; false);
         return;
@@ -91,7 +94,8 @@ fn a_listener_is_a_door(rt: HostRuntime) {
 
 #[test]
 fn a_connection_is_a_link(rt: HostRuntime) {
-    let mut ports = TcpPorts::new(&rt);
+    let (low, high) = (Traffic::new(), Traffic::new());
+    let mut ports = TcpPorts::new(&rt, &low, &high);
     let met = match open(&mut ports, process::id(rt.process())) {
         Some((mut door, port)) => meet(&mut ports, &mut door, port),
         None => None,
@@ -103,6 +107,8 @@ fn a_connection_is_a_link(rt: HostRuntime) {
     assert_eq!(rt; far.look(), Looked::NotYet);
     assert_eq!(rt; near.send(b"ab"), Ok(()));
     assert_eq!(rt; far.send(b"c"), Ok(()));
+    // The link that came at the first door, and its bytes, are Low's traffic.
+    assert_eq!(rt; low.count(), 2);
     assert_eq!(rt;
         [see(&mut far), see(&mut far)],
         [Looked::Byte(b'a'), Looked::Byte(b'b')]
@@ -115,7 +121,7 @@ fn a_connection_is_a_link(rt: HostRuntime) {
 }
 
 /// How many calls failed once a send did, to a peer that has gone.
-fn fails_at_last(link: &mut TcpLink) -> u64 {
+fn fails_at_last(link: &mut TcpLink<'_>) -> u64 {
     for _ in 0..1000 {
         if link.send(b"d").is_err() {
             break;

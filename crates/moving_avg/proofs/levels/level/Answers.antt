@@ -1,4 +1,4 @@
-use Rattle.std.proofs.Common.{◌≡◌, ℕ, ◌^◌, ◌≤◌, arith, sym}
+use Rattle.std.proofs.Common.{arith, sym}
 use Rattle.moving_avg.proofs.Doubling.{level_above, level_found, bounded}
 use Rattle.moving_avg.proofs.levels.level.Goals as goal
 

@@ -84,7 +84,7 @@ seen_level : (row : SessionRow) (times : List ℕ) → row.coarse ≡ true → I
 unfolding down
 seen_level row times coarse =
     let is : average_of (averaging_of row) times ≡ level (mean_of (averaging_of row) times) =
-        ap (λ b. if b then level (mean_of (averaging_of row) times) else mean_of (averaging_of row) times) coarse in
+    ap (λ b. if b then level (mean_of (averaging_of row) times) else mean_of (averaging_of row) times) coarse in
     ap level is ∙ own_level (mean_of (averaging_of row) times) ∙ sym is
 
 read_tells : (s : Seen) → IsLevel s.average → (f : Feedback) → TellsLevel f → TellsLevel (with_read s f)

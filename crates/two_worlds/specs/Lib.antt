@@ -1,6 +1,7 @@
 pub mod Agreement
 pub mod Answered
 pub mod Classes
+pub mod CoarseScripts
 pub mod Connections
 pub mod Disks
 pub mod Doing

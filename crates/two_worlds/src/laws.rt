@@ -3,6 +3,7 @@
 
 ghost use Rattle.two_worlds.specs.Laws.{EventsAreCertain, EveryWorldIsLawful, ForgedWorldsAreBounded, TimedWorldsAreLawful, RunsHaveReplies, PairsAgree, AcknowledgedIsAccepted, ThinnedHistoriesAgree, AcceptedOutlives, AcknowledgedOutlives};
 ghost use Rattle.two_worlds.specs.Classes.{CoarsePairsAgree, ClassesAreFew};
+ghost use Rattle.two_worlds.specs.CoarseScripts.{CoarseTranscriptsAgree, CoarseScriptsAgree, CoarseTranscriptsAgreeInEachSession, CoarseScriptsAgreeInEachSession};
 ghost use Rattle.two_worlds.specs.Answered.{EveryWorldHasAnswered, TimedWorldsHaveAnswered, SessionsKeepAnswers};
 ghost use Rattle.two_worlds.specs.Timelines.{LinesAreSteps, ScriptsAreTimedRuns};
 ghost use Rattle.two_worlds.specs.TimelinesAlone.{LowLinesAreEvents, LowScriptsAreTimed};
@@ -69,6 +70,26 @@ pub fn coarse_pairs_agree()
     ensures few { ClassesAreFew }
 {
     pairs_agree();
+}
+
+/// Of two scripts whose session a line makes coarse, and which have one low side, the moments of a full
+/// buffer, what each restart finds of it, and a class for each average decide the `low` lines, where no
+/// two low looks have one moment: in whole transcripts (`whole`), and in what was printed so far, where
+/// a line may have stopped a script (`so_far`). So for each exchange one of 31 classes comes down.
+pub fn coarse_scripts_agree()
+    ensures whole { CoarseTranscriptsAgree }
+    ensures so_far { CoarseScriptsAgree }
+{
+    script_reader::full_moments_and_averages_decide();
+}
+
+/// In scripts of several sessions it is so of each session, by its own low side and what is printed of
+/// it, whatever other sessions there are, do and are told.
+pub fn coarse_scripts_agree_in_each_session()
+    ensures whole { CoarseTranscriptsAgreeInEachSession }
+    ensures so_far { CoarseScriptsAgreeInEachSession }
+{
+    coarse_scripts_agree();
 }
 
 /// Leaving out looks that find nothing, looks of a wait before its end and looks that find the

@@ -1,5 +1,5 @@
 -- In a run of a coarse session each average that was told is a level, so its class tells it.
-use Rattle.std.proofs.Common.{◌≡◌, ℕ, zero, suc, ◌*◌, ◌≤◌, ◌<◌, Bool, true, false, List, [], ◌∷◌, map, nat_le, if◌then◌else◌, Some, None, refl, sym, ap, ◌∙◌, subst, ◌^◌, arith}
+use Rattle.std.proofs.Common.{◌≡◌, ℕ, zero, suc, ◌*◌, ◌≤◌, Bool, true, false, List, [], ◌∷◌, map, nat_le, if◌then◌else◌, Some, None, refl, sym, ap, ◌∙◌, subst, ◌^◌, arith}
 use Rattle.std.specs.List.{AllByRecursion}
 use Rattle.pump_frame.specs.declared.row.SessionRow.{SessionRow}
 use Rattle.pump_frame.specs.Averages.{level_from, level, IsLevel, down, averaging_of, mean_of, average_of}
@@ -9,11 +9,11 @@ use Rattle.pump_core.specs.declared.feedback.Feedback.{Feedback}
 use Rattle.pump_core.specs.declared.feedback.Feedback.TheVariants.{Quiet, Full, Passed, Released, Repeat}
 use Rattle.pump_core.specs.declared.event.Event.{Event}
 use Rattle.pump_core.specs.declared.event.Event.TheVariants as events
-use Rattle.pump_core.specs.Comings.{Timed, Comes, Looks, Side}
+use Rattle.pump_core.specs.Comings.{Timed, Comes, Looks}
 use Rattle.pump_core.specs.Pairs.{uncounted}
 use Rattle.pump_core.specs.World.{World}
 use Rattle.pump_core.specs.Timed.{Step, Arrives, LowLook, HighLook, Offer, Read, Publish, Occurs, Point, LowLife, offered, seen, with_read, felt, after_event, StepsTo, LeadsTo}
-use Rattle.pump_core.specs.Runs.{LifeFeedback, feedbacks, feedback_of_side, sides, feedback_of}
+use Rattle.pump_core.specs.Runs.{LifeFeedback, feedbacks, feedback_of_side}
 use Rattle.two_worlds.specs.Agreement.{without_counts, AgreeForLow}
 use Rattle.two_worlds.specs.Classes.{class_from, class_of, classed, in_classes, AgreeInClasses}
 
@@ -49,7 +49,7 @@ unfolding class_of
 few average = few_from 30 1 average
 
 -- two levels of one class are one
-same_level : (a b : ℕ) → IsLevel a → IsLevel b → class_of a ≡ class_of b → a ≡ b
+pub same_level : (a b : ℕ) → IsLevel a → IsLevel b → class_of a ≡ class_of b → a ≡ b
 unfolding class_of level
 same_level a b is_level also same = sym is_level ∙ sym (tells 30 1 a) ∙ ap (level_at 30 1) same ∙ tells 30 1 b ∙ also
 

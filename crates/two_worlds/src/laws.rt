@@ -4,6 +4,7 @@
 ghost use Rattle.two_worlds.specs.Laws.{EventsAreCertain, EveryWorldIsLawful, ForgedWorldsAreBounded, TimedWorldsAreLawful, RunsHaveReplies, PairsAgree, AcknowledgedIsAccepted, ThinnedHistoriesAgree, AcceptedOutlives, AcknowledgedOutlives};
 ghost use Rattle.two_worlds.specs.Classes.{CoarsePairsAgree, ClassesAreFew};
 ghost use Rattle.two_worlds.specs.CoarseScripts.{CoarseTranscriptsAgree, CoarseScriptsAgree, CoarseTranscriptsAgreeInEachSession, CoarseScriptsAgreeInEachSession};
+ghost use Rattle.two_worlds.specs.ListedAverages.{AveragesDecide, ClassesDecide};
 ghost use Rattle.two_worlds.specs.Answered.{EveryWorldHasAnswered, TimedWorldsHaveAnswered, SessionsKeepAnswers};
 ghost use Rattle.two_worlds.specs.Timelines.{LinesAreSteps, ScriptsAreTimedRuns};
 ghost use Rattle.two_worlds.specs.TimelinesAlone.{LowLinesAreEvents, LowScriptsAreTimed};
@@ -70,6 +71,25 @@ pub fn coarse_pairs_agree()
     ensures few { ClassesAreFew }
 {
     pairs_agree();
+}
+
+/// Low's own, the looks that found the buffer full, and one list of the averages decide the replies and
+/// their moments: two timed runs of one row that agree in these have the same replies. The list doesn't
+/// say in which looks its averages were told, nor when a message was passed that nobody waits for: low's
+/// own and the full looks decide that.
+pub fn averages_decide()
+    ensures { AveragesDecide }
+{
+    pump_core::sides_decide();
+}
+
+/// Where the session is coarse, what comes down from High is one of 31 classes for each exchange, and
+/// which looks found the buffer full: of two timed runs of its row a list of classes in place of the
+/// averages decides as much.
+pub fn classes_decide()
+    ensures { ClassesDecide }
+{
+    averages_decide();
 }
 
 /// Of two scripts whose session a line makes coarse, and which have one low side, the moments of a full

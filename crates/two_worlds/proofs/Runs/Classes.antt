@@ -49,26 +49,36 @@ unfolding class_of
 few average = few_from 30 1 average
 
 -- two levels of one class are one
-pub same_level : (a b : ℕ) → IsLevel a → IsLevel b → class_of a ≡ class_of b → a ≡ b
+same_level : (a b : ℕ) → IsLevel a → IsLevel b → class_of a ≡ class_of b → a ≡ b
 unfolding class_of level
 same_level a b is_level also same = sym is_level ∙ sym (tells 30 1 a) ∙ ap (level_at 30 1) same ∙ tells 30 1 b ∙ also
 
+-- two lists of levels with one list of classes are one
+pub same_averages : (ns ms : List ℕ) → AllByRecursion IsLevel ns → AllByRecursion IsLevel ms → map class_of ns ≡ map class_of ms → ns ≡ ms
+same_averages [] [] h k e = refl
+same_averages [] (m ∷ ms) h k e = absurd (cc)
+same_averages (n ∷ ns) [] h k e = absurd (cc)
+same_averages (n ∷ ns) (m ∷ ms) h k e =
+    let first : class_of n ≡ class_of m = cc in
+    let rest : map class_of ns ≡ map class_of ms = cc in
+    λ i. same_level n m h.0 k.0 first i ∷ same_averages ns ms h.1 k.1 rest i
+
 -- ---- what is told in a coarse session ----
 
-abbrev TellsLevel : Feedback → Type 0
+abbrev pub TellsLevel : Feedback → Type 0
 TellsLevel (Passed s) = IsLevel s.average
 TellsLevel (Repeat s) = IsLevel s.average
 TellsLevel Quiet = Unit {0}
 TellsLevel Full = Unit {0}
 TellsLevel Released = Unit {0}
 
-abbrev TellLevels : List Timed → Type 0
+abbrev pub TellLevels : List Timed → Type 0
 TellLevels past = AllByRecursion TellsLevel (feedbacks past)
 
-abbrev LifeTells : LowLife → Type 0
+abbrev pub LifeTells : LowLife → Type 0
 LifeTells l = TellLevels l.side.events
 
-abbrev PointTells : Point → Type 0
+abbrev pub PointTells : Point → Type 0
 PointTells t = LifeTells t.life × AllByRecursion LifeTells t.earlier
 
 felt_tells : (f : Feedback → Feedback) → ((x : Feedback) → TellsLevel x → TellsLevel (f x)) → (past : List Timed) → TellLevels past → TellLevels (felt f past)

@@ -1,5 +1,5 @@
--- Two timed runs that agree in low's own, in which looks found the buffer full, and in one list of what came
--- down for the exchanges: the averages, or of a coarse session their classes.
+-- Two timed runs that agree in low's own, in which looks and openings found the buffer full, and in one list of
+-- what came down for the exchanges: the averages, or of a coarse session their classes.
 use Rattle.std.specs.Prelude.{◌≡◌, ℕ, true, List, [], ◌∷◌, ◌++◌, map, Option, Some, None, option_to_list}
 use Rattle.pump_frame.specs.declared.row.SessionRow.{SessionRow}
 use Rattle.pump_core.specs.declared.feedback.Feedback.{Feedback}
@@ -16,7 +16,8 @@ abbrev pub only_full : Feedback → Feedback
 only_full Full = Full
 only_full _ = Quiet
 
--- the low side with no more of its feedback than that: low's own, and which looks found the buffer full
+-- the low sides with no more of their feedback than that: low's own, and which looks and openings found the
+-- buffer full
 abbrev pub full_sides : Point → List Side
 full_sides t = map (side_with only_full) (sides t)
 
@@ -42,8 +43,7 @@ averages_of_sides (s ∷ earlier) = averages_of_sides earlier ++ averages_told s
 abbrev pub averages_in : Point → List ℕ
 averages_in t = averages_of_sides (sides t)
 
--- the runs agree in low's own and in which looks found the buffer full, held flags included, and in the list
--- of averages
+-- the runs agree in low's own, in which looks and openings found the buffer full, and in the list of averages
 pub record AgreeInAverages (t u : Point) : Type 0 where
   pub own : full_sides t ≡ full_sides u
   pub averages : averages_in t ≡ averages_in u

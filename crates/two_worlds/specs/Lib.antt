@@ -7,6 +7,7 @@ pub mod Disks
 pub mod Doing
 pub mod Keeping
 pub mod Laws
+pub mod ListedAverages
 pub mod LowParts
 pub mod LowPumps
 pub mod Openings

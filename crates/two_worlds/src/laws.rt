@@ -2,8 +2,9 @@
 //! whose contract is the law; calling it does nothing.
 
 ghost use Rattle.two_worlds.specs.Laws.{EventsAreCertain, EveryWorldIsLawful, ForgedWorldsAreBounded, TimedWorldsAreLawful, RunsHaveReplies, PairsAgree, AcknowledgedIsAccepted, ThinnedHistoriesAgree, AcceptedOutlives, AcknowledgedOutlives};
-ghost use Rattle.two_worlds.specs.Classes.{CoarsePairsAgree, ClassesAreFew};
+ghost use Rattle.two_worlds.specs.Classes.{ClassesAreFew};
 ghost use Rattle.two_worlds.specs.CoarseScripts.{CoarseTranscriptsAgree, CoarseScriptsAgree, CoarseTranscriptsAgreeInEachSession, CoarseScriptsAgreeInEachSession};
+ghost use Rattle.two_worlds.specs.ListedAverages.{AveragesDecide, CoarsePairsAgree};
 ghost use Rattle.two_worlds.specs.Answered.{EveryWorldHasAnswered, TimedWorldsHaveAnswered, SessionsKeepAnswers};
 ghost use Rattle.two_worlds.specs.Timelines.{LinesAreSteps, ScriptsAreTimedRuns};
 ghost use Rattle.two_worlds.specs.TimelinesAlone.{LowLinesAreEvents, LowScriptsAreTimed};
@@ -61,21 +62,31 @@ pub fn pairs_agree()
     pump_core::sides_decide();
 }
 
+/// Low's own, the looks and openings that found the buffer full, and one list of the averages decide the
+/// replies and their moments: two timed runs of one row that agree in these have the same replies. In
+/// which looks the averages of the list were told, and when a message was passed that nobody waits for,
+/// need not be said.
+pub fn averages_decide()
+    ensures { AveragesDecide }
+{
+    pump_core::sides_decide();
+}
+
 /// Where the session is coarse, what comes down from High is one of 31 classes for each exchange, and
-/// which looks found the buffer full (`pairs`): two timed runs of its row that agree in what is low's
-/// own, and look by look in what was told, each average by its class alone, have the same replies. A
-/// class is a number below 31 (`few`).
+/// which looks and openings found the buffer full (`pairs`): two timed runs of its row that agree in
+/// low's own, in these, and in one class for each average, in order, have the same replies. A class is a
+/// number below 31 (`few`).
 pub fn coarse_pairs_agree()
     ensures pairs { CoarsePairsAgree }
     ensures few { ClassesAreFew }
 {
-    pairs_agree();
+    averages_decide();
 }
 
 /// Of two scripts whose session a line makes coarse, and which have one low side, the moments of a full
 /// buffer, what each restart finds of it, and a class for each average decide the `low` lines, where no
 /// two low looks have one moment: in whole transcripts (`whole`), and in what was printed so far, where
-/// a line may have stopped a script (`so_far`). So for each exchange one of 31 classes comes down.
+/// a line may have stopped a script (`so_far`). Their disks open alike for Low.
 pub fn coarse_scripts_agree()
     ensures whole { CoarseTranscriptsAgree }
     ensures so_far { CoarseScriptsAgree }

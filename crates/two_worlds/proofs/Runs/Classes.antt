@@ -10,12 +10,10 @@ use Rattle.pump_core.specs.declared.feedback.Feedback.TheVariants.{Quiet, Full, 
 use Rattle.pump_core.specs.declared.event.Event.{Event}
 use Rattle.pump_core.specs.declared.event.Event.TheVariants as events
 use Rattle.pump_core.specs.Comings.{Timed, Comes, Looks}
-use Rattle.pump_core.specs.Pairs.{uncounted}
 use Rattle.pump_core.specs.World.{World}
 use Rattle.pump_core.specs.Timed.{Step, Arrives, LowLook, HighLook, Offer, Read, Publish, Occurs, Point, LowLife, offered, seen, with_read, felt, after_event, StepsTo, LeadsTo}
 use Rattle.pump_core.specs.Runs.{LifeFeedback, feedbacks, feedback_of_side}
-use Rattle.two_worlds.specs.Agreement.{without_counts, AgreeForLow}
-use Rattle.two_worlds.specs.Classes.{class_from, class_of, classed, in_classes, AgreeInClasses}
+use Rattle.two_worlds.specs.Classes.{class_from, class_of}
 
 -- ---- a class tells the level ----
 
@@ -49,26 +47,36 @@ unfolding class_of
 few average = few_from 30 1 average
 
 -- two levels of one class are one
-pub same_level : (a b : ℕ) → IsLevel a → IsLevel b → class_of a ≡ class_of b → a ≡ b
+same_level : (a b : ℕ) → IsLevel a → IsLevel b → class_of a ≡ class_of b → a ≡ b
 unfolding class_of level
 same_level a b is_level also same = sym is_level ∙ sym (tells 30 1 a) ∙ ap (level_at 30 1) same ∙ tells 30 1 b ∙ also
 
+-- two lists of levels with one list of classes are one
+pub same_averages : (ns ms : List ℕ) → AllByRecursion IsLevel ns → AllByRecursion IsLevel ms → map class_of ns ≡ map class_of ms → ns ≡ ms
+same_averages [] [] h k e = refl
+same_averages [] (m ∷ ms) h k e = absurd (cc)
+same_averages (n ∷ ns) [] h k e = absurd (cc)
+same_averages (n ∷ ns) (m ∷ ms) h k e =
+    let first : class_of n ≡ class_of m = cc in
+    let rest : map class_of ns ≡ map class_of ms = cc in
+    λ i. same_level n m h.0 k.0 first i ∷ same_averages ns ms h.1 k.1 rest i
+
 -- ---- what is told in a coarse session ----
 
-abbrev TellsLevel : Feedback → Type 0
+abbrev pub TellsLevel : Feedback → Type 0
 TellsLevel (Passed s) = IsLevel s.average
 TellsLevel (Repeat s) = IsLevel s.average
 TellsLevel Quiet = Unit {0}
 TellsLevel Full = Unit {0}
 TellsLevel Released = Unit {0}
 
-abbrev TellLevels : List Timed → Type 0
+abbrev pub TellLevels : List Timed → Type 0
 TellLevels past = AllByRecursion TellsLevel (feedbacks past)
 
-abbrev LifeTells : LowLife → Type 0
+abbrev pub LifeTells : LowLife → Type 0
 LifeTells l = TellLevels l.side.events
 
-abbrev PointTells : Point → Type 0
+abbrev pub PointTells : Point → Type 0
 PointTells t = LifeTells t.life × AllByRecursion LifeTells t.earlier
 
 felt_tells : (f : Feedback → Feedback) → ((x : Feedback) → TellsLevel x → TellsLevel (f x)) → (past : List Timed) → TellLevels past → TellLevels (felt f past)
@@ -119,69 +127,3 @@ step_tells row t (Occurs e) u coarse is told = subst PointTells (sym is.3) (even
 pub run_tells : (row : SessionRow) (steps : List Step) (t : Point) → row.coarse ≡ true → LeadsTo row steps t → PointTells t
 run_tells row [] t coarse is = subst PointTells (sym is.3) (tt, tt)
 run_tells row (s ∷ past) u coarse is = step_tells row is.0 s u coarse is.2 (run_tells row past is.0 coarse is.1)
-
--- ---- two runs ----
-
-abbrev average_in : Feedback → ℕ
-average_in (Passed s) = s.average
-average_in (Repeat s) = s.average
-average_in _ = 0
-
-same_told : (f g : Feedback) → TellsLevel f → TellsLevel g → classed f ≡ classed g → uncounted f ≡ uncounted g
-same_told Quiet Quiet a b e = refl
-same_told Full Full a b e = refl
-same_told Released Released a b e = refl
-same_told (Passed s) (Passed r) a b e =
-    let same : s.average ≡ r.average = same_level s.average r.average a b (ap average_in e) in
-    ap (λ n. Passed (record { count = 0; average = n })) same
-same_told (Repeat s) (Repeat r) a b e =
-    let same : s.average ≡ r.average = same_level s.average r.average a b (ap average_in e) in
-    ap (λ n. Repeat (record { count = 0; average = n })) same
-same_told Quiet Full a b e = absurd (cc)
-same_told Quiet Released a b e = absurd (cc)
-same_told Quiet (Passed r) a b e = absurd (cc)
-same_told Quiet (Repeat r) a b e = absurd (cc)
-same_told Full Quiet a b e = absurd (cc)
-same_told Full Released a b e = absurd (cc)
-same_told Full (Passed r) a b e = absurd (cc)
-same_told Full (Repeat r) a b e = absurd (cc)
-same_told Released Quiet a b e = absurd (cc)
-same_told Released Full a b e = absurd (cc)
-same_told Released (Passed r) a b e = absurd (cc)
-same_told Released (Repeat r) a b e = absurd (cc)
-same_told (Passed s) Quiet a b e = absurd (cc)
-same_told (Passed s) Full a b e = absurd (cc)
-same_told (Passed s) Released a b e = absurd (cc)
-same_told (Passed s) (Repeat r) a b e = absurd (cc)
-same_told (Repeat s) Quiet a b e = absurd (cc)
-same_told (Repeat s) Full a b e = absurd (cc)
-same_told (Repeat s) Released a b e = absurd (cc)
-same_told (Repeat s) (Passed r) a b e = absurd (cc)
-
-same_looks : (fs gs : List Feedback) → AllByRecursion TellsLevel fs → AllByRecursion TellsLevel gs → map classed fs ≡ map classed gs → map uncounted fs ≡ map uncounted gs
-same_looks [] [] a b e = refl
-same_looks [] (g ∷ gs) a b e = absurd (cc)
-same_looks (f ∷ fs) [] a b e = absurd (cc)
-same_looks (f ∷ fs) (g ∷ gs) a b e =
-    let first : classed f ≡ classed g = cc in
-    let rest : map classed fs ≡ map classed gs = cc in
-    λ i. same_told f g a.0 b.0 first i ∷ same_looks fs gs a.1 b.1 rest i
-
-same_lives : (ls ms : List LowLife) → AllByRecursion LifeTells ls → AllByRecursion LifeTells ms
-    → map in_classes (map feedback_of_side (map (λ (l : LowLife). l.side) ls)) ≡ map in_classes (map feedback_of_side (map (λ (l : LowLife). l.side) ms))
-    → map without_counts (map feedback_of_side (map (λ (l : LowLife). l.side) ls)) ≡ map without_counts (map feedback_of_side (map (λ (l : LowLife). l.side) ms))
-same_lives [] [] a b e = refl
-same_lives [] (m ∷ ms) a b e = absurd (cc)
-same_lives (l ∷ ls) [] a b e = absurd (cc)
-same_lives (l ∷ ls) (m ∷ ms) a b e =
-    let first : in_classes (feedback_of_side l.side) ≡ in_classes (feedback_of_side m.side) = cc in
-    let rest : map in_classes (map feedback_of_side (map (λ (l : LowLife). l.side) ls)) ≡ map in_classes (map feedback_of_side (map (λ (l : LowLife). l.side) ms)) = cc in
-    let looks = same_looks (feedbacks l.side.events) (feedbacks m.side.events) a.0 b.0 (ap (λ (f : LifeFeedback). f.looks) first) in
-    λ i. record { is_held = (first i).is_held; looks = looks i } ∷ same_lives ls ms a.1 b.1 rest i
-
-pub agree_for_low : (row : SessionRow) (steps others : List Step) (t u : Point) → row.coarse ≡ true → LeadsTo row steps t → LeadsTo row others u
-    → AgreeInClasses t u → AgreeForLow t u
-agree_for_low row steps others t u coarse one other agree = record {
-  own = agree.own;
-  feedback = same_lives (t.life ∷ t.earlier) (u.life ∷ u.earlier) (run_tells row steps t coarse one) (run_tells row others u coarse other) agree.feedback;
-}

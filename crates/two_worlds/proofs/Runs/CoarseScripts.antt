@@ -1,5 +1,5 @@
 -- What a script of a coarse session prints of averages are levels, so their classes tell them.
-use Rattle.std.proofs.Common.{◌≡◌, inl, inr, ℕ, true, false, ◌||◌, List, [], ◌∷◌, ◌++◌, map, Option, Some, None, refl, sym, ap, ◌∙◌, subst, append-nil}
+use Rattle.std.proofs.Common.{◌≡◌, inl, inr, ℕ, true, false, ◌||◌, List, [], ◌∷◌, ◌++◌, Option, Some, None, refl, sym, ap, ◌∙◌, subst, append-nil}
 use Rattle.std.specs.List.{AllByRecursion, list_any}
 use Rattle.std.proofs.lemmas.Bool.{true≢false}
 use Rattle.std.proofs.lemmas.List.Elements.{filter_map-append}
@@ -14,9 +14,7 @@ use Rattle.script_reader.specs.Sides.{low_side_of, averages, average_in}
 use Rattle.script_reader.specs.Readouts.{row_of}
 use Rattle.script_reader.proofs.Leading.{led}
 use Rattle.script_reader.proofs.Levels.{told_levels}
-use Rattle.two_worlds.specs.Classes.{class_of}
 use Rattle.two_worlds.specs.CoarseScripts.{makes_coarse, IsMadeCoarse}
-use Rattle.two_worlds.proofs.Runs.Classes.{same_level}
 
 -- ---- a session that is coarse stays so ----
 
@@ -133,15 +131,6 @@ levels_in o script printed (after, body, last, h, ends, e) made =
     subst (AllByRecursion IsLevel) (sym same) (levels_so_far o script after body (inl h) made)
 
 -- ---- two scripts ----
-
-pub same_averages : (ns ms : List ℕ) → AllByRecursion IsLevel ns → AllByRecursion IsLevel ms → map class_of ns ≡ map class_of ms → ns ≡ ms
-same_averages [] [] h k e = refl
-same_averages [] (m ∷ ms) h k e = absurd (cc)
-same_averages (n ∷ ns) [] h k e = absurd (cc)
-same_averages (n ∷ ns) (m ∷ ms) h k e =
-    let first : class_of n ≡ class_of m = cc in
-    let rest : map class_of ns ≡ map class_of ms = cc in
-    λ i. same_level n m h.0 k.0 first i ∷ same_averages ns ms h.1 k.1 rest i
 
 -- a line that makes its session coarse is low's own
 made_in_low : (script : List Line) → list_any makes_coarse (low_side_of script) ≡ list_any makes_coarse script

@@ -1,5 +1,6 @@
 use Rattle.script_reader.specs.Sides.{averages}
-use Rattle.two_worlds.proofs.Runs.CoarseScripts.{same_averages, made_alike, levels_so_far, levels_in}
+use Rattle.two_worlds.proofs.Runs.Classes.{same_averages}
+use Rattle.two_worlds.proofs.Runs.CoarseScripts.{made_alike, levels_so_far, levels_in}
 use Rattle.two_worlds.proofs.laws.coarse_scripts_agree.Goals as goal
 
 pub returns-clause-whole : goal.returns-clause-whole

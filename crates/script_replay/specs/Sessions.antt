@@ -36,13 +36,13 @@ abbrev pub is_down : {D : Type 0} {g : _} → Session D g → Bool
 is_down (sessions.Whole id p) = pump.is_down p
 is_down (sessions.Alone id p) = low_pump.low_is_down p
 
+abbrev pub IsUp : {D : Type 0} {g : _} → Session D g → Type 0
+IsUp s = is_down s ≡ false
+
 -- its row is coarse
 abbrev pub is_coarse : {D : Type 0} {g : _} → Session D g → Bool
 is_coarse (sessions.Whole id p) = (pump.row_of p).coarse
 is_coarse (sessions.Alone id p) = (low_pump.low_row_of p).coarse
-
-abbrev pub IsUp : {D : Type 0} {g : _} → Session D g → Type 0
-IsUp s = is_down s ≡ false
 
 -- it is a low side alone
 abbrev pub IsAlone : {D : Type 0} {g : _} → Session D g → Type 0

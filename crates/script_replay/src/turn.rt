@@ -219,7 +219,10 @@ fn coarsen_at<D: Disk>(
 {
     // What makes a session coarse has no body.
     let _bytes = body;
-    if begins_session(line) || sessions.begun[place].is_coarse() {
+    if begins_session(line) {
+        return Outcome::Refused;
+    }
+    if sessions.begun[place].is_coarse() {
         return Outcome::Refused;
     }
     sessions.begun[place].make_coarse();

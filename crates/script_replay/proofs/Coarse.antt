@@ -1,12 +1,13 @@
 -- A session that is made coarse.
 use Rattle.std.proofs.Common.{◌≡◌, ◌≤◌, ℕ, ◌==◌, arith, Bool, true, false, not, List, [], ◌∷◌, Option, Some, None, refl, sym, ap, ◌∙◌, subst}
-use Rattle.std.specs.Prelude.{◌&&◌, ◌||◌}
+use Rattle.std.specs.Prelude.{◌&&◌, ◌||◌, if◌then◌else◌}
 use Rattle.std.proofs.lemmas.Bool.{eq-eqb}
 use Rattle.disk_model.specs.Disk.{Meaning}
 use Rattle.disk_model.specs.declared.disk.Disk.{Ghosts}
 use Rattle.disk_model.specs.declared.name.Role.{Role}
 use Rattle.disk_model.specs.declared.name.Role.TheVariants as roles
 use Rattle.pump_frame.specs.declared.row.SessionRow.{SessionRow}
+use Rattle.stable_buffer.specs.Format.{header_of}
 use Rattle.stable_buffer.proofs.Coarse.{low_stands, high_stands, recv_stands}
 use Rattle.script_reader.specs.Alone.{PastAlone}
 use Rattle.script_reader.specs.Openings.{Openings, Found}
@@ -29,6 +30,7 @@ use Rattle.script_replay.specs.declared.session.Session.TheVariants as sessions
 -- ---- what its disks were found to hold ----
 
 readied_coarse : (row : SessionRow) (role : Role) (reading : List ℕ) → readied row role reading ≡ readied (coarsened row) role reading
+unfolding header_of
 readied_coarse row roles.Low [] = refl
 readied_coarse row roles.High [] = refl
 readied_coarse row roles.Recv [] = refl
@@ -48,9 +50,9 @@ found_coarse before row f h =
     let high = readied_coarse row roles.High (reading_at before row.id roles.High) in
     let recv = readied_coarse row roles.Recv (reading_at before row.id roles.Recv) in
     stand_coarse row f _ _ _ (
-      subst (λ (r : List ℕ). StandForFound row f (readied (coarsened row) roles.Low (reading_at before row.id roles.Low)) (readied (coarsened row) roles.High (reading_at before row.id roles.High)) r) recv
-      (subst (λ (r : List ℕ). StandForFound row f (readied (coarsened row) roles.Low (reading_at before row.id roles.Low)) r (readied row roles.Recv (reading_at before row.id roles.Recv))) high
-      (subst (λ (r : List ℕ). StandForFound row f r (readied row roles.High (reading_at before row.id roles.High)) (readied row roles.Recv (reading_at before row.id roles.Recv))) low h)))
+    subst (λ (r : List ℕ). StandForFound row f (readied (coarsened row) roles.Low (reading_at before row.id roles.Low)) (readied (coarsened row) roles.High (reading_at before row.id roles.High)) r) recv
+    (subst (λ (r : List ℕ). StandForFound row f (readied (coarsened row) roles.Low (reading_at before row.id roles.Low)) r (readied row roles.Recv (reading_at before row.id roles.Recv))) high
+    (subst (λ (r : List ℕ). StandForFound row f r (readied row roles.High (reading_at before row.id roles.High)) (readied row roles.Recv (reading_at before row.id roles.Recv))) low h)))
 
 finds_coarse : (before : Places) (o : Openings) (r : Begun) → Finds before o (Some r) → Finds before o (Some (made_coarse r))
 finds_coarse before o (Whole s) h = found_coarse before s.row (o s.row.id) h
@@ -58,7 +60,7 @@ finds_coarse before o (Alone s) h = tt
 
 -- the line leads on
 pub coarse_leads : (before : Places) (r : Begun) (session : ℕ) → may_coarsen session r ≡ true → LeadsFrom before (Some r) (lines.Coarse session) (Some (made_coarse r)) []
-coarse_leads before r session may = λ o found new. (((may, (new refl, refl)), refl), finds_coarse before o r found)
+coarse_leads before r session may = λ o found new. (((may, new refl, refl), refl), finds_coarse before o r found)
 
 -- ---- the lines that stand first ----
 
@@ -119,7 +121,7 @@ module _ {D : Type 0} {g : Ghosts D} (d : Meaning D) where
   whole_coarse before id p t is row stands down running h = made running (subst (λ (s : Session D g). StandsFor d s running) is h)
     where
       made : (running : Begun) → StandsFor d (sessions.Whole id p) running → StandsFor d (sessions.Whole id t) (made_coarse running)
-      made (Whole s) h = record { up = down ∙ h.up; is_of = (h.is_of.0, (row ∙ ap coarsened h.is_of.1, stands s.past h.is_of.2)) }
+      made (Whole s) h = record { up = down ∙ h.up; is_of = (h.is_of.0, row ∙ ap coarsened h.is_of.1, stands s.past h.is_of.2) }
       made (Alone s) h = absurd h.is_of
 
   pub alone_coarse : (before : Session D g) (id : ℕ) (p t : LowPump) → before ≡ sessions.Alone id p → low_pump.low_row_of t ≡ coarsened (low_pump.low_row_of p) → ((q : PastAlone) → low_pump.LowStandsFor p q → low_pump.LowStandsFor t q)
@@ -128,7 +130,7 @@ module _ {D : Type 0} {g : Ghosts D} (d : Meaning D) where
     where
       made : (running : Begun) → StandsFor {g = g} d (sessions.Alone id p) running → StandsFor {g = g} d (sessions.Alone id t) (made_coarse running)
       made (Whole s) h = absurd h.is_of
-      made (Alone s) h = record { up = down ∙ h.up; is_of = (h.is_of.0, (row ∙ ap coarsened h.is_of.1, stands s.past h.is_of.2)) }
+      made (Alone s) h = record { up = down ∙ h.up; is_of = (h.is_of.0, row ∙ ap coarsened h.is_of.1, stands s.past h.is_of.2) }
 
   -- its disks are the same
   pub coarse_with : (before : Session D g) (id : ℕ) (p t : Pump D g) → before ≡ sessions.Whole id p → ((role : Role) → pump.disk_at role t ≡ pump.disk_at role p) → GoesOnWith d before (sessions.Whole id t)

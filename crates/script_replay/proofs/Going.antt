@@ -15,7 +15,7 @@ use Rattle.script_reader.specs.declared.line.Line.TheVariants as lines
 use Rattle.script_reader.specs.Steps.{is_timely, IsRefusedWhole, LineStep, Overfills}
 use Rattle.script_reader.specs.Openings.{Openings}
 use Rattle.script_reader.specs.Past.{Past}
-use Rattle.script_reader.specs.Alone.{PastAlone, is_timely_alone, IsRefusedAlone, StepAlone}
+use Rattle.script_reader.specs.Alone.{PastAlone, is_apt_alone, IsRefusedAlone, StepAlone}
 use Rattle.script_reader.specs.Scripts.{Running, RunningAlone, Begun, Whole, Alone, GoesOn, Leads, IsRefused}
 use Rattle.script_reader.specs.Sessions.{stands_first}
 use Rattle.two_worlds.specs.declared.applied.Stop.{Stop}
@@ -160,7 +160,7 @@ module _ {D : Type 0} (g : Ghosts D) (d : Meaning D) (id : ℕ) (p t : LowPump) 
   alone_does : (stop : Option Stop) → low_pump.low_is_down t ≡ low_pump.stops_at_disk stop → low_pump.AppliesAlone p t line s.past printed stop
       → SessionApplies d (Alone s) line now printed stop
   alone_does None down h =
-      let timely : is_timely_alone s.row s.past line ≡ true = subst (λ (r : SessionRow). is_timely_alone r s.past line ≡ true) row h.0 in
+      let timely : is_apt_alone s.row s.past line ≡ true = subst (λ (r : SessionRow). is_apt_alone r s.past line ≡ true) row h.0 in
       let step : StepAlone s.row s.past line false h.1.0 printed = subst (λ (r : SessionRow). StepAlone r s.past line false h.1.0 printed) row h.1.1 in
       let after : Option Begun = Some (Alone (record { row = s.row; past = h.1.0 })) in
       (after, (timely, (h.1.0, step, refl)), record { up = down; is_of = (id_is, same ∙ row, h.1.2) })
@@ -173,7 +173,7 @@ module _ {D : Type 0} (g : Ghosts D) (d : Meaning D) (id : ℕ) (p t : LowPump) 
     },
   )
   alone_does (Some (stops.Device roles.Low count)) down h =
-      let timely : is_timely_alone s.row s.past line ≡ true = subst (λ (r : SessionRow). is_timely_alone r s.past line ≡ true) row h.0 in
+      let timely : is_apt_alone s.row s.past line ≡ true = subst (λ (r : SessionRow). is_apt_alone r s.past line ≡ true) row h.0 in
       let step : StepAlone s.row s.past line true h.1.0 printed = subst (λ (r : SessionRow). StepAlone r s.past line true h.1.0 printed) row h.1.1 in
       let after : Option Begun = Some (Alone (record { row = s.row; past = h.1.0 })) in
       (after, (timely, (h.1.0, step, ap (λ (i : ℕ). faults.Device i roles.Low) id_is, refl)), tt)

@@ -36,9 +36,9 @@ coarsens_number (Alone s) session may = sym (eqb-true session s.row.id (and_part
 
 coarse_same : (o p : Openings) (s : Begun) (session number : ℕ) (after : Option Begun) (printed : List Event) → Some session ≡ Some number → o number ≡ p number
     → Leads o (Some s) (lines.Coarse session) after printed → Leads p (Some s) (lines.Coarse session) after printed
-coarse_same o p s session number after printed named same ((may, (new, is)), silent) =
+coarse_same o p s session number after printed named same ((may, new, is), silent) =
     let mine : session_number s ≡ number = coarsens_number s session may ∙ same_Some session number named in
-    ((may, (new_same o p s (ap o mine ∙ same ∙ sym (ap p mine)) new, is)), silent)
+    ((may, new_same o p s (ap o mine ∙ same ∙ sym (ap p mine)) new, is), silent)
 
 leads_same : (o p : Openings) (running : Option Begun) (line : Line) (number : ℕ) (after : Option Begun) (printed : List Event) → session_in line ≡ Some number → o number ≡ p number
     → Leads o running line after printed → Leads p running line after printed

@@ -1,5 +1,5 @@
 -- A line that stops a script can be applied.
-use Rattle.std.proofs.Common.{inl, inr, ℕ, true, List, Option, Some, None, ap, arith, length}
+use Rattle.std.proofs.Common.{inl, inr, ℕ, true, List, Option, Some, None, ap, arith, length, refl}
 use Rattle.std.proofs.lemmas.Bool.{both_ways}
 use Rattle.pump_frame.specs.declared.row.SessionRow.{SessionRow}
 use Rattle.script_reader.specs.declared.line.Line.{Line}

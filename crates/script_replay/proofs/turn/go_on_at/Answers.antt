@@ -12,6 +12,9 @@ returns-then-stands_first-clause-does g c = λ tells before now lends t stand tu
     begin_turn g.D.Disk.told before now t (line_with c.args.body.now c.args.line.now) c.coarsen_at.new.sessions (held_of c.args.output.now) _ c.coarsen_at.result
     (c.coarsen_at.ensures.does before now lends t stand turn)
 
+pub returns-then-stands_first-clause-device : goal.returns-then-stands_first-clause-device
+returns-then-stands_first-clause-device g c = λ number h before now lends. absurd (c.coarsen_at.ensures.device number h)
+
 pub go_on-requires-clause-up : goal.go_on-requires-clause-up
 go_on-requires-clause-up g c =
     let low = c.requires.place in

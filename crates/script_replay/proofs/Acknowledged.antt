@@ -65,6 +65,7 @@ pub breaks_leave : (s : SessionRow) (p : Past) (line : Line) (role : Role) (q : 
 breaks_leave s p lines.Skip role q printed h = absurd h
 breaks_leave s p (lines.Session other) role q printed h = absurd h
 breaks_leave s p (lines.LowSession other next held) role q printed h = absurd h
+breaks_leave s p (lines.Coarse session) role q printed h = absurd h
 breaks_leave s p (lines.Told session m w fault told a) role q printed h = absurd h
 breaks_leave s p (lines.Gone session m) role q printed h = absurd h
 breaks_leave s p (lines.High session m) role q printed h = absurd h
@@ -125,6 +126,7 @@ pub breaks_no_ack : (s : SessionRow) (p : Past) (line : Line) (role : Role) (q :
 breaks_no_ack s p lines.Skip role q printed h = absurd h
 breaks_no_ack s p (lines.Session other) role q printed h = absurd h
 breaks_no_ack s p (lines.LowSession other next held) role q printed h = absurd h
+breaks_no_ack s p (lines.Coarse session) role q printed h = absurd h
 breaks_no_ack s p (lines.Told session m w fault told a) role q printed h = absurd h
 breaks_no_ack s p (lines.Gone session m) role q printed h = absurd h
 breaks_no_ack s p (lines.High session m) role q printed h = absurd h

@@ -60,6 +60,7 @@ pub breaks_grows : (s : SessionRow) (p : Past) (line : Line) (role : Role) (q : 
 breaks_grows s p lines.Skip role q printed h = absurd h
 breaks_grows s p (lines.Session other) role q printed h = absurd h
 breaks_grows s p (lines.LowSession other next held) role q printed h = absurd h
+breaks_grows s p (lines.Coarse session) role q printed h = absurd h
 breaks_grows s p (lines.Told session m w fault told a) role q printed h = absurd h
 breaks_grows s p (lines.Gone session m) role q printed h = absurd h
 breaks_grows s p (lines.High session m) role q printed h = absurd h

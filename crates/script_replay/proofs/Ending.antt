@@ -44,6 +44,7 @@ over_runs : (s : Running) (line : Line) (q : Past) (printed : List Event) (end n
 over_runs s lines.Skip q printed end n size timely h run = absurd h
 over_runs s (lines.Session row) q printed end n size timely h run = absurd h
 over_runs s (lines.LowSession row next held) q printed end n size timely h run = absurd h
+over_runs s (lines.Coarse session) q printed end n size timely h run = absurd h
 over_runs s (lines.Look session m w a) q printed end n size timely h run = absurd h
 over_runs s (lines.Told session m w fault feedback a) q printed end n size timely h run = absurd h
 over_runs s (lines.Gone session m) q printed end n size timely h run = absurd h

@@ -15,8 +15,9 @@ use Rattle.script_reader.specs.declared.line.Line.TheVariants as lines
 use Rattle.script_reader.specs.Steps.{is_timely, IsRefusedWhole, LineStep, Overfills}
 use Rattle.script_reader.specs.Openings.{Openings}
 use Rattle.script_reader.specs.Past.{Past}
-use Rattle.script_reader.specs.Alone.{PastAlone, is_timely_alone, IsRefusedAlone, StepAlone}
+use Rattle.script_reader.specs.Alone.{PastAlone, is_apt_alone, IsRefusedAlone, StepAlone}
 use Rattle.script_reader.specs.Scripts.{Running, RunningAlone, Begun, Whole, Alone, GoesOn, Leads, IsRefused}
+use Rattle.script_reader.specs.Sessions.{stands_first}
 use Rattle.two_worlds.specs.declared.applied.Stop.{Stop}
 use Rattle.two_worlds.specs.declared.applied.Stop.TheVariants as stops
 use Rattle.two_worlds.specs.Pumps as pump
@@ -27,10 +28,16 @@ use Rattle.script_replay.specs.declared.session.Session.{Session}
 use Rattle.script_replay.specs.declared.session.Session.TheVariants as sessions
 use Rattle.script_replay.specs.Sessions.{StandsFor, SessionApplies, GoesOnWith, FailedWith}
 
+-- no session goes on by a line that makes it coarse
+never_coarse : (running : Begun) (session : ℕ) (after : Option Begun) (printed : List Event) → GoesOn running (lines.Coarse session) after printed → ⊥
+never_coarse (Whole s) session after printed h = cc h.0
+never_coarse (Alone s) session after printed h = cc h.0
+
 pub leads_from : (o : Openings) (running : Begun) (line : Line) (after : Option Begun) (printed : List Event) → line ≢ lines.Skip → GoesOn running line after printed → Leads o (Some running) line after printed
 leads_from o running lines.Skip after printed some h = absurd (some refl)
 leads_from o running (lines.Session row) after printed some h = h
 leads_from o running (lines.LowSession row next held) after printed some h = h
+leads_from o running (lines.Coarse session) after printed some h = absurd (never_coarse running session after printed h)
 leads_from o running (lines.Look session moment word arrival) after printed some h = h
 leads_from o running (lines.Told session moment word fault feedback arrival) after printed some h = h
 leads_from o running (lines.Gone session moment) after printed some h = h
@@ -41,33 +48,35 @@ leads_from o running (lines.Done session moment time) after printed some h = h
 leads_from o running (lines.Restart session moment) after printed some h = h
 leads_from o running (lines.ReceiverRestart session moment) after printed some h = h
 
-refused_whole : (s : Running) (line : Line) → line ≢ lines.Skip → IsRefusedWhole s.row s.past line → IsRefused (Some (Whole s)) line
-refused_whole s lines.Skip some h = absurd (some refl)
-refused_whole s (lines.Session row) some h = h
-refused_whole s (lines.LowSession row next held) some h = h
-refused_whole s (lines.Look session moment word arrival) some h = h
-refused_whole s (lines.Told session moment word fault feedback arrival) some h = h
-refused_whole s (lines.Gone session moment) some h = h
-refused_whole s (lines.High session moment) some h = h
-refused_whole s (lines.Carry session back) some h = h
-refused_whole s (lines.Return session moment back) some h = h
-refused_whole s (lines.Done session moment time) some h = h
-refused_whole s (lines.Restart session moment) some h = h
-refused_whole s (lines.ReceiverRestart session moment) some h = h
+refused_whole : (s : Running) (line : Line) → line ≢ lines.Skip → stands_first line ≡ false → IsRefusedWhole s.row s.past line → IsRefused (Some (Whole s)) line
+refused_whole s lines.Skip some later h = absurd (some refl)
+refused_whole s (lines.Session row) some later h = h
+refused_whole s (lines.LowSession row next held) some later h = h
+refused_whole s (lines.Coarse session) some later h = absurd (cc)
+refused_whole s (lines.Look session moment word arrival) some later h = h
+refused_whole s (lines.Told session moment word fault feedback arrival) some later h = h
+refused_whole s (lines.Gone session moment) some later h = h
+refused_whole s (lines.High session moment) some later h = h
+refused_whole s (lines.Carry session back) some later h = h
+refused_whole s (lines.Return session moment back) some later h = h
+refused_whole s (lines.Done session moment time) some later h = h
+refused_whole s (lines.Restart session moment) some later h = h
+refused_whole s (lines.ReceiverRestart session moment) some later h = h
 
-refused_alone : (s : RunningAlone) (line : Line) → line ≢ lines.Skip → IsRefusedAlone s.row s.past line → IsRefused (Some (Alone s)) line
-refused_alone s lines.Skip some h = absurd (some refl)
-refused_alone s (lines.Session row) some h = h
-refused_alone s (lines.LowSession row next held) some h = h
-refused_alone s (lines.Look session moment word arrival) some h = h
-refused_alone s (lines.Told session moment word fault feedback arrival) some h = h
-refused_alone s (lines.Gone session moment) some h = h
-refused_alone s (lines.High session moment) some h = h
-refused_alone s (lines.Carry session back) some h = h
-refused_alone s (lines.Return session moment back) some h = h
-refused_alone s (lines.Done session moment time) some h = h
-refused_alone s (lines.Restart session moment) some h = h
-refused_alone s (lines.ReceiverRestart session moment) some h = h
+refused_alone : (s : RunningAlone) (line : Line) → line ≢ lines.Skip → stands_first line ≡ false → IsRefusedAlone s.row s.past line → IsRefused (Some (Alone s)) line
+refused_alone s lines.Skip some later h = absurd (some refl)
+refused_alone s (lines.Session row) some later h = h
+refused_alone s (lines.LowSession row next held) some later h = h
+refused_alone s (lines.Coarse session) some later h = absurd (cc)
+refused_alone s (lines.Look session moment word arrival) some later h = h
+refused_alone s (lines.Told session moment word fault feedback arrival) some later h = h
+refused_alone s (lines.Gone session moment) some later h = h
+refused_alone s (lines.High session moment) some later h = h
+refused_alone s (lines.Carry session back) some later h = h
+refused_alone s (lines.Return session moment back) some later h = h
+refused_alone s (lines.Done session moment time) some later h = h
+refused_alone s (lines.Restart session moment) some later h = h
+refused_alone s (lines.ReceiverRestart session moment) some later h = h
 
 -- ---- the counts of a disk ----
 
@@ -82,7 +91,7 @@ rises_on m size old new false e h = cc
 
 -- ---- a whole session ----
 
-module _ {D : Type 0} {g : Ghosts D} (d : Meaning D) (tells : d.tells) (id : ℕ) (p t : Pump D g) (line : Line) (some : line ≢ lines.Skip) (printed : List Event) (s : Running) (id_is : id ≡ s.row.id)
+module _ {D : Type 0} {g : Ghosts D} (d : Meaning D) (tells : d.tells) (id : ℕ) (p t : Pump D g) (line : Line) (some : line ≢ lines.Skip) (later : stands_first line ≡ false) (printed : List Event) (s : Running) (id_is : id ≡ s.row.id)
     (row : pump.row_of p ≡ s.row) (same : pump.row_of t ≡ pump.row_of p) (before_stands : pump.StandsFor d p s.past) (before_up : pump.is_down p ≡ false) where
   timely_so : is_timely (pump.row_of p) s.past line ≡ true → is_timely s.row s.past line ≡ true
   timely_so h = subst (λ (r : SessionRow). is_timely r s.past line ≡ true) row h
@@ -94,7 +103,7 @@ module _ {D : Type 0} {g : Ghosts D} (d : Meaning D) (tells : d.tells) (id : ℕ
       let after : Option Begun = Some (Whole (record { row = s.row; past = h.1.0 })) in
       (after, (timely_so h.0, (h.1.0, step, refl)), record { up = down; is_of = (id_is, same ∙ row, h.1.2) })
   whole_does (Some stops.Line) down h = (
-    refused_whole s line some (subst (λ (r : SessionRow). IsRefusedWhole r s.past line) row h.0),
+    refused_whole s line some later (subst (λ (r : SessionRow). IsRefusedWhole r s.past line) row h.0),
     h.1,
     record {
       up = subst (λ q. pump.is_down q ≡ false) (sym h.2) before_up;
@@ -111,13 +120,13 @@ module _ {D : Type 0} {g : Ghosts D} (d : Meaning D) (tells : d.tells) (id : ℕ
       (after, (timely_so h.0, (h.1.0, end, length, size, over, ap (λ (i : ℕ). faults.Full i end length size) id_is, refl)), (id_is, same ∙ row, inl h.1.2))
 
 -- a line was given to the pump of a whole session
-pub whole_applies : {D : Type 0} {g : Ghosts D} (d : Meaning D) → d.tells → (before : Session D g) (id : ℕ) (p t : Pump D g) (line : Line) (printed : List Event) (stop : Option Stop) → before ≡ sessions.Whole id p → line ≢ lines.Skip
+pub whole_applies : {D : Type 0} {g : Ghosts D} (d : Meaning D) → d.tells → (before : Session D g) (id : ℕ) (p t : Pump D g) (line : Line) (printed : List Event) (stop : Option Stop) → before ≡ sessions.Whole id p → line ≢ lines.Skip → stands_first line ≡ false
     → ((q : Past) → pump.StandsFor d p q → pump.Applies d p t line q printed stop)
     → pump.is_down t ≡ low_pump.stops_at_disk stop → pump.row_of t ≡ pump.row_of p → (running : Begun) → StandsFor d before running → SessionApplies d running line (sessions.Whole id t) printed stop
-whole_applies {D} {g} d tells before id p t line printed stop is some applies down same running h = whole_runs running (subst (λ (s : Session D g). StandsFor d s running) is h)
+whole_applies {D} {g} d tells before id p t line printed stop is some later applies down same running h = whole_runs running (subst (λ (s : Session D g). StandsFor d s running) is h)
   where
     whole_runs : (running : Begun) → StandsFor d (sessions.Whole id p) running → SessionApplies d running line (sessions.Whole id t) printed stop
-    whole_runs (Whole s) h = whole_does d tells id p t line some printed s h.is_of.0 h.is_of.1 same h.is_of.2 h.up stop down (applies s.past h.is_of.2)
+    whole_runs (Whole s) h = whole_does d tells id p t line some later printed s h.is_of.0 h.is_of.1 same h.is_of.2 h.up stop down (applies s.past h.is_of.2)
     whole_runs (Alone s) h = absurd h.is_of
 
 -- no disk of it has failed less often
@@ -143,7 +152,7 @@ whole_failed {D} {g} d before id p t stop is goes role count e = subst (λ (s : 
 
 -- ---- a low side alone ----
 
-module _ {D : Type 0} (g : Ghosts D) (d : Meaning D) (id : ℕ) (p t : LowPump) (line : Line) (some : line ≢ lines.Skip) (printed : List Event) (s : RunningAlone) (id_is : id ≡ s.row.id) (row : low_pump.low_row_of p ≡ s.row)
+module _ {D : Type 0} (g : Ghosts D) (d : Meaning D) (id : ℕ) (p t : LowPump) (line : Line) (some : line ≢ lines.Skip) (later : stands_first line ≡ false) (printed : List Event) (s : RunningAlone) (id_is : id ≡ s.row.id) (row : low_pump.low_row_of p ≡ s.row)
     (same : low_pump.low_row_of t ≡ low_pump.low_row_of p) (before_stands : low_pump.LowStandsFor p s.past) (before_up : low_pump.low_is_down p ≡ false) where
   abbrev now : Session D g
   now = sessions.Alone id t
@@ -151,12 +160,12 @@ module _ {D : Type 0} (g : Ghosts D) (d : Meaning D) (id : ℕ) (p t : LowPump) 
   alone_does : (stop : Option Stop) → low_pump.low_is_down t ≡ low_pump.stops_at_disk stop → low_pump.AppliesAlone p t line s.past printed stop
       → SessionApplies d (Alone s) line now printed stop
   alone_does None down h =
-      let timely : is_timely_alone s.row s.past line ≡ true = subst (λ (r : SessionRow). is_timely_alone r s.past line ≡ true) row h.0 in
+      let timely : is_apt_alone s.row s.past line ≡ true = subst (λ (r : SessionRow). is_apt_alone r s.past line ≡ true) row h.0 in
       let step : StepAlone s.row s.past line false h.1.0 printed = subst (λ (r : SessionRow). StepAlone r s.past line false h.1.0 printed) row h.1.1 in
       let after : Option Begun = Some (Alone (record { row = s.row; past = h.1.0 })) in
       (after, (timely, (h.1.0, step, refl)), record { up = down; is_of = (id_is, same ∙ row, h.1.2) })
   alone_does (Some stops.Line) down h = (
-    refused_alone s line some (subst (λ (r : SessionRow). IsRefusedAlone r s.past line) row h.0),
+    refused_alone s line some later (subst (λ (r : SessionRow). IsRefusedAlone r s.past line) row h.0),
     h.1,
     record {
       up = subst (λ q. low_pump.low_is_down q ≡ false) (sym h.2) before_up;
@@ -164,7 +173,7 @@ module _ {D : Type 0} (g : Ghosts D) (d : Meaning D) (id : ℕ) (p t : LowPump) 
     },
   )
   alone_does (Some (stops.Device roles.Low count)) down h =
-      let timely : is_timely_alone s.row s.past line ≡ true = subst (λ (r : SessionRow). is_timely_alone r s.past line ≡ true) row h.0 in
+      let timely : is_apt_alone s.row s.past line ≡ true = subst (λ (r : SessionRow). is_apt_alone r s.past line ≡ true) row h.0 in
       let step : StepAlone s.row s.past line true h.1.0 printed = subst (λ (r : SessionRow). StepAlone r s.past line true h.1.0 printed) row h.1.1 in
       let after : Option Begun = Some (Alone (record { row = s.row; past = h.1.0 })) in
       (after, (timely, (h.1.0, step, ap (λ (i : ℕ). faults.Device i roles.Low) id_is, refl)), tt)
@@ -174,12 +183,12 @@ module _ {D : Type 0} (g : Ghosts D) (d : Meaning D) (id : ℕ) (p t : LowPump) 
   alone_does (Some (stops.Full end length size)) down h = absurd h
 
 -- a line was given to the pump of a low side alone
-pub alone_applies : {D : Type 0} {g : Ghosts D} (d : Meaning D) (before : Session D g) (id : ℕ) (p t : LowPump) (line : Line) (printed : List Event) (stop : Option Stop) → before ≡ sessions.Alone id p → line ≢ lines.Skip
+pub alone_applies : {D : Type 0} {g : Ghosts D} (d : Meaning D) (before : Session D g) (id : ℕ) (p t : LowPump) (line : Line) (printed : List Event) (stop : Option Stop) → before ≡ sessions.Alone id p → line ≢ lines.Skip → stands_first line ≡ false
     → ((q : PastAlone) → low_pump.LowStandsFor p q → low_pump.AppliesAlone p t line q printed stop)
     → low_pump.low_is_down t ≡ low_pump.stops_at_disk stop → low_pump.low_row_of t ≡ low_pump.low_row_of p
     → (running : Begun) → StandsFor d before running → SessionApplies {g = g} d running line (sessions.Alone id t) printed stop
-alone_applies {D} {g} d before id p t line printed stop is some applies down same running h = alone_runs running (subst (λ (s : Session D g). StandsFor d s running) is h)
+alone_applies {D} {g} d before id p t line printed stop is some later applies down same running h = alone_runs running (subst (λ (s : Session D g). StandsFor d s running) is h)
   where
     alone_runs : (running : Begun) → StandsFor {g = g} d (sessions.Alone id p) running → SessionApplies {g = g} d running line (sessions.Alone id t) printed stop
     alone_runs (Whole s) h = absurd h.is_of
-    alone_runs (Alone s) h = alone_does g d id p t line some printed s h.is_of.0 h.is_of.1 same h.is_of.2 h.up stop down (applies s.past h.is_of.2)
+    alone_runs (Alone s) h = alone_does g d id p t line some later printed s h.is_of.0 h.is_of.1 same h.is_of.2 h.up stop down (applies s.past h.is_of.2)

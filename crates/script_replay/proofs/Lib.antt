@@ -1,6 +1,7 @@
 pub mod Acknowledged
 pub mod Broken
 pub mod ByStatus
+pub mod Coarse
 pub mod Compared
 pub mod Ending
 pub mod Finished

@@ -14,7 +14,7 @@ use Rattle.script_reader.specs.declared.line.Line.{Line}
 use Rattle.script_reader.specs.EventHeads.{event_of}
 use Rattle.script_reader.specs.Alone.{PastAlone}
 use Rattle.script_reader.specs.Scripts.{Begun, Whole, Alone, Ends}
-use Rattle.script_reader.specs.Sessions.{Sessions as Script, begins_session, moment_in, moment_of, is_from, is_in_turn, AllEnd}
+use Rattle.script_reader.specs.Sessions.{Sessions as Script, begins_session, stands_first, moment_in, moment_of, is_from, is_in_turn, AllEnd}
 use Rattle.two_worlds.specs.LowPumps as low_pump
 use Rattle.two_worlds.specs.declared.low_pump.LowPump.{LowPump}
 use Rattle.two_worlds.specs.Printing.{lines_in}
@@ -30,11 +30,12 @@ use Rattle.script_replay.proofs.Numbered.{same_length}
 
 -- ---- a line may come ----
 
-pub in_turn_first : {D : Type 0} {g : Ghosts D} (d : Meaning D) (s : Sessions D g) (t : Script) (line : Line) → AllStandFor d s t → begins_session line ≡ true → s.is_under_way ≡ false → is_in_turn t line ≡ nat_lt (length s.begun.items) 16
-in_turn_first d s t line stand begins way =
-    ap (λ b. if b then (not t.is_under_way && nat_lt (length t.begun) 16) else is_from t.moment (moment_in line)) begins
-    ∙ ap (λ b. not b && nat_lt (length t.begun) 16) (sym stand.under_way ∙ way)
-    ∙ ap (λ n. nat_lt n 16) (sym (same_length d s.begun.items t.begun stand.each))
+pub in_turn_first : {D : Type 0} {g : Ghosts D} (d : Meaning D) (s : Sessions D g) (t : Script) (line : Line) → AllStandFor d s t → stands_first line ≡ true → s.is_under_way ≡ false
+    → is_in_turn t line ≡ (not (begins_session line) || nat_lt (length s.begun.items) 16)
+in_turn_first d s t line stand first way =
+    ap (λ b. if b then (not t.is_under_way && (not (begins_session line) || nat_lt (length t.begun) 16)) else is_from t.moment (moment_in line)) first
+    ∙ ap (λ b. not b && (not (begins_session line) || nat_lt (length t.begun) 16)) (sym stand.under_way ∙ way)
+    ∙ ap (λ n. not (begins_session line) || nat_lt n 16) (sym (same_length d s.begun.items t.begun stand.each))
 
 -- ---- one of them ----
 

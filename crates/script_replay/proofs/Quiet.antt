@@ -1,4 +1,4 @@
--- Until a line came that begins no session nothing is held or written.
+-- Until a line came that needs not stand first nothing is held or written.
 use Rattle.std.proofs.Common.{◌≡◌, ℕ, Bool, true, false, List, [], ◌∷◌, ◌++◌, Option, refl, sym, ap, ◌∙◌, subst}
 use Rattle.std.specs.Io.KnownBytes.{Appends}
 use Rattle.disk_model.specs.declared.disk.Disk.{Ghosts}

@@ -1,5 +1,5 @@
 -- A line that stops a script can be applied.
-use Rattle.std.proofs.Common.{inl, inr, ℕ, true, List, Option, Some, None, ap, arith, length}
+use Rattle.std.proofs.Common.{inl, inr, ℕ, true, List, Option, Some, None, ap, arith, length, refl}
 use Rattle.std.proofs.lemmas.Bool.{both_ways}
 use Rattle.pump_frame.specs.declared.row.SessionRow.{SessionRow}
 use Rattle.script_reader.specs.declared.line.Line.{Line}
@@ -17,6 +17,7 @@ crowded_overfills : (s : SessionRow) (p : Past) (line : Line) (q : Past) (printe
 crowded_overfills s p lines.Skip q printed end n size h k = k
 crowded_overfills s p (lines.Session row) q printed end n size h k = k
 crowded_overfills s p (lines.LowSession row next held) q printed end n size h k = k
+crowded_overfills s p (lines.Coarse session) q printed end n size h k = k
 crowded_overfills s p (lines.Look session moment word arrival) q printed end n size h k = k
 crowded_overfills s p (lines.Told session moment word fault feedback arrival) q printed end n size h k = k
 crowded_overfills s p (lines.Gone session moment) q printed end n size h k = k
@@ -31,6 +32,7 @@ crowded_stores : (s : SessionRow) (p : PastAlone) (line : Line) (q : PastAlone) 
 crowded_stores s p lines.Skip q printed h k = h
 crowded_stores s p (lines.Session row) q printed h k = h
 crowded_stores s p (lines.LowSession row next held) q printed h k = h
+crowded_stores s p (lines.Coarse session) q printed h k = h
 crowded_stores s p (lines.Look session moment word arrival) q printed h k = h
 crowded_stores s p (lines.Told session moment word fault feedback arrival) q printed (c, comes, many) (d, comes', (few, look)) =
     let same = ap (λ (t : LineComing). length (joined_alone p fault t).waits) (arrives_one session p.reading arrival c d comes comes') in
@@ -47,6 +49,7 @@ whole_refuses : (s : Running) (line : Line) → IsRefused (Some (Whole s)) line 
 whole_refuses s lines.Skip h = absurd h
 whole_refuses s (lines.Session row) h = h
 whole_refuses s (lines.LowSession row next held) h = h
+whole_refuses s (lines.Coarse session) h = inl refl
 whole_refuses s (lines.Look session moment word arrival) h = h
 whole_refuses s (lines.Told session moment word fault feedback arrival) h = h
 whole_refuses s (lines.Gone session moment) h = h
@@ -61,6 +64,7 @@ alone_refuses : (s : RunningAlone) (line : Line) → IsRefused (Some (Alone s)) 
 alone_refuses s lines.Skip h = absurd h
 alone_refuses s (lines.Session row) h = h
 alone_refuses s (lines.LowSession row next held) h = h
+alone_refuses s (lines.Coarse session) h = inl refl
 alone_refuses s (lines.Look session moment word arrival) h = h
 alone_refuses s (lines.Told session moment word fault feedback arrival) h = h
 alone_refuses s (lines.Gone session moment) h = h

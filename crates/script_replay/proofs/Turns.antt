@@ -20,8 +20,8 @@ use Rattle.script_reader.specs.declared.line.Line.TheVariants as lines
 use Rattle.script_reader.specs.Transcript.{text}
 use Rattle.script_reader.specs.Openings.{Openings, new_disks}
 use Rattle.script_reader.specs.Alone.{fresh_alone}
-use Rattle.script_reader.specs.Scripts.{Running, RunningAlone, Begun, Whole, Alone, GoesOn, IsRefused, Stops}
-use Rattle.script_reader.specs.Sessions.{Sessions as Script, session_number, session_in, begins_session, moment_of, session_at, with_session, led_to, is_in_turn, RefusesOne, ScriptRefuses, StopsOne, ScriptStops}
+use Rattle.script_reader.specs.Scripts.{Running, RunningAlone, Begun, Whole, Alone, GoesOn, made_coarse, may_coarsen, IsRefused, Stops}
+use Rattle.script_reader.specs.Sessions.{Sessions as Script, session_number, session_in, begins_session, stands_first, moment_of, session_at, with_session, led_to, is_in_turn, RefusesOne, ScriptRefuses, StopsOne, ScriptStops}
 use Rattle.script_reader.proofs.Apart.{session_at-own, session_at-other, found_number}
 use Rattle.two_worlds.specs.declared.applied.Stop.{Stop}
 use Rattle.two_worlds.specs.declared.applied.Stop.TheVariants as stops
@@ -32,9 +32,10 @@ use Rattle.script_replay.specs.declared.outcome.Outcome.{Outcome}
 use Rattle.script_replay.specs.declared.outcome.Outcome.TheVariants as outcomes
 use Rattle.script_replay.specs.Lending.{IsOutAt}
 use Rattle.script_replay.specs.Shelves.{Places, disk_name, reading_in, reading_at, HasFound, IsRefusedFor, LeavesSession, LeavesOtherSessions, SparesSession, ReadiesSession, AllAreBack}
-use Rattle.script_replay.specs.Sessions.{id_of, IsUp, StandsFor, StandsForRunning, HasComeTo, IsCutShort, SessionApplies, LendsNew, Lends, GoesOnWith, FailedWith, HasFailed, found_at, with_begun, place_in, is_of_number, IsPlaced, Rise, EachStandsFor, AllStandFor, AllHaveComeTo, AllLend}
+use Rattle.script_replay.specs.Sessions.{id_of, is_coarse, IsUp, StandsFor, StandsForRunning, HasComeTo, IsCutShort, SessionApplies, LendsNew, Lends, GoesOnWith, FailedWith, HasFailed, found_at, with_begun, place_in, is_of_number, IsPlaced, Rise, EachStandsFor, AllStandFor, AllHaveComeTo, AllLend}
 use Rattle.script_replay.specs.Outputs.{Gathers}
 use Rattle.script_replay.specs.Runners.{AreUp, AllAreUp, outcome_of, Finds, LeadsFrom, OneLeadsFrom, IsNotOpened, Begins, GoesSo, BeginsNone, TurnGoes, TurnStops, IsInStep, BeginDoes, Adds, TurnDoes, HandsOver, AllHandOver, IsDeviceOutcomeOf}
+use Rattle.script_replay.proofs.Coarse.{coarse_leads, may_so}
 use Rattle.script_replay.proofs.Gathered.{gathers_none}
 use Rattle.script_replay.proofs.Going.{leads_from}
 use Rattle.script_replay.proofs.Numbered.{found_id, found_put, others_put, rise_put, found_there, none_there, set_there, insert_there, same_number, stands_at, each_put, each_same}
@@ -48,7 +49,7 @@ finds_same before (Whole s) line after printed o (timely, (q, step, is)) h = sub
 finds_same before (Alone s) line after printed o (timely, (q, step, is)) h = subst (λ (a : Option Begun). Finds before o a) (sym is) tt
 
 leads_on : (before : Places) (line : Line) → line ≢ lines.Skip → (s : Begun) (after : Option Begun) (printed : List Event) → GoesOn s line after printed → LeadsFrom before (Some s) line after printed
-leads_on before line some s after printed h = λ o found. (leads_from o s line after printed some h, finds_same before s line after printed o h found)
+leads_on before line some s after printed h = λ o found new. (leads_from o s line after printed some h, finds_same before s line after printed o h found)
 
 pub gone_on : {D : Type 0} {g : Ghosts D} (d : Meaning D) (t : Session D g) (s : Begun) (line : Line) (printed : List Event) (stop : Option Stop) (held later : List ℕ) (old new : Option (List ℕ)) (outcome : Outcome) (id : ℕ)
     → SessionApplies d s line t printed stop → Gathers held later old new (text printed) → id ≡ id_of t → outcome ≡ outcome_of id stop → GoesSo d s line t held later old new outcome
@@ -222,7 +223,7 @@ module _ {D : Type 0} {g : Ghosts D} (d : Meaning D) (line : Line) (number place
     rise_last = subst (λ (l : List (Session D g)). Rise l) (sym items) (rise_put t first.begun.items rise)
 
     module _ (before now : Places) (lends : AllLend d before now first.begun.items) (script : Script) (stand : AllStandFor d first script) (turn : is_in_turn script line ≡ true) (some : line ≢ lines.Skip)
-        (r : Begun) (running : session_at number script.begun ≡ Some r) (begins : begins_session line ≡ false) where
+        (r : Begun) (running : session_at number script.begun ≡ Some r) where
       id_r : session_number r ≡ number
       id_r = found_number number script.begun r running
 
@@ -262,18 +263,18 @@ module _ {D : Type 0} {g : Ghosts D} (d : Meaning D) (line : Line) (number place
           ))
       cut_so (Alone s) printed role is (after, stops, come) = stops_so printed (faults.Device (id_of t) role) after (subst (λ (y : Begun). Stops (Some y) line after printed (faults.Device (id_of t) role)) (sym is) stops) come
 
-      applied_so : (printed : List Event) (s : Begun) → GoesOn r line (Some s) printed → StandsFor d t s → TurnGoes d before now script line last.begun.items printed outcomes.Applied
-      applied_so printed s goes h =
-          let leads : LeadsFrom before (session_at number script.begun) line (Some s) printed =
-          subst (λ (y : Option Begun). LeadsFrom before y line (Some s) printed) (sym running) (leads_on before line some r (Some s) printed goes) in (
+      applied_so : (printed : List Event) (s : Begun) → LeadsFrom before (Some r) line (Some s) printed → StandsFor d t s → TurnGoes d before now script line last.begun.items printed outcomes.Applied
+      applied_so printed s leads h =
+          let there : LeadsFrom before (session_at number script.begun) line (Some s) printed =
+          subst (λ (y : Option Begun). LeadsFrom before y line (Some s) printed) (sym running) leads in (
             led_to script line s,
-            leads_named before script line number (led_to script line s) printed named (turn, (s, leads, refl)),
+            leads_named before script line number (led_to script line s) printed named (turn, (s, there, refl)),
             subst (λ (l : List (Session D g)). EachStandsFor d l (with_session s script.begun)) (sym items) (each_put d t s first.begun.items script.begun h stand.each),
             lends_last before now lends,
           )
 
-      in_step : (s : Begun) → StandsFor d t s → ((s : Begun) → StandsFor d t s → last.moment ≡ max first.moment (moment_of s)) → last.is_under_way ≡ (first.is_under_way || not (begins_session line)) → IsInStep last (led_to script line s)
-      in_step s h moment under_way = (moment s h ∙ ap (λ (m : ℕ). max m (moment_of s)) stand.moment, under_way ∙ ap (λ (b : Bool). b || not (begins_session line)) stand.under_way)
+      in_step : (s : Begun) → StandsFor d t s → ((s : Begun) → StandsFor d t s → last.moment ≡ max first.moment (moment_of s)) → last.is_under_way ≡ (first.is_under_way || not (stands_first line)) → IsInStep last (led_to script line s)
+      in_step s h moment under_way = (moment s h ∙ ap (λ (m : ℕ). max m (moment_of s)) stand.moment, under_way ∙ ap (λ (b : Bool). b || not (stands_first line)) stand.under_way)
 
       refused_so : (printed : List Event) → IsRefused (Some r) line → printed ≡ [] → StandsFor d t r → TurnGoes d before now script line last.begun.items printed outcomes.Refused
       refused_so printed h silent stands = (
@@ -286,7 +287,7 @@ module _ {D : Type 0} {g : Ghosts D} (d : Meaning D) (line : Line) (number place
 
       goes_so : (printed : List Event) (stop : Option Stop) → SessionApplies d r line t printed stop → TurnGoes d before now script line last.begun.items printed (outcome_of (id_of t) stop)
       goes_so printed None (None, goes, h) = absurd h
-      goes_so printed None (Some s, goes, h) = applied_so printed s goes h
+      goes_so printed None (Some s, goes, h) = applied_so printed s (leads_on before line some r (Some s) printed goes) h
       goes_so printed (Some stops.Line) h = refused_so printed h.0 h.1 h.2
       goes_so printed (Some (stops.Device role count)) h = cut_so r printed role refl h
       goes_so printed (Some (stops.Disk role why)) h = absurd h
@@ -294,13 +295,13 @@ module _ {D : Type 0} {g : Ghosts D} (d : Meaning D) (line : Line) (number place
 
       -- what this line leads on is kept in step
       abbrev Moves : Outcome → Type 0
-      Moves outcome = outcome ≡ outcomes.Applied → ((s : Begun) → StandsFor d t s → last.moment ≡ max first.moment (moment_of s)) × (last.is_under_way ≡ (first.is_under_way || not (begins_session line)))
+      Moves outcome = outcome ≡ outcomes.Applied → ((s : Begun) → StandsFor d t s → last.moment ≡ max first.moment (moment_of s)) × (last.is_under_way ≡ (first.is_under_way || not (stands_first line)))
 
       does_stop : (held later : List ℕ) (old new : Option (List ℕ)) (printed : List Event) (stop : Option Stop) → SessionApplies d r line t printed stop → Gathers held later old new (text printed)
           → Moves (outcome_of (id_of t) stop) → TurnDoes d before now script line last held later old new (outcome_of (id_of t) stop)
       unfolding applied_so
       does_stop held later old new printed None (None, goes, h) w moves = absurd h
-      does_stop held later old new printed None (Some s, goes, h) w moves = let m = moves refl in ((printed, applied_so printed s goes h, w), in_step s h m.0 m.1)
+      does_stop held later old new printed None (Some s, goes, h) w moves = let m = moves refl in ((printed, applied_so printed s (leads_on before line some r (Some s) printed goes) h, w), in_step s h m.0 m.1)
       does_stop held later old new printed (Some stops.Line) h w moves = (printed, goes_so printed (Some stops.Line) h, w)
       does_stop held later old new printed (Some (stops.Device role count)) h w moves = (printed, goes_so printed (Some (stops.Device role count)) h, w)
       does_stop held later old new printed (Some (stops.Disk role why)) h w moves = absurd h
@@ -313,20 +314,43 @@ module _ {D : Type 0} {g : Ghosts D} (d : Meaning D) (line : Line) (number place
       does_so held later old new outcome moves (printed, stop, h, inr (is, p)) =
           subst (λ (o : Outcome). TurnDoes d before now script line last held later old new o) (sym is) (printed, outcome_of (id_of t) stop, goes_so printed stop h, p)
 
+      -- the line makes it coarse
+      coarsens : (session : ℕ) → line ≡ lines.Coarse session → is_coarse x ≡ false → StandsFor d x r → LeadsFrom before (Some r) line (Some (made_coarse r)) []
+      coarsens session is plain stands =
+          let mine : session ≡ number = same_Some session number (sym (ap session_in is) ∙ named) in
+          let may = may_so d x r session (mine ∙ sym id_r) stands ∙ ap not plain in
+          subst (λ (l : Line). LeadsFrom before (Some r) l (Some (made_coarse r)) []) (sym is) (coarse_leads before r session may)
+
+      coarse_so : LeadsFrom before (Some r) line (Some (made_coarse r)) [] → StandsFor d t (made_coarse r) → ((s : Begun) → StandsFor d t s → last.moment ≡ max first.moment (moment_of s))
+          → last.is_under_way ≡ (first.is_under_way || not (stands_first line)) → BeginDoes d before now script line last outcomes.Applied
+      unfolding applied_so
+      coarse_so leads h moment under_way = (applied_so [] (made_coarse r) leads h, in_step (made_coarse r) h moment under_way)
+
+    -- so of a line that makes it coarse, which it was not
+    pub coarse_does : (session : ℕ) → line ≡ lines.Coarse session → is_coarse x ≡ false → ((r : Begun) → StandsFor d x r → StandsFor d t (made_coarse r))
+        → ((s : Begun) → StandsFor d t s → last.moment ≡ max first.moment (moment_of s)) → last.is_under_way ≡ (first.is_under_way || not (stands_first line))
+        → (before now : Places) → AllLend d before now first.begun.items → (script : Script) → AllStandFor d first script → is_in_turn script line ≡ true → BeginDoes d before now script line last outcomes.Applied
+    coarse_does session is plain made moment under_way before now lends script stand turn =
+        let h = stands_at d number first.begun.items script.begun stand.each in
+        let r = running_there d x (session_at number script.begun) (subst (λ (o : Option (Session D g)). StandsForRunning d o (session_at number script.begun)) there h) in
+        let some : line ≢ lines.Skip = λ e. cc (sym e ∙ is) in
+        coarse_so before now lends script stand turn some r.0 r.1 (coarsens before now lends script stand turn some r.0 r.1 session is plain r.2) (made r.0 r.2) moment under_way
+
     -- what the line does
-    module _ (before now : Places) (lends : AllLend d before now first.begun.items) (script : Script) (stand : AllStandFor d first script) (turn : is_in_turn script line ≡ true) (some : line ≢ lines.Skip) (begins : begins_session line ≡ false) where
+    module _ (before now : Places) (lends : AllLend d before now first.begun.items) (script : Script) (stand : AllStandFor d first script) (turn : is_in_turn script line ≡ true) (some : line ≢ lines.Skip) where
       pub line_does : (held later : List ℕ) (old new : Option (List ℕ)) (outcome : Outcome)
-          → (outcome ≡ outcomes.Applied → ((s : Begun) → StandsFor d t s → last.moment ≡ max first.moment (moment_of s)) × (last.is_under_way ≡ (first.is_under_way || not (begins_session line))))
+          → (outcome ≡ outcomes.Applied → ((s : Begun) → StandsFor d t s → last.moment ≡ max first.moment (moment_of s)) × (last.is_under_way ≡ (first.is_under_way || not (stands_first line))))
           → ((r : Begun) → StandsFor d x r → GoesSo d r line t held later old new outcome) → TurnDoes d before now script line last held later old new outcome
       line_does held later old new outcome moves goes_on =
           let h = stands_at d number first.begun.items script.begun stand.each in
           let r = running_there d x (session_at number script.begun) (subst (λ (o : Option (Session D g)). StandsForRunning d o (session_at number script.begun)) there h) in
-          does_so before now lends script stand turn some r.0 r.1 begins held later old new outcome moves (goes_on r.0 r.2)
+          does_so before now lends script stand turn some r.0 r.1 held later old new outcome moves (goes_on r.0 r.2)
 
 -- a line that is to begin a session that is there
 refuses_whole : (s : Running) (line : Line) → begins_session line ≡ true → IsRefused (Some (Whole s)) line
 refuses_whole s (lines.Session row) e = inl refl
 refuses_whole s (lines.LowSession row next held) e = inl refl
+refuses_whole s (lines.Coarse session) e = cc
 refuses_whole s lines.Skip e = cc
 refuses_whole s (lines.Look session m w z) e = cc
 refuses_whole s (lines.Told session m w fault told z) e = cc
@@ -341,6 +365,7 @@ refuses_whole s (lines.ReceiverRestart session m) e = cc
 refuses_alone : (s : RunningAlone) (line : Line) → begins_session line ≡ true → IsRefused (Some (Alone s)) line
 refuses_alone s (lines.Session row) e = inl refl
 refuses_alone s (lines.LowSession row next held) e = inl refl
+refuses_alone s (lines.Coarse session) e = cc
 refuses_alone s lines.Skip e = cc
 refuses_alone s (lines.Look session m w z) e = cc
 refuses_alone s (lines.Told session m w fault told z) e = cc
@@ -364,16 +389,32 @@ refused_still d before now t line s held a lends stand refuses = ([], (refuses, 
 pub refused_late : (t : Script) (line : Line) (number : ℕ) → session_in line ≡ Some number → is_in_turn t line ≡ false → ScriptRefuses t line
 refused_late t line number named late = refuses_named t line number named (inl late)
 
-pub refused_there : {D : Type 0} {g : Ghosts D} (d : Meaning D) (t : Script) (line : Line) (number place : ℕ) (s : Sessions D g) → session_in line ≡ Some number → begins_session line ≡ true → IsPlaced number place s.begun.items true → AllStandFor d s t → ScriptRefuses t line
-refused_there {D} {g} d t line number place s named begins placed stand =
+-- its session is there, and refuses it
+refused_there : {D : Type 0} {g : Ghosts D} (d : Meaning D) (t : Script) (line : Line) (number place : ℕ) (s : Sessions D g) → session_in line ≡ Some number → IsPlaced number place s.begun.items true → AllStandFor d s t
+    → ((x : Session D g) (r : Begun) → slice_get s.begun.items place ≡ Some x → session_number r ≡ number → StandsFor d x r → IsRefused (Some r) line) → ScriptRefuses t line
+refused_there {D} {g} d t line number place s named placed stand refuses =
     let found = found_there number s.begun.items (subst (λ (k : ℕ). is_of_number number (slice_get s.begun.items k) ≡ true) placed.0 placed.1) in
-    of (slice_get s.begun.items (place_in number s.begun.items)) found (subst (λ (k : ℕ). is_of_number number (slice_get s.begun.items k) ≡ true) placed.0 placed.1)
+    of (slice_get s.begun.items (place_in number s.begun.items)) found (ap (λ (k : ℕ). slice_get s.begun.items k) placed.0)
+    (subst (λ (k : ℕ). is_of_number number (slice_get s.begun.items k) ≡ true) placed.0 placed.1)
   where
-    of : (o : Option (Session D g)) → found_at number s.begun.items ≡ o → is_of_number number o ≡ true → ScriptRefuses t line
-    of None found is = cc
-    of (Some x) found is =
+    of : (o : Option (Session D g)) → found_at number s.begun.items ≡ o → slice_get s.begun.items place ≡ o → is_of_number number o ≡ true → ScriptRefuses t line
+    of None found at is = cc
+    of (Some x) found at is =
         let r = running_there d x (session_at number t.begun) (subst (λ (y : Option (Session D g)). StandsForRunning d y (session_at number t.begun)) found (stands_at d number s.begun.items t.begun stand.each)) in
-        refuses_named t line number named (inr (subst (λ (y : Option Begun). IsRefused y line) (sym r.1) (refuses_there r.0 line begins)))
+        refuses_named t line number named (inr (subst (λ (y : Option Begun). IsRefused y line) (sym r.1) (refuses x r.0 at (found_number number t.begun r.0 r.1) r.2)))
+
+pub refused_begun : {D : Type 0} {g : Ghosts D} (d : Meaning D) (t : Script) (line : Line) (number place : ℕ) (s : Sessions D g) → session_in line ≡ Some number → begins_session line ≡ true → IsPlaced number place s.begun.items true → AllStandFor d s t → ScriptRefuses t line
+refused_begun d t line number place s named begins placed stand = refused_there d t line number place s named placed stand (λ x r at mine stands. refuses_there r line begins)
+
+-- a line that would make coarse what is coarse
+pub refused_coarse : {D : Type 0} {g : Ghosts D} (d : Meaning D) (t : Script) (line : Line) (number place : ℕ) (s : Sessions D g) (x : Session D g) (session : ℕ) → line ≡ lines.Coarse session → is_coarse x ≡ true → slice_get s.begun.items place ≡ Some x
+    → session_in line ≡ Some number → IsPlaced number place s.begun.items true → AllStandFor d s t → ScriptRefuses t line
+refused_coarse {D} {g} d t line number place s x session is coarse here named placed stand =
+    let mine : session ≡ number = same_Some session number (sym (ap session_in is) ∙ named) in
+    refused_there d t line number place s named placed stand (λ y r at of stands.
+    let same : x ≡ y = same_Some x y (sym here ∙ at) in
+    let may : may_coarsen session r ≡ false = may_so d y r session (mine ∙ sym of) stands ∙ ap (λ (z : Session D g). not (is_coarse z)) (sym same) ∙ ap not coarse in
+    subst (λ (l : Line). IsRefused (Some r) l) (sym is) (inl may))
 
 -- a skipped line
 pub skips : {D : Type 0} {g : Ghosts D} (d : Meaning D) (before now : Places) (t : Script) (line : Line) (s : Sessions D g) (held : List ℕ) (a : Option (List ℕ)) → session_in line ≡ None → AllLend d before now s.begun.items → AllStandFor d s t
@@ -509,7 +550,7 @@ module _ {D : Type 0} {g : Ghosts D} (d : Meaning D) (line : Line) (number place
     leads_before after same (o, leads, finds) = (o, leads, finds_before before mid o after same finds)
 
     pub begun_does : (lends : AllLend d before mid first.begun.items) (script : Script) (stand : AllStandFor d first script) → is_in_turn script line ≡ true → Begins d mid now line (Ok s)
-        → ((r : Begun) → StandsFor d s r → last.moment ≡ max first.moment (moment_of r)) → last.is_under_way ≡ (first.is_under_way || not (begins_session line))
+        → ((r : Begun) → StandsFor d s r → last.moment ≡ max first.moment (moment_of r)) → last.is_under_way ≡ (first.is_under_way || not (stands_first line))
         → BeginDoes d before now script line last outcomes.Applied
     begun_does lends script stand turn (after, leads, stands) moment under_way =
         let mine : session_number after ≡ number = sym (same_number d s after stands) ∙ id_is in
@@ -522,7 +563,7 @@ module _ {D : Type 0} {g : Ghosts D} (d : Meaning D) (line : Line) (number place
             subst (λ (l : List (Session D g)). EachStandsFor d l (with_session after script.begun)) (sym put_is) (each_put d s after first.begun.items script.begun stands stand.each),
             lends_begun lends,
           ),
-          (moment after stands ∙ ap (λ (m : ℕ). max m (moment_of after)) stand.moment, under_way ∙ ap (λ (b : Bool). b || not (begins_session line)) stand.under_way),
+          (moment after stands ∙ ap (λ (m : ℕ). max m (moment_of after)) stand.moment, under_way ∙ ap (λ (b : Bool). b || not (stands_first line)) stand.under_way),
         )
 
 -- nothing was printed

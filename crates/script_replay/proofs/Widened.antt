@@ -1,27 +1,44 @@
 -- What the disks of one more session were found to hold: the lines before it lead to the same.
 use Rattle.std.proofs.Common.{◌≡◌, ℕ, Bool, true, false, ◌==◌, if◌then◌else◌, List, [], ◌∷◌, Option, None, Some, inl, inr, refl, sym, ap, ◌∙◌, subst}
-use Rattle.std.proofs.lemmas.Bool.{eq-eqb, ne_eqb, eqb-true, eqb-false}
+use Rattle.std.proofs.lemmas.Bool.{and_parts, eq-eqb, ne_eqb, eqb-true, eqb-false}
 use Rattle.std.proofs.lemmas.Option.{same_Some}
 use Rattle.script_reader.specs.declared.event.Event.{Event}
 use Rattle.script_reader.specs.declared.line.Line.{Line}
 use Rattle.script_reader.specs.declared.line.Line.TheVariants as lines
 use Rattle.script_reader.specs.Openings.{Openings, Found, CanOpen, first_past}
-use Rattle.script_reader.specs.Scripts.{Begun, Whole, Alone, GoesOn, Leads}
-use Rattle.script_reader.specs.Sessions.{Sessions, no_sessions, session_number, session_in, session_at, led_to, is_in_turn, LeadsOne, ScriptLeads, ScriptLeadsTo}
+use Rattle.script_reader.specs.Scripts.{Begun, Whole, Alone, GoesOn, IsNew, made_coarse, may_coarsen, Leads}
+use Rattle.script_reader.specs.Sessions.{Sessions, no_sessions, session_number, session_in, stands_first, session_at, led_to, is_in_turn, LeadsOne, ScriptLeads, ScriptLeadsTo}
 use Rattle.script_reader.proofs.Apart.{session_at-own, session_at-other, found_number}
 use Rattle.script_reader.proofs.Beside.{beside, has_number}
 use Rattle.script_reader.proofs.Leading.{led}
 use Rattle.script_reader.proofs.Named.{leads_of}
+use Rattle.script_reader.proofs.NewSessions.{begins_new}
 use Rattle.pump_frame.specs.Rows.{IsLawfulRow}
 use Rattle.script_replay.specs.Replays.{IsSoFar}
 use Rattle.script_replay.specs.Runners.{Finds, AllFind, LeadsFrom, OneLeadsFrom}
 use Rattle.script_replay.specs.Shelves.{Places, HasFound}
+use Rattle.script_replay.proofs.Coarse.{still_new}
 use Rattle.script_replay.proofs.Going.{leads_from}
 
 -- ---- one line ----
 
 named_some : (line : Line) (number : ℕ) → session_in line ≡ Some number → line ≡ lines.Skip → ⊥
 named_some line number named e = let none : None ≡ Some number = sym (ap session_in e) ∙ named in cc
+
+-- one that is new is so by what its own disks were found to hold
+new_same : (o p : Openings) (s : Begun) → o (session_number s) ≡ p (session_number s) → IsNew o s → IsNew p s
+new_same o p (Whole s) same new = subst (λ (f : Found). IsLawfulRow s.row × CanOpen s.row f × (s.past ≡ first_past s.row f)) same new
+new_same o p (Alone s) same new = new
+
+coarsens_number : (s : Begun) (session : ℕ) → may_coarsen session s ≡ true → session_number s ≡ session
+coarsens_number (Whole s) session may = sym (eqb-true session s.row.id (and_parts (session == s.row.id) _ may).0)
+coarsens_number (Alone s) session may = sym (eqb-true session s.row.id (and_parts (session == s.row.id) _ may).0)
+
+coarse_same : (o p : Openings) (s : Begun) (session number : ℕ) (after : Option Begun) (printed : List Event) → Some session ≡ Some number → o number ≡ p number
+    → Leads o (Some s) (lines.Coarse session) after printed → Leads p (Some s) (lines.Coarse session) after printed
+coarse_same o p s session number after printed named same ((may, new, is), silent) =
+    let mine : session_number s ≡ number = coarsens_number s session may ∙ same_Some session number named in
+    ((may, new_same o p s (ap o mine ∙ same ∙ sym (ap p mine)) new, is), silent)
 
 leads_same : (o p : Openings) (running : Option Begun) (line : Line) (number : ℕ) (after : Option Begun) (printed : List Event) → session_in line ≡ Some number → o number ≡ p number
     → Leads o running line after printed → Leads p running line after printed
@@ -30,12 +47,16 @@ leads_same o p (Some s) line number after printed named same h =
     (λ skip e f. absurd (named_some line number named skip))
     (λ r none new e f. cc)
     (λ r some goes. leads_from p s line after printed (named_some line number named) (subst (λ (x : Begun). GoesOn x line after printed) (sym (same_Some s r some)) goes))
+    (λ r session some is new made e f.
+    subst (λ (l : Line). Leads p (Some s) l after printed) (sym is)
+    (coarse_same o p s session number after printed (sym (ap session_in is) ∙ named) same (subst (λ (l : Line). Leads o (Some s) l after printed) is h)))
 leads_same o p None (lines.Session row) number after printed named same h =
     let id : row.id ≡ number = same_Some row.id number named in
     let found : o row.id ≡ p row.id = ap o id ∙ same ∙ sym (ap p id) in
     (subst (λ (f : Found). IsLawfulRow row × CanOpen row f × (after ≡ Some (Whole (record { row = row; past = first_past row f })))) found h.0, h.1)
 leads_same o p None (lines.LowSession row next held) number after printed named same h = h
 leads_same o p None lines.Skip number after printed named same h = cc
+leads_same o p None (lines.Coarse session) number after printed named same h = absurd h
 leads_same o p None (lines.Look session m w z) number after printed named same h = absurd h
 leads_same o p None (lines.Told session m w fault told z) number after printed named same h = absurd h
 leads_same o p None (lines.Gone session m) number after printed named same h = absurd h
@@ -133,7 +154,8 @@ module _ (before : Places) (o : Openings) (all rest : Option (List ℕ)) (lines 
 
   one_more : (number : ℕ) (running : Option Begun) (s : Begun) → session_in line ≡ Some number → session_at number t.begun ≡ running → is_in_turn t line ≡ true → u ≡ led_to t line s → LeadsFrom before running line (Some s) printed → There
   one_more number (Some r) s named there turn e goes =
-      let h = goes o (subst (λ (x : Option Begun). Finds before o x) there (found number)) in
+      let new : stands_first line ≡ true → IsNew o r = λ first. begins_new o lines t events so_far.leads (still_new t line turn first) number r there in
+      let h = goes o (subst (λ (x : Option Begun). Finds before o x) there (found number)) new in
       let leads : Leads o (session_at number t.begun) line (Some s) printed = subst (λ (x : Option Begun). Leads o x line (Some s) printed) (sym there) h.0 in
       record {
         openings = o;

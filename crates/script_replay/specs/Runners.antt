@@ -18,8 +18,8 @@ use Rattle.script_reader.specs.declared.fault.Fault.{Fault}
 use Rattle.script_reader.specs.declared.fault.Fault.TheVariants as faults
 use Rattle.script_reader.specs.declared.line.Line.{Line}
 use Rattle.script_reader.specs.declared.line.Line.TheVariants as lines
-use Rattle.script_reader.specs.Scripts.{Begun, Whole, Alone, Leads, IsRefused}
-use Rattle.script_reader.specs.Sessions.{Sessions as Script, session_in, session_at, with_session, led_to, is_in_turn, ScriptRefuses, ScriptStops}
+use Rattle.script_reader.specs.Scripts.{Begun, Whole, Alone, IsNew, Leads, IsRefused}
+use Rattle.script_reader.specs.Sessions.{Sessions as Script, session_in, stands_first, session_at, with_session, led_to, is_in_turn, ScriptRefuses, ScriptStops}
 use Rattle.script_reader.specs.Transcript.{text}
 use Rattle.two_worlds.specs.declared.applied.Stop.{Stop}
 use Rattle.two_worlds.specs.declared.applied.Stop.TheVariants as stops
@@ -123,10 +123,12 @@ lent d before now begun = record {
 
 -- ---- a line ----
 
--- it leads on: the first line of a session on what its disks are found to hold
+-- it leads on: the first line of a session on what its disks are found to hold, and a later one on whatever they were
+-- found to hold; one that stands first only where the session is new then
 abbrev pub LeadsFrom : Places → Option Begun → Line → Option Begun → List Event → Type 0
 LeadsFrom before None line after printed = (o : Openings) × Leads o None line after printed × Finds before o after
-LeadsFrom before (Some s) line after printed = (o : Openings) → Finds before o (Some s) → Leads o (Some s) line after printed × Finds before o after
+LeadsFrom before (Some s) line after printed =
+    (o : Openings) → Finds before o (Some s) → (stands_first line ≡ true → IsNew o s) → Leads o (Some s) line after printed × Finds before o after
 
 -- .. so of a script with several sessions
 abbrev pub OneLeadsFrom : Places → Script → Line → Option ℕ → Script → List Event → Type 0
@@ -190,7 +192,7 @@ TurnGoes d before now t line begun printed outcomes.Unwritten = ⊥
 abbrev pub IsInStep : {D : Type 0} {g : _} → Sessions D g → Script → Type 0
 IsInStep sessions u = (sessions.moment ≡ u.moment) × (sessions.is_under_way ≡ u.is_under_way)
 
--- a line where its session isn't there, which prints nothing; of want of memory nothing is said
+-- a line where its session isn't there, or one that stands first: it prints nothing; of want of memory nothing is said
 abbrev pub BeginDoes : {D : Type 0} {g : _} → Meaning D → Places → Places → Script → Line → Sessions D g → Outcome → Type 0
 BeginDoes d before now t line sessions outcomes.Applied = (goes : TurnGoes d before now t line sessions.begun.items [] outcomes.Applied) × IsInStep sessions goes.0
 BeginDoes d before now t line sessions outcomes.Refused = TurnGoes d before now t line sessions.begun.items [] outcomes.Refused
@@ -213,7 +215,7 @@ TurnDoes d before now t line sessions held later old new outcomes.Refused = Adds
 TurnDoes d before now t line sessions held later old new outcomes.Memory = Unit {0}
 TurnDoes d before now t line sessions held later old new (outcomes.Stopped fault) = Adds d before now t line sessions.begun.items held later old new (outcomes.Stopped fault)
 
--- before any line came that begins no session nothing is printed, and only then is memory wanting
+-- before any line came that needs not stand first nothing is printed, and only then is memory wanting
 pub record TurnIsQuiet {D : Type 0} {g : _} (first then : Sessions D g) (held later : List ℕ) (old new : Option (List ℕ)) (outcome : Outcome) : Type 0 where
   pub waits : first.is_under_way ≡ true → then.is_under_way ≡ true
   pub quiet : outcome ≡ outcomes.Applied → then.is_under_way ≡ false → (later ≡ held) × (new ≡ old)

@@ -39,6 +39,11 @@ is_down (sessions.Alone id p) = low_pump.low_is_down p
 abbrev pub IsUp : {D : Type 0} {g : _} → Session D g → Type 0
 IsUp s = is_down s ≡ false
 
+-- its row is coarse
+abbrev pub is_coarse : {D : Type 0} {g : _} → Session D g → Bool
+is_coarse (sessions.Whole id p) = (pump.row_of p).coarse
+is_coarse (sessions.Alone id p) = (low_pump.low_row_of p).coarse
+
 -- it is a low side alone
 abbrev pub IsAlone : {D : Type 0} {g : _} → Session D g → Type 0
 IsAlone (sessions.Whole id p) = ⊥

@@ -2,6 +2,8 @@
 //! transcript, and answers how it ended.
 #![tactic(auto)]
 
+#[cfg(test)]
+mod coarse_tests;
 mod disks;
 mod ended;
 #[cfg(test)]

@@ -1,6 +1,6 @@
 //! The session that a script has begun: a whole one over three disks, or a low side alone.
 
-ghost use Rattle.std.specs.Prelude.{◌≡◌, ◌≢◌, ℕ, ◌∷◌, [], Some, None, IfOk};
+ghost use Rattle.std.specs.Prelude.{◌≡◌, ◌≢◌, ℕ, ◌∷◌, [], false, Some, None, IfOk};
 ghost use Rattle.disk_model.specs.declared.name.Role.{Role as DiskRole};
 ghost use Rattle.pump_frame.specs.Rows.{IsLawfulRow};
 ghost use Rattle.script_reader.specs.Lawful.{IsLawfulLine};
@@ -8,11 +8,11 @@ ghost use Rattle.script_reader.specs.EventHeads.{event_of};
 ghost use Rattle.script_reader.specs.Heads.{line_with, CanHoldLine};
 ghost use Rattle.script_reader.specs.Grammar.{IsCount};
 ghost use Rattle.script_reader.specs.Alone.{fresh_alone};
-ghost use Rattle.script_reader.specs.Scripts.{Begun, RunningAlone, Alone, Ends};
-ghost use Rattle.script_reader.specs.Sessions.{moment_of};
+ghost use Rattle.script_reader.specs.Scripts.{Begun, RunningAlone, Alone, Ends, made_coarse};
+ghost use Rattle.script_reader.specs.Sessions.{moment_of, stands_first};
 ghost use Rattle.two_worlds.specs.declared.applied.Stop.TheVariants as stops;
 ghost use Rattle.two_worlds.specs.Printing.{lines_in};
-ghost use Rattle.script_replay.specs.Sessions.{id_of, IsUp, IsAlone, StandsFor, SessionApplies, GoesOnWith, FailedWith};
+ghost use Rattle.script_replay.specs.Sessions.{id_of, is_coarse, IsUp, IsAlone, StandsFor, SessionApplies, GoesOnWith, FailedWith};
 
 use arrayvec::ArrayVec;
 use disk_model::Disk;
@@ -54,8 +54,30 @@ impl<D: Disk> Session<D> {
         }
     }
 
-    /// A line of the script: what it prints, in the place of what the list held, and whether it stops
-    /// the session. Until a disk has failed.
+    /// Whether it is coarse.
+    pub fn is_coarse(&self) -> bool
+        ensures { result ≡ is_coarse self.now }
+    {
+        match self {
+            Session::Whole { pump, .. } => pump.is_coarse(),
+            Session::Alone { pump, .. } => pump.is_coarse(),
+        }
+    }
+
+    /// Makes it coarse. It takes no memory, and makes no call of a disk.
+    pub fn make_coarse(&mut self)
+        ensures stands { (running : Begun) → StandsFor D.told self.old running → StandsFor D.told self.new (made_coarse running) }
+        ensures up { IsUp self.old → IsUp self.new }
+        ensures with { GoesOnWith D.told self.old self.new }
+    {
+        match self {
+            Session::Whole { pump, .. } => pump.make_coarse(),
+            Session::Alone { pump, .. } => pump.make_coarse(),
+        }
+    }
+
+    /// A line of the script that needs not stand first: what it prints, in the place of what the list
+    /// held, and whether it stops the session. Until a disk has failed.
     pub fn apply(
         &mut self,
         line: &LineHead,
@@ -65,6 +87,7 @@ impl<D: Disk> Session<D> {
         requires lawful { IsLawfulLine (line_with body.now line.now) }
         requires room { CanHoldLine line.now body.now }
         requires some { line_with body.now line.now ≢ Line.Skip }
+        requires later { stands_first (line_with body.now line.now) ≡ false }
         requires up { IsUp self.old }
         ensures applies { D.told.tells → (running : Begun) → StandsFor D.told self.old running
             → SessionApplies D.told running (line_with body.now line.now) self.new (lines_in events.new.items) result }

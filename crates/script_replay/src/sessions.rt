@@ -1,10 +1,10 @@
 //! The sessions that a script has begun.
 
-ghost use Rattle.std.specs.Prelude.{◌≡◌, ◌<◌, ◌≤◌, ◌+◌, ℕ, ◌||◌, true, false, not, nat_le, max, List, [], length, Some, IfOk, slice_get, vec_len, vec_capacity, position};
+ghost use Rattle.std.specs.Prelude.{◌≡◌, ◌<◌, ◌≤◌, ◌+◌, ℕ, ◌||◌, true, false, not, nat_le, nat_lt, max, List, [], length, Some, IfOk, slice_get, vec_len, vec_capacity, position};
 ghost use Rattle.std.specs.List.{insert as inserted};
 ghost use Rattle.script_reader.specs.Heads.{line_with};
 ghost use Rattle.script_reader.specs.Scripts.{Begun};
-ghost use Rattle.script_reader.specs.Sessions.{Sessions as Script, no_sessions, session_in, begins_session as begins, moment_in, moment_of as moment_so_far, is_in_turn as may_come, AllEnd};
+ghost use Rattle.script_reader.specs.Sessions.{Sessions as Script, no_sessions, session_in, begins_session as begins, stands_first as is_first, moment_in, moment_of as moment_so_far, is_in_turn as may_come, AllEnd};
 ghost use Rattle.two_worlds.specs.Printing.{lines_in};
 ghost use Rattle.script_replay.specs.Sessions.{id_of, place_in, is_of_number, AreInOrder, EachStandsFor, AllStandFor, StandsFor};
 
@@ -26,7 +26,7 @@ pub struct Sessions<D: Disk> {
     pub begun: Vec<Session<D>>,
     /// The moment of the last line that had one, in microseconds, whichever session's it was.
     pub moment: u64,
-    /// A line came that began no session.
+    /// A line came that needs not stand first.
     pub is_under_way: bool,
 }
 
@@ -38,6 +38,7 @@ pub fn session_of(line: &LineHead) -> Option<u32>
         LineHead::Skip => None,
         LineHead::Session(row) => Some(row.id),
         LineHead::LowSession { row, .. } => Some(row.id),
+        LineHead::Coarse { session } => Some(*session),
         LineHead::Look { session, .. } => Some(*session),
         LineHead::Told { session, .. } => Some(*session),
         LineHead::Gone { session, .. } => Some(*session),
@@ -58,6 +59,7 @@ fn moment_of(line: &LineHead) -> Option<u64>
         LineHead::Skip => None,
         LineHead::Session(_) => None,
         LineHead::LowSession { .. } => None,
+        LineHead::Coarse { .. } => None,
         LineHead::Carry { .. } => None,
         LineHead::Look { moment, .. } => Some(*moment),
         LineHead::Told { moment, .. } => Some(*moment),
@@ -77,6 +79,18 @@ pub fn begins_session(line: &LineHead) -> bool
     match line {
         LineHead::Session(_) => true,
         LineHead::LowSession { .. } => true,
+        _ => false,
+    }
+}
+
+/// Whether a line stands before all others: it begins a session, or makes one coarse.
+pub fn stands_first(line: &LineHead) -> bool
+    ensures { (bytes : List ℕ) → is_first (line_with bytes line.now) ≡ result }
+{
+    match line {
+        LineHead::Session(_) => true,
+        LineHead::LowSession { .. } => true,
+        LineHead::Coarse { .. } => true,
         _ => false,
     }
 }
@@ -120,15 +134,23 @@ impl<D: Disk> Sessions<D> {
         place < begun.len() && begun[place].id() == number
     }
 
-    /// Whether a line may come now: one that begins a session before all others, as long as there are
-    /// fewer than 16; another no earlier than those before it.
+    /// Whether there are fewer sessions than a script may have, where the line is to begin one.
+    fn has_room_for(&self, line: &LineHead) -> bool
+        ensures { (bytes : List ℕ) → result ≡ (not (begins (line_with bytes line.now)) || nat_lt (length self.now.begun.items) 16) }
+    {
+        !begins_session(line) || self.begun.len() < MOST_SESSIONS
+    }
+
+    /// Whether a line may come now: one that begins a session or makes one coarse before all others, and
+    /// one that begins a session as long as there are fewer than 16; another no earlier than those before
+    /// it.
     pub fn is_in_turn(&self, line: &LineHead) -> bool
         ensures may { (bytes : List ℕ) (t : Script) → AllStandFor D.told self.now t → may_come t (line_with bytes line.now) ≡ result }
         ensures first { (bytes : List ℕ) → result ≡ true → begins (line_with bytes line.now) ≡ true
             → (self.now.is_under_way ≡ false) × (length self.now.begun.items < 16) }
     {
-        if begins_session(line) {
-            return !self.is_under_way && self.begun.len() < MOST_SESSIONS;
+        if stands_first(line) {
+            return !self.is_under_way && self.has_room_for(line);
         }
         match moment_of(line) {
             None => true,
@@ -158,10 +180,10 @@ impl<D: Disk> Sessions<D> {
         ensures begun { self.new.begun ≡ self.old.begun }
         ensures moment { (session : _) (running : Begun) → slice_get self.old.begun.items place ≡ Some session → StandsFor D.told session running
             → self.new.moment ≡ max self.old.moment (moment_so_far running) }
-        ensures under_way { (bytes : List ℕ) → self.new.is_under_way ≡ (self.old.is_under_way || not (begins (line_with bytes line.now))) }
+        ensures under_way { (bytes : List ℕ) → self.new.is_under_way ≡ (self.old.is_under_way || not (is_first (line_with bytes line.now))) }
     {
         self.moment = self.moment.max(self.begun[place].moment());
-        self.is_under_way = self.is_under_way || !begins_session(line);
+        self.is_under_way = self.is_under_way || !stands_first(line);
     }
 
     /// What the end of the script prints.

@@ -73,7 +73,7 @@ pub fn run(
 }
 
 /// Whether the replay of the parts ends with this status and writes this.
-fn replays(alloc: Global, parts: &[&str], status: u8, output: &[&str]) -> Result<bool, Fail> {
+pub fn replays(alloc: Global, parts: &[&str], status: u8, output: &[&str]) -> Result<bool, Fail> {
     let wanted = joined(alloc, output)?;
     let (ended, written) = run(alloc, joined(alloc, parts)?, 7, &[], &[])?;
     Ok(ended == status && written.as_slice() == wanted.as_slice())

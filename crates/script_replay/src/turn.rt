@@ -8,7 +8,7 @@ ghost use Rattle.script_reader.specs.Grammar.{IsCount};
 ghost use Rattle.script_reader.specs.Lawful.{IsLawfulLine};
 ghost use Rattle.script_reader.specs.Heads.{line_with, CanHoldLine};
 ghost use Rattle.script_reader.specs.Scripts.{Begun};
-ghost use Rattle.script_reader.specs.Sessions.{Sessions as Script, session_in, begins_session as begins, is_in_turn};
+ghost use Rattle.script_reader.specs.Sessions.{Sessions as Script, session_in, begins_session as begins, stands_first as is_first, is_in_turn};
 ghost use Rattle.script_replay.specs.Sessions.{id_of, IsUp, StandsFor, LendsNew, GoesOnWith, FailedWith, HasFailed, found_at, IsPlaced, AreInOrder, AllStandFor, AllLend};
 ghost use Rattle.script_replay.specs.Outputs.{held_of};
 ghost use Rattle.script_replay.specs.Shelves.{Places, AllAreBack, LeavesOtherSessions};
@@ -18,7 +18,7 @@ use crate::disks::{put_disks_back, take_disks};
 use crate::outcome::{Outcome, outcome_at, outcome_of, untaken};
 use crate::output::Output;
 use crate::session::Session;
-use crate::sessions::{Sessions, begins_session, session_of};
+use crate::sessions::{Sessions, begins_session, session_of, stands_first};
 use arrayvec::ArrayVec;
 use disk_model::{Disk, Shelf};
 use pump_frame::SessionRow;
@@ -118,7 +118,7 @@ fn begin<S: Shelf>(
     }
 }
 
-/// A line of the session that has begun. The list is for what it prints.
+/// A line of the session that has begun, which needs not stand first. The list is for what it prints.
 fn go_on<D: Disk, O: Sink>(
     session: &mut Session<D>,
     line: &LineHead,
@@ -130,6 +130,7 @@ fn go_on<D: Disk, O: Sink>(
     requires lawful { IsLawfulLine (line_with body.now line.now) }
     requires room { CanHoldLine line.now body.now }
     requires some { line_with body.now line.now ≢ Line.Skip }
+    requires later { is_first (line_with body.now line.now) ≡ false }
     requires up { IsUp session.old }
     ensures does { D.told.tells → (running : Begun) → StandsFor D.told session.old running
         → GoesSo D.told running (line_with body.now line.now) session.new (held_of output.old) (held_of output.new) (O.written out.old) (O.written out.new) result }
@@ -190,6 +191,45 @@ fn begin_at<S: Shelf>(
     }
 }
 
+/// A line that stands first and may come now, of the session at this place: it makes it coarse, unless
+/// it is coarse already or the line is to begin it. It prints nothing.
+fn coarsen_at<D: Disk>(
+    sessions: &mut Sessions<D>,
+    place: usize,
+    line: &LineHead,
+    body: &Body,
+) -> Outcome
+    requires first { is_first (line_with body.now line.now) ≡ true }
+    requires order { AreInOrder sessions.old }
+    requires up { AllAreUp sessions.old.begun.items }
+    requires place { place < vec_len sessions.old.begun }
+    requires placed { (number : ℕ) → session_in (line_with body.now line.now) ≡ Some number → IsPlaced number place sessions.old.begun.items true }
+    requires named { (number : ℕ) × (session_in (line_with body.now line.now) ≡ Some number) }
+    ensures order { AreInOrder sessions.new }
+    ensures does { (before now : Places) → AllLend D.told before now sessions.old.begun.items
+        → (t : Script) → AllStandFor D.told sessions.old t → is_in_turn t (line_with body.now line.now) ≡ true
+        → BeginDoes D.told before now t (line_with body.now line.now) sessions.new result }
+    ensures lends { (before now : Places) → AllLend D.told before now sessions.old.begun.items → AllLend D.told before now sessions.new.begun.items }
+    ensures up { AllAreUp sessions.new.begun.items }
+    ensures waits { sessions.old.is_under_way ≡ true → sessions.new.is_under_way ≡ true }
+    ensures line { StopsByLine result }
+    ensures memory { result ≡ Outcome.Memory → ⊥ }
+    ensures written { result ≡ Outcome.Unwritten → ⊥ }
+    ensures device { (number : ℕ) → IsDeviceOutcomeOf number result → ⊥ }
+{
+    // What makes a session coarse has no body.
+    let _bytes = body;
+    if begins_session(line) {
+        return Outcome::Refused;
+    }
+    if sessions.begun[place].is_coarse() {
+        return Outcome::Refused;
+    }
+    sessions.begun[place].make_coarse();
+    sessions.go_on_by(line, place);
+    Outcome::Applied
+}
+
 /// A line that may come now, of the session at this place. The list is for what it prints.
 fn go_on_at<D: Disk, O: Sink>(
     sessions: &mut Sessions<D>,
@@ -221,8 +261,8 @@ fn go_on_at<D: Disk, O: Sink>(
     ensures later { O.faults out.old ≤ O.faults out.new }
     ensures cause { result ≡ Outcome.Unwritten → Rose (O.faults out.old) (O.faults out.new) }
 {
-    if begins_session(line) {
-        return Outcome::Refused;
+    if stands_first(line) {
+        return coarsen_at(sessions, place, line, body);
     }
     match go_on(&mut sessions.begun[place], line, body, events, output, out) {
         Outcome::Applied => {

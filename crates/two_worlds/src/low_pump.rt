@@ -55,6 +55,13 @@ impl LowPump {
         Ok(LowPump { parts })
     }
 
+    /// Whether the session is coarse.
+    pub fn is_coarse(&self) -> bool
+        ensures { result ≡ (low_row_of self.now).coarse }
+    {
+        self.parts.row.coarse
+    }
+
     /// Makes the session coarse: from now on what comes down of an average is its level. It is called
     /// before the first line, takes no memory, and makes no call of the disk. The pump is as before but
     /// for its row, and stands for what it stood for.

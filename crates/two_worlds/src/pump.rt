@@ -94,6 +94,16 @@ impl<D: Disk> Pump<D> {
         })
     }
 
+    /// Whether the session is coarse.
+    pub fn is_coarse(&self) -> bool
+        ensures { result ≡ (row_of self.now).coarse }
+    {
+        match &self.state {
+            PumpState::Open(parts) => parts.row.coarse,
+            PumpState::Shut(disks) => disks.row.coarse,
+        }
+    }
+
     /// Makes the session coarse: from now on what comes down of an average is its level. It is called
     /// before the first line, takes no memory, and makes no call of a disk. The pump is as before but
     /// for its row, and stands for what it stood for.

@@ -1,7 +1,7 @@
 use Rattle.std.proofs.Common.{◌≤◌, length, sym, ap, ◌∙◌, subst, arith, max}
 use Rattle.std.specs.Prelude.{◌||◌, not}
 use Rattle.script_reader.specs.Heads.{line_with}
-use Rattle.script_reader.specs.Sessions.{begins_session, moment_of}
+use Rattle.script_reader.specs.Sessions.{stands_first, moment_of}
 use Rattle.script_replay.specs.Runners.{IsOfBeginning}
 use Rattle.script_replay.specs.Sessions.{id_of}
 use Rattle.script_replay.proofs.Listed.{insert_here, is_device}
@@ -31,7 +31,7 @@ returns-in-Ok g c =
       does = λ told tells before lends t stand turn.
           begun_does g.S.Disk.Disk.told (line_with c.args.body.now c.args.line.now) (id_of s) c.args.place named c.args.sessions.now placed c.requires.order.rise before (g.S.Shelf.told.disk c.args.shelf.now) (g.S.Shelf.told.disk c.begin.new.shelf) returned s c.go_on_by.new.self named items c.in-Ok.ensures.lends lends t stand turn (c.in-Ok.ensures.begins told tells)
           (λ r stands. c.go_on_by.ensures.moment s r (rw c.insert.ensures.items (insert_here c.args.sessions.now.begun.items c.args.place s within)) stands ∙ ap (λ m. max m (moment_of r)) c.insert.ensures.moment)
-          (c.go_on_by.ensures.under_way c.args.body.now ∙ ap (λ b. b || not (begins_session (line_with c.args.body.now c.args.line.now))) c.insert.ensures.under_way);
+          (c.go_on_by.ensures.under_way c.args.body.now ∙ ap (λ b. b || not (stands_first (line_with c.args.body.now c.args.line.now))) c.insert.ensures.under_way);
       hands = λ before lends. hands_of g.S.Shelf.told.tells g.S.Disk.Disk.told before (g.S.Shelf.told.disk c.begin.new.shelf) c.go_on_by.new.self.begun.items
           (lends_begun g.S.Disk.Disk.told (line_with c.args.body.now c.args.line.now) (id_of s) c.args.place named c.args.sessions.now placed c.requires.order.rise before (g.S.Shelf.told.disk c.args.shelf.now) (g.S.Shelf.told.disk c.begin.new.shelf) returned s c.go_on_by.new.self named items c.in-Ok.ensures.lends lends);
       goes = λ e before lends. (

@@ -4,13 +4,16 @@ use Rattle.script_reader.specs.Heads.{line_with}
 use Rattle.script_replay.specs.declared.sessions.Sessions.{Sessions}
 use Rattle.script_replay.specs.Outputs.{held_of}
 use Rattle.script_replay.proofs.Listed.{at_slice, set_here, order_item, under_way_so}
-use Rattle.script_replay.proofs.Turns.{is_put, up_there, lends_last, up_last, failed_last, rise_last, line_does, refused_still, refused_there}
+use Rattle.script_replay.proofs.Turns.{is_put, up_there, lends_last, up_last, failed_last, rise_last, line_does, begin_turn}
 use Rattle.script_replay.proofs.turn.go_on_at.Goals as goal
 
-pub returns-then-begins_session-clause-does : goal.returns-then-begins_session-clause-does
-returns-then-begins_session-clause-does g c = λ tells before now lends t stand turn.
-    refused_still g.D.Disk.told before now t (line_with c.args.body.now c.args.line.now) c.args.sessions.now (held_of c.args.output.now) _ lends stand
-    (refused_there g.D.Disk.told t (line_with c.args.body.now c.args.line.now) c.requires.named.0 c.args.place c.args.sessions.now c.requires.named.1 (c.begins_session.ensures c.args.body.now ∙ c.if-begins_session.true) (c.requires.placed c.requires.named.0 c.requires.named.1) stand)
+pub returns-then-stands_first-clause-does : goal.returns-then-stands_first-clause-does
+returns-then-stands_first-clause-does g c = λ tells before now lends t stand turn.
+    begin_turn g.D.Disk.told before now t (line_with c.args.body.now c.args.line.now) c.coarsen_at.new.sessions (held_of c.args.output.now) _ c.coarsen_at.result
+    (c.coarsen_at.ensures.does before now lends t stand turn)
+
+pub returns-then-stands_first-clause-device : goal.returns-then-stands_first-clause-device
+returns-then-stands_first-clause-device g c = λ number h before now lends. absurd (c.coarsen_at.ensures.device number h)
 
 pub go_on-requires-clause-up : goal.go_on-requires-clause-up
 go_on-requires-clause-up g c =
@@ -28,14 +31,14 @@ returns-in-Applied g c =
     let n = c.requires.named.0 in
     let named = c.requires.named.1 in
     let placed = c.requires.placed n named in
-    let begins = c.begins_session.ensures c.args.body.now ∙ c.if-begins_session.false in
+    let later = c.stands_first.ensures c.args.body.now ∙ c.if-stands_first.false in
     let items = ap (λ v. v.items) c.go_on_by.ensures.begun ∙ is_put g.D.Disk.told (line_with c.args.body.now c.args.line.now) n c.args.place named c.index_mut.result.now c.go_on.new.session c.go_on.ensures.with c.args.sessions.now placed at c.requires.order.rise in
-    let way = under_way_so c.args.sessions.now.is_under_way _ c.go_on_by.new.self.is_under_way (c.go_on_by.ensures.under_way c.args.body.now) begins in
+    let way = under_way_so c.args.sessions.now.is_under_way _ c.go_on_by.new.self.is_under_way (c.go_on_by.ensures.under_way c.args.body.now) later in
     record {
       order = order_item c.args.sessions.now c.go_on_by.new.self c.args.place c.go_on.new.session c.go_on_by.ensures.begun c.requires.order
           (rise_last g.D.Disk.told (line_with c.args.body.now c.args.line.now) n c.args.place named c.index_mut.result.now c.go_on.new.session c.go_on.ensures.with c.args.sessions.now placed at c.requires.order.rise c.go_on_by.new.self items);
       does = λ tells before now lends t stand turn.
-          line_does g.D.Disk.told (line_with c.args.body.now c.args.line.now) n c.args.place named c.index_mut.result.now c.go_on.new.session c.go_on.ensures.with c.args.sessions.now placed at c.requires.order.rise c.go_on_by.new.self items before now lends t stand turn c.requires.some begins
+          line_does g.D.Disk.told (line_with c.args.body.now c.args.line.now) n c.args.place named c.index_mut.result.now c.go_on.new.session c.go_on.ensures.with c.args.sessions.now placed at c.requires.order.rise c.go_on_by.new.self items before now lends t stand turn c.requires.some
           (held_of c.args.output.now) (held_of c.go_on.new.output) _ _ _
           (λ e. (λ s stands. c.go_on_by.ensures.moment c.go_on.new.session s (set_here c.args.sessions.now.begun.items c.args.place c.go_on.new.session within) stands, c.go_on_by.ensures.under_way c.args.body.now))
           (λ r stands. c.in-Applied.ensures.does tells r stands);
@@ -58,7 +61,6 @@ returns-in_default g c =
     let n = c.requires.named.0 in
     let named = c.requires.named.1 in
     let placed = c.requires.placed n named in
-    let begins = c.begins_session.ensures c.args.body.now ∙ c.if-begins_session.false in
     let items = is_put g.D.Disk.told (line_with c.args.body.now c.args.line.now) n c.args.place named c.index_mut.result.now c.go_on.new.session c.go_on.ensures.with c.args.sessions.now placed at c.requires.order.rise in
     let last : Sessions g.row.D.Denot g.D.Disk =
     record { begun = with_item c.args.sessions.now.begun c.args.place c.go_on.new.session; moment = c.args.sessions.now.moment; is_under_way = c.args.sessions.now.is_under_way } in
@@ -66,7 +68,7 @@ returns-in_default g c =
       order = order_item c.args.sessions.now last c.args.place c.go_on.new.session refl c.requires.order
           (rise_last g.D.Disk.told (line_with c.args.body.now c.args.line.now) n c.args.place named c.index_mut.result.now c.go_on.new.session c.go_on.ensures.with c.args.sessions.now placed at c.requires.order.rise last items);
       does = λ tells before now lends t stand turn.
-          line_does g.D.Disk.told (line_with c.args.body.now c.args.line.now) n c.args.place named c.index_mut.result.now c.go_on.new.session c.go_on.ensures.with c.args.sessions.now placed at c.requires.order.rise last items before now lends t stand turn c.requires.some begins
+          line_does g.D.Disk.told (line_with c.args.body.now c.args.line.now) n c.args.place named c.index_mut.result.now c.go_on.new.session c.go_on.ensures.with c.args.sessions.now placed at c.requires.order.rise last items before now lends t stand turn c.requires.some
           (held_of c.args.output.now) (held_of c.go_on.new.output) _ _ c.go_on.result
           (λ e. absurd (c.in_default.not-Applied e))
           (λ r stands. c.go_on.ensures.does tells r stands);

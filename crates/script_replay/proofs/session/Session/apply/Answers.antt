@@ -5,7 +5,7 @@ use Rattle.script_replay.proofs.session.Session.apply.Goals as goal
 
 pub returns-in-Whole-clause-applies : goal.returns-in-Whole-clause-applies
 returns-in-Whole-clause-applies g c = λ tells.
-    whole_applies _ tells c.args.self.now c.in-Whole.id c.in-Whole.pump c.apply_head.new.self (line_with c.args.body.now c.args.line.now) (lines_in c.apply_head.new.events.items) c.apply_head.result c.in-Whole.is c.requires.some (rw c.as_slice.ensures.value at (c.apply_head.ensures.applies tells))
+    whole_applies _ tells c.args.self.now c.in-Whole.id c.in-Whole.pump c.apply_head.new.self (line_with c.args.body.now c.args.line.now) (lines_in c.apply_head.new.events.items) c.apply_head.result c.in-Whole.is c.requires.some c.requires.later (rw c.as_slice.ensures.value at (c.apply_head.ensures.applies tells))
     c.apply_head.ensures.down c.apply_head.ensures.row
 
 pub returns-in-Whole-clause-with : goal.returns-in-Whole-clause-with
@@ -16,5 +16,5 @@ returns-in-Whole-clause-failed g c = whole_failed _ c.args.self.now c.in-Whole.i
 
 pub returns-in-Alone-clause-applies : goal.returns-in-Alone-clause-applies
 returns-in-Alone-clause-applies g c = λ tells.
-    alone_applies _ c.args.self.now c.in-Alone.id c.in-Alone.pump c.apply_head-in-Alone.new.self (line_with c.args.body.now c.args.line.now) (lines_in c.apply_head-in-Alone.new.events.items) c.apply_head-in-Alone.result c.in-Alone.is c.requires.some
+    alone_applies _ c.args.self.now c.in-Alone.id c.in-Alone.pump c.apply_head-in-Alone.new.self (line_with c.args.body.now c.args.line.now) (lines_in c.apply_head-in-Alone.new.events.items) c.apply_head-in-Alone.result c.in-Alone.is c.requires.some c.requires.later
     (rw c.as_slice-in-Alone.ensures.value at c.apply_head-in-Alone.ensures.applies) c.apply_head-in-Alone.ensures.down c.apply_head-in-Alone.ensures.row

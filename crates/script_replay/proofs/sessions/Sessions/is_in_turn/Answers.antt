@@ -5,5 +5,5 @@ use Rattle.script_replay.proofs.sessions.Sessions.is_in_turn.Goals as goal
 
 pub returns-then-not-self-clause-may : goal.returns-then-not-self-clause-may
 returns-then-not-self-clause-may g c = λ bytes t stand.
-    in_turn_first g.D.Disk.told c.args.self.now t (line_with bytes c.args.line.now) stand (c.begins_session.ensures bytes ∙ c.if-begins_session.true) c.if-not-self.true
-    ∙ ap (λ n. nat_lt n 16) (sym (c.len.ensures ∙ c.args.self.now.begun.ok.0))
+    in_turn_first g.D.Disk.told c.args.self.now t (line_with bytes c.args.line.now) stand (c.stands_first.ensures bytes ∙ c.if-stands_first.true) c.if-not-self.true
+    ∙ sym (c.has_room_for.ensures bytes)

@@ -1,5 +1,5 @@
 -- A row of a document: by itself, and beside the rows before it.
-use Rattle.std.specs.Prelude.{ℕ, pos, is_some, ◌||◌, ◌==◌, Bool, if◌then◌else◌, List, Some, Result, Ok, Err}
+use Rattle.std.specs.Prelude.{ℕ, pos, is_some, ◌||◌, ◌==◌, Bool, false, if◌then◌else◌, List, Some, Result, Ok, Err}
 use Rattle.std.specs.List.{list_any}
 use Rattle.pump_frame.specs.Rows.{first_bad}
 use Rattle.pump_frame.specs.declared.row.SessionRow.{SessionRow}

@@ -26,7 +26,7 @@ use crate::tape::Tape;
 use passage::{WaitHighEnd, WaitLowEnd};
 use pump_frame::OutOfMemory;
 use pump_link::{Clock, Sink};
-use relay_threads::{Gate, run_pair};
+use relay_threads::{Gate, try_run_pair};
 use std::sync::Wait;
 use std::thread::Threads;
 
@@ -58,7 +58,7 @@ fn run_works<
     ensures high { OnOk result (HighRuns H.stands H.place H.shape I.asked I.stops high.old high.new) }
     ensures kept { OnErr result (low.new ≡ low.old) }
 {
-    run_pair(rt, low, high)
+    try_run_pair(rt, low, high)
 }
 
 /// Which workers were stopped.

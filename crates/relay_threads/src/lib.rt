@@ -24,7 +24,7 @@ pub use law::{records_are_lives, records_are_scripts, records_replay};
 pub use low_round::LowWhy;
 pub use low_serving::{LowServed, serve_low};
 pub use low_stays::low_rounds;
-pub use pair::{Work, run_pair};
+pub use pair::{Work, run_pair, try_run_pair};
 pub use record::{LookMade, append_look, append_opening, is_recorded};
 pub use rounds_end::RoundsEnd;
 pub use tape::write_opening;

@@ -151,7 +151,7 @@ fn take_back<A>(work: &mut A)
 
 /// Runs each of the two works once, side by side in two threads, and waits for both. `OutOfMemory` where
 /// the second thread can't be started: then neither was run, and both are as they were.
-pub fn run_pair<R: Threads + Wait + Sync, A: Work + Send, B: Work>(
+pub fn try_run_pair<R: Threads + Wait + Sync, A: Work + Send, B: Work>(
     rt: &R,
     low: &mut A,
     high: &mut B,
@@ -166,4 +166,22 @@ pub fn run_pair<R: Threads + Wait + Sync, A: Work + Send, B: Work>(
     take_back(low);
     take_back(high);
     if has_run { Ok(()) } else { Err(OutOfMemory) }
+}
+
+/// Runs each of the two works once, side by side in two threads, and waits for both. Where the second
+/// thread can't be started, this one does the work of both, low's first.
+pub fn run_pair<R: Threads + Wait + Sync, A: Work + Send, B: Work>(
+    rt: &R,
+    low: &mut A,
+    high: &mut B,
+)
+    requires low { A.can_run low.old }
+    requires high { B.can_run high.old }
+    ensures low { A.ran low.old low.new }
+    ensures high { B.ran high.old high.new }
+{
+    if try_run_pair(rt, low, high).is_err() {
+        low.run(rt);
+        high.run(rt);
+    }
 }

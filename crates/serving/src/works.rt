@@ -104,9 +104,5 @@ pub fn serve_halves<
         clock: high_clock,
         rounds,
     };
-    // Where no second thread can be started, this one does the work of both.
-    if run_pair(rt, &mut low_work, &mut high_work).is_err() {
-        low_work.run(rt);
-        high_work.run(rt);
-    }
+    run_pair(rt, &mut low_work, &mut high_work);
 }

@@ -1,6 +1,6 @@
 use mathlib.Core.Path.{◌≡◌, subst}
 use borrow.Author.Rules.{rules}
-use Rattle.relay_threads.proofs.pair.run_pair.Goals as goal
+use Rattle.relay_threads.proofs.pair.try_run_pair.Goals as goal
 
 -- what comes back under the name of what was lent is what it ends as
 pub returns-then-has_run-clause-low : goal.returns-then-has_run-clause-low

@@ -66,6 +66,7 @@ module _ {S : Type 0} (m : Meaning S) (low high now_low now_high : S) where
   session_device row (session_ends.Refused named why) role opens cl ch e =
       subst (λ (r : Role). RoseAt m r low high now_low now_high) (refused_role named role why e) (opens.0 (refused_device named role why e))
   session_device row session_ends.NoDoor role opens cl ch e = absurd (cc)
+  session_device row session_ends.NoThread role opens cl ch e = absurd (cc)
   session_device row (session_ends.Ended ends) role opens cl ch e = workers_device role ends.low ends.high cl ch e
 
 -- ---- the session ----
@@ -74,24 +75,28 @@ pub session_memory : (end : SessionEnd) → end_of_session end ≡ Memory → ha
 session_memory session_ends.Memory e = refl
 session_memory (session_ends.Refused role why) e = refl
 session_memory session_ends.NoDoor e = refl
+session_memory session_ends.NoThread e = refl
 session_memory (session_ends.Ended ends) e = absurd ((workers_never ends.low ends.high).1 e)
 
 pub session_readable : (end : SessionEnd) → end_of_session end ≡ Unread → ⊥
 session_readable session_ends.Memory e = cc
 session_readable (session_ends.Refused role why) e = (refused_never role why).0 e
 session_readable session_ends.NoDoor e = cc
+session_readable session_ends.NoThread e = cc
 session_readable (session_ends.Ended ends) e = (workers_never ends.low ends.high).0 e
 
 pub session_link : (end : SessionEnd) → end_of_session end ≡ Unconnected → end ≡ session_ends.NoDoor
 session_link session_ends.Memory e = absurd (cc)
 session_link (session_ends.Refused role why) e = absurd ((refused_never role why).2 e)
 session_link session_ends.NoDoor e = refl
+session_link session_ends.NoThread e = absurd (cc)
 session_link (session_ends.Ended ends) e = absurd ((workers_never ends.low ends.high).2 e)
 
 pub session_unwritten : (end : SessionEnd) (R : Type 0) (P : WorkersEnd → Type 0) → IfEnded end P → ((ends : WorkersEnd) → P ends → is_kept_by (Some ends.low) ≡ false → R) → end_of_session end ≡ Unwritten → R
 session_unwritten session_ends.Memory R P h f e = absurd (cc)
 session_unwritten (session_ends.Refused role why) R P h f e = absurd ((refused_never role why).3 e)
 session_unwritten session_ends.NoDoor R P h f e = absurd (cc)
+session_unwritten session_ends.NoThread R P h f e = absurd (cc)
 session_unwritten (session_ends.Ended ends) R P h f e = f ends h (workers_unwritten ends.low ends.high e)
 
 -- what holds where the workers ran, and where they did not
@@ -99,12 +104,14 @@ pub either_way : (end : SessionEnd) (R : Type 0) (P : WorkersEnd → Type 0) →
 either_way session_ends.Memory R P h f g = g refl
 either_way (session_ends.Refused role why) R P h f g = g refl
 either_way session_ends.NoDoor R P h f g = g refl
+either_way session_ends.NoThread R P h f g = g refl
 either_way (session_ends.Ended ends) R P h f g = f ends h
 
 pub if_ended : (end : SessionEnd) (P Q : WorkersEnd → Type 0) → IfEnded end P → ((ends : WorkersEnd) → P ends → Q ends) → IfEnded end Q
 if_ended session_ends.Memory P Q h f = tt
 if_ended (session_ends.Refused role why) P Q h f = tt
 if_ended session_ends.NoDoor P Q h f = tt
+if_ended session_ends.NoThread P Q h f = tt
 if_ended (session_ends.Ended ends) P Q h f = f ends h
 
 -- ---- a disk that could not be taken ----

@@ -10,7 +10,7 @@ use Rattle.pump_link.specs.Tells.{Draws, Grows}
 use Rattle.relay_threads.specs.declared.rounds_end.RoundsEnd.{RoundsEnd}
 use Rattle.relay_threads.specs.declared.rounds_end.RoundsEnd.TheVariants.{Rounds, Device, RecordFailed}
 use Rattle.script_replay.specs.Shelves.{Places, reading_at, ReadsAlike}
-use Rattle.serving.specs.Doors.{DoorsTell, WantDoor}
+use Rattle.serving.specs.Doors.{DoorsTell, WantDoor, OpensAndShuts}
 use Rattle.serving.specs.HighServing.{HighServed}
 use Rattle.serving.specs.LowServing.{LowServed}
 use Rattle.serving.specs.Sessions.{IfEnded, OpensBy, has_run, is_opened}
@@ -35,6 +35,7 @@ abbrev pub end_of_session : SessionEnd → CommandEnd
 end_of_session session_ends.Memory = Memory
 end_of_session (session_ends.Refused role why) = end_at role (Some why)
 end_of_session session_ends.NoDoor = Unconnected
+end_of_session session_ends.NoThread = Memory
 end_of_session (session_ends.Ended ends) = end_of_workers ends.low ends.high
 
 -- a disk of the session could not be taken off the shelf
@@ -69,6 +70,7 @@ module _ {D L S : Type 0} (t : DoorsTell D L) (m : Meaning S) (looks : ℕ) (por
     pub high_left : m.reading now_high ≡ reading_at after row.id roles.High
     pub opens : OpensBy m row low high now_low now_high end
     pub wanting : end ≡ session_ends.NoDoor → WantDoor ports now_ports row.low_port row.high_port
+    pub unstarted : end ≡ session_ends.NoThread → OpensAndShuts ports now_ports row.low_port row.high_port
     pub low_worker : IfEnded end (λ ends. LowServed t m row looks key ports now_ports low_reads now_low_reads written now_written out_faults now_out_faults low now_low ends.low)
     pub high_worker : IfEnded end (λ ends. HighServed t m row looks ports now_ports high_reads now_high_reads high now_high ends.high)
     pub still : has_run end ≡ false → (m.reading now_low ≡ m.reading low) × (m.reading now_high ≡ m.reading high) × (now_written ≡ written)

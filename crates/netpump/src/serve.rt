@@ -44,7 +44,7 @@ fn end_of_session(end: &SessionEnd) -> CommandEnd
     ensures { result ≡ end_of_session end.now }
 {
     match end {
-        SessionEnd::Memory => CommandEnd::Memory,
+        SessionEnd::Memory | SessionEnd::NoThread => CommandEnd::Memory,
         SessionEnd::Refused { role, why } => end_at(*role, &Some(*why)),
         SessionEnd::NoDoor => CommandEnd::Unconnected,
         SessionEnd::Ended(ends) => end_of_workers(ends),

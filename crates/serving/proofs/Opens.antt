@@ -1,5 +1,5 @@
 -- How a session that was opened, or not, comes to its end.
-use Rattle.std.proofs.Common.{◌≡◌, ◌⊎◌, ℕ, ◌≤◌, ◌&&◌, Bool, true, false, List, Option, Some, None, inl, inr, IfSome, IfNone, refl, sym, ap, ◌∙◌, subst, arith}
+use Rattle.std.proofs.Common.{◌≡◌, ◌⊎◌, ℕ, ◌≤◌, ◌&&◌, Bool, true, false, List, Option, Some, None, inl, inr, refl, sym, ap, ◌∙◌, subst, arith}
 use Rattle.disk_model.specs.Disk.{Meaning}
 use Rattle.disk_model.specs.declared.name.Role.{Role}
 use Rattle.disk_model.specs.declared.name.Role.TheVariants as roles
@@ -10,44 +10,61 @@ use Rattle.recovery.specs.Calls.{Calls, CallsHigh, is_device, is_low, is_high}
 use Rattle.recovery.specs.Refusals.{refused_pump}
 use Rattle.recovery.specs.declared.why.Why.{Why}
 use Rattle.serving.specs.Sessions.{IfEnded, OpensBy, RoseAt, end_of, has_run, is_opened}
+use Rattle.std.specs.Prelude.{Result, Ok, Err, IfOk, IfErr, OnErr}
+use Rattle.serving.specs.declared.doors.NotServed.{NotServed}
+use Rattle.serving.specs.declared.doors.NotServed.TheVariants as not_served
 use Rattle.serving.specs.declared.doors.WorkersEnd.{WorkersEnd}
 use Rattle.serving.specs.declared.session.SessionEnd.{SessionEnd}
 use Rattle.serving.specs.declared.session.SessionEnd.TheVariants as ends
 
 -- ---- opened: with doors or without ----
 
-module _ (o : Option WorkersEnd) (end : SessionEnd) (is : end ≡ end_of o) where
-  pub ended_so : (P Q : WorkersEnd → Type 0) → IfSome o Q → ((e : WorkersEnd) → Q e → P e) → IfEnded end P
+module _ (o : Result WorkersEnd NotServed) (end : SessionEnd) (is : end ≡ end_of o) where
+  pub ended_so : (P Q : WorkersEnd → Type 0) → IfOk o Q → ((e : WorkersEnd) → Q e → P e) → IfEnded end P
   ended_so P Q h f = subst (λ (x : SessionEnd). IfEnded x P) (sym is) (by_ends o h) where
-    by_ends : (x : Option WorkersEnd) → IfSome x Q → IfEnded (end_of x) P
-    by_ends None h = tt
-    by_ends (Some e) h = f e h
+    by_ends : (x : Result WorkersEnd NotServed) → IfOk x Q → IfEnded (end_of x) P
+    by_ends (Err not_served.NoDoor) h = tt
+    by_ends (Err not_served.NoThread) h = tt
+    by_ends (Ok e) h = f e h
 
-  pub no_doors : (P : Type 0) → IfNone o P → has_run end ≡ false → P
+  pub no_doors : (P : Type 0) → OnErr o P → has_run end ≡ false → P
   no_doors P h none = by_ends o h (sym (ap has_run is) ∙ none) where
-    by_ends : (x : Option WorkersEnd) → IfNone x P → has_run (end_of x) ≡ false → P
-    by_ends None h none = h
-    by_ends (Some e) h none = absurd (cc)
+    by_ends : (x : Result WorkersEnd NotServed) → OnErr x P → has_run (end_of x) ≡ false → P
+    by_ends (Err why) h none = h
+    by_ends (Ok e) h none = absurd (cc)
 
-  pub wants_door : (P : Type 0) → IfNone o P → end ≡ ends.NoDoor → P
-  wants_door P h none = no_doors P h (ap has_run none)
+  pub wants_door : (P : Type 0) → IfErr o (λ why. why ≡ not_served.NoDoor → P) → end ≡ ends.NoDoor → P
+  wants_door P h none = by_ends o h (sym is ∙ none) where
+    by_ends : (x : Result WorkersEnd NotServed) → IfErr x (λ why. why ≡ not_served.NoDoor → P) → end_of x ≡ ends.NoDoor → P
+    by_ends (Err not_served.NoDoor) h none = h refl
+    by_ends (Err not_served.NoThread) h none = absurd (cc)
+    by_ends (Ok e) h none = absurd (cc)
+
+  pub wants_thread : (P : Type 0) → IfErr o (λ why. why ≡ not_served.NoThread → P) → end ≡ ends.NoThread → P
+  wants_thread P h none = by_ends o h (sym is ∙ none) where
+    by_ends : (x : Result WorkersEnd NotServed) → IfErr x (λ why. why ≡ not_served.NoThread → P) → end_of x ≡ ends.NoThread → P
+    by_ends (Err not_served.NoDoor) h none = absurd (cc)
+    by_ends (Err not_served.NoThread) h none = h refl
+    by_ends (Ok e) h none = absurd (cc)
 
   pub always_opened : is_opened end ≡ false → ⊥
   always_opened none = by_ends o (sym (ap is_opened is) ∙ none) where
-    by_ends : (x : Option WorkersEnd) → is_opened (end_of x) ≡ false → ⊥
-    by_ends None none = cc
-    by_ends (Some e) none = cc
+    by_ends : (x : Result WorkersEnd NotServed) → is_opened (end_of x) ≡ false → ⊥
+    by_ends (Err not_served.NoDoor) none = cc
+    by_ends (Err not_served.NoThread) none = cc
+    by_ends (Ok e) none = cc
 
   pub opens_so : {S : Type 0} (m : Meaning S) (row : SessionRow) (low high now_low now_high : S) → (m.tells → refused_pump row (m.reading low) (m.reading high) ≡ None) → OpensBy m row low high now_low now_high end
   opens_so m row low high now_low now_high fine = subst (λ (x : SessionEnd). OpensBy m row low high now_low now_high x) (sym is) (by_ends o) where
-    by_ends : (x : Option WorkersEnd) → OpensBy m row low high now_low now_high (end_of x)
-    by_ends None = fine
-    by_ends (Some e) = fine
+    by_ends : (x : Result WorkersEnd NotServed) → OpensBy m row low high now_low now_high (end_of x)
+    by_ends (Err not_served.NoDoor) = fine
+    by_ends (Err not_served.NoThread) = fine
+    by_ends (Ok e) = fine
 
 -- so with doors or without
-pub both_ways : (o : Option WorkersEnd) (P : Type 0) (Q : WorkersEnd → Type 0) (R : Type 0) → IfNone o R → (R → P) → IfSome o Q → ((e : WorkersEnd) → Q e → P) → P
-both_ways None P Q R none f some g = f none
-both_ways (Some e) P Q R none f some g = g e some
+pub both_ways : (o : Result WorkersEnd NotServed) (P : Type 0) (Q : WorkersEnd → Type 0) (R : Type 0) → OnErr o R → (R → P) → IfOk o Q → ((e : WorkersEnd) → Q e → P) → P
+both_ways (Err why) P Q R none f some g = f none
+both_ways (Ok e) P Q R none f some g = g e some
 
 -- ---- refused ----
 

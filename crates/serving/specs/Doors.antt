@@ -40,6 +40,11 @@ pub record AtDoor {D L : Type 0} (t : DoorsTell D L) (ports now_ports : List (Po
   pub did : t.did shut steps
   pub gave : Draws (t.gives opened) (t.gives shut) answers
 
+-- The doors of both ports were opened, and shut again.
+abbrev pub OpensAndShuts : {D L : Type 0} → (List (PortsStep L D) → Type 0) → (List (PortsStep L D) → Type 0) → ℕ → ℕ → Type 0
+OpensAndShuts {D} {L} ports now_ports first second =
+    (low : D) × (high : D) × Grows ports now_ports (Listened first low ∷ Listened second high ∷ ShutDoor low ∷ ShutDoor high ∷ [])
+
 -- A door was wanting: that of the first port, or that of the second one, and then the first was shut.
 abbrev pub WantDoor : {D L : Type 0} → (List (PortsStep L D) → Type 0) → (List (PortsStep L D) → Type 0) → ℕ → ℕ → Type 0
 WantDoor {D} {L} ports now_ports first second =

@@ -5,3 +5,4 @@ pub mod LowEnds
 pub mod LowRuns
 pub mod LowServing
 pub mod Sessions
+pub mod WorkerEnds

@@ -1,4 +1,4 @@
-ghost use Rattle.std.specs.Prelude.{◌≡◌, ◌≤◌, false, [], ◌∷◌, IfSome, IfNone, IfOk, OnErr};
+ghost use Rattle.std.specs.Prelude.{◌≡◌, ◌≤◌, false, [], ◌∷◌, IfOk, IfErr, OnErr};
 ghost use Rattle.disk_model.specs.Disk.{Meaning};
 ghost use Rattle.pump_frame.specs.Counts.{Rose};
 ghost use Rattle.pump_link.specs.Causes.{HasCause};
@@ -8,16 +8,18 @@ ghost use Rattle.low_process.specs.Ready.{Ready as LowReady};
 ghost use Rattle.low_process.specs.Looks.{last_of as low_last, is_down};
 ghost use Rattle.high_process.specs.Ready.{Ready as HighReady};
 ghost use Rattle.high_process.specs.States.{last_of as high_last};
-ghost use Rattle.serving.specs.Doors.{doors, links, WantDoor};
+ghost use Rattle.serving.specs.Doors.{doors, links, WantDoor, OpensAndShuts};
+ghost use Rattle.serving.specs.declared.doors.NotServed.TheVariants.{NoDoor, NoThread};
 ghost use Rattle.serving.specs.HighRuns.{HighLent};
 ghost use Rattle.serving.specs.LowRuns.{LowLent};
+ghost use Rattle.serving.specs.WorkerEnds.{workers_end};
 
 use crate::high_half::{HighHalf, HighParts};
 use crate::low_half::{LowHalf, LowParts};
 use crate::works::serve_halves;
 use disk_model::Disk;
 use passage::{WaitHighEnd, WaitLowEnd};
-use pump_frame::SessionRow;
+use pump_frame::{OutOfMemory, SessionRow};
 use pump_link::{Clock, Ports, PortsFault, Sink, Words};
 use relay_threads::RoundsEnd;
 use stable_buffer::{HighStore, LowStore};
@@ -31,10 +33,19 @@ pub struct WorkersEnd {
     pub high: RoundsEnd,
 }
 
-/// The stores of a session, and how its workers ended, unless a door was wanting.
+/// Why no worker ran.
+#[derive(Clone, Copy)]
+pub enum NotServed {
+    /// A port gave no door.
+    NoDoor,
+    /// The second thread could not be started.
+    NoThread,
+}
+
+/// The stores of a session, and how its workers ended, or why they did not run.
 #[derive(Drop)]
 pub struct ServedStores<D> {
-    pub ends: Option<WorkersEnd>,
+    pub ends: Result<WorkersEnd, NotServed>,
     pub low: LowStore<D>,
     pub high: HighStore<D>,
 }
@@ -55,6 +66,20 @@ fn open_doors<P: Ports>(ports: &mut P, row: &SessionRow) -> Result<(P::Door, P::
             ports.shut(low);
             Err(fault)
         }
+    }
+}
+
+// How the workers ended, or why they did not run.
+fn workers_end(
+    served: Result<(), OutOfMemory>,
+    low: RoundsEnd,
+    high: RoundsEnd,
+) -> Result<WorkersEnd, NotServed>
+    ensures { result ≡ workers_end served low high }
+{
+    match served {
+        Ok(()) => Ok(WorkersEnd { low, high }),
+        Err(OutOfMemory) => Err(NotServed::NoThread),
     }
 }
 
@@ -87,20 +112,20 @@ where
     requires low_order { low_last low.process ≤ K.floor low_clock.old }
     requires high { HighReady D.told high.process high.store (H.stands high.ends) }
     requires high_order { high_last high.process ≤ K.floor high_clock.old }
-    ensures low { IfSome result.ends (λ ends. LowLent (doors P.Door.port P.Door.did P.Door.gives (links P.Link.gives P.Link.sent P.Link.faults)) D.told W.gives
+    ensures low { IfOk result.ends (λ ends. LowLent (doors P.Door.port P.Door.did P.Door.gives (links P.Link.gives P.Link.sent P.Link.faults)) D.told W.gives
         (P.did ports.old) (P.did ports.new) (K.reads low_clock.old) (K.reads low_clock.new) (O.written tape.old) (O.written tape.new) (O.faults tape.old) (O.faults tape.new)
         row.now.low_port rounds low result.low ends.low) }
-    ensures high { IfSome result.ends (λ ends. HighLent (doors P.Door.port P.Door.did P.Door.gives (links P.Link.gives P.Link.sent P.Link.faults)) D.told
+    ensures high { IfOk result.ends (λ ends. HighLent (doors P.Door.port P.Door.did P.Door.gives (links P.Link.gives P.Link.sent P.Link.faults)) D.told
         (P.did ports.old) (P.did ports.new) (K.reads high_clock.old) (K.reads high_clock.new) row.now.high_port rounds high result.high ends.high) }
-    ensures wanting { IfNone result.ends (WantDoor (P.did ports.old) (P.did ports.new) row.now.low_port row.now.high_port) }
-    ensures cause { IfNone result.ends (Rose (P.faults ports.old) (P.faults ports.new)) }
-    ensures low_kept { IfNone result.ends (result.low ≡ low.store) }
-    ensures high_kept { IfNone result.ends (result.high ≡ high.store) }
-    ensures unused { IfNone result.ends ((low_clock.new ≡ low_clock.old) × (high_clock.new ≡ high_clock.old) × (tape.new ≡ tape.old)) }
+    ensures wanting { IfErr result.ends (λ why. why ≡ NoDoor → WantDoor (P.did ports.old) (P.did ports.new) row.now.low_port row.now.high_port × Rose (P.faults ports.old) (P.faults ports.new)) }
+    ensures unstarted { IfErr result.ends (λ why. why ≡ NoThread → OpensAndShuts (P.did ports.old) (P.did ports.new) row.now.low_port row.now.high_port) }
+    ensures low_kept { OnErr result.ends (result.low ≡ low.store) }
+    ensures high_kept { OnErr result.ends (result.high ≡ high.store) }
+    ensures unused { OnErr result.ends ((low_clock.new ≡ low_clock.old) × (high_clock.new ≡ high_clock.old) × (tape.new ≡ tape.old)) }
 {
     let Ok((low_door, high_door)) = open_doors(ports, row) else {
         return ServedStores {
-            ends: None,
+            ends: Err(NotServed::NoDoor),
             low: low.store,
             high: high.store,
         };
@@ -115,7 +140,7 @@ where
         parts: high,
         end: RoundsEnd::Rounds,
     };
-    serve_halves(
+    let served = serve_halves(
         rt,
         &mut low_half,
         low_clock,
@@ -137,10 +162,7 @@ where
     ports.shut(low_door);
     ports.shut(high_door);
     ServedStores {
-        ends: Some(WorkersEnd {
-            low: low_end,
-            high: high_end,
-        }),
+        ends: workers_end(served, low_end, high_end),
         low: low.store,
         high: high.store,
     }

@@ -2,12 +2,12 @@ ghost use Rattle.std.specs.Prelude.{◌≡◌, ◌+◌, ◌-◌, ◌≤◌, ℕ,
 ghost use Rattle.pump_core.specs.Passage.{Low, High, new_low, new_high};
 ghost use Rattle.pump_frame.specs.Counts.{Rose};
 ghost use Rattle.pump_frame.specs.Rows.{IsLawfulRow};
-ghost use Rattle.serving.specs.Doors.{doors, links, WantDoor};
+ghost use Rattle.serving.specs.Doors.{doors, links, WantDoor, OpensAndShuts};
 ghost use Rattle.serving.specs.HighServing.{HighServed};
 ghost use Rattle.serving.specs.LowServing.{LowServed};
 ghost use Rattle.serving.specs.Sessions.{IfEnded, end_of, has_run, is_opened, OpensBy};
 
-use crate::doors::{WorkersEnd, serve_doors};
+use crate::doors::{NotServed, WorkersEnd, serve_doors};
 use crate::starting::{start_high, start_low};
 use disk_model::{Disk, Role};
 use passage::{Calm, WaitHighEnd, WaitLowEnd};
@@ -28,6 +28,8 @@ pub enum SessionEnd {
     Refused { role: Role, why: Why },
     /// A port gave no door.
     NoDoor,
+    /// The second thread could not be started, for want of memory.
+    NoThread,
     /// Both workers served, and ended so.
     Ended(WorkersEnd),
 }
@@ -77,6 +79,7 @@ where
         (P.did ports.old) (P.did ports.new) (K.reads high_clock.old) (K.reads high_clock.new) high result.high ends.high) }
     ensures opens { OpensBy D.told row.now low high result.low result.high result.end }
     ensures wanting { result.end ≡ SessionEnd.NoDoor → WantDoor (P.did ports.old) (P.did ports.new) row.now.low_port row.now.high_port × Rose (P.faults ports.old) (P.faults ports.new) }
+    ensures unstarted { result.end ≡ SessionEnd.NoThread → OpensAndShuts (P.did ports.old) (P.did ports.new) row.now.low_port row.now.high_port }
     ensures closed { is_opened result.end ≡ false → ports.new ≡ ports.old }
     ensures idle { has_run result.end ≡ false → (low_clock.new ≡ low_clock.old) × (high_clock.new ≡ high_clock.old) × (tape.new ≡ tape.old) }
     ensures still { has_run result.end ≡ false → D.told.tells → (D.told.reading result.low ≡ D.told.reading low) × (D.told.reading result.high ≡ D.told.reading high) }
@@ -114,12 +117,13 @@ where
     }
 }
 
-fn end_of(ends: Option<WorkersEnd>) -> SessionEnd
+fn end_of(ends: Result<WorkersEnd, NotServed>) -> SessionEnd
     ensures { result ≡ end_of ends }
 {
     match ends {
-        None => SessionEnd::NoDoor,
-        Some(ends) => SessionEnd::Ended(ends),
+        Err(NotServed::NoDoor) => SessionEnd::NoDoor,
+        Err(NotServed::NoThread) => SessionEnd::NoThread,
+        Ok(ends) => SessionEnd::Ended(ends),
     }
 }
 
@@ -128,8 +132,8 @@ fn end_of(ends: Option<WorkersEnd>) -> SessionEnd
 /// of the low port and the high one at that of the high port. The low worker writes the record, its opening
 /// line first, and draws its words from the stream of the key. Neither disk is formatted.
 ///
-/// Both disks come back, and both doors are shut, however it ends. `Memory`, `Refused` and `NoDoor` come
-/// before anything is written and before a clock is read, and leave what the disks hold: `Refused` for the
+/// Both disks come back, and both doors are shut, however it ends. `Memory`, `Refused`, `NoDoor` and
+/// `NoThread` come before anything is written and before a clock is read, and leave what the disks hold: `Refused` for the
 /// first cause in the order of refusals, or where a call of that disk failed, and `NoDoor` only where the
 /// count of the ports rose. Otherwise both workers ended; `docs/architecture.md`, "Serving", has the rules
 /// of each.
@@ -165,6 +169,7 @@ where
     // The other ends, by their causes, and what they leave.
     ensures opens { OpensBy D.told row.now low high result.low result.high result.end }
     ensures wanting { result.end ≡ SessionEnd.NoDoor → WantDoor (P.did ports.old) (P.did ports.new) row.now.low_port row.now.high_port × Rose (P.faults ports.old) (P.faults ports.new) }
+    ensures unstarted { result.end ≡ SessionEnd.NoThread → OpensAndShuts (P.did ports.old) (P.did ports.new) row.now.low_port row.now.high_port }
     ensures closed { is_opened result.end ≡ false → ports.new ≡ ports.old }
     ensures idle { has_run result.end ≡ false → (low_clock.new ≡ low_clock.old) × (high_clock.new ≡ high_clock.old) × (tape.new ≡ tape.old) }
     ensures still { has_run result.end ≡ false → D.told.tells → (D.told.reading result.low ≡ D.told.reading low) × (D.told.reading result.high ≡ D.told.reading high) }

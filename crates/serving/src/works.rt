@@ -1,10 +1,11 @@
-ghost use Rattle.std.specs.Prelude.{◌≡◌};
+ghost use Rattle.std.specs.Prelude.{◌≡◌, OnOk, OnErr};
 
-use relay_threads::{Work, run_pair};
+use pump_frame::OutOfMemory;
+use relay_threads::{Work, try_run_pair};
 use std::sync::Wait;
 use std::thread::Threads;
 
-// A work of `run_pair` holds references alone, each to a value of a type parameter, and its relation
+// A work of `try_run_pair` holds references alone, each to a value of a type parameter, and its relation
 // begins with their names: so the caller learns what became of each value that it lent.
 
 /// The low half of a session, which serves by a clock and writes a record: both are lent to it.
@@ -72,7 +73,8 @@ impl<S: ServesHigh<K>, K> Work for HighWork<'_, '_, S, K> {
     }
 }
 
-/// Lets both halves serve for so many rounds, side by side in two threads.
+/// Lets both halves serve for so many rounds, side by side in two threads. `OutOfMemory` where the second
+/// thread can't be started: then nothing was done.
 pub fn serve_halves<
     R: Threads + Wait + Sync,
     S: ServesLow<K, O> + Send,
@@ -87,11 +89,12 @@ pub fn serve_halves<
     high: &mut T,
     high_clock: &mut K,
     rounds: u32,
-)
+) -> Result<(), OutOfMemory>
     requires low { S.can_serve low.old low_clock.old tape.old }
     requires high { T.can_serve high.old high_clock.old }
-    ensures low { S.served rounds low.old low.new low_clock.old low_clock.new tape.old tape.new }
-    ensures high { T.served rounds high.old high.new high_clock.old high_clock.new }
+    ensures low { OnOk result (S.served rounds low.old low.new low_clock.old low_clock.new tape.old tape.new) }
+    ensures high { OnOk result (T.served rounds high.old high.new high_clock.old high_clock.new) }
+    ensures kept { OnErr result ((low.new ≡ low.old) × (low_clock.new ≡ low_clock.old) × (tape.new ≡ tape.old) × (high.new ≡ high.old) × (high_clock.new ≡ high_clock.old)) }
 {
     let mut low_work = LowWork {
         half: low,
@@ -104,5 +107,5 @@ pub fn serve_halves<
         clock: high_clock,
         rounds,
     };
-    run_pair(rt, &mut low_work, &mut high_work);
+    try_run_pair(rt, &mut low_work, &mut high_work)
 }

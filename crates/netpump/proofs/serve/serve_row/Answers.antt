@@ -43,6 +43,7 @@ returns-clause-serves g c = λ told tells.
         high_left = sym (ap reading_in (b.high_back told));
         opens = s.ensures.opens;
         wanting = λ none. (s.ensures.wanting none).0;
+        unstarted = s.ensures.unstarted;
         low_worker = s.ensures.low;
         high_worker = s.ensures.high;
         still = λ none.

@@ -10,7 +10,7 @@ use Rattle.serving.specs.declared.doors.WorkersEnd.{WorkersEnd}
 use Rattle.serving.proofs.Dealt.{comes_next, first_number, held_is}
 use Rattle.serving.proofs.HighServes.{high_served, high_counts}
 use Rattle.serving.proofs.LowServes.{low_served, low_counts}
-use Rattle.serving.proofs.Opens.{ended_so, no_doors, wants_door, always_opened, opens_so, both_ways, high_calls, rose_so}
+use Rattle.serving.proofs.Opens.{ended_so, no_doors, wants_door, wants_thread, always_opened, opens_so, both_ways, high_calls, rose_so}
 use Rattle.serving.proofs.session.serve_over.Goals as goal
 
 pub open_pump_waiting-requires-clause-fresh : goal.open_pump_waiting-requires-clause-fresh
@@ -76,7 +76,12 @@ returns-clause-opens g c =
 pub returns-clause-wanting : goal.returns-clause-wanting
 returns-clause-wanting g c = λ is.
     let served = c.serve_doors-served in
-    (wants_door served.result.ends c.end_of.result c.end_of.ensures _ served.ensures.wanting is, wants_door served.result.ends c.end_of.result c.end_of.ensures _ served.ensures.cause is)
+    wants_door served.result.ends c.end_of.result c.end_of.ensures _ served.ensures.wanting is
+
+pub returns-clause-unstarted : goal.returns-clause-unstarted
+returns-clause-unstarted g c = λ is.
+    let served = c.serve_doors-served in
+    wants_thread served.result.ends c.end_of.result c.end_of.ensures _ served.ensures.unstarted is
 
 pub returns-clause-closed : goal.returns-clause-closed
 returns-clause-closed g c = λ none. absurd (always_opened c.serve_doors-served.result.ends c.end_of.result c.end_of.ensures none)

@@ -101,6 +101,7 @@ begun_alone o p (lines.Session row ∷ script) after printed row' next held rest
 begun_alone o p (lines.Coarse session ∷ script) after printed row next held rest is (mid, first, second, h, later, e) = absurd h
 begun_alone o p (lines.Look session m w z ∷ script) after printed row next held rest is (mid, first, second, h, later, e) = absurd h
 begun_alone o p (lines.Told session m w fault told z ∷ script) after printed row next held rest is (mid, first, second, h, later, e) = absurd h
+begun_alone o p (lines.Step session m w ∷ script) after printed row next held rest is (mid, first, second, h, later, e) = absurd h
 begun_alone o p (lines.Gone session m ∷ script) after printed row next held rest is (mid, first, second, h, later, e) = absurd h
 begun_alone o p (lines.High session m ∷ script) after printed row next held rest is (mid, first, second, h, later, e) = absurd h
 begun_alone o p (lines.Carry session back ∷ script) after printed row next held rest is (mid, first, second, h, later, e) = absurd h

@@ -63,8 +63,8 @@ impl PlainEnds {
         Ok(PlainEnds { items, window })
     }
 
-    /// From now on an average is its level. It is made so before a time is published or an average
-    /// read.
+    /// From now on an average is its level. What the ends stood for they stand for still where no
+    /// average was read.
     pub fn make_coarse(&mut self)
         ensures stands { (l : Low) (h : High) → StandsFor self.old l h → l.pairs ≡ [] → StandsFor self.new l h }
         ensures shape { shape_of self.new ≡ coarse_shape (shape_of self.old) }

@@ -10,7 +10,7 @@ abbrev pub least_capacity : ℕ
 least_capacity = 3
 
 abbrev pub greatest_capacity : ℕ
-greatest_capacity = 64
+greatest_capacity = 256
 
 -- a number from `least` to `greatest`
 abbrev pub is_within : ℕ → ℕ → ℕ → Bool

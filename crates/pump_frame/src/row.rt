@@ -7,7 +7,7 @@ use crate::name::Name;
 pub const LEAST_CAPACITY: u32 = 3;
 
 /// The greatest number of messages that a row lets the relay hold.
-pub const GREATEST_CAPACITY: u32 = 64;
+pub const GREATEST_CAPACITY: u32 = 256;
 
 /// One session of the table: who may use it, and its numbers. All times are in microseconds.
 #[derive(Clone, Copy)]
@@ -50,6 +50,7 @@ pub enum RowKey {
     Resend,
     LowPort,
     HighPort,
+    Coarse,
 }
 
 fn is_within(value: u32, least: u32, greatest: u32) -> bool

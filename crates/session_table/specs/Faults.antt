@@ -1,5 +1,6 @@
 -- What the fault line of a refusal has, and the ranges that its sentence names.
 use Rattle.std.specs.Prelude.{ℕ, Option, None, Some}
+use Rattle.pump_frame.specs.Rows.{least_capacity, greatest_capacity}
 use Rattle.pump_frame.specs.declared.row.RowKey.{RowKey}
 use Rattle.pump_frame.specs.declared.row.RowKey.TheVariants.{Id, Capacity, Message, Window, Start, Longest, Resend, LowPort, HighPort}
 use Rattle.session_table.specs.declared.fault.TableFault.{TableFault}
@@ -32,7 +33,7 @@ fault_row Memory = 0
 -- the least and the greatest number that a key may have
 abbrev pub range_of : RowKey → Option (ℕ × ℕ)
 range_of Id = Some (0, 4294967295)
-range_of Capacity = Some (3, 64)
+range_of Capacity = Some (least_capacity, greatest_capacity)
 range_of Message = Some (1, 1024)
 range_of Window = Some (1, 256)
 range_of Start = Some (0, 1000000000)

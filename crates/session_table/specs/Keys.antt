@@ -3,7 +3,7 @@ use Rattle.std.specs.Prelude.{ℕ, ◌||◌, Bool, false, not, List, [], ◌∷�
 use Rattle.std.specs.Str.{bytes_eq}
 use Rattle.std.specs.List.{list_any}
 use Rattle.pump_frame.specs.declared.row.RowKey.{RowKey}
-use Rattle.pump_frame.specs.declared.row.RowKey.TheVariants.{Session, Id, Low, High, Capacity, Message, Window, Start, Longest, Resend, LowPort, HighPort}
+use Rattle.pump_frame.specs.declared.row.RowKey.TheVariants.{Session, Id, Low, High, Capacity, Message, Window, Start, Longest, Resend, LowPort, HighPort, Coarse}
 use Rattle.toml.specs.Data.{Members, no_members, member}
 
 -- a key's name in a document
@@ -20,10 +20,11 @@ key_name Longest = codes "longest"
 key_name Resend = codes "resend"
 key_name LowPort = codes "low_port"
 key_name HighPort = codes "high_port"
+key_name Coarse = codes "coarse"
 
--- the eleven keys of a row, in their order
+-- the twelve keys that a row may have, in their order; the last one alone may be left out
 abbrev pub row_keys : List RowKey
-row_keys = Id ∷ Low ∷ High ∷ Capacity ∷ Message ∷ Window ∷ Start ∷ Longest ∷ Resend ∷ LowPort ∷ HighPort ∷ []
+row_keys = Id ∷ Low ∷ High ∷ Capacity ∷ Message ∷ Window ∷ Start ∷ Longest ∷ Resend ∷ LowPort ∷ HighPort ∷ Coarse ∷ []
 
 -- the name is that of one of these keys
 abbrev pub is_named : List RowKey → List ℕ → Bool

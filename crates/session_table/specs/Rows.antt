@@ -1,20 +1,20 @@
 -- A row of a document: by itself, and beside the rows before it.
 use Rattle.std.specs.Prelude.{ℕ, pos, is_some, ◌||◌, ◌==◌, Bool, false, if◌then◌else◌, List, Some, Result, Ok, Err}
 use Rattle.std.specs.List.{list_any}
-use Rattle.pump_frame.specs.Rows.{first_bad}
+use Rattle.pump_frame.specs.Rows.{least_capacity, first_bad}
 use Rattle.pump_frame.specs.declared.row.SessionRow.{SessionRow}
 use Rattle.pump_frame.specs.declared.row.RowKey.{RowKey}
-use Rattle.pump_frame.specs.declared.row.RowKey.TheVariants.{Id, Low, High, Capacity, Message, Window, Start, Longest, Resend, LowPort, HighPort}
+use Rattle.pump_frame.specs.declared.row.RowKey.TheVariants.{Id, Low, High, Capacity, Message, Window, Start, Longest, Resend, LowPort, HighPort, Coarse}
 use Rattle.session_table.specs.declared.fault.TableFault.{TableFault}
 use Rattle.session_table.specs.declared.fault.TableFault.TheVariants.{UnknownKey, OutOfRange, TwiceId, TwicePort}
 use Rattle.session_table.specs.Keys.{row_keys, has_other}
-use Rattle.session_table.specs.Values.{◌>>=◌, whole_at, name_at}
+use Rattle.session_table.specs.Values.{◌>>=◌, whole_at, name_at, truth_at}
 use Rattle.toml.specs.Data.{Members}
 
 -- A row of these three. Its numbers are some that are in their ranges; the document's own replace
 -- them one by one.
 abbrev pub begun : ℕ → List ℕ → List ℕ → SessionRow
-begun id low high = record { id = id; low = low; high = high; capacity = 3; message = 1; window = 1; start = 0; longest = 0; resend = 1; low_port = 1; high_port = 1; coarse = false }
+begun id low high = record { id = id; low = low; high = high; capacity = least_capacity; message = 1; window = 1; start = 0; longest = 0; resend = 1; low_port = 1; high_port = 1; coarse = false }
 
 -- the row with this number at this key
 abbrev pub with_number : SessionRow → RowKey → ℕ → SessionRow
@@ -44,7 +44,7 @@ numbered place members row =
     >>= filled place members Longest
     >>= filled place members Resend
 
--- a row by itself: no other key, then each key in its order
+-- a row by itself: no other key, then each key in its order, of which the last may be left out
 unfoldable pub row_of : ℕ → Members → Result SessionRow TableFault
 row_of place members =
     if has_other row_keys members then Err (UnknownKey place) else (do
@@ -54,7 +54,8 @@ row_of place members =
       row ← numbered place members (begun id low high)
       low_port ← whole_at place LowPort 1 65535 members
       high_port ← whole_at place HighPort 1 65535 members
-      Ok (record row { low_port = low_port; high_port = high_port }))
+      coarse ← truth_at place Coarse members
+      Ok (record row { low_port = low_port; high_port = high_port; coarse = coarse }))
 
 -- an earlier row has this id, or this port
 abbrev pub has_id : List SessionRow → ℕ → Bool

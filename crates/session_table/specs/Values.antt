@@ -1,13 +1,13 @@
--- What stands at one key of one row: a number, a name, or the first thing that is wrong there. A row
+-- What stands at one key of one row: a number, a name, a truth value, or the first thing that is wrong there. A row
 -- is told by its place, counted from 1.
-use Rattle.std.specs.Prelude.{ℕ, ℤ, pos, int_le, nat_abs, nat_le, nat_lt, ◌&&◌, Bool, if◌then◌else◌, List, length, Option, None, Some, Result, Ok, Err}
+use Rattle.std.specs.Prelude.{ℕ, ℤ, pos, int_le, nat_abs, nat_le, nat_lt, ◌&&◌, Bool, false, if◌then◌else◌, List, length, Option, None, Some, Result, Ok, Err}
 use Rattle.std.specs.List.{list_all}
 use Rattle.pump_frame.specs.Names.{is_name_byte}
 use Rattle.pump_frame.specs.declared.row.RowKey.{RowKey}
 use Rattle.session_table.specs.declared.fault.TableFault.{TableFault}
 use Rattle.session_table.specs.declared.fault.TableFault.TheVariants.{MissingKey, OutOfRange, Name}
 use Rattle.session_table.specs.Keys.{key_name}
-use Rattle.toml.specs.Data.{Data, Members, get_member, as_integer, as_str}
+use Rattle.toml.specs.Data.{Data, Members, get_member, as_integer, as_str, as_bool}
 
 -- what was read goes on to the next step; a refusal ends the reading
 infixl 10 ◌>>=◌
@@ -42,3 +42,16 @@ whole_at row key least greatest members = required row key (get_member (key_name
 
 abbrev pub name_at : ℕ → RowKey → Members → Result (List ℕ) TableFault
 name_at row key members = required row key (get_member (key_name key) members) >>= λ value. name_of row key (as_str value)
+
+-- a truth value; where none has to stand and nothing does, false
+abbrev pub truth_of : ℕ → RowKey → Option Bool → Result Bool TableFault
+truth_of row key None = Err (OutOfRange row key None)
+truth_of row key (Some truth) = Ok truth
+
+abbrev pub truth_or_false : ℕ → RowKey → Option Data → Result Bool TableFault
+truth_or_false row key None = Ok false
+truth_or_false row key (Some value) = truth_of row key (as_bool value)
+
+-- the truth value at a key that may be left out
+abbrev pub truth_at : ℕ → RowKey → Members → Result Bool TableFault
+truth_at row key members = truth_or_false row key (get_member (key_name key) members)

@@ -7,8 +7,9 @@ ghost use Rattle.session_table.specs.Keys.{key_name, is_named, has_other};
 use pump_frame::RowKey;
 use toml::Table as Members;
 
-/// The keys of a row, in the order in which they are looked at.
-pub(crate) const ROW_KEYS: [RowKey; 11] = [
+/// The keys that a row may have, in the order in which they are looked at. `Coarse` alone may be left
+/// out.
+pub(crate) const ROW_KEYS: [RowKey; 12] = [
     RowKey::Id,
     RowKey::Low,
     RowKey::High,
@@ -20,6 +21,7 @@ pub(crate) const ROW_KEYS: [RowKey; 11] = [
     RowKey::Resend,
     RowKey::LowPort,
     RowKey::HighPort,
+    RowKey::Coarse,
 ];
 
 /// A key's name in a document.
@@ -39,6 +41,7 @@ pub(crate) fn key_name(key: RowKey) -> &'static str
         RowKey::Resend => "resend",
         RowKey::LowPort => "low_port",
         RowKey::HighPort => "high_port",
+        RowKey::Coarse => "coarse",
     }
 }
 

@@ -7,8 +7,8 @@ ghost use Rattle.session_table.specs.Tables.{AreApart};
 
 use crate::TableFault;
 use crate::key::{ROW_KEYS, has_other};
-use crate::value::{name_at, port_at, whole_at};
-use pump_frame::{Name, RowKey, SessionRow};
+use crate::value::{name_at, port_at, truth_at, whole_at};
+use pump_frame::{LEAST_CAPACITY, Name, RowKey, SessionRow};
 use toml::Table as Members;
 
 // A row of these three. Only a whole row can be asked for its ranges, so it begins with some numbers
@@ -21,7 +21,7 @@ fn begun(id: u32, low: Name, high: Name) -> SessionRow
         id,
         low,
         high,
-        capacity: 3,
+        capacity: LEAST_CAPACITY,
         message: 1,
         window: 1,
         start: 0,
@@ -116,9 +116,11 @@ pub(crate) fn row_of(place: u32, members: &Members) -> Result<SessionRow, TableF
     let row = numbered(place, members, begun(id, low, high))?;
     let low_port = port_at(place, RowKey::LowPort, members)?;
     let high_port = port_at(place, RowKey::HighPort, members)?;
+    let coarse = truth_at(place, RowKey::Coarse, members)?;
     Ok(SessionRow {
         low_port,
         high_port,
+        coarse,
         ..row
     })
 }

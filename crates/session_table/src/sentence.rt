@@ -3,7 +3,7 @@ ghost use Rattle.session_table.specs.Faults.{range_of};
 
 use crate::TableFault;
 use crate::key::key_name;
-use pump_frame::RowKey;
+use pump_frame::{GREATEST_CAPACITY, LEAST_CAPACITY, RowKey};
 use std::error::Error;
 use std::fmt;
 
@@ -14,7 +14,7 @@ fn range(key: RowKey) -> Option<(u32, u32)>
 {
     match key {
         RowKey::Id => Some((0, u32::MAX)),
-        RowKey::Capacity => Some((3, 64)),
+        RowKey::Capacity => Some((LEAST_CAPACITY, GREATEST_CAPACITY)),
         RowKey::Message => Some((1, 1024)),
         RowKey::Window => Some((1, 256)),
         RowKey::Start => Some((0, 1_000_000_000)),
@@ -22,7 +22,15 @@ fn range(key: RowKey) -> Option<(u32, u32)>
         RowKey::Resend => Some((1, 1_000_000_000)),
         RowKey::LowPort => Some((1, 65535)),
         RowKey::HighPort => Some((1, 65535)),
-        RowKey::Session | RowKey::Low | RowKey::High => None,
+        RowKey::Session | RowKey::Low | RowKey::High | RowKey::Coarse => None,
+    }
+}
+
+/// What a value has to be, in a word or two, at a key that is no name.
+fn kind(key: RowKey) -> &'static str {
+    match key {
+        RowKey::Coarse => "truth value",
+        _ => "whole number",
     }
 }
 
@@ -34,6 +42,7 @@ impl fmt::Display for Wanted {
     fn fmt<W: fmt::Write>(&self, f: &mut fmt::Formatter<W>) -> fmt::Result {
         match range(self.0) {
             Some((least, greatest)) => write!(f, "a whole number from {least} to {greatest}"),
+            None if self.0 == RowKey::Coarse => write!(f, "true or false, without quotes"),
             None => write!(f, "a name in quotes, 1 to 32 of a to z, 0 to 9 and -"),
         }
     }
@@ -60,7 +69,7 @@ impl fmt::Display for TableFault {
             ),
             TableFault::UnknownKey { row } => write!(
                 f,
-                "row {row} of the table has a key that is none of id, low, high, capacity, message, window, start, longest, resend, low_port and high_port; take it out or mend its name"
+                "row {row} of the table has a key that is none of id, low, high, capacity, message, window, start, longest, resend, low_port, high_port and coarse; take it out or mend its name"
             ),
             TableFault::OutOfRange { row: 0, .. } => write!(
                 f,
@@ -68,15 +77,10 @@ impl fmt::Display for TableFault {
             ),
             TableFault::OutOfRange { row, key, value } => {
                 let (name, wanted) = (key_name(*key), Wanted(*key));
+                write!(f, "row {row} of the table has ")?;
                 match value {
-                    Some(value) => write!(
-                        f,
-                        "row {row} of the table has {name} = {value}; give it {wanted}"
-                    ),
-                    None => write!(
-                        f,
-                        "row {row} of the table has no whole number as its {name}; give it {wanted}"
-                    ),
+                    Some(value) => write!(f, "{name} = {value}; give it {wanted}"),
+                    None => write!(f, "no {} as its {name}; give it {wanted}", kind(*key)),
                 }
             }
             TableFault::Name { row, key } => {

@@ -1,7 +1,8 @@
 use crate::TableFault::{NotToml, TooMany, TwiceId, TwicePort, UnknownKey};
 use crate::{Table, TableFault};
 use pump_frame::RowKey::{
-    Capacity, High, HighPort, Id, Longest, Low, LowPort, Message, Resend, Session, Start, Window,
+    Capacity, Coarse, High, HighPort, Id, Longest, Low, LowPort, Message, Resend, Session, Start,
+    Window,
 };
 use pump_frame::{Name, RowKey, SessionRow};
 use std::alloc::{AllocError, Global};
@@ -31,7 +32,8 @@ longest = 1_000_000_000
 start = 0
 window = 256
 message = 1024
-capacity = 64
+capacity = 256
+coarse = true
 high = "-"
 low = "a-name-of-thirty-two-bytes-00009"
 id = 4294967295
@@ -39,6 +41,7 @@ id = 4294967295
 
 fn is_first(row: &SessionRow) -> bool {
     (row.id, row.capacity, row.message, row.window) == (1, 3, 8, 2)
+        && !row.coarse
         && (row.start, row.longest, row.resend) == (20000, 100_000, 500_000)
         && (row.low_port, row.high_port) == (7001, 7002)
         && row.low.as_slice() == b"weather".as_slice()
@@ -46,7 +49,8 @@ fn is_first(row: &SessionRow) -> bool {
 }
 
 fn is_second(row: &SessionRow) -> bool {
-    (row.id, row.capacity, row.message, row.window) == (u32::MAX, 64, 1024, 256)
+    (row.id, row.capacity, row.message, row.window) == (u32::MAX, 256, 1024, 256)
+        && row.coarse
         && (row.start, row.longest, row.resend) == (0, 1_000_000_000, 1)
         && (row.low_port, row.high_port) == (65535, 7004)
         && row.low.as_slice() == b"a-name-of-thirty-two-bytes-00009".as_slice()
@@ -80,6 +84,22 @@ fn a_table_has_the_rows_of_its_document(rt: HostRuntime) -> Result<(), Fail> {
             table.is_ok_and(|table| table.rows().len() == rows),
             "{document}"
         );
+    }
+    Ok(())
+}
+
+#[test]
+fn a_row_has_its_capacity_and_is_coarse_where_it_says_so(rt: HostRuntime) -> Result<(), Fail> {
+    for (to, wanted) in [
+        ("capacity = 65", (65, false)),
+        ("capacity = 256", (256, false)),
+        ("capacity = 3\ncoarse = true", (3, true)),
+        ("coarse = false\ncapacity = 4", (4, false)),
+    ] {
+        let text = FIRST.replace(rt.alloc(), "capacity = 3", to)?;
+        let table = Table::read(rt.alloc(), text.as_bytes()).ok().ok_or(to)?;
+        let row = table.row(1).ok_or(to)?;
+        assert_eq!(rt; (row.capacity, row.coarse), wanted, "{to}");
     }
     Ok(())
 }
@@ -130,6 +150,10 @@ fn no_number(row: u32, key: RowKey) -> TableFault {
     }
 }
 
+fn no_truth(row: u32) -> TableFault {
+    no_number(row, Coarse)
+}
+
 fn no_name(row: u32, key: RowKey) -> TableFault {
     TableFault::Name { row, key }
 }
@@ -151,7 +175,11 @@ fn a_row_is_refused_for_the_first_thing_that_is_wrong(rt: HostRuntime) -> Result
             missing(1, Capacity),
         ),
         ("capacity = 3", "capacity = 2", outside(1, Capacity, 2)),
-        ("capacity = 64", "capacity = 65", outside(2, Capacity, 65)),
+        (
+            "capacity = 256",
+            "capacity = 257",
+            outside(2, Capacity, 257),
+        ),
         ("capacity = 3", "capacity = -1", outside(1, Capacity, -1)),
         ("capacity = 3", "capacity = 3.0", no_number(1, Capacity)),
         ("capacity = 3", "capacity = \"3\"", no_number(1, Capacity)),
@@ -197,7 +225,9 @@ fn a_row_is_refused_for_the_first_thing_that_is_wrong(rt: HostRuntime) -> Result
             TwicePort { row: 2, port: 7001 },
         ),
         ("id = 1\n", "identity = 1\n", UnknownKey { row: 1 }),
-        ("resend = 1\n", "coarse = true\n", UnknownKey { row: 2 }),
+        ("= true", "= \"yes\"", no_truth(2)),
+        ("= true", "= 1", no_truth(2)),
+        ("high_port = 7002", "coarse = 1", missing(1, HighPort)),
         ("capacity = 3", "capacity = 3\ncapacity = 3", NotToml),
         ("capacity = 3", "capacity = 9223372036854775808", NotToml),
     ] {
@@ -281,7 +311,7 @@ fn a_refusal_says_what_to_mend(rt: HostRuntime) -> Result<(), Fail> {
         says(
             alloc,
             UnknownKey { row: 3 },
-            "row 3 of the table has a key that is none of id, low, high, capacity, message, window, start, longest, resend, low_port and high_port; take it out or mend its name"
+            "row 3 of the table has a key that is none of id, low, high, capacity, message, window, start, longest, resend, low_port, high_port and coarse; take it out or mend its name"
         )?
     );
     assert!(rt;
@@ -295,7 +325,7 @@ fn a_refusal_says_what_to_mend(rt: HostRuntime) -> Result<(), Fail> {
         says(
             alloc,
             outside(1, Capacity, 2),
-            "row 1 of the table has capacity = 2; give it a whole number from 3 to 64"
+            "row 1 of the table has capacity = 2; give it a whole number from 3 to 256"
         )?
     );
     assert!(rt;
@@ -303,6 +333,13 @@ fn a_refusal_says_what_to_mend(rt: HostRuntime) -> Result<(), Fail> {
             alloc,
             no_number(1, LowPort),
             "row 1 of the table has no whole number as its low_port; give it a whole number from 1 to 65535"
+        )?
+    );
+    assert!(rt;
+        says(
+            alloc,
+            no_truth(1),
+            "row 1 of the table has no truth value as its coarse; give it true or false, without quotes"
         )?
     );
     assert!(rt;

@@ -1,9 +1,9 @@
 ghost use Rattle.std.specs.Prelude.{◌≡◌, ◌<◌, ◌≤◌, IfOk, option_map};
-ghost use Rattle.toml.specs.Data.{get_member, as_integer, as_str};
+ghost use Rattle.toml.specs.Data.{get_member, as_integer, as_str, as_bool};
 ghost use Rattle.toml.specs.View.{view, table_view};
 ghost use Rattle.session_table.specs.Answers.{LendsBy};
 ghost use Rattle.session_table.specs.Keys.{key_name};
-ghost use Rattle.session_table.specs.Values.{required, whole_of, whole_at, name_of, name_at};
+ghost use Rattle.session_table.specs.Values.{required, whole_of, whole_at, name_of, name_at, truth_of, truth_at};
 
 use crate::TableFault;
 use crate::key::key_name;
@@ -98,4 +98,27 @@ pub(crate) fn name_at(row: u32, key: RowKey, members: &Members) -> Result<Name, 
     ensures { result ≡ name_at row key (table_view members.now) }
 {
     name_of(row, key, required(row, key, members)?)
+}
+
+fn truth_of(row: u32, key: RowKey, value: &Value) -> Result<bool, TableFault>
+    ensures { result ≡ truth_of row key (as_bool (view value.now)) }
+{
+    match value.as_bool() {
+        Some(truth) => Ok(truth),
+        None => Err(TableFault::OutOfRange {
+            row,
+            key,
+            value: None,
+        }),
+    }
+}
+
+/// The truth value at a key that may be left out; without it false.
+pub(crate) fn truth_at(row: u32, key: RowKey, members: &Members) -> Result<bool, TableFault>
+    ensures { result ≡ truth_at row key (table_view members.now) }
+{
+    match found(key, members) {
+        Some(value) => truth_of(row, key, value),
+        None => Ok(false),
+    }
 }

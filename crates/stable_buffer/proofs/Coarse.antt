@@ -12,7 +12,7 @@ module _ (row : SessionRow) where
   made = record row { coarse = true }
 
   header : (role : ℕ) (front : List ℕ) → HasHeader row role front → HasHeader made role front
-  header role front h = record { mark = h.mark; numbers = h.numbers }
+  header role front h = record { version = h.version; known = h.known; mark = h.mark; numbers = h.numbers }
 
   slot : (n : ℕ) (message disk : List ℕ) → InSlot row n message disk → InSlot made n message disk
   slot n message disk s = record { fits = s.fits; bytes = s.bytes }

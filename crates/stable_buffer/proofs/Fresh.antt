@@ -6,7 +6,7 @@ use Rattle.byteorder.specs.Endian.{big_bytes}
 use Rattle.byteorder.specs.Numbers.{big_number-reads_back}
 use Rattle.stable_buffer.specs.Numbers.{number_at}
 use Rattle.stable_buffer.specs.Register.{cell_at, place_of, selected, value_of}
-use Rattle.stable_buffer.specs.Stands.{HasHeader}
+use Rattle.stable_buffer.specs.Stands.{HasHeader, newest_version}
 use Rattle.stable_buffer.specs.Format.{header_of, FormatStands, role_byte, second_of, size_of}
 use Rattle.pump_frame.specs.declared.row.SessionRow.{SessionRow}
 use Rattle.disk_model.specs.declared.name.Role.{Role}
@@ -27,7 +27,7 @@ selector_zero row role first second = refl
 
 header_has : (row : SessionRow) (role first second : ℕ) → HasHeader row role (take 32 (header_of row role first second))
 unfolding header_of
-header_has row role first second = record { mark = refl; numbers = refl }
+header_has row role first second = record { version = newest_version; known = refl; mark = refl; numbers = refl }
 
 pub header_length : (row : SessionRow) (role first second : ℕ) → length (header_of row role first second) ≡ 80
 unfolding header_of

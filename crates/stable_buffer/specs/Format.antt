@@ -5,7 +5,7 @@ use Rattle.pump_frame.specs.declared.row.SessionRow.{SessionRow}
 use Rattle.disk_model.specs.declared.name.Role.{Role}
 use Rattle.disk_model.specs.declared.name.Role.TheVariants.{Low, High, Recv}
 use Rattle.stable_buffer.specs.Log.{RecvStands}
-use Rattle.stable_buffer.specs.Stands.{LowStands, HighStands, low_size}
+use Rattle.stable_buffer.specs.Stands.{LowStands, HighStands, low_size, newest_version}
 
 -- L, H or R
 abbrev pub role_byte : Role → ℕ
@@ -28,7 +28,7 @@ size_of row Recv = 80
 -- the first 80 bytes of a new disk, with these numbers in its selected cell
 unfoldable pub header_of : SessionRow → ℕ → ℕ → ℕ → List ℕ
 header_of row role first second =
-    (78 ∷ 80 ∷ 68 ∷ 49 ∷ role ∷ 1 ∷ 0 ∷ 0 ∷ [])
+    (78 ∷ 80 ∷ 68 ∷ 49 ∷ role ∷ newest_version ∷ 0 ∷ 0 ∷ [])
     ++ big_bytes 4 row.id
     ++ big_bytes 4 row.capacity
     ++ big_bytes 4 row.message

@@ -1,12 +1,26 @@
 -- What the disks of a session stand for.
-use Rattle.std.specs.Prelude.{◌≡◌, ◌⊎◌, ℕ, ◌+◌, ◌*◌, ◌%◌, ◌<◌, ◌≤◌, List, [], ◌∷◌, ◌++◌, length, take, drop, slice_index_or}
+use Rattle.std.specs.Prelude.{◌≡◌, ◌⊎◌, ℕ, ◌+◌, ◌*◌, ◌%◌, ◌<◌, ◌≤◌, ◌==◌, ◌&&◌, ◌||◌, nat_le, Bool, true, List, [], ◌∷◌, ◌++◌, length, take, drop, slice_index_or}
 use Rattle.byteorder.specs.Endian.{big_bytes}
 use Rattle.pump_frame.specs.declared.row.SessionRow.{SessionRow}
 use Rattle.stable_buffer.specs.Register.{value_of}
 
+-- the version of a new disk
+abbrev pub newest_version : ℕ
+newest_version = 2
+
+-- the greatest capacity of a disk of version 1
+abbrev pub first_version_capacity : ℕ
+first_version_capacity = 64
+
+-- a row's disk may have this version: the newest, or 1 where that reaches its capacity
+abbrev pub is_version : SessionRow → ℕ → Bool
+is_version row version = version == newest_version || (version == 1 && nat_le row.capacity first_version_capacity)
+
 -- the first bytes of a disk: the mark, the role and the version, and the row's three numbers
 pub record HasHeader (row : SessionRow) (role : ℕ) (front : List ℕ) : Type 0 where
-  pub mark : take 6 front ≡ 78 ∷ 80 ∷ 68 ∷ 49 ∷ role ∷ 1 ∷ []
+  pub version : ℕ
+  pub known : is_version row version ≡ true
+  pub mark : take 6 front ≡ 78 ∷ 80 ∷ 68 ∷ 49 ∷ role ∷ version ∷ []
   pub numbers : take 12 (drop 8 front) ≡ big_bytes 4 row.id ++ big_bytes 4 row.capacity ++ big_bytes 4 row.message
 
 -- a message as it stands on a disk: its length in two bytes, and its bytes

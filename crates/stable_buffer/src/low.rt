@@ -91,7 +91,7 @@ impl<D: Disk> LowStore<D> {
     fn place(&self, n: u64) -> u64
         requires ranges { HasRanges (low_row self.now) }
         ensures place { result ≡ slot_of (low_row self.now) n }
-        ensures low { result ≤ 65744 }
+        ensures low { result ≤ 262736 }
     {
         80 + n % self.row.capacity as u64 * (2 + self.row.message as u64)
     }

@@ -4,6 +4,7 @@ ghost use Rattle.disk_model.specs.Disk.{Settled, Answers};
 ghost use Rattle.disk_model.specs.declared.name.Role.TheVariants.{Recv};
 ghost use Rattle.byteorder.specs.Endian.{big_bytes};
 ghost use Rattle.pump_frame.specs.Rows.{IsLawfulRow};
+ghost use Rattle.stable_buffer.specs.Stands.{is_version};
 ghost use Rattle.stable_buffer.specs.Format.{header_of, role_byte, second_of, size_of, new_bytes, FormatStands};
 
 use crate::Device;
@@ -12,6 +13,12 @@ use crate::device::{sync, write};
 use byteorder::{BigEndian, ByteOrder};
 use disk_model::{Disk, Role};
 use pump_frame::SessionRow;
+
+/// The version that a new disk has.
+pub const VERSION: u8 = 2;
+
+// The greatest capacity of a disk of version 1.
+const FIRST_VERSION_CAPACITY: u32 = 64;
 
 /// How many bytes a receiver's disk may fill.
 pub const RECEIVER_SIZE: u64 = 16_777_216;
@@ -48,6 +55,14 @@ pub fn disk_size(row: &SessionRow, role: Role) -> u64
     }
 }
 
+/// Whether a disk of the row may have this version: that of a new disk, or 1 where the row's
+/// capacity is at most 64.
+pub fn allows_version(row: &SessionRow, version: u8) -> bool
+    ensures { result ≡ is_version row.now version }
+{
+    version == VERSION || (version == 1 && row.capacity <= FIRST_VERSION_CAPACITY)
+}
+
 // The row's three numbers.
 fn numbers(row: &SessionRow) -> [u8; 12]
     ensures { result ≡ big_bytes 4 row.now.id ++ big_bytes 4 row.now.capacity ++ big_bytes 4 row.now.message }
@@ -63,7 +78,7 @@ fn header(row: &SessionRow, role: Role, count: u64) -> [u8; 80]
     ensures { result ≡ header_of row.now (role_byte role) count (second_of role) }
 {
     let mut front = [0; 80];
-    front[..6].copy_from_slice(&[b'N', b'P', b'D', b'1', letter(role), 1]);
+    front[..6].copy_from_slice(&[b'N', b'P', b'D', b'1', letter(role), VERSION]);
     front[8..20].copy_from_slice(&numbers(row));
     front[48..64].copy_from_slice(&cell_of(count, second(role)));
     front

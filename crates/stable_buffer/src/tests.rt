@@ -73,7 +73,7 @@ fn fresh_high<D: Disk>(mut disk: D, row: &SessionRow) -> Result<HighStore<D>, D>
 
 // A high disk of the row begins with these bytes; all others are zero.
 const FRONT: [u8; 20] = [
-    0x4E, 0x50, 0x44, 0x31, 0x48, 1, 0, 0, 0, 0, 0, 1, 0, 0, 0, 3, 0, 0, 0, 8,
+    0x4E, 0x50, 0x44, 0x31, 0x48, 2, 0, 0, 0, 0, 0, 1, 0, 0, 0, 3, 0, 0, 0, 8,
 ];
 
 #[test]

@@ -1,5 +1,5 @@
 -- One record after another.
-use Rattle.std.proofs.Common.{◌≡◌, ℕ, zero, suc, Bool, true, false, Option, None, Some, IsSome, IfSome, Result, Ok, Err, OnErr, ◌+◌, ◌-◌, ◌<◌, ◌≤◌, List, [], ◌∷◌, ◌++◌, length, slice_index_or, take, drop, refl, sym, ◌∙◌, ap, subst, arith, length-drop}
+use Rattle.std.proofs.Common.{◌≡◌, ℕ, zero, suc, Bool, true, false, Result, Ok, Err, OnErr, ◌+◌, ◌-◌, ◌<◌, ◌≤◌, List, [], ◌∷◌, ◌++◌, length, slice_index_or, take, drop, refl, sym, ◌∙◌, ap, subst, arith, length-drop}
 use Rattle.std.proofs.lemmas.List.{drop-drop, drop-take, take-take, length-take-le, take-append-drop, drop-append-le, take_at}
 use Rattle.stable_buffer.specs.Numbers.{length_at}
 use Rattle.stable_buffer.specs.Log.{Records}
@@ -25,7 +25,7 @@ pub record Here (most : ℕ) (message : List ℕ) (later : List (List ℕ)) (at 
   pub bytes : take (length message) (drop 2 (drop at disk)) ≡ message
   pub rest : RecordsFrom most later (at + (2 + length message)) end disk
 
-first : (most : ℕ) (m : List ℕ) (ms : List (List ℕ)) (at end : ℕ) (disk : List ℕ) → RecordsFrom most (m ∷ ms) at end disk → Here most m ms at end disk
+pub first : (most : ℕ) (m : List ℕ) (ms : List (List ℕ)) (at end : ℕ) (disk : List ℕ) → RecordsFrom most (m ∷ ms) at end disk → Here most m ms at end disk
 first most m ms at end disk (le, on, (whole, is, few, here, fill)) =
     let k = end - at in
     let l = drop at disk in
@@ -78,11 +78,6 @@ found_bytes l k at into rest mid disk message kl size read same is bytes =
     let there : into ≡ take (2 + l) (drop at disk) = read ∙ (λ i. take (kl i) (drop at (same i))) in
     let here : drop 2 into ≡ message = ap (λ (b : List ℕ). drop 2 b) there ∙ drop-take 2 l (drop at disk) ∙ ap (λ j. take j (drop 2 (drop at disk))) is ∙ bytes in
     (λ i. take (e i) (front i)) ∙ take_at (drop 2 into) rest l (omega (arith, length-drop 2 into, size, kl)) ∙ here
-
--- bytes that were read are the message
-pub is_found : (r : Option (List ℕ)) (bytes message : List ℕ) → (length bytes ≤ 1024 → IsSome r) → IfSome r (λ p. p ≡ bytes) → bytes ≡ message → length message ≤ 1024 → r ≡ Some message
-is_found None bytes message some value is few = absurd (failed (some (omega (arith, ap length is, few))))
-is_found (Some p) bytes message some value is few = ap Some (value ∙ is)
 
 -- a call that went well found the disk not armed
 pub calm : (before after : Bool) → (before ≡ true → ⊥) → after ≡ false → after ≡ before

@@ -1,5 +1,5 @@
 -- An open receiver, and what it does with a message.
-use Rattle.std.specs.Prelude.{◌≡◌, ℕ, ◌+◌, ◌^◌, ◌≤◌, Bool, true, false, nat_lt, if◌then◌else◌, List, length, Option, None, Some, Result, Ok, Err, OnOk, OnErr, IfErr}
+use Rattle.std.specs.Prelude.{◌≡◌, ℕ, ◌+◌, ◌^◌, ◌≤◌, Bool, true, false, nat_lt, if◌then◌else◌, List, length, take, sum_by, Option, None, Some, Result, Ok, Err, OnOk, OnErr, IfErr}
 use Rattle.pump_frame.specs.Rows.{IsLawfulRow}
 use Rattle.pump_frame.specs.declared.row.SessionRow.{SessionRow}
 use Rattle.disk_model.specs.Disk.{Meaning, Moves, Settled, Leaves, Answers}
@@ -55,6 +55,16 @@ pub record IsRecvReady {D : Type 0} (m : Meaning D) (receiver : Receiver D) : Ty
   pub within : receiver.register.second ≤ receiver.size
   pub settled : Settled m receiver.register.disk
   pub stands : m.tells → StandsForSome receiver.row (m.reading receiver.register.disk)
+
+-- where record n of these messages stands: each is two bytes longer than its message
+abbrev pub record_at : List (List ℕ) → ℕ → ℕ
+record_at messages n = 80 + sum_by (λ message. 2 + length message) (take n messages)
+
+-- an offset is that of record n, as the disk stands for its messages, and is not past the end
+pub record IsRecordAt {D : Type 0} (m : Meaning D) (receiver : Receiver D) (n at : ℕ) : Type 0 where
+  pub within : at ≤ receiver.register.second
+  pub place : m.tells → (messages : List (List ℕ)) → RecvStands receiver.row messages (m.reading receiver.register.disk)
+      → at ≡ record_at messages n
 
 -- What is answered to a message of this number and length where nothing is to be stored: it is a repeat, or ahead, or ends past the size.
 abbrev pub answer_at_once : ℕ → ℕ → ℕ → ℕ → ℕ → Option (Result Taken TakeFault)

@@ -1,9 +1,9 @@
-ghost use Rattle.std.specs.Prelude.{◌≡◌, ◌+◌, ◌^◌, ◌<◌, ◌≤◌, ℕ, List, None, true, false, ⊤, [], length, slice_index_or, IfSome, OnOk, OnErr, IfErr};
+ghost use Rattle.std.specs.Prelude.{◌≡◌, ◌+◌, ◌^◌, ◌<◌, ◌≤◌, ℕ, List, None, true, false, ⊤, [], length, slice_index_or, IfSome, IfOk, OnOk, OnErr, IfErr};
 ghost use Rattle.disk_model.specs.Disk.{Moves, Same, Settled, Leaves, Answers};
 ghost use Rattle.pump_frame.specs.Rows.{IsLawfulRow};
 ghost use Rattle.stable_buffer.specs.Log.{RecvStands};
 
-use crate::reading::read_message;
+use crate::reading::{read_message, read_record};
 use crate::{TakeFault, Taken};
 use disk_model::Disk;
 use pump_frame::{Payload, SessionRow};
@@ -22,7 +22,7 @@ pub struct Receiver<D> {
 impl<D: Disk> Receiver<D> {
     ghost use Rattle.stable_buffer.specs.Register.{IsReady, register_disk, register_value};
     ghost use Rattle.high_receiver.specs.Steps.{MayTake, TakesMessage, StandsOrTakes};
-    ghost use Rattle.high_receiver.specs.Receiving.{IsRecvReady, StandsForSome, Stores, answer_at_once, is_device, recv_disk, recv_count, recv_end, recv_row, recv_size, recv_made_coarse, recv_is_open};
+    ghost use Rattle.high_receiver.specs.Receiving.{IsRecordAt, IsRecvReady, StandsForSome, Stores, answer_at_once, is_device, recv_disk, recv_count, recv_end, recv_row, recv_size, recv_made_coarse, recv_is_open};
 
     /// A receiver over a register, whose disk stands for a list of at most 2^48 messages, and has
     /// `size` bytes to fill.
@@ -69,6 +69,13 @@ impl<D: Disk> Receiver<D> {
         ensures { result ≡ recv_count self.now }
     {
         self.register.value().0
+    }
+
+    /// Where their records end: the offset of the next one.
+    pub fn end(&self) -> u64
+        ensures { result ≡ recv_end self.now }
+    {
+        self.register.value().1
     }
 
     /// Makes its row coarse. All else is as before, and no call of the disk is made.
@@ -210,12 +217,40 @@ impl<D: Disk> Receiver<D> {
         ensures answers { Answers D.told ⊤ (recv_disk self.old) (recv_disk self.new) result }
         ensures device { IfErr result (λ e. e.faults ≡ D.told.count (recv_disk self.new)) }
     {
-        match read_message(&mut self.register, n, self.row.message) {
-            Ok(Some(payload)) => {
-                *into = payload;
-                Ok(())
+        match read_message(&mut self.register, n, self.row.message, into) {
+            Ok(()) => Ok(()),
+            Err(device) => {
+                self.is_open = false;
+                Err(device)
             }
-            Ok(None) => Ok(()),
+        }
+    }
+
+    /// The message of record `n`, which stands at the offset `at`, and the offset of the record after
+    /// it. Record 0 stands at 80. On a disk that tells nothing a record may be longer than any message
+    /// of the row; then `into` stays as it was.
+    pub fn at(&mut self, n: u64, at: u64, into: &mut Payload) -> Result<u64, Device>
+        requires ready { IsRecvReady D.told self.old }
+        requires taken { n < recv_count self.old }
+        requires place { IsRecordAt D.told self.old n at }
+
+        ensures message { OnOk result (D.told.tells → (messages : List (List ℕ))
+            → RecvStands (recv_row self.old) messages (D.told.reading (recv_disk self.old))
+            → into.new ≡ slice_index_or messages n []) }
+        ensures next { IfOk result (λ next. IsRecordAt D.told self.new (n + 1) next) }
+        ensures ready { OnOk result (IsRecvReady D.told self.new) }
+        ensures count { recv_count self.new ≡ recv_count self.old }
+        ensures end { recv_end self.new ≡ recv_end self.old }
+        ensures row { recv_row self.new ≡ recv_row self.old }
+        ensures size { recv_size self.new ≡ recv_size self.old }
+        ensures moves { Moves D.told Same (recv_disk self.old) (recv_disk self.new) }
+
+        ensures closed { OnErr result (recv_is_open self.new ≡ false) }
+        ensures answers { Answers D.told ⊤ (recv_disk self.old) (recv_disk self.new) result }
+        ensures device { IfErr result (λ e. e.faults ≡ D.told.count (recv_disk self.new)) }
+    {
+        match read_record(&mut self.register, at, self.row.message, into) {
+            Ok(next) => Ok(next),
             Err(device) => {
                 self.is_open = false;
                 Err(device)

@@ -107,5 +107,10 @@ fn a_taken_message_is_given_back(rt: HostRuntime) -> Result<(), Fail> {
     let mut found = Payload::default();
     assert!(rt; receiver.message(0, &mut found).is_ok());
     assert_eq!(rt; found.as_slice(), b"12345678".as_slice());
+
+    // Its record by place, and where the next one would stand.
+    let mut placed = Payload::default();
+    assert!(rt; receiver.at(0, 80, &mut placed) == Ok(90));
+    assert_eq!(rt; placed.as_slice(), b"12345678".as_slice());
     Ok(())
 }

@@ -1,0 +1,173 @@
+-- Two pumps in a row: what they have been through, and what a line of a script is to them.
+use Rattle.std.specs.Prelude.{◌≡◌, ◌⊎◌, ℕ, Bool, true, false, ◌||◌, ◌&&◌, ◌==◌, not, max, if◌then◌else◌, List, [], ◌∷◌, ◌++◌, length, slice_get, Option, Some, None}
+use Rattle.std.specs.List.{list_any}
+use Rattle.pump_frame.specs.declared.frame.Kind.{Kind}
+use Rattle.pump_frame.specs.declared.frame.Kind.TheVariants as kinds
+use Rattle.pump_frame.specs.declared.payload.Payload.{Payload}
+use Rattle.pump_frame.specs.declared.row.SessionRow.{SessionRow}
+use Rattle.script_reader.specs.declared.event.Event.{Event}
+use Rattle.script_reader.specs.declared.event.Event.TheVariants as prints
+use Rattle.script_reader.specs.declared.line.Arriving.{Arriving}
+use Rattle.script_reader.specs.declared.line.Arriving.TheVariants.{Nothing, Hello, Data}
+use Rattle.script_reader.specs.declared.line.Line.{Line}
+use Rattle.script_reader.specs.declared.line.Line.TheVariants as lines
+use Rattle.script_reader.specs.Openings.{Openings}
+use Rattle.script_reader.specs.Scripts.{Running, Whole, Leads, IsRefused as RefusesAlone}
+use Rattle.script_reader.specs.Sessions.{stands_first, moment_in, is_from}
+
+-- ---- the sender in the middle ----
+
+-- whether the second pump has welcomed it since its opening, its last restart, or the last loss of its
+-- connection; and whether a frame of it is under way, whose reply did not come yet
+pub record Middle : Type 0 where
+  pub is_welcome : Bool
+  pub is_under_way : Bool
+
+abbrev pub unsent : Middle
+unsent = record { is_welcome = false; is_under_way = false }
+
+-- ---- the chain ----
+
+-- the two sessions, the sender between them, and whether a line came that needs not stand first
+pub record Chained : Type 0 where
+  pub first : Running
+  pub second : Running
+  pub middle : Middle
+  pub is_under_way : Bool
+
+-- the moment of the last line of either session that had one
+abbrev pub moment_of : Chained → ℕ
+moment_of c = max c.first.past.moment c.second.past.moment
+
+-- what the first receiver has
+abbrev pub received_of : Chained → List Payload
+received_of c = c.first.past.world.received
+
+-- how many messages the second pump has accepted
+abbrev pub accepted_of : Chained → ℕ
+accepted_of c = length c.second.past.world.accepted
+
+-- ---- what the sender adds ----
+
+abbrev pub message_of : ℕ → Option Payload → Arriving
+message_of number None = Nothing
+message_of number (Some payload) = Data number payload
+
+-- while a frame is under way, nothing; until it is welcomed, HELLO; then the first message of the first
+-- receiver that the second pump has not accepted, where there is one
+abbrev pub added : Chained → Arriving
+added c =
+    if c.middle.is_under_way then Nothing
+    else if c.middle.is_welcome then message_of (accepted_of c) (slice_get (received_of c) (accepted_of c))
+    else Hello c.second.row.low c.second.row.high
+
+-- ---- what becomes of the sender ----
+
+abbrev pub is_welcome_kind : Kind → Bool
+is_welcome_kind kinds.Welcome = true
+is_welcome_kind _ = false
+
+abbrev pub is_reply : Event → Bool
+is_reply (prints.Low session m reply) = true
+is_reply _ = false
+
+abbrev pub is_welcome : Event → Bool
+is_welcome (prints.Low session m reply) = is_welcome_kind reply.kind
+is_welcome _ = false
+
+abbrev pub is_frame : Arriving → Bool
+is_frame Nothing = false
+is_frame _ = true
+
+-- after a line of the second session that printed this: what it added is under way until a reply comes;
+-- with the connection, or the pump, all of it is over
+abbrev pub middle_after : Middle → Line → List Event → Middle
+middle_after s (lines.Look session m w a) printed = record {
+  is_welcome = s.is_welcome || list_any is_welcome printed;
+  is_under_way = (s.is_under_way || is_frame a) && not (list_any is_reply printed);
+}
+middle_after s (lines.Gone session m) printed = unsent
+middle_after s (lines.Restart session m) printed = unsent
+middle_after s line printed = s
+
+-- ---- what a line is to the chain ----
+
+-- nothing, a line of the first session, one of the second, or no line of a chain
+pub data Share : Type 0 where
+  Skipped : Share
+  OfFirst : (line : Line) → Share
+  OfSecond : (line : Line) → Share
+  OfNone : Share
+
+-- the line of the session of this number
+abbrev pub by_session : Chained → ℕ → Line → Share
+by_session c session line =
+    if session == c.first.row.id then OfFirst line
+    else if session == c.second.row.id then OfSecond line
+    else OfNone
+
+-- Nobody but the sender adds anything before a look of the second pump: such a look is a `step`, and stands for the
+-- `look` that adds what the sender adds. Both sessions have begun, and neither is a low side alone.
+abbrev pub share : Chained → Line → Share
+share c lines.Skip = Skipped
+share c (lines.Session row) = OfNone
+share c (lines.LowSession row next held) = OfNone
+share c (lines.Told session m w fault told a) = OfNone
+share c (lines.Look session m w a) = if session == c.first.row.id then OfFirst (lines.Look session m w a) else OfNone
+share c (lines.Step session m w) = if session == c.second.row.id then OfSecond (lines.Look session m w (added c)) else OfNone
+share c (lines.Coarse session) = by_session c session (lines.Coarse session)
+share c (lines.Gone session m) = by_session c session (lines.Gone session m)
+share c (lines.High session m) = by_session c session (lines.High session m)
+share c (lines.Carry session back) = by_session c session (lines.Carry session back)
+share c (lines.Return session m back) = by_session c session (lines.Return session m back)
+share c (lines.Done session m t) = by_session c session (lines.Done session m t)
+share c (lines.Restart session m) = by_session c session (lines.Restart session m)
+share c (lines.ReceiverRestart session m) = by_session c session (lines.ReceiverRestart session m)
+
+-- ---- a line ----
+
+-- a line that stands first comes before every line that does not, and no moment is below one that came before it,
+-- whichever session's line has it
+abbrev pub is_in_turn : Chained → Line → Bool
+is_in_turn c line = if stands_first line then not c.is_under_way else is_from (moment_of c) (moment_in line)
+
+-- the chain once its line led the first session, or the second, to this
+abbrev pub first_led : Chained → Line → Running → Chained
+first_led c line s = record c { first = s; is_under_way = c.is_under_way || not (stands_first line) }
+
+abbrev pub second_led : Chained → Line → List Event → Running → Chained
+second_led c line printed s = record c {
+  second = s;
+  middle = middle_after c.middle line printed;
+  is_under_way = c.is_under_way || not (stands_first line);
+}
+
+-- the line can be applied, leads from c to d, and prints this: it does to its session what it does in a script of that
+-- session alone
+abbrev pub LeadsBy : Openings → Chained → Share → Chained → List Event → Type 0
+LeadsBy o c Skipped d printed = (d ≡ c) × (printed ≡ [])
+LeadsBy o c OfNone d printed = ⊥
+LeadsBy o c (OfFirst line) d printed = (is_in_turn c line ≡ true)
+    × ((s : Running) × Leads o (Some (Whole c.first)) line (Some (Whole s)) printed × (d ≡ first_led c line s))
+LeadsBy o c (OfSecond line) d printed = (is_in_turn c line ≡ true)
+    × ((s : Running) × Leads o (Some (Whole c.second)) line (Some (Whole s)) printed × (d ≡ second_led c line printed s))
+
+abbrev pub ChainLeads : Openings → Chained → Line → Chained → List Event → Type 0
+ChainLeads o c line d printed = LeadsBy o c (share c line) d printed
+
+-- the line can't be applied: it is no line of a chain, it is out of turn, or its session refuses it
+abbrev pub RefusesBy : Chained → Share → Type 0
+RefusesBy c Skipped = ⊥
+RefusesBy c OfNone = Unit {0}
+RefusesBy c (OfFirst line) = (is_in_turn c line ≡ false) ⊎ RefusesAlone (Some (Whole c.first)) line
+RefusesBy c (OfSecond line) = (is_in_turn c line ≡ false) ⊎ RefusesAlone (Some (Whole c.second)) line
+
+abbrev pub ChainRefuses : Chained → Line → Type 0
+ChainRefuses c line = RefusesBy c (share c line)
+
+-- these lines lead from c to d, and print this
+abbrev pub ChainLeadsTo : Openings → Chained → List Line → Chained → List Event → Type 0
+ChainLeadsTo o c [] d printed = (d ≡ c) × (printed ≡ [])
+ChainLeadsTo o c (line ∷ later) d printed =
+    (mid : Chained) × (first : List Event) × (second : List Event)
+    × ChainLeads o c line mid first × ChainLeadsTo o mid later d second × (printed ≡ first ++ second)

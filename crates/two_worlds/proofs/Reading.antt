@@ -1,0 +1,211 @@
+-- A pump of which a message was read is as before.
+use Rattle.std.proofs.Common.{◌≡◌, inl, inr, ℕ, ◌+◌, ◌-◌, ◌<◌, ◌≤◌, Bool, true, false, List, [], length, get_or, drop, Result, Ok, Err, OnOk, OnErr, refl, sym, ap, ◌∙◌, subst, arith}
+use Rattle.std.specs.Prelude.{◌||◌, not}
+use Rattle.std.proofs.Math.Logic.{∥∥₁_elim, ∥∥₁_map}
+use Rattle.std.proofs.Props.{props}
+use Rattle.std.proofs.lemmas.List.{get_or-drop}
+use Rattle.disk_model.specs.Disk.{Meaning, Moves, Same, Each, Answers}
+use Rattle.disk_model.specs.declared.name.Role.{Role}
+use Rattle.disk_model.specs.declared.name.Role.TheVariants as roles
+use Rattle.disk_model.proofs.Run.{each_after, started}
+use Rattle.pump_frame.specs.Rows.{IsLawfulRow}
+use Rattle.pump_frame.specs.declared.row.SessionRow.{SessionRow}
+use Rattle.pump_core.specs.World.{World}
+use Rattle.stable_buffer.specs.Low.{IsLowReady, low_count, low_disk, low_row}
+use Rattle.stable_buffer.specs.Numbers.{length_at}
+use Rattle.stable_buffer.specs.Stands.{InSlot, LowStands, low_size, slot_of}
+use Rattle.stable_buffer.specs.declared.low.LowStore.{LowStore}
+use Rattle.stable_buffer.specs.declared.device.Device.{Device}
+use Rattle.low_process.specs.Looks as low
+use Rattle.recovery.proofs.Rows.{row_message}
+use Rattle.recovery.proofs.Slots.{slot_length, slot_one}
+use Rattle.script_reader.specs.Past.{Past}
+use Rattle.two_worlds.specs.declared.pump.parts.Parts.{Parts}
+use Rattle.two_worlds.specs.declared.pump.state.PumpState.{PumpState}
+use Rattle.two_worlds.specs.declared.pump.state.PumpState.TheVariants.{Open, Shut}
+use Rattle.two_worlds.specs.Disks.{LowFits, RecvFits, DisksFit, live_messages}
+use Rattle.two_worlds.specs.Doing.{Fails}
+use Rattle.two_worlds.specs.Keeping.{Keeps}
+use Rattle.two_worlds.specs.Reads.{ReadsAlone, ReadsIn, FailsToRead}
+use Rattle.two_worlds.specs.Rooms.{Serves, is_role}
+use Rattle.two_worlds.specs.Standing.{Stands, bare_of, bare_disk}
+use Rattle.two_worlds.specs.States.{disks_in, counts_in, is_down_in, kept_moment_in, IsOpenWith, StandsIn}
+use Rattle.two_worlds.specs.Working.{Works, IsAble}
+use Rattle.two_worlds.proofs.Disks.LeavesWorld.{fits_row}
+use Rattle.two_worlds.proofs.Lines.Kept.{able_stands, stands_hold, works_up}
+use Rattle.two_worlds.proofs.Opening.Ready.{low_reading}
+
+-- ---- what a call of a disk answers ----
+
+-- a read that failed or not, as any call of a disk
+pub reads_serve : {D T E : Type 0} (m : Meaning D) (fits : Type 0) (old new : D) (result : Result T E) → (m.tells_plan → fits) → Answers m fits old new result
+    → OnOk result (Serves m 0 old new false) × OnErr result (Serves m 0 old new true)
+reads_serve m fits old new (Ok value) has a = (
+  inr (record {
+    counts = a.counts;
+    rose = λ e. absurd e;
+    never = λ plan unarmed room. tt;
+    always = λ plan armed. absurd (a.always plan armed);
+    room = a.room;
+    disarmed = a.disarmed;
+  }),
+  tt,
+)
+reads_serve m fits old new (Err e) has a = (
+  tt,
+  inr (record {
+    counts = a.counts;
+    rose = λ e. a.rose tt;
+    never = λ plan unarmed room. absurd (a.never plan unarmed (has plan));
+    always = λ plan armed. tt;
+    room = a.room;
+    disarmed = a.disarmed;
+  }),
+)
+
+-- no call
+pub unread : {D : Type 0} (m : Meaning D) (d : D) → Moves m Same d d
+unread m d = started m Same (λ c. refl) d
+
+-- ---- the message of a slot ----
+
+-- what is read of the slot of a live message is that message
+pub message_is : (row : SessionRow) (w : World) (disk into : List ℕ) (n size : ℕ) → row.message ≤ 1024 → w.removed ≤ n → n < length w.accepted
+    → LowStands row (length w.accepted) w.removed (live_messages w) disk → size ≡ length_at disk (slot_of row n) → (size ≤ row.message → InSlot row n into disk)
+    → into ≡ get_or w.accepted n []
+message_is row w disk into n size short from before s length_is stands =
+    let i = n - w.removed in
+    let e : w.removed + i ≡ n = omega (arith, from) in
+    let within : i < length (live_messages w) = omega (arith, s.count, from, before) in
+    let at : InSlot row n (get_or w.accepted n []) disk =
+        subst (λ (k : ℕ). InSlot row k (get_or w.accepted k []) disk) e
+        (subst (λ (m : List ℕ). InSlot row (w.removed + i) m disk) (get_or-drop w.removed w.accepted i []) (s.slots i within)) in
+    let fits : size ≤ row.message = let l = slot_length row short n _ disk at in let f = at.fits in omega (arith, length_is, l, f) in
+    slot_one row short n into (get_or w.accepted n []) disk (stands fits) at
+
+-- a live message is not overwritten
+pub still_kept : {D : Type 0} (m : Meaning D) (c : Parts D) (p : Past) (n : ℕ) → m.tells → Stands m c p → p.world.removed ≤ n → low.next_of c.low ≤ n + c.row.capacity
+still_kept m c p n told s from =
+    let l = low_reading c.row p.world _ s.sound.rest.storing (s.disks.low_disk.reading told) in
+    let kept = l.kept in
+    let next = s.world.accepted in
+    omega (arith, kept, next, from)
+
+-- ---- the low disk ----
+
+module _ {D : Type 0} (m : Meaning D) (c : Parts D) (new : LowStore D) (same : Moves m Same (low_disk c.low_store) (low_disk new)) where
+  abbrev pub with_low : Parts D
+  with_low = record c { low_store = new }
+
+  low_still : (p : Past) → Stands m c p → Each m (LowFits c.row p.world) (low_disk new)
+  low_still p s = each_after m (LowFits c.row p.world) (LowFits c.row p.world) Same (low_disk c.low_store) (low_disk new) s.disks.low_disk
+      (λ x y fits is. subst (LowFits c.row p.world) (sym is) fits) same
+
+  disks_still : (p : Past) → Stands m c p → DisksFit m c.row (low_disk new) (bare_of c).high (bare_of c).recv p.world
+  disks_still p s = record { low_disk = low_still p s; high_disk = s.disks.high_disk; recv_disk = s.disks.recv_disk }
+
+  module _ (ready : IsLowReady m new) (count : low_count new ≡ low_count c.low_store) (row : low_row new ≡ low_row c.low_store) where
+    works_low : Works m c → Works m with_low
+    works_low w = record {
+      row = w.row;
+      history = w.history;
+      past = w.past;
+      times = w.times;
+      low_ready = record {
+        history = w.low_ready.history;
+        store = record { ready = ready; count = count ∙ w.low_ready.store.count; row = row ∙ w.low_ready.store.row };
+        up = w.low_ready.up;
+        between = w.low_ready.between;
+        row = w.low_ready.row;
+        last = w.low_ready.last;
+      };
+      high_ready = record { past = w.high_ready.past; store = w.high_ready.store; count = w.high_ready.count; up = w.high_ready.up; between = w.high_ready.between; row = w.high_ready.row; last = w.high_ready.last };
+      recv_ready = record { ready = w.recv_ready.ready; row = w.recv_ready.row; size = w.recv_ready.size };
+      ends = record { low = w.ends.low; high = w.ends.high; stand = w.ends.stand; shape = w.ends.shape; times = w.ends.times; low_fits = w.ends.low_fits; high_fits = w.ends.high_fits };
+      packets = record { sent = w.packets.sent; returned = w.packets.returned; taken = w.packets.taken };
+      short = record { low_hand = w.short.low_hand; held = w.short.held; high_hand = w.short.high_hand; sent = w.short.sent };
+    }
+
+    stands_low : (p : Past) → Stands m c p → Stands m with_low p
+    stands_low p s = record {
+      row = s.row;
+      moment = s.moment;
+      sound = record { rest = s.sound.rest; lawful = s.sound.lawful; fits = s.sound.fits; sends = s.sound.sends; answered = s.sound.answered };
+      world = record {
+        capacity = s.world.capacity;
+        low_hand = s.world.low_hand;
+        low_payload = s.world.low_payload;
+        held = s.world.held;
+        held_payloads = s.world.held_payloads;
+        high_hand = s.world.high_hand;
+        high_payload = s.world.high_payload;
+        removed = s.world.removed;
+        accepted = s.world.accepted;
+        received = s.world.received;
+        end = s.world.end;
+        sent = s.world.sent;
+        returned = s.world.returned;
+      };
+      arrivals = record { waits = s.arrivals.waits; broken = s.arrivals.broken; reading = s.arrivals.reading; few = s.arrivals.few };
+      low_ready = record {
+        history = s.low_ready.history;
+        store = record { ready = ready; count = count ∙ s.low_ready.store.count; row = row ∙ s.low_ready.store.row };
+        up = s.low_ready.up;
+        between = s.low_ready.between;
+        row = s.low_ready.row;
+        last = s.low_ready.last;
+      };
+      high_ready = record { past = s.high_ready.past; store = s.high_ready.store; count = s.high_ready.count; up = s.high_ready.up; between = s.high_ready.between; row = s.high_ready.row; last = s.high_ready.last };
+      recv_ready = record { ready = s.recv_ready.ready; row = s.recv_ready.row; size = s.recv_ready.size };
+      ends = record { low = s.ends.low; high = s.ends.high; stand = s.ends.stand; shape = s.ends.shape; times = s.ends.times; low_fits = s.ends.low_fits; high_fits = s.ends.high_fits };
+      packets = record { sent = s.packets.sent; returned = s.packets.returned; taken = s.packets.taken };
+      disks = disks_still p s;
+    }
+
+    pub able_low : IsAble m c → IsAble m with_low
+    able_low a = record { works = ∥∥₁_map a.works works_low; stands = λ told. ∥∥₁_map (a.stands told) (λ s. (s.0, stands_low s.0 s.1)) }
+
+    pub reads_low : IsAble m c → Serves m 0 (low_disk c.low_store) (low_disk new) false → ReadsIn m roles.Low (Open c) (Open with_low)
+    reads_low a serves = record {
+      alone = record { same = same; serves = serves; others = others; row = refl; down = works_up m (Open with_low) (able_low a).works };
+      moment = refl;
+      counts = refl;
+      stands = stands_low;
+    }
+      where
+        others : (other : Role) → is_role roles.Low other ≡ false → bare_disk other (bare_of with_low) ≡ bare_disk other (bare_of c)
+        others roles.Low e = absurd (cc)
+        others roles.High e = refl
+        others roles.Recv e = refl
+
+  -- the disk failed, and the pump is shut
+  pub fails_low : Serves m 0 (low_disk c.low_store) (low_disk new) true → FailsToRead m roles.Low (Open c) (Shut (bare_of with_low))
+  fails_low serves = record {
+    alone = record { same = same; serves = serves; others = others; row = refl; down = refl };
+    fails = λ p s. record { counted = refl; lawful = s.sound.lawful; fits = fits_row m c p s; disks = disks_still p s };
+  }
+    where
+      others : (other : Role) → is_role roles.Low other ≡ false → bare_disk other (bare_of with_low) ≡ bare_disk other (bare_of c)
+      others roles.Low e = absurd (cc)
+      others roles.High e = refl
+      others roles.Recv e = refl
+
+-- ---- what the pump keeps ----
+
+module _ {D : Type 0} (m : Meaning D) (role : Role) (s t : PumpState D) where
+  able_holds : IsOpenWith (IsAble m) t → Keeps m s → (disks_in t).row ≡ (disks_in s).row → Keeps m t
+  able_holds able k row = record {
+    row = subst IsLawfulRow (sym row) k.row;
+    hold = λ told. ∥∥₁_elim (able_stands m t able told) (hlevel props) (λ x. stands_hold m t x.0 x.1);
+    able = λ up. able;
+  }
+
+  pub keeps_read : IsOpenWith (IsAble m) t → ReadsIn m role s t → Keeps m s → Keeps m t
+  keeps_read able r k = able_holds able k r.alone.row
+
+  pub keeps_failed : IsOpenWith (IsAble m) s → FailsToRead m role s t → Keeps m s → Keeps m t
+  keeps_failed able r k = record {
+    row = subst IsLawfulRow (sym r.alone.row) k.row;
+    hold = λ told. ∥∥₁_map (able_stands m s able told) (λ x. let f = r.fails x.0 x.1 in record { world = x.0.world; lawful = f.lawful; disks = f.disks });
+    able = λ up. (let down = r.alone.down in absurd (cc));
+  }

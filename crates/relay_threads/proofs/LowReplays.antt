@@ -34,15 +34,15 @@ round_offers row o before held r is m made = by (offered r.heard) refl is.makes 
       let same : m' ≡ m = cc in
       e ∙ ap (λ z. Some z) (sym arrival ∙ ap (λ (z : Made). z.look.arrival) same)
 
-gone_is : (c : Option LowWhy) (gone : Option Made) → GoneAfter c gone → (m : Made) → gone ≡ Some m → m.look.arrival ≡ CameGone
-gone_is None gone after m is = let no : None ≡ Some m = sym after ∙ is in absurd (cc)
-gone_is (Some Gone) gone after m is = let no : None ≡ Some m = sym after ∙ is in absurd (cc)
-gone_is (Some Bad) gone (m', is', g) m is = let both : Some m' ≡ Some m = sym is' ∙ is in let same : m' ≡ m = cc in ap (λ (z : Made). z.look.arrival) (sym same) ∙ g.0
-gone_is (Some LinkFailed) gone (m', is', g) m is = let both : Some m' ≡ Some m = sym is' ∙ is in let same : m' ≡ m = cc in ap (λ (z : Made). z.look.arrival) (sym same) ∙ g.0
-gone_is (Some (Device n)) gone after m is = let no : None ≡ Some m = sym after ∙ is in absurd (cc)
-gone_is (Some RecordFailed) gone after m is = let no : None ≡ Some m = sym after ∙ is in absurd (cc)
-gone_is (Some Looks) gone after m is = let no : None ≡ Some m = sym after ∙ is in absurd (cc)
-gone_is (Some Stopped) gone after m is = let no : None ≡ Some m = sym after ∙ is in absurd (cc)
+gone_is : (c : Option LowWhy) (loss : Option Made) → GoneAfter c loss → (m : Made) → loss ≡ Some m → m.look.arrival ≡ CameGone
+gone_is None loss after m is = let no : None ≡ Some m = sym after ∙ is in absurd (cc)
+gone_is (Some Gone) loss after m is = let no : None ≡ Some m = sym after ∙ is in absurd (cc)
+gone_is (Some Bad) loss (m', is', g) m is = let both : Some m' ≡ Some m = sym is' ∙ is in let same : m' ≡ m = cc in ap (λ (z : Made). z.look.arrival) (sym same) ∙ g.0
+gone_is (Some LinkFailed) loss (m', is', g) m is = let both : Some m' ≡ Some m = sym is' ∙ is in let same : m' ≡ m = cc in ap (λ (z : Made). z.look.arrival) (sym same) ∙ g.0
+gone_is (Some (Device n)) loss after m is = let no : None ≡ Some m = sym after ∙ is in absurd (cc)
+gone_is (Some RecordFailed) loss after m is = let no : None ≡ Some m = sym after ∙ is in absurd (cc)
+gone_is (Some Looks) loss after m is = let no : None ≡ Some m = sym after ∙ is in absurd (cc)
+gone_is (Some Stopped) loss after m is = let no : None ≡ Some m = sym after ∙ is in absurd (cc)
 
 -- ---- each frame that is taken is lawful ----
 
@@ -192,23 +192,23 @@ with_gone row o before x gone m is are fine arrival =
 
 -- a connection that is over leaves none that is broken
 module _ (row : SessionRow) (o : Opening) (before : List Made) (fine : is_broken before ≡ false) where
-  left_unbroken : (rounds : List Round) (gone : Option Made) (k : Bool) (why : LowWhy) → AreRounds row o before rounds → AreMade row o (visited before rounds gone) → newest_cause rounds ≡ Some why → GoneAfter (Some why) gone → end_at (Some why) k ≡ None
-      → is_broken (visited before rounds gone) ≡ false
-  left_unbroken [] gone k why are made e after none = absurd (cc)
-  left_unbroken (r ∷ past) gone k Gone are made e after none =
+  left_unbroken : (rounds : List Round) (loss : Option Made) (k : Bool) (why : LowWhy) → AreRounds row o before rounds → AreMade row o (visited before rounds loss) → newest_cause rounds ≡ Some why → GoneAfter (Some why) loss → end_at (Some why) k ≡ None
+      → is_broken (visited before rounds loss) ≡ false
+  left_unbroken [] loss k why are made e after none = absurd (cc)
+  left_unbroken (r ∷ past) loss k Gone are made e after none =
       let b = made_after before past in
       let calm = calm_unbroken row o before past are.2 are.1 fine in
       let g = gone_round row o b _ r are.0 e in
       ap (λ z. is_broken (with_look z (with_look r.made b))) after
       ∙ with_unbroken r.made b (λ m made. let both : Some g.0 ≡ Some m = sym g.1 ∙ made in let same : g.0 ≡ m = cc in ap is_bad (ap (λ (z : Made). z.look.arrival) (sym same) ∙ g.2)) calm
-  left_unbroken (r ∷ past) gone k Bad are made e after none =
-      with_gone row o (made_after before past) r.made gone after.0 after.1 made (calm_unbroken row o before past are.2 are.1 fine) after.2.0
-  left_unbroken (r ∷ past) gone k LinkFailed are made e after none =
-      with_gone row o (made_after before past) r.made gone after.0 after.1 made (calm_unbroken row o before past are.2 are.1 fine) after.2.0
-  left_unbroken (r ∷ past) gone k (Device n) are made e after none = absurd (cc)
-  left_unbroken (r ∷ past) gone k RecordFailed are made e after none = absurd (cc)
-  left_unbroken (r ∷ past) gone k Looks are made e after none = absurd (no_cause (r ∷ past) Looks refl e)
-  left_unbroken (r ∷ past) gone k Stopped are made e after none = absurd (no_cause (r ∷ past) Stopped refl e)
+  left_unbroken (r ∷ past) loss k Bad are made e after none =
+      with_gone row o (made_after before past) r.made loss after.0 after.1 made (calm_unbroken row o before past are.2 are.1 fine) after.2.0
+  left_unbroken (r ∷ past) loss k LinkFailed are made e after none =
+      with_gone row o (made_after before past) r.made loss after.0 after.1 made (calm_unbroken row o before past are.2 are.1 fine) after.2.0
+  left_unbroken (r ∷ past) loss k (Device n) are made e after none = absurd (cc)
+  left_unbroken (r ∷ past) loss k RecordFailed are made e after none = absurd (cc)
+  left_unbroken (r ∷ past) loss k Looks are made e after none = absurd (no_cause (r ∷ past) Looks refl e)
+  left_unbroken (r ∷ past) loss k Stopped are made e after none = absurd (no_cause (r ∷ past) Stopped refl e)
 
   over_unbroken : {L : Type 0} (x : Stay L) → IsStay row o before x → AreMade row o (stay_after before x) → IsOver x → is_broken (stay_after before x) ≡ false
   over_unbroken (Alone m answer) is made over = fine

@@ -60,9 +60,9 @@ level_most mean = most_from 30 0 mean (omega arith)
 down_most : (a : Averaging) (mean : ℕ) → mean ≤ 10 ^ 9 → down a mean ≤ 10 ^ 9
 unfolding down
 down_most a mean le = elim a.coarse as (λ b. (if b then level mean else mean) ≤ 10 ^ 9) [
-      | true ↦ level_most mean
-      | false ↦ le
-    ]
+  | true ↦ level_most mean
+  | false ↦ le
+]
 
 start_within : (a b c d : Bool) (rest : Option RowKey) → (if a then (if b then (if c then (if d then rest else Some Start) else Some Window) else Some Message) else Some Capacity) ≡ None → d ≡ true
 start_within true true true true rest e = refl

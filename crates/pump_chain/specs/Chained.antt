@@ -5,6 +5,7 @@ use Rattle.pump_frame.specs.declared.frame.Kind.{Kind}
 use Rattle.pump_frame.specs.declared.frame.Kind.TheVariants as kinds
 use Rattle.pump_frame.specs.declared.payload.Payload.{Payload}
 use Rattle.pump_frame.specs.declared.row.SessionRow.{SessionRow}
+use Rattle.pump_chain.specs.declared.sender.Sender.{Sender}
 use Rattle.script_reader.specs.declared.event.Event.{Event}
 use Rattle.script_reader.specs.declared.event.Event.TheVariants as prints
 use Rattle.script_reader.specs.declared.line.Arriving.{Arriving}
@@ -17,13 +18,8 @@ use Rattle.script_reader.specs.Sessions.{stands_first, moment_in, is_from}
 
 -- ---- the sender in the middle ----
 
--- whether the second pump has welcomed it since its opening, its last restart, or the last loss of its
--- connection; and whether a frame of it is under way, whose reply did not come yet
-pub record Middle : Type 0 where
-  pub is_welcome : Bool
-  pub is_under_way : Bool
-
-abbrev pub unsent : Middle
+-- nothing of it is under way, and it is not welcome yet
+abbrev pub unsent : Sender
 unsent = record { is_welcome = false; is_under_way = false }
 
 -- ---- the chain ----
@@ -32,7 +28,7 @@ unsent = record { is_welcome = false; is_under_way = false }
 pub record Chained : Type 0 where
   pub first : Running
   pub second : Running
-  pub middle : Middle
+  pub sender : Sender
   pub is_under_way : Bool
 
 -- the moment of the last line of either session that had one
@@ -57,8 +53,8 @@ message_of number (Some payload) = Data number payload
 -- receiver that the second pump has not accepted, where there is one
 abbrev pub added : Chained → Arriving
 added c =
-    if c.middle.is_under_way then Nothing
-    else if c.middle.is_welcome then message_of (accepted_of c) (slice_get (received_of c) (accepted_of c))
+    if c.sender.is_under_way then Nothing
+    else if c.sender.is_welcome then message_of (accepted_of c) (slice_get (received_of c) (accepted_of c))
     else Hello c.second.row.low c.second.row.high
 
 -- ---- what becomes of the sender ----
@@ -81,14 +77,14 @@ is_frame _ = true
 
 -- after a line of the second session that printed this: what it added is under way until a reply comes;
 -- with the connection, or the pump, all of it is over
-abbrev pub middle_after : Middle → Line → List Event → Middle
-middle_after s (lines.Look session m w a) printed = record {
+abbrev pub sender_after : Sender → Line → List Event → Sender
+sender_after s (lines.Look session m w a) printed = record {
   is_welcome = s.is_welcome || list_any is_welcome printed;
   is_under_way = (s.is_under_way || is_frame a) && not (list_any is_reply printed);
 }
-middle_after s (lines.Gone session m) printed = unsent
-middle_after s (lines.Restart session m) printed = unsent
-middle_after s line printed = s
+sender_after s (lines.Gone session m) printed = unsent
+sender_after s (lines.Restart session m) printed = unsent
+sender_after s line printed = s
 
 -- ---- what a line is to the chain ----
 
@@ -100,29 +96,32 @@ pub data Share : Type 0 where
   OfNone : Share
 
 -- the line of the session of this number
-abbrev pub by_session : Chained → ℕ → Line → Share
-by_session c session line =
-    if session == c.first.row.id then OfFirst line
-    else if session == c.second.row.id then OfSecond line
+abbrev pub by_session : ℕ → ℕ → ℕ → Line → Share
+by_session first second session line =
+    if session == first then OfFirst line
+    else if session == second then OfSecond line
     else OfNone
 
 -- Nobody but the sender adds anything before a look of the second pump: such a look is a `step`, and stands for the
 -- `look` that adds what the sender adds. Both sessions have begun, and neither is a low side alone.
+abbrev pub share_by : ℕ → ℕ → Arriving → Line → Share
+share_by first second adds lines.Skip = Skipped
+share_by first second adds (lines.Session row) = OfNone
+share_by first second adds (lines.LowSession row next held) = OfNone
+share_by first second adds (lines.Told session m w fault told a) = OfNone
+share_by first second adds (lines.Look session m w a) = if session == first then OfFirst (lines.Look session m w a) else OfNone
+share_by first second adds (lines.Step session m w) = if session == second then OfSecond (lines.Look session m w adds) else OfNone
+share_by first second adds (lines.Coarse session) = by_session first second session (lines.Coarse session)
+share_by first second adds (lines.Gone session m) = by_session first second session (lines.Gone session m)
+share_by first second adds (lines.High session m) = by_session first second session (lines.High session m)
+share_by first second adds (lines.Carry session back) = by_session first second session (lines.Carry session back)
+share_by first second adds (lines.Return session m back) = by_session first second session (lines.Return session m back)
+share_by first second adds (lines.Done session m t) = by_session first second session (lines.Done session m t)
+share_by first second adds (lines.Restart session m) = by_session first second session (lines.Restart session m)
+share_by first second adds (lines.ReceiverRestart session m) = by_session first second session (lines.ReceiverRestart session m)
+
 abbrev pub share : Chained → Line → Share
-share c lines.Skip = Skipped
-share c (lines.Session row) = OfNone
-share c (lines.LowSession row next held) = OfNone
-share c (lines.Told session m w fault told a) = OfNone
-share c (lines.Look session m w a) = if session == c.first.row.id then OfFirst (lines.Look session m w a) else OfNone
-share c (lines.Step session m w) = if session == c.second.row.id then OfSecond (lines.Look session m w (added c)) else OfNone
-share c (lines.Coarse session) = by_session c session (lines.Coarse session)
-share c (lines.Gone session m) = by_session c session (lines.Gone session m)
-share c (lines.High session m) = by_session c session (lines.High session m)
-share c (lines.Carry session back) = by_session c session (lines.Carry session back)
-share c (lines.Return session m back) = by_session c session (lines.Return session m back)
-share c (lines.Done session m t) = by_session c session (lines.Done session m t)
-share c (lines.Restart session m) = by_session c session (lines.Restart session m)
-share c (lines.ReceiverRestart session m) = by_session c session (lines.ReceiverRestart session m)
+share c line = share_by c.first.row.id c.second.row.id (added c) line
 
 -- ---- a line ----
 
@@ -138,7 +137,7 @@ first_led c line s = record c { first = s; is_under_way = c.is_under_way || not 
 abbrev pub second_led : Chained → Line → List Event → Running → Chained
 second_led c line printed s = record c {
   second = s;
-  middle = middle_after c.middle line printed;
+  sender = sender_after c.sender line printed;
   is_under_way = c.is_under_way || not (stands_first line);
 }
 

@@ -117,6 +117,8 @@ refused_device role named (whys.BadSlot number length) e = absurd (cc)
 refused_device role named (whys.Apart count bound) e = absurd (cc)
 refused_device role named (whys.Differs number) e = absurd (cc)
 refused_device role named (whys.NotEmpty size) e = absurd (cc)
+refused_device role named (whys.Small held capacity) e = absurd (cc)
+refused_device role named (whys.TooLong number size) e = absurd (cc)
 
 -- .. ends a call for itself alone
 pub refused_never : (role : Role) (why : Why) → (end_at role (Some why) ≡ Unread → ⊥) × (end_at role (Some why) ≡ Memory → ⊥) × (end_at role (Some why) ≡ Unconnected → ⊥) × (end_at role (Some why) ≡ Unwritten → ⊥)
@@ -129,6 +131,8 @@ refused_never role (whys.BadSlot number length) = ((λ e. cc), (λ e. cc), (λ e
 refused_never role (whys.Apart count bound) = ((λ e. cc), (λ e. cc), (λ e. cc), λ e. cc)
 refused_never role (whys.Differs number) = ((λ e. cc), (λ e. cc), (λ e. cc), λ e. cc)
 refused_never role (whys.NotEmpty size) = ((λ e. cc), (λ e. cc), (λ e. cc), λ e. cc)
+refused_never role (whys.Small held capacity) = ((λ e. cc), (λ e. cc), (λ e. cc), λ e. cc)
+refused_never role (whys.TooLong number size) = ((λ e. cc), (λ e. cc), (λ e. cc), λ e. cc)
 
 pub stops_at_disk : (found : List ℕ) (row : SessionRow) (why : Why) → (is_device why ≡ false → refused_receiver row receiver_size found ≡ Some why) → StopsAtDisk found row (end_at roles.Recv (Some why))
 stops_at_disk found row (whys.Device faults) is = tt
@@ -140,6 +144,8 @@ stops_at_disk found row (whys.BadSlot number length) is = is refl
 stops_at_disk found row (whys.Apart count bound) is = is refl
 stops_at_disk found row (whys.Differs number) is = is refl
 stops_at_disk found row (whys.NotEmpty size) is = is refl
+stops_at_disk found row (whys.Small held capacity) is = is refl
+stops_at_disk found row (whys.TooLong number size) is = is refl
 
 -- .. by the role of that disk
 pub refused_role : (role named : Role) (why : Why) → end_at role (Some why) ≡ Failed named → role ≡ named
@@ -152,3 +158,5 @@ refused_role role named (whys.BadSlot number length) e = absurd (cc)
 refused_role role named (whys.Apart count bound) e = absurd (cc)
 refused_role role named (whys.Differs number) e = absurd (cc)
 refused_role role named (whys.NotEmpty size) e = absurd (cc)
+refused_role role named (whys.Small held capacity) e = absurd (cc)
+refused_role role named (whys.TooLong number size) e = absurd (cc)

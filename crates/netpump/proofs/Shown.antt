@@ -83,6 +83,8 @@ module _ {D : Type 0} (d : Meaning D) (tells : d.tells) (before mid now : Places
   stops_so role (Some (whys.Apart count bound)) h = (of_before (λ low high recv. IsRefused row low high recv role (whys.Apart count bound)) (h refl tells), alike)
   stops_so role (Some (whys.Differs number)) h = (of_before (λ low high recv. IsRefused row low high recv role (whys.Differs number)) (h refl tells), alike)
   stops_so role (Some (whys.NotEmpty size)) h = (of_before (λ low high recv. IsRefused row low high recv role (whys.NotEmpty size)) (h refl tells), alike)
+  stops_so role (Some (whys.Small held capacity)) h = (of_before (λ low high recv. IsRefused row low high recv role (whys.Small held capacity)) (h refl tells), alike)
+  stops_so role (Some (whys.TooLong number size)) h = (of_before (λ low high recv. IsRefused row low high recv role (whys.TooLong number size)) (h refl tells), alike)
 
 -- ---- the end ----
 
@@ -97,6 +99,8 @@ ends_at_disk role (Some (whys.BadSlot number length')) = tt
 ends_at_disk role (Some (whys.Apart count bound)) = tt
 ends_at_disk role (Some (whys.Differs number)) = tt
 ends_at_disk role (Some (whys.NotEmpty size)) = tt
+ends_at_disk role (Some (whys.Small held capacity)) = tt
+ends_at_disk role (Some (whys.TooLong number size)) = tt
 
 -- the disk of this role failed
 is_blamed : (role other : Role) (why : Option Why) → end_at other why ≡ Failed role → (is_for_device why && is_role role other) ≡ true
@@ -109,6 +113,8 @@ is_blamed role other (Some (whys.BadSlot number length')) e = cc
 is_blamed role other (Some (whys.Apart count bound)) e = cc
 is_blamed role other (Some (whys.Differs number)) e = cc
 is_blamed role other (Some (whys.NotEmpty size)) e = cc
+is_blamed role other (Some (whys.Small held capacity)) e = cc
+is_blamed role other (Some (whys.TooLong number size)) e = cc
 is_blamed roles.Low roles.Low (Some (whys.Device n)) e = refl
 is_blamed roles.High roles.High (Some (whys.Device n)) e = refl
 is_blamed roles.Recv roles.Recv (Some (whys.Device n)) e = refl

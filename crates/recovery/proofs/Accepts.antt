@@ -4,14 +4,14 @@ use Rattle.std.proofs.lemmas.List.{get_or-drop, get_or-take}
 use Rattle.byteorder.specs.Endian.{big_bytes}
 use Rattle.stable_buffer.specs.Numbers.{length_at}
 use Rattle.stable_buffer.specs.Register.{value_of}
-use Rattle.stable_buffer.specs.Stands.{HasHeader, InSlot, LowStands, HighStands, slot_of}
+use Rattle.stable_buffer.specs.Stands.{HasHeader, InSlot, LowStands, HighStands, slot_of, newest_version, is_version}
 use Rattle.stable_buffer.specs.Format.{role_byte}
 use Rattle.stable_buffer.specs.Log.{RecvStands, is_log, log_of}
 use Rattle.pump_frame.specs.declared.row.SessionRow.{SessionRow}
 use Rattle.disk_model.specs.declared.name.Role.{Role}
 use Rattle.disk_model.specs.declared.name.Role.TheVariants.{Low, High, Recv}
 use Rattle.stable_buffer.proofs.Logs.{finds}
-use Rattle.recovery.specs.Refusals.{word_at, fields, other_field, other_size, refused_shape, or_else, refused_count, refused_disk, refused_log, refused_receiver, bad_slot}
+use Rattle.recovery.specs.Refusals.{word_at, fields, version_of, other_field, other_size, refused_shape, or_else, refused_count, refused_disk, refused_log, refused_receiver, bad_slot}
 use Rattle.recovery.specs.declared.why.Why.{Why}
 use Rattle.recovery.proofs.Words.{word_at-agree, word_at-spelled}
 use Rattle.recovery.proofs.Slots.{slot_length}
@@ -21,8 +21,11 @@ pub record FitsRow (row : SessionRow) : Type 0 where
   pub capacity : row.capacity < 2 ^ 32
   pub message : row.message ≤ 1024
 
-other_none : (a b c d e a' c' d' e' : ℕ) → a ≡ a' → b ≡ 1 → c ≡ c' → d ≡ d' → e ≡ e' → other_field 1 (a ∷ b ∷ c ∷ d ∷ e ∷ []) (a' ∷ 1 ∷ c' ∷ d' ∷ e' ∷ []) ≡ None
+other_none : (a b c d e a' c' d' e' : ℕ) → a ≡ a' → b ≡ newest_version → c ≡ c' → d ≡ d' → e ≡ e' → other_field 1 (a ∷ b ∷ c ∷ d ∷ e ∷ []) (a' ∷ newest_version ∷ c' ∷ d' ∷ e' ∷ []) ≡ None
 other_none a b c d e a' c' d' e' p q r s t = grind (arith, p, q, r, s, t)
+
+is_newest : (row : SessionRow) (found version : ℕ) → found ≡ version → is_version row version ≡ true → version_of row found ≡ newest_version
+is_newest row found version is known = subst (λ v. version_of row v ≡ newest_version) (sym is) (rw (known) refl)
 
 marked_none : (b : Bool) (x y : Option Why) (w : Why) → b ≡ true → x ≡ None → y ≡ None → (if b then or_else x y else Some w) ≡ None
 marked_none true None y w is first second = second
@@ -37,7 +40,7 @@ module _ (row : SessionRow) (fits : FitsRow row) (letter : ℕ) (disk : List ℕ
   area = take 80 disk
 
   abbrev front : List ℕ
-  front = 78 ∷ 80 ∷ 68 ∷ 49 ∷ letter ∷ 1 ∷ []
+  front = 78 ∷ 80 ∷ 68 ∷ 49 ∷ letter ∷ has.version ∷ []
 
   byte : (i : ℕ) → i < 6 → get_or area i 0 ≡ get_or front i 0
   byte i lt = get_or-take 80 disk i 0 (omega (arith, lt)) ∙ sym (get_or-take 32 disk i 0 (omega (arith, lt))) ∙ sym (get_or-take 6 (take 32 disk) i 0 lt) ∙ ap (λ (l : List ℕ). get_or l i 0) has.mark
@@ -58,8 +61,8 @@ module _ (row : SessionRow) (fits : FitsRow row) (letter : ℕ) (disk : List ℕ
   word p n le small is =
       word_at-agree area (8 + p) S p (λ i lt. let e : 8 + (p + i) ≡ 8 + p + i = omega arith in subst (λ j. get_or area j 0 ≡ get_or S (p + i) 0) e (number (p + i) (omega (arith, le, lt)))) ∙ word_at-spelled S p n small is
 
-  no_other : other_field 1 (fields area) (letter ∷ 1 ∷ row.id ∷ row.capacity ∷ row.message ∷ []) ≡ None
-  no_other = other_none _ _ _ _ _ _ _ _ _ (byte 4 (omega arith)) (byte 5 (omega arith)) (word 0 row.id (omega arith) fits.session refl) (word 4 row.capacity (omega arith) fits.capacity refl)
+  no_other : other_field 1 (fields row area) (letter ∷ newest_version ∷ row.id ∷ row.capacity ∷ row.message ∷ []) ≡ None
+  no_other = other_none _ _ _ _ _ _ _ _ _ (byte 4 (omega arith)) (is_newest row _ has.version (byte 5 (omega arith)) has.known) (word 0 row.id (omega arith) fits.session refl) (word 4 row.capacity (omega arith) fits.capacity refl)
       (word 8 row.message (omega arith) (omega (arith, fits.message)) refl)
 
   pub shape_none : (role : Role) → role_byte role ≡ letter → 80 ≤ length disk → other_size row role (length disk) ≡ None → refused_shape row role disk ≡ None
@@ -68,7 +71,7 @@ module _ (row : SessionRow) (fits : FitsRow row) (letter : ℕ) (disk : List ℕ
       let yes : nat_le 80 (length disk) ≡ true = grind (arith, size) in
       let also : (word_at area 0 == 1313883185) ≡ true = grind (arith, mark) in
       let both : (nat_le 80 (length disk) && (word_at area 0 == 1313883185)) ≡ true = rw (yes) also in
-      marked_none _ _ _ _ both (subst (λ k. other_field 1 (fields area) (k ∷ 1 ∷ row.id ∷ row.capacity ∷ row.message ∷ []) ≡ None) (sym is) no_other) exact
+      marked_none _ _ _ _ both (subst (λ k. other_field 1 (fields row area) (k ∷ newest_version ∷ row.id ∷ row.capacity ∷ row.message ∷ []) ≡ None) (sym is) no_other) exact
 
 then_none : (x y : Option Why) → x ≡ None → y ≡ None → or_else x y ≡ None
 then_none None y p q = q

@@ -13,7 +13,7 @@ use Rattle.recovery.specs.Refusals.{refused_disk, refused_pair, refused_pump, ba
 use Rattle.recovery.specs.Agreement.{SlotsAgree, Disagrees}
 use Rattle.recovery.specs.Joint.{kept_with, taking_of, accepted_if, removed_if, received_if, EachTripleOpens, EachWorldOpens}
 use Rattle.recovery.specs.declared.why.Why.{Why}
-use Rattle.recovery.specs.declared.why.Why.TheVariants.{Device, NotABuffer, WrongShape, BadRegister, Mismatch, BadSlot, Apart, Differs, NotEmpty}
+use Rattle.recovery.specs.declared.why.Why.TheVariants.{Device, NotABuffer, WrongShape, BadRegister, Mismatch, BadSlot, Apart, Differs, NotEmpty, Small, TooLong}
 use Rattle.recovery.proofs.Rows.{row_message}
 use Rattle.recovery.proofs.Accepts.{FitsRow, low_none, high_none, recv_none, slots_none}
 
@@ -99,6 +99,8 @@ never_apart row removed count accepted ms low (BadRegister a b) up down all d = 
 never_apart row removed count accepted ms low (Mismatch a b) up down all d = d
 never_apart row removed count accepted ms low (BadSlot a b) up down all d = d
 never_apart row removed count accepted ms low (NotEmpty a) up down all d = d
+never_apart row removed count accepted ms low (Small a b) up down all d = d
+never_apart row removed count accepted ms low (TooLong a b) up down all d = d
 
 pub each_triple : EachTripleOpens
 each_triple row w size stored removed taken low high recv lawful r s =

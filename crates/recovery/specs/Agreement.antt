@@ -3,7 +3,7 @@ use Rattle.std.specs.Prelude.{◌≡◌, ◌⊎◌, ℕ, ◌<◌, ◌≤◌, Lis
 use Rattle.pump_frame.specs.declared.row.SessionRow.{SessionRow}
 use Rattle.stable_buffer.specs.Stands.{InSlot}
 use Rattle.recovery.specs.declared.why.Why.{Why}
-use Rattle.recovery.specs.declared.why.Why.TheVariants.{Device, NotABuffer, WrongShape, BadRegister, Mismatch, BadSlot, Apart, Differs, NotEmpty}
+use Rattle.recovery.specs.declared.why.Why.TheVariants.{Device, NotABuffer, WrongShape, BadRegister, Mismatch, BadSlot, Apart, Differs, NotEmpty, Small, TooLong}
 
 -- the receiver's messages from `removed` to before `count` stand in low's slots
 abbrev pub SlotsAgree : SessionRow → ℕ → ℕ → List (List ℕ) → List ℕ → Type 0
@@ -23,3 +23,5 @@ Disagrees row removed count accepted messages low (BadRegister first second) = �
 Disagrees row removed count accepted messages low (Mismatch one other) = ⊥
 Disagrees row removed count accepted messages low (BadSlot number length) = ⊥
 Disagrees row removed count accepted messages low (NotEmpty size) = ⊥
+Disagrees row removed count accepted messages low (Small held capacity) = ⊥
+Disagrees row removed count accepted messages low (TooLong number length) = ⊥

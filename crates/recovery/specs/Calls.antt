@@ -13,7 +13,7 @@ use Rattle.high_receiver.specs.Receiving.{recv_disk, recv_is_open}
 use Rattle.high_receiver.specs.declared.receiver.Receiver.{Receiver}
 use Rattle.recovery.specs.Refusals.{refused_disk}
 use Rattle.recovery.specs.declared.why.Why.{Why}
-use Rattle.recovery.specs.declared.why.Why.TheVariants.{Device, NotABuffer, WrongShape, BadRegister, Mismatch, BadSlot, Apart, Differs, NotEmpty}
+use Rattle.recovery.specs.declared.why.Why.TheVariants.{Device, NotABuffer, WrongShape, BadRegister, Mismatch, BadSlot, Apart, Differs, NotEmpty, Small, TooLong}
 use Rattle.recovery.specs.declared.pump.Opened.{Opened}
 use Rattle.recovery.specs.declared.pump.NotOpened.{NotOpened}
 
@@ -28,6 +28,8 @@ is_device (BadSlot number length) = false
 is_device (Apart count bound) = false
 is_device (Differs number) = false
 is_device (NotEmpty size) = false
+is_device (Small held capacity) = false
+is_device (TooLong number length) = false
 
 -- the answer is that the disk failed
 abbrev pub failed : {T : Type 0} → Result T Why → Bool

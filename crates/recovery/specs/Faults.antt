@@ -1,7 +1,7 @@
 -- What a fault line has of a refusal.
 use Rattle.std.specs.Prelude.{ℕ}
 use Rattle.recovery.specs.declared.why.Why.{Why}
-use Rattle.recovery.specs.declared.why.Why.TheVariants.{Device, NotABuffer, WrongShape, BadRegister, Mismatch, BadSlot, Apart, Differs, NotEmpty}
+use Rattle.recovery.specs.declared.why.Why.TheVariants.{Device, NotABuffer, WrongShape, BadRegister, Mismatch, BadSlot, Apart, Differs, NotEmpty, Small, TooLong}
 
 -- a refusal's number
 abbrev pub why_number : Why → ℕ
@@ -14,6 +14,8 @@ why_number (BadSlot number length) = 6
 why_number (Apart count bound) = 7
 why_number (Differs number) = 8
 why_number (NotEmpty size) = 9
+why_number (Small held capacity) = 10
+why_number (TooLong number length) = 11
 
 -- its two values in their order, a missing one 0; a wrong shape's are without its field
 abbrev pub why_values : Why → ℕ × ℕ
@@ -26,3 +28,5 @@ why_values (BadSlot number length) = (number, length)
 why_values (Apart count bound) = (count, bound)
 why_values (Differs number) = (number, 0)
 why_values (NotEmpty size) = (size, 0)
+why_values (Small held capacity) = (held, capacity)
+why_values (TooLong number length) = (number, length)

@@ -1,12 +1,12 @@
 -- The order of refusals: the first cause for which the disks of a session are refused, by what a read of them gives.
-use Rattle.std.specs.Prelude.{◌≡◌, ℕ, zero, suc, ◌+◌, ◌-◌, ◌^◌, ◌==◌, ◌&&◌, nat_le, nat_lt, if◌then◌else◌, List, [], ◌∷◌, length, take, drop, slice_index, Option, Some, None}
+use Rattle.std.specs.Prelude.{◌≡◌, ℕ, zero, suc, ◌+◌, ◌-◌, ◌^◌, ◌==◌, ◌&&◌, nat_le, nat_lt, if◌then◌else◌, true, List, [], ◌∷◌, length, take, drop, slice_index, Option, Some, None}
 use Rattle.byteorder.specs.Endian.{big_number, big_bytes}
 use Rattle.pump_frame.specs.declared.row.SessionRow.{SessionRow}
 use Rattle.disk_model.specs.declared.name.Role.{Role}
 use Rattle.disk_model.specs.declared.name.Role.TheVariants.{Low, High, Recv}
 use Rattle.stable_buffer.specs.Numbers.{length_at}
 use Rattle.stable_buffer.specs.Register.{value_of}
-use Rattle.stable_buffer.specs.Stands.{slot_of, low_size}
+use Rattle.stable_buffer.specs.Stands.{slot_of, low_size, newest_version, is_version}
 use Rattle.stable_buffer.specs.Format.{role_byte}
 use Rattle.stable_buffer.specs.Log.{is_log, log_of}
 use Rattle.recovery.specs.declared.why.Why.{Why}
@@ -27,13 +27,17 @@ word_at disk at = big_number 4 (drop at disk)
 abbrev pub mark : ℕ
 mark = 1313883185
 
+-- a version that the row's disks may have counts as the newest
+abbrev pub version_of : SessionRow → ℕ → ℕ
+version_of row version = if is_version row version then newest_version else version
+
 -- what the first 80 bytes say of the disk: role, version, session, capacity, message
-abbrev pub fields : List ℕ → List ℕ
-fields front = slice_index front 4 ∷ slice_index front 5 ∷ word_at front 8 ∷ word_at front 12 ∷ word_at front 16 ∷ []
+abbrev pub fields : SessionRow → List ℕ → List ℕ
+fields row front = slice_index front 4 ∷ version_of row (slice_index front 5) ∷ word_at front 8 ∷ word_at front 12 ∷ word_at front 16 ∷ []
 
 -- what they have to say
 abbrev pub wanted : SessionRow → Role → List ℕ
-wanted row role = role_byte role ∷ 1 ∷ row.id ∷ row.capacity ∷ row.message ∷ []
+wanted row role = role_byte role ∷ newest_version ∷ row.id ∷ row.capacity ∷ row.message ∷ []
 
 -- the first field, numbered from n on, that differs from what is wanted
 abbrev pub other_field : ℕ → List ℕ → List ℕ → Option Why
@@ -51,7 +55,7 @@ other_size row Recv size = None
 abbrev pub refused_front : SessionRow → Role → ℕ → List ℕ → Option Why
 refused_front row role size front =
     if nat_le 80 size && (word_at front 0 == mark)
-    then or_else (other_field 1 (fields front) (wanted row role)) (other_size row role size)
+    then or_else (other_field 1 (fields row front) (wanted row role)) (other_size row role size)
     else Some (NotABuffer size (if nat_lt size 4 then 0 else word_at front 0))
 
 abbrev pub refused_shape : SessionRow → Role → List ℕ → Option Why
@@ -60,7 +64,7 @@ refused_shape row role disk = refused_front row role (length disk) (take 80 disk
 -- the fields are spelled as they have to be; only clauses of private functions name this
 pub record HasFields (row : SessionRow) (role : ℕ) (front : List ℕ) : Type 0 where
   pub role_is : slice_index front 4 ≡ role
-  pub version : slice_index front 5 ≡ 1
+  pub version : is_version row (slice_index front 5) ≡ true
   pub session : big_bytes 4 row.id ≡ take 4 (drop 8 front)
   pub capacity : big_bytes 4 row.capacity ≡ take 4 (drop 12 front)
   pub message : big_bytes 4 row.message ≡ take 4 (drop 16 front)

@@ -60,6 +60,14 @@ impl fmt::Display for Why {
                 f,
                 "the disk has {size} bytes already; empty it first if nothing on it is wanted"
             ),
+            Why::Small { held, capacity } => write!(
+                f,
+                "{held} messages are held, and the new row has places for {capacity}; let the relay hand some on first, or give the new row a greater capacity"
+            ),
+            Why::TooLong { number, length } => write!(
+                f,
+                "message {number} has {length} bytes, more than the new row allows; give the new row a greater message size"
+            ),
         }
     }
 }

@@ -1,5 +1,5 @@
 // The first bytes of a disk.
-ghost use Rattle.std.specs.Prelude.{◌≡◌, ◌+◌, ◌≤◌, true, false, Some, None, length, take, drop, OnOk, IfOk, IfErr};
+ghost use Rattle.std.specs.Prelude.{◌≡◌, ◌+◌, ◌≤◌, true, false, Some, None, length, take, drop, IfSome, OnOk, IfOk, IfErr};
 ghost use Rattle.byteorder.specs.Endian.{big_bytes};
 ghost use Rattle.pump_frame.specs.Rows.{IsLawfulRow};
 ghost use Rattle.disk_model.specs.Disk.{Moves, Same};
@@ -13,7 +13,7 @@ use crate::Why;
 use byteorder::{BigEndian, ByteOrder};
 use disk_model::{Disk, DiskFault, Role};
 use pump_frame::SessionRow;
-use stable_buffer::disk_size;
+use stable_buffer::{VERSION, allows_version, disk_size};
 
 // The bytes `NPD1`.
 const MARK: u32 = 0x4E50_4431;
@@ -49,15 +49,16 @@ fn differs(field: u32, found: u64, wanted: u64) -> Why
 
 fn find_other_field(front: &[u8], row: &SessionRow, role: Role) -> Option<Why>
     requires { length front.now ≡ 80 }
-    ensures first { result ≡ other_field 1 (fields front.now) (wanted row.now role) }
+    ensures first { result ≡ other_field 1 (fields row.now front.now) (wanted row.now role) }
     ensures none { result ≡ None → HasFields row.now (role_byte role) front.now }
+    ensures no_device { IfSome result (λ why. is_device why ≡ false) }
 {
     let letter = letter(role);
     if front[4] != letter {
         return Some(differs(1, front[4] as u64, letter as u64));
     }
-    if front[5] != 1 {
-        return Some(differs(2, front[5] as u64, 1));
+    if !allows_version(row, front[5]) {
+        return Some(differs(2, front[5] as u64, VERSION as u64));
     }
     let session = word(front, 8);
     if session != row.id {
@@ -76,7 +77,8 @@ fn find_other_field(front: &[u8], row: &SessionRow, role: Role) -> Option<Why>
 
 fn find_other_size(row: &SessionRow, role: Role, size: u64) -> Option<Why>
     requires { IsLawfulRow row.now }
-    ensures { result ≡ other_size row.now role size }
+    ensures size { result ≡ other_size row.now role size }
+    ensures no_device { IfSome result (λ why. is_device why ≡ false) }
 {
     if role == Role::Recv {
         return None;
@@ -95,6 +97,7 @@ fn find_refusal(front: &[u8], row: &SessionRow, role: Role, size: u64) -> Option
     requires size { 80 ≤ size }
     ensures first { result ≡ refused_front row.now role size front.now }
     ensures none { result ≡ None → HasHeader row.now (role_byte role) (take 32 front.now) }
+    ensures no_device { IfSome result (λ why. is_device why ≡ false) }
 {
     let bytes = word(front, 0);
     if bytes != MARK {

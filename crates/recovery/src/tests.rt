@@ -31,7 +31,7 @@ fn row() -> Option<SessionRow>
 // The first 80 bytes of a disk of that row.
 fn front(letter: u8, first: u8, second: u8) -> [u8; 80] {
     let mut bytes = [0; 80];
-    bytes[..6].copy_from_slice(&[b'N', b'P', b'D', b'1', letter, 1]);
+    bytes[..6].copy_from_slice(&[b'N', b'P', b'D', b'1', letter, 2]);
     bytes[11] = 1;
     bytes[15] = 3;
     bytes[19] = 8;
@@ -128,7 +128,7 @@ fn one_byte_refuses_a_low_disk(rt: HostRuntime) -> Result<(), Fail> {
     let cases = [
         (3, b'2', mark),
         (4, b'H', shape(1, 72, 76)),
-        (5, 2, shape(2, 2, 1)),
+        (5, 3, shape(2, 3, 2)),
         (11, 2, shape(3, 2, 1)),
         (15, 4, shape(4, 4, 3)),
         (19, 9, shape(5, 9, 8)),
@@ -233,6 +233,44 @@ fn a_receiver_goes_with_its_relay_alone(rt: HostRuntime) -> Result<(), Fail> {
     Ok(())
 }
 
+// Why the receiver's disk is refused where it has this version and a row of this capacity.
+fn version_refusal(alloc: Global, version: u8, capacity: u8) -> Result<Option<Why>, Fail> {
+    let Some(row) = row() else {
+        return Err(Fail::new("no row"));
+    };
+    let row = SessionRow {
+        capacity: capacity as u32,
+        ..row
+    };
+    if row.first_bad().is_some() {
+        return Err(Fail::new("no lawful row"));
+    }
+    let mut bytes = receiver();
+    bytes[5] = version;
+    bytes[15] = capacity;
+    match open_receiver(disk(alloc, &bytes)?, &row, 86) {
+        Ok(_) => Ok(None),
+        Err((_, why)) => Ok(Some(why)),
+    }
+}
+
+#[test]
+fn a_disk_of_version_one_has_a_capacity_of_at_most_64(rt: HostRuntime) -> Result<(), Fail> {
+    let cases = [
+        (0, 3, Some(shape(2, 0, 2))),
+        (1, 3, None),
+        (1, 64, None),
+        (1, 65, Some(shape(2, 1, 2))),
+        (2, 65, None),
+        (3, 3, Some(shape(2, 3, 2))),
+    ];
+    for (version, capacity, why) in &cases {
+        let found = version_refusal(rt.alloc(), *version, *capacity)?;
+        assert_eq!(rt; found, *why);
+    }
+    Ok(())
+}
+
 #[test]
 fn a_disk_that_fails_says_so_and_nothing_else(rt: HostRuntime) -> Result<(), Fail> {
     let Some(row) = row() else {
@@ -262,5 +300,10 @@ fn a_refusal_says_what_was_found(rt: HostRuntime) -> Result<(), Fail> {
         "the disk was made with the capacity 5, and the row wants 3; use the row that it was made with, or empty it and format it for this one"
     );
     assert_eq!(rt; (why.number(), why.values()), (3, (5, 3)));
+    let long = Why::TooLong {
+        number: 4,
+        length: 9,
+    };
+    assert_eq!(rt; (long.number(), long.values()), (11, (4, 9)));
     Ok(())
 }

@@ -26,6 +26,10 @@ pub enum Why {
     Differs { number: u64 },
     /// It is to be formatted, and isn't empty.
     NotEmpty { size: u64 },
+    /// It is to take more messages than its row has places for: how many, and that capacity.
+    Small { held: u64, capacity: u32 },
+    /// It is to take a message that is longer than its row lets it be: its number and its length.
+    TooLong { number: u64, length: u32 },
 }
 
 impl Why {
@@ -43,6 +47,8 @@ impl Why {
             Why::Apart { .. } => 7,
             Why::Differs { .. } => 8,
             Why::NotEmpty { .. } => 9,
+            Why::Small { .. } => 10,
+            Why::TooLong { .. } => 11,
         }
     }
 
@@ -61,6 +67,8 @@ impl Why {
             Why::Apart { count, bound } => (*count, *bound),
             Why::Differs { number } => (*number, 0),
             Why::NotEmpty { size } => (*size, 0),
+            Why::Small { held, capacity } => (*held, *capacity as u64),
+            Why::TooLong { number, length } => (*number, *length as u64),
         }
     }
 }

@@ -79,6 +79,8 @@ device_fault id role (whys.BadSlot number length) e = cc
 device_fault id role (whys.Apart count bound) e = cc
 device_fault id role (whys.Differs number) e = cc
 device_fault id role (whys.NotEmpty size) e = cc
+device_fault id role (whys.Small held capacity) e = cc
+device_fault id role (whys.TooLong number size) e = cc
 
 disk_fault : (id : ℕ) (role : Role) (why : Why) → is_device why ≡ false → fault_of id role why ≡ faults.Disk id role (why_number why) (why_values why).0 (why_values why).1
 disk_fault id role (whys.Device n) e = cc
@@ -90,6 +92,8 @@ disk_fault id role (whys.BadSlot number length) e = refl
 disk_fault id role (whys.Apart count bound) e = refl
 disk_fault id role (whys.Differs number) e = refl
 disk_fault id role (whys.NotEmpty size) e = refl
+disk_fault id role (whys.Small held capacity) e = refl
+disk_fault id role (whys.TooLong number size) e = refl
 
 is_device_fault : (id : ℕ) (role : Role) (why : Why) → IsDeviceOutcome (outcomes.Stopped (fault_of id role why)) → is_device why ≡ true
 is_device_fault id role (whys.Device n) h = refl
@@ -101,6 +105,8 @@ is_device_fault id role (whys.BadSlot number length) h = absurd h
 is_device_fault id role (whys.Apart count bound) h = absurd h
 is_device_fault id role (whys.Differs number) h = absurd h
 is_device_fault id role (whys.NotEmpty size) h = absurd h
+is_device_fault id role (whys.Small held capacity) h = absurd h
+is_device_fault id role (whys.TooLong number size) h = absurd h
 
 none_failed : {D : Type 0} (role : Role) (e : NotOpen D) (why : Why) → e.why ≡ Some why → is_device why ≡ false → failed_at role e ≡ false
 none_failed role e why is fine = ap (λ (w : Option Why). is_for_device w && is_role role e.role) is ∙ ap (λ (b : Bool). b && is_role role e.role) fine

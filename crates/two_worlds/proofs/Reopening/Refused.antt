@@ -109,3 +109,5 @@ module _ {D : Type 0} (m : Meaning D) (c : Parts D) (recv : D) where
     refused (whys.Apart count bound) r = other (whys.Apart count bound) refl r
     refused (whys.Differs number) r = other (whys.Differs number) refl r
     refused (whys.NotEmpty size) r = other (whys.NotEmpty size) refl r
+    refused (whys.Small held capacity) r = other (whys.Small held capacity) refl r
+    refused (whys.TooLong number size) r = other (whys.TooLong number size) refl r

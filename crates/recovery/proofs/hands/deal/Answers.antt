@@ -11,6 +11,19 @@ use Rattle.recovery.proofs.Rows.{row_capacity}
 use Rattle.recovery.proofs.Dealing.{none_dealt, some_dealt, all_dealt}
 use Rattle.recovery.proofs.hands.deal.Goals as goal
 
+pub returns-in_err-first-clause-exact : goal.returns-in_err-first-clause-exact
+returns-in_err-first-clause-exact g c =
+    let m = g.D.Disk.told in
+    let row = c.args.row.now in
+    let d = m.reading c.args.low.now.register.disk in
+    let e = c.args.low.now.register.first in
+    let b = c.args.removed in
+    let why = c.in_err-first.field-0.0 in
+    let some : 0 < e - b = omega (arith, c.accepted-next.ensures, c.if-removed-next.false, c.requires.between.0) in
+    let fact : is_device why ≡ false → m.tells → bad_slot row d b (e - b) ≡ Some why = λ nd told. c.in_err-first.ensures.exact nd told (e - b) some in
+    let r = err_from_is_err_and c.from_residual.result c.from_residual.ensures.1 in
+    rw (r.1, r.2) fact
+
 pub returns-in_err-fill-clause-exact : goal.returns-in_err-fill-clause-exact
 returns-in_err-fill-clause-exact g c =
     let m = g.D.Disk.told in

@@ -1,4 +1,0 @@
-pub mod Chained
-pub mod Keeping
-pub mod Private
-pub mod Standing

@@ -40,7 +40,7 @@ use Rattle.two_worlds.specs.Working.{Works, IsAble}
 use Rattle.two_worlds.proofs.Disks.LeavesWorld.{fits_row}
 use Rattle.two_worlds.proofs.Lines.Kept.{able_stands, stands_hold, works_up}
 use Rattle.two_worlds.proofs.Disks.OpensSurely.{one_received}
-use Rattle.two_worlds.proofs.Opening.Ready.{low_reading, recv_reading}
+use Rattle.two_worlds.proofs.Opening.Ready.{low_is_ready, low_reading, recv_reading}
 use Rattle.two_worlds.proofs.Reopening.Receiver.{recv_still}
 
 -- ---- what a call of a disk answers ----
@@ -51,9 +51,9 @@ pub reads_serve : {D T E : Type 0} (m : Meaning D) (fits : Type 0) (old new : D)
 reads_serve m fits old new (Ok value) has a = (
   inr (record {
     counts = a.counts;
-    rose = λ e. absurd e;
-    never = λ plan unarmed room. tt;
-    always = λ plan armed. absurd (a.always plan armed);
+    rose = λ e. absurd (cc);
+    never = λ plan unarmed room. refl;
+    always = λ plan armed. (let no = a.always plan armed in absurd (cc));
     room = a.room;
     disarmed = a.disarmed;
   }),
@@ -63,9 +63,9 @@ reads_serve m fits old new (Err e) has a = (
   tt,
   inr (record {
     counts = a.counts;
-    rose = λ e. a.rose tt;
-    never = λ plan unarmed room. absurd (a.never plan unarmed (has plan));
-    always = λ plan armed. tt;
+    rose = λ e. a.rose refl;
+    never = λ plan unarmed room. (let no = a.never plan unarmed (has plan) in absurd (cc));
+    always = λ plan armed. refl;
     room = a.room;
     disarmed = a.disarmed;
   }),
@@ -86,8 +86,8 @@ message_is row w disk into n size short from before s length_is stands =
     let e : w.removed + i ≡ n = omega (arith, from) in
     let within : i < length (live_messages w) = omega (arith, s.count, from, before) in
     let at : InSlot row n (get_or w.accepted n []) disk =
-        subst (λ (k : ℕ). InSlot row k (get_or w.accepted k []) disk) e
-        (subst (λ (m : List ℕ). InSlot row (w.removed + i) m disk) (get_or-drop w.removed w.accepted i []) (s.slots i within)) in
+    subst (λ (k : ℕ). InSlot row k (get_or w.accepted k []) disk) e
+    (subst (λ (m : List ℕ). InSlot row (w.removed + i) m disk) (get_or-drop w.removed w.accepted i []) (s.slots i within)) in
     let fits : size ≤ row.message = let l = slot_length row short n _ disk at in let f = at.fits in omega (arith, length_is, l, f) in
     slot_one row short n into (get_or w.accepted n []) disk (stands fits) at
 
@@ -104,6 +104,19 @@ last : (a b : Bool) → (a || b || true) ≡ true
 last true b = refl
 last false true = refl
 last false false = refl
+
+-- the store was made with the session's row
+pub store_row : {D : Type 0} (m : Meaning D) (c : Parts D) → IsAble m c → low_row c.low_store ≡ c.row
+store_row m c able = ∥∥₁_elim able.works (hlevel props) (λ w. w.low_ready.store.row ∙ w.low_ready.row)
+
+-- by the plan all of the slots can be read
+pub low_length : {D : Type 0} (m : Meaning D) (c : Parts D) → IsAble m c → m.tells_plan → low_size (low_row c.low_store) ≤ length (m.reading (low_disk c.low_store))
+low_length m c able plan = let e = ((low_is_ready m c able).stands (m.plan_tells plan)).2.size in omega (arith, e)
+
+pub low_fits : {D : Type 0} (m : Meaning D) (c : Parts D) (p : Past) → m.tells → Stands m c p → low_row c.low_store ≡ c.row
+    → LowStands (low_row c.low_store) (length p.world.accepted) p.world.removed (live_messages p.world) (m.reading (low_disk c.low_store))
+low_fits m c p told s row = subst (λ (r : SessionRow). LowStands r (length p.world.accepted) p.world.removed (live_messages p.world) (m.reading (low_disk c.low_store))) (sym row)
+    (low_reading c.row p.world _ s.sound.rest.storing (s.disks.low_disk.reading told))
 
 -- ---- the low disk ----
 
@@ -245,6 +258,12 @@ told_message m c n into found told p s =
     found told p.world.received (subst (λ (r : SessionRow). RecvStands r p.world.received (m.reading (recv_disk c.receiver))) (sym s.recv_ready.row)
     (recv_reading c.row p.world _ s.sound.rest.packet (s.disks.recv_disk.reading told)))
 
+pub told_next : {D : Type 0} (m : Meaning D) (c : Parts D) (new : Receiver D) (n next : ℕ) → recv_row new ≡ recv_row c.receiver → Moves m Same (recv_disk c.receiver) (recv_disk new)
+    → IsRecordAt m new n next → m.tells → (p : Past) → Stands m c p → next ≡ record_at p.world.received n
+told_next m c new n next row same is told p s =
+    is.place told p.world.received (subst (λ (x : SessionRow × List ℕ). RecvStands x.0 p.world.received x.1) (λ i. (sym (row ∙ s.recv_ready.row) i, sym (same.reads told) i))
+    (recv_reading c.row p.world _ s.sound.rest.packet (s.disks.recv_disk.reading told)))
+
 module _ {D : Type 0} (m : Meaning D) (c : Parts D) (new : Receiver D) (same : Moves m Same (recv_disk c.receiver) (recv_disk new)) where
   abbrev pub with_recv : Parts D
   with_recv = record c { receiver = new }
@@ -322,6 +341,41 @@ module _ {D : Type 0} (m : Meaning D) (c : Parts D) (new : Receiver D) (same : M
       down : is_down with_recv ≡ true
       down = (let e : (low.is_down c.low || high.is_down c.high || not (recv_is_open new)) ≡ (low.is_down c.low || high.is_down c.high || true) = ap (λ (b : Bool). low.is_down c.low || high.is_down c.high || not b) closed in e ∙ last (low.is_down c.low) (high.is_down c.high))
 
+-- ---- the state ----
+
+module _ {D : Type 0} (m : Meaning D) (s : PumpState D) (c d : Parts D) (is : s ≡ Open c) where
+  open_able : IsOpenWith (IsAble m) s → IsAble m c
+  open_able able = subst (IsOpenWith (IsAble m)) is able
+
+  pub state_message : (P : Past → Type 0) → ((p : Past) → Stands m c p → P p) → (p : Past) → StandsIn m s p → P p
+  state_message P told p stands = told p (subst (λ (x : PumpState D). StandsIn m x p) is stands)
+
+  module _ (rest : d ≡ record c { low_store = d.low_store }) (same : Moves m Same (low_disk c.low_store) (low_disk d.low_store)) where
+    pub low_reads : IsOpenWith (IsAble m) s → IsLowReady m d.low_store → low_count d.low_store ≡ low_count c.low_store → low_row d.low_store ≡ low_row c.low_store → Serves m 0 (low_disk c.low_store) (low_disk d.low_store) false
+        → ReadsIn m roles.Low s (Open d) × IsAble m d
+    low_reads able ready count row serves =
+        let here = open_able able in (
+          subst (λ (x : PumpState D × Parts D). ReadsIn m roles.Low x.0 (Open x.1)) (λ i. (sym is i, sym rest i)) (reads_low m c d.low_store same ready count row here serves),
+          subst (IsAble m) (sym rest) (able_low m c d.low_store same ready count row here),
+        )
+
+    pub low_fails : (t : PumpState D) → t ≡ Shut (bare_of d) → Serves m 0 (low_disk c.low_store) (low_disk d.low_store) true → FailsToRead m roles.Low s t
+    low_fails t shut serves =
+        subst (λ (x : PumpState D × PumpState D). FailsToRead m roles.Low x.0 x.1) (λ i. (sym is i, (ap (λ (y : Parts D). Shut (bare_of y)) (sym rest) ∙ sym shut) i)) (fails_low m c d.low_store same serves)
+
+  module _ (rest : d ≡ record c { receiver = d.receiver }) (same : Moves m Same (recv_disk c.receiver) (recv_disk d.receiver)) where
+    pub recv_reads : IsOpenWith (IsAble m) s → IsRecvReady m d.receiver → recv_count d.receiver ≡ recv_count c.receiver → recv_end d.receiver ≡ recv_end c.receiver → recv_row d.receiver ≡ recv_row c.receiver → recv_size d.receiver ≡ recv_size c.receiver
+        → Serves m 0 (recv_disk c.receiver) (recv_disk d.receiver) false → ReadsIn m roles.Recv s (Open d) × IsAble m d
+    recv_reads able ready count end row size serves =
+        let here = open_able able in (
+          subst (λ (x : PumpState D × Parts D). ReadsIn m roles.Recv x.0 (Open x.1)) (λ i. (sym is i, sym rest i)) (reads_recv m c d.receiver same ready count end row size here serves),
+          subst (IsAble m) (sym rest) (able_recv m c d.receiver same ready count end row size here),
+        )
+
+    pub recv_fails : recv_is_open d.receiver ≡ false → Serves m 0 (recv_disk c.receiver) (recv_disk d.receiver) true → FailsToRead m roles.Recv s (Open d)
+    recv_fails closed serves =
+        subst (λ (x : PumpState D × Parts D). FailsToRead m roles.Recv x.0 (Open x.1)) (λ i. (sym is i, sym rest i)) (fails_recv m c d.receiver same closed serves)
+
 -- ---- what the pump keeps ----
 
 module _ {D : Type 0} (m : Meaning D) (role : Role) (s t : PumpState D) where
@@ -332,12 +386,17 @@ module _ {D : Type 0} (m : Meaning D) (role : Role) (s t : PumpState D) where
     able = λ up. able;
   }
 
-  pub keeps_read : IsOpenWith (IsAble m) t → ReadsIn m role s t → Keeps m s → Keeps m t
+  keeps_read : IsOpenWith (IsAble m) t → ReadsIn m role s t → Keeps m s → Keeps m t
   keeps_read able r k = able_holds able k r.alone.row
 
-  pub keeps_failed : IsOpenWith (IsAble m) s → FailsToRead m role s t → Keeps m s → Keeps m t
+  keeps_failed : IsOpenWith (IsAble m) s → FailsToRead m role s t → Keeps m s → Keeps m t
   keeps_failed able r k = record {
     row = subst IsLawfulRow (sym r.alone.row) k.row;
     hold = λ told. ∥∥₁_map (able_stands m s able told) (λ x. let f = r.fails x.0 x.1 in record { world = x.0.world; lawful = f.lawful; disks = f.disks });
     able = λ up. (let down = r.alone.down in absurd (cc));
   }
+
+  -- whatever is answered
+  pub keeps_either : {T E : Type 0} (result : Result T E) → IsOpenWith (IsAble m) s → OnOk result (ReadsIn m role s t) → OnOk result (IsOpenWith (IsAble m) t) → OnErr result (FailsToRead m role s t) → ∥ Keeps m s ∥₁ → ∥ Keeps m t ∥₁
+  keeps_either (Ok value) was reads able fails k = ∥∥₁_map k (keeps_read able reads)
+  keeps_either (Err e) was reads able fails k = ∥∥₁_map k (keeps_failed was fails)

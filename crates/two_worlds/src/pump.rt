@@ -26,8 +26,8 @@ use disk_model::Disk;
 use parts::Parts;
 use pump_frame::{Payload, SessionRow};
 use script_reader::{EventHead, Line, LineHead};
-use state::PumpState;
 use stable_buffer::Device;
+use state::PumpState;
 use std::alloc::Global;
 pub use surveying::{Survey, survey_disks};
 
@@ -43,7 +43,7 @@ pub struct Pump<D: Disk> {
 ghost use Rattle.two_worlds.specs.Keeping.{Keeps};
 
 impl<D: Disk> Pump<D> {
-    ghost use Rattle.std.specs.Prelude.{◌≡◌, ◌<◌, ◌≤◌, ◌+◌, true, false, [], length, slice_index_or, None, OnOk, OnErr, IfOk, IfErr, IfSome};
+    ghost use Rattle.std.specs.Prelude.{◌≡◌, ◌<◌, ◌≤◌, ◌+◌, ◌^◌, true, false, [], length, slice_index_or, None, OnOk, OnErr, IfOk, IfErr, IfSome};
     ghost use Rattle.disk_model.specs.declared.name.Role.{Role};
     ghost use Rattle.disk_model.specs.declared.name.Role.TheVariants as roles;
     ghost use Rattle.pump_frame.specs.Rows.{IsLawfulRow};
@@ -181,6 +181,7 @@ impl<D: Disk> Pump<D> {
         ensures stands { (p : Past) → StandsFor D.told self.now p
             → result ≡ (length p.world.accepted, p.world.removed, length p.world.received) }
         ensures kept { result ≡ counts_of self.now }
+        ensures few { is_down self.now ≡ false → result.2 ≤ 2 ^ 48 }
     {
         match &self.state {
             PumpState::Open(parts) => (

@@ -40,8 +40,10 @@ impl<D: Disk> Parts<D> {
         if self.low.next() - n > u64::from(self.row.capacity) {
             return Ok(());
         }
-        self.low_store.slot(n, into)?;
-        Ok(())
+        match self.low_store.slot(n, into) {
+            Ok(_) => Ok(()),
+            Err(device) => Err(device),
+        }
     }
 
     // Message n of the receiver, whose record is at this offset, and the offset of the next record. Over
@@ -65,7 +67,10 @@ impl<D: Disk> Parts<D> {
         ensures device { IfErr result (λ e. e.faults ≡ D.told.count (recv_disk self.new.receiver)) }
     {
         let place = at.min(self.receiver.end());
-        self.receiver.at(n, place, into)
+        match self.receiver.at(n, place, into) {
+            Ok(next) => Ok(next),
+            Err(device) => Err(device),
+        }
     }
 }
 
@@ -113,9 +118,13 @@ impl<D: Disk> PumpState<D> {
         ensures fails { OnErr result (FailsToRead D.told roles.Recv self.old self.new) }
         ensures device { IfErr result (λ e. e.faults ≡ D.told.count (bare_disk roles.Recv (disks_in self.new))) }
     {
-        match self {
+        let read = match self {
             PumpState::Open(parts) => parts.received(n, at, into),
             PumpState::Shut(_) => unreachable!(),
+        };
+        match read {
+            Ok(next) => Ok(next),
+            Err(device) => Err(device),
         }
     }
 }

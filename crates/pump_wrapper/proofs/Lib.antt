@@ -1,0 +1,4 @@
+pub mod Cuts
+pub mod Following
+pub mod Rooms
+pub mod Wrapping

@@ -81,8 +81,7 @@ module _ {D L S E : Type 0} (t : DoorsTell D L) (m : Meaning S) (row : SessionRo
     (row_is : row_of parts.process ≡ row) (next_is : next_of parts.process ≡ next) (held_is : parts.is_held ≡ is_some hand)
     (lives : Lives parts.process (opening_of next hand) []) (words_are : parts.words ≡ record { key = key_of key; stream = 0; word_pos = 0 })
     (store_was : parts.store ≡ was) (now_is : now_disk ≡ low_disk store)
-    (found : FindsLow m row (opening_of next hand) disk) (counts : m.count disk ≤ m.count (low_disk was))
-    (lawful : IsLawfulRow row) (counted : IsCount next (is_some hand)) where
+    (found : FindsLow m row (opening_of next hand) disk) (counts : m.count disk ≤ m.count (low_disk was)) where
   abbrev o : Opening
   o = opening_of next hand
 
@@ -125,9 +124,9 @@ module _ {D L S E : Type 0} (t : DoorsTell D L) (m : Meaning S) (row : SessionRo
       ∙ ap (λ (x : SessionRow × ℕ × Bool). first_text x.0 (record { count = x.1; is_held = x.2 }) ++ looks_text x.0 (record_of (stayed [] lent.ran.stays))) (λ i. (row_before i, next_before i, held_before i))
       ∙ append_assoc (line_text (opening_line row o)) (coarse_text row) (looks_text row (record_of (stayed [] lent.ran.stays)))
 
-  begins : BeginsReadable row o
+  begins : IsCount next (is_some hand) → BeginsReadable row o
   begins =
-      subst (λ (x : SessionRow × ℕ × Bool). IsCount x.1 x.2 → BeginsReadable x.0 (record { count = x.1; is_held = x.2 })) (λ i. (row_before i, next_before i, held_before i)) lent.ran.begins counted
+      subst (λ (x : SessionRow × ℕ × Bool). IsCount x.1 x.2 → BeginsReadable x.0 (record { count = x.1; is_held = x.2 })) (λ i. (row_before i, next_before i, held_before i)) lent.ran.begins
 
   are_stays : AreStays row o [] lent.ran.stays
   are_stays = subst (λ (r : SessionRow). AreStays r o [] lent.ran.stays) row_before (lent.ran.so.rule o [] lived)
@@ -151,8 +150,8 @@ module _ {D L S E : Type 0} (t : DoorsTell D L) (m : Meaning S) (row : SessionRo
   left_by told sound =
       subst (λ (x : ℕ × S). StandsForCount row x.0 (m.reading x.1)) (λ i. (ap (λ (s : State). s.next) lives_on.stands.stands.state i, now_disk_is i)) (stands_for told (is_up sound))
 
-  pub low_served : LowServed t m row rounds key ports now_ports reads now_reads written now_written faults now_faults disk now_disk end
-  low_served = record {
+  pub low_served : IsLawfulRow row → IsCount next (is_some hand) → LowServed t m row rounds key ports now_ports reads now_reads written now_written faults now_faults disk now_disk end
+  low_served lawful counted = record {
     opening = o;
     found = found;
     is_opened = lent.ran.is_opened;
@@ -172,7 +171,7 @@ module _ {D L S E : Type 0} (t : DoorsTell D L) (m : Meaning S) (row : SessionRo
     moments = lent.ran.moments;
     words = subst (λ (s : ChaCha). words_given s (words_in lent.ran.stays)) words_before (Draws-all (words_given lent.v.parts.words) (words_given lent.w.parts.words) (words_in lent.ran.stays) (no_words lent.w.parts.words) lent.ran.words);
     tape = subst (λ (x : RoundsEnd × List ℕ). Reaches (Appends written now_written) faults now_faults (is_kept_by (Some x.0)) x.1) (λ i. (lent.end_is i, record_is i)) lent.ran.tape;
-    readable = record { opening = begins.opening; coarse = begins.coarse; looks = stays_readable row o lent.ran.stays lawful are_stays };
+    readable = record { opening = (begins counted).opening; coarse = (begins counted).coarse; looks = stays_readable row o lent.ran.stays lawful are_stays };
     left = λ told. (lived_parts, subst (λ (r : SessionRow). IsCut r (life_made o (stayed [] lent.ran.stays)) lived_parts) row_after lives_on.stands.stands.cut, left_by told);
     device = counts_from (Some end) (m.count disk) (m.count (low_disk lent.v.parts.store)) (m.count now_disk) first_counts
         (subst (λ (x : RoundsEnd × S). CountsEnd (Some x.0) (m.count (low_disk lent.v.parts.store)) (m.count x.1)) (λ i. (lent.end_is i, now_disk_is i)) lent.ran.device);

@@ -1,4 +1,5 @@
 pub mod Cuts
+pub mod Example
 pub mod Files
 pub mod Following
 pub mod Rooms

@@ -1,9 +1,9 @@
 -- Pieces and messages of a file.
-use Rattle.std.proofs.Common.{◌≡◌, ℕ, zero, suc, ◌+◌, ◌-◌, ◌<◌, ◌≤◌, ◌↔◌, List, [], ◌∷◌, ◌++◌, length, take, drop, map, flat_map, refl, sym, ◌∙◌, ap, subst, arith, append_assoc, length-append, length-drop}
+use Rattle.std.proofs.Common.{◌≡◌, ℕ, zero, suc, ◌+◌, ◌-◌, ◌<◌, ◌≤◌, List, [], ◌∷◌, ◌++◌, length, take, drop, map, flat_map, refl, sym, ◌∙◌, ap, arith, length-append, length-drop}
 use Rattle.std.proofs.lemmas.List.{take-append-drop, append-nil}
 use Rattle.std.proofs.lemmas.List.Folds.{flat_map-map}
 use Rattle.std.proofs.lemmas.Grind.{flat_map-append}
-use Rattle.pump_wrapper.specs.Wrapped.{first_pieces, pieces, piece_message, length_message, piece_of, unwrapped, wrapped, IsFile, BeginsFile}
+use Rattle.pump_wrapper.specs.Wrapped.{first_pieces, pieces, piece_message, length_message, piece_of, unwrapped, wrapped}
 use Rattle.pump_wrapper.specs.Cutting.{wrapped_from}
 
 -- as many steps as bytes are enough

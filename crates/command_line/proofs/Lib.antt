@@ -1,5 +1,6 @@
 pub mod Commas
 pub mod Plain
+pub mod PlainWalks
 pub mod Sole
 pub mod Taken
 pub mod Texts

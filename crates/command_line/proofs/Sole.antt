@@ -7,7 +7,7 @@ use Rattle.std.specs.Str.{bytes_eq}
 use Rattle.command_line.specs.Commands.{IsCommand, IsLooking, AreWordsOf, words_of}
 use Rattle.command_line.proofs.Commas.{one_list}
 use Rattle.command_line.specs.declared.command.Command.{Command}
-use Rattle.command_line.specs.declared.command.Command.TheVariants.{Replay, Format, Show, Exercise, Race, Serve, Receive, Send}
+use Rattle.command_line.specs.declared.command.Command.TheVariants.{Replay, Format, Show, Exercise, Race, Serve, Receive, Send, Migrate}
 use Rattle.command_line.specs.declared.command.WordsFault.{WordsFault}
 use Rattle.command_line.specs.declared.command.WordsFault.TheVariants.{NoCommand, Memory}
 
@@ -29,6 +29,7 @@ name_of (Race m n ts) = codes "race"
 name_of (Serve t n k) = codes "serve"
 name_of (Receive t n k) = codes "receive"
 name_of (Send t n k) = codes "send"
+name_of (Migrate t n u m) = codes "migrate"
 
 same_session : (make : List ℕ → ℕ → Command) (t u : List ℕ) (n m : ℕ) → n < 2 ^ 32 → m < 2 ^ 32 → (name : List ℕ) → name ∷ t ∷ decimal n ∷ [] ≡ name ∷ u ∷ decimal m ∷ [] → make t n ≡ make u m
 same_session make t u n m h k name e = ap₂ make (ap (λ l. get_or l 1 []) e) (same_number n m (omega (arith, h)) (omega (arith, k)) (ap (λ l. get_or l 2 []) e))
@@ -64,6 +65,13 @@ one_command (Receive t n i) (Receive u m j) h k e = same_looks Receive t u n m i
 one_command (Receive t n i) d h k e = absurd (apart (codes "receive") (name_of d) _ _ refl e)
 one_command (Send t n i) (Send u m j) h k e = same_looks Send t u n m i j h k (codes "send") e
 one_command (Send t n i) d h k e = absurd (apart (codes "send") (name_of d) _ _ refl e)
+one_command (Migrate t n v i) (Migrate u m w j) h k e =
+    let tables : t ≡ u = ap (λ l. get_or l 1 []) e in
+    let sessions = same_number n m (omega (arith, h.0.1)) (omega (arith, k.0.1)) (ap (λ l. get_or l 2 []) e) in
+    let new_tables : v ≡ w = ap (λ l. get_or l 3 []) e in
+    let new_sessions = same_number i j (omega (arith, h.1.1)) (omega (arith, k.1.1)) (ap (λ l. get_or l 4 []) e) in
+    λ p. Migrate (tables p) (sessions p) (new_tables p) (new_sessions p)
+one_command (Migrate t n v i) d h k e = absurd (apart (codes "migrate") (name_of d) _ _ refl e)
 
 pub words_of_one : (words : List (List ℕ)) (c d : Command) → AreWordsOf words c → AreWordsOf words d → c ≡ d
 words_of_one words c d h k = one_command c d h.0 k.0 (sym h.1 ∙ k.1)

@@ -1,16 +1,19 @@
--- clap takes the words of each command, and finds its values.
-use Rattle.std.proofs.Common.{◌≡◌, ℕ, ◌==◌, true, false, List, [], ◌∷◌, Some, None, codes, arith, refl}
-use Rattle.clap.specs.Walk.{Rule, Text, Row, rows_after}
-use Rattle.clap.specs.Simple.{subcommand_of, is_simple, filled_from}
-use Rattle.clap.specs.Takes.{takes}
+-- clap takes the words of each command, and finds its values. A command whose words have the shape of another one's needs two
+-- lemmas of its own: what clap finds (`met`), and that it takes the words (`taken`).
+use Rattle.std.proofs.Common.{◌≡◌, ℕ, ◌==◌, true, false, List, [], ◌∷◌, Some, None, codes, decimal, ◌&&◌, ap, ap₂, ◌∙◌, arith, refl}
+use Rattle.std.specs.List.{list_all}
+use Rattle.clap.specs.Walk.{Rule, Text, Row, Walk, rows_after, nothing_held, finished}
+use Rattle.clap.specs.Simple.{Shape, subcommand_of, is_simple, filled_from, built_leaf, inherited}
+use Rattle.clap.specs.Takes.{takes, level_passes, settle_passes, default_passes, is_valid}
 use Rattle.clap.specs.declared.parser.matches.ValueSource.TheVariants.{CommandLine}
 use Rattle.clap.specs.declared.builder.value_parser.Reading.TheVariants.{AsWritten}
 use Rattle.clap.proofs.OnLiterals.{clap_on_literals}
-use Rattle.command_line.specs.Commands.{AreWordsOf}
-use Rattle.command_line.specs.Found.{GivesIn}
-use Rattle.command_line.specs.Program.{program, value_rule}
+use Rattle.command_line.specs.Commands.{IsSession, IsLooking, AreWordsOf}
+use Rattle.command_line.specs.Found.{GivesSession, GivesLooks, GivesNewSession, GivesIn}
+use Rattle.command_line.specs.Program.{bare, leaf_four, program, value_rule}
 use Rattle.command_line.specs.declared.command.Command.{Command}
-use Rattle.command_line.specs.declared.command.Command.TheVariants.{Replay, Format, Show, Exercise, Race, Serve, Receive, Send}
+use Rattle.command_line.specs.declared.command.Command.TheVariants.{Replay, Format, Show, Exercise, Race, Serve, Receive, Send, Migrate}
+use Rattle.command_line.proofs.PlainWalks.{behind, walks_on, passes_on, passed}
 use Rattle.command_line.proofs.Plain.{plain_decimal, plain_table, plain_times}
 
 pub simple : is_simple program ≡ true
@@ -39,6 +42,20 @@ table_rows : (x y : ℕ) (xs ys : Text) → (x == 45) ≡ false → (y == 45) �
     → rows_after table_rules [] ((x ∷ xs) ∷ (y ∷ ys) ∷ []) ≡ row (codes "TABLE") (x ∷ xs) ∷ row (codes "S") (y ∷ ys) ∷ []
 unfolding clap_on_literals
 table_rows x y xs ys h k = simp (h, k)
+
+session_taken : (name t : Text) (n : ℕ) → IsSession t n
+    → ((x y : ℕ) (xs ys : Text) → (x == 45) ≡ false → (y == 45) ≡ false → takes program (name ∷ (x ∷ xs) ∷ (y ∷ ys) ∷ []) ≡ true)
+    → takes program (name ∷ t ∷ decimal n ∷ []) ≡ true
+session_taken name t n h taken =
+    let p = plain_table t h.0 in
+    let q = plain_decimal n (omega (arith, h.1)) in
+    rw (p.whole, q.whole) (taken p.first q.first p.rest q.rest p.undashed q.undashed)
+
+session_given : (t : Text) (n : ℕ) → IsSession t n → GivesSession t n (rows_after table_rules [] (t ∷ decimal n ∷ []))
+session_given t n h =
+    let p = plain_table t h.0 in
+    let q = plain_decimal n (omega (arith, h.1)) in
+    rw (p.whole, q.whole, table_rows p.first q.first p.rest q.rest p.undashed q.undashed) (refl, refl)
 
 format_met : (t s : Text) → subcommand_of program (codes "format" ∷ t ∷ s ∷ []) ≡ Some (codes "format", rows_after table_rules [] (t ∷ s ∷ []))
 unfolding clap_on_literals
@@ -102,6 +119,22 @@ looks_rows : (x y z : ℕ) (xs ys zs : Text) → (x == 45) ≡ false → (y == 4
 unfolding clap_on_literals
 looks_rows x y z xs ys zs h k m = simp (h, k, m)
 
+looks_taken : (name t : Text) (n k : ℕ) → IsLooking t n k
+    → ((x y z : ℕ) (xs ys zs : Text) → (x == 45) ≡ false → (y == 45) ≡ false → (z == 45) ≡ false → takes program (name ∷ (x ∷ xs) ∷ (y ∷ ys) ∷ (z ∷ zs) ∷ []) ≡ true)
+    → takes program (name ∷ t ∷ decimal n ∷ decimal k ∷ []) ≡ true
+looks_taken name t n k h taken =
+    let p = plain_table t h.0 in
+    let q = plain_decimal n (omega (arith, h.1)) in
+    let r = plain_decimal k (omega (arith, h.3)) in
+    rw (p.whole, q.whole, r.whole) (taken p.first q.first r.first p.rest q.rest r.rest p.undashed q.undashed r.undashed)
+
+looks_given : (t : Text) (n k : ℕ) → IsLooking t n k → GivesLooks t n k (rows_after looks_rules [] (t ∷ decimal n ∷ decimal k ∷ []))
+looks_given t n k h =
+    let p = plain_table t h.0 in
+    let q = plain_decimal n (omega (arith, h.1)) in
+    let r = plain_decimal k (omega (arith, h.3)) in
+    rw (p.whole, q.whole, r.whole, looks_rows p.first q.first r.first p.rest q.rest r.rest p.undashed q.undashed r.undashed) (refl, refl, refl)
+
 serve_met : (t s u : Text) → subcommand_of program (codes "serve" ∷ t ∷ s ∷ u ∷ []) ≡ Some (codes "serve", rows_after looks_rules [] (t ∷ s ∷ u ∷ []))
 unfolding clap_on_literals
 serve_met t s u = refl
@@ -126,17 +159,62 @@ send_taken : (x y z : ℕ) (xs ys zs : Text) → (x == 45) ≡ false → (y == 4
 unfolding clap_on_literals
 send_taken x y z xs ys zs h k m = simp (h, k, m)
 
+-- a session of one table and one of another
+
+abbrev pub migrate_rules : List Rule
+migrate_rules = filled_from 1 (value_rule (codes "TABLE") ∷ value_rule (codes "S") ∷ value_rule (codes "NEWTABLE") ∷ value_rule (codes "T") ∷ [])
+
+migrate_rows : (x y z w : ℕ) (xs ys zs ws : Text) → (x == 45) ≡ false → (y == 45) ≡ false → (z == 45) ≡ false → (w == 45) ≡ false
+    → rows_after migrate_rules [] ((x ∷ xs) ∷ (y ∷ ys) ∷ (z ∷ zs) ∷ (w ∷ ws) ∷ [])
+    ≡ row (codes "TABLE") (x ∷ xs) ∷ row (codes "S") (y ∷ ys) ∷ row (codes "NEWTABLE") (z ∷ zs) ∷ row (codes "T") (w ∷ ws) ∷ []
+unfolding clap_on_literals
+migrate_rows x y z w xs ys zs ws h k m n = simp (h, k, m, n)
+
+migrate_met : (t s u v : Text) → subcommand_of program (codes "migrate" ∷ t ∷ s ∷ u ∷ v ∷ []) ≡ Some (codes "migrate", rows_after migrate_rules [] (t ∷ s ∷ u ∷ v ∷ []))
+unfolding clap_on_literals
+migrate_met t s u v = refl
+
+-- the command by itself, since the whole program with four words is more than `simp` looks through
+abbrev migrate_shape : Shape
+migrate_shape = built_leaf (inherited bare.top (leaf_four (codes "migrate") (codes "TABLE") (codes "S") (codes "NEWTABLE") (codes "T")).top)
+
+migrate_entered : (t s u v : Text) → takes program (codes "migrate" ∷ t ∷ s ∷ u ∷ v ∷ []) ≡ (level_passes migrate_shape [] nothing_held (t ∷ s ∷ u ∷ v ∷ []) false && true)
+unfolding clap_on_literals
+migrate_entered t s u v = refl
+
+migrate_passes : (x y z w : ℕ) (xs ys zs ws : Text) → (x == 45) ≡ false → (y == 45) ≡ false → (z == 45) ≡ false → (w == 45) ≡ false
+    → level_passes migrate_shape [] nothing_held ((x ∷ xs) ∷ (y ∷ ys) ∷ (z ∷ zs) ∷ (w ∷ ws) ∷ []) false ≡ true
+migrate_passes x y z w xs ys zs ws h k m n =
+    let s = migrate_shape in
+    let one = (behind s.rules nothing_held 1 (x ∷ xs)).held in
+    let two = (behind s.rules one 2 (y ∷ ys)).held in
+    let three = (behind s.rules two 3 (z ∷ zs)).held in
+    let after_one = (y ∷ ys) ∷ (z ∷ zs) ∷ (w ∷ ws) ∷ [] in
+    let after_two = (z ∷ zs) ∷ (w ∷ ws) ∷ [] in
+    let after_three = (w ∷ ws) ∷ [] in
+    let walk = walks_on nothing_held 1 x xs h s.rules after_one ∙ walks_on one 2 y ys k s.rules after_two ∙ walks_on two 3 z zs m s.rules after_three ∙ walks_on three 4 w ws n s.rules [] in
+    let words = passes_on nothing_held 1 x xs h s after_one ∙ passes_on one 2 y ys k s after_two ∙ passes_on two 3 z zs m s after_three ∙ passes_on three 4 w ws n s [] ∙ passed s _ in
+    ap₂ (λ b (end : Walk). b && (settle_passes s.rules s.args_override_self end.held && (list_all default_passes s.rules && is_valid s (finished s.rules end.held) false))) words walk
+
+migrate_taken : (x y z w : ℕ) (xs ys zs ws : Text) → (x == 45) ≡ false → (y == 45) ≡ false → (z == 45) ≡ false → (w == 45) ≡ false
+    → takes program (codes "migrate" ∷ (x ∷ xs) ∷ (y ∷ ys) ∷ (z ∷ zs) ∷ (w ∷ ws) ∷ []) ≡ true
+migrate_taken x y z w xs ys zs ws h k m n = migrate_entered _ _ _ _ ∙ ap (λ b. b && true) (migrate_passes x y z w xs ys zs ws h k m n)
+
+migrate_given : (t u : Text) (n m : ℕ) → IsSession t n → IsSession u m → (rows : List Row) → rows ≡ rows_after migrate_rules [] (t ∷ decimal n ∷ u ∷ decimal m ∷ [])
+    → GivesSession t n rows × GivesNewSession u m rows
+migrate_given t u n m h k rows e =
+    let p = plain_table t h.0 in
+    let q = plain_decimal n (omega (arith, h.1)) in
+    let r = plain_table u k.0 in
+    let s = plain_decimal m (omega (arith, k.1)) in
+    rw (e, p.whole, q.whole, r.whole, s.whole, migrate_rows p.first q.first r.first s.first p.rest q.rest r.rest s.rest p.undashed q.undashed r.undashed s.undashed)
+    ((refl, refl), (refl, refl))
+
 -- clap takes the words of each command
 pub words_taken : (words : List Text) (c : Command) → AreWordsOf words c → takes program words ≡ true
 words_taken words Replay h = rw h.1 replay_taken
-words_taken words (Format t n) h =
-    let p = plain_table t h.0.0 in
-    let q = plain_decimal n (omega (arith, h.0.1)) in
-    rw (h.1, p.whole, q.whole) (format_taken p.first q.first p.rest q.rest p.undashed q.undashed)
-words_taken words (Show t n) h =
-    let p = plain_table t h.0.0 in
-    let q = plain_decimal n (omega (arith, h.0.1)) in
-    rw (h.1, p.whole, q.whole) (show_taken p.first q.first p.rest q.rest p.undashed q.undashed)
+words_taken words (Format t n) h = rw h.1 (session_taken (codes "format") t n h.0 format_taken)
+words_taken words (Show t n) h = rw h.1 (session_taken (codes "show") t n h.0 show_taken)
 words_taken words (Exercise m n) h =
     let p = plain_decimal m (omega (arith, h.0.0)) in
     let q = plain_decimal n (omega (arith, h.0.2)) in
@@ -146,35 +224,22 @@ words_taken words (Race m n ts) h =
     let q = plain_decimal n (omega (arith, h.0.2)) in
     let r = plain_times ts.items h.0.3 in
     rw (h.1, p.whole, q.whole, r.whole) (race_taken p.first q.first r.first p.rest q.rest r.rest p.undashed q.undashed r.undashed)
-words_taken words (Serve t n k) h =
-    let p = plain_table t h.0.0 in
-    let q = plain_decimal n (omega (arith, h.0.1)) in
-    let r = plain_decimal k (omega (arith, h.0.3)) in
-    rw (h.1, p.whole, q.whole, r.whole) (serve_taken p.first q.first r.first p.rest q.rest r.rest p.undashed q.undashed r.undashed)
-words_taken words (Receive t n k) h =
-    let p = plain_table t h.0.0 in
-    let q = plain_decimal n (omega (arith, h.0.1)) in
-    let r = plain_decimal k (omega (arith, h.0.3)) in
-    rw (h.1, p.whole, q.whole, r.whole) (receive_taken p.first q.first r.first p.rest q.rest r.rest p.undashed q.undashed r.undashed)
-words_taken words (Send t n k) h =
-    let p = plain_table t h.0.0 in
-    let q = plain_decimal n (omega (arith, h.0.1)) in
-    let r = plain_decimal k (omega (arith, h.0.3)) in
-    rw (h.1, p.whole, q.whole, r.whole) (send_taken p.first q.first r.first p.rest q.rest r.rest p.undashed q.undashed r.undashed)
+words_taken words (Serve t n k) h = rw h.1 (looks_taken (codes "serve") t n k h.0 serve_taken)
+words_taken words (Receive t n k) h = rw h.1 (looks_taken (codes "receive") t n k h.0 receive_taken)
+words_taken words (Send t n k) h = rw h.1 (looks_taken (codes "send") t n k h.0 send_taken)
+words_taken words (Migrate t n u m) h =
+    let p = plain_table t h.0.0.0 in
+    let q = plain_decimal n (omega (arith, h.0.0.1)) in
+    let r = plain_table u h.0.1.0 in
+    let s = plain_decimal m (omega (arith, h.0.1.1)) in
+    rw (h.1, p.whole, q.whole, r.whole, s.whole)
+    (migrate_taken p.first q.first r.first s.first p.rest q.rest r.rest s.rest p.undashed q.undashed r.undashed s.undashed)
 
 -- and finds its values
 pub values_found : (words : List Text) (c : Command) → AreWordsOf words c → GivesIn c (subcommand_of program words)
 values_found words Replay h = rw (h.1, replay_met) refl
-values_found words (Format t n) h =
-    let p = plain_table t h.0.0 in
-    let q = plain_decimal n (omega (arith, h.0.1)) in
-    let rows = table_rows p.first q.first p.rest q.rest p.undashed q.undashed in
-    rw (h.1, format_met, p.whole, q.whole, rows) (refl, refl, refl)
-values_found words (Show t n) h =
-    let p = plain_table t h.0.0 in
-    let q = plain_decimal n (omega (arith, h.0.1)) in
-    let rows = table_rows p.first q.first p.rest q.rest p.undashed q.undashed in
-    rw (h.1, show_met, p.whole, q.whole, rows) (refl, refl, refl)
+values_found words (Format t n) h = rw (h.1, format_met) (refl, session_given t n h.0)
+values_found words (Show t n) h = rw (h.1, show_met) (refl, session_given t n h.0)
 values_found words (Exercise m n) h =
     let p = plain_decimal m (omega (arith, h.0.0)) in
     let q = plain_decimal n (omega (arith, h.0.2)) in
@@ -186,21 +251,9 @@ values_found words (Race m n ts) h =
     let r = plain_times ts.items h.0.3 in
     let rows = race_rows p.first q.first r.first p.rest q.rest r.rest p.undashed q.undashed r.undashed in
     rw (h.1, race_met, p.whole, q.whole, r.whole, rows) (refl, refl, refl, refl)
-values_found words (Serve t n k) h =
-    let p = plain_table t h.0.0 in
-    let q = plain_decimal n (omega (arith, h.0.1)) in
-    let r = plain_decimal k (omega (arith, h.0.3)) in
-    let rows = looks_rows p.first q.first r.first p.rest q.rest r.rest p.undashed q.undashed r.undashed in
-    rw (h.1, serve_met, p.whole, q.whole, r.whole, rows) (refl, (refl, refl, refl))
-values_found words (Receive t n k) h =
-    let p = plain_table t h.0.0 in
-    let q = plain_decimal n (omega (arith, h.0.1)) in
-    let r = plain_decimal k (omega (arith, h.0.3)) in
-    let rows = looks_rows p.first q.first r.first p.rest q.rest r.rest p.undashed q.undashed r.undashed in
-    rw (h.1, receive_met, p.whole, q.whole, r.whole, rows) (refl, (refl, refl, refl))
-values_found words (Send t n k) h =
-    let p = plain_table t h.0.0 in
-    let q = plain_decimal n (omega (arith, h.0.1)) in
-    let r = plain_decimal k (omega (arith, h.0.3)) in
-    let rows = looks_rows p.first q.first r.first p.rest q.rest r.rest p.undashed q.undashed r.undashed in
-    rw (h.1, send_met, p.whole, q.whole, r.whole, rows) (refl, (refl, refl, refl))
+values_found words (Serve t n k) h = rw (h.1, serve_met) (refl, looks_given t n k h.0)
+values_found words (Receive t n k) h = rw (h.1, receive_met) (refl, looks_given t n k h.0)
+values_found words (Send t n k) h = rw (h.1, send_met) (refl, looks_given t n k h.0)
+values_found words (Migrate t n u m) h =
+    let given = migrate_given t u n m h.0.0 h.0.1 _ refl in
+    rw (h.1, migrate_met) (refl, given.0, given.1)

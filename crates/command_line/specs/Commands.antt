@@ -3,22 +3,27 @@ use Rattle.std.specs.Prelude.{◌≡◌, ℕ, ◌≤◌, ◌<◌, ◌^◌, true,
 use Rattle.command_line.specs.TableNames.{is_table_name}
 use Rattle.command_line.specs.TimeLists.{AreTimes, times_word}
 use Rattle.command_line.specs.declared.command.Command.{Command}
-use Rattle.command_line.specs.declared.command.Command.TheVariants.{Replay, Format, Show, Exercise, Race, Serve, Receive, Send}
+use Rattle.command_line.specs.declared.command.Command.TheVariants.{Replay, Format, Show, Exercise, Race, Serve, Receive, Send, Migrate}
 
--- a session of a table, and a number of looks
+-- a session of a table
+abbrev pub IsSession : List ℕ → ℕ → Type 0
+IsSession table session = (is_table_name table ≡ true) × (session < 2 ^ 32)
+
+-- .. and a number of looks
 abbrev pub IsLooking : List ℕ → ℕ → ℕ → Type 0
 IsLooking table session looks = (is_table_name table ≡ true) × (session < 2 ^ 32) × (1 ≤ looks) × (looks < 2 ^ 32)
 
 -- a command: its name and its numbers are in their ranges
 abbrev pub IsCommand : Command → Type 0
 IsCommand Replay = Unit {0}
-IsCommand (Format table session) = (is_table_name table ≡ true) × (session < 2 ^ 32)
-IsCommand (Show table session) = (is_table_name table ≡ true) × (session < 2 ^ 32)
+IsCommand (Format table session) = IsSession table session
+IsCommand (Show table session) = IsSession table session
 IsCommand (Exercise seed count) = (seed < 2 ^ 32) × (1 ≤ count) × (count ≤ 100000)
 IsCommand (Race seed count times) = (seed < 2 ^ 32) × (1 ≤ count) × (count ≤ 100000) × AreTimes times.items
 IsCommand (Serve table session looks) = IsLooking table session looks
 IsCommand (Receive table session looks) = IsLooking table session looks
 IsCommand (Send table session looks) = IsLooking table session looks
+IsCommand (Migrate table session new_table new_session) = IsSession table session × IsSession new_table new_session
 
 -- its words, each as its bytes
 abbrev pub words_of : Command → List (List ℕ)
@@ -30,6 +35,7 @@ words_of (Race seed count times) = codes "race" ∷ decimal seed ∷ decimal cou
 words_of (Serve table session looks) = codes "serve" ∷ table ∷ decimal session ∷ decimal looks ∷ []
 words_of (Receive table session looks) = codes "receive" ∷ table ∷ decimal session ∷ decimal looks ∷ []
 words_of (Send table session looks) = codes "send" ∷ table ∷ decimal session ∷ decimal looks ∷ []
+words_of (Migrate table session new_table new_session) = codes "migrate" ∷ table ∷ decimal session ∷ new_table ∷ decimal new_session ∷ []
 
 -- the words are this command
 abbrev pub AreWordsOf : List (List ℕ) → Command → Type 0

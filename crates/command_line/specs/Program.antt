@@ -7,7 +7,7 @@ use Rattle.clap.specs.Simple.{App, new_app, new_rule, with_rule, with_subcommand
 abbrev pub value_rule : Text → Rule
 value_rule id = record (new_rule id) { required = true }
 
--- a command of its name alone, one with two values, and one with three
+-- a command of its name alone, and ones with two, three and four values
 abbrev pub leaf_none : Text → App
 leaf_none name = new_app name
 
@@ -17,13 +17,16 @@ leaf_two name a b = with_rule (with_rule (leaf_none name) (value_rule a)) (value
 abbrev pub leaf_three : Text → Text → Text → Text → App
 leaf_three name a b c = with_rule (leaf_two name a b) (value_rule c)
 
+abbrev pub leaf_four : Text → Text → Text → Text → Text → App
+leaf_four name a b c d = with_rule (leaf_three name a b c) (value_rule d)
+
 -- the program without its commands
 abbrev pub bare : App
 bare = let a = new_app (codes "netpump") in record a { top = record a.top { no_binary_name = true; disable_help_flag = true; disable_help_subcommand = true } }
 
 abbrev pub program : App
 program =
-    with_subcommand (with_subcommand (with_subcommand (with_subcommand (with_subcommand (with_subcommand (with_subcommand (with_subcommand bare
+    with_subcommand (with_subcommand (with_subcommand (with_subcommand (with_subcommand (with_subcommand (with_subcommand (with_subcommand (with_subcommand bare
     (leaf_none (codes "replay")).top)
     (leaf_two (codes "format") (codes "TABLE") (codes "S")).top)
     (leaf_two (codes "show") (codes "TABLE") (codes "S")).top)
@@ -31,4 +34,5 @@ program =
     (leaf_three (codes "race") (codes "SEED") (codes "COUNT") (codes "TIMES")).top)
     (leaf_three (codes "serve") (codes "TABLE") (codes "S") (codes "LOOKS")).top)
     (leaf_three (codes "receive") (codes "TABLE") (codes "S") (codes "LOOKS")).top)
-    (leaf_three (codes "send") (codes "TABLE") (codes "S") (codes "LOOKS")).top
+    (leaf_three (codes "send") (codes "TABLE") (codes "S") (codes "LOOKS")).top)
+    (leaf_four (codes "migrate") (codes "TABLE") (codes "S") (codes "NEWTABLE") (codes "T")).top

@@ -64,6 +64,17 @@ pub enum Command {
         /// How many looks at the link an answer is waited for at most, at least 1.
         looks: u32,
     },
+    /// Writes a session of the table on the empty disks of another one, which may be of another table.
+    Migrate {
+        /// The file with the table.
+        table: TableName,
+        /// The id of its row.
+        session: u32,
+        /// The file with the table of the new session.
+        new_table: TableName,
+        /// The id of its row there.
+        new_session: u32,
+    },
 }
 
 /// Why the words give no command.

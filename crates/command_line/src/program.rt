@@ -3,7 +3,7 @@ ghost use Rattle.clap.specs.Words.{app_of};
 ghost use Rattle.clap.specs.Walk.{rule_of};
 ghost use Rattle.clap.specs.declared.builder.command.Command.TheViews.{out-Command};
 ghost use Rattle.clap.specs.Simple.{with_subcommand};
-ghost use Rattle.command_line.specs.Program.{value_rule, leaf_none, leaf_two, leaf_three, bare, program};
+ghost use Rattle.command_line.specs.Program.{value_rule, leaf_none, leaf_two, leaf_three, leaf_four, bare, program};
 
 use clap::{Arg, Command as Program};
 use std::alloc::{AllocError, Global};
@@ -53,6 +53,21 @@ fn with_three<'a>(
     with_two(alloc, name, first, second)?.arg(value(alloc, third))
 }
 
+/// A command of its name and four values.
+fn with_four<'a>(
+    alloc: Global,
+    name: &'a str,
+    first: &'a str,
+    second: &'a str,
+    third: &'a str,
+    fourth: &'a str,
+) -> Result<Program<'a>, AllocError>
+    ensures app { IfOk result (λ c. app_of c ≡ leaf_four name.entry.now first.entry.now second.entry.now third.entry.now fourth.entry.now) }
+    ensures local { IfOk result (λ c. (out-Command c).has_globals ≡ false) }
+{
+    with_three(alloc, name, first, second, third)?.arg(value(alloc, fourth))
+}
+
 /// The program, before its commands, without clap's words for help.
 fn bare<'a>(alloc: Global) -> Program<'a>
     ensures app { app_of result ≡ bare }
@@ -82,5 +97,9 @@ pub(crate) fn program<'a>(alloc: Global) -> Result<Program<'a>, AllocError>
     let all = with(all, with_three(alloc, "race", "SEED", "COUNT", "TIMES")?)?;
     let all = with(all, with_three(alloc, "serve", "TABLE", "S", "LOOKS")?)?;
     let all = with(all, with_three(alloc, "receive", "TABLE", "S", "LOOKS")?)?;
-    with(all, with_three(alloc, "send", "TABLE", "S", "LOOKS")?)
+    let all = with(all, with_three(alloc, "send", "TABLE", "S", "LOOKS")?)?;
+    with(
+        all,
+        with_four(alloc, "migrate", "TABLE", "S", "NEWTABLE", "T")?,
+    )
 }

@@ -31,6 +31,15 @@ fn is_one(words: &[String], name: &str) -> bool
     words.is_empty()
 }
 
+fn are_two(words: &[String], name: &str, first: &str) -> bool
+    ensures { IsTrue result ↔ (map string_bytes words.now ≡ name.now ∷ first.now ∷ []) }
+{
+    match after(words, name) {
+        Some(rest) => is_one(rest, first),
+        None => false,
+    }
+}
+
 /// The words after the first three, where those are these texts.
 fn after_three<'a>(
     words: &'a [String],
@@ -58,6 +67,22 @@ fn are_four(words: &[String], name: &str, first: &str, second: &str, third: &str
 {
     match after_three(words, name, first, second) {
         Some(rest) => is_one(rest, third),
+        None => false,
+    }
+}
+
+fn are_five(
+    words: &[String],
+    name: &str,
+    first: &str,
+    second: &str,
+    third: &str,
+    fourth: &str,
+) -> bool
+    ensures { IsTrue result ↔ (map string_bytes words.now ≡ name.now ∷ first.now ∷ second.now ∷ third.now ∷ fourth.now ∷ []) }
+{
+    match after_three(words, name, first, second) {
+        Some(rest) => are_two(rest, third, fourth),
         None => false,
     }
 }
@@ -129,6 +154,19 @@ pub(crate) fn is_spelled(command: &Command, words: &[String]) -> bool
             table.as_str(),
             one.format(*session),
             two.format(*looks),
+        ),
+        Command::Migrate {
+            table,
+            session,
+            new_table,
+            new_session,
+        } => are_five(
+            words,
+            "migrate",
+            table.as_str(),
+            one.format(*session),
+            new_table.as_str(),
+            two.format(*new_session),
         ),
     }
 }

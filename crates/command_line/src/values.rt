@@ -55,16 +55,25 @@ fn table_in(matches: &ArgMatches, id: &str) -> Option<TableName>
     }
 }
 
-/// A session of a table: its file and the id of its row.
+/// A session of a table, at these two values: its file and the id of its row.
+fn session_at(matches: &ArgMatches, table_id: &str, session_id: &str) -> Option<(TableName, u32)>
+    ensures sound { IfSome result (λ v. is_table_name v.0 ≡ true) }
+    ensures all { (t : List ℕ) (n : ℕ) → is_table_name t ≡ true → n < 2 ^ 32
+        → first_of table_id.now (rows_of (found_of matches.now)) ≡ Some t → first_of session_id.now (rows_of (found_of matches.now)) ≡ Some (decimal n)
+        → result ≡ Some (t, n) }
+{
+    let table = table_in(matches, table_id)?;
+    let session = number_in(matches, session_id, 0, u32::MAX)?;
+    Some((table, session))
+}
+
 fn session_in(matches: &ArgMatches) -> Option<(TableName, u32)>
     ensures sound { IfSome result (λ v. is_table_name v.0 ≡ true) }
     ensures all { (t : List ℕ) (n : ℕ) → is_table_name t ≡ true → n < 2 ^ 32
         → first_of (codes "TABLE") (rows_of (found_of matches.now)) ≡ Some t → first_of (codes "S") (rows_of (found_of matches.now)) ≡ Some (decimal n)
         → result ≡ Some (t, n) }
 {
-    let table = table_in(matches, "TABLE")?;
-    let session = number_in(matches, "S", 0, u32::MAX)?;
-    Some((table, session))
+    session_at(matches, "TABLE", "S")
 }
 
 /// A session of a table, and how many looks there are.
@@ -108,6 +117,23 @@ fn race_in(matches: &ArgMatches) -> Option<Command>
     Some(Command::Race { seed, count, times })
 }
 
+fn migrate_in(matches: &ArgMatches) -> Option<Command>
+    ensures sound { IfSome result IsCommand }
+    ensures all { (t u : List ℕ) (n m : ℕ) → is_table_name t ≡ true → n < 2 ^ 32 → is_table_name u ≡ true → m < 2 ^ 32
+        → first_of (codes "TABLE") (rows_of (found_of matches.now)) ≡ Some t → first_of (codes "S") (rows_of (found_of matches.now)) ≡ Some (decimal n)
+        → first_of (codes "NEWTABLE") (rows_of (found_of matches.now)) ≡ Some u → first_of (codes "T") (rows_of (found_of matches.now)) ≡ Some (decimal m)
+        → result ≡ Some (Command.Migrate t n u m) }
+{
+    let (table, session) = session_in(matches)?;
+    let (new_table, new_session) = session_at(matches, "NEWTABLE", "T")?;
+    Some(Command::Migrate {
+        table,
+        session,
+        new_table,
+        new_session,
+    })
+}
+
 /// The command of this name, with the values that clap found.
 pub(crate) fn with_values(name: &str, matches: &ArgMatches) -> Option<Command>
     ensures sound { IfSome result IsCommand }
@@ -134,6 +160,7 @@ pub(crate) fn with_values(name: &str, matches: &ArgMatches) -> Option<Command>
             session,
             looks,
         }),
+        "migrate" => migrate_in(matches),
         _ => None,
     }
 }

@@ -71,6 +71,13 @@ impl<D: Disk> Receiver<D> {
         self.register.value().0
     }
 
+    /// Where their records end: the offset of the next one.
+    pub fn end(&self) -> u64
+        ensures { result ≡ recv_end self.now }
+    {
+        self.register.value().1
+    }
+
     /// Makes its row coarse. All else is as before, and no call of the disk is made.
     pub fn make_coarse(&mut self)
         ensures same { self.new ≡ recv_made_coarse self.old }

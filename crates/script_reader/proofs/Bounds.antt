@@ -119,6 +119,7 @@ step_lawful n s p (lines.Session row) q printed l h = absurd h
 step_lawful n s p (lines.LowSession row next held) q printed l h = absurd h
 step_lawful n s p (lines.Coarse session) q printed l h = absurd h
 step_lawful n s p (lines.Told session m w fault told a) q printed l h = absurd h
+step_lawful n s p (lines.Step session m w) q printed l h = absurd h
 step_lawful n s p (lines.Look session m w a) q printed l (c, comes, (few, (f, i))) = stays_by n p.world _ q.world l i.world
 step_lawful n s p (lines.Gone session m) q printed l (f, i) = stays_by n p.world _ q.world l i.world
 step_lawful n s p (lines.High session m) q printed l h = high_lawful n s false p m None q printed l h

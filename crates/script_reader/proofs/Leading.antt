@@ -27,6 +27,7 @@ led o None (lines.LowSession row next held) after printed h skips begins goes co
 led o None (lines.Coarse session) after printed h skips begins goes coarse = absurd h
 led o None (lines.Look session m w z) after printed h skips begins goes coarse = absurd h
 led o None (lines.Told session m w fault told z) after printed h skips begins goes coarse = absurd h
+led o None (lines.Step session m w) after printed h skips begins goes coarse = absurd h
 led o None (lines.Gone session m) after printed h skips begins goes coarse = absurd h
 led o None (lines.High session m) after printed h skips begins goes coarse = absurd h
 led o None (lines.Carry session back) after printed h skips begins goes coarse = absurd h
@@ -39,6 +40,7 @@ led o (Some s) (lines.LowSession row next held) after printed h skips begins goe
 led o (Some s) (lines.Coarse session) after printed h skips begins goes coarse = coarse s session refl refl h.0.1 (new_coarse o s h.0.1) h.0.2 h.1
 led o (Some s) (lines.Look session m w z) after printed h skips begins goes coarse = goes s refl h
 led o (Some s) (lines.Told session m w fault told z) after printed h skips begins goes coarse = goes s refl h
+led o (Some s) (lines.Step session m w) after printed h skips begins goes coarse = goes s refl h
 led o (Some s) (lines.Gone session m) after printed h skips begins goes coarse = goes s refl h
 led o (Some s) (lines.High session m) after printed h skips begins goes coarse = goes s refl h
 led o (Some s) (lines.Carry session back) after printed h skips begins goes coarse = goes s refl h

@@ -204,6 +204,7 @@ step_does row p (lines.Session other) q printed h = absurd h
 step_does row p (lines.LowSession other next held) q printed h = absurd h
 step_does row p (lines.Coarse session) q printed h = absurd h
 step_does row p (lines.Told session m w fault told a) q printed h = absurd h
+step_does row p (lines.Step session m w) q printed h = absurd h
 step_does row p (lines.Look session m w a) q printed (c, comes, (few, (f, i))) = look_does row (joined p c) _ q printed i
 step_does row p (lines.Gone session m) q printed (f, i) = look_does row (lost p) _ q printed i
 step_does row p (lines.High session m) q printed h = aside_does row p (lines.High session m) q printed h refl
@@ -233,6 +234,7 @@ step_low_does row p (lines.Return session m back) is_fault q printed apt h = abs
 step_low_does row p (lines.Done session m t) is_fault q printed apt h = absurd h
 step_low_does row p (lines.Restart session m) is_fault q printed apt h = absurd h
 step_low_does row p (lines.ReceiverRestart session m) is_fault q printed apt h = absurd h
+step_low_does row p (lines.Step session m w) is_fault q printed apt h = absurd h
 
 -- ---- a script ----
 

@@ -7,7 +7,7 @@ use Rattle.std.specs.Str.{bytes_eq}
 use Rattle.std.specs.List.{slice_split}
 use Rattle.std.proofs.lemmas.List.Splits.{join_with_byte-slice_split}
 use Rattle.script_reader.specs.declared.line.Line.{Line}
-use Rattle.script_reader.specs.declared.line.Line.TheVariants.{Skip, Session, LowSession, Coarse, Look, Told, Gone, High, Carry, Return, Done, Restart, ReceiverRestart}
+use Rattle.script_reader.specs.declared.line.Line.TheVariants.{Skip, Session, LowSession, Coarse, Look, Told, Step, Gone, High, Carry, Return, Done, Restart, ReceiverRestart}
 use Rattle.script_reader.specs.declared.line.Arriving.{Arriving}
 use Rattle.script_reader.specs.declared.line.Arriving.TheVariants.{Nothing, Hello, Data, Raw}
 use Rattle.script_reader.specs.Fields.{is_space}
@@ -15,13 +15,13 @@ use Rattle.script_reader.specs.declared.line.ToldFeedback.{ToldFeedback}
 use Rattle.script_reader.specs.declared.line.ToldFeedback.TheVariants.{Quiet, Full, Pair}
 use Rattle.script_reader.specs.Grammar.{held_field, outcome_field, IsFeedback, spaced, row_fields, IsArriving, HasFields, IsSkipped, IsLine}
 use Rattle.script_reader.specs.Lawful.{IsLawfulArriving, IsLawfulFeedback, IsLawfulLine}
-use Rattle.script_reader.specs.Parsing.{session_of, low_session_of, coarse_of, look_of, told_of, gone_of, high_of, carry_of, return_of, done_of, restart_of, receiver_restart_of, step_of, line_of, is_skipped, line_at}
+use Rattle.script_reader.specs.Parsing.{session_of, low_session_of, coarse_of, look_of, told_of, gone_of, high_of, carry_of, return_of, done_of, restart_of, receiver_restart_of, stepped_of, step_of, line_of, is_skipped, line_at}
 use Rattle.script_reader.proofs.Splits.{split_joined}
 use Rattle.script_reader.proofs.FieldChains.{chosen}
 use Rattle.script_reader.proofs.FreeFields.{free_text, free_word, free_decimal}
 use Rattle.script_reader.proofs.SessionLaws.{session_takes, session_put, low_session_takes, low_session_put, free_row, free_count}
 use Rattle.script_reader.proofs.LookLaws.{look_takes, look_put, free_arriving}
-use Rattle.script_reader.proofs.MomentLaws.{coarse_takes, coarse_put, gone_takes, gone_put, high_takes, high_put, carry_takes, carry_put, return_takes, return_put, done_takes, done_put, restart_takes, restart_put, receiver_restart_takes, receiver_restart_put}
+use Rattle.script_reader.proofs.MomentLaws.{coarse_takes, coarse_put, gone_takes, gone_put, high_takes, high_put, carry_takes, carry_put, return_takes, return_put, done_takes, done_put, restart_takes, restart_put, receiver_restart_takes, stepped_takes, stepped_put, receiver_restart_put}
 use Rattle.script_reader.proofs.ToldLaws.{told_takes, told_put, free_told}
 
 -- the word at the front decides: the fields after it, or the next word
@@ -44,7 +44,8 @@ step_takes w fields line e =
     by_word w (codes "return") fields line (return_of fields) _ e (return_takes fields line) (λ e.
     by_word w (codes "done") fields line (done_of fields) _ e (done_takes fields line) (λ e.
     by_word w (codes "restart") fields line (restart_of fields) _ e (restart_takes fields line) (λ e.
-    by_word w (codes "receiver-restart") fields line (receiver_restart_of fields) None e (receiver_restart_takes fields line) (λ e. cc)))))))))
+    by_word w (codes "receiver-restart") fields line (receiver_restart_of fields) _ e (receiver_restart_takes fields line) (λ e.
+    by_word w (codes "step") fields line (stepped_of fields) None e (stepped_takes fields line) (λ e. cc))))))))))
 
 line_takes : (fields : List (List ℕ)) (line : Line) → line_of fields ≡ Some line → HasFields line fields
 unfolding line_of
@@ -62,6 +63,7 @@ line_put (LowSession row next held) fields h = rw h.2 (low_session_put row next 
 line_put (Coarse session) fields h = rw h.1 (coarse_put session h.0)
 line_put (Look session moment w arrival) fields h = rw h.6 (look_put session moment w h.2 arrival h.4 h.0 h.1 h.3 h.5)
 line_put (Told session moment w fault told arrival) fields h = rw h.8 (told_put session moment w h.2 fault told h.4 arrival h.6 h.0 h.1 h.3 h.5 h.7)
+line_put (Step session moment w) fields h = rw h.4 (stepped_put session moment w h.2 h.0 h.1 h.3)
 line_put (Gone session moment) fields h = rw h.2 (gone_put session moment h.0 h.1)
 line_put (High session moment) fields h = rw h.2 (high_put session moment h.0 h.1)
 line_put (Carry session back) fields h = rw h.2 (carry_put session back h.0 h.1)
@@ -85,6 +87,9 @@ split_line (Look session moment w arrival) fields h =
 split_line (Told session moment w fault told arrival) fields h =
     rw h.8 (split_joined (codes "told") (decimal session ∷ decimal moment ∷ h.2 ∷ outcome_field fault ∷ h.4 ∷ h.6) (free_text (codes "told") refl)
     (free_told session moment w h.2 fault told h.4 arrival h.6 h.0 h.1 h.3 h.5 h.7))
+split_line (Step session moment w) fields h =
+    rw h.4 (split_joined (codes "step") (decimal session ∷ decimal moment ∷ h.2 ∷ []) (free_text (codes "step") refl)
+    (free_decimal session (omega (arith, h.0)), (free_decimal moment (omega (arith, h.1)), (free_word w h.2 h.3, tt))))
 split_line (Gone session moment) fields h =
     rw h.2 (split_joined (codes "gone") (decimal session ∷ decimal moment ∷ []) (free_text (codes "gone") refl)
     (free_decimal session (omega (arith, h.0)), (free_decimal moment (omega (arith, h.1)), tt)))
@@ -114,6 +119,7 @@ unskipped (LowSession row next held) fields h = rw h.2 refl
 unskipped (Coarse session) fields h = rw h.1 refl
 unskipped (Look session moment w arrival) fields h = rw h.6 refl
 unskipped (Told session moment w fault told arrival) fields h = rw h.8 refl
+unskipped (Step session moment w) fields h = rw h.4 refl
 unskipped (Gone session moment) fields h = rw h.2 refl
 unskipped (High session moment) fields h = rw h.2 refl
 unskipped (Carry session back) fields h = rw h.2 refl
@@ -184,6 +190,7 @@ lawful_fields (Look session moment w arrival) fields h = (h.1, lawful_arriving a
 lawful_fields (LowSession row next held) fields h = ((h.0.low_port, h.0.high_port, h.0.coarse), h.1)
 lawful_fields (Coarse session) fields h = tt
 lawful_fields (Told session moment w fault told arrival) fields h = (h.1, lawful_feedback told h.4 h.5, lawful_arriving arrival h.6 h.7)
+lawful_fields (Step session moment w) fields h = h.1
 lawful_fields (Gone session moment) fields h = h.1
 lawful_fields (High session moment) fields h = h.1
 lawful_fields (Carry session back) fields h = tt

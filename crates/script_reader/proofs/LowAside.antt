@@ -98,6 +98,7 @@ step_aside s p (lines.Session row) q printed e h = absurd h
 step_aside s p (lines.LowSession row next held) q printed e h = absurd h
 step_aside s p (lines.Coarse session) q printed e h = absurd h
 step_aside s p (lines.Told session m w fault told a) q printed e h = absurd h
+step_aside s p (lines.Step session m w) q printed e h = absurd h
 step_aside s p (lines.Look session m w a) q printed e h = absurd (cc)
 step_aside s p (lines.Gone session m) q printed e h = absurd (cc)
 step_aside s p (lines.High session m) q printed e h = high_aside s false p m None q printed h

@@ -2,10 +2,10 @@
 use Rattle.std.proofs.Common.{◌≡◌, ℕ, ◌+◌, ◌^◌, ◌<◌, ◌≤◌, List, [], ◌∷◌, Some, codes, decimal, refl, ap, subst, arith}
 use Rattle.std.proofs.lemmas.Option.{same_Some}
 use Rattle.script_reader.specs.declared.line.Line.{Line}
-use Rattle.script_reader.specs.declared.line.Line.TheVariants.{Coarse, Gone, High, Carry, Return, Done, Restart, ReceiverRestart}
-use Rattle.script_reader.specs.Grammar.{HasFields}
-use Rattle.script_reader.specs.Parsing.{coarse_of, session_and_moment, gone_of, high_of, carry_of, return_of, done_of, restart_of, receiver_restart_of}
-use Rattle.script_reader.proofs.FieldChains.{bind_some, take_number, number_put, end_at}
+use Rattle.script_reader.specs.declared.line.Line.TheVariants.{Coarse, Step, Gone, High, Carry, Return, Done, Restart, ReceiverRestart}
+use Rattle.script_reader.specs.Grammar.{IsWord, HasFields}
+use Rattle.script_reader.specs.Parsing.{coarse_of, session_and_moment, gone_of, high_of, carry_of, return_of, done_of, restart_of, receiver_restart_of, stepped_of}
+use Rattle.script_reader.proofs.FieldChains.{bind_some, take_number, take_word, number_put, word_put, end_at}
 
 session_and_moment_takes : (fields : List (List ℕ)) (at : ℕ × ℕ) → session_and_moment fields ≡ Some at → (at.0 < 2 ^ 32) × (at.1 ≤ 2 ^ 62) × (fields ≡ decimal at.0 ∷ decimal at.1 ∷ [])
 unfolding session_and_moment
@@ -76,6 +76,21 @@ coarse_takes fields line e =
 pub coarse_put : (session : ℕ) → session < 2 ^ 32 → coarse_of (decimal session ∷ []) ≡ Some (Coarse session)
 unfolding coarse_of
 coarse_put session hs = rw (number_put (2 ^ 32) session _ hs (omega arith)) refl
+
+pub stepped_takes : (fields : List (List ℕ)) (line : Line) → stepped_of fields ≡ Some line → HasFields line (codes "step" ∷ fields)
+unfolding stepped_of
+stepped_takes fields line e =
+    take_number (2 ^ 32) fields _ line e (λ session fa ha ea e.
+    take_number (2 ^ 62 + 1) fa _ line e (λ moment fb hb eb e.
+    take_word fb _ line e (λ w hex fc hc ec e.
+    let k = end_at _ fc line e in
+    subst (λ l. HasFields l (codes "step" ∷ fields)) k.1 (ha, omega (arith, hb), hex, hc, rw (ea, eb, ec, k.0) refl)
+    )))
+
+pub stepped_put : (session moment w : ℕ) (hex : List ℕ) → session < 2 ^ 32 → moment ≤ 2 ^ 62 → IsWord w hex → stepped_of (decimal session ∷ decimal moment ∷ hex ∷ []) ≡ Some (Step session moment w)
+unfolding stepped_of
+stepped_put session moment w hex hs hm hw =
+    rw (number_put (2 ^ 32) session _ hs (omega arith), number_put (2 ^ 62 + 1) moment _ (omega arith) (omega arith), word_put w hex [] hw) refl
 
 pub carry_takes : (fields : List (List ℕ)) (line : Line) → carry_of fields ≡ Some line → HasFields line (codes "carry" ∷ fields)
 unfolding carry_of

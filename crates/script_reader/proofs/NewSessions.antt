@@ -23,6 +23,7 @@ first_goes (Alone s) (lines.Coarse session) after printed first h = cc h.0
 first_goes s lines.Skip after printed first h = absurd (cc)
 first_goes s (lines.Look session m w z) after printed first h = absurd (cc)
 first_goes s (lines.Told session m w fault told z) after printed first h = absurd (cc)
+first_goes s (lines.Step session m w) after printed first h = absurd (cc)
 first_goes s (lines.Gone session m) after printed first h = absurd (cc)
 first_goes s (lines.High session m) after printed first h = absurd (cc)
 first_goes s (lines.Carry session back) after printed first h = absurd (cc)

@@ -239,6 +239,7 @@ step_one s p (lines.Session row) q r xs ys h k = absurd h
 step_one s p (lines.LowSession row next held) q r xs ys h k = absurd h
 step_one s p (lines.Coarse session) q r xs ys h k = absurd h
 step_one s p (lines.Told session m w fault told a) q r xs ys h k = absurd h
+step_one s p (lines.Step session m w) q r xs ys h k = absurd h
 step_one s p (lines.Look session m w a) q r xs ys (c, comes, (few, h)) (d, comes', (few', k)) =
     let same = arrives_one session p.reading a c d comes comes' in
     look_one s (joined p c) m w (first_of p.is_broken (joined p c).waits) q r xs ys h (subst (λ (t : LineComing). IsOfferedLook s (joined p t) m w r ys) (sym same) k)

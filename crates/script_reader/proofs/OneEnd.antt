@@ -31,6 +31,7 @@ crowded_steps s p (lines.Session row) q printed h k = h
 crowded_steps s p (lines.LowSession row next held) q printed h k = h
 crowded_steps s p (lines.Coarse session) q printed h k = h
 crowded_steps s p (lines.Told session m w fault told z) q printed h k = h
+crowded_steps s p (lines.Step session m w) q printed h k = h
 crowded_steps s p (lines.Gone session m) q printed h k = h
 crowded_steps s p (lines.High session m) q printed h k = h
 crowded_steps s p (lines.Carry session back) q printed h k = h
@@ -59,6 +60,7 @@ crowded_low s p (lines.Return session m back) q printed h k = h
 crowded_low s p (lines.Done session m t) q printed h k = h
 crowded_low s p (lines.Restart session m) q printed h k = h
 crowded_low s p (lines.ReceiverRestart session m) q printed h k = h
+crowded_low s p (lines.Step session m w) q printed h k = h
 
 refused_low : (s : RunningAlone) (line : Line) (mid : Option Begun) (printed : List Event) → IsRefusedAlone s.row s.past line → GoesAlone s line mid printed → ⊥
 refused_low s line mid printed h (timely, (q, step, e)) =
@@ -75,6 +77,7 @@ refused_leads o None (lines.LowSession row next held) mid printed r h = no_key _
 refused_leads o None (lines.Coarse session) mid printed r h = absurd h
 refused_leads o None (lines.Look session m w z) mid printed r h = absurd h
 refused_leads o None (lines.Told session m w fault told z) mid printed r h = absurd h
+refused_leads o None (lines.Step session m w) mid printed r h = absurd h
 refused_leads o None (lines.Gone session m) mid printed r h = absurd h
 refused_leads o None (lines.High session m) mid printed r h = absurd h
 refused_leads o None (lines.Carry session back) mid printed r h = absurd h
@@ -87,6 +90,7 @@ refused_leads o (Some (Whole s)) (lines.LowSession row next held) mid printed r 
 refused_leads o (Some (Whole s)) (lines.Coarse session) mid printed r h = refused_coarse o (Whole s) session mid r h.0
 refused_leads o (Some (Whole s)) (lines.Look session m w z) mid printed r h = refused_goes s (lines.Look session m w z) mid printed r h
 refused_leads o (Some (Whole s)) (lines.Told session m w fault told z) mid printed r h = refused_goes s (lines.Told session m w fault told z) mid printed r h
+refused_leads o (Some (Whole s)) (lines.Step session m w) mid printed r h = refused_goes s (lines.Step session m w) mid printed r h
 refused_leads o (Some (Whole s)) (lines.Gone session m) mid printed r h = refused_goes s (lines.Gone session m) mid printed r h
 refused_leads o (Some (Whole s)) (lines.High session m) mid printed r h = refused_goes s (lines.High session m) mid printed r h
 refused_leads o (Some (Whole s)) (lines.Carry session back) mid printed r h = refused_goes s (lines.Carry session back) mid printed r h
@@ -99,6 +103,7 @@ refused_leads o (Some (Alone s)) (lines.LowSession row next held) mid printed r 
 refused_leads o (Some (Alone s)) (lines.Coarse session) mid printed r h = refused_coarse o (Alone s) session mid r h.0
 refused_leads o (Some (Alone s)) (lines.Look session m w z) mid printed r h = refused_low s (lines.Look session m w z) mid printed r h
 refused_leads o (Some (Alone s)) (lines.Told session m w fault told z) mid printed r h = refused_low s (lines.Told session m w fault told z) mid printed r h
+refused_leads o (Some (Alone s)) (lines.Step session m w) mid printed r h = refused_low s (lines.Step session m w) mid printed r h
 refused_leads o (Some (Alone s)) (lines.Gone session m) mid printed r h = refused_low s (lines.Gone session m) mid printed r h
 refused_leads o (Some (Alone s)) (lines.High session m) mid printed r h = refused_low s (lines.High session m) mid printed r h
 refused_leads o (Some (Alone s)) (lines.Carry session back) mid printed r h = refused_low s (lines.Carry session back) mid printed r h

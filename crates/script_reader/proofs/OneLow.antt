@@ -77,6 +77,7 @@ step_low_one s p (lines.Return session m back) is_fault q r xs ys h k = absurd h
 step_low_one s p (lines.Done session m t) is_fault q r xs ys h k = absurd h
 step_low_one s p (lines.Restart session m) is_fault q r xs ys h k = absurd h
 step_low_one s p (lines.ReceiverRestart session m) is_fault q r xs ys h k = absurd h
+step_low_one s p (lines.Step session m w) is_fault q r xs ys h k = absurd h
 
 pub one_outcome : (s : SessionRow) (p : PastAlone) (line : Line) (d e : Bool) (q r : PastAlone) (xs ys : List Event) → StepAlone s p line d q xs → StepAlone s p line e r ys → d ≡ e
 one_outcome s p (lines.Told session m w fault told z) d e q r xs ys (c, comes, (few, h)) (c', comes', (few', k)) =
@@ -95,3 +96,4 @@ one_outcome s p (lines.Return session m back) d e q r xs ys h k = absurd h
 one_outcome s p (lines.Done session m t) d e q r xs ys h k = absurd h
 one_outcome s p (lines.Restart session m) d e q r xs ys h k = absurd h
 one_outcome s p (lines.ReceiverRestart session m) d e q r xs ys h k = absurd h
+one_outcome s p (lines.Step session m w) d e q r xs ys h k = absurd h

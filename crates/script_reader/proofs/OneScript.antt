@@ -39,6 +39,7 @@ leads_one o None (lines.LowSession row next held) a b xs ys h k = record { after
 leads_one o None (lines.Coarse session) a b xs ys h k = absurd h
 leads_one o None (lines.Look session m w z) a b xs ys h k = absurd h
 leads_one o None (lines.Told session m w fault told z) a b xs ys h k = absurd h
+leads_one o None (lines.Step session m w) a b xs ys h k = absurd h
 leads_one o None (lines.Gone session m) a b xs ys h k = absurd h
 leads_one o None (lines.High session m) a b xs ys h k = absurd h
 leads_one o None (lines.Carry session back) a b xs ys h k = absurd h
@@ -51,6 +52,7 @@ leads_one o (Some s) (lines.LowSession row next held) a b xs ys h k = goes_on_on
 leads_one o (Some s) (lines.Coarse session) a b xs ys h k = record { after = h.0.2 ∙ sym k.0.2; printed = h.1 ∙ sym k.1 }
 leads_one o (Some s) (lines.Look session m w z) a b xs ys h k = goes_on_one s (lines.Look session m w z) a b xs ys h k
 leads_one o (Some s) (lines.Told session m w fault told z) a b xs ys h k = goes_on_one s (lines.Told session m w fault told z) a b xs ys h k
+leads_one o (Some s) (lines.Step session m w) a b xs ys h k = goes_on_one s (lines.Step session m w) a b xs ys h k
 leads_one o (Some s) (lines.Gone session m) a b xs ys h k = goes_on_one s (lines.Gone session m) a b xs ys h k
 leads_one o (Some s) (lines.High session m) a b xs ys h k = goes_on_one s (lines.High session m) a b xs ys h k
 leads_one o (Some s) (lines.Carry session back) a b xs ys h k = goes_on_one s (lines.Carry session back) a b xs ys h k

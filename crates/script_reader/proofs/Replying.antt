@@ -150,6 +150,7 @@ step_grows s p (lines.Session row) q printed h = absurd h
 step_grows s p (lines.LowSession row next held) q printed h = absurd h
 step_grows s p (lines.Coarse session) q printed h = absurd h
 step_grows s p (lines.Told session m w fault told a) q printed h = absurd h
+step_grows s p (lines.Step session m w) q printed h = absurd h
 step_grows s p (lines.Look session m w a) q printed (c, comes, (few, (f, i))) = look_grows s (joined p c) _ q printed i
 step_grows s p (lines.Gone session m) q printed (f, i) = look_grows s (lost p) _ q printed i
 step_grows s p (lines.High session m) q printed h = aside_grows s p q printed (high_aside s false p m None q printed h)
@@ -177,6 +178,7 @@ step_low_grows s p (lines.Return session m back) is_fault q printed h = absurd h
 step_low_grows s p (lines.Done session m t) is_fault q printed h = absurd h
 step_low_grows s p (lines.Restart session m) is_fault q printed h = absurd h
 step_low_grows s p (lines.ReceiverRestart session m) is_fault q printed h = absurd h
+step_low_grows s p (lines.Step session m w) is_fault q printed h = absurd h
 
 -- the replies of the session that runs
 abbrev pub Replies : Option Begun → List Sent → Type 0

@@ -7,7 +7,7 @@ use Rattle.hex.specs.Hex.{encode_lower}
 use Rattle.hex.proofs.HexLemmas.{decode_of-encode_lower}
 use Rattle.pump_frame.specs.declared.row.SessionRow.{SessionRow}
 use Rattle.script_reader.specs.declared.line.Line.{Line}
-use Rattle.script_reader.specs.declared.line.Line.TheVariants.{Skip, Session, LowSession, Coarse, Look, Told, Gone, High, Carry, Return, Done, Restart, ReceiverRestart}
+use Rattle.script_reader.specs.declared.line.Line.TheVariants.{Skip, Session, LowSession, Coarse, Look, Told, Step, Gone, High, Carry, Return, Done, Restart, ReceiverRestart}
 use Rattle.script_reader.specs.declared.line.Arriving.{Arriving}
 use Rattle.script_reader.specs.declared.line.Arriving.TheVariants.{Nothing, Hello, Data, Raw}
 use Rattle.script_reader.specs.declared.line.ToldFeedback.{ToldFeedback}
@@ -89,6 +89,7 @@ printed_fields (Told session moment w fault told arrival) l t =
       (t.0, l.0, word_field w, t.1, feedback_field told, printed_feedback told l.1 t.2, arriving_fields arrival, printed_arriving arrival l.2 t.3, refl),
       refl,
     )
+printed_fields (Step session moment w) l t = inr (line_fields (Step session moment w), (t.0, l, word_field w, t.1, refl), refl)
 printed_fields (Gone session moment) l t = inr (line_fields (Gone session moment), (t, l, refl), refl)
 printed_fields (High session moment) l t = inr (line_fields (High session moment), (t, l, refl), refl)
 printed_fields (Carry session back) l t = inr (line_fields (Carry session back), (t.0, t.1, refl), refl)

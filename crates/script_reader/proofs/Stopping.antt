@@ -43,6 +43,7 @@ overfills_steps s p (lines.LowSession row next held) r first end n size q printe
 overfills_steps s p (lines.Coarse session) r first end n size q printed h k = absurd h
 overfills_steps s p (lines.Look session m w z) r first end n size q printed h k = absurd h
 overfills_steps s p (lines.Told session m w fault told z) r first end n size q printed h k = absurd h
+overfills_steps s p (lines.Step session m w) r first end n size q printed h k = absurd h
 overfills_steps s p (lines.Gone session m) r first end n size q printed h k = absurd h
 overfills_steps s p (lines.High session m) r first end n size q printed h k = absurd h
 overfills_steps s p (lines.Return session m back) r first end n size q printed h k = absurd h
@@ -69,6 +70,7 @@ overfills_one s p (lines.LowSession row next held) q r xs ys end n size end' n' 
 overfills_one s p (lines.Coarse session) q r xs ys end n size end' n' size' h k = absurd h
 overfills_one s p (lines.Look session m w z) q r xs ys end n size end' n' size' h k = absurd h
 overfills_one s p (lines.Told session m w fault told z) q r xs ys end n size end' n' size' h k = absurd h
+overfills_one s p (lines.Step session m w) q r xs ys end n size end' n' size' h k = absurd h
 overfills_one s p (lines.Gone session m) q r xs ys end n size end' n' size' h k = absurd h
 overfills_one s p (lines.High session m) q r xs ys end n size end' n' size' h k = absurd h
 overfills_one s p (lines.Return session m back) q r xs ys end n size end' n' size' h k = absurd h

@@ -6,7 +6,7 @@ use Rattle.hex.specs.Hex.{decode_of}
 use Rattle.pump_frame.specs.Names.{IsName}
 use Rattle.pump_frame.specs.declared.row.SessionRow.{SessionRow}
 use Rattle.script_reader.specs.declared.line.Line.{Line}
-use Rattle.script_reader.specs.declared.line.Line.TheVariants.{Skip, Session, LowSession, Coarse, Look, Told, Gone, High, Carry, Return, Done, Restart, ReceiverRestart}
+use Rattle.script_reader.specs.declared.line.Line.TheVariants.{Skip, Session, LowSession, Coarse, Look, Told, Step, Gone, High, Carry, Return, Done, Restart, ReceiverRestart}
 use Rattle.script_reader.specs.declared.line.ToldFeedback.{ToldFeedback}
 use Rattle.script_reader.specs.declared.line.ToldFeedback.TheVariants.{Quiet, Full, Pair}
 use Rattle.script_reader.specs.declared.line.Arriving.{Arriving}
@@ -91,6 +91,8 @@ HasFields (Look session moment word arrival) fields = (session < 2 ^ 32) × (mom
 HasFields (Told session moment word fault feedback arrival) fields = (session < 2 ^ 32) × (moment ≤ 2 ^ 62)
     × (hex : List ℕ) × IsWord word hex × (told : List ℕ) × IsFeedback feedback told × (rest : List (List ℕ)) × IsArriving arrival rest
     × (fields ≡ codes "told" ∷ decimal session ∷ decimal moment ∷ hex ∷ outcome_field fault ∷ told ∷ rest)
+HasFields (Step session moment word) fields = (session < 2 ^ 32) × (moment ≤ 2 ^ 62)
+    × (hex : List ℕ) × IsWord word hex × (fields ≡ codes "step" ∷ decimal session ∷ decimal moment ∷ hex ∷ [])
 HasFields (High session moment) fields = (session < 2 ^ 32) × (moment ≤ 2 ^ 62) × (fields ≡ codes "high" ∷ decimal session ∷ decimal moment ∷ [])
 HasFields (Carry session back) fields = (session < 2 ^ 32) × (back < 2 ^ 64) × (fields ≡ codes "carry" ∷ decimal session ∷ decimal back ∷ [])
 HasFields (Return session moment back) fields = (session < 2 ^ 32) × (moment ≤ 2 ^ 62) × (back < 2 ^ 64)

@@ -11,7 +11,7 @@ use Rattle.script_reader.specs.declared.lines.Lined.TheVariants as lined
 use Rattle.script_reader.specs.declared.head.LinedHead.{LinedHead}
 use Rattle.script_reader.specs.declared.head.LinedHead.TheVariants as heads
 use Rattle.script_reader.specs.declared.head.LineHead.{LineHead}
-use Rattle.script_reader.specs.declared.head.LineHead.TheVariants.{Skip, Session, LowSession, Coarse, Look, Told, Gone, High, Carry, Return, Done, Restart, ReceiverRestart}
+use Rattle.script_reader.specs.declared.head.LineHead.TheVariants.{Skip, Session, LowSession, Coarse, Look, Told, Step, Gone, High, Carry, Return, Done, Restart, ReceiverRestart}
 
 abbrev pub arriving_with : List ℕ → ArrivingHead → Arriving
 arriving_with bytes Nothing = arriving.Nothing
@@ -26,6 +26,7 @@ line_with bytes (LowSession row next held) = line.LowSession row next held
 line_with bytes (Coarse session) = line.Coarse session
 line_with bytes (Look session moment word arrival) = line.Look session moment word (arriving_with bytes arrival)
 line_with bytes (Told session moment word fault feedback arrival) = line.Told session moment word fault feedback (arriving_with bytes arrival)
+line_with bytes (Step session moment word) = line.Step session moment word
 line_with bytes (Gone session moment) = line.Gone session moment
 line_with bytes (High session moment) = line.High session moment
 line_with bytes (Carry session back) = line.Carry session back
@@ -55,6 +56,7 @@ CanHoldLine (Return session moment back) bytes = Unit {0}
 CanHoldLine (Done session moment time) bytes = Unit {0}
 CanHoldLine (Restart session moment) bytes = Unit {0}
 CanHoldLine (ReceiverRestart session moment) bytes = Unit {0}
+CanHoldLine (Step session moment word) bytes = Unit {0}
 
 abbrev pub lined_with : List ℕ → LinedHead → Lined
 lined_with bytes (heads.Line line) = lined.Line (line_with bytes line)

@@ -2,7 +2,7 @@
 use Rattle.std.specs.Prelude.{◌≡◌, ◌^◌, ◌<◌, ◌≤◌, false, length}
 use Rattle.pump_frame.specs.declared.row.SessionRow.{SessionRow}
 use Rattle.script_reader.specs.declared.line.Line.{Line}
-use Rattle.script_reader.specs.declared.line.Line.TheVariants.{Skip, Session, LowSession, Coarse, Look, Told, Gone, High, Carry, Return, Done, Restart, ReceiverRestart}
+use Rattle.script_reader.specs.declared.line.Line.TheVariants.{Skip, Session, LowSession, Coarse, Look, Told, Step, Gone, High, Carry, Return, Done, Restart, ReceiverRestart}
 use Rattle.script_reader.specs.declared.line.ToldFeedback.{ToldFeedback}
 use Rattle.script_reader.specs.declared.line.ToldFeedback.TheVariants.{Quiet, Full, Pair}
 use Rattle.script_reader.specs.Grammar.{IsCount}
@@ -42,3 +42,4 @@ IsLawfulLine (Return session moment back) = moment ≤ 2 ^ 62
 IsLawfulLine (Done session moment time) = (moment ≤ 2 ^ 62) × (time ≤ 10 ^ 9)
 IsLawfulLine (Restart session moment) = moment ≤ 2 ^ 62
 IsLawfulLine (ReceiverRestart session moment) = moment ≤ 2 ^ 62
+IsLawfulLine (Step session moment word) = moment ≤ 2 ^ 62

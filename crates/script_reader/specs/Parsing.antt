@@ -12,7 +12,7 @@ use Rattle.pump_frame.specs.Names.{is_name_byte}
 use Rattle.pump_frame.specs.declared.row.SessionRow.{SessionRow}
 use Rattle.script_reader.specs.Fields.{is_space}
 use Rattle.script_reader.specs.declared.line.Line.{Line}
-use Rattle.script_reader.specs.declared.line.Line.TheVariants.{Skip, Session, LowSession, Coarse, Look, Told, Gone, High, Carry, Return, Done, Restart, ReceiverRestart}
+use Rattle.script_reader.specs.declared.line.Line.TheVariants.{Skip, Session, LowSession, Coarse, Look, Told, Step, Gone, High, Carry, Return, Done, Restart, ReceiverRestart}
 use Rattle.script_reader.specs.declared.line.ToldFeedback.{ToldFeedback}
 use Rattle.script_reader.specs.declared.line.ToldFeedback.TheVariants.{Quiet, Full, Pair}
 use Rattle.script_reader.specs.declared.line.Arriving.{Arriving}
@@ -180,6 +180,13 @@ told_of fields = do
   arrival ← arriving_of told.1
   Some (Told session.0 moment.0 hex.0 fault.0 told.0 arrival)
 
+unfoldable pub stepped_of : List (List ℕ) → Option Line
+stepped_of fields = do
+  session ← field_at (number (2 ^ 32)) fields
+  moment ← field_at (number (2 ^ 62 + 1)) session.1
+  hex ← field_at word moment.1
+  at_end (Step session.0 moment.0 hex.0) hex.1
+
 -- a session and a moment, and no field after them
 unfoldable pub session_and_moment : List (List ℕ) → Option (ℕ × ℕ)
 session_and_moment fields = do
@@ -239,6 +246,7 @@ step_of word fields =
     else if bytes_eq word (codes "done") then done_of fields
     else if bytes_eq word (codes "restart") then restart_of fields
     else if bytes_eq word (codes "receiver-restart") then receiver_restart_of fields
+    else if bytes_eq word (codes "step") then stepped_of fields
     else None
 
 unfoldable pub line_of : List (List ℕ) → Option Line

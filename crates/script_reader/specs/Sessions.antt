@@ -21,6 +21,7 @@ session_in (lines.LowSession row next held) = Some row.id
 session_in (lines.Coarse session) = Some session
 session_in (lines.Look session m w a) = Some session
 session_in (lines.Told session m w fault told a) = Some session
+session_in (lines.Step session m w) = Some session
 session_in (lines.Gone session m) = Some session
 session_in (lines.High session m) = Some session
 session_in (lines.Carry session back) = Some session
@@ -46,6 +47,7 @@ stands_first _ = false
 abbrev pub moment_in : Line → Option ℕ
 moment_in (lines.Look session m w a) = Some m
 moment_in (lines.Told session m w fault told a) = Some m
+moment_in (lines.Step session m w) = Some m
 moment_in (lines.Gone session m) = Some m
 moment_in (lines.High session m) = Some m
 moment_in (lines.Return session m back) = Some m

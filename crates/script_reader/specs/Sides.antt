@@ -16,6 +16,7 @@ is_lows (lines.LowSession row next held) = true
 is_lows (lines.Coarse session) = true
 is_lows (lines.Look session m w a) = true
 is_lows (lines.Told session m w fault told a) = true
+is_lows (lines.Step session m w) = true
 is_lows (lines.Gone session m) = true
 is_lows (lines.Restart session m) = true
 is_lows _ = false
@@ -76,6 +77,7 @@ restarts_in printed = filter_map found_full printed
 abbrev pub look_moment : Line → Option ℕ
 look_moment (lines.Look session m w a) = Some m
 look_moment (lines.Told session m w fault told a) = Some m
+look_moment (lines.Step session m w) = Some m
 look_moment (lines.Gone session m) = Some m
 look_moment _ = None
 

@@ -86,6 +86,7 @@ is_timely row p (lines.Session other) = false
 is_timely row p (lines.LowSession other next held) = false
 is_timely row p (lines.Coarse session) = false
 is_timely row p (lines.Told session m w fault told a) = false
+is_timely row p (lines.Step session m w) = false
 is_timely row p (lines.Look session m w a) = session == row.id && nat_le p.moment m
 is_timely row p (lines.Gone session m) = session == row.id && nat_le p.moment m
 is_timely row p (lines.High session m) = session == row.id && nat_le p.moment m
@@ -147,6 +148,7 @@ LineStep row p (lines.Session other) q printed = ⊥
 LineStep row p (lines.LowSession other next held) q printed = ⊥
 LineStep row p (lines.Coarse session) q printed = ⊥
 LineStep row p (lines.Told session m w fault told a) q printed = ⊥
+LineStep row p (lines.Step session m w) q printed = ⊥
 LineStep row p (lines.Look session m w a) q printed =
     (c : LineComing) × Arrives session p.reading a c × IsJoinedLook row p m w c q printed
 LineStep row p (lines.Gone session m) q printed = IsLowLook row (lost p) m 0 Gone q printed

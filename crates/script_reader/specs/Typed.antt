@@ -6,7 +6,7 @@ use Rattle.hex.specs.Hex.{decode_of, encode_lower}
 use Rattle.pump_frame.specs.Names.{IsName}
 use Rattle.pump_frame.specs.declared.row.SessionRow.{SessionRow}
 use Rattle.script_reader.specs.declared.line.Line.{Line}
-use Rattle.script_reader.specs.declared.line.Line.TheVariants.{Skip, Session, LowSession, Coarse, Look, Told, Gone, High, Carry, Return, Done, Restart, ReceiverRestart}
+use Rattle.script_reader.specs.declared.line.Line.TheVariants.{Skip, Session, LowSession, Coarse, Look, Told, Step, Gone, High, Carry, Return, Done, Restart, ReceiverRestart}
 use Rattle.script_reader.specs.declared.line.ToldFeedback.{ToldFeedback}
 use Rattle.script_reader.specs.declared.line.ToldFeedback.TheVariants.{Quiet, Full, Pair}
 use Rattle.script_reader.specs.declared.line.Arriving.{Arriving}
@@ -52,6 +52,7 @@ IsTypedLine (Coarse session) = session < 2 ^ 32
 IsTypedLine (Look session moment word arrival) = (session < 2 ^ 32) × IsWord word (word_field word) × IsTypedArriving arrival
 IsTypedLine (Told session moment word fault feedback arrival) =
     (session < 2 ^ 32) × IsWord word (word_field word) × IsTypedFeedback feedback × IsTypedArriving arrival
+IsTypedLine (Step session moment word) = (session < 2 ^ 32) × IsWord word (word_field word)
 IsTypedLine (Gone session moment) = session < 2 ^ 32
 IsTypedLine (High session moment) = session < 2 ^ 32
 IsTypedLine (Carry session back) = (session < 2 ^ 32) × (back < 2 ^ 64)

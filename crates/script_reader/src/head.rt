@@ -45,6 +45,11 @@ pub enum LineHead {
         feedback: ToldFeedback,
         arrival: ArrivingHead,
     },
+    Step {
+        session: u32,
+        moment: u64,
+        word: u32,
+    },
     Gone {
         session: u32,
         moment: u64,
@@ -151,6 +156,15 @@ impl LineHead {
                 fault: *fault,
                 feedback: *feedback,
                 arrival: arrival.with(bytes),
+            },
+            LineHead::Step {
+                session,
+                moment,
+                word,
+            } => Line::Step {
+                session: *session,
+                moment: *moment,
+                word: *word,
             },
             LineHead::Gone { session, moment } => Line::Gone {
                 session: *session,
@@ -270,6 +284,15 @@ impl Line {
                 fault: *fault,
                 feedback: *feedback,
                 arrival: arrival.head(),
+            },
+            Line::Step {
+                session,
+                moment,
+                word,
+            } => LineHead::Step {
+                session: *session,
+                moment: *moment,
+                word: *word,
             },
             Line::Gone { session, moment } => LineHead::Gone {
                 session: *session,

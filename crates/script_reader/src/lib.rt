@@ -13,6 +13,7 @@ mod laws;
 mod line;
 mod line_printing;
 mod lines;
+mod naming;
 mod printing;
 mod reading;
 
@@ -29,6 +30,7 @@ pub use laws::{
 pub use line::{Arriving, Line, ToldFeedback};
 pub use line_printing::{append_line, print_line};
 pub use lines::{Lined, Lines};
+pub use naming::{begins_session, moment_of, session_of, stands_first};
 pub use printing::{append_fault, append_head, print_event, print_fault, print_head};
 pub use reading::{read_head, read_line};
 

@@ -63,6 +63,12 @@ pub enum Line {
         feedback: ToldFeedback,
         arrival: Arriving,
     },
+    /// As `Look`, of the second of two pumps in a row, where the sender between them adds what comes.
+    Step {
+        session: u32,
+        moment: u64,
+        word: u32,
+    },
     /// The connection is lost, what waits with it, and the low process looks once.
     Gone {
         session: u32,

@@ -189,6 +189,14 @@ fn put_line<const N: usize>(into: &mut ArrayVec<u8, N>, head: &LineHead, body: &
             put_feedback(into, *feedback);
             put_arriving(into, arrival, body);
         }
+        LineHead::Step {
+            session,
+            moment,
+            word,
+        } => {
+            put_pair(into, b"step", u64::from(*session), *moment);
+            put_word(into, *word);
+        }
         LineHead::Gone { session, moment } => put_pair(into, b"gone", u64::from(*session), *moment),
         LineHead::High { session, moment } => put_pair(into, b"high", u64::from(*session), *moment),
         LineHead::Carry { session, back } => put_pair(into, b"carry", u64::from(*session), *back),

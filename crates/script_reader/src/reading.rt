@@ -2,7 +2,7 @@ ghost use Rattle.std.specs.Prelude.{◌≡◌, ℕ, ◌+◌, ◌^◌, List, IfSo
 ghost use Rattle.script_reader.specs.Heads.{arriving_with, line_with, CanHold, CanHoldLine};
 ghost use Rattle.script_reader.specs.Grammar.{IsLine};
 ghost use Rattle.script_reader.specs.Lawful.{IsLawfulLine};
-ghost use Rattle.script_reader.specs.Parsing.{Reads, field_at, number, row_at, session_of, low_session_of, coarse_of, hello_of, data_of, raw_of, arriving_of, look_of, told_of, session_and_moment, gone_of, high_of, carry_of, return_of, done_of, restart_of, receiver_restart_of, step_of, line_of, line_at};
+ghost use Rattle.script_reader.specs.Parsing.{Reads, field_at, number, row_at, session_of, low_session_of, coarse_of, hello_of, data_of, raw_of, arriving_of, look_of, told_of, stepped_of, session_and_moment, gone_of, high_of, carry_of, return_of, done_of, restart_of, receiver_restart_of, step_of, line_of, line_at};
 
 use crate::body::Body;
 use crate::fields::Fields;
@@ -107,6 +107,9 @@ fn read_step(word: &[u8], fields: &mut Fields, body: &mut Body) -> Option<LineHe
     }
     if word == b"receiver-restart".as_slice() {
         return read_receiver_restart(fields);
+    }
+    if word == b"step".as_slice() {
+        return read_stepped(fields);
     }
     None
 }
@@ -275,6 +278,24 @@ fn read_told(fields: &mut Fields, body: &mut Body) -> Option<LineHead>
         fault,
         feedback,
         arrival,
+    })
+}
+
+#[tactic(auto, unfolding(crate::specs::Parsing::stepped_of))]
+fn read_stepped(fields: &mut Fields) -> Option<LineHead>
+    ensures value { (bytes : List ℕ) → option_map (line_with bytes) result ≡ stepped_of fields.old }
+    ensures room { (bytes : List ℕ) → IfSome result (λ it. CanHoldLine it bytes) }
+{
+    let session = fields.small()?;
+    let moment = read_moment(fields)?;
+    let word = fields.word()?;
+    if !fields.is_done() {
+        return None;
+    }
+    Some(LineHead::Step {
+        session,
+        moment,
+        word,
     })
 }
 

@@ -65,6 +65,32 @@ fn a_session_is_made_coarse(rt: HostRuntime) {
     }
 }
 
+#[test]
+fn a_sender_between_two_pumps_steps(rt: HostRuntime) {
+    let step = read_line(b"step 4294967295 4611686018427387904 0000000A");
+    assert!(rt;
+        matches!(
+            step,
+            Some(Line::Step {
+                session: 4294967295,
+                moment: 4611686018427387904,
+                word: 10
+            })
+        )
+    );
+    // a field too few, one too many, numbers past their bounds, a word of seven digits, another word
+    for line in [
+        b"step 1 5".as_slice(),
+        b"step 1 5 0000000a hello weather watch",
+        b"step 4294967296 5 0000000a",
+        b"step 1 4611686018427387905 0000000a",
+        b"step 1 5 000000a",
+        b"Step 1 5 0000000a",
+    ] {
+        assert!(rt; is_no_line(line));
+    }
+}
+
 // The outcome and the feedback of a look of session 1 at 5 with the word 10 to which nothing comes.
 fn told(bytes: &[u8]) -> Option<(bool, ToldFeedback)> {
     match read_line(bytes) {

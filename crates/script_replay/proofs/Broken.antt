@@ -62,6 +62,7 @@ breaks_grows s p (lines.Session other) role q printed h = absurd h
 breaks_grows s p (lines.LowSession other next held) role q printed h = absurd h
 breaks_grows s p (lines.Coarse session) role q printed h = absurd h
 breaks_grows s p (lines.Told session m w fault told a) role q printed h = absurd h
+breaks_grows s p (lines.Step session m w) role q printed h = absurd h
 breaks_grows s p (lines.Gone session m) role q printed h = absurd h
 breaks_grows s p (lines.High session m) role q printed h = absurd h
 breaks_grows s p (lines.Look session m w a) roles.Low q printed (c, comes, few, lost) = lost_grows s _ _ q printed lost

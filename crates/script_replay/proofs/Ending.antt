@@ -47,6 +47,7 @@ over_runs s (lines.LowSession row next held) q printed end n size timely h run =
 over_runs s (lines.Coarse session) q printed end n size timely h run = absurd h
 over_runs s (lines.Look session m w a) q printed end n size timely h run = absurd h
 over_runs s (lines.Told session m w fault feedback a) q printed end n size timely h run = absurd h
+over_runs s (lines.Step session m w) q printed end n size timely h run = absurd h
 over_runs s (lines.Gone session m) q printed end n size timely h run = absurd h
 over_runs s (lines.High session m) q printed end n size timely h run = absurd h
 over_runs s (lines.Carry session back) q printed end n size timely (full, same, silent) run = subst (λ (x : Past). HasRun (Some (Whole (record { row = s.row; past = x })))) (sym same) run

@@ -20,6 +20,7 @@ crowded_overfills s p (lines.LowSession row next held) q printed end n size h k 
 crowded_overfills s p (lines.Coarse session) q printed end n size h k = k
 crowded_overfills s p (lines.Look session moment word arrival) q printed end n size h k = k
 crowded_overfills s p (lines.Told session moment word fault feedback arrival) q printed end n size h k = k
+crowded_overfills s p (lines.Step session moment word) q printed end n size h k = k
 crowded_overfills s p (lines.Gone session moment) q printed end n size h k = k
 crowded_overfills s p (lines.High session moment) q printed end n size h k = k
 crowded_overfills s p (lines.Carry session back) q printed end n size h k = h
@@ -44,6 +45,7 @@ crowded_stores s p (lines.Return session moment back) q printed h k = h
 crowded_stores s p (lines.Done session moment time) q printed h k = h
 crowded_stores s p (lines.Restart session moment) q printed h k = h
 crowded_stores s p (lines.ReceiverRestart session moment) q printed h k = h
+crowded_stores s p (lines.Step session moment w) q printed h k = h
 
 whole_refuses : (s : Running) (line : Line) → IsRefused (Some (Whole s)) line → IsRefusedWhole s.row s.past line
 whole_refuses s lines.Skip h = absurd h
@@ -52,6 +54,7 @@ whole_refuses s (lines.LowSession row next held) h = h
 whole_refuses s (lines.Coarse session) h = inl refl
 whole_refuses s (lines.Look session moment word arrival) h = h
 whole_refuses s (lines.Told session moment word fault feedback arrival) h = h
+whole_refuses s (lines.Step session moment word) h = h
 whole_refuses s (lines.Gone session moment) h = h
 whole_refuses s (lines.High session moment) h = h
 whole_refuses s (lines.Carry session back) h = h
@@ -67,6 +70,7 @@ alone_refuses s (lines.LowSession row next held) h = h
 alone_refuses s (lines.Coarse session) h = inl refl
 alone_refuses s (lines.Look session moment word arrival) h = h
 alone_refuses s (lines.Told session moment word fault feedback arrival) h = h
+alone_refuses s (lines.Step session moment word) h = h
 alone_refuses s (lines.Gone session moment) h = h
 alone_refuses s (lines.High session moment) h = h
 alone_refuses s (lines.Carry session back) h = h

@@ -59,6 +59,7 @@ leads_same o p None lines.Skip number after printed named same h = cc
 leads_same o p None (lines.Coarse session) number after printed named same h = absurd h
 leads_same o p None (lines.Look session m w z) number after printed named same h = absurd h
 leads_same o p None (lines.Told session m w fault told z) number after printed named same h = absurd h
+leads_same o p None (lines.Step session m w) number after printed named same h = absurd h
 leads_same o p None (lines.Gone session m) number after printed named same h = absurd h
 leads_same o p None (lines.High session m) number after printed named same h = absurd h
 leads_same o p None (lines.Carry session back) number after printed named same h = absurd h

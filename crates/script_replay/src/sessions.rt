@@ -4,14 +4,14 @@ ghost use Rattle.std.specs.Prelude.{◌≡◌, ◌<◌, ◌≤◌, ◌+◌, ℕ,
 ghost use Rattle.std.specs.List.{insert as inserted};
 ghost use Rattle.script_reader.specs.Heads.{line_with};
 ghost use Rattle.script_reader.specs.Scripts.{Begun};
-ghost use Rattle.script_reader.specs.Sessions.{Sessions as Script, no_sessions, session_in, begins_session as begins, stands_first as is_first, moment_in, moment_of as moment_so_far, is_in_turn as may_come, AllEnd};
+ghost use Rattle.script_reader.specs.Sessions.{Sessions as Script, no_sessions, begins_session as begins, stands_first as is_first, moment_of as moment_so_far, is_in_turn as may_come, AllEnd};
 ghost use Rattle.two_worlds.specs.Printing.{lines_in};
 ghost use Rattle.script_replay.specs.Sessions.{id_of, place_in, is_of_number, AreInOrder, EachStandsFor, AllStandFor, StandsFor};
 
 use crate::session::Session;
 use arrayvec::ArrayVec;
 use disk_model::Disk;
-use script_reader::{EventHead, LineHead};
+use script_reader::{EventHead, LineHead, begins_session, moment_of, stands_first};
 use std::alloc::{AllocError, Global};
 
 #[cfg(test)]
@@ -28,71 +28,6 @@ pub struct Sessions<D: Disk> {
     pub moment: u64,
     /// A line came that needs not stand first.
     pub is_under_way: bool,
-}
-
-/// The number of the session that a line names.
-pub fn session_of(line: &LineHead) -> Option<u32>
-    ensures { (bytes : List ℕ) → session_in (line_with bytes line.now) ≡ result }
-{
-    match line {
-        LineHead::Skip => None,
-        LineHead::Session(row) => Some(row.id),
-        LineHead::LowSession { row, .. } => Some(row.id),
-        LineHead::Coarse { session } => Some(*session),
-        LineHead::Look { session, .. } => Some(*session),
-        LineHead::Told { session, .. } => Some(*session),
-        LineHead::Gone { session, .. } => Some(*session),
-        LineHead::High { session, .. } => Some(*session),
-        LineHead::Carry { session, .. } => Some(*session),
-        LineHead::Return { session, .. } => Some(*session),
-        LineHead::Done { session, .. } => Some(*session),
-        LineHead::Restart { session, .. } => Some(*session),
-        LineHead::ReceiverRestart { session, .. } => Some(*session),
-    }
-}
-
-/// The moment of a line that has one, in microseconds.
-fn moment_of(line: &LineHead) -> Option<u64>
-    ensures { (bytes : List ℕ) → moment_in (line_with bytes line.now) ≡ result }
-{
-    match line {
-        LineHead::Skip => None,
-        LineHead::Session(_) => None,
-        LineHead::LowSession { .. } => None,
-        LineHead::Coarse { .. } => None,
-        LineHead::Carry { .. } => None,
-        LineHead::Look { moment, .. } => Some(*moment),
-        LineHead::Told { moment, .. } => Some(*moment),
-        LineHead::Gone { moment, .. } => Some(*moment),
-        LineHead::High { moment, .. } => Some(*moment),
-        LineHead::Return { moment, .. } => Some(*moment),
-        LineHead::Done { moment, .. } => Some(*moment),
-        LineHead::Restart { moment, .. } => Some(*moment),
-        LineHead::ReceiverRestart { moment, .. } => Some(*moment),
-    }
-}
-
-/// Whether a line is to begin a session.
-pub fn begins_session(line: &LineHead) -> bool
-    ensures { (bytes : List ℕ) → begins (line_with bytes line.now) ≡ result }
-{
-    match line {
-        LineHead::Session(_) => true,
-        LineHead::LowSession { .. } => true,
-        _ => false,
-    }
-}
-
-/// Whether a line stands before all others: it begins a session, or makes one coarse.
-pub fn stands_first(line: &LineHead) -> bool
-    ensures { (bytes : List ℕ) → is_first (line_with bytes line.now) ≡ result }
-{
-    match line {
-        LineHead::Session(_) => true,
-        LineHead::LowSession { .. } => true,
-        LineHead::Coarse { .. } => true,
-        _ => false,
-    }
 }
 
 impl<D: Disk> Sessions<D> {

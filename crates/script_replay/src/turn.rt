@@ -18,12 +18,12 @@ use crate::disks::{put_disks_back, take_disks};
 use crate::outcome::{Outcome, outcome_at, outcome_of, untaken};
 use crate::output::Output;
 use crate::session::Session;
-use crate::sessions::{Sessions, begins_session, session_of, stands_first};
+use crate::sessions::Sessions;
 use arrayvec::ArrayVec;
 use disk_model::{Disk, Shelf};
 use pump_frame::SessionRow;
 use pump_link::Sink;
-use script_reader::{Body, EventHead, Line, LineHead};
+use script_reader::{Body, EventHead, Line, LineHead, begins_session, session_of, stands_first};
 use std::alloc::Global;
 use two_worlds::Pump;
 

@@ -7,6 +7,7 @@ pub mod High
 pub mod Lines
 pub mod Low
 pub mod Opening
+pub mod Reading
 pub mod Reopening
 pub mod Runs
 pub mod Timeline

@@ -14,6 +14,7 @@ pub mod Openings
 pub mod Printing
 pub mod Private
 pub mod Pumps
+pub mod Reads
 pub mod Rooms
 pub mod Standing
 pub mod States

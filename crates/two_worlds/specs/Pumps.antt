@@ -14,7 +14,7 @@ use Rattle.two_worlds.specs.declared.applied.Stop.TheVariants.{Line, Device, Ful
 use Rattle.two_worlds.specs.declared.pump.Pump.{Pump}
 use Rattle.two_worlds.specs.declared.pump.state.BareDisks.{BareDisks}
 use Rattle.two_worlds.specs.Standing.{bare_disk}
-use Rattle.two_worlds.specs.States.{disks_in, is_down_in, kept_moment_in, IsOpenWith, StandsIn}
+use Rattle.two_worlds.specs.States.{disks_in, counts_in, is_down_in, kept_moment_in, IsOpenWith, StandsIn}
 use Rattle.two_worlds.specs.Doing.{Fails, LeavesFit}
 use Rattle.two_worlds.specs.Timelines.{IsTimeline, RunGoesOn}
 use Rattle.two_worlds.specs.Timely as timely
@@ -40,6 +40,10 @@ is_down s = is_down_in s.state
 -- the moment of the last line that had one, whatever the disks tell
 abbrev pub kept_moment : {D : Type 0} {g : _} → Pump D g → ℕ
 kept_moment s = kept_moment_in s.state
+
+-- how many messages were accepted, removed, and taken by the receiver, whatever the disks tell
+abbrev pub counts_of : {D : Type 0} {g : _} → Pump D g → ℕ × ℕ × ℕ
+counts_of s = counts_in s.state
 
 -- the disk of a role
 abbrev pub disk_at : {D : Type 0} {g : _} → Role → Pump D g → D

@@ -1,6 +1,9 @@
 -- A pump that is open, and one that is shut.
 use Rattle.std.specs.Prelude.{ℕ, Bool, true}
 use Rattle.disk_model.specs.Disk.{Meaning}
+use Rattle.high_process.specs.States as high
+use Rattle.high_receiver.specs.Receiving.{recv_count}
+use Rattle.low_process.specs.Looks as low
 use Rattle.script_reader.specs.Past.{Past}
 use Rattle.two_worlds.specs.declared.pump.parts.Parts.{Parts}
 use Rattle.two_worlds.specs.declared.pump.state.BareDisks.{BareDisks}
@@ -26,6 +29,12 @@ is_down_in (Shut d) = true
 abbrev pub kept_moment_in : {D : Type 0} → PumpState D → ℕ
 kept_moment_in (Open c) = c.moment
 kept_moment_in (Shut d) = 0
+
+-- how many messages were accepted, how many are removed, and how many the receiver has, whatever the disks tell;
+-- none where it is shut
+abbrev pub counts_in : {D : Type 0} → PumpState D → ℕ × ℕ × ℕ
+counts_in (Open c) = (low.next_of c.low, high.removed_of c.high, recv_count c.receiver)
+counts_in (Shut d) = (0, 0, 0)
 
 -- it is open, and this holds of its parts
 abbrev pub IsOpenWith : {D : Type 0} → (Parts D → Type 0) → PumpState D → Type 0

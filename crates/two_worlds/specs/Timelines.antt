@@ -130,6 +130,7 @@ AreSteps row p (lines.Session other) q steps = ⊥
 AreSteps row p (lines.LowSession other next held) q steps = ⊥
 AreSteps row p (lines.Coarse session) q steps = ⊥
 AreSteps row p (lines.Told session m w fault told a) q steps = ⊥
+AreSteps row p (lines.Step session m w) q steps = ⊥
 AreSteps row p (lines.Look session m w a) q steps =
     (c : script.LineComing) × script.Arrives session p.reading a c × (came : List Coming)
     × (c.added ≡ map arrived came)

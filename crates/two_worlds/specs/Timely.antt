@@ -19,6 +19,7 @@ is_timely_by c (lines.Session other) = false
 is_timely_by c (lines.LowSession other next held) = false
 is_timely_by c (lines.Coarse session) = false
 is_timely_by c (lines.Told session m w fault told a) = false
+is_timely_by c (lines.Step session m w) = false
 is_timely_by c (lines.Look session m w a) = session == c.row.id && nat_le c.moment m
 is_timely_by c (lines.Gone session m) = session == c.row.id && nat_le c.moment m
 is_timely_by c (lines.High session m) = session == c.row.id && nat_le c.moment m
@@ -37,6 +38,7 @@ opens_again (lines.Session other) = false
 opens_again (lines.LowSession other next held) = false
 opens_again (lines.Coarse session) = false
 opens_again (lines.Told session m w fault told a) = false
+opens_again (lines.Step session m w) = false
 opens_again (lines.Look session m w a) = false
 opens_again (lines.Gone session m) = false
 opens_again (lines.High session m) = false

@@ -33,14 +33,14 @@ up_of : {D : Type 0} (m : Meaning D) (d : Parts D) → Works m d → is_down d �
 up_of m d w = λ i. w.low_ready.up i || w.high_ready.up i || not (w.recv_ready.ready.is_open i)
 
 -- the state stands for what a session has been through
-abbrev StandsForSomeIn : {D : Type 0} → Meaning D → PumpState D → Type 0
+abbrev pub StandsForSomeIn : {D : Type 0} → Meaning D → PumpState D → Type 0
 StandsForSomeIn m s = (p : Past) × StandsIn m s p
 
 module _ {D : Type 0} (m : Meaning D) where
-  abbrev Holds : PumpState D → Type 0
+  abbrev pub Holds : PumpState D → Type 0
   Holds s = ∥ Hold m (disks_in s).row (disks_in s).low (disks_in s).high (disks_in s).recv ∥₁
 
-  stands_hold : (s : PumpState D) (p : Past) → StandsIn m s p → Holds s
+  pub stands_hold : (s : PumpState D) (p : Past) → StandsIn m s p → Holds s
   stands_hold (Open c) p s = ∣ record { world = p.world; lawful = s.sound.lawful; disks = s.disks } ∣₁
   stands_hold (Shut d) p s = absurd s
 
@@ -49,11 +49,11 @@ module _ {D : Type 0} (m : Meaning D) where
   some_in (Open c) works some = record { works = works; stands = some }
   some_in (Shut d) works some = absurd works
 
-  able_stands : (s : PumpState D) → IsOpenWith (IsAble m) s → m.tells → ∥ StandsForSomeIn m s ∥₁
+  pub able_stands : (s : PumpState D) → IsOpenWith (IsAble m) s → m.tells → ∥ StandsForSomeIn m s ∥₁
   able_stands (Open c) able = able.stands
   able_stands (Shut d) able = absurd able
 
-  works_up : (s : PumpState D) → IsOpenWith (λ d. ∥ Works m d ∥₁) s → is_down_in s ≡ false
+  pub works_up : (s : PumpState D) → IsOpenWith (λ d. ∥ Works m d ∥₁) s → is_down_in s ≡ false
   works_up (Open c) works = ∥∥₁_elim works (hlevel props) (up_of m c)
   works_up (Shut d) works = absurd works
 

@@ -48,6 +48,7 @@ module _ {D : Type 0} (m : Meaning D) (c : Parts D) (p : Past) where
   timely_is (lines.LowSession other next held) s = refl
   timely_is (lines.Coarse session) s = refl
   timely_is (lines.Told session moment w fault told a) s = refl
+  timely_is (lines.Step session moment w) s = refl
   timely_is (lines.Look session moment w a) s = ap (λ (n : ℕ). session == c.row.id && nat_le n moment) s.moment
   timely_is (lines.Gone session moment) s = ap (λ (n : ℕ). session == c.row.id && nat_le n moment) s.moment
   timely_is (lines.High session moment) s = ap (λ (n : ℕ). session == c.row.id && nat_le n moment) s.moment

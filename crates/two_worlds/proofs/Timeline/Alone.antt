@@ -131,6 +131,7 @@ low_line_goes row p (lines.Return session m back) q printed events h i = absurd 
 low_line_goes row p (lines.Done session m time) q printed events h i = absurd h
 low_line_goes row p (lines.Restart session m) q printed events h i = absurd h
 low_line_goes row p (lines.ReceiverRestart session m) q printed events h i = absurd h
+low_line_goes row p (lines.Step session m w) q printed events h i = absurd h
 low_line_goes row p (lines.Gone session m) q printed events (f, look) i =
     (Looks (made_with m 0 true (uncounted f)) ∷ [], lost_on row p events m 0 f _ q printed i look, (uncounted f, refl))
 low_line_goes row p (lines.Told session m w fault told a) q printed events (c, arrives, (few, (f, look))) i =

@@ -104,6 +104,7 @@ line_goes row p (lines.Session other) q printed steps t timely h i = absurd h
 line_goes row p (lines.LowSession other next held) q printed steps t timely h i = absurd h
 line_goes row p (lines.Coarse session) q printed steps t timely h i = absurd h
 line_goes row p (lines.Told session m w fault told a) q printed steps t timely h i = absurd h
+line_goes row p (lines.Step session m w) q printed steps t timely h i = absurd h
 line_goes row p (lines.High session m) q printed steps t timely h i =
     goes_by row p (lines.High session m) steps q (high_steps m None p q) (high_look row p steps t m i (later session row.id p.moment m timely) false None q printed h) refl
 line_goes row p (lines.Carry session back) q printed steps t timely h i =

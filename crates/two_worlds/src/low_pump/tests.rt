@@ -191,6 +191,7 @@ fn other_lines_are_barred(rt: HostRuntime) -> Result<(), Fail> {
         "gone 2 20",
         "look 1 20 00000000",
         "high 1 20",
+        "step 1 20 00000000",
     ] {
         assert!(rt;
             prints(

@@ -47,7 +47,8 @@ impl<D: Disk> Parts<D> {
             | LineHead::Session(_)
             | LineHead::LowSession { .. }
             | LineHead::Coarse { .. }
-            | LineHead::Told { .. } => false,
+            | LineHead::Told { .. }
+            | LineHead::Step { .. } => false,
             LineHead::Look {
                 session,
                 moment,
@@ -205,6 +206,7 @@ impl<D: Disk> Parts<D> {
             | LineHead::LowSession { .. }
             | LineHead::Coarse { .. }
             | LineHead::Told { .. }
+            | LineHead::Step { .. }
             | LineHead::Restart { .. }
             | LineHead::ReceiverRestart { .. } => { Err(Stop::Line) }
             LineHead::Look {

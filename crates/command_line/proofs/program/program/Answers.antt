@@ -13,4 +13,5 @@ returns c =
     let race = c.in_ok-all-5.ensures ∙ ap₂ (λ (a s : App). with_subcommand a s.top) exercise c.in_ok-with_three.ensures.app in
     let serve = c.in_ok-all-6.ensures ∙ ap₂ (λ (a s : App). with_subcommand a s.top) race c.in_ok-with_three-2.ensures.app in
     let receive = c.in_ok-all-7.ensures ∙ ap₂ (λ (a s : App). with_subcommand a s.top) serve c.in_ok-with_three-3.ensures.app in
-    IfOk-weaker c.with-8.result _ _ (λ p h. h ∙ ap₂ (λ (a s : App). with_subcommand a s.top) receive c.in_ok-with_three-4.ensures.app) c.with-8.ensures
+    let send = c.in_ok-all-8.ensures ∙ ap₂ (λ (a s : App). with_subcommand a s.top) receive c.in_ok-with_three-4.ensures.app in
+    IfOk-weaker c.with-9.result _ _ (λ p h. h ∙ ap₂ (λ (a s : App). with_subcommand a s.top) send c.in_ok-with_four.ensures.app) c.with-9.ensures

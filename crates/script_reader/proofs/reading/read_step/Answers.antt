@@ -29,3 +29,7 @@ returns-then-eq-8-clause-value c = rw (c.read_restart.ensures.value c.args.body.
 pub returns-then-eq-9-clause-value : goal.returns-then-eq-9-clause-value
 unfolding step_of
 returns-then-eq-9-clause-value c = rw (c.read_receiver_restart.ensures.value c.args.body.now) (search rules)
+
+pub returns-then-eq-10-clause-value : goal.returns-then-eq-10-clause-value
+unfolding step_of
+returns-then-eq-10-clause-value c = rw (c.read_stepped.ensures.value c.args.body.now) (search rules)

@@ -1,9 +1,9 @@
 -- What may follow the messages so far.
-use Rattle.std.proofs.Common.{◌≡◌, ℕ, zero, suc, ◌+◌, ◌-◌, ◌<◌, ◌≤◌, ◌⊎◌, inl, inr, List, [], ◌∷◌, ◌++◌, length, take, drop, map, refl, sym, ◌∙◌, ap, subst, arith, append_assoc, length-append, length-drop, length-take}
-use Rattle.std.proofs.Math.Seq.{take-length, take-append_seam, drop-append_seam}
+use Rattle.std.proofs.Common.{◌≡◌, ℕ, ◌+◌, ◌-◌, ◌<◌, ◌≤◌, ◌⊎◌, inl, inr, List, [], ◌∷◌, ◌++◌, length, take, drop, refl, sym, ◌∙◌, ap, subst, arith, append_assoc, length-append, length-take}
+use Rattle.std.proofs.Math.Seq.{take-append_seam, drop-append_seam}
 use Rattle.std.proofs.Math.ListN.{drop_of_length-le}
-use Rattle.std.proofs.lemmas.List.{take-append-drop, append-nil, length-take-le}
-use Rattle.pump_wrapper.specs.Wrapped.{IsPiece, pieces, piece_message, length_message, unwrapped, wrapped, IsFile, BeginsFile}
+use Rattle.std.proofs.lemmas.List.{take_all, append-nil}
+use Rattle.pump_wrapper.specs.Wrapped.{IsPiece, piece_message, length_message, wrapped, IsFile, BeginsFile}
 use Rattle.pump_wrapper.specs.Cutting.{wrapped_from}
 use Rattle.pump_wrapper.specs.Gathering.{Follows, FollowsOn, HasTaken, Steps, Refuses}
 use Rattle.pump_wrapper.specs.declared.gathering.Before.{Before}
@@ -41,7 +41,7 @@ piece_before n before piece rest any full =
 
 pub piece_last : (n before : ℕ) (piece : List ℕ) → 0 < length piece → length piece ≤ n → wrapped_from n before piece ≡ piece_message piece ∷ length_message (before + length piece) ∷ []
 piece_last n before piece any le =
-    let here : take n piece ≡ piece = sym (append-nil (take n piece)) ∙ (λ i. take n piece ++ sym (drop_of_length-le piece le) i) ∙ take-append-drop n piece in
+    let here : take n piece ≡ piece = take_all n piece le in
     let there : drop n piece ≡ [] = drop_of_length-le piece le in
     from_next n before piece (omega (arith, any, le)) any
     ∙ (λ i. piece_message (here i) ∷ wrapped_from n (before + length (here i)) (there i))

@@ -73,8 +73,9 @@ pub fn gather<D: Disk, O: Sink>(
         let Some(piece) = gathering.take(payload.as_slice()) else {
             return Err(GatherFault::NotWrapped { number });
         };
-        if write_all(out, piece).is_err() {
-            return Err(GatherFault::Write);
+        match write_all(out, piece) {
+            Ok(()) => {}
+            Err(_) => return Err(GatherFault::Write),
         }
     }
     Ok(Gathered {

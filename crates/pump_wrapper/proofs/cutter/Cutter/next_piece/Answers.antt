@@ -1,4 +1,4 @@
-use Rattle.std.proofs.Common.{◌≡◌, ℕ, ◌+◌, ◌-◌, ◌^◌, min, ◌≤◌, List, [], ◌∷◌, length, take, replicate, refl, sym, ◌∙◌, ap, subst, arith, rules}
+use Rattle.std.proofs.Common.{◌≡◌, ℕ, ◌+◌, ◌-◌, ◌^◌, min, ◌≤◌, List, ◌∷◌, length, take, replicate, sym, ◌∙◌, ap, arith}
 use Rattle.std.proofs.lemmas.List.{length-take-le, length-replicate}
 use Rattle.pump_wrapper.specs.Wrapped.{length_message}
 use Rattle.pump_wrapper.proofs.Cuts.{gives_length, gives_last, gives_full}

@@ -1,4 +1,4 @@
-use Rattle.std.proofs.Common.{◌≡◌, ℕ, false, ◌==◌, ◌+◌, ◌<◌, ◌≤◌, List, ◌∷◌, inl, inr, length, refl, sym, ◌∙◌, subst, arith}
+use Rattle.std.proofs.Common.{◌≡◌, ℕ, false, ◌==◌, ◌<◌, List, ◌∷◌, inl, inr, length, refl, sym, ◌∙◌, subst, arith}
 use Rattle.std.proofs.lemmas.Bool.{eqb-true, eqb-false}
 use Rattle.pump_wrapper.specs.Gathering.{FollowsOn}
 use Rattle.pump_wrapper.specs.Wrapped.{piece_message}

@@ -3,11 +3,13 @@ pub mod Calls
 pub mod Comparing
 pub mod Dealing
 pub mod Image
+pub mod Moves
 pub mod Readings
 pub mod Refill
 pub mod Rows
 pub mod Shapes
 pub mod Slots
+pub mod Surveys
 pub mod Triples
 pub mod Walk
 pub mod Words

@@ -4,6 +4,8 @@ pub mod Deals
 pub mod Faults
 pub mod Images
 pub mod Joint
+pub mod Moves
 pub mod Readings
 pub mod Refills
 pub mod Refusals
+pub mod Surveys

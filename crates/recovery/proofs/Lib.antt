@@ -11,5 +11,6 @@ pub mod Shapes
 pub mod Slots
 pub mod Surveys
 pub mod Triples
+pub mod Unfit
 pub mod Walk
 pub mod Words

@@ -76,7 +76,7 @@ module _ {D : Type 0} (m : Meaning D) (row : SessionRow) (size B removed : ℕ) 
           sym taken ∙ sym fits.received,
           ap (λ (v : ℕ × ℕ). v.1) (sym (o.value told)) ∙ sym fits.end,
           subst (λ k. AreFound row size k counts.removed live received (m.reading old.low) (m.reading old.high) (m.reading old.recv)) e
-          (subst (λ k. AreFound row size (low_count low) k live received (m.reading old.low) (m.reading old.high) (m.reading old.recv)) b whole),
+              (subst (λ k. AreFound row size (low_count low) k live received (m.reading old.low) (m.reading old.high) (m.reading old.recv)) b whole),
         );
     count = omega (arith, fits.accepted, o.count);
     held = (omega (arith, fits.accepted, fits.removed_is, same, o.held.0), omega (arith, fits.accepted, fits.removed_is, same, o.held.1));
@@ -93,7 +93,7 @@ module _ {D : Type 0} (m : Meaning D) (row : SessionRow) (size B removed : ℕ) 
       let r : recv_count receiver ≡ (value_of (m.reading old.recv)).0 = ap (λ (v : ℕ × ℕ). v.0) (o.value told) in
       let e : low_count low ≡ (value_of (m.reading old.low)).0 = let s = o.low_stands told in sym (ap (λ (v : ℕ × ℕ). v.0) s.1.value) in
       let beside : (messages : List (List ℕ)) → RecvStands row messages (m.reading old.recv)
-          → Disagrees row (value_of (m.reading old.high)).0 (value_of (m.reading old.recv)).0 (value_of (m.reading old.low)).0 messages (m.reading old.low) f.why = λ messages stands.
+      → Disagrees row (value_of (m.reading old.high)).0 (value_of (m.reading old.recv)).0 (value_of (m.reading old.low)).0 messages (m.reading old.low) f.why = λ messages stands.
       let stands' : RecvStands (recv_row receiver) messages (m.reading (recv_disk receiver)) =
       subst (λ (w : SessionRow). RecvStands w messages (m.reading (recv_disk receiver))) (sym o.recv_row_is) (subst (λ (z : List ℕ). RecvStands row messages z) (sym (o.recv_reads told)) stands) in
       let one = differs messages stands' in

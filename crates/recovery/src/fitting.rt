@@ -67,6 +67,15 @@ pub fn check_empty<D: Disk>(new: &mut Trio<D>) -> Result<(), MoveFault>
     Ok(())
 }
 
+#[tactic(auto, unfolding(stable_buffer::specs::Numbers::length_at))]
+fn length_in(head: &[u8]) -> u32
+    requires { length head.now ≡ 2 }
+    ensures value { result ≡ length_at head.now 0 }
+    ensures small { result < 2 ^ 16 }
+{
+    BigEndian::read_u16(head) as u32
+}
+
 /// The length that stands at an offset of an old disk.
 pub fn read_length<D: Disk>(disk: &mut D, at: u64, role: Role) -> Result<u32, MoveFault>
     ensures length { IfOk result (λ l. D.told.tells → l ≡ length_at (D.told.reading disk.old) at) }
@@ -79,7 +88,7 @@ pub fn read_length<D: Disk>(disk: &mut D, at: u64, role: Role) -> Result<u32, Mo
         let faults = disk.faults();
         return Err(old_fault(role, Why::Device { faults }));
     }
-    Ok(BigEndian::read_u16(&head) as u32)
+    Ok(length_in(&head))
 }
 
 // Whether a record of the receiver's is longer than the new row lets it be.

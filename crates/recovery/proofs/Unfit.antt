@@ -5,8 +5,12 @@ use Rattle.std.proofs.lemmas.List.{get_or-drop, get_or-take, drop_all, drop-drop
 use Rattle.pump_frame.specs.declared.row.SessionRow.{SessionRow}
 use Rattle.stable_buffer.specs.Numbers.{length_at}
 use Rattle.stable_buffer.specs.Stands.{LowStands, slot_of}
-use Rattle.stable_buffer.specs.Log.{Records, log_of}
-use Rattle.recovery.specs.Moves.{too_long}
+use Rattle.stable_buffer.specs.Log.{Records, RecvStands, log_of}
+use Rattle.disk_model.specs.declared.name.Role.TheVariants.{Low}
+use Rattle.stable_buffer.specs.Register.{value_of}
+use Rattle.recovery.specs.Refusals.{or_else, told_of}
+use Rattle.recovery.specs.declared.trio.MoveFault.{MoveFault}
+use Rattle.recovery.specs.Moves.{too_long, small, fault_of}
 use Rattle.recovery.specs.declared.why.Why.{Why}
 use Rattle.recovery.specs.declared.why.Why.TheVariants.{TooLong}
 use Rattle.recovery.proofs.Slots.{slot_length}
@@ -74,3 +78,24 @@ pick_long to n l x rest lt is = let yes : nat_lt to.message l ≡ true = grind (
 
 pub pick_short : (to : SessionRow) (n l : ℕ) (x rest : Option Why) → l ≤ to.message → x ≡ (if nat_lt to.message l then Some (TooLong n l) else rest) → x ≡ rest
 pick_short to n l x rest le is = let no : nat_lt to.message l ≡ false = grind (arith, le) in is ∙ rw (no) refl
+
+-- ---- what comes first ----
+
+pub none_small : (to : SessionRow) (held : ℕ) → held ≤ to.capacity → fault_of false (told_of Low (small to held)) ≡ None
+none_small to held le = let no : nat_lt to.capacity held ≡ false = grind (arith, le) in rw (no) refl
+
+pub comes_second : (a b c : Option MoveFault) (f : MoveFault) → a ≡ None → b ≡ Some f → or_else a (or_else b c) ≡ Some f
+comes_second a b c f none is = (λ i. or_else (none i) (or_else (is i) c))
+
+pub comes_third : (a b c : Option MoveFault) (f : MoveFault) → a ≡ None → b ≡ None → c ≡ Some f → or_else a (or_else b c) ≡ Some f
+comes_third a b c f none empty is = (λ i. or_else (none i) (or_else (empty i) (is i)))
+
+-- the records of a disk end where its register says
+pub record RecordsEnd (row : SessionRow) (received : List (List ℕ)) (end : ℕ) (disk : List ℕ) : Type 0 where
+  pub within : end ≤ length disk
+  pub records : Records row.message received (log_of end disk)
+
+pub records_end : (row : SessionRow) (received : List (List ℕ)) (end : ℕ) (disk : List ℕ) → RecvStands row received disk → (value_of disk).1 ≡ end → RecordsEnd row received end disk
+records_end row received end disk s is =
+    let same : s.end ≡ end = sym (ap (λ (v : ℕ × ℕ). v.1) s.value) ∙ is in
+    record { within = omega (arith, s.within, same); records = subst (λ e. Records row.message received (log_of e disk)) same s.records }

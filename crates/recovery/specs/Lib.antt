@@ -2,6 +2,7 @@ pub mod Agreement
 pub mod Calls
 pub mod Deals
 pub mod Faults
+pub mod Fillings
 pub mod Images
 pub mod Joint
 pub mod Moves

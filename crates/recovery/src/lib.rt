@@ -3,6 +3,7 @@
 #![tactic(auto)]
 
 mod compare;
+mod filling;
 mod fitting;
 mod hands;
 mod kept;

@@ -49,6 +49,6 @@ loop-number-preserved g c =
       rest = λ told most received count within records.
           let so_far = i.rest told most received count within records in
           let step = record_step to most n at c.args.counts.now.end l received (m.reading c.args.recv.now) i.above i.below within (omega (arith, count, c.loop-number-test.true)) so_far.0
-              (c.in_ok-length.ensures.length told ∙ ap (λ z. length_at z at) (i.kept.moves.reads told)) in
+          (c.in_ok-length.ensures.length told ∙ ap (λ z. length_at z at) (i.kept.moves.reads told)) in
           (step.rest, so_far.1 ∙ pick_short to n l (too_long to n (drop n received)) (too_long to (n + 1) (drop (n + 1) received)) (omega (arith, c.if-length-to.false)) step.long);
     }

@@ -35,6 +35,6 @@ loop-number-preserved g c =
       kept = kept_after m _ _ _ false i.kept c.in_ok-length.ensures.kept;
       rest = λ told live stands.
           let step = slot_step c.args.from.now to c.args.counts.now.accepted B n l live (m.reading c.args.low.now) (row_message c.args.from.now c.requires.lawful) stands
-              (omega (arith, i.above, c.requires.order.0)) (omega (arith, c.loop-number-test.true)) (c.in_ok-length.ensures.length told ∙ (λ j. length_at (i.kept.moves.reads told j) (c.place.ensures.place j))) in
+          (omega (arith, i.above, c.requires.order.0)) (omega (arith, c.loop-number-test.true)) (c.in_ok-length.ensures.length told ∙ (λ j. length_at (i.kept.moves.reads told j) (c.place.ensures.place j))) in
           i.rest told live stands ∙ pick_short to n l (too_long to n (drop (n - B) live)) (too_long to (n + 1) (drop (n + 1 - B) live)) (omega (arith, c.if-length-to.false)) step;
     }

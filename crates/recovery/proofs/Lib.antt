@@ -2,6 +2,7 @@ pub mod Accepts
 pub mod Calls
 pub mod Comparing
 pub mod Dealing
+pub mod Fillings
 pub mod Image
 pub mod Moves
 pub mod Readings

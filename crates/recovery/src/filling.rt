@@ -1,7 +1,7 @@
 // Writing the new disks.
 ghost use Rattle.std.specs.Prelude.{◌≡◌, ◌⊎◌, ◌+◌, ◌-◌, ◌*◌, ◌^◌, ◌<◌, ◌≤◌, ℕ, List, [], length, take, drop, true, false, IfOk, OnOk, IfErr};
 ghost use Rattle.pump_frame.specs.Rows.{IsLawfulRow};
-ghost use Rattle.disk_model.specs.Disk.{Moves, Same, IsWritten, Each, Leaves, Settled};
+ghost use Rattle.disk_model.specs.Disk.{Moves, Torn, IsWritten, Each, Leaves, Settled};
 ghost use Rattle.disk_model.specs.declared.name.Role.{Role};
 ghost use Rattle.disk_model.specs.declared.name.Role.TheVariants.{Low as LowRole, High as HighRole, Recv as RecvRole};
 ghost use Rattle.stable_buffer.specs.Making.{KeepsFirst, LeavesFrom, HasZeros, IsNone, IsNoneOr, marked};
@@ -24,7 +24,42 @@ use disk_model::{Disk, DiskFault, Role};
 use pump_frame::SessionRow;
 use stable_buffer::{begin, finish};
 
-// Copies bytes of an old disk to a place on the new one, in pieces.
+// The most bytes that are copied at once.
+const PIECE: u64 = 4096;
+
+// Copies a piece of an old disk to a place on the new one.
+fn copy_piece<D: Disk>(
+    source: &mut D,
+    at: u64,
+    target: &mut D,
+    to: u64,
+    count: u64,
+    role: Role,
+) -> Result<(), MoveFault>
+    requires few { count ≤ 4096 }
+    requires starts { D.told.tells → to ≤ length (D.told.reading target.old) }
+
+    ensures within { OnOk result (D.told.tells → at + count ≤ length (D.told.reading source.old)) }
+    ensures written { OnOk result (D.told.tells
+        → IsWritten (D.told.reading target.old) to (take count (drop at (D.told.reading source.old))) (D.told.reading target.new)) }
+    ensures moves { Moves D.told (Torn to count) target.old target.new }
+    ensures kept { IsKept D.told source.old source.new (is_blamed false role result) }
+    ensures counted { Counted D.told target.old target.new (is_blamed true role result) }
+    ensures one { IfErr result (λ f. IsBlamedOne D.told role source.new target.new f) }
+{
+    let mut bytes = [0; PIECE as usize];
+    if let Err(DiskFault) = source.read(at, &mut bytes[..count as usize]) {
+        let faults = source.faults();
+        return Err(old_fault(role, Why::Device { faults }));
+    }
+    if let Err(DiskFault) = target.write_at(to, &bytes[..count as usize]) {
+        let faults = target.faults();
+        return Err(new_fault(role, Why::Device { faults }));
+    }
+    Ok(())
+}
+
+// Copies bytes of an old disk to a place on the new one.
 fn copy_bytes<D: Disk>(
     source: &mut D,
     at: u64,
@@ -36,25 +71,17 @@ fn copy_bytes<D: Disk>(
     requires ends { (at + count < 2 ^ 64) × (to + count < 2 ^ 64) }
     requires starts { D.told.tells → to ≤ length (D.told.reading target.old) }
 
-    ensures written { OnOk result (D.told.tells → at + count ≤ length (D.told.reading source.old)
+    ensures written { OnOk result (D.told.tells
         → IsWritten (D.told.reading target.old) to (take count (drop at (D.told.reading source.old))) (D.told.reading target.new)) }
     ensures moves { Moves D.told (KeepsFirst to) target.old target.new }
     ensures kept { IsKept D.told source.old source.new (is_blamed false role result) }
     ensures counted { Counted D.told target.old target.new (is_blamed true role result) }
     ensures one { IfErr result (λ f. IsBlamedOne D.told role source.new target.new f) }
 {
-    let mut piece = [0; 4096];
     let mut done = 0;
     while done < count {
-        let size = (count - done).min(4096);
-        if let Err(DiskFault) = source.read(at + done, &mut piece[..size as usize]) {
-            let faults = source.faults();
-            return Err(old_fault(role, Why::Device { faults }));
-        }
-        if let Err(DiskFault) = target.write_at(to + done, &piece[..size as usize]) {
-            let faults = target.faults();
-            return Err(new_fault(role, Why::Device { faults }));
-        }
+        let size = (count - done).min(PIECE);
+        copy_piece(source, at + done, target, to + done, size, role)?;
         done += size;
     }
     Ok(())

@@ -1,7 +1,16 @@
 -- The writing of new disks.
-use Rattle.std.proofs.Common.{◌≡◌, ℕ, ◌+◌, ◌-◌, ◌<◌, ◌≤◌, List, ◌++◌, length, take, drop, sym, ◌∙◌, ap, subst, arith, append_assoc, length-append, length-drop}
-use Rattle.std.proofs.lemmas.List.{take-take, drop-take, take-append-drop, take_at, drop_at, drop-drop, length-take-le}
-use Rattle.disk_model.specs.Disk.{IsWritten}
+use Rattle.std.proofs.Common.{◌≡◌, ℕ, ◌+◌, ◌-◌, ◌<◌, ◌≤◌, List, ◌++◌, length, take, drop, refl, sym, ◌∙◌, ap, subst, arith, append_assoc, length-append, length-drop}
+use Rattle.std.proofs.lemmas.List.{take-take, drop-take, take-append-drop, take_at, drop_at, drop-drop, length-take, length-take-le}
+use Rattle.disk_model.specs.Disk.{Meaning, Moves, IsWritten}
+use Rattle.disk_model.specs.Ranges.{holds_torn, holds_length}
+use Rattle.disk_model.proofs.Run.{weaker}
+use Rattle.pump_frame.specs.declared.row.SessionRow.{SessionRow}
+use Rattle.stable_buffer.specs.Making.{KeepsFirst}
+use Rattle.stable_buffer.specs.Numbers.{length_at}
+use Rattle.stable_buffer.specs.Stands.{InSlot, slot_of, low_size, spelled}
+use Rattle.stable_buffer.proofs.Making.{anything}
+use Rattle.stable_buffer.proofs.Slots.{apart, slot_beside, slot_within_low, slot_written}
+use Rattle.recovery.proofs.Slots.{slot_length}
 
 take_both : (a b : ℕ) (l : List ℕ) → take (a + b) l ≡ take a l ++ take b (drop a l)
 take_both a b l =
@@ -35,3 +44,32 @@ pub piece_is : (size k : ℕ) (into rest src : List ℕ) (at : ℕ) → k ≡ si
 piece_is size k into rest src at same within is =
     let few : length into ≡ size = ap length is ∙ length-take-le k (drop at src) (omega (arith, length-drop at src, within)) ∙ same in
     take_at into rest size few ∙ is ∙ ap (λ n. take n (drop at src)) same
+
+-- ---- a message that is copied to its slot ----
+
+module _ (to : SessionRow) (n place : ℕ) (bytes old new : List ℕ) (some : 1 ≤ to.capacity) (fits : length bytes ≤ 2 + to.message) (is : place ≡ slot_of to n) (size : length old ≡ low_size to) (wrote : IsWritten old place bytes new) where
+  at_slot : IsWritten old (slot_of to n) bytes new
+  at_slot = subst (λ p. IsWritten old p bytes new) is wrote
+
+  inside : slot_of to n ≤ length old
+  inside = omega (arith, size, slot_within_low to n some)
+
+  pub others_stay : (k : ℕ) (message : List ℕ) → k < n → n < k + to.capacity → InSlot to k message old → InSlot to k message new
+  others_stay k message below near was = slot_beside to k n (length bytes) message old new some fits (apart k n to.capacity some below near) (holds_torn old (slot_of to n) bytes new inside at_slot) was
+
+  pub size_stays : length new ≡ low_size to
+  size_stays = omega (arith, holds_length old (slot_of to n) bytes new inside at_slot, size, slot_within_low to n some, fits)
+
+pub message_copied : (from to : SessionRow) (n l at place : ℕ) (message src read old new : List ℕ) → from.message ≤ 1024 → 1 ≤ to.capacity → length old ≡ low_size to → InSlot from n message src → l ≡ length_at src at
+    → at ≡ slot_of from n → place ≡ slot_of to n → read ≡ src → length message ≤ to.message → IsWritten old place (take (2 + l) (drop at read)) new → InSlot to n message new
+message_copied from to n l at place message src read old new small some size s is at_is place_is same fits wrote =
+    let length_is : l ≡ length message = is ∙ ap (λ p. length_at src p) at_is ∙ slot_length from small n message src s in
+    let bytes : take (2 + l) (drop at read) ≡ spelled message = (λ i. take (2 + length_is i) (drop (at_is i) (same i))) ∙ s.bytes in
+    slot_written to n n message (take (2 + l) (drop at read)) old new some refl bytes fits size (subst (λ p. IsWritten old p (take (2 + l) (drop at read)) new) place_is wrote)
+
+pub read_few : (k at : ℕ) (src : List ℕ) → length (take k (drop at src)) ≤ k
+read_few k at src = omega (arith, length-take k (drop at src))
+
+pub first_weaker : {D : Type 0} (m : Meaning D) (k n : ℕ) (old new : D) → k ≤ n → Moves m (KeepsFirst n) old new → Moves m (KeepsFirst k) old new
+first_weaker m k n old new le moved = weaker m (λ c. Unit {0}) (KeepsFirst n) (KeepsFirst k) old new (anything m old)
+    (λ c d _ keeps. record { same = sym (take-take k n d le) ∙ ap (λ (l : List ℕ). take k l) keeps.same ∙ take-take k n c le }) moved

@@ -100,7 +100,7 @@ fn copy_message<D: Disk>(
     requires size { D.told.tells → length (D.told.reading target.old) ≡ low_size to.now }
 
     ensures copied { OnOk result (D.told.tells → (message : List ℕ) → InSlot from.now n message (D.told.reading source.old)
-        → length (D.told.reading source.old) ≡ low_size from.now → length message ≤ to.now.message
+        → length message ≤ to.now.message
         → InSlot to.now n message (D.told.reading target.new)) }
     ensures others { OnOk result (D.told.tells → (k : ℕ) (message : List ℕ) → k < n → n < k + to.now.capacity
         → InSlot to.now k message (D.told.reading target.old) → InSlot to.now k message (D.told.reading target.new)) }

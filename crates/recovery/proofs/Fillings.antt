@@ -3,7 +3,7 @@ use Rattle.std.proofs.Common.{◌≡◌, ℕ, ◌+◌, ◌-◌, ◌<◌, ◌≤�
 use Rattle.std.proofs.lemmas.List.{take-take, drop-take, take-append-drop, take_at, drop_at, drop-drop, length-take, length-take-le}
 use Rattle.disk_model.specs.Disk.{Meaning, Moves, IsWritten}
 use Rattle.disk_model.specs.Ranges.{holds_torn, holds_length}
-use Rattle.disk_model.proofs.Run.{weaker}
+use Rattle.disk_model.proofs.Run.{weaker, goes_on}
 use Rattle.pump_frame.specs.declared.row.SessionRow.{SessionRow}
 use Rattle.stable_buffer.specs.Making.{KeepsFirst}
 use Rattle.stable_buffer.specs.Numbers.{length_at}
@@ -73,3 +73,7 @@ read_few k at src = omega (arith, length-take k (drop at src))
 pub first_weaker : {D : Type 0} (m : Meaning D) (k n : ℕ) (old new : D) → k ≤ n → Moves m (KeepsFirst n) old new → Moves m (KeepsFirst k) old new
 first_weaker m k n old new le moved = weaker m (λ c. Unit {0}) (KeepsFirst n) (KeepsFirst k) old new (anything m old)
     (λ c d _ keeps. record { same = sym (take-take k n d le) ∙ ap (λ (l : List ℕ). take k l) keeps.same ∙ take-take k n c le }) moved
+
+pub first_again : {D : Type 0} (m : Meaning D) (k : ℕ) (old mid new : D) → Moves m (KeepsFirst k) old mid → Moves m (KeepsFirst k) mid new → Moves m (KeepsFirst k) old new
+first_again m k old mid new so_far moved = goes_on m (λ c. Unit {0}) (KeepsFirst k) (KeepsFirst k) (KeepsFirst k) old mid new (anything m old) (λ c d _ keeps. keeps)
+    (λ c d e _ first second. record { same = second.same ∙ first.same }) so_far moved

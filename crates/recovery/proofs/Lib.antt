@@ -14,4 +14,5 @@ pub mod Surveys
 pub mod Triples
 pub mod Unfit
 pub mod Walk
+pub mod Wholes
 pub mod Words

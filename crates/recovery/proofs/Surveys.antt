@@ -46,6 +46,7 @@ pub record AreOpened {D : Type 0} (m : Meaning D) (row : SessionRow) (size B : �
   pub count : low_count low ≤ 2 ^ 48
   pub held : (B ≤ low_count low) × (low_count low ≤ B + row.capacity)
   pub from : 80 ≤ recv_end receiver
+  pub room : recv_end receiver ≤ size
 
 module _ {D : Type 0} (m : Meaning D) (row : SessionRow) (size B removed : ℕ) (low : LowStore D) (receiver : Receiver D) (old : Trio D) (o : AreOpened m row size B low receiver old) (same : removed ≡ B) where
   pub surveyed : (counts : Counts) → FitsSurvey m removed low receiver counts → IsSurveyed m row size counts old
@@ -82,6 +83,7 @@ module _ {D : Type 0} (m : Meaning D) (row : SessionRow) (size B removed : ℕ) 
     held = (omega (arith, fits.accepted, fits.removed_is, same, o.held.0), omega (arith, fits.accepted, fits.removed_is, same, o.held.1));
     order = (omega (arith, fits.order.0, fits.removed_is, fits.received), omega (arith, fits.order.1, fits.accepted, fits.received));
     from = omega (arith, fits.end, o.from);
+    room = omega (arith, fits.end, o.room);
   }
 
   -- the receiver's messages are otherwise than low's

@@ -36,3 +36,4 @@ pub record IsSurveyed {D : Type 0} (m : Meaning D) (row : SessionRow) (size : �
   pub held : (counts.removed ≤ counts.accepted) × (counts.accepted ≤ counts.removed + row.capacity)
   pub order : (counts.removed ≤ counts.received) × (counts.received ≤ counts.accepted)
   pub from : 80 ≤ counts.end
+  pub room : counts.end ≤ size

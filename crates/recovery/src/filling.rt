@@ -270,6 +270,7 @@ pub fn write_recv<D: Disk>(
     requires empty { D.told.tells → D.told.reading target.old ≡ [] }
     requires count { counts.now.received ≤ 2 ^ 48 }
     requires from { 80 ≤ counts.now.end }
+    requires fits { counts.now.end < 2 ^ 64 }
 
     ensures stands { OnOk result (D.told.tells → (row : SessionRow) (received : List (List ℕ))
         → RecvStands row received (D.told.reading source.old)

@@ -1,4 +1,4 @@
-use Rattle.std.proofs.Common.{◌≡◌, ℕ, List, false, sym, subst}
+use Rattle.std.proofs.Common.{◌≡◌, ◌≤◌, ℕ, List, false, sym, subst, arith}
 use Rattle.std.proofs.lemmas.Result.{IfOk-weaker, IfErr-weaker}
 use Rattle.disk_model.specs.declared.name.Role.TheVariants.{Low}
 use Rattle.recovery.specs.Moves.{IsKept, is_blamed}
@@ -24,6 +24,7 @@ returns-clause-found g c =
       count = c.in-Ok.ensures.ready.count;
       held = c.in-Ok.ensures.between;
       from = c.in-Ok-open_receiver.ensures.ready.from;
+      room = omega (arith, c.in-Ok-open_receiver.ensures.ready.within, c.in-Ok-open_receiver.ensures.size);
     } in
     IfOk-weaker c.compare-end.result _ _ (λ counts fits. surveyed m c.args.row.now c.args.size pair.high.register.first c.removed-removed.result pair.low receiver c.args.old o c.removed-removed.ensures counts fits)
     c.compare-end.ensures.fine
@@ -47,6 +48,7 @@ returns-clause-refused g c =
       count = c.in-Ok.ensures.ready.count;
       held = c.in-Ok.ensures.between;
       from = c.in-Ok-open_receiver.ensures.ready.from;
+      room = omega (arith, c.in-Ok-open_receiver.ensures.ready.within, c.in-Ok-open_receiver.ensures.size);
     } in
     IfErr-weaker c.compare-end.result _ _
     (λ f cause nd told. let parts = cause nd told in refused_beside m c.args.row.now c.args.size pair.high.register.first c.removed-removed.result pair.low receiver c.args.old o c.removed-removed.ensures f told parts.0 parts.1)

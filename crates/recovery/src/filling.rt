@@ -1,7 +1,7 @@
 // Writing the new disks.
 ghost use Rattle.std.specs.Prelude.{◌≡◌, ◌⊎◌, ◌+◌, ◌-◌, ◌*◌, ◌^◌, ◌<◌, ◌≤◌, ℕ, List, [], length, take, drop, true, false, IfOk, OnOk, IfErr};
 ghost use Rattle.pump_frame.specs.Rows.{IsLawfulRow};
-ghost use Rattle.disk_model.specs.Disk.{Moves, Torn, IsWritten, Each, Leaves, Settled};
+ghost use Rattle.disk_model.specs.Disk.{Moves, Torn, IsWritten, Each, Settled};
 ghost use Rattle.disk_model.specs.declared.name.Role.{Role};
 ghost use Rattle.disk_model.specs.declared.name.Role.TheVariants.{Low as LowRole, High as HighRole, Recv as RecvRole};
 ghost use Rattle.stable_buffer.specs.Making.{KeepsFirst, LeavesFrom, HasZeros, IsNone, IsNoneOr, marked};
@@ -13,9 +13,9 @@ ghost use Rattle.stable_buffer.specs.Log.{RecvStands};
 ghost use Rattle.std.specs.List.{All};
 ghost use Rattle.recovery.specs.Calls.{is_device};
 ghost use Rattle.recovery.specs.Deals.{InSlots};
-ghost use Rattle.recovery.specs.Moves.{IsKept, IsMade, Counted, is_blamed};
+ghost use Rattle.recovery.specs.Moves.{IsKept, Counted, is_blamed};
 ghost use Rattle.recovery.specs.declared.why.Why.TheVariants.{Device};
-ghost use Rattle.recovery.specs.Fillings.{IsBlamedOne};
+ghost use Rattle.recovery.specs.Fillings.{IsBlamedOne, IsMadeFrom};
 
 use crate::fitting::{new_fault, place, read_length};
 use crate::survey::{Counts, old_fault};
@@ -170,7 +170,8 @@ fn begin_as<D: Disk>(
         → marked (D.told.reading target.new) ≡ bare_bytes to.now role first second) }
     ensures zeros { OnOk result (Each D.told HasZeros target.new) }
     ensures during { ((c : List ℕ) → D.told.images target.old c → length c < 80)
-        → Leaves D.told target.old target.new IsNone }
+        → (moment : ℕ) → moment ≤ D.told.moment target.old
+        → LeavesFrom D.told moment IsNone target.old → LeavesFrom D.told moment IsNone target.new }
     ensures later { D.told.moment target.old ≤ D.told.moment target.new }
     ensures counted { Counted D.told target.old target.new (is_blamed true role result) }
     ensures device { IfErr result (λ f. f ≡ record { new = true; role = role; why = Device (D.told.count target.new) }) }
@@ -226,8 +227,8 @@ pub fn write_low<D: Disk>(
     ensures settled { OnOk result (Settled D.told target.new) }
     ensures made { (live : List (List ℕ)) → (D.told.tells
         → LowStands from.now counts.now.accepted counts.now.removed live (D.told.reading source.old))
-        → All (λ message. length message ≤ to.now.message) live
-        → IsMade D.told (LowStands to.now counts.now.accepted counts.now.removed live) target.old target.new }
+        → (D.told.tells → All (λ message. length message ≤ to.now.message) live)
+        → IsMadeFrom D.told (LowStands to.now counts.now.accepted counts.now.removed live) target.old target.new }
     ensures kept { IsKept D.told source.old source.new (is_blamed false LowRole result) }
     ensures counted { Counted D.told target.old target.new (is_blamed true LowRole result) }
     ensures one { IfErr result (λ f. IsBlamedOne D.told LowRole source.new target.new f) }
@@ -250,7 +251,7 @@ pub fn write_high<D: Disk>(
 
     ensures stands { OnOk result (D.told.tells → HighStands to.now counts.now.removed (D.told.reading target.new)) }
     ensures settled { OnOk result (Settled D.told target.new) }
-    ensures made { IsMade D.told (HighStands to.now counts.now.removed) target.old target.new }
+    ensures made { IsMadeFrom D.told (HighStands to.now counts.now.removed) target.old target.new }
     ensures counted { Counted D.told target.old target.new (is_blamed true HighRole result) }
     ensures device { IfErr result (λ f. f ≡ record { new = true; role = HighRole; why = Device (D.told.count target.new) }) }
 {
@@ -281,8 +282,8 @@ pub fn write_recv<D: Disk>(
     ensures made { (row : SessionRow) (received : List (List ℕ))
         → (D.told.tells → RecvStands row received (D.told.reading source.old))
         → (D.told.tells → value_of (D.told.reading source.old) ≡ (counts.now.received, counts.now.end))
-        → All (λ message. length message ≤ to.now.message) received
-        → IsMade D.told (RecvStands to.now received) target.old target.new }
+        → (D.told.tells → All (λ message. length message ≤ to.now.message) received)
+        → IsMadeFrom D.told (RecvStands to.now received) target.old target.new }
     ensures kept { IsKept D.told source.old source.new (is_blamed false RecvRole result) }
     ensures counted { Counted D.told target.old target.new (is_blamed true RecvRole result) }
     ensures one { IfErr result (λ f. IsBlamedOne D.told RecvRole source.new target.new f) }

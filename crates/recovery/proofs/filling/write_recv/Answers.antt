@@ -22,15 +22,14 @@ copy_bytes-requires-clause-starts g c = λ told.
     omega (arith, size)
 
 pub returns-in_err-copy_bytes-clause-made : goal.returns-in_err-copy_bytes-clause-made
-returns-in_err-copy_bytes-clause-made g c = λ row received stands value fits empty short.
+returns-in_err-copy_bytes-clause-made g c = λ row received stands value fits short start le so_far.
     let m = g.D.Disk.told in
     let k = c.args.counts.now in
     let to = c.args.to.now in
-    let start = m.moment c.args.target.now in
     let d1 = c.begin_as.new.target in
     let d2 = c.copy_bytes.new.target in
-    let began : LeavesFrom m start IsNone d1 = c.begin_as.ensures.during short in
-    let copied : LeavesFrom m start IsNone d2 = zeros_leave m 80 start d1 d2 (omega arith) c.begin_as.ensures.later began c.in_ok-begin_as.ensures.zeros c.copy_bytes.ensures.moves in
+    let began : LeavesFrom m start IsNone d1 = c.begin_as.ensures.during short start le so_far in
+    let copied : LeavesFrom m start IsNone d2 = zeros_leave m 80 start d1 d2 (omega arith) (omega (arith, le, c.begin_as.ensures.later)) began c.in_ok-begin_as.ensures.zeros c.copy_bytes.ensures.moves in
     none_leaves m (RecvStands to received) start d2 copied
 
 pub finish_as-requires : goal.finish_as-requires
@@ -39,33 +38,31 @@ finish_as-requires g c =
     record { zeros = each_after m HasZeros HasZeros (KeepsFirst 80) c.begin_as.new.target c.copy_bytes.new.target c.in_ok-begin_as.ensures.zeros (λ x y is keeps. zeros_stay 80 x y (omega arith) is keeps) c.copy_bytes.ensures.moves }
 
 pub returns-in_err-finish_as-clause-made : goal.returns-in_err-finish_as-clause-made
-returns-in_err-finish_as-clause-made g c = λ row received stands value fits empty short.
+returns-in_err-finish_as-clause-made g c = λ row received stands value fits short start le so_far.
     let m = g.D.Disk.told in
     let k = c.args.counts.now in
     let to = c.args.to.now in
-    let start = m.moment c.args.target.now in
     let d1 = c.begin_as.new.target in
     let d2 = c.copy_bytes.new.target in
-    let began : LeavesFrom m start IsNone d1 = c.begin_as.ensures.during short in
-    let copied : LeavesFrom m start IsNone d2 = zeros_leave m 80 start d1 d2 (omega arith) c.begin_as.ensures.later began c.in_ok-begin_as.ensures.zeros c.copy_bytes.ensures.moves in
+    let began : LeavesFrom m start IsNone d1 = c.begin_as.ensures.during short start le so_far in
+    let copied : LeavesFrom m start IsNone d2 = zeros_leave m 80 start d1 d2 (omega arith) (omega (arith, le, c.begin_as.ensures.later)) began c.in_ok-begin_as.ensures.zeros c.copy_bytes.ensures.moves in
     let w = m.reading d2 in
-    let done = c.finish_as.ensures.during start (omega (arith, c.begin_as.ensures.later, c.copy_bytes.ensures.moves.later)) (none_leaves m (λ x. x ≡ marked w) start d2 copied) in
-    whole_leaves m (RecvStands to received) start c.finish_as.new.target (marked w) (λ told. recv_whole row to k.received k.end received (m.reading c.args.source.now) (m.reading d1) (m.reading d2) c.requires.count (stands told) (value told) fits (c.in_ok-begin_as.ensures.bytes told)
+    let done = c.finish_as.ensures.during start (omega (arith, le, c.begin_as.ensures.later, c.copy_bytes.ensures.moves.later)) (none_leaves m (λ x. x ≡ marked w) start d2 copied) in
+    whole_leaves m (RecvStands to received) start c.finish_as.new.target (marked w) (λ told. recv_whole row to k.received k.end received (m.reading c.args.source.now) (m.reading d1) (m.reading d2) c.requires.count (stands told) (value told) (fits told) (c.in_ok-begin_as.ensures.bytes told)
         (c.in_ok-copy_bytes.ensures.written told) c.requires.fits) done
 
 pub returns-clause-made : goal.returns-clause-made
-returns-clause-made g c = λ row received stands value fits empty short.
+returns-clause-made g c = λ row received stands value fits short start le so_far.
     let m = g.D.Disk.told in
     let k = c.args.counts.now in
     let to = c.args.to.now in
-    let start = m.moment c.args.target.now in
     let d1 = c.begin_as.new.target in
     let d2 = c.copy_bytes.new.target in
-    let began : LeavesFrom m start IsNone d1 = c.begin_as.ensures.during short in
-    let copied : LeavesFrom m start IsNone d2 = zeros_leave m 80 start d1 d2 (omega arith) c.begin_as.ensures.later began c.in_ok-begin_as.ensures.zeros c.copy_bytes.ensures.moves in
+    let began : LeavesFrom m start IsNone d1 = c.begin_as.ensures.during short start le so_far in
+    let copied : LeavesFrom m start IsNone d2 = zeros_leave m 80 start d1 d2 (omega arith) (omega (arith, le, c.begin_as.ensures.later)) began c.in_ok-begin_as.ensures.zeros c.copy_bytes.ensures.moves in
     let w = m.reading d2 in
-    let done = c.finish_as.ensures.during start (omega (arith, c.begin_as.ensures.later, c.copy_bytes.ensures.moves.later)) (none_leaves m (λ x. x ≡ marked w) start d2 copied) in
-    whole_leaves m (RecvStands to received) start c.finish_as.new.target (marked w) (λ told. recv_whole row to k.received k.end received (m.reading c.args.source.now) (m.reading d1) (m.reading d2) c.requires.count (stands told) (value told) fits (c.in_ok-begin_as.ensures.bytes told)
+    let done = c.finish_as.ensures.during start (omega (arith, le, c.begin_as.ensures.later, c.copy_bytes.ensures.moves.later)) (none_leaves m (λ x. x ≡ marked w) start d2 copied) in
+    whole_leaves m (RecvStands to received) start c.finish_as.new.target (marked w) (λ told. recv_whole row to k.received k.end received (m.reading c.args.source.now) (m.reading d1) (m.reading d2) c.requires.count (stands told) (value told) (fits told) (c.in_ok-begin_as.ensures.bytes told)
         (c.in_ok-copy_bytes.ensures.written told) c.requires.fits) done
 
 pub returns-clause-stands : goal.returns-clause-stands
@@ -77,3 +74,7 @@ returns-clause-stands g c = λ told row received stands value fits.
     let d2 = c.copy_bytes.new.target in
     subst (λ (z : List ℕ). RecvStands to received z) (sym (c.in_ok-finish_as.ensures.bytes told)) (recv_whole row to k.received k.end received (m.reading c.args.source.now) (m.reading d1) (m.reading d2) c.requires.count stands value fits (c.in_ok-begin_as.ensures.bytes told)
         (c.in_ok-copy_bytes.ensures.written told) c.requires.fits)
+
+pub returns-in_err-begin_as-clause-made : goal.returns-in_err-begin_as-clause-made
+returns-in_err-begin_as-clause-made g c = λ row received stands value fits short start le so_far.
+    none_leaves g.D.Disk.told (RecvStands c.args.to.now received) start c.begin_as.new.target (c.begin_as.ensures.during short start le so_far)

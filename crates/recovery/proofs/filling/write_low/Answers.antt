@@ -48,7 +48,7 @@ returns-in_err-finish_as-clause-made g c = λ live stands fits short start le so
     let w = m.reading d2 in
     let done = c.finish_as.ensures.during start (omega (arith, le, c.begin_as.ensures.later, c.copy_messages.ensures.moves.later)) (none_leaves m (λ x. x ≡ marked w) start d2 copied) in
     whole_leaves m (LowStands to k.accepted k.removed live) start c.finish_as.new.target (marked w) (λ told. low_whole c.args.from.now to k.accepted k.removed live (m.reading c.args.source.now) (m.reading d1) (m.reading d2) c.requires.count c.requires.held.1 (stands told) (c.in_ok-begin_as.ensures.bytes told)
-        (c.copy_messages.ensures.moves.reads told).same (c.in_ok-copy_messages.ensures.size told) (c.in_ok-copy_messages.ensures.copied told live (stands told) (fits told))) done
+    (c.copy_messages.ensures.moves.reads told).same (c.in_ok-copy_messages.ensures.size told) (c.in_ok-copy_messages.ensures.copied told live (stands told) (fits told))) done
 
 pub returns-clause-made : goal.returns-clause-made
 returns-clause-made g c = λ live stands fits short start le so_far.
@@ -62,7 +62,7 @@ returns-clause-made g c = λ live stands fits short start le so_far.
     let w = m.reading d2 in
     let done = c.finish_as.ensures.during start (omega (arith, le, c.begin_as.ensures.later, c.copy_messages.ensures.moves.later)) (none_leaves m (λ x. x ≡ marked w) start d2 copied) in
     whole_leaves m (LowStands to k.accepted k.removed live) start c.finish_as.new.target (marked w) (λ told. low_whole c.args.from.now to k.accepted k.removed live (m.reading c.args.source.now) (m.reading d1) (m.reading d2) c.requires.count c.requires.held.1 (stands told) (c.in_ok-begin_as.ensures.bytes told)
-        (c.copy_messages.ensures.moves.reads told).same (c.in_ok-copy_messages.ensures.size told) (c.in_ok-copy_messages.ensures.copied told live (stands told) (fits told))) done
+    (c.copy_messages.ensures.moves.reads told).same (c.in_ok-copy_messages.ensures.size told) (c.in_ok-copy_messages.ensures.copied told live (stands told) (fits told))) done
 
 pub returns-clause-stands : goal.returns-clause-stands
 returns-clause-stands g c = λ told live stands fits.
@@ -72,7 +72,7 @@ returns-clause-stands g c = λ told live stands fits.
     let d1 = c.begin_as.new.target in
     let d2 = c.copy_messages.new.target in
     subst (λ (z : List ℕ). LowStands to k.accepted k.removed live z) (sym (c.in_ok-finish_as.ensures.bytes told)) (low_whole c.args.from.now to k.accepted k.removed live (m.reading c.args.source.now) (m.reading d1) (m.reading d2) c.requires.count c.requires.held.1 stands (c.in_ok-begin_as.ensures.bytes told)
-        (c.copy_messages.ensures.moves.reads told).same (c.in_ok-copy_messages.ensures.size told) (c.in_ok-copy_messages.ensures.copied told live stands fits))
+    (c.copy_messages.ensures.moves.reads told).same (c.in_ok-copy_messages.ensures.size told) (c.in_ok-copy_messages.ensures.copied told live stands fits))
 
 pub returns-in_err-begin_as-clause-made : goal.returns-in_err-begin_as-clause-made
 returns-in_err-begin_as-clause-made g c = λ live stands fits short start le so_far.

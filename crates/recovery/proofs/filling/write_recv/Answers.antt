@@ -49,7 +49,7 @@ returns-in_err-finish_as-clause-made g c = λ row received stands value fits sho
     let w = m.reading d2 in
     let done = c.finish_as.ensures.during start (omega (arith, le, c.begin_as.ensures.later, c.copy_bytes.ensures.moves.later)) (none_leaves m (λ x. x ≡ marked w) start d2 copied) in
     whole_leaves m (RecvStands to received) start c.finish_as.new.target (marked w) (λ told. recv_whole row to k.received k.end received (m.reading c.args.source.now) (m.reading d1) (m.reading d2) c.requires.count (stands told) (value told) (fits told) (c.in_ok-begin_as.ensures.bytes told)
-        (c.in_ok-copy_bytes.ensures.written told) c.requires.fits) done
+    (c.in_ok-copy_bytes.ensures.written told) c.requires.fits) done
 
 pub returns-clause-made : goal.returns-clause-made
 returns-clause-made g c = λ row received stands value fits short start le so_far.
@@ -63,7 +63,7 @@ returns-clause-made g c = λ row received stands value fits short start le so_fa
     let w = m.reading d2 in
     let done = c.finish_as.ensures.during start (omega (arith, le, c.begin_as.ensures.later, c.copy_bytes.ensures.moves.later)) (none_leaves m (λ x. x ≡ marked w) start d2 copied) in
     whole_leaves m (RecvStands to received) start c.finish_as.new.target (marked w) (λ told. recv_whole row to k.received k.end received (m.reading c.args.source.now) (m.reading d1) (m.reading d2) c.requires.count (stands told) (value told) (fits told) (c.in_ok-begin_as.ensures.bytes told)
-        (c.in_ok-copy_bytes.ensures.written told) c.requires.fits) done
+    (c.in_ok-copy_bytes.ensures.written told) c.requires.fits) done
 
 pub returns-clause-stands : goal.returns-clause-stands
 returns-clause-stands g c = λ told row received stands value fits.
@@ -73,7 +73,7 @@ returns-clause-stands g c = λ told row received stands value fits.
     let d1 = c.begin_as.new.target in
     let d2 = c.copy_bytes.new.target in
     subst (λ (z : List ℕ). RecvStands to received z) (sym (c.in_ok-finish_as.ensures.bytes told)) (recv_whole row to k.received k.end received (m.reading c.args.source.now) (m.reading d1) (m.reading d2) c.requires.count stands value fits (c.in_ok-begin_as.ensures.bytes told)
-        (c.in_ok-copy_bytes.ensures.written told) c.requires.fits)
+    (c.in_ok-copy_bytes.ensures.written told) c.requires.fits)
 
 pub returns-in_err-begin_as-clause-made : goal.returns-in_err-begin_as-clause-made
 returns-in_err-begin_as-clause-made g c = λ row received stands value fits short start le so_far.

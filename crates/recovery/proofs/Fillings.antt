@@ -1,5 +1,5 @@
 -- The writing of new disks.
-use Rattle.std.proofs.Common.{◌≡◌, ℕ, ◌+◌, ◌-◌, ◌<◌, ◌≤◌, List, ◌++◌, length, take, drop, refl, sym, ◌∙◌, ap, subst, arith, append_assoc, length-append, length-drop}
+use Rattle.std.proofs.Common.{◌≡◌, ℕ, ◌+◌, ◌<◌, ◌≤◌, List, ◌++◌, length, take, drop, refl, sym, ◌∙◌, ap, subst, arith, append_assoc, length-append, length-drop}
 use Rattle.std.proofs.lemmas.List.{take-take, drop-take, take-append-drop, take_at, drop_at, drop-drop, length-take, length-take-le}
 use Rattle.disk_model.specs.Disk.{Meaning, Moves, IsWritten}
 use Rattle.disk_model.specs.Ranges.{holds_torn, holds_length}

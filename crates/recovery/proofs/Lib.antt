@@ -4,6 +4,7 @@ pub mod Comparing
 pub mod Dealing
 pub mod Fillings
 pub mod Image
+pub mod Moved
 pub mod Moves
 pub mod Readings
 pub mod Refill

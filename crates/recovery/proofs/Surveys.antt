@@ -1,7 +1,6 @@
 -- What a survey of the disks that are to be moved gives.
-use Rattle.std.proofs.Common.{◌≡◌, inr, ℕ, ◌+◌, ◌^◌, ◌<◌, ◌≤◌, List, [], length, get_or, false, Bool, Option, None, refl, sym, ◌∙◌, ap, subst, arith}
+use Rattle.std.proofs.Common.{◌≡◌, inr, ℕ, ◌+◌, ◌^◌, ◌≤◌, List, [], length, get_or, false, Bool, None, sym, ◌∙◌, ap, subst, arith}
 use Rattle.disk_model.specs.Disk.{Meaning, Same}
-use Rattle.disk_model.specs.declared.name.Role.{Role}
 use Rattle.disk_model.specs.declared.name.Role.TheVariants.{Recv}
 use Rattle.disk_model.proofs.Run.{goes_on_same}
 use Rattle.pump_frame.specs.declared.row.SessionRow.{SessionRow}
@@ -19,7 +18,6 @@ use Rattle.recovery.specs.Surveys.{FitsSurvey, IsSurveyed}
 use Rattle.recovery.specs.declared.survey.Counts.{Counts}
 use Rattle.recovery.specs.declared.trio.Trio.{Trio}
 use Rattle.recovery.specs.declared.trio.MoveFault.{MoveFault}
-use Rattle.recovery.specs.declared.why.Why.{Why}
 
 -- one call more of a disk that is only read
 pub kept_after : {D : Type 0} (m : Meaning D) (old mid new : D) (failed : Bool) → IsKept m old mid false → IsKept m mid new failed → IsKept m old new failed

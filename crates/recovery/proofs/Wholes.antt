@@ -1,6 +1,6 @@
 -- New disks that are whole.
-use Rattle.std.proofs.Common.{◌≡◌, ℕ, suc, ◌+◌, ◌-◌, ◌^◌, ◌<◌, ◌≤◌, List, [], ◌∷◌, ◌++◌, length, get_or, take, drop, replicate, refl, sym, ◌∙◌, ap, subst, arith, length-append, length-drop}
-use Rattle.std.proofs.lemmas.List.{take_at, drop-take, drop-drop, length-replicate, length-take, length-take-le}
+use Rattle.std.proofs.Common.{◌≡◌, ℕ, suc, ◌+◌, ◌-◌, ◌^◌, ◌<◌, ◌≤◌, List, [], ◌∷◌, length, get_or, take, drop, replicate, sym, ◌∙◌, ap, subst, arith, length-append, length-drop}
+use Rattle.std.proofs.lemmas.List.{take_at, drop-take, drop-drop, length-replicate, length-take-le}
 use Rattle.std.proofs.lemmas.List.Elements.{All-get_or}
 use Rattle.std.specs.List.{All}
 use Rattle.disk_model.specs.Disk.{Meaning, IsWritten}
@@ -12,7 +12,7 @@ use Rattle.stable_buffer.specs.Format.{header_of, role_byte, size_of, bare_bytes
 use Rattle.stable_buffer.specs.Log.{Records, RecvStands, log_of}
 use Rattle.stable_buffer.specs.Making.{marked, IsNone, IsNoneOr, LeavesFrom}
 use Rattle.stable_buffer.specs.Register.{value_of}
-use Rattle.stable_buffer.specs.Stands.{InSlot, LowStands, HighStands, slot_of, low_size}
+use Rattle.stable_buffer.specs.Stands.{LowStands, HighStands, slot_of, low_size}
 use Rattle.stable_buffer.proofs.Fresh.{has_header, has_value, header_length}
 use Rattle.stable_buffer.proofs.Slots.{holds_range}
 use Rattle.recovery.specs.Deals.{InSlots}

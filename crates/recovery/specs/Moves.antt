@@ -14,7 +14,7 @@ use Rattle.recovery.specs.Agreement.{Disagrees, SlotsAgree}
 use Rattle.recovery.specs.Calls.{is_device}
 use Rattle.recovery.specs.Refusals.{or_else, told_of, refused_pump, refused_receiver}
 use Rattle.recovery.specs.declared.why.Why.{Why}
-use Rattle.recovery.specs.declared.why.Why.TheVariants.{Device, NotEmpty, Small, TooLong}
+use Rattle.recovery.specs.declared.why.Why.TheVariants.{NotEmpty, Small, TooLong}
 use Rattle.recovery.specs.declared.trio.Trio.{Trio}
 use Rattle.recovery.specs.declared.trio.MoveFault.{MoveFault}
 

@@ -1,4 +1,4 @@
-use Rattle.std.proofs.Common.{◌≡◌, ◌+◌, ◌-◌, ◌≤◌, List, ℕ, false, length, take, drop}
+use Rattle.std.proofs.Common.{◌+◌, ◌-◌, ◌≤◌, false, length, take, drop}
 use Rattle.disk_model.specs.Disk.{Moves, IsWritten}
 use Rattle.stable_buffer.specs.Making.{KeepsFirst}
 use Rattle.recovery.specs.Moves.{IsKept}

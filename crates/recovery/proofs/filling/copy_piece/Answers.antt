@@ -1,7 +1,5 @@
-use Rattle.std.proofs.Common.{◌≡◌, ◌+◌, ◌≤◌, ◌∙◌, List, ℕ, length, take, drop, ◌++◌, replicate, ap, subst, arith}
+use Rattle.std.proofs.Common.{◌≡◌, ℕ, length, take, replicate, arith}
 use Rattle.std.proofs.lemmas.List.{length-take-le, length-replicate}
-use Rattle.disk_model.specs.Disk.{IsWritten}
-use Rattle.recovery.proofs.Fillings.{piece_is}
 use Rattle.recovery.proofs.filling.copy_piece.Goals as goal
 
 pub returns-clause-within : goal.returns-clause-within

@@ -1,5 +1,5 @@
-use Rattle.std.proofs.Common.{arith, ◌≤◌, ◌≡◌, List, ℕ, sym, subst, ap, ◌∙◌}
-use Rattle.stable_buffer.specs.Making.{marked, IsNone, IsNoneOr, LeavesFrom}
+use Rattle.std.proofs.Common.{arith, ◌≡◌, List, ℕ, sym, subst}
+use Rattle.stable_buffer.specs.Making.{marked}
 use Rattle.stable_buffer.specs.Stands.{HighStands}
 use Rattle.recovery.proofs.Wholes.{none_leaves, whole_leaves, high_whole}
 use Rattle.recovery.proofs.filling.write_high.Goals as goal

@@ -1,15 +1,10 @@
-use Rattle.std.proofs.Common.{◌≡◌, ◌-◌, ◌≤◌, ◌^◌, ◌<◌, List, ℕ, length, sym, subst, arith}
-use Rattle.std.specs.List.{All}
-use Rattle.disk_model.specs.Disk.{Each}
+use Rattle.std.proofs.Common.{◌≡◌, List, ℕ, sym, subst, arith}
 use Rattle.disk_model.proofs.Run.{each_after}
-use Rattle.disk_model.specs.declared.name.Role.TheVariants.{Low, Recv}
-use Rattle.pump_frame.specs.declared.row.SessionRow.{SessionRow}
+use Rattle.disk_model.specs.declared.name.Role.TheVariants.{Low}
 use Rattle.stable_buffer.specs.Making.{marked, HasZeros, IsNone, KeepsFirst, LeavesFrom}
-use Rattle.stable_buffer.specs.Register.{value_of}
 use Rattle.stable_buffer.specs.Stands.{LowStands}
-use Rattle.stable_buffer.specs.Log.{RecvStands}
 use Rattle.stable_buffer.proofs.Making.{zeros_leave, zeros_stay}
-use Rattle.recovery.proofs.Wholes.{begun_length, none_leaves, whole_leaves, low_whole, recv_whole}
+use Rattle.recovery.proofs.Wholes.{begun_length, none_leaves, whole_leaves, low_whole}
 use Rattle.recovery.proofs.filling.write_low.Goals as goal
 
 pub copy_messages-requires-clause-size : goal.copy_messages-requires-clause-size

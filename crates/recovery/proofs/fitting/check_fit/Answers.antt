@@ -1,11 +1,11 @@
-use Rattle.std.proofs.Common.{◌≡◌, ◌∙◌, ◌-◌, ◌≤◌, ℕ, List, ap, sym, subst, arith, false, drop, length, Some, None, Option}
+use Rattle.std.proofs.Common.{◌≡◌, ◌-◌, ℕ, List, ap, sym, subst, arith, false, drop, length, Some, None, Option}
 use Rattle.std.proofs.lemmas.Result.{err_from_is_err_and}
 use Rattle.disk_model.specs.declared.name.Role.TheVariants.{Low, Recv}
 use Rattle.stable_buffer.specs.Register.{value_of}
 use Rattle.stable_buffer.specs.Stands.{LowStands}
 use Rattle.stable_buffer.specs.Log.{RecvStands}
 use Rattle.recovery.specs.Calls.{is_device}
-use Rattle.recovery.specs.Moves.{fault_of, first_unfit, too_long, small}
+use Rattle.recovery.specs.Moves.{fault_of, first_unfit, too_long}
 use Rattle.recovery.specs.Refusals.{told_of}
 use Rattle.recovery.specs.declared.why.Why.{Why}
 use Rattle.recovery.proofs.Unfit.{none_small, comes_second, comes_third, records_end}

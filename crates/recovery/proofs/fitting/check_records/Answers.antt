@@ -1,4 +1,4 @@
-use Rattle.std.proofs.Common.{◌≡◌, ◌∙◌, ◌-◌, ◌+◌, ap, sym, arith, false, drop, Some, None, Option}
+use Rattle.std.proofs.Common.{◌≡◌, ◌∙◌, ◌+◌, ap, sym, arith, false, drop, Some, None, Option}
 use Rattle.disk_model.specs.declared.name.Role.TheVariants.{Recv}
 use Rattle.stable_buffer.specs.Numbers.{length_at}
 use Rattle.recovery.specs.Moves.{fault_of, too_long}

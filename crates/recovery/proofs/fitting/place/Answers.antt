@@ -1,4 +1,4 @@
-use Rattle.std.proofs.Common.{◌≤◌, ◌+◌, ◌%◌, arith}
+use Rattle.std.proofs.Common.{◌+◌, ◌%◌, arith}
 use Rattle.recovery.proofs.Unfit.{place_low}
 use Rattle.recovery.proofs.Rows.{row_capacity, row_message}
 use Rattle.recovery.proofs.fitting.place.Goals as goal

@@ -1,4 +1,4 @@
-use Rattle.std.proofs.Common.{◌≡◌, ◌∙◌, ap}
+use Rattle.std.proofs.Common.{◌∙◌}
 use Rattle.recovery.proofs.Unfit.{length_taken}
 use Rattle.recovery.proofs.fitting.read_length.Goals as goal
 

@@ -19,7 +19,7 @@ returns-in_err-check_empty-clause-exact g c =
     let to = c.args.to.now in
     let f = c.in_err-check_empty.field-0.0 in
     let fact : is_device f.why ≡ false → m.tells → (live received : List (List ℕ)) → length received ≡ k.received → (value_of (m.reading old.recv)).1 ≡ k.end → LowStands row k.accepted k.removed live (m.reading old.low)
-        → RecvStands row received (m.reading old.recv) → or_else (first_full (m.reading new.low) (m.reading new.high) (m.reading new.recv)) (first_unfit to k.removed live received) ≡ Some f = λ nd told live received _ _ _ _.
+    → RecvStands row received (m.reading old.recv) → or_else (first_full (m.reading new.low) (m.reading new.high) (m.reading new.recv)) (first_unfit to k.removed live received) ≡ Some f = λ nd told live received _ _ _ _.
     ap (λ (x : Option MoveFault). or_else x (first_unfit to k.removed live received)) (c.in_err-check_empty.ensures.exact nd told) in
     let r = err_from_is_err_and c.from_residual.result c.from_residual.ensures.1 in
     rw (r.1, r.2) fact
@@ -34,7 +34,7 @@ returns-in_err-check_fit-clause-exact g c =
     let to = c.args.to.now in
     let f = c.in_err-check_fit.field-0.0 in
     let fact : is_device f.why ≡ false → m.tells → (live received : List (List ℕ)) → length received ≡ k.received → (value_of (m.reading old.recv)).1 ≡ k.end → LowStands row k.accepted k.removed live (m.reading old.low)
-        → RecvStands row received (m.reading old.recv) → or_else (first_full (m.reading new.low) (m.reading new.high) (m.reading new.recv)) (first_unfit to k.removed live received) ≡ Some f = λ nd told live received count end lows recvs.
+    → RecvStands row received (m.reading old.recv) → or_else (first_full (m.reading new.low) (m.reading new.high) (m.reading new.recv)) (first_unfit to k.removed live received) ≡ Some f = λ nd told live received count end lows recvs.
     let (low, high, recv) = c.in_ok-check_empty.ensures.fine told in
     let empty : first_full (m.reading new.low) (m.reading new.high) (m.reading new.recv) ≡ None = λ i. first_full (low i) (high i) (recv i) in
     ap (λ (x : Option MoveFault). or_else x (first_unfit to k.removed live received)) empty ∙ c.in_err-check_fit.ensures.exact nd told live received count end lows recvs in

@@ -1,4 +1,4 @@
-use Rattle.std.proofs.Common.{◌≡◌, ℕ, List, false, true, sym, ◌∙◌, ap, subst}
+use Rattle.std.proofs.Common.{◌≡◌, ℕ, List, false, sym, ap, subst}
 use Rattle.stable_buffer.specs.Log.{RecvStands}
 use Rattle.recovery.specs.Agreement.{Disagrees}
 use Rattle.recovery.specs.Calls.{is_device}

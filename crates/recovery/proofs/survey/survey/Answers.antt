@@ -1,4 +1,4 @@
-use Rattle.std.proofs.Common.{◌≡◌, ◌≤◌, ℕ, List, false, sym, subst, arith}
+use Rattle.std.proofs.Common.{false, sym, subst, arith}
 use Rattle.std.proofs.lemmas.Result.{IfOk-weaker, IfErr-weaker}
 use Rattle.disk_model.specs.declared.name.Role.TheVariants.{Low}
 use Rattle.recovery.specs.Moves.{IsKept, is_blamed}

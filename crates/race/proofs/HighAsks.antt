@@ -63,6 +63,11 @@ module _ {H : Type 0} (stands : H → Low → High → Type 0) where
       → recv_count v.receiver ≡ done_in turns_made → recv_count w.receiver ≡ done_in (false ∷ turns_made)
   given_back v w turns_made a b more taken = omega (arith, recv_count_of true v a, recv_count_of false w b, more, taken)
 
+  -- all are removed, so no message is held back
+  pub all_given : (took : Bool) (w : HighHalf H) → HighAt stands took w → w.count ≤ removed_of w.process → HighAt stands false w
+  all_given false w a all = a
+  all_given true w a all = absurd (omega (arith, (a.hand_taken refl).0, all, a.is_past.holds.removed))
+
   -- the run is over: all are removed
   pub asks_of_all : (took is_stopped : Bool) (w : HighHalf H) (turns_made : List Bool) (old new : List (ℕ × ℕ) → Type 0) → HighAt stands took w → recv_count w.receiver ≡ done_in turns_made
       → Grows old new (asks_of turns_made) → is_stopped ≡ false → w.count ≤ removed_of w.process → AsksHigh w.count is_stopped old new (recv_disk w.receiver).bytes

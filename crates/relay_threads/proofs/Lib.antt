@@ -6,12 +6,14 @@ pub mod HighTurning
 pub mod Kept
 pub mod LowLives
 pub mod LowRecord
+pub mod LowReplays
 pub mod LowServing
 pub mod LowStaying
 pub mod LowTurning
 pub mod LowVisiting
 pub mod Machine
 pub mod Reaching
+pub mod ReadingBack
 pub mod Replaying
 pub mod ReplyKinds
 pub mod Scripting

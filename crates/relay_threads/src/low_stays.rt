@@ -2,6 +2,7 @@ ghost use Rattle.std.specs.Prelude.{◌≡◌, ℕ, ◌<◌, ◌≤◌, Bool, tr
 ghost use Rattle.std.specs.List.{AllByRecursion};
 ghost use Rattle.std.specs.Io.KnownBytes.{Appends};
 ghost use Rattle.pump_frame.specs.Counts.{Rose};
+ghost use Rattle.pump_frame.specs.Rows.{IsLawfulRow};
 ghost use Rattle.pump_link.specs.Tells.{Draws, Grows};
 ghost use Rattle.pump_core.specs.History.{Opening};
 ghost use Rattle.stable_buffer.specs.Low.{low_disk};
@@ -12,6 +13,7 @@ ghost use Rattle.relay_threads.specs.declared.rounds_end.RoundsEnd.TheVariants.{
 ghost use Rattle.relay_threads.specs.Reaching.{Reaches};
 ghost use Rattle.relay_threads.specs.Workers.{CountsEnd};
 ghost use Rattle.relay_threads.specs.Records.{Made};
+ghost use Rattle.relay_threads.specs.Replays.{ReadsBack};
 ghost use Rattle.relay_threads.specs.LowRounds.{Round, made_in, looks_of_rounds, moments_of, words_of, reply_bytes, newest_cause};
 ghost use Rattle.relay_threads.specs.LowServes.{Lives, Leads, all_sent, text_made};
 ghost use Rattle.relay_threads.specs.LowStays.{Stay, IsRecord, IsGone, IsVisit, visited, IsStay, stay_after, StaysSo, EndsVisit, EndsStay, EndsStays, moment_made, visit_text, is_kept_by, is_left_so, end_by, is_ended, steps_at, steps, answers_at, answers, moments_at, moments_in, words_at, words_in, text_at, text_in, TellsVisit};
@@ -42,7 +44,7 @@ fn leave<R: Wait, K: Clock, D: Disk, L: WaitLowEnd, O: Sink>(
     requires ready { Ready D.told process.old store.old (L.stands ends.old) }
     requires up { is_down process.old ≡ false }
     requires order { last_of process.old ≤ K.floor clock.old }
-    ensures leaves { (m : Made) × IsGone m × Leads process.old process.new (λ row o before. Unit {0}) (λ before. m ∷ before)
+    ensures leaves { (m : Made) × IsGone m × Leads process.old process.new (λ row o before. IsLawfulRow row → ReadsBack row before m) (λ before. m ∷ before)
         × Draws (K.reads clock.old) (K.reads clock.new) (m.look.moment ∷ [])
         × Reaches (Appends (O.written tape.old) (O.written tape.new)) (O.faults tape.old) (O.faults tape.new) result (text_made (row_of process.old) [] (Some m)) }
     ensures ready { Ready D.told process.new store.new (L.stands ends.new) }

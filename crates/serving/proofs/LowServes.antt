@@ -5,6 +5,7 @@ use Rattle.std.specs.Io.KnownBytes.{Appends}
 use Rattle.rand_chacha.specs.ChaCha.{ChaCha, key_of}
 use Rattle.delay_table.specs.Streams.{AreWords}
 use Rattle.disk_model.specs.Disk.{Meaning}
+use Rattle.pump_frame.specs.Rows.{IsLawfulRow}
 use Rattle.pump_frame.specs.declared.frame.Item.{Item}
 use Rattle.pump_frame.specs.declared.row.SessionRow.{SessionRow}
 use Rattle.pump_link.specs.Ports.{PortsStep}
@@ -13,6 +14,7 @@ use Rattle.pump_link.proofs.Grown.{Grows-all, Draws-all}
 use Rattle.pump_core.specs.Exchanges.{Part, IsCut, count_after}
 use Rattle.pump_core.specs.History.{Opening}
 use Rattle.pump_core.specs.Standing.{State, phase_after}
+use Rattle.script_reader.specs.Grammar.{IsCount}
 use Rattle.script_reader.specs.Spelling.{line_text}
 use Rattle.stable_buffer.specs.Low.{StandsForCount, low_disk, low_count}
 use Rattle.stable_buffer.specs.declared.low.LowStore.{LowStore}
@@ -25,12 +27,14 @@ use Rattle.relay_threads.specs.LowStays.{AreStays, is_kept_by, stayed, words_in,
 use Rattle.relay_threads.specs.Reaching.{Reaches}
 use Rattle.relay_threads.specs.RecordLines.{opening_line, coarse_text, first_text, looks_text, record_text}
 use Rattle.relay_threads.specs.Records.{AreMade, life_made, record_of}
+use Rattle.relay_threads.specs.Replays.{BeginsReadable}
 use Rattle.relay_threads.specs.Workers.{CountsEnd}
 use Rattle.relay_threads.specs.declared.rounds_end.RoundsEnd.{RoundsEnd}
 use Rattle.relay_threads.specs.declared.rounds_end.RoundsEnd.TheVariants as ends
+use Rattle.relay_threads.proofs.LowReplays.{stays_readable}
 use Rattle.serving.specs.Doors.{DoorsTell}
 use Rattle.serving.specs.LowEnds.{EndsLow}
-use Rattle.serving.specs.LowRuns.{LowLent, opening_text}
+use Rattle.serving.specs.LowRuns.{LowLent, found_in, opening_text}
 use Rattle.serving.specs.LowServing.{FindsLow, LowServed, is_lost}
 use Rattle.serving.specs.declared.low_half.LowParts.{LowParts}
 
@@ -58,6 +62,12 @@ opening_written {W} {S} {E} {T} {F} old new result row next parts row_is next_is
       by_result (Ok x) fine ok = ok
       by_result (Err x) fine ok = absurd (cc)
 
+-- a reader of scripts reads it
+pub opening_reads : {W S E : Type 0} (row : SessionRow) (next : ℕ) (parts : LowParts W S E) → row ≡ row_of parts.process → next ≡ next_of parts.process
+    → (IsCount next parts.is_held → BeginsReadable row (record { count = next; is_held = parts.is_held })) → IsCount (found_in parts).count (found_in parts).is_held → BeginsReadable (row_of parts.process) (found_in parts)
+opening_reads row next parts row_is next_is reads =
+    subst (λ (x : SessionRow × ℕ). IsCount x.1 parts.is_held → BeginsReadable x.0 (record { count = x.1; is_held = parts.is_held })) (λ i. (row_is i, next_is i)) reads
+
 lost_is : (phase : Phase) (hand : ℕ) → is_lost (phase_of phase hand) ≡ is_down_in phase
 lost_is phases.Idle hand = refl
 lost_is (phases.Passing true) hand = refl
@@ -71,7 +81,8 @@ module _ {D L S E : Type 0} (t : DoorsTell D L) (m : Meaning S) (row : SessionRo
     (row_is : row_of parts.process ≡ row) (next_is : next_of parts.process ≡ next) (held_is : parts.is_held ≡ is_some hand)
     (lives : Lives parts.process (opening_of next hand) []) (words_are : parts.words ≡ record { key = key_of key; stream = 0; word_pos = 0 })
     (store_was : parts.store ≡ was) (now_is : now_disk ≡ low_disk store)
-    (found : FindsLow m row (opening_of next hand) disk) (counts : m.count disk ≤ m.count (low_disk was)) where
+    (found : FindsLow m row (opening_of next hand) disk) (counts : m.count disk ≤ m.count (low_disk was))
+    (lawful : IsLawfulRow row) (counted : IsCount next (is_some hand)) where
   abbrev o : Opening
   o = opening_of next hand
 
@@ -114,6 +125,13 @@ module _ {D L S E : Type 0} (t : DoorsTell D L) (m : Meaning S) (row : SessionRo
       ∙ ap (λ (x : SessionRow × ℕ × Bool). first_text x.0 (record { count = x.1; is_held = x.2 }) ++ looks_text x.0 (record_of (stayed [] lent.ran.stays))) (λ i. (row_before i, next_before i, held_before i))
       ∙ append_assoc (line_text (opening_line row o)) (coarse_text row) (looks_text row (record_of (stayed [] lent.ran.stays)))
 
+  begins : BeginsReadable row o
+  begins =
+      subst (λ (x : SessionRow × ℕ × Bool). IsCount x.1 x.2 → BeginsReadable x.0 (record { count = x.1; is_held = x.2 })) (λ i. (row_before i, next_before i, held_before i)) lent.ran.begins counted
+
+  are_stays : AreStays row o [] lent.ran.stays
+  are_stays = subst (λ (r : SessionRow). AreStays r o [] lent.ran.stays) row_before (lent.ran.so.rule o [] lived)
+
   -- the disk at the end is that of the half
   now_disk_is : low_disk lent.w.parts.store ≡ now_disk
   now_disk_is = ap low_disk lent.store_is ∙ sym now_is
@@ -139,7 +157,7 @@ module _ {D L S E : Type 0} (t : DoorsTell D L) (m : Meaning S) (row : SessionRo
     found = found;
     is_opened = lent.ran.is_opened;
     stays = lent.ran.stays;
-    are = subst (λ (r : SessionRow). AreStays r o [] lent.ran.stays) row_before (lent.ran.so.rule o [] lived);
+    are = are_stays;
     made = subst (λ (r : SessionRow). AreMade r o (stayed [] lent.ran.stays)) row_after lives_on.are_made;
     ends = subst (λ (e : RoundsEnd). EndsLow lent.ran.is_opened lent.ran.stays rounds e) lent.end_is lent.ran.ends;
     at = record {
@@ -154,6 +172,7 @@ module _ {D L S E : Type 0} (t : DoorsTell D L) (m : Meaning S) (row : SessionRo
     moments = lent.ran.moments;
     words = subst (λ (s : ChaCha). words_given s (words_in lent.ran.stays)) words_before (Draws-all (words_given lent.v.parts.words) (words_given lent.w.parts.words) (words_in lent.ran.stays) (no_words lent.w.parts.words) lent.ran.words);
     tape = subst (λ (x : RoundsEnd × List ℕ). Reaches (Appends written now_written) faults now_faults (is_kept_by (Some x.0)) x.1) (λ i. (lent.end_is i, record_is i)) lent.ran.tape;
+    readable = record { opening = begins.opening; coarse = begins.coarse; looks = stays_readable row o lent.ran.stays lawful are_stays };
     left = λ told. (lived_parts, subst (λ (r : SessionRow). IsCut r (life_made o (stayed [] lent.ran.stays)) lived_parts) row_after lives_on.stands.stands.cut, left_by told);
     device = counts_from (Some end) (m.count disk) (m.count (low_disk lent.v.parts.store)) (m.count now_disk) first_counts
         (subst (λ (x : RoundsEnd × S). CountsEnd (Some x.0) (m.count (low_disk lent.v.parts.store)) (m.count x.1)) (λ i. (lent.end_is i, now_disk_is i)) lent.ran.device);

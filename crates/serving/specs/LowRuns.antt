@@ -6,6 +6,7 @@ use Rattle.disk_model.specs.Disk.{Meaning}
 use Rattle.pump_link.specs.Ports.{PortsStep}
 use Rattle.pump_link.specs.Tells.{Draws, Grows}
 use Rattle.pump_core.specs.History.{Opening}
+use Rattle.script_reader.specs.Grammar.{IsCount}
 use Rattle.script_reader.specs.Spelling.{line_text}
 use Rattle.stable_buffer.specs.Low.{low_disk}
 use Rattle.stable_buffer.specs.declared.low.LowStore.{LowStore}
@@ -15,6 +16,7 @@ use Rattle.relay_threads.specs.LowServes.{Lives}
 use Rattle.relay_threads.specs.LowStays.{Stay, IsRecord, StaysSo, TellsVisit, is_kept_by, steps, answers, moments_in, words_in, text_in}
 use Rattle.relay_threads.specs.Reaching.{Reaches}
 use Rattle.relay_threads.specs.RecordLines.{first_text}
+use Rattle.relay_threads.specs.Replays.{BeginsReadable}
 use Rattle.relay_threads.specs.Workers.{CountsEnd}
 use Rattle.relay_threads.specs.declared.rounds_end.RoundsEnd.{RoundsEnd}
 use Rattle.serving.specs.Doors.{DoorsTell, IsOpenedAndShut}
@@ -22,9 +24,13 @@ use Rattle.serving.specs.LowEnds.{EndsLow}
 use Rattle.serving.specs.declared.low_half.LowHalf.{LowHalf}
 use Rattle.serving.specs.declared.low_half.LowParts.{LowParts}
 
+-- what was found at the opening
+abbrev pub found_in : {W S E : Type 0} → LowParts W S E → Opening
+found_in parts = record { count = next_of parts.process; is_held = parts.is_held }
+
 -- what the record begins with
 abbrev pub opening_text : {W S E : Type 0} → LowParts W S E → List ℕ
-opening_text parts = first_text (row_of parts.process) (record { count = next_of parts.process; is_held = parts.is_held })
+opening_text parts = first_text (row_of parts.process) (found_in parts)
 
 -- the stays at its door lead from v to w
 pub record LowRan {R L W S E : Type 0} (t : DoorsTell R L) (m : Meaning S) (gives : W → List ℕ → Type 0) (reads now_reads : List ℕ → Type 0) (written now_written : Option (List ℕ)) (faults now_faults rounds : ℕ) (v w : LowHalf R W S E) : Type 0 where
@@ -39,6 +45,7 @@ pub record LowRan {R L W S E : Type 0} (t : DoorsTell R L) (m : Meaning S) (give
   pub moments : Draws reads now_reads (moments_in stays)
   pub words : Draws (gives v.parts.words) (gives w.parts.words) (words_in stays)
   pub tape : Reaches (Appends written now_written) faults now_faults (is_kept_by (Some w.end)) (opening_text v.parts ++ text_in (row_of v.parts.process) stays)
+  pub begins : IsCount (found_in v.parts).count (found_in v.parts).is_held → BeginsReadable (row_of v.parts.process) (found_in v.parts)
   pub is_record : (o : Opening) → Lives v.parts.process o [] → IsRecord (row_of v.parts.process) stays
   pub store : HasStore m w.parts.process w.parts.store
   pub counts : m.count (low_disk v.parts.store) ≤ m.count (low_disk w.parts.store)

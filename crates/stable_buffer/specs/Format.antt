@@ -37,6 +37,10 @@ header_of row role first second =
     ++ big_bytes 8 second
     ++ replicate 16 0
 
+-- all bytes of a disk with these numbers, and nothing behind them
+abbrev pub bare_bytes : SessionRow → Role → ℕ → ℕ → List ℕ
+bare_bytes row role first second = header_of row (role_byte role) first second ++ replicate (size_of row role - 80) 0
+
 -- all bytes of a new disk
 abbrev pub new_bytes : SessionRow → Role → ℕ → List ℕ
 new_bytes row role count = header_of row (role_byte role) count (second_of role) ++ replicate (size_of row role - 80) 0

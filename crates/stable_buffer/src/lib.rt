@@ -13,7 +13,7 @@ mod register;
 pub use device::Device;
 pub use high::HighStore;
 pub use low::LowStore;
-pub use new_disk::{RECEIVER_SIZE, VERSION, allows_version, disk_size, format};
+pub use new_disk::{RECEIVER_SIZE, VERSION, allows_version, begin, disk_size, finish, format};
 pub use register::Register;
 
 #[cfg(test)]

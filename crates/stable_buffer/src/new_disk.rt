@@ -1,15 +1,16 @@
 // A new disk.
-ghost use Rattle.std.specs.Prelude.{◌≡◌, ◌+◌, ◌-◌, ◌^◌, ◌≤◌, false, [], ◌∷◌, ◌++◌, length, replicate, OnOk, IfErr};
-ghost use Rattle.disk_model.specs.Disk.{Settled, Answers};
+ghost use Rattle.std.specs.Prelude.{◌≡◌, ℕ, List, ◌<◌, ◌+◌, ◌-◌, ◌^◌, ◌≤◌, false, [], ◌∷◌, ◌++◌, length, replicate, OnOk, IfErr};
+ghost use Rattle.disk_model.specs.Disk.{Moves, Settled, Leaves, Each, Answers};
 ghost use Rattle.disk_model.specs.declared.name.Role.TheVariants.{Recv};
 ghost use Rattle.byteorder.specs.Endian.{big_bytes};
 ghost use Rattle.pump_frame.specs.Rows.{IsLawfulRow};
 ghost use Rattle.stable_buffer.specs.Stands.{is_version};
-ghost use Rattle.stable_buffer.specs.Format.{header_of, role_byte, second_of, size_of, new_bytes, FormatStands};
+ghost use Rattle.stable_buffer.specs.Format.{header_of, role_byte, second_of, size_of, bare_bytes, new_bytes, FormatStands};
+ghost use Rattle.stable_buffer.specs.Making.{marked, HasZeros, IsNone, IsNoneOr, KeepsFirst, LeavesFrom};
 
 use crate::Device;
 use crate::bytes::cell_of;
-use crate::device::{sync, write};
+use crate::device::{sync, write, write_and_sync};
 use byteorder::{BigEndian, ByteOrder};
 use disk_model::{Disk, Role};
 use pump_frame::SessionRow;
@@ -74,13 +75,13 @@ fn numbers(row: &SessionRow) -> [u8; 12]
     numbers
 }
 
-fn header(row: &SessionRow, role: Role, count: u64) -> [u8; 80]
-    ensures { result ≡ header_of row.now (role_byte role) count (second_of role) }
+fn header(row: &SessionRow, role: Role, first: u64, second: u64) -> [u8; 80]
+    ensures { result ≡ header_of row.now (role_byte role) first second }
 {
     let mut front = [0; 80];
     front[..6].copy_from_slice(&[b'N', b'P', b'D', b'1', letter(role), VERSION]);
     front[8..20].copy_from_slice(&numbers(row));
-    front[48..64].copy_from_slice(&cell_of(count, second(role)));
+    front[48..64].copy_from_slice(&cell_of(first, second));
     front
 }
 
@@ -91,13 +92,14 @@ fn fill_zeros<D: Disk>(disk: &mut D, from: u64, to: u64) -> Result<(), Device>
     requires calm { D.told.tells_plan → D.told.armed disk.old ≡ false }
     ensures zeros { OnOk result (D.told.tells
         → D.told.reading disk.new ≡ D.told.reading disk.old ++ replicate (to - from) 0) }
+    ensures moves { Moves D.told (KeepsFirst from) disk.old disk.new }
     ensures answers { Answers D.told (to ≤ D.told.room disk.old) disk.old disk.new result }
     ensures device { IfErr result (λ e. e.faults ≡ D.told.count disk.new) }
 {
-    let zeros = [0; 64];
+    let zeros = [0; 1024];
     let mut at = from;
     while at < to {
-        let count = (to - at).min(64);
+        let count = (to - at).min(1024);
         write(disk, at, &zeros[..count as usize])?;
         at += count;
     }
@@ -122,9 +124,62 @@ pub fn format<D: Disk>(disk: &mut D, row: &SessionRow, role: Role, count: u64) -
         disk.old disk.new result }
     ensures device { IfErr result (λ e. e.faults ≡ D.told.count disk.new) }
 {
-    let front = header(row, role, count);
+    let front = header(row, role, count, second(role));
     write(disk, 0, &front)?;
     fill_zeros(disk, 80, disk_size(row, role))?;
     sync(disk)?;
+    Ok(())
+}
+
+/// Begins an empty disk that is to be whole or no buffer, whenever a crash comes: it gets four
+/// zeros, and once these are synced all that a disk of the row with these two numbers has behind its
+/// mark. Write the messages, and then `finish`.
+pub fn begin<D: Disk>(
+    disk: &mut D,
+    row: &SessionRow,
+    role: Role,
+    first: u64,
+    second: u64,
+) -> Result<(), Device>
+    requires empty { D.told.tells → D.told.reading disk.old ≡ [] }
+    requires lawful { IsLawfulRow row.now }
+
+    ensures bytes { OnOk result (D.told.tells
+        → marked (D.told.reading disk.new) ≡ bare_bytes row.now role first second) }
+    ensures zeros { OnOk result (Each D.told HasZeros disk.new) }
+
+    // Where a crash before the call leaves fewer than 80 bytes, one since leaves no buffer.
+    ensures during { ((c : List ℕ) → D.told.images disk.old c → length c < 80)
+        → Leaves D.told disk.old disk.new IsNone }
+    ensures later { D.told.moment disk.old ≤ D.told.moment disk.new }
+    ensures answers { Answers D.told (size_of row.now role ≤ D.told.room disk.old)
+        disk.old disk.new result }
+    ensures device { IfErr result (λ e. e.faults ≡ D.told.count disk.new) }
+{
+    let front = header(row, role, first, second);
+    write_and_sync(disk, 0, &[0; 4])?;
+    write(disk, 4, &front[4..])?;
+    fill_zeros(disk, 80, disk_size(row, role))?;
+    Ok(())
+}
+
+/// Finishes a disk that was begun: it is synced, gets its mark, and is synced again.
+pub fn finish<D: Disk>(disk: &mut D) -> Result<(), Device>
+    requires zeros { Each D.told HasZeros disk.old }
+
+    ensures bytes { OnOk result (D.told.tells
+        → D.told.reading disk.new ≡ marked (D.told.reading disk.old)) }
+    ensures settled { OnOk result (Settled D.told disk.new) }
+
+    // A crash since any moment leaves what it left before the call, no buffer, or the whole disk.
+    ensures during { (moment : ℕ) → moment ≤ D.told.moment disk.old
+        → LeavesFrom D.told moment (IsNoneOr (λ c. c ≡ marked (D.told.reading disk.old))) disk.old
+        → LeavesFrom D.told moment (IsNoneOr (λ c. c ≡ marked (D.told.reading disk.old))) disk.new }
+    ensures later { D.told.moment disk.old ≤ D.told.moment disk.new }
+    ensures answers { Answers D.told (4 ≤ D.told.room disk.old) disk.old disk.new result }
+    ensures device { IfErr result (λ e. e.faults ≡ D.told.count disk.new) }
+{
+    sync(disk)?;
+    write_and_sync(disk, 0, b"NPD1")?;
     Ok(())
 }

@@ -3,7 +3,7 @@ use Rattle.std.proofs.KnownBytes.{Appends-trans}
 use Rattle.std.specs.Io.KnownBytes.{Appends}
 use Rattle.relay_threads.proofs.Reaching.{reaches_behind}
 use Rattle.serving.specs.LowRuns.{opening_text}
-use Rattle.serving.proofs.LowServes.{opening_written}
+use Rattle.serving.proofs.LowServes.{opening_reads, opening_written}
 use Rattle.serving.proofs.low_half.serve_low.Goals as goal
 
 pub returns : goal.returns
@@ -23,6 +23,7 @@ returns g c =
       links = links;
       moments = moments;
       words = words;
+      begins = opening_reads _ _ c.args.half.now.parts c.row.ensures c.next-next.ensures w.reads;
       tape = reaches_behind (Appends (g.O.Sink.written c.args.tape.now) (g.O.Sink.written c.low_rounds-half.new.tape)) (Appends (g.O.Sink.written c.write_opening.new.tape) (g.O.Sink.written c.low_rounds-half.new.tape)) _ _ _ _ (opening_text c.args.half.now.parts) _ w.cause.later (λ rest more. Appends-trans _ _ _ _ rest opening more) tape;
       is_record = is_record;
       store = r.ready.of;

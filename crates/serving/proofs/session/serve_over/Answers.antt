@@ -56,7 +56,7 @@ returns-clause-low g c =
     let (messages, stands, dealt) = e.dealt in
     ended_so served.result.ends c.end_of.result c.end_of.ensures _ _ served.ensures.low
     (λ (ends : WorkersEnd) lent. low_served _ g.D.Disk.told row _ c.args.key _ _ _ _ _ _ _ _ o.next o.low_hand c.start_low-low.result o.low served.result.low c.args.low c.into_disk.result ends.low lent
-    s.row s.next s.held s.lives s.words s.store c.into_disk.ensures (λ told. (o.removed, messages, stands told, held_is o.low_hand (o.next == o.removed + row.capacity) (o.next - 1) e.hands.last)) e.calls_low.counts)
+    s.row s.next s.held s.lives s.words s.store c.into_disk.ensures (λ told. (o.removed, messages, stands told, held_is o.low_hand (o.next == o.removed + row.capacity) (o.next - 1) e.hands.last)) e.calls_low.counts c.requires.lawful s.counted)
 
 pub returns-clause-high : goal.returns-clause-high
 returns-clause-high g c =

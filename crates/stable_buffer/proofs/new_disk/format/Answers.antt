@@ -9,7 +9,8 @@ returns-clause-bytes g c = λ told.
     let m = g.D.Disk.told in
     let front = header_of c.args.row.now (role_byte c.args.role) c.args.count (second_of c.args.role) in
     let first : m.reading c.write.new.disk ≡ front =
-    holds_empty (m.reading c.args.disk.now) c.header-front.result (m.reading c.write.new.disk) (c.requires.empty told) (c.in_ok-write.ensures.written told) ∙ c.header-front.ensures in
+    holds_empty (m.reading c.args.disk.now) c.header-front.result (m.reading c.write.new.disk) (c.requires.empty told) (c.in_ok-write.ensures.written told) ∙ c.header-front.ensures
+    ∙ (λ i. header_of c.args.row.now (role_byte c.args.role) c.args.count (c.second.ensures i)) in
     c.sync.ensures.moves.reads told ∙ c.in_ok-fill_zeros.ensures.zeros told ∙ (λ i. first i ++ replicate (c.disk_size.ensures.size i - 80) 0)
 
 pub returns-clause-stands : goal.returns-clause-stands

@@ -1,0 +1,5 @@
+pub mod Cuts
+pub mod Following
+pub mod Rooms
+pub mod Takings
+pub mod Wrapping

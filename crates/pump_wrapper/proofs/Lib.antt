@@ -1,4 +1,6 @@
 pub mod Cuts
+pub mod Example
+pub mod Files
 pub mod Following
 pub mod Rooms
 pub mod Takings

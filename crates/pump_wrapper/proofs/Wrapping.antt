@@ -1,5 +1,6 @@
 -- Pieces and messages of a file.
-use Rattle.std.proofs.Common.{◌≡◌, ℕ, zero, suc, ◌+◌, ◌-◌, ◌<◌, ◌≤◌, List, [], ◌∷◌, ◌++◌, length, take, drop, map, flat_map, refl, sym, ◌∙◌, ap, arith, length-append, length-drop}
+use Rattle.std.proofs.Common.{◌≡◌, ℕ, zero, suc, ◌+◌, ◌-◌, ◌<◌, ◌≤◌, List, [], ◌∷◌, ◌++◌, length, take, drop, map, flat_map, refl, sym, ◌∙◌, ap, subst, arith, length-append, length-drop, length-take}
+use Rattle.std.specs.List.{AllByRecursion}
 use Rattle.std.proofs.lemmas.List.{take-append-drop, append-nil}
 use Rattle.std.proofs.lemmas.List.Folds.{flat_map-map}
 use Rattle.std.proofs.lemmas.Grind.{flat_map-append}
@@ -78,3 +79,24 @@ files_are_one message first second two same = sym (unwrapped_file message first 
 -- the first messages of a file have its first bytes
 pub front_of_file : (message : ℕ) (file : List ℕ) (messages rest : List (List ℕ)) → 2 ≤ message → wrapped message file ≡ messages ++ rest → file ≡ unwrapped messages ++ unwrapped rest
 front_of_file message file messages rest two is = sym (unwrapped_file message file two) ∙ ap unwrapped is ∙ flat_map-append piece_of messages rest
+
+pieces_fit : (k n : ℕ) (file : List ℕ) → AllByRecursion (λ m. length m ≤ suc n) (map piece_message (first_pieces k n file))
+pieces_fit zero n file = tt
+pieces_fit (suc k) n [] = tt
+pieces_fit (suc k) n (b ∷ bs) = (omega (arith, length-take n (b ∷ bs)), pieces_fit k n (drop n (b ∷ bs)))
+
+length_fits : (n : ℕ) → length (length_message n) ≡ 9
+unfolding length_message
+length_fits n = refl
+
+behind : (most : ℕ) (messages : List (List ℕ)) (last : List ℕ) → AllByRecursion (λ m. length m ≤ most) messages → length last ≤ most → AllByRecursion (λ m. length m ≤ most) (messages ++ last ∷ [])
+behind most [] last all le = (le, tt)
+behind most (m ∷ ms) last (here, later) le = (here, behind most ms last later le)
+
+-- each message of a file fits
+pub each_fits : (message : ℕ) (file : List ℕ) → 9 ≤ message → AllByRecursion (λ m. length m ≤ message) (wrapped message file)
+unfolding pieces
+each_fits message file nine =
+    let size : suc (message - 1) ≡ message = omega (arith, nine) in
+    behind message (map piece_message (pieces (message - 1) file)) (length_message (length file))
+    (subst (λ k. AllByRecursion (λ m. length m ≤ k) (map piece_message (pieces (message - 1) file))) size (pieces_fit (length file) (message - 1) file)) (omega (arith, nine, length_fits (length file)))

@@ -6,7 +6,11 @@ mod cutter;
 mod fill;
 mod gathered;
 mod gathering;
+pub mod laws;
 mod length;
 
 pub use cutter::{Cut, Cutter};
 pub use gathered::{GatherFault, Gathered, gather};
+
+#[cfg(test)]
+mod tests;

@@ -43,6 +43,11 @@ module _ {H : Type 0} (stands : H → Low → High → Type 0) where
   few_taken false w a = omega (arith, a.few)
   few_taken true w a = omega (arith, (a.hand_taken refl).0)
 
+  -- where all are removed, the receiver has none besides
+  pub all_removed : (took : Bool) (w : HighHalf H) → HighAt stands took w → w.count ≤ removed_of w.process → HighAt stands false w
+  all_removed false w a all = a
+  all_removed true w a all = absurd (omega (arith, few_taken true w a, all, a.is_past.holds.removed))
+
   -- nothing is taken yet
   pub none_taken : (w : HighHalf H) → HighAt stands false w → removed_of w.process ≡ 0 → recv_count w.receiver ≡ done_in []
   none_taken w a none = recv_count_of false w a ∙ omega (arith, none)
@@ -62,11 +67,6 @@ module _ {H : Type 0} (stands : H → Low → High → Type 0) where
   pub given_back : (v w : HighHalf H) (turns_made : List Bool) → HighAt stands true v → HighAt stands false w → removed_of w.process ≡ removed_of v.process + 1
       → recv_count v.receiver ≡ done_in turns_made → recv_count w.receiver ≡ done_in (false ∷ turns_made)
   given_back v w turns_made a b more taken = omega (arith, recv_count_of true v a, recv_count_of false w b, more, taken)
-
-  -- all are removed, so no message is held back
-  pub all_given : (took : Bool) (w : HighHalf H) → HighAt stands took w → w.count ≤ removed_of w.process → HighAt stands false w
-  all_given false w a all = a
-  all_given true w a all = absurd (omega (arith, (a.hand_taken refl).0, all, a.is_past.holds.removed))
 
   -- the run is over: all are removed
   pub asks_of_all : (took is_stopped : Bool) (w : HighHalf H) (turns_made : List Bool) (old new : List (ℕ × ℕ) → Type 0) → HighAt stands took w → recv_count w.receiver ≡ done_in turns_made

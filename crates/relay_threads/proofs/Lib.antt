@@ -4,6 +4,7 @@ pub mod HighServing
 pub mod HighStaying
 pub mod HighTurning
 pub mod Kept
+pub mod Levels
 pub mod LowLives
 pub mod LowRecord
 pub mod LowReplays

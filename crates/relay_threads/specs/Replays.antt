@@ -47,9 +47,13 @@ AreConnected (m ∷ before) = (is_broken before ≡ true → has_bytes (taken_by
 abbrev pub TakeLawful : List Made → Type 0
 TakeLawful made = AllByRecursion (λ m. HasLawfulFrame (taken_by m)) made
 
--- each average that was told is a level, where the session is coarse
+-- an average that was told is a level, where the session is coarse
+abbrev pub TellsLevel : SessionRow → Made → Type 0
+TellsLevel row m = tells_level row (told_of row m.look.feedback) ≡ true
+
+-- so is each
 abbrev pub TellLevels : SessionRow → List Made → Type 0
-TellLevels row made = AllByRecursion (λ m. tells_level row (told_of row m.look.feedback) ≡ true) made
+TellLevels row made = AllByRecursion (TellsLevel row) made
 
 -- the newest look lost its message: the device failed
 abbrev pub is_lost : List Made → Bool

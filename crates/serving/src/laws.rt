@@ -13,8 +13,8 @@ ghost use Rattle.serving.specs.Replayed.{ReplaysToItself};
 use pump_link::Door;
 
 /// The record of a low worker's stays, of which `LowServed` says that they are stays, that their looks are
-/// a life and that each line reads back, is a script that replays to its own `low` lines, whatever any
-/// disks are found to hold; where the session is coarse and each average that was told is a level.
+/// a life, that each line reads back and that a coarse session is told levels, is a script that replays to
+/// its own `low` lines, whatever any disks are found to hold.
 pub fn served_records_replay<P: Door>()
     ensures { (opens : Openings) (row : SessionRow) (o : Opening) (stays : List (Stay P.Link)) → IsLawfulRow row → AreStays row o [] stays
         → AreMade row o (stayed [] stays) → AreReadable row o (stayed [] stays) → TellLevels row (stayed [] stays)

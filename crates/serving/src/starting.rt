@@ -49,6 +49,7 @@ pub fn start_low<D: Disk, L: WaitLowEnd>(
     ensures lives { Lives result.process (opening_of next hand) [] }
     ensures words { result.words ≡ record { key = key_of key; stream = 0; word_pos = 0 } }
     ensures store { result.store ≡ store }
+    ensures kept { result.ends ≡ ends }
 {
     let is_held = hand.is_some();
     let process = LowProcess::open(row, next, hand);

@@ -1,4 +1,4 @@
-use Rattle.std.proofs.Common.{List, [], ◌≤◌, ◌^◌, refl, sym, ◌∙◌, subst, le_refl, le_trans}
+use Rattle.std.proofs.Common.{List, [], ◌≤◌, ◌^◌, refl, sym, ap, ◌∙◌, subst, le_refl, le_trans}
 use Rattle.std.specs.Prelude.{option_map}
 use Rattle.std.specs.Io.KnownBytes.{Appends}
 use Rattle.pump_link.proofs.Grown.{Draws-kept, Grows-then}
@@ -10,6 +10,7 @@ use Rattle.low_process.specs.Ends.{StandsFitting}
 use Rattle.low_process.proofs.Offering.{stands_for_some}
 use Rattle.pump_frame.specs.Rows.{IsLawfulRow}
 use Rattle.pump_frame.specs.declared.row.SessionRow.{SessionRow}
+use Rattle.pump_core.specs.Passage.{Shape}
 use Rattle.pump_core.specs.ReplyFrames.{frame_of}
 use Rattle.pump_link.specs.Tells.{Grows}
 use Rattle.relay_threads.specs.declared.record.LookMade.{LookMade}
@@ -18,6 +19,7 @@ use Rattle.relay_threads.specs.Records.{Made}
 use Rattle.relay_threads.specs.RecordLines.{made_by}
 use Rattle.relay_threads.specs.Replays.{ReadsBack}
 use Rattle.relay_threads.specs.LowServes.{bytes_of, text_after}
+use Rattle.relay_threads.proofs.Levels.{step_tells}
 use Rattle.relay_threads.proofs.Reaching.{rose_later, reaches_all, reaches_behind}
 use Rattle.relay_threads.proofs.LowTurning.{counts_by, rose_by, fault_by, down_is, round_failed, failed_turn, made_turn, round, failed_cause, made_cause, link_by}
 use Rattle.relay_threads.proofs.low_round.low_round.Goals as goal
@@ -42,6 +44,7 @@ returns-then-is_failed-clause-turn g c =
       failed_cause h.0 heard h.3 failed,
       refl,
       refl,
+      (λ end. tt),
     )
 
 pub returns-clause-turn : goal.returns-clause-turn
@@ -87,6 +90,10 @@ returns-clause-turn g c =
       c.why_left.ensures ∙ made_cause h.0 heard kept c.is_down.result looks.0 sent n h.3 down,
       c.is_full.ensures,
       c.is_ack.ensures (row_of p).id,
+      (λ end.
+          let was = c.requires.ready in
+          step_tells g.L.LowSide.stands g.L.LowSide.shape c.look_waiting_into.new.ends (row_of p) end.0 (ap (λ (s : Shape). s.averaging) c.look_waiting_into.ensures.shape ∙ end.1)
+          (g.L.LowSide.shape c.args.ends.now) g.L.LowSide.on_one_thread q was.l was.h (hand_of p) head.feedback (c.look_waiting_into.ensures.ends was.l was.h was.fitting)),
     )
 
 pub returns-clause-ready : goal.returns-clause-ready

@@ -1,8 +1,9 @@
-use Rattle.std.proofs.Common.{List, [], ◌≤◌, ◌^◌, refl, subst, ◌∙◌, le_trans}
+use Rattle.std.proofs.Common.{List, [], ◌≤◌, ◌^◌, refl, ap, subst, ◌∙◌, le_trans}
 use Rattle.std.specs.Io.KnownBytes.{Appends}
 use Rattle.pump_frame.specs.Rows.{IsLawfulRow}
 use Rattle.pump_frame.specs.declared.row.SessionRow.{SessionRow}
 use Rattle.pump_core.specs.History.{Gone}
+use Rattle.pump_core.specs.Passage.{Shape}
 use Rattle.low_process.specs.declared.values.Arrival.TheVariants as arrivals
 use Rattle.low_process.specs.Looks.{row_of, hand_of, IsInBounds}
 use Rattle.low_process.specs.Heads.{look_with}
@@ -14,6 +15,7 @@ use Rattle.relay_threads.specs.Records.{Made}
 use Rattle.relay_threads.specs.RecordLines.{made_by}
 use Rattle.relay_threads.specs.Replays.{ReadsBack}
 use Rattle.relay_threads.specs.LowServes.{text_after}
+use Rattle.relay_threads.proofs.Levels.{step_tells}
 use Rattle.relay_threads.proofs.LowLives.{look_made, lives_on}
 use Rattle.relay_threads.proofs.low_stays.leave.Goals as goal
 
@@ -38,6 +40,10 @@ returns-clause-leaves g c =
       c.moment-moment.ensures.reads,
       subst (λ (z : SessionRow). Reaches (Appends (O.written c.args.tape.now) (O.written c.record_look.new.tape)) (O.faults c.args.tape.now) (O.faults c.record_look.new.tape) c.record_look.result (text_after z [] (made_by z shown)))
           row_is (c.record_look.ensures.text [] refl),
+      (λ end.
+          let was = c.requires.ready in
+          step_tells g.L.LowSide.stands g.L.LowSide.shape c.look_waiting_into.new.ends (row_of p) end.0 (ap (λ (s : Shape). s.averaging) e.shape ∙ end.1)
+          (g.L.LowSide.shape c.args.ends.now) g.L.LowSide.on_one_thread q was.l was.h (hand_of p) l.feedback (e.ends was.l was.h was.fitting)),
     )
 
 pub returns-clause-ready : goal.returns-clause-ready

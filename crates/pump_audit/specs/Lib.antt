@@ -1,0 +1,7 @@
+pub mod Claims
+pub mod Comparing
+pub mod Entries
+pub mod Places
+pub mod Records
+pub mod Texts
+pub mod Verdicts

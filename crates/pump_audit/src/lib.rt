@@ -1,0 +1,10 @@
+//! Checks a finished record of the low side, and compares two.
+#![tactic(auto)]
+
+mod claims;
+mod entry;
+mod form;
+mod texts;
+mod verdict;
+
+pub use verdict::{AuditFault, Verdict};

@@ -4,6 +4,7 @@
 mod claims;
 mod entry;
 mod form;
+mod life;
 mod texts;
 mod verdict;
 

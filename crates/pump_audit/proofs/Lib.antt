@@ -1,2 +1,4 @@
+pub mod EntryLaws
 pub mod Lives
+pub mod NoteLaws
 pub mod TextLaws

@@ -1,5 +1,5 @@
 -- The lines of a record, and which text each of them is.
-use Rattle.std.specs.Prelude.{◌≡◌, ℕ, ◌^◌, ◌<◌, ◌≤◌, false, List, [], ◌∷◌, codes, decimal}
+use Rattle.std.specs.Prelude.{◌≡◌, ℕ, ◌^◌, ◌<◌, ◌≤◌, false, List, [], ◌∷◌, length, codes, decimal}
 use Rattle.pump_frame.specs.Frames.{IsLawful}
 use Rattle.pump_frame.specs.Rows.{IsLawfulRow}
 use Rattle.pump_frame.specs.Spellings.{spelling}
@@ -14,6 +14,7 @@ use Rattle.script_reader.specs.declared.line.ToldFeedback.TheVariants as told
 use Rattle.script_reader.specs.declared.event.Event.TheVariants as events
 use Rattle.script_reader.specs.Grammar.{spaced, IsLine}
 use Rattle.script_reader.specs.Transcript.{event_fields}
+use Rattle.pump_audit.specs.Texts.{longest}
 use Rattle.pump_audit.specs.declared.entry.Coming.{Coming}
 use Rattle.pump_audit.specs.declared.entry.Coming.TheVariants as coming
 use Rattle.pump_audit.specs.declared.entry.LookLine.{LookLine}
@@ -81,4 +82,4 @@ abbrev pub IsEntry : Entry → List ℕ → Type 0
 IsEntry (entries.Opening row next is_held) text = IsLine (lines.LowSession row next is_held) text × IsLawfulRow row
 IsEntry (entries.Coarse session) text = IsLine (lines.Coarse session) text
 IsEntry (entries.Look line) text = IsLine (line_of line) text × IsPlain line
-IsEntry (entries.Comment note) text = IsInRange note × (text ≡ note_text note)
+IsEntry (entries.Comment note) text = IsInRange note × (text ≡ note_text note) × (length text ≤ longest)

@@ -2,6 +2,7 @@ pub mod Claims
 pub mod Comparing
 pub mod Entries
 pub mod Machine
+pub mod Noting
 pub mod Places
 pub mod Records
 pub mod Texts

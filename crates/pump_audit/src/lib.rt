@@ -5,6 +5,8 @@ mod claims;
 mod entry;
 mod form;
 mod life;
+mod notes;
+mod reading;
 mod texts;
 mod verdict;
 

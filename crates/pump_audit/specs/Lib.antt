@@ -3,6 +3,7 @@ pub mod Comparing
 pub mod Entries
 pub mod Machine
 pub mod Noting
+pub mod Pairs
 pub mod Places
 pub mod Records
 pub mod Texts

@@ -1,3 +1,4 @@
+pub mod AuditLaws
 pub mod ClaimLaws
 pub mod EntryLaws
 pub mod Lives

@@ -30,7 +30,7 @@ use Rattle.script_reader.specs.declared.line.ToldFeedback.TheVariants.{Quiet, Fu
 use Rattle.script_reader.specs.Alone.{tells_level}
 use Rattle.pump_audit.specs.declared.entry.LookLine.{LookLine}
 use Rattle.pump_audit.specs.Entries.{arrival_of}
-use Rattle.pump_audit.specs.Machine.{is_down, pair_in, of_nothing, of_release, of_offer, of_arrival, of_look, takes_all, stores_of, begins_store}
+use Rattle.pump_audit.specs.Machine.{Lets, is_down, pair_in, of_nothing, of_release, of_offer, of_arrival, of_look, takes_all, stores_of, begins_store}
 use Rattle.pump_audit.specs.Records.{Means, look_of, is_lost, tells_fault, IsNextLook}
 
 mapped : {A B : Type 0} (g : A → B) (o : Option A) (y : B) → option_map g o ≡ Some y → (x : A) × (o ≡ Some x) × (g x ≡ y)
@@ -249,13 +249,6 @@ replies_first x (Some f) = refl
 pub same_sent : (x : Look) (a b : Option Frame) → sent x a ≡ sent x b → a ≡ b
 same_sent x a b e = sym (replies_first x a) ∙ ap first_reply e ∙ replies_first x b
 
--- the machine lets a look of this line go on
-pub record Lets (row : SessionRow) (s : State) (last : ℕ) (l : LookLine) (f : Feedback) : Type 0 where
-  pub feedback : of_look row s (arrival_of l.coming) l.told s.phase ≡ Some f
-  pub order : last ≤ l.moment
-  pub takes : takes_all (arrival_of l.coming) s.phase ≡ true
-  pub outcome : l.is_fault ≡ true → begins_store row s (arrival_of l.coming) s.phase ≡ true
-
 module _ (row : SessionRow) (s : State) (last : ℕ) (h : History) (stands : StandsAt row s last h) (lost : is_down s.phase ≡ is_lost h.life.looks) (l : LookLine) (f : Feedback) where
   abbrev x : Look
   x = look_of l f
@@ -296,3 +289,15 @@ module _ (row : SessionRow) (s : State) (last : ℕ) (h : History) (stands : Sta
         takes = taken_all row x (arrival_of l.coming) refl s.phase up (λ n. sym newest.taken ∙ next.taken n);
         outcome = outcome_was row (begins_store row s x.arrival s.phase) l.is_fault (next.outcome ∙ ap tells_fault reply ∙ fault_in row s x s.phase);
       }
+
+-- ---- what follows where the machine lets the look go on ----
+
+module _ (row : SessionRow) (s : State) (last : ℕ) (l : LookLine) (f : Feedback) (lets : Lets row s last l f) where
+  pub fits_of : FeedbackFits row s (look_of l f)
+  fits_of = (look_told row s l s.phase f lets.feedback).1
+
+  pub up_of : is_down s.phase ≡ false
+  up_of = (look_told row s l s.phase f lets.feedback).2
+
+  pub outcome_of : l.is_fault ≡ (begins_store row s (arrival_of l.coming) s.phase && l.is_fault)
+  outcome_of = outcome_is row (begins_store row s (arrival_of l.coming) s.phase) l.is_fault lets.outcome

@@ -1,3 +1,4 @@
+pub mod Auditing
 pub mod Claims
 pub mod Comparing
 pub mod Entries

@@ -1,6 +1,6 @@
 -- The low process of a record's life as a machine: which feedback a look's line tells it, and whether the
 -- look goes on with the life. It serves private clauses and proofs alone.
-use Rattle.std.specs.Prelude.{ℕ, ◌+◌, ◌^◌, ◌≤◌, [], Bool, true, false, ◌&&◌, ◌||◌, not, ◌==◌, nat_le, if◌then◌else◌, Option, Some, None, option_map}
+use Rattle.std.specs.Prelude.{◌≡◌, ℕ, ◌+◌, ◌^◌, ◌≤◌, [], Bool, true, false, ◌&&◌, ◌||◌, not, ◌==◌, nat_le, if◌then◌else◌, Option, Some, None, option_map}
 use Rattle.pump_frame.specs.Averages.{averaging_of, average_of}
 use Rattle.pump_frame.specs.declared.frame.Frame.{Frame}
 use Rattle.pump_frame.specs.declared.row.SessionRow.{SessionRow}
@@ -17,6 +17,8 @@ use Rattle.pump_core.specs.Step.{takes_idle}
 use Rattle.script_reader.specs.declared.line.ToldFeedback.{ToldFeedback}
 use Rattle.script_reader.specs.declared.line.ToldFeedback.TheVariants.{Quiet, Full, Pair}
 use Rattle.script_reader.specs.Alone.{tells_level}
+use Rattle.pump_audit.specs.declared.entry.LookLine.{LookLine}
+use Rattle.pump_audit.specs.Entries.{arrival_of}
 use Rattle.pump_audit.specs.declared.life.Phase.{Phase}
 use Rattle.pump_audit.specs.declared.life.Phase.TheVariants.{Idle, Passing, Waiting, Down}
 use Rattle.pump_audit.specs.declared.life.Life.{Life}
@@ -106,3 +108,12 @@ stored s number is_fault = if is_fault then record s { phase = phases.Down } els
 -- where it is answered at once
 abbrev pub answered : SessionRow → State → Frame → State
 answered row s f = record s { greeted = if is_hello f.kind then permits_frame row f else s.greeted }
+
+-- ---- the look goes on ----
+
+-- the machine lets a look of this line go on, with this feedback
+pub record Lets (row : SessionRow) (s : State) (last : ℕ) (l : LookLine) (f : Feedback) : Type 0 where
+  pub feedback : of_look row s (arrival_of l.coming) l.told s.phase ≡ Some f
+  pub order : last ≤ l.moment
+  pub takes : takes_all (arrival_of l.coming) s.phase ≡ true
+  pub outcome : l.is_fault ≡ true → begins_store row s (arrival_of l.coming) s.phase ≡ true

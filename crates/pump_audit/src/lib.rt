@@ -1,12 +1,15 @@
 //! Checks a finished record of the low side, and compares two.
 #![tactic(auto)]
 
+mod auditing;
 mod claims;
 mod entry;
 mod form;
 mod life;
+mod meeting;
 mod notes;
 mod reading;
+mod state;
 mod texts;
 mod verdict;
 

@@ -7,10 +7,11 @@ ghost use Rattle.pump_core.specs.Comings.{is_nothing as nothing_in};
 ghost use Rattle.pump_core.specs.Exchanges.{is_gone as gone_in, permits_frame, is_fit, is_repeat, is_next, average_told, due};
 ghost use Rattle.pump_core.specs.Replies.{refusal, answer_to};
 ghost use Rattle.pump_core.specs.ReplyFrames.{frame_of};
-ghost use Rattle.pump_core.specs.Step.{after, after_in, after_idle, taken, reply_at, reply_in, reply_idle, reply_taken};
+ghost use Rattle.pump_core.specs.Step.{opened, after, after_in, after_idle, taken, reply_at, reply_in, reply_idle, reply_taken};
 ghost use Rattle.script_reader.specs.Alone.{tells_level};
+ghost use Rattle.script_reader.specs.Lawful.{IsLawfulFeedback};
 ghost use Rattle.pump_audit.specs.Entries.{arrival_of, IsPlain};
-ghost use Rattle.pump_audit.specs.Machine.{state_of, pair_in, of_nothing, of_release, of_offer, of_arrival, of_look, takes_all, stores_of, begins_store, IsInBounds, stored, answered};
+ghost use Rattle.pump_audit.specs.Machine.{Lets, state_of, pair_in, of_nothing, of_release, of_offer, of_arrival, of_look, takes_all, stores_of, begins_store, IsInBounds, stored, answered};
 ghost use Rattle.pump_audit.specs.Records.{look_of};
 
 use crate::entry::{Coming, LookLine};
@@ -154,6 +155,41 @@ impl Coming {
 }
 
 impl Life {
+    /// The process of a life that begins with this opening.
+    pub fn open(row: &SessionRow, next: u64, is_held: bool) -> Life
+        ensures state { state_of result ≡ opened (record { count = next; is_held = is_held }) }
+        ensures row { result.row ≡ row.now }
+        ensures last { result.last ≡ 0 }
+    {
+        let phase = if is_held {
+            Phase::Passing { owed: None }
+        } else {
+            Phase::Idle
+        };
+        Life {
+            row: *row,
+            next,
+            greeted: false,
+            phase,
+            last: 0,
+        }
+    }
+
+    /// The feedback of the look that the line tells, if the look goes on with the life.
+    pub fn feedback(&self, line: &LookLine) -> Option<Feedback>
+        ensures some { IfSome result (λ f. Lets self.now.row (state_of self.now) self.now.last line.now f) }
+        ensures only { (f : Feedback) → Lets self.now.row (state_of self.now) self.now.last line.now f → result ≡ Some f }
+        ensures bounds { IsLawfulFeedback line.now.told → IfSome result IsInBounds }
+    {
+        if line.moment < self.last || !self.takes(&line.coming) {
+            return None;
+        }
+        if line.is_fault && !self.begins_store(&line.coming) {
+            return None;
+        }
+        self.of_look(line)
+    }
+
     fn is_repeat(&self, frame: &Frame) -> bool
         ensures { result ≡ is_repeat self.now.row self.now.next self.now.greeted frame.now }
     {
@@ -391,8 +427,8 @@ impl Life {
         }
     }
 
-    // Makes the look of this line, with this feedback, and answers its reply.
-    fn step(&mut self, line: &LookLine, feedback: &Feedback) -> Option<Reply>
+    /// Makes the look of this line, with this feedback, and answers its reply.
+    pub fn step(&mut self, line: &LookLine, feedback: &Feedback) -> Option<Reply>
         requires moment { line.now.moment ≤ 2 ^ 62 }
         requires row { IsLawfulRow self.old.row }
         requires average { IsInBounds feedback.now }

@@ -1,8 +1,14 @@
 -- What a line makes of a record that is checked.
-use Rattle.std.proofs.Common.{◌≡◌, ◌⊎◌, inl, inr, ℕ, ◌+◌, ◌≤◌, Bool, true, false, List, [], ◌∷◌, ◌++◌, length, Option, None, Some, refl, sym, ap, ◌∙◌, subst, arith, append-nil, append_assoc}
-use Rattle.std.specs.Prelude.{option_map, if◌then◌else◌, ◌&&◌, not, nat_le, is_some}
+use Rattle.std.proofs.Common.{◌≡◌, ◌⊎◌, inl, inr, ℕ, ◌+◌, ◌≤◌, Bool, true, false, List, [], ◌∷◌, ◌++◌, length, Option, None, Some, refl, sym, ap, ◌∙◌, subst, arith, append-nil, length-append}
+use Rattle.std.specs.Prelude.{◌==◌, option_map, if◌then◌else◌, ◌&&◌, not, nat_le, is_some}
 use Rattle.std.proofs.lemmas.List.{append_cancel_left}
-use Rattle.pump_frame.specs.Averages.{averaging_of}
+use Rattle.std.specs.List.{All}
+use Rattle.std.proofs.lemmas.List.Sums.{sum_by-append}
+use Rattle.std.proofs.lemmas.List.Elements.{All-nil}
+use Rattle.moving_avg.specs.Windows.{HoldsTimes, averaging_in}
+use Rattle.moving_avg.specs.declared.Window.{Window}
+use Rattle.pump_frame.specs.declared.averaging.Averaging.{Averaging}
+use Rattle.pump_frame.specs.Averages.{averaging_of, average_of}
 use Rattle.pump_frame.specs.declared.frame.Frame.{Frame}
 use Rattle.pump_frame.specs.declared.frame.Kind.{Kind}
 use Rattle.pump_frame.specs.declared.frame.Kind.TheVariants as kinds
@@ -25,7 +31,9 @@ use Rattle.pump_core.proofs.Runs.{one_list_of_lives}
 use Rattle.pump_core.proofs.Standings.{stands_after, replies_after}
 use Rattle.pump_audit.specs.declared.claims.Claim.{Claim}
 use Rattle.pump_audit.specs.declared.entry.LookLine.{LookLine}
+use Rattle.pump_audit.specs.declared.claims.Claims.{Claims}
 use Rattle.pump_audit.specs.declared.entry.Note.{Note}
+use Rattle.pump_audit.specs.declared.entry.Note.TheVariants as notes
 use Rattle.pump_audit.specs.declared.form.Place.{Place}
 use Rattle.pump_audit.specs.declared.form.Place.TheVariants as places
 use Rattle.pump_audit.specs.declared.life.Life.{Life}
@@ -33,9 +41,11 @@ use Rattle.pump_audit.specs.declared.state.Audit.{Audit}
 use Rattle.pump_audit.specs.Auditing.{history_in, owed_in, LivesIn, MeetsAt, Held, IsFresh, Counts, Audits, LookIs, NoteIs}
 use Rattle.pump_audit.specs.Entries.{arrival_of}
 use Rattle.pump_audit.specs.Machine.{state_of, is_down, stores_of, begins_store, Lets}
-use Rattle.pump_audit.specs.Pairs.{Keeps, Fell}
+use Rattle.pump_audit.specs.Pairs.{Keeps, Fell, IsMet, Waits, Meets}
 use Rattle.pump_audit.specs.Places.{is_opening, takes_looks, takes_times}
-use Rattle.pump_audit.specs.Records.{Record, begun, look_of, is_lost, GoesOn, AreTold, claims_of, with_look}
+use Rattle.pump_audit.specs.Records.{Record, begun, look_of, is_lost, GoesOn, AreTold, claims_of, told_by_note}
+use Rattle.pump_audit.specs.Verdicts.{is_ack, acknowledgements}
+use Rattle.pump_audit.proofs.ClaimLaws.{meet_push}
 use Rattle.pump_audit.proofs.Lives.{goes, lets_on, fits_of, outcome_of, up_of}
 
 -- ---- the process goes down where a store fails ----
@@ -176,3 +186,165 @@ module _ (a : Audit) (r : Record) (was : Audits a r) (l : LookLine) where
           fresh = λ e. absurd (cc);
         },
       )
+
+-- ---- comments ----
+
+refusal_in : ℕ → Refusal
+refusal_in code =
+    if code == 1 then refusals.Pair
+    else if code == 2 then refusals.Frame
+    else if code == 3 then refusals.Size
+    else if code == 4 then refusals.Step
+    else refusals.Device
+
+refusal_back : (why : Refusal) → refusal_in (code_of why) ≡ why
+unfolding refusal_in
+refusal_back refusals.Pair = refl
+refusal_back refusals.Frame = refl
+refusal_back refusals.Size = refl
+refusal_back refusals.Step = refl
+refusal_back refusals.Device = refl
+
+abbrev first_of : List ℕ → ℕ
+first_of [] = 0
+first_of (b ∷ bytes) = b
+
+-- a reply's frame tells its session and the reply
+same_reply : (s t : ℕ) (p q : Reply) → frame_of s p ≡ frame_of t q → (s ≡ t) × (p ≡ q)
+same_reply s t (Welcome n) (Welcome m) e = (ap (λ (f : Frame). f.session) e, ap (λ (f : Frame). Welcome f.number) e)
+same_reply s t (Ack n) (Ack m) e = (ap (λ (f : Frame). f.session) e, ap (λ (f : Frame). Ack f.number) e)
+same_reply s t (Refuse w n) (Refuse v m) e =
+    let code : code_of w ≡ code_of v = ap (λ (f : Frame). first_of f.payload) e in
+    let why : w ≡ v = sym (refusal_back w) ∙ ap refusal_in code ∙ refusal_back v in
+    let number : n ≡ m = ap (λ (f : Frame). f.number) e in
+    (ap (λ (f : Frame). f.session) e, ap (λ (x : Refusal × ℕ). Refuse x.0 x.1) (λ i. (why i, number i)))
+same_reply s t (Welcome n) (Ack m) e = absurd (let k = ap (λ (f : Frame). f.kind) e in cc)
+same_reply s t (Welcome n) (Refuse v m) e = absurd (let k = ap (λ (f : Frame). f.kind) e in cc)
+same_reply s t (Ack n) (Welcome m) e = absurd (let k = ap (λ (f : Frame). f.kind) e in cc)
+same_reply s t (Ack n) (Refuse v m) e = absurd (let k = ap (λ (f : Frame). f.kind) e in cc)
+same_reply s t (Refuse w n) (Welcome m) e = absurd (let k = ap (λ (f : Frame). f.kind) e in cc)
+same_reply s t (Refuse w n) (Ack m) e = absurd (let k = ap (λ (f : Frame). f.kind) e in cc)
+
+abbrev comment_of : ℕ → ℕ → Reply → List Sent
+comment_of session moment reply = record { moment = moment; reply = frame_of session reply } ∷ []
+
+abbrev first_sent : List Sent → ℕ × Frame → ℕ × Frame
+first_sent [] d = d
+first_sent (t ∷ ts) d = (t.moment, t.reply)
+
+-- a comment that tells what is owed
+same_owed : (row : SessionRow) (last session moment : ℕ) (reply : Reply) (owed : Option Reply) → comment_of session moment reply ≡ owed_in row last owed → (owed ≡ Some reply) × (session ≡ row.id) × (moment ≡ last)
+same_owed row last session moment reply None e = absurd (cc)
+same_owed row last session moment reply (Some r) e =
+    let both : (moment, frame_of session reply) ≡ (last, frame_of row.id r) = ap (λ ts. first_sent ts (0, frame_of session reply)) e in
+    let same = same_reply session row.id reply r (ap (λ (x : ℕ × Frame). x.1) both) in
+    (ap Some (sym same.1), same.0, ap (λ (x : ℕ × Frame). x.0) both)
+
+module _ (a : Audit) (r : Record) (was : Audits a r) where
+  pub note_untold : is_some a.owed ≡ true → AreTold r [] → ⊥
+  note_untold e told = untold r.row r.opening r.looks r.comments a.life a.owed e was.life told
+
+  pub told_none : a.owed ≡ None → AreTold r []
+  told_none e = (subst (λ (w : Option Reply). LivesIn a.life w r.row r.opening r.looks r.comments) e was.life).replies
+
+  pub low_untold : (session moment : ℕ) (reply : Reply) → (a.owed ≡ Some reply → session ≡ a.life.row.id → moment ≡ a.life.last → ⊥) → AreTold r (comment_of session moment reply) → ⊥
+  low_untold session moment reply other told =
+      let e = owed_is r.row r.opening r.looks r.comments a.life a.owed (comment_of session moment reply) was.life told in
+      let same = same_owed r.row a.life.last session moment reply a.owed e in
+      other same.0 (same.1 ∙ ap (λ (w : SessionRow). w.id) (sym was.life.own_row)) same.2
+
+  pub low_told : (session moment : ℕ) (reply : Reply) → a.owed ≡ Some reply → session ≡ a.life.row.id → moment ≡ a.life.last → AreTold r (comment_of session moment reply)
+  low_told session moment reply owed s m =
+      let life = subst (λ (w : Option Reply). LivesIn a.life w r.row r.opening r.looks r.comments) owed was.life in
+      let own : session ≡ r.row.id = s ∙ ap (λ (w : SessionRow). w.id) was.life.own_row in
+      let same : comment_of a.life.last r.row.id reply ≡ comment_of a.life.last r.row.id reply = refl in
+      subst (LowReplies r.row (history_in r.opening r.looks))
+      (ap (λ (x : ℕ × ℕ). r.comments ++ comment_of x.0 x.1 reply) (λ i. (sym own i, sym m i))) life.replies
+
+  pub low_lives : (session moment : ℕ) (reply : Reply) → AreTold r (comment_of session moment reply) → LivesIn a.life None r.row r.opening r.looks (r.comments ++ comment_of session moment reply)
+  low_lives session moment reply told = record {
+    own_row = was.life.own_row;
+    stands = was.life.stands;
+    lost = was.life.lost;
+    replies = subst (LowReplies r.row (history_in r.opening r.looks)) (sym (append-nil (r.comments ++ comment_of session moment reply))) told;
+  }
+
+  pub low_acks : (session moment : ℕ) (reply : Reply) (b : Bool) (n : ℕ) → b ≡ is_ack (frame_of session reply).kind → n ≡ a.acks + (if b then 1 else 0) → n ≡ acknowledgements (r.comments ++ comment_of session moment reply)
+  low_acks session moment reply b n e is =
+      let all = sum_by-append (λ (s : Sent). if is_ack s.reply.kind then 1 else 0) r.comments (comment_of session moment reply) in
+      let one : 0 + (if b then 1 else 0) ≡ (if b then 1 else 0) = omega arith in
+      let mine : b ≡ is_ack (frame_of session reply).kind = e in
+      is ∙ ap (λ k. k + (if b then 1 else 0)) was.counts.acks ∙ ap (λ k. acknowledgements r.comments + k) (sym one)
+      ∙ ap (λ t. acknowledgements r.comments + (0 + (if t then 1 else 0))) mine ∙ sym all
+
+  pub low_held : takes_looks a.place ≡ true → Held a.claims a.window places.Looks r.row r.claims r.times
+  low_held place = record {
+    keeps = was.held.keeps;
+    fell = was.held.fell;
+    holds = was.held.holds;
+    averaging = was.held.averaging;
+    meets = looks_meet a.place r.row r.times a.claims.pairs.items a.claims.met place (subst (λ (p : Place). MeetsAt p r.row r.times a.claims.pairs.items a.claims.met) (sym was.counts.place) was.held.meets);
+  }
+
+  -- ---- times ----
+
+  new_meets : (times : List ℕ) (pairs : List Claim) (met : ℕ) → met ≡ 0 → times ≡ [] → Meets (averaging_of r.row) times (length times) pairs met
+  new_meets times pairs met none empty = subst (λ (x : ℕ × List ℕ). Meets (averaging_of r.row) x.1 (length x.1) pairs x.0) (λ i. (sym none i, sym empty i)) (record {
+    few = omega arith;
+    rises = tt;
+    are_met = All-nil (IsMet (averaging_of r.row) []);
+    waits = first pairs;
+  })
+    where
+      first : (pairs : List Claim) → Waits (averaging_of r.row) [] 0 [] pairs
+      first [] = tt
+      first (p ∷ pairs) = inl (omega arith)
+
+  times_meet : (p : Place) (pairs : List Claim) (met : ℕ) → takes_times p ≡ true → MeetsAt p r.row r.times pairs met → Meets (averaging_of r.row) r.times (length r.times) pairs met
+  times_meet places.Opening pairs met e h = new_meets r.times pairs met h.0 h.1
+  times_meet places.Looks pairs met e h = new_meets r.times pairs met h.0 h.1
+  times_meet places.Times pairs met e h = h
+  times_meet places.Taken pairs met e h = absurd (cc)
+  times_meet places.End pairs met e h = absurd (cc)
+
+  -- the claims of this count were met
+  pub met_now : (count average : ℕ) (b : Claims) → takes_times a.place ≡ true
+      → ((times : List ℕ) → HoldsTimes a.window times → count ≡ length times) → ((times : List ℕ) → HoldsTimes a.window times → average ≡ average_of (averaging_in a.window) times)
+      → ((v : Averaging) (times : List ℕ) → count ≡ length times → average ≡ average_of v times → Meets v times count a.claims.pairs.items a.claims.met → Meets v times (count + 1) b.pairs.items b.met)
+      → Meets (averaging_of r.row) r.times (length r.times + 1) b.pairs.items b.met
+  met_now count average b place counted averaged meets =
+      let n = counted r.times was.held.holds in
+      let v : average ≡ average_of (averaging_of r.row) r.times = averaged r.times was.held.holds ∙ ap (λ w. average_of w r.times) was.held.averaging in
+      let now = times_meet a.place a.claims.pairs.items a.claims.met place (subst (λ (p : Place). MeetsAt p r.row r.times a.claims.pairs.items a.claims.met) (sym was.counts.place) was.held.meets) in
+      subst (λ (k : ℕ). Meets (averaging_of r.row) r.times (k + 1) b.pairs.items b.met) n
+      (meets (averaging_of r.row) r.times n v (subst (λ (k : ℕ). Meets (averaging_of r.row) r.times k a.claims.pairs.items a.claims.met) (sym n) now))
+
+  pub taken_held : (b : Claims) → Meets (averaging_of r.row) r.times (length r.times + 1) b.pairs.items b.met → b.pairs ≡ a.claims.pairs → b.greatest ≡ a.claims.greatest → b.fall ≡ a.claims.fall
+      → Held b a.window places.Taken r.row r.claims r.times
+  taken_held b meets pairs greatest fall = record {
+    keeps = rw pairs was.held.keeps;
+    fell = rw (greatest, fall) was.held.fell;
+    holds = was.held.holds;
+    averaging = was.held.averaging;
+    meets = meets;
+  }
+
+  pub time_held : (b : Claims) (w : Window) (micros : ℕ) → Meets (averaging_of r.row) r.times (length r.times + 1) b.pairs.items b.met → b.pairs ≡ a.claims.pairs → b.greatest ≡ a.claims.greatest → b.fall ≡ a.claims.fall
+      → ((times : List ℕ) → HoldsTimes a.window times → HoldsTimes w (times ++ micros ∷ [])) → averaging_in w ≡ averaging_in a.window
+      → Held b w places.Times r.row r.claims (r.times ++ micros ∷ [])
+  time_held b w micros meets pairs greatest fall holds averaging =
+      let n : length r.times + 1 ≡ length (r.times ++ micros ∷ []) = omega (arith, length-append r.times (micros ∷ [])) in
+      record {
+        keeps = rw pairs was.held.keeps;
+        fell = rw (greatest, fall) was.held.fell;
+        holds = holds r.times was.held.holds;
+        averaging = averaging ∙ was.held.averaging;
+        meets = subst (λ (k : ℕ). Meets (averaging_of r.row) (r.times ++ micros ∷ []) k b.pairs.items b.met) n (meet_push (averaging_of r.row) r.times b.pairs.items micros (length r.times + 1) b.met meets);
+      }
+
+-- the comment tells no reply
+pub tells_none : (note : Note) → ((session moment : ℕ) (reply : Reply) → note ≡ notes.Low session moment reply → ⊥) → told_by_note note ≡ []
+tells_none (notes.Low session moment reply) other = absurd (other session moment reply refl)
+tells_none (notes.Time micros) other = refl
+tells_none (notes.Took count) other = refl
+tells_none (notes.End accepted removed) other = refl

@@ -9,6 +9,7 @@ ghost use Rattle.pump_audit.specs.Auditing.{Audits, LookIs, NoteIs, form_of_audi
 ghost use Rattle.pump_audit.specs.Entries.{IsPlain, IsInRange};
 ghost use Rattle.pump_audit.specs.Machine.{state_of};
 ghost use Rattle.pump_audit.specs.Places.{is_opening, is_taken, takes_looks, takes_times, behind_note};
+ghost use Rattle.pump_audit.specs.Verdicts.{is_ack};
 ghost use Rattle.pump_audit.specs.Records.{Record, begun, made_coarse, with_note};
 
 use crate::claims::Claims;
@@ -20,6 +21,12 @@ use moving_avg::Window;
 use pump_core::Reply;
 use pump_frame::{OutOfMemory, SessionRow};
 use std::alloc::Global;
+
+fn is_ack(reply: &Reply) -> bool
+    ensures { (session : ℕ) → result ≡ is_ack (frame_of session reply.now).kind }
+{
+    matches!(reply, Reply::Ack { .. })
+}
 
 impl Audit {
     /// A record whose opening line told this.
@@ -106,7 +113,7 @@ impl Audit {
         self.place = Place::Looks;
         self.lines += 1;
         self.owed = None;
-        if matches!(reply, Reply::Ack { .. }) {
+        if is_ack(reply) {
             self.acks += 1;
         }
         None

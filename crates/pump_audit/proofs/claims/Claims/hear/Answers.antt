@@ -4,7 +4,7 @@ use Rattle.pump_audit.proofs.claims.Claims.hear.Goals as goal
 
 pub returns-in-Passed-clause-keeps : goal.returns-in-Passed-clause-keeps
 returns-in-Passed-clause-keeps c =
-    let takes = on_ok_weaker c.add.result (λ e took claims k. (c.args.self.now.pairs.items, k, took)) c.add.ensures.keeps in
+    let takes = on_ok_weaker c.add.result (λ took claims k. (c.args.self.now.pairs.items, k, took)) c.add.ensures.keeps in
     elim c.in-Passed.is [ | inl p ↦ rw p takes | inr p ↦ rw p takes ]
 
 pub returns-in-Passed-clause-fell : goal.returns-in-Passed-clause-fell

@@ -1,6 +1,6 @@
 -- What a line makes of a record that is checked.
 use Rattle.std.proofs.Common.{◌≡◌, ◌⊎◌, inl, inr, ℕ, ◌+◌, ◌≤◌, Bool, true, false, List, [], ◌∷◌, ◌++◌, length, Option, None, Some, refl, sym, ap, ◌∙◌, subst, arith, append-nil, length-append}
-use Rattle.std.specs.Prelude.{◌==◌, option_map, if◌then◌else◌, ◌&&◌, not, nat_le, is_some}
+use Rattle.std.specs.Prelude.{◌==◌, slice_get, MatchOption, MatchBool, option_map, if◌then◌else◌, ◌&&◌, not, nat_le, is_some}
 use Rattle.std.proofs.lemmas.List.{append_cancel_left}
 use Rattle.std.specs.List.{All}
 use Rattle.std.proofs.lemmas.List.Sums.{sum_by-append}
@@ -20,7 +20,8 @@ use Rattle.pump_core.specs.declared.reply.Reply.{Reply}
 use Rattle.pump_core.specs.declared.reply.Reply.TheVariants.{Welcome, Ack, Refuse}
 use Rattle.pump_core.specs.History.{Arrival, Look, Opening, History, looked}
 use Rattle.pump_core.specs.History.{Nothing, Came, Bad, Gone}
-use Rattle.pump_core.specs.Exchanges.{is_gone, is_hello, is_repeat, is_next, permits_frame, due, IsCut}
+use Rattle.pump_core.specs.Exchanges.{is_gone, is_hello, is_repeat, is_next, permits_frame, due, Part, count_after, IsCut}
+use Rattle.pump_core.proofs.Cuts.{one_cut}
 use Rattle.pump_core.specs.Phases.{Phase}
 use Rattle.pump_core.specs.Phases.{Idle, Passing, Waiting, Down}
 use Rattle.pump_core.specs.ReplyFrames.{code_of, frame_of}
@@ -38,14 +39,19 @@ use Rattle.pump_audit.specs.declared.form.Place.{Place}
 use Rattle.pump_audit.specs.declared.form.Place.TheVariants as places
 use Rattle.pump_audit.specs.declared.life.Life.{Life}
 use Rattle.pump_audit.specs.declared.state.Audit.{Audit}
-use Rattle.pump_audit.specs.Auditing.{history_in, owed_in, LivesIn, MeetsAt, Held, IsFresh, Counts, Audits, LookIs, NoteIs}
-use Rattle.pump_audit.specs.Entries.{arrival_of}
+use Rattle.pump_audit.specs.Auditing.{history_in, owed_in, LivesIn, MeetsAt, Held, IsFresh, Counts, Audits, LookIs, NoteIs, EntryIs, TextIs, EndIs, IsEnded, form_of_audit}
+use Rattle.pump_audit.specs.declared.entry.Entry.{Entry}
+use Rattle.pump_audit.specs.declared.entry.Entry.TheVariants as entries
+use Rattle.pump_audit.specs.declared.form.Form.{Form}
+use Rattle.pump_audit.specs.declared.verdict.Verdict.TheVariants.{Yes, No}
+use Rattle.pump_audit.specs.Claims.{has_end, AreRight, IsFirstWrong}
+use Rattle.pump_audit.specs.Entries.{arrival_of, IsEntry}
 use Rattle.pump_audit.specs.Machine.{state_of, is_down, stores_of, begins_store, Lets}
 use Rattle.pump_audit.specs.Pairs.{Keeps, Fell, IsMet, Waits, Meets}
-use Rattle.pump_audit.specs.Places.{is_opening, takes_looks, takes_times}
-use Rattle.pump_audit.specs.Records.{Record, begun, look_of, is_lost, GoesOn, AreTold, claims_of, told_by_note}
-use Rattle.pump_audit.specs.Verdicts.{is_ack, acknowledgements}
-use Rattle.pump_audit.proofs.ClaimLaws.{meet_push}
+use Rattle.pump_audit.specs.Places.{is_opening, takes_looks, takes_times, behind_line, ends_at, has_end_at}
+use Rattle.pump_audit.specs.Records.{Record, begun, look_of, is_lost, GoesOn, AreTold, claims_of, told_by_note, form_of, with_look, with_note}
+use Rattle.pump_audit.specs.Verdicts.{is_ack, acknowledgements, IsRightEnd}
+use Rattle.pump_audit.proofs.ClaimLaws.{meet_push, met_right, unmet_wrong, risen_right, fall_wrong}
 use Rattle.pump_audit.proofs.Lives.{goes, lets_on, fits_of, outcome_of, up_of}
 
 -- ---- the process goes down where a store fails ----
@@ -348,3 +354,93 @@ tells_none (notes.Low session moment reply) other = absurd (other session moment
 tells_none (notes.Time micros) other = refl
 tells_none (notes.Took count) other = refl
 tells_none (notes.End accepted removed) other = refl
+
+-- ---- lines ----
+
+module _ (a : Audit) (r : Record) (was : Audits a r) where
+  same_form : form_of_audit a ≡ form_of r
+  same_form = λ i. record { session = (was.life.own_row i).id; place = was.counts.place i }
+
+  pub placed : (e : Entry) → is_some (behind_line (form_of_audit a) e) ≡ true → is_some (behind_line (form_of r) e) ≡ true
+  placed e h = subst (λ (f : Form). is_some (behind_line f e) ≡ true) same_form h
+
+  pub entry_look : (l : LookLine) (b : Audit) (cause : Option ℕ) → is_some (behind_line (form_of_audit a) (entries.Look l)) ≡ true → LookIs r l b cause → EntryIs r (entries.Look l) b cause
+  entry_look l b None h is = (with_look r (look_of l is.0), (placed (entries.Look l) h, is.2, (is.0, is.1, refl)), is.3)
+  entry_look l b (Some cause) h (inl is) = inl is
+  entry_look l b (Some cause) h (inr is) = inr (is.0, (λ broken. broken is.1 is.2), is.3)
+
+  pub entry_note : (note : Note) (b : Audit) (cause : Option ℕ) → is_some (behind_line (form_of_audit a) (entries.Comment note)) ≡ true → NoteIs r note b cause → EntryIs r (entries.Comment note) b cause
+  entry_note note b None h is = (with_note r note, (placed (entries.Comment note) h, is.0, refl), is.1)
+  entry_note note b (Some cause) h is = inr (is.0, (λ broken. broken), is.1)
+
+  pub text_is : (e : Entry) (text : List ℕ) (b : Audit) (cause : Option ℕ) → IsEntry e text → is_some (behind_line (form_of_audit a) e) ≡ true → EntryIs r e b cause → TextIs r text b cause
+  text_is e text b None is h k = (e, is, k.0, k.1, k.2)
+  text_is e text b (Some cause) is h (inl k) = inr (inl (k.0, e, record { is_entry = is; place = placed e h }, k.1))
+  text_is e text b (Some cause) is h (inr k) = inr (inr (k.0, e, record { is_entry = is; place = placed e h }, k.1, k.2))
+
+  -- ---- the end ----
+
+  own_end : has_end r ≡ has_end_at a.place
+  own_end = ap has_end_at (sym was.counts.place)
+
+  met_at_end : (p : Place) (pairs : List Claim) (met : ℕ) → has_end_at p ≡ true → MeetsAt p r.row r.times pairs met → Meets (averaging_of r.row) r.times (length r.times + 1) pairs met
+  met_at_end places.End pairs met e h = h
+  met_at_end places.Opening pairs met e h = absurd (cc)
+  met_at_end places.Looks pairs met e h = absurd (cc)
+  met_at_end places.Times pairs met e h = absurd (cc)
+  met_at_end places.Taken pairs met e h = absurd (cc)
+
+  unmet_is : (found : Option Claim) → slice_get a.claims.pairs.items a.claims.met ≡ found → has_end r ≡ true → MatchOption (option_map (λ (c : Claim). c.line) found) (AreRight r r.claims) (λ line. IsFirstWrong r r.claims line)
+  unmet_is None e ends = met_right r r.claims a.claims.pairs.items (length r.times + 1) a.claims.met was.held.keeps (met_at_end r.place a.claims.pairs.items a.claims.met ends was.held.meets) e
+  unmet_is (Some c) e ends = unmet_wrong r r.claims a.claims.pairs.items a.claims.met c ends was.held.keeps (met_at_end r.place a.claims.pairs.items a.claims.met ends was.held.meets) e
+
+  pub claims_at_end : (o : Option ℕ) → o ≡ option_map (λ (c : Claim). c.line) (slice_get a.claims.pairs.items a.claims.met) → has_end_at a.place ≡ true → MatchOption o (AreRight r r.claims) (λ line. IsFirstWrong r r.claims line)
+  claims_at_end o e ends =
+      subst (λ (x : Option ℕ). MatchOption x (AreRight r r.claims) (λ line. IsFirstWrong r r.claims line)) (sym e)
+      (unmet_is (slice_get a.claims.pairs.items a.claims.met) refl (own_end ∙ ends))
+
+  fall_is : (o : Option ℕ) (greatest : ℕ) → has_end r ≡ false → Fell r.claims greatest o → MatchOption o (AreRight r r.claims) (λ line. IsFirstWrong r r.claims line)
+  fall_is None greatest e f = risen_right r e r.claims f.0
+  fall_is (Some line) greatest e f = fall_wrong r e r.claims line f
+
+  pub claims_open : has_end_at a.place ≡ false → MatchOption a.claims.fall (AreRight r r.claims) (λ line. IsFirstWrong r r.claims line)
+  claims_open e = fall_is a.claims.fall a.claims.greatest (own_end ∙ e) was.held.fell
+
+  -- as many were accepted as the life stored
+  next_is : (parts : List Part) → IsCut r.row (history_in r.opening r.looks).life parts → a.life.next ≡ count_after r.opening parts
+  next_is parts cut =
+      ap (λ (t : State). t.next) was.life.stands.state
+      ∙ ap (count_after r.opening) (one_cut r.row (history_in r.opening r.looks).life was.life.stands.parts parts was.life.stands.cut cut)
+
+  pub right_end : (a.removed ≤ a.taken) × (a.taken ≤ a.accepted) × (a.accepted ≤ a.removed + a.life.row.capacity) × (a.accepted ≡ a.life.next) → IsRightEnd r
+  right_end h =
+      let capacity : a.life.row.capacity ≡ r.row.capacity = ap (λ (w : SessionRow). w.capacity) was.life.own_row in
+      record {
+        removed = omega (arith, h.0, was.counts.removed, was.counts.taken);
+        taken = omega (arith, h.1, was.counts.taken, was.counts.accepted);
+        room = omega (arith, h.2, was.counts.removed, was.counts.accepted, capacity);
+        parts = was.life.stands.parts;
+        cut = was.life.stands.cut;
+        stored = sym was.counts.accepted ∙ h.3 ∙ next_is was.life.stands.parts was.life.stands.cut;
+      }
+
+  pub wrong_end : (a.removed ≤ a.taken → a.taken ≤ a.accepted → a.accepted ≤ a.removed + a.life.row.capacity → a.accepted ≡ a.life.next → ⊥) → IsRightEnd r → ⊥
+  wrong_end other right =
+      let capacity : a.life.row.capacity ≡ r.row.capacity = ap (λ (w : SessionRow). w.capacity) was.life.own_row in
+      other (omega (arith, right.removed, was.counts.removed, was.counts.taken)) (omega (arith, right.taken, was.counts.taken, was.counts.accepted))
+      (omega (arith, right.room, was.counts.removed, was.counts.accepted, capacity)) (was.counts.accepted ∙ right.stored ∙ sym (next_is right.parts right.cut))
+
+  pub ends_if : (b : Bool) → (b ≡ true → (a.removed ≤ a.taken) × (a.taken ≤ a.accepted) × (a.accepted ≤ a.removed + a.life.row.capacity) × (a.accepted ≡ a.life.next))
+      → (b ≡ false → a.removed ≤ a.taken → a.taken ≤ a.accepted → a.accepted ≤ a.removed + a.life.row.capacity → a.accepted ≡ a.life.next → ⊥)
+      → has_end_at a.place ≡ true → MatchBool (not b) ((has_end r ≡ true) × (IsRightEnd r → ⊥)) (has_end r ≡ true → IsRightEnd r)
+  ends_if true right other e = λ t. right_end (right refl)
+  ends_if false right other e = (own_end ∙ e, wrong_end (other refl))
+
+  pub no_end : has_end_at a.place ≡ false → has_end r ≡ true → IsRightEnd r
+  no_end e h = absurd (let same = sym (own_end ∙ e) ∙ h in cc)
+
+  pub is_ended : ends_at a.place ≡ true → is_some a.owed ≡ false → IsEnded r
+  is_ended e none = record { ends = ap ends_at (sym was.counts.place) ∙ e; told = told_none a r was (none_owed a.owed none) }
+
+  pub uncommented : (line : ℕ) → line ≡ a.lines → ends_at a.place ≡ true → is_some a.owed ≡ true → EndIs r (No (line + 1) 3)
+  uncommented line is e some = inl (inr (refl, ap ends_at (sym was.counts.place) ∙ e, note_untold a r was some), ap (λ n. n + 1) (is ∙ was.counts.lines))

@@ -1,5 +1,5 @@
 -- What the code that checks a record stands for. It serves private clauses and proofs alone.
-use Rattle.std.specs.Prelude.{◌≡◌, ◌⊎◌, ℕ, ◌+◌, Bool, true, List, [], ◌∷◌, ◌++◌, length, Option, None, Some}
+use Rattle.std.specs.Prelude.{◌≡◌, ◌⊎◌, ℕ, ◌+◌, ◌^◌, ◌≤◌, Bool, true, List, [], ◌∷◌, ◌++◌, length, Option, None, Some}
 use Rattle.pump_frame.specs.Averages.{averaging_of}
 use Rattle.pump_frame.specs.declared.row.SessionRow.{SessionRow}
 use Rattle.moving_avg.specs.Windows.{HoldsTimes, averaging_in}
@@ -20,11 +20,19 @@ use Rattle.pump_audit.specs.declared.form.Form.{Form}
 use Rattle.pump_audit.specs.declared.form.Place.{Place}
 use Rattle.pump_audit.specs.declared.form.Place.TheVariants as places
 use Rattle.pump_audit.specs.declared.life.Life.{Life}
+use Rattle.script_reader.specs.Lawful.{IsLawfulFeedback}
+use Rattle.pump_frame.specs.Rows.{IsLawfulRow}
+use Rattle.pump_audit.specs.declared.entry.Entry.{Entry}
+use Rattle.pump_audit.specs.declared.entry.Entry.TheVariants as entries
+use Rattle.pump_audit.specs.declared.verdict.Verdict.{Verdict}
+use Rattle.pump_audit.specs.declared.verdict.Verdict.TheVariants.{Yes, No}
+use Rattle.pump_audit.specs.Claims.{has_end, AreRight, IsFirstWrong}
+use Rattle.pump_audit.specs.Entries.{IsEntry, IsPlain, IsInRange}
 use Rattle.pump_audit.specs.Machine.{state_of, is_down}
 use Rattle.pump_audit.specs.Pairs.{Keeps, Fell, Meets}
-use Rattle.pump_audit.specs.Places.{is_opening}
-use Rattle.pump_audit.specs.Records.{Record, begun, is_lost, GoesOn, told_by_note, AreTold, look_of, with_look, with_note}
-use Rattle.pump_audit.specs.Verdicts.{acknowledgements}
+use Rattle.pump_audit.specs.Places.{is_opening, may_end}
+use Rattle.pump_audit.specs.Records.{Record, begun, is_lost, GoesOn, told_by_note, AreTold, look_of, with_look, with_note, form_of, Follows}
+use Rattle.pump_audit.specs.Verdicts.{acknowledgements, Begins, HasCause, IsBroken, IsMistold, EndHasCause, IsRightEnd}
 
 -- one life with these looks
 abbrev pub history_in : Opening → List Look → History
@@ -97,3 +105,48 @@ LookIs r line new (Some cause) =
 abbrev pub NoteIs : Record → Note → Audit → Option ℕ → Type 0
 NoteIs r note new None = AreTold r (told_by_note note) × Audits new (with_note r note)
 NoteIs r note new (Some cause) = (cause ≡ 3) × (AreTold r (told_by_note note) → ⊥)
+
+-- .. of any line that stands in its place
+abbrev pub EntryIs : Record → Entry → Audit → Option ℕ → Type 0
+EntryIs r e new None = (q : Record) × Follows (Some r) e q × Audits new q
+EntryIs r e new (Some cause) =
+    ((cause ≡ 2) × IsBroken (Some r) e)
+    ⊎ ((cause ≡ 3) × (IsBroken (Some r) e → ⊥) × IsMistold (Some r) e)
+
+-- .. of a text
+abbrev pub TextIs : Record → List ℕ → Audit → Option ℕ → Type 0
+TextIs r text new None = (e : Entry) × IsEntry e text × (q : Record) × Follows (Some r) e q × Audits new q
+TextIs r text new (Some cause) = HasCause (Some r) text cause
+
+-- the numbers of a line are in their ranges
+abbrev pub IsGood : Entry → Type 0
+IsGood (entries.Opening row next is_held) = IsLawfulRow row
+IsGood (entries.Coarse session) = Unit {0}
+IsGood (entries.Look line) = (line.moment ≤ 2 ^ 62) × IsLawfulFeedback line.told × IsPlain line
+IsGood (entries.Comment note) = IsInRange note
+
+-- ---- the end ----
+
+-- the record may end here, with a comment for each reply
+pub record IsEnded (r : Record) : Type 0 where
+  pub ends : may_end (Some (form_of r)) ≡ true
+  pub told : AreTold r []
+
+-- what is said of the record at the end of the bytes
+abbrev pub EndIs : Record → Verdict → Type 0
+EndIs r (Yes looks acks times) = IsEnded r × AreRight r r.claims × (has_end r ≡ true → IsRightEnd r)
+    × (looks ≡ length r.looks) × (acks ≡ acknowledgements r.comments) × (times ≡ length r.times)
+EndIs r (No line cause) =
+    (EndHasCause (Some r) cause × (line ≡ r.lines + 1))
+    ⊎ (IsEnded r × (cause ≡ 4) × IsFirstWrong r r.claims line)
+    ⊎ (IsEnded r × AreRight r r.claims × (cause ≡ 5) × (has_end r ≡ true) × (IsRightEnd r → ⊥) × (line ≡ r.lines))
+
+-- ---- a stream ----
+
+-- the audit stands for what came of these bytes, and this is still to come
+pub record Reads (bytes : List ℕ) (a : Audit) (to_come : Option (List ℕ)) : Type 0 where
+  pub so_far : Record
+  pub rest : List ℕ
+  pub audits : Audits a so_far
+  pub begins : Begins bytes (Some so_far) rest
+  pub known : to_come ≡ Some rest

@@ -1,18 +1,10 @@
 -- The pairs of count and average that a record's looks tell, the newest first, against its times.
-use Rattle.std.specs.Prelude.{◌≡◌, ℕ, ◌≤◌, Bool, true, false, List, [], ◌∷◌, ◌++◌}
+use Rattle.std.specs.Prelude.{◌≡◌, ℕ, ◌≤◌, Bool, true, List, [], ◌∷◌, ◌++◌}
 use Rattle.std.specs.List.{All}
 use Rattle.pump_core.specs.Passage.{shape_of_row, IsAverage}
 use Rattle.pump_audit.specs.declared.claims.Claim.{Claim}
-use Rattle.pump_audit.specs.declared.form.Place.{Place}
-use Rattle.pump_audit.specs.declared.form.Place.TheVariants as places
+use Rattle.pump_audit.specs.Places.{has_end_at}
 use Rattle.pump_audit.specs.Records.{Record}
-
-abbrev pub has_end_at : Place → Bool
-has_end_at places.End = true
-has_end_at places.Opening = false
-has_end_at places.Looks = false
-has_end_at places.Times = false
-has_end_at places.Taken = false
 
 -- the record tells all times and how it ended
 abbrev pub has_end : Record → Bool

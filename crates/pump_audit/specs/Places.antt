@@ -64,3 +64,11 @@ ends_at places.End = true
 abbrev pub may_end : Option Form → Bool
 may_end None = false
 may_end (Some f) = ends_at f.place
+
+-- it tells how it ended
+abbrev pub has_end_at : Place → Bool
+has_end_at places.End = true
+has_end_at places.Opening = false
+has_end_at places.Looks = false
+has_end_at places.Times = false
+has_end_at places.Taken = false

@@ -1,6 +1,6 @@
 // Which line may stand where in a record.
 ghost use Rattle.std.specs.Prelude.{◌≡◌};
-ghost use Rattle.pump_audit.specs.Places.{at_place, behind_note, behind_line, behind, takes_looks, takes_times, ends_at, may_end};
+ghost use Rattle.pump_audit.specs.Places.{at_place, behind_note, behind_line, takes_looks, takes_times, ends_at, has_end_at};
 
 use crate::entry::{Entry, Note};
 
@@ -29,7 +29,15 @@ impl Place {
         matches!(self, Place::Opening | Place::Looks | Place::Times)
     }
 
-    fn may_end(&self) -> bool
+    /// Whether the record has told how it ended.
+    pub fn is_end(&self) -> bool
+        ensures { result ≡ has_end_at self.now }
+    {
+        matches!(self, Place::End)
+    }
+
+    /// Whether a record may end here.
+    pub fn may_end(&self) -> bool
         ensures { result ≡ ends_at self.now }
     {
         matches!(self, Place::Opening | Place::Looks | Place::End)
@@ -68,7 +76,9 @@ impl Form {
         }
     }
 
-    fn behind_line(&self, entry: &Entry) -> Option<Form>
+    /// The form behind one more line; `None` where the line is out of its place or tells of another
+    /// session.
+    pub fn behind_line(&self, entry: &Entry) -> Option<Form>
         ensures { result ≡ behind_line self.now entry.now }
     {
         match entry {
@@ -83,32 +93,5 @@ impl Form {
             }
             Entry::Comment(note) => self.behind_note(note),
         }
-    }
-}
-
-/// Where a record stands behind one more line; `None` where the line is out of its place or tells of
-/// another session.
-pub(crate) fn behind(form: &Option<Form>, entry: &Entry) -> Option<Form>
-    ensures { result ≡ behind form.now entry.now }
-{
-    match form {
-        Some(form) => form.behind_line(entry),
-        None => match entry {
-            Entry::Opening { row, .. } => Some(Form {
-                session: row.id,
-                place: Place::Opening,
-            }),
-            _ => None,
-        },
-    }
-}
-
-/// Whether a record may end here.
-pub(crate) fn may_end(form: &Option<Form>) -> bool
-    ensures { result ≡ may_end form.now }
-{
-    match form {
-        Some(form) => form.place.may_end(),
-        None => false,
     }
 }

@@ -2,11 +2,11 @@ use Rattle.std.proofs.Common.{◌≡◌, ◌+◌, refl, sym, ap, ◌∙◌, arit
 use Rattle.pump_audit.proofs.AuditLaws.{low_untold, low_told, low_lives, low_acks, low_held}
 use Rattle.pump_audit.proofs.state.Audit.add_low.Goals as goal
 
-pub returns-then-not-is_owed : goal.returns-then-not-is_owed
-returns-then-not-is_owed c r was = (refl, low_untold c.args.self.now r was c.args.session c.args.moment c.args.reply.now (c.is_owed.ensures.no c.if-not-is_owed.true))
+pub returns-then-not-is_owed-clause-is : goal.returns-then-not-is_owed-clause-is
+returns-then-not-is_owed-clause-is c r was = (refl, low_untold c.args.self.now r was c.args.session c.args.moment c.args.reply.now (c.is_owed.ensures.no c.if-not-is_owed.true))
 
-pub returns-then-is_ack : goal.returns-then-is_ack
-returns-then-is_ack c r was =
+pub returns-then-is_ack-clause-is : goal.returns-then-is_ack-clause-is
+returns-then-is_ack-clause-is c r was =
     let a = c.args.self.now in
     let yes = c.is_owed.ensures.yes c.if-not-is_owed.false in
     let told = low_told a r was c.args.session c.args.moment c.args.reply.now yes.0 yes.1 yes.2 in (
@@ -27,8 +27,8 @@ returns-then-is_ack c r was =
       },
     )
 
-pub returns-else-is_ack : goal.returns-else-is_ack
-returns-else-is_ack c r was =
+pub returns-else-is_ack-clause-is : goal.returns-else-is_ack-clause-is
+returns-else-is_ack-clause-is c r was =
     let a = c.args.self.now in
     let yes = c.is_owed.ensures.yes c.if-not-is_owed.false in
     let told = low_told a r was c.args.session c.args.moment c.args.reply.now yes.0 yes.1 yes.2 in (

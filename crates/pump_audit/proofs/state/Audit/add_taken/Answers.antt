@@ -2,8 +2,8 @@ use Rattle.std.proofs.Common.{◌≡◌, ◌+◌, refl, ap}
 use Rattle.pump_audit.proofs.AuditLaws.{met_now, taken_held}
 use Rattle.pump_audit.proofs.state.Audit.add_taken.Goals as goal
 
-pub returns : goal.returns
-returns c r was =
+pub returns-clause-is : goal.returns-clause-is
+returns-clause-is c r was =
     let a = c.args.self.now in
     let meets = met_now a r was c.count.result c.average.result c.meet.new.self c.requires.place c.count.ensures.times c.average.ensures.average c.meet.ensures.meets in
       record {

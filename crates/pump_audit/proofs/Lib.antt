@@ -3,4 +3,5 @@ pub mod ClaimLaws
 pub mod EntryLaws
 pub mod Lives
 pub mod NoteLaws
+pub mod StreamLaws
 pub mod TextLaws

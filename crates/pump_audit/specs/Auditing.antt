@@ -32,7 +32,7 @@ use Rattle.pump_audit.specs.Machine.{state_of, is_down}
 use Rattle.pump_audit.specs.Pairs.{Keeps, Fell, Meets}
 use Rattle.pump_audit.specs.Places.{is_opening, may_end}
 use Rattle.pump_audit.specs.Records.{Record, begun, is_lost, GoesOn, told_by_note, AreTold, look_of, with_look, with_note, form_of, Follows}
-use Rattle.pump_audit.specs.Verdicts.{acknowledgements, Begins, HasCause, IsBroken, IsMistold, EndHasCause, IsRightEnd}
+use Rattle.pump_audit.specs.Verdicts.{acknowledgements, Begins, HasCause, IsMisplaced, IsBroken, IsMistold, EndHasCause, IsRightEnd}
 
 -- one life with these looks
 abbrev pub history_in : Opening → List Look → History
@@ -150,3 +150,8 @@ pub record Reads (bytes : List ℕ) (a : Audit) (to_come : Option (List ℕ)) : 
   pub audits : Audits a so_far
   pub begins : Begins bytes (Some so_far) rest
   pub known : to_come ≡ Some rest
+
+-- the text opens a record, or is no first line of one
+abbrev pub OpensAs : List ℕ → Option Audit → Type 0
+OpensAs text None = IsMisplaced None text
+OpensAs text (Some a) = (e : Entry) × IsEntry e text × (q : Record) × Follows None e q × Audits a q × (q.lines ≡ 1)

@@ -196,6 +196,13 @@ impl Audit {
         None
     }
 
+    /// How many lines came.
+    pub fn lines(&self) -> u32
+        ensures { result ≡ self.now.lines }
+    {
+        self.lines
+    }
+
     fn form(&self) -> Form
         ensures { result ≡ form_of_audit self.now }
     {

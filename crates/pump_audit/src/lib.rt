@@ -2,6 +2,7 @@
 #![tactic(auto)]
 
 mod auditing;
+mod checking;
 mod claims;
 mod entry;
 mod form;
@@ -13,4 +14,5 @@ mod state;
 mod texts;
 mod verdict;
 
+pub use checking::audit;
 pub use verdict::{AuditFault, Verdict};

@@ -1,6 +1,6 @@
 -- The lines of a stream that are a record.
 use Rattle.std.proofs.Common.{◌≡◌, ◌≢◌, ◌⊎◌, inl, inr, ℕ, ◌+◌, ◌^◌, ◌<◌, List, [], ◌∷◌, ◌++◌, Option, None, Some, IfSome, refl, sym, ap, ◌∙◌, subst, arith}
-use Rattle.std.specs.Io.KnownBytes.{Consumes, IsAtEnd}
+use Rattle.std.specs.Io.KnownBytes.{prepend_known, Consumes, IsAtEnd}
 use Rattle.script_reader.proofs.OneReading.{taken, not_nothing}
 use Rattle.pump_audit.specs.declared.entry.Entry.{Entry}
 use Rattle.pump_audit.specs.declared.entry.Entry.TheVariants as entries
@@ -11,7 +11,9 @@ use Rattle.pump_audit.specs.Auditing.{Audits, TextIs, EndIs, Reads, OpensAs}
 use Rattle.pump_audit.specs.Entries.{IsEntry}
 use Rattle.pump_audit.specs.Places.{behind}
 use Rattle.pump_audit.specs.Records.{Record, Follows, lines_in}
-use Rattle.pump_audit.specs.Texts.{IsText, IsCut}
+use Rattle.pump_audit.specs.declared.texts.Texted.{Texted}
+use Rattle.pump_audit.specs.declared.texts.Texted.TheVariants.{Cut, End}
+use Rattle.pump_audit.specs.Texts.{IsText, IsCut, IsNextText}
 use Rattle.pump_audit.specs.Verdicts.{Begins, IsVerdict, IsMisplaced, RestHasCause, HasCause}
 
 -- one more line
@@ -102,3 +104,16 @@ module _ (bytes : List ℕ) (old : Option (List ℕ)) (known : old ≡ Some byte
 -- a line that is no opening opens nothing
 pub opens_not : (text : List ℕ) (e : Entry) → ((d : Entry) → IsEntry d text → Some e ≡ Some d) → behind None e ≡ None → IsMisplaced None text
 opens_not text e only none d is = subst (λ (o : Option Entry). IfSome o (λ x. behind None x ≡ None)) (only d is) none
+
+-- nothing was read ahead
+pub known_ahead : (held : List ℕ) (left : Option (List ℕ)) (bytes : List ℕ) → held ≡ [] → left ≡ Some bytes → prepend_known held left ≡ Some bytes
+known_ahead held left bytes e known = ap (λ (x : List ℕ × Option (List ℕ)). prepend_known x.0 x.1) (λ i. (e i, known i))
+
+pub where_told : (left : Option (List ℕ)) (P : List ℕ → Type 0) → ((bytes : List ℕ) → left ≡ Some bytes → P bytes) → IfSome left P
+where_told None P h = tt
+where_told (Some bytes) P h = h bytes refl
+
+-- the first line is cut off, or does not come
+pub first_none : (bytes : List ℕ) (old new : Option (List ℕ)) (text : List ℕ) (t : Texted) → old ≡ Some bytes → (t ≡ Cut) ⊎ (t ≡ End) → IsNextText old new text t → IsVerdict bytes (No 1 1)
+first_none bytes old new text t known (inl e) next = first_cut bytes old known (subst (IsNextText old new text) e next)
+first_none bytes old new text t known (inr e) next = first_end bytes old known (subst (IsNextText old new text) e next)

@@ -236,8 +236,10 @@ module _ (r : Record) where
       rest_here [] met p e = absurd (cc)
       rest_here (q ∷ pairs) zero p e = cc
       rest_here (q ∷ pairs) (suc met) p e = rest_here pairs met p e
+
       waiting : (rest : List Claim) → Waits (averaging_of r.row) r.times (length r.times + 1) (take met pairs) rest → rest ≡ p ∷ drop (suc met) pairs → (length r.times + 1 ≤ p.count) ⊎ Fails (averaging_of r.row) r.times (take met pairs) p
       waiting rest w e = subst (Waits (averaging_of r.row) r.times (length r.times + 1) (take met pairs)) e w
+
       bad : (length r.times + 1 ≤ p.count) ⊎ Fails (averaging_of r.row) r.times (take met pairs) p → (p.count < top 0 (take met pairs)) ⊎ (ok p → ⊥)
       bad (inl late) = inr (λ o. absurd (omega (arith, late, o.0)))
       bad (inr (inl low)) = inl low

@@ -193,11 +193,11 @@ module _ (row : SessionRow) where
   either false x y p q = q
 
   answers : (h p q m o : Bool) (n : ℕ) → tells_fault (
-        if h then (if p then Some (welcome row n) else Some (refusal row 1 0))
-        else if q then Some (refusal row 2 0)
-        else if m then Some (refusal row 3 0)
-        else if o then Some (refusal row 4 n)
-        else None) ≡ false
+      if h then (if p then Some (welcome row n) else Some (refusal row 1 0))
+      else if q then Some (refusal row 2 0)
+      else if m then Some (refusal row 3 0)
+      else if o then Some (refusal row 4 n)
+      else None) ≡ false
   answers true true q m o n = refl
   answers true false q m o n = refl
   answers false p true m o n = refl

@@ -36,11 +36,18 @@ pub(crate) enum Note {
         reply: Reply,
     },
     /// A time that High's side published, in microseconds.
-    Time { micros: u32 },
+    Time {
+        micros: u32,
+    },
     /// How many messages the receiver took.
-    Took { count: u64 },
+    Took {
+        count: u64,
+    },
     /// How many messages were accepted and removed in the end.
-    End { accepted: u64, removed: u64 },
+    End {
+        accepted: u64,
+        removed: u64,
+    },
 }
 
 /// A line of a record.
@@ -53,7 +60,9 @@ pub(crate) enum Entry {
         is_held: bool,
     },
     /// The session is coarse.
-    Coarse { session: u32 },
+    Coarse {
+        session: u32,
+    },
     Look(LookLine),
     Comment(Note),
 }

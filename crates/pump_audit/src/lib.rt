@@ -16,3 +16,6 @@ mod verdict;
 
 pub use checking::audit;
 pub use verdict::{AuditFault, Verdict};
+
+#[cfg(test)]
+mod tests;

@@ -200,9 +200,7 @@ impl Life {
         ensures value { result ≡ is_next self.now.row self.now.next self.now.greeted frame.now }
         ensures room { IsTrue result → self.now.next < 2 ^ 48 }
     {
-        is_fit(&self.row, self.greeted, frame)
-            && frame.number == self.next
-            && self.next < 1 << 48
+        is_fit(&self.row, self.greeted, frame) && frame.number == self.next && self.next < 1 << 48
     }
 
     // The feedback of a look that may take what it is offered.

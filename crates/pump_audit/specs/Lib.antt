@@ -7,5 +7,6 @@ pub mod Noting
 pub mod Pairs
 pub mod Places
 pub mod Records
+pub mod Siding
 pub mod Texts
 pub mod Verdicts

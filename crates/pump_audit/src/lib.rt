@@ -4,17 +4,24 @@
 mod auditing;
 mod checking;
 mod claims;
+mod compared;
+mod comparing;
+mod differing;
 mod entry;
 mod form;
 mod life;
 mod meeting;
 mod notes;
 mod reading;
+mod side;
+mod siding;
 mod state;
 mod texts;
 mod verdict;
 
 pub use checking::audit;
+pub use compared::{Compared, What};
+pub use comparing::compare;
 pub use verdict::{AuditFault, Verdict};
 
 #[cfg(test)]

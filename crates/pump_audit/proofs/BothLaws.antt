@@ -1,6 +1,6 @@
 -- The lines of a stream that are two records.
 use Rattle.std.proofs.Common.{◌≡◌, ◌≢◌, ◌⊎◌, inl, inr, ℕ, ◌+◌, ◌^◌, ◌<◌, Bool, true, false, List, [], ◌∷◌, ◌++◌, Option, None, Some, IfSome, refl, sym, ap, ◌∙◌, subst, arith}
-use Rattle.std.specs.Prelude.{if◌then◌else◌}
+use Rattle.std.specs.Prelude.{MatchOption, if◌then◌else◌}
 use Rattle.std.specs.Io.KnownBytes.{Consumes, IsAtEnd}
 use Rattle.script_reader.proofs.OneReading.{taken, not_nothing}
 use Rattle.pump_audit.specs.declared.compared.Compared.{Compared}
@@ -44,8 +44,8 @@ module _ (is_first : Bool) (before : ℕ) (bytes : List ℕ) (v : Side) (lines :
       let left = left_is old new goes.rest text goes.known c in
       breaks (inl (text, left.0, is, left.2, record { none = none; other = λ f e. other f (may ∙ e) }))
 
-  pub goes_on : (new : Option (List ℕ)) (text : List ℕ) (w : Side) → IsText text → Consumes old new (text ++ 10 ∷ []) → GoesOnBy s text w true → SideGoes is_first before bytes w (lines + 1) new
-  goes_on new text w is c h =
+  pub goes_on : (n : ℕ) → n ≡ lines → (new : Option (List ℕ)) (text : List ℕ) (w : Side) → IsText text → Consumes old new (text ++ 10 ∷ []) → GoesOnBy s text w true → SideGoes is_first before bytes w (n + 1) new
+  goes_on n same new text w is c h =
       let left = left_is old new goes.rest text goes.known c in
       record {
         so_far = h.2;
@@ -53,11 +53,11 @@ module _ (is_first : Bool) (before : ℕ) (bytes : List ℕ) (v : Side) (lines :
         stands = h.4;
         begins = longer bytes (Some s) text left.0 h.0 h.2 (subst (BeginsSide bytes (Some s)) left.2 goes.begins) is h.1 h.3;
         known = left.1;
-        number = omega (arith, goes.number, h.5);
+        number = omega (arith, goes.number, h.5, same);
       }
 
-  pub separated : (new : Option (List ℕ)) (text : List ℕ) → Consumes old new (text ++ 10 ∷ []) → is_first ≡ true → ends_at v.place ≡ true → text ≡ separator → SideEnds is_first before bytes v (lines + 1) new
-  separated new text c first ends is =
+  pub separated : (n : ℕ) → n ≡ lines → (new : Option (List ℕ)) (text : List ℕ) → Consumes old new (text ++ 10 ∷ []) → is_first ≡ true → ends_at v.place ≡ true → text ≡ separator → SideEnds is_first before bytes v (n + 1) new
+  separated n same new text c first ends is =
       let left = left_is old new goes.rest text goes.known c in
       record {
         side = s;
@@ -68,12 +68,12 @@ module _ (is_first : Bool) (before : ℕ) (bytes : List ℕ) (v : Side) (lines :
           begins = goes.begins;
           ends = subst (λ (b : Bool). EndsSide b s goes.rest left.0) (sym first) (sym may ∙ ends, left.2 ∙ ap (λ t. t ++ 10 ∷ left.0) is);
         };
-        known = left.1;
-        number = subst (λ (b : Bool). lines + 1 ≡ before + s.lines + (if b then 1 else 0)) (sym first) (omega (arith, goes.number));
+        known = λ f. left.1;
+        number = subst (λ (b : Bool). n + 1 ≡ before + s.lines + (if b then 1 else 0)) (sym first) (omega (arith, goes.number, same));
       }
 
-  pub ended : (new : Option (List ℕ)) → IsAtEnd old → new ≡ old → is_first ≡ false → ends_at v.place ≡ true → SideEnds is_first before bytes v lines new
-  ended new at_end same first ends =
+  ended : (new : Option (List ℕ)) → IsAtEnd old → is_first ≡ false → ends_at v.place ≡ true → SideEnds is_first before bytes v lines new
+  ended new at_end first ends =
       let none : goes.rest ≡ [] = subst (λ o. IsAtEnd o) goes.known at_end in
       record {
         side = s;
@@ -84,13 +84,17 @@ module _ (is_first : Bool) (before : ℕ) (bytes : List ℕ) (v : Side) (lines :
           begins = goes.begins;
           ends = subst (λ (b : Bool). EndsSide b s goes.rest []) (sym first) (sym may ∙ ends, none, refl);
         };
-        known = same ∙ goes.known ∙ ap Some none;
+        known = λ f. absurd (let both = sym first ∙ f in cc);
         number = subst (λ (b : Bool). lines ≡ before + s.lines + (if b then 1 else 0)) (sym first) (omega (arith, goes.number));
       }
 
-  pub unended : IsAtEnd old → (is_first ≡ true) ⊎ (ends_at v.place ≡ false) → BreaksAt is_first before bytes (lines + 1)
+  unended : IsAtEnd old → (is_first ≡ true) ⊎ (ends_at v.place ≡ false) → BreaksAt is_first before bytes (lines + 1)
   unended at_end (inl first) = breaks (inr (inr (inr (subst (λ o. IsAtEnd o) goes.known at_end, inl first))))
   unended at_end (inr ends) = breaks (inr (inr (inr (subst (λ o. IsAtEnd o) goes.known at_end, inr (sym may ∙ ends)))))
+
+  pub end_comes : (new : Option (List ℕ)) (o : Option Side) → IsAtEnd old → MatchOption o ((is_first ≡ true) ⊎ (ends_at v.place ≡ false)) (λ w. (w ≡ v) × (is_first ≡ false) × (ends_at v.place ≡ true)) → SideComes is_first before bytes o lines new
+  end_comes new None at_end h = unended at_end h
+  end_comes new (Some w) at_end h = subst (λ (x : Side). SideEnds is_first before bytes x lines new) (sym h.0) (ended new at_end h.1 h.2)
 
 -- ---- a first line ----
 
@@ -115,8 +119,8 @@ module _ (is_first : Bool) (lines : ℕ) (bytes : List ℕ) (old : Option (List 
       let left = left_is old new bytes text known c in
       first_breaks (inl (text, left.0, is, left.2, record { none = none; other = λ f e. absurd (cc) }))
 
-  pub first_goes : (new : Option (List ℕ)) (text : List ℕ) (v : Side) → IsText text → Consumes old new (text ++ 10 ∷ []) → BeginsAs text (Some v) → SideGoes is_first lines bytes v (lines + 1) new
-  first_goes new text v is c h =
+  pub first_goes : (n : ℕ) → n ≡ lines → (new : Option (List ℕ)) (text : List ℕ) (v : Side) → IsText text → Consumes old new (text ++ 10 ∷ []) → BeginsAs text (Some v) → SideGoes is_first lines bytes v (n + 1) new
+  first_goes n same new text v is c h =
       let left = left_is old new bytes text known c in
       record {
         so_far = h.2;
@@ -124,7 +128,7 @@ module _ (is_first : Bool) (lines : ℕ) (bytes : List ℕ) (old : Option (List 
         stands = h.4;
         begins = longer bytes None text left.0 h.0 h.2 (subst (BeginsSide bytes None) left.2 (nothing_yet bytes)) is h.1 h.3;
         known = left.1;
-        number = omega (arith, h.5);
+        number = omega (arith, h.5, same);
       }
 
 -- ---- both ----

@@ -72,7 +72,7 @@ pub record SideEnds (is_first : Bool) (before : ℕ) (bytes : List ℕ) (v : Sid
   pub left : List ℕ
   pub stands : Stands v side
   pub are : AreSide is_first bytes side left
-  pub known : to_come ≡ Some left
+  pub known : is_first ≡ true → to_come ≡ Some left
   pub number : lines ≡ before + side.lines + (if is_first then 1 else 0)
 
 -- .. or the next line is none of a record

@@ -144,8 +144,20 @@ row_same a b h =
 
 row_again : (a : SessionRow) → has_same_row a a ≡ true
 row_again a =
-    rw (eq-eqb a.id a.id refl, eq-eqb a.capacity a.capacity refl, eq-eqb a.message a.message refl, eq-eqb a.window a.window refl, eq-eqb a.start a.start refl, eq-eqb a.longest a.longest refl,
-    eq-eqb a.resend a.resend refl, eq-eqb a.low_port a.low_port refl, eq-eqb a.high_port a.high_port refl, (bytes_eq-Decides a.low a.low).1 refl, (bytes_eq-Decides a.high a.high).1 refl, bool_again a.coarse) refl
+    rw (
+      eq-eqb a.id a.id refl,
+      eq-eqb a.capacity a.capacity refl,
+      eq-eqb a.message a.message refl,
+      eq-eqb a.window a.window refl,
+      eq-eqb a.start a.start refl,
+      eq-eqb a.longest a.longest refl,
+      eq-eqb a.resend a.resend refl,
+      eq-eqb a.low_port a.low_port refl,
+      eq-eqb a.high_port a.high_port refl,
+      (bytes_eq-Decides a.low a.low).1 refl,
+      (bytes_eq-Decides a.high a.high).1 refl,
+      bool_again a.coarse,
+    ) refl
 
 module _ (v w : Side) (a b : SideTold) (sv : Stands v a) (sw : Stands w b) where
   opening_same : has_same_opening v w ≡ true → SameOpening a b

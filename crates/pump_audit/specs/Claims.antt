@@ -24,3 +24,7 @@ AreRight r (c ∷ before) = IsRight r c before × AreRight r before
 abbrev pub IsFirstWrong : Record → List Claim → ℕ → Type 0
 IsFirstWrong r claims line = (newer : List Claim) × (c : Claim) × (before : List Claim)
     × (claims ≡ newer ++ c ∷ before) × AreRight r before × (IsRight r c before → ⊥) × (line ≡ c.line)
+
+-- the pair that a claim tells
+abbrev pub pair_of : Claim → ℕ × ℕ
+pair_of c = (c.count, c.average)

@@ -94,9 +94,7 @@ impl Side {
     fn same_opening(&self, other: &Side) -> bool
         ensures { result ≡ has_same_opening self.now other.now }
     {
-        same_row(&self.row, &other.row)
-            && self.next == other.next
-            && self.is_held == other.is_held
+        same_row(&self.row, &other.row) && self.next == other.next && self.is_held == other.is_held
     }
 
     /// How this side compares with another.
@@ -115,9 +113,7 @@ impl Side {
                 item: at as u64 + 1,
                 what,
             },
-            None => Compared::Agree {
-                items: count + 1,
-            },
+            None => Compared::Agree { items: count + 1 },
         }
     }
 }

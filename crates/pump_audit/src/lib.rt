@@ -9,6 +9,7 @@ mod comparing;
 mod differing;
 mod entry;
 mod form;
+mod laws;
 mod life;
 mod meeting;
 mod notes;
@@ -22,6 +23,7 @@ mod verdict;
 pub use checking::audit;
 pub use compared::{Compared, What};
 pub use comparing::compare;
+pub use laws::{clean_records_keep_their_numbers, clean_records_tell_all_replies};
 pub use verdict::{AuditFault, Verdict};
 
 #[cfg(test)]

@@ -1,4 +1,4 @@
-use crate::{AuditFault, Verdict, audit};
+use crate::{AuditFault, Compared, Verdict, What, audit, compare};
 use pump_link::MemSource;
 use std::alloc::Global;
 
@@ -87,5 +87,72 @@ fn a_failed_read_is_no_verdict(rt: HostRuntime) -> Result<(), AuditFault> {
     fails.push(2).map_err(|_| AuditFault::Memory)?;
     let mut tape = MemSource::new(bytes, 7, fails);
     assert_eq!(rt; audit(alloc, &mut tape), Err(AuditFault::Read));
+    Ok(())
+}
+
+fn compared(alloc: Global, first: &[&[u8]], second: &[&[u8]]) -> Result<Compared, AuditFault> {
+    let mut bytes = joined(alloc, first)?;
+    let between = joined(alloc, &[b"# compare"])?;
+    let more = joined(alloc, second)?;
+    bytes
+        .extend_from_slice(between.as_slice())
+        .map_err(|_| AuditFault::Memory)?;
+    bytes
+        .extend_from_slice(more.as_slice())
+        .map_err(|_| AuditFault::Memory)?;
+    let mut both = MemSource::new(bytes, 11, Vec::new(alloc));
+    compare(alloc, &mut both)
+}
+
+fn differ(item: u64, what: What) -> Compared {
+    Compared::Differ { item, what }
+}
+
+#[test]
+fn says_where_two_records_differ(rt: HostRuntime) -> Result<(), AuditFault> {
+    let alloc = rt.alloc();
+    let whole = [
+        OPENING, HELLO, WELCOME, DATA, PASSED, WAITED, ACK, TIME, TOOK, END,
+    ];
+    for (at, line, answer) in [
+        (
+            0,
+            b"low-session 1 3 8 2 20000 100000 500000 a b 1 0".as_slice(),
+            differ(0, What::Opening),
+        ),
+        (
+            4,
+            b"told 1 30 00000000 fine 1/20000",
+            Compared::Agree { items: 5 },
+        ),
+        (
+            4,
+            b"told 1 30 00000000 fine 0/19999",
+            differ(3, What::Feedback),
+        ),
+        (
+            4,
+            b"told 1 31 00000000 fine 0/20000",
+            differ(3, What::Moment),
+        ),
+        (4, b"told 1 30 00000001 fine 0/20000", differ(3, What::Word)),
+        (5, b"told 1 108 00000000 fault -", differ(4, What::Outcome)),
+        (
+            5,
+            b"told 1 108 00000000 fine - raw 00",
+            differ(4, What::Arrival),
+        ),
+        (5, b"# low 1 108 ack 9", differ(4, What::Length)),
+        (8, b"# time 50", Compared::NotRecord { line: 21 }),
+    ] {
+        let mut lines = whole;
+        lines[at] = line;
+        assert_eq!(rt; compared(alloc, &whole, &lines)?, answer);
+    }
+    let mut alone = MemSource::new(joined(alloc, &whole)?, 11, Vec::new(alloc));
+    assert_eq!(rt;
+        compare(alloc, &mut alone)?,
+        Compared::NotRecord { line: 11 }
+    );
     Ok(())
 }

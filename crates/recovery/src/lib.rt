@@ -31,4 +31,6 @@ pub use trio::{Migrated, MoveFault, Trio};
 pub use why::Why;
 
 #[cfg(test)]
+mod move_tests;
+#[cfg(test)]
 mod tests;

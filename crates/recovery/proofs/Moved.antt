@@ -182,3 +182,8 @@ kept_on m role end counts old mid new failed is first second = kept_after m old 
 
 pub value_is : (disk : List ℕ) (R end : ℕ) → (value_of disk).0 ≡ R → (value_of disk).1 ≡ end → value_of disk ≡ (R, end)
 value_is disk R end a b = λ i. (a i, b i)
+
+-- ---- new disks that were not all empty ----
+
+pub none_full : (low high recv : List ℕ) → low ≡ [] → high ≡ [] → recv ≡ [] → first_full low high recv ≡ None
+none_full low high recv e f h = rw (e, f, h) refl

@@ -169,6 +169,9 @@ pub fn migrate<D: Disk>(
         (D.told.reading new.low) (D.told.reading new.high) (D.told.reading new.recv) f
         → Moves D.told Same new.low result.new.low × Moves D.told Same new.high result.new.high × Moves D.told Same new.recv result.new.recv }
 
+    ensures full { D.told.tells → (first_full (D.told.reading new.low) (D.told.reading new.high) (D.told.reading new.recv) ≡ None → ⊥)
+        → Moves D.told Same new.low result.new.low × Moves D.told Same new.high result.new.high × Moves D.told Same new.recv result.new.recv }
+
     // A crash at any moment leaves of each new disk no buffer, or one that stands for just this.
     ensures made_low { (E B : ℕ) (live received : List (List ℕ))
         → StandFor from.now E B live received (D.told.reading old.low) (D.told.reading old.high) (D.told.reading old.recv)

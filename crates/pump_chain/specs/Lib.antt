@@ -1,0 +1,4 @@
+pub mod Chained
+pub mod Keeping
+pub mod Private
+pub mod Standing

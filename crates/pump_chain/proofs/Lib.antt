@@ -1,5 +1,6 @@
 pub mod Adding
 pub mod Applying
+pub mod Comparing
 pub mod Counting
 pub mod Crashing
 pub mod Fronts

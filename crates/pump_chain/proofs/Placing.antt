@@ -1,5 +1,5 @@
 -- A place in the first receiver's log stays the place of its record.
-use Rattle.std.proofs.Common.{◌≡◌, ◌+◌, ◌<◌, false, ⊎_elim, Result, Ok, Err, OnOk, OnErr, List, ◌++◌, length, sum_by, Option, Some, None, sym, ap, ◌∙◌, subst, length-append, arith}
+use Rattle.std.proofs.Common.{◌≡◌, ℕ, ◌+◌, ◌<◌, false, ⊎_elim, Result, Ok, Err, OnOk, OnErr, List, ◌++◌, length, sum_by, Option, Some, None, sym, ap, ◌∙◌, subst, length-append, arith}
 use Rattle.std.proofs.lemmas.List.{take-append-le}
 use Rattle.std.proofs.Math.Logic.{∥∥₁_elim, ∥∥₁_map}
 use Rattle.std.proofs.Props.{props}
@@ -128,3 +128,9 @@ module _ {D : Type 0} {g : _} (s t : Pump D g) (up : is_down s ≡ false) (place
     few = (let have = state_count g.told s.state p stands in omega (arith, have, number, some));
     at = at told p stands ∙ ap (record_at p.world.received) (sym number);
   })
+
+-- an offset known of what the pump stood for is known of all that it stands for
+pub at_still : {D : Type 0} {g : _} (s t : Pump D g) → is_down s ≡ false → ((p : Past) → StandsFor g.told s p → StandsFor g.told t p) → (at n : ℕ) → (g.told.tells → (p : Past) → StandsFor g.told s p → at ≡ record_at p.world.received n)
+    → g.told.tells → (q : Past) → StandsFor g.told t q → at ≡ record_at q.world.received n
+at_still {D} {g} s t up stands at n known told q is =
+    ∥∥₁_elim (some s told up) (hlevel props) (λ x. known told x.0 x.1 ∙ ap (λ (l : List Payload). record_at l n) (state_received g.told t.state x.0 q told (stands x.0 x.1) is))

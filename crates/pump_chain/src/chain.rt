@@ -1,6 +1,8 @@
 //! Two pumps in a row.
 
+mod comparing;
 mod lines;
+mod opening;
 mod reading;
 
 use crate::place::Place;

@@ -2,8 +2,12 @@
 #![tactic(auto)]
 
 mod chain;
+mod not_chained;
 mod place;
 mod sender;
+mod six;
 mod whose;
 
 pub use chain::Chain;
+pub use not_chained::{ChainWhy, NotChained};
+pub use six::Six;

@@ -1,13 +1,12 @@
 -- What a move says of its disks, said of disks that were taken off a shelf.
-use Rattle.std.proofs.Common.{◌≡◌, ℕ, Bool, true, false, List, [], ◌∷◌, length, Option, None, Some, Result, Ok, Err, IfOk, IfErr, OnOk, inr, refl, sym, ap, ◌∙◌, subst}
+use Rattle.std.proofs.Common.{◌≡◌, ℕ, Bool, true, false, List, [], ◌∷◌, length, Option, None, Some, Result, Ok, Err, IfOk, IfErr, refl, sym, ap, ◌∙◌, subst}
 use Rattle.disk_model.specs.Disk.{Meaning, Moves, Same}
 use Rattle.disk_model.specs.declared.name.Role.{Role}
 use Rattle.disk_model.specs.declared.name.Role.TheVariants as roles
 use Rattle.pump_frame.specs.Rows.{IsLawfulRow}
 use Rattle.pump_frame.specs.declared.row.SessionRow.{SessionRow}
 use Rattle.recovery.specs.Calls.{is_device}
-use Rattle.recovery.specs.Moves.{StandFor, AreFound, IsMoveRefused, IsKept, Counted, is_blamed, first_full, first_unfit}
-use Rattle.recovery.specs.Refusals.{or_else}
+use Rattle.recovery.specs.Moves.{StandFor, AreFound, IsMoveRefused, IsKept, Counted, is_blamed, first_full}
 use Rattle.recovery.specs.declared.trio.MoveFault.{MoveFault}
 use Rattle.recovery.specs.declared.trio.Trio.{Trio}
 use Rattle.recovery.specs.declared.why.Why.{Why}
@@ -21,42 +20,33 @@ use Rattle.netpump.proofs.MovedFound.{found, stands, new_stands, accepted}
 
 -- ---- what was moved ----
 
-no_fault : (found : Option MoveFault) → ((f : MoveFault) → found ≡ Some f → ⊥) → found ≡ None
-no_fault None never = refl
-no_fault (Some f) never = absurd (never f refl)
-
 module _ {D : Type 0} (d : Meaning D) (row new_row : SessionRow) where
-  -- three disks stood for these messages, and three stand for them now
-  abbrev Given : Trio D → Trio D → (ℕ × ℕ × ℕ) → Type 0
-  Given old now n = (live : List (List ℕ)) × (received : List (List ℕ))
+  -- three disks stood for these messages, three were empty, and those stand for them now
+  abbrev Given : Trio D → Trio D → Trio D → (ℕ × ℕ × ℕ) → Type 0
+  Given old new now n = (live : List (List ℕ)) × (received : List (List ℕ))
       × AreFound row receiver_size n.0 n.1 live received (d.reading old.low) (d.reading old.high) (d.reading old.recv)
       × (length received ≡ n.2)
+      × (first_full (d.reading new.low) (d.reading new.high) (d.reading new.recv) ≡ None)
       × StandFor new_row n.0 n.1 live received (d.reading now.low) (d.reading now.high) (d.reading now.recv)
 
-  -- and no cause to refuse the move was found
-  abbrev IsFine : Trio D → Trio D → Type 0
-  IsFine old new = (f : MoveFault) → IsMoveRefused row new_row receiver_size (d.reading old.low) (d.reading old.high) (d.reading old.recv) (d.reading new.low) (d.reading new.high) (d.reading new.recv) f → ⊥
-
   moved : (lawful : IsLawfulRow row) (new_lawful : IsLawfulRow new_row) (old new now : TakenDisks D) (accepted_count removed_count received_count : ℕ)
-      → Given (trio_of old) (trio_of now) (accepted_count, removed_count, received_count) → IsFine (trio_of old) (trio_of new)
+      → Given (trio_of old) (trio_of new) (trio_of now) (accepted_count, removed_count, received_count)
       → MovesTo d row new_row old new now (record { accepted = accepted_count; removed = removed_count; received = received_count })
-  moved lawful new_lawful old new now e b r (live, received, a, count, s) fine = record {
+  moved lawful new_lawful old new now e b r (live, received, a, count, none, s) = record {
     found = found row new_row lawful new_lawful e b live received _ _ _ _ _ _ a s;
     stand = stands row new_row lawful new_lawful e b live received _ _ _ _ _ _ a s;
-    empty = no_fault (first_full (d.reading new.low) (d.reading new.high) (d.reading new.recv))
-        (λ f is. fine f (inr (e, b, live, received, a, ap (λ x. or_else x (first_unfit new_row b live received)) is)));
+    empty = none;
     moved = new_stands row new_row lawful new_lawful e b live received _ _ _ _ _ _ a s;
     counted = (accepted row new_row lawful new_lawful e b live received _ _ _ _ _ _ a s, refl, sym count);
   }
 
   pub moved_ok : (lawful : IsLawfulRow row) (new_lawful : IsLawfulRow new_row) (old new now : TakenDisks D) (o t u : Trio D) (end : Result (ℕ × ℕ × ℕ) MoveFault) (r : Result Counts MoveFault)
-      → o ≡ trio_of old → t ≡ trio_of new → now ≡ taken_of u → r ≡ counted end → IfOk end (λ n. d.tells → Given o u n) → OnOk end (d.tells → IsFine o t) → IfOk r (λ counts. d.tells → MovesTo d row new_row old new now counts)
-  moved_ok lawful new_lawful old new now o t u (Err fault) r one two three four h fine = subst (λ (x : Result Counts MoveFault). IfOk x (λ counts. d.tells → MovesTo d row new_row old new now counts)) (sym four) tt
-  moved_ok lawful new_lawful old new now o t u (Ok n) r one two three four h fine =
+      → o ≡ trio_of old → t ≡ trio_of new → now ≡ taken_of u → r ≡ counted end → IfOk end (λ n. d.tells → Given o t u n) → IfOk r (λ counts. d.tells → MovesTo d row new_row old new now counts)
+  moved_ok lawful new_lawful old new now o t u (Err fault) r one two three four h = subst (λ (x : Result Counts MoveFault). IfOk x (λ counts. d.tells → MovesTo d row new_row old new now counts)) (sym four) tt
+  moved_ok lawful new_lawful old new now o t u (Ok n) r one two three four h =
       subst (λ (x : Result Counts MoveFault). IfOk x (λ counts. d.tells → MovesTo d row new_row old new now counts)) (sym four)
       (λ tells. moved lawful new_lawful old new now n.0 n.1 n.2
-      (subst (λ (x : Trio D × Trio D). Given x.0 x.1 n) (λ i. (one i, sym (ap (λ (x : TakenDisks D). trio_of x) three) i)) (h tells))
-      (subst (λ (x : Trio D × Trio D). IsFine x.0 x.1) (λ i. (one i, two i)) (fine tells)))
+      (subst (λ (x : Trio D × Trio D × Trio D). Given x.0 x.1 x.2 n) (λ i. (one i, two i, sym (ap (λ (x : TakenDisks D). trio_of x) three) i)) (h tells)))
 
 -- ---- what stopped it ----
 

@@ -4,7 +4,7 @@ use Rattle.netpump.proofs.migrate.move_disks.Goals as goal
 pub returns-clause-moved : goal.returns-clause-moved
 returns-clause-moved g c =
     moved_ok g.D.Disk.told c.args.row.now c.args.new_row.now c.requires.lawful c.requires.new_lawful c.args.old c.args.new c.taken-2.result c.trio.result c.trio-2.result c.migrate-moved.result.new
-    c.migrate-moved.result.end c.counted.result c.trio.ensures c.trio-2.ensures c.taken-2.ensures c.counted.ensures c.migrate-moved.ensures.moved c.migrate-moved.ensures.fine
+    c.migrate-moved.result.end c.counted.result c.trio.ensures c.trio-2.ensures c.taken-2.ensures c.counted.ensures c.migrate-moved.ensures.moved
 
 pub returns-clause-stops : goal.returns-clause-stops
 returns-clause-stops g c =

@@ -9,7 +9,7 @@ use Rattle.stable_buffer.specs.Stands.{LowStands, HighStands}
 use Rattle.recovery.specs.Moves.{first_full, first_unfit}
 use Rattle.recovery.specs.Refusals.{or_else}
 use Rattle.recovery.specs.Surveys.{IsSurveyed}
-use Rattle.recovery.proofs.Moved.{IsJust, made_same, made_after, made_weaker, fit_both, just, not_refused, at_old, kept_on, none_full, value_is}
+use Rattle.recovery.proofs.Moved.{IsJust, made_same, made_after, made_weaker, fit_both, just, not_refused, at_old, kept_on, value_is, was_empty}
 use Rattle.recovery.proofs.Surveys.{kept_after}
 use Rattle.recovery.proofs.moving.migrate.Goals as goal
 
@@ -281,6 +281,7 @@ returns-clause-moved g c = λ told.
       received,
       found,
       count,
+      was_empty m new c.check_all.new.new told c.check_all.ensures.new_low.moves c.check_all.ensures.new_high.moves c.check_all.ensures.new_recv.moves (c.in_default.ensures.empty told),
       record {
         low_stands = done.low told live (subst (λ (z : List ℕ). LowStands from k.accepted k.removed live z) (sym (c.check_all.ensures.old_low.moves.reads told ∙ low_same told)) found.stand.low_stands) fits.live_fits;
         high_stands = done.high told;
@@ -291,23 +292,17 @@ returns-clause-moved g c = λ told.
     )
 
 pub returns-in-Err-clause-full : goal.returns-in-Err-clause-full
-returns-in-Err-clause-full g c = λ told some.
-    let same = started g.D.Disk.told Same (λ d. refl) in
-    (same c.args.new.low, same c.args.new.high, same c.args.new.recv)
+returns-in-Err-clause-full g c = λ told not_empty.
+    let same = started g.D.Disk.told Same (λ d. refl) in (same c.args.new.low, same c.args.new.high, same c.args.new.recv)
 
 pub returns-in-Err-check_all-clause-full : goal.returns-in-Err-check_all-clause-full
-returns-in-Err-check_all-clause-full g c = λ told some.
-    let e = c.check_all.ensures in
-    (e.new_low.moves, e.new_high.moves, e.new_recv.moves)
+returns-in-Err-check_all-clause-full g c = λ told not_empty.
+    (c.check_all.ensures.new_low.moves, c.check_all.ensures.new_high.moves, c.check_all.ensures.new_recv.moves)
 
 pub returns-in-Err-write_all-clause-full : goal.returns-in-Err-write_all-clause-full
-returns-in-Err-write_all-clause-full g c = λ told some.
-    let e = c.check_all.ensures in
-    let empty = c.in_default.ensures.empty told in
-    absurd (some (none_full _ _ _ (sym (e.new_low.moves.reads told) ∙ empty.0) (sym (e.new_high.moves.reads told) ∙ empty.1) (sym (e.new_recv.moves.reads told) ∙ empty.2)))
+returns-in-Err-write_all-clause-full g c = λ told not_empty.
+    absurd (not_empty (was_empty g.D.Disk.told c.args.new c.check_all.new.new told c.check_all.ensures.new_low.moves c.check_all.ensures.new_high.moves c.check_all.ensures.new_recv.moves (c.in_default.ensures.empty told)))
 
 pub returns-clause-full : goal.returns-clause-full
-returns-clause-full g c = λ told some.
-    let e = c.check_all.ensures in
-    let empty = c.in_default.ensures.empty told in
-    absurd (some (none_full _ _ _ (sym (e.new_low.moves.reads told) ∙ empty.0) (sym (e.new_high.moves.reads told) ∙ empty.1) (sym (e.new_recv.moves.reads told) ∙ empty.2)))
+returns-clause-full g c = λ told not_empty.
+    absurd (not_empty (was_empty g.D.Disk.told c.args.new c.check_all.new.new told c.check_all.ensures.new_low.moves c.check_all.ensures.new_high.moves c.check_all.ensures.new_recv.moves (c.in_default.ensures.empty told)))

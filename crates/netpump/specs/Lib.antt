@@ -13,3 +13,4 @@ pub mod Servings
 pub mod Showing
 pub mod Tables
 pub mod TakenDisks
+pub mod Unwrapping

@@ -1,3 +1,4 @@
+pub mod AgreeLaws
 pub mod AuditLaws
 pub mod BothLaws
 pub mod ClaimLaws

@@ -1,12 +1,10 @@
 -- Records whose sides agree have the same replies, and the lines of a record are those of its side.
-use Rattle.std.proofs.Common.{◌≡◌, ◌≢◌, ℕ, Bool, true, false, List, [], ◌∷◌, ◌++◌, Option, Some, None, refl, sym, ap, ◌∙◌, subst, append_assoc, append-nil}
+use Rattle.std.proofs.Common.{◌≡◌, ℕ, Bool, true, false, List, [], ◌∷◌, ◌++◌, Option, Some, None, refl, sym, ap, ◌∙◌, subst, append_assoc, append-nil}
 use Rattle.std.specs.Prelude.{if◌then◌else◌, ◌&&◌, ◌==◌, not, option_map, is_some, ◌+◌}
 use Rattle.std.specs.Str.{bytes_eq}
 use Rattle.std.proofs.lemmas.Bool.{and_parts, eqb-true}
 use Rattle.std.proofs.lemmas.List.{same_from_push}
-use Rattle.std.proofs.lemmas.Option.{same_Some}
 use Rattle.std.proofs.lemmas.Slice.Eq.{bytes_eq-Decides}
-use Rattle.pump_frame.specs.Averages.{averaging_of, average_of}
 use Rattle.pump_frame.specs.Frames.{IsLawful}
 use Rattle.pump_frame.specs.Spellings.{spelling, header_of}
 use Rattle.pump_frame.specs.declared.frame.Frame.{Frame}
@@ -14,9 +12,9 @@ use Rattle.pump_frame.specs.declared.row.SessionRow.{SessionRow}
 use Rattle.pump_frame.proofs.Exact.{same_frame}
 use Rattle.pump_core.specs.declared.feedback.Feedback.{Feedback}
 use Rattle.pump_core.specs.declared.feedback.Feedback.TheVariants as feedbacks
-use Rattle.pump_core.specs.History.{Arrival, Look, Opening, History, looked}
+use Rattle.pump_core.specs.History.{Arrival, Look, Opening}
 use Rattle.pump_core.specs.History.{Nothing, Came, Bad, Gone}
-use Rattle.pump_core.specs.Exchanges.{is_gone, is_repeat, has_average, looks_of, IsCut}
+use Rattle.pump_core.specs.Exchanges.{is_gone, is_repeat, has_average, looks_of}
 use Rattle.pump_core.specs.Pairs.{uncounted as forget, SameLook, SameLooks}
 use Rattle.pump_core.specs.Phases.{Phase}
 use Rattle.pump_core.specs.Phases.{Idle, Passing, Waiting, Down}
@@ -41,11 +39,10 @@ use Rattle.pump_audit.specs.declared.form.Place.{Place}
 use Rattle.pump_audit.specs.declared.form.Place.TheVariants as places
 use Rattle.pump_audit.specs.Agreeing.{offered_by, told_of, item_in, items_in, side_of}
 use Rattle.pump_audit.specs.Auditing.{history_in}
-use Rattle.pump_audit.specs.Comparing.{ItemTold, SideTold, offered_bytes, uncounted, item_of, with_entry, Lists, SideOf, BeginsSide, AreSide, ArePair, separator, same_told, same_bool, unlike, AreAlike, SameOpening, joined as side_joined, form_of as form_of_side}
-use Rattle.pump_audit.specs.Entries.{IsEntry, IsPlain, IsPlainIn, arrival_of}
-use Rattle.pump_audit.specs.Places.{at_place, behind, behind_line, is_opening, takes_looks, takes_times, is_taken}
-use Rattle.pump_audit.specs.Records.{Record, form_of, history_of, Means, look_of, IsNextLook, GoesOn, Adds, Follows, with_note}
-use Rattle.pump_audit.specs.Texts.{IsText}
+use Rattle.pump_audit.specs.Comparing.{ItemTold, offered_bytes, uncounted, item_of, Lists, SideOf, BeginsSide, ArePair, separator, same_told, same_bool, unlike, AreAlike, SameOpening, joined as side_joined}
+use Rattle.pump_audit.specs.Entries.{IsEntry, IsPlainIn, arrival_of}
+use Rattle.pump_audit.specs.Places.{at_place, behind_line, is_opening, takes_looks, takes_times, is_taken}
+use Rattle.pump_audit.specs.Records.{Record, form_of, history_of, Means, look_of, IsNextLook, Follows, with_note}
 use Rattle.pump_audit.specs.Verdicts.{RecordOf, joined, Begins, IsWhole}
 
 -- ---- items that are alike are the same ----

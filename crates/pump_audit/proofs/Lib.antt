@@ -5,6 +5,7 @@ pub mod ClaimLaws
 pub mod EntryLaws
 pub mod Lives
 pub mod NoteLaws
+pub mod OnceLaws
 pub mod SideLaws
 pub mod StreamLaws
 pub mod TextLaws

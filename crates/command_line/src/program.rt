@@ -98,8 +98,9 @@ pub(crate) fn program<'a>(alloc: Global) -> Result<Program<'a>, AllocError>
     let all = with(all, with_three(alloc, "serve", "TABLE", "S", "LOOKS")?)?;
     let all = with(all, with_three(alloc, "receive", "TABLE", "S", "LOOKS")?)?;
     let all = with(all, with_three(alloc, "send", "TABLE", "S", "LOOKS")?)?;
-    with(
+    let all = with(
         all,
         with_four(alloc, "migrate", "TABLE", "S", "NEWTABLE", "T")?,
-    )
+    )?;
+    with(all, with_two(alloc, "unwrap", "TABLE", "S")?)
 }

@@ -168,5 +168,8 @@ pub(crate) fn is_spelled(command: &Command, words: &[String]) -> bool
             new_table.as_str(),
             two.format(*new_session),
         ),
+        Command::Unwrap { table, session } => {
+            are_three(words, "unwrap", table.as_str(), one.format(*session))
+        }
     }
 }

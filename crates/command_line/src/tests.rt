@@ -21,6 +21,7 @@ fn answer(rt: &HostRuntime, line: &str) -> Result<&'static str, AllocError> {
         Ok(Command::Receive { .. }) => Ok("receive"),
         Ok(Command::Send { .. }) => Ok("send"),
         Ok(Command::Migrate { .. }) => Ok("migrate"),
+        Ok(Command::Unwrap { .. }) => Ok("unwrap"),
         Err(WordsFault::NoCommand) => Ok("none"),
         Err(WordsFault::Memory) => Ok("memory"),
     }
@@ -80,6 +81,9 @@ fn command_lines(rt: HostRuntime) -> Result<(), Fail> {
         ("migrate t.toml 1 .toml 2", "none"),
         ("migrate t.toml 1 u.toml 02", "none"),
         ("migrate t.toml 4294967296 u.toml 2", "none"),
+        ("unwrap t.toml 1", "unwrap"),
+        ("unwrap t.toml", "none"),
+        ("unwrap t.toml 01", "none"),
         ("help", "none"),
         ("help replay", "none"),
         ("--help", "none"),

@@ -161,6 +161,7 @@ pub(crate) fn with_values(name: &str, matches: &ArgMatches) -> Option<Command>
             looks,
         }),
         "migrate" => migrate_in(matches),
+        "unwrap" => session_in(matches).map(|(table, session)| Command::Unwrap { table, session }),
         _ => None,
     }
 }

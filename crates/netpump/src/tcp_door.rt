@@ -8,9 +8,12 @@ use pump_link::{Accepted, Door};
 use std::io::{self, ErrorKind};
 use std::net::TcpListener;
 
+/// How many milliseconds a call waits at most.
+const WAIT: i32 = 2;
+
 /// A TCP listener as a door. It tells how often a call failed, and nothing of who came.
 ///
-/// A call waits a millisecond at most for a connection, and about as long where it fails, so that a
+/// A call waits two milliseconds at most for a connection, and about as long where it fails, so that a
 /// caller that asks again and again leaves the processor to others.
 #[derive(Drop)]
 pub struct TcpDoor<'a> {
@@ -53,14 +56,14 @@ impl<'a> Door for TcpDoor<'a> {
     ghost faults = { λ s. s.faults };
 
     fn accept(&mut self) -> Accepted<TcpLink<'a>> {
-        if !is_readable(&self.listener, true) {
+        if !is_readable(&self.listener, WAIT) {
             return Accepted::NotYet;
         }
         match self.next() {
             Ok(link) => Accepted::Came(link),
             Err(error) if error.kind() == ErrorKind::WouldBlock => Accepted::NotYet,
             Err(_) => {
-                pause();
+                pause(WAIT);
                 self.faults = raised(self.faults);
                 Accepted::Failed
             }

@@ -4,21 +4,30 @@ ghost use Rattle.pump_link.specs.declared.link.Looked.{Looked as Look};
 
 use crate::keep_alive::keep_alive;
 use crate::read_ahead::ReadAhead;
-use crate::readiness::is_readable;
+use crate::readiness::{is_readable, is_writable};
 use crate::traffic::Traffic;
 use pump_frame::raised;
 use pump_link::{Link, Looked, SendFault};
 use std::io::{self, ErrorKind, Write};
 use std::net::TcpStream;
-use std::time::Duration;
+
+/// How many milliseconds a look waits at most.
+const LOOK: i32 = 1;
+
+/// How many milliseconds a send waits at most while the peer takes nothing.
+const SEND: i32 = 1000;
+
+/// How often the first look after a send asks for the answer before it waits.
+const AT_ONCE: u32 = 40;
 
 /// A TCP connection as a link. It tells how often a call failed, and nothing of what is sent and
 /// received.
 ///
 /// A look at a byte that an earlier one read ahead asks nothing of the system. Any other look waits a
 /// millisecond at most for bytes to come; where bytes came just now and nothing was sent since, no answer
-/// is to come, and it waits only if its side is quiet. A send fails where the peer takes no byte for a
-/// second.
+/// is to come, and it waits only if its side is quiet. What was just sent is often answered at once: the
+/// look that follows asks a few times before it waits, since to be woken takes longer. A send fails where
+/// the peer takes no byte for a second.
 #[derive(Drop)]
 pub struct TcpLink<'a> {
     stream: TcpStream,
@@ -27,7 +36,31 @@ pub struct TcpLink<'a> {
     traffic: &'a Traffic,
     // Whether the peer is to speak next.
     awaits: bool,
+    // How often the next look asks before it waits.
+    asks: u32,
     faults: u64,
+}
+
+/// A connection whose writes wait for room.
+#[derive(Drop)]
+struct Patient<'a> {
+    stream: &'a TcpStream,
+}
+
+impl Write for Patient<'_> {
+    fn write(&mut self, bytes: &[u8]) -> io::Result<usize> {
+        let mut stream = self.stream;
+        match stream.write(bytes) {
+            Err(full) if full.kind() == ErrorKind::WouldBlock && is_writable(stream, SEND) => {
+                stream.write(bytes)
+            }
+            written => written,
+        }
+    }
+
+    fn flush(&mut self) -> io::Result<()> {
+        Ok(())
+    }
 }
 
 impl<'a> TcpLink<'a> {
@@ -37,17 +70,36 @@ impl<'a> TcpLink<'a> {
     {
         stream.set_nodelay(true)?;
         keep_alive(&stream);
-        // A read that finds nothing, though it was said to be there, has to end too.
-        stream.set_read_timeout(Some(Duration::from_millis(1)))?;
-        stream.set_write_timeout(Some(Duration::from_secs(1)))?;
+        stream.set_nonblocking(true)?;
         traffic.note();
         Ok(TcpLink {
             stream,
             ahead: ReadAhead::new(),
             traffic,
             awaits: true,
+            asks: 0,
             faults: 0,
         })
+    }
+
+    /// A look that waits for nothing.
+    fn look_at_once(&mut self) -> Looked
+        ensures later { self.old.faults ≤ self.new.faults }
+        ensures failed { result ≡ Look.Failed → self.new.faults ≡ raised self.old.faults }
+    {
+        if let Some(byte) = self.ahead.next() {
+            return Looked::Byte(byte);
+        }
+        if let Err(error) = self.ahead.fill(&mut self.stream) {
+            return self.unread(&error);
+        }
+        self.awaits = false;
+        self.asks = 0;
+        self.traffic.note();
+        match self.ahead.next() {
+            Some(byte) => Looked::Byte(byte),
+            None => Looked::Ended,
+        }
     }
 
     /// What a look gives where the read failed.
@@ -77,24 +129,30 @@ impl Link for TcpLink<'_> {
         if let Some(byte) = self.ahead.next() {
             return Looked::Byte(byte);
         }
-        if !is_readable(&self.stream, self.awaits || self.traffic.is_quiet()) {
-            return Looked::NotYet;
+        let waits = self.awaits || self.traffic.is_quiet();
+        let asks = if waits { self.asks } else { 1 };
+        self.asks = 0;
+        for _ in 0..asks {
+            match self.look_at_once() {
+                Looked::NotYet => {}
+                look => return look,
+            }
         }
-        if let Err(error) = self.ahead.fill(&mut self.stream) {
-            return self.unread(&error);
-        }
-        self.awaits = false;
-        self.traffic.note();
-        match self.ahead.next() {
-            Some(byte) => Looked::Byte(byte),
-            None => Looked::Ended,
+        if waits && is_readable(&self.stream, LOOK) {
+            self.look_at_once()
+        } else {
+            Looked::NotYet
         }
     }
 
     fn send(&mut self, bytes: &[u8]) -> Result<(), SendFault> {
-        match self.stream.write_all(bytes) {
+        let mut patient = Patient {
+            stream: &self.stream,
+        };
+        match patient.write_all(bytes) {
             Ok(()) => {
                 self.awaits = true;
+                self.asks = AT_ONCE;
                 self.traffic.note();
                 Ok(())
             }

@@ -4,26 +4,22 @@ use Rattle.std.specs.List.{list_any}
 use Rattle.pump_frame.specs.declared.frame.Kind.{Kind}
 use Rattle.pump_frame.specs.declared.frame.Kind.TheVariants as kinds
 use Rattle.pump_frame.specs.declared.payload.Payload.{Payload}
-use Rattle.pump_frame.specs.declared.row.SessionRow.{SessionRow}
+use Rattle.pump_chain.specs.declared.sender.Sender.{Sender}
 use Rattle.script_reader.specs.declared.event.Event.{Event}
 use Rattle.script_reader.specs.declared.event.Event.TheVariants as prints
 use Rattle.script_reader.specs.declared.line.Arriving.{Arriving}
 use Rattle.script_reader.specs.declared.line.Arriving.TheVariants.{Nothing, Hello, Data}
 use Rattle.script_reader.specs.declared.line.Line.{Line}
 use Rattle.script_reader.specs.declared.line.Line.TheVariants as lines
-use Rattle.script_reader.specs.Openings.{Openings}
-use Rattle.script_reader.specs.Scripts.{Running, Whole, Leads, IsRefused as RefusesAlone}
-use Rattle.script_reader.specs.Sessions.{stands_first, moment_in, is_from}
+use Rattle.script_reader.specs.Past.{Past}
+use Rattle.script_reader.specs.Scripts.{Running, coarsened}
+use Rattle.script_reader.specs.Sessions.{moment_in, is_from}
+use Rattle.script_reader.specs.Steps.{is_timely, LineStep, IsRefusedWhole}
 
 -- ---- the sender in the middle ----
 
--- whether the second pump has welcomed it since its opening, its last restart, or the last loss of its
--- connection; and whether a frame of it is under way, whose reply did not come yet
-pub record Middle : Type 0 where
-  pub is_welcome : Bool
-  pub is_under_way : Bool
-
-abbrev pub unsent : Middle
+-- nothing of it is under way, and it is not welcome yet
+abbrev pub unsent : Sender
 unsent = record { is_welcome = false; is_under_way = false }
 
 -- ---- the chain ----
@@ -32,7 +28,7 @@ unsent = record { is_welcome = false; is_under_way = false }
 pub record Chained : Type 0 where
   pub first : Running
   pub second : Running
-  pub middle : Middle
+  pub sender : Sender
   pub is_under_way : Bool
 
 -- the moment of the last line of either session that had one
@@ -57,8 +53,8 @@ message_of number (Some payload) = Data number payload
 -- receiver that the second pump has not accepted, where there is one
 abbrev pub added : Chained → Arriving
 added c =
-    if c.middle.is_under_way then Nothing
-    else if c.middle.is_welcome then message_of (accepted_of c) (slice_get (received_of c) (accepted_of c))
+    if c.sender.is_under_way then Nothing
+    else if c.sender.is_welcome then message_of (accepted_of c) (slice_get (received_of c) (accepted_of c))
     else Hello c.second.row.low c.second.row.high
 
 -- ---- what becomes of the sender ----
@@ -81,93 +77,107 @@ is_frame _ = true
 
 -- after a line of the second session that printed this: what it added is under way until a reply comes;
 -- with the connection, or the pump, all of it is over
-abbrev pub middle_after : Middle → Line → List Event → Middle
-middle_after s (lines.Look session m w a) printed = record {
+abbrev pub sender_after : Sender → Line → List Event → Sender
+sender_after s (lines.Look session m w a) printed = record {
   is_welcome = s.is_welcome || list_any is_welcome printed;
   is_under_way = (s.is_under_way || is_frame a) && not (list_any is_reply printed);
 }
-middle_after s (lines.Gone session m) printed = unsent
-middle_after s (lines.Restart session m) printed = unsent
-middle_after s line printed = s
+sender_after s (lines.Gone session m) printed = unsent
+sender_after s (lines.Restart session m) printed = unsent
+sender_after s line printed = s
 
 -- ---- what a line is to the chain ----
 
--- nothing, a line of the first session, one of the second, or no line of a chain
+-- nothing; a line of the first session or of the second; one that makes either coarse; or no line of a chain
 pub data Share : Type 0 where
   Skipped : Share
   OfFirst : (line : Line) → Share
   OfSecond : (line : Line) → Share
+  MakesFirst : Share
+  MakesSecond : Share
   OfNone : Share
 
--- the line of the session of this number
-abbrev pub by_session : Chained → ℕ → Line → Share
-by_session c session line =
-    if session == c.first.row.id then OfFirst line
-    else if session == c.second.row.id then OfSecond line
-    else OfNone
+-- of two numbers of sessions, the first has this share, and the second that one
+abbrev pub share_of : ℕ → ℕ → ℕ → Share → Share → Share
+share_of first second session one other = if session == first then one else if session == second then other else OfNone
+
+abbrev pub by_session : ℕ → ℕ → ℕ → Line → Share
+by_session first second session line = share_of first second session (OfFirst line) (OfSecond line)
 
 -- Nobody but the sender adds anything before a look of the second pump: such a look is a `step`, and stands for the
 -- `look` that adds what the sender adds. Both sessions have begun, and neither is a low side alone.
+abbrev pub share_by : ℕ → ℕ → Arriving → Line → Share
+share_by first second adds lines.Skip = Skipped
+share_by first second adds (lines.Session row) = OfNone
+share_by first second adds (lines.LowSession row next held) = OfNone
+share_by first second adds (lines.Told session m w fault told a) = OfNone
+share_by first second adds (lines.Coarse session) = share_of first second session MakesFirst MakesSecond
+share_by first second adds (lines.Look session m w a) = if session == first then OfFirst (lines.Look session m w a) else OfNone
+share_by first second adds (lines.Step session m w) = if session == second then OfSecond (lines.Look session m w adds) else OfNone
+share_by first second adds (lines.Gone session m) = by_session first second session (lines.Gone session m)
+share_by first second adds (lines.High session m) = by_session first second session (lines.High session m)
+share_by first second adds (lines.Carry session back) = by_session first second session (lines.Carry session back)
+share_by first second adds (lines.Return session m back) = by_session first second session (lines.Return session m back)
+share_by first second adds (lines.Done session m t) = by_session first second session (lines.Done session m t)
+share_by first second adds (lines.Restart session m) = by_session first second session (lines.Restart session m)
+share_by first second adds (lines.ReceiverRestart session m) = by_session first second session (lines.ReceiverRestart session m)
+
 abbrev pub share : Chained → Line → Share
-share c lines.Skip = Skipped
-share c (lines.Session row) = OfNone
-share c (lines.LowSession row next held) = OfNone
-share c (lines.Told session m w fault told a) = OfNone
-share c (lines.Look session m w a) = if session == c.first.row.id then OfFirst (lines.Look session m w a) else OfNone
-share c (lines.Step session m w) = if session == c.second.row.id then OfSecond (lines.Look session m w (added c)) else OfNone
-share c (lines.Coarse session) = by_session c session (lines.Coarse session)
-share c (lines.Gone session m) = by_session c session (lines.Gone session m)
-share c (lines.High session m) = by_session c session (lines.High session m)
-share c (lines.Carry session back) = by_session c session (lines.Carry session back)
-share c (lines.Return session m back) = by_session c session (lines.Return session m back)
-share c (lines.Done session m t) = by_session c session (lines.Done session m t)
-share c (lines.Restart session m) = by_session c session (lines.Restart session m)
-share c (lines.ReceiverRestart session m) = by_session c session (lines.ReceiverRestart session m)
+share c line = share_by c.first.row.id c.second.row.id (added c) line
 
 -- ---- a line ----
 
--- a line that stands first comes before every line that does not, and no moment is below one that came before it,
--- whichever session's line has it
-abbrev pub is_in_turn : Chained → Line → Bool
-is_in_turn c line = if stands_first line then not c.is_under_way else is_from (moment_of c) (moment_in line)
+-- no moment is below one that came before it, whichever session's line had it
+abbrev pub is_in_order : Chained → Line → Bool
+is_in_order c line = is_from (moment_of c) (moment_in line)
 
--- the chain once its line led the first session, or the second, to this
-abbrev pub first_led : Chained → Line → Running → Chained
-first_led c line s = record c { first = s; is_under_way = c.is_under_way || not (stands_first line) }
+-- a session goes on by a line that can be applied to it
+abbrev pub Goes : Running → Line → Past → List Event → Type 0
+Goes s line q printed = (is_timely s.row s.past line ≡ true) × LineStep s.row s.past line q printed
 
-abbrev pub second_led : Chained → Line → List Event → Running → Chained
-second_led c line printed s = record c {
-  second = s;
-  middle = middle_after c.middle line printed;
-  is_under_way = c.is_under_way || not (stands_first line);
-}
+abbrev pub with_past : Running → Past → Running
+with_past s q = record s { past = q }
+
+abbrev pub with_coarse : Running → Running
+with_coarse s = record s { row = coarsened s.row }
+
+-- the chain once a line led the first session, or the second, to this
+abbrev pub first_led : Chained → Past → Chained
+first_led c q = record c { first = with_past c.first q; is_under_way = true }
+
+abbrev pub second_led : Chained → Line → List Event → Past → Chained
+second_led c line printed q = record c { second = with_past c.second q; sender = sender_after c.sender line printed; is_under_way = true }
 
 -- the line can be applied, leads from c to d, and prints this: it does to its session what it does in a script of that
--- session alone
-abbrev pub LeadsBy : Openings → Chained → Share → Chained → List Event → Type 0
-LeadsBy o c Skipped d printed = (d ≡ c) × (printed ≡ [])
-LeadsBy o c OfNone d printed = ⊥
-LeadsBy o c (OfFirst line) d printed = (is_in_turn c line ≡ true)
-    × ((s : Running) × Leads o (Some (Whole c.first)) line (Some (Whole s)) printed × (d ≡ first_led c line s))
-LeadsBy o c (OfSecond line) d printed = (is_in_turn c line ≡ true)
-    × ((s : Running) × Leads o (Some (Whole c.second)) line (Some (Whole s)) printed × (d ≡ second_led c line printed s))
+-- session alone; and a session that is not coarse is made so before all that is done with either
+abbrev pub LeadsBy : Chained → Share → Chained → List Event → Type 0
+LeadsBy c Skipped d printed = (d ≡ c) × (printed ≡ [])
+LeadsBy c OfNone d printed = ⊥
+LeadsBy c MakesFirst d printed =
+    (c.is_under_way ≡ false) × (c.first.row.coarse ≡ false) × (d ≡ record c { first = with_coarse c.first }) × (printed ≡ [])
+LeadsBy c MakesSecond d printed =
+    (c.is_under_way ≡ false) × (c.second.row.coarse ≡ false) × (d ≡ record c { second = with_coarse c.second }) × (printed ≡ [])
+LeadsBy c (OfFirst line) d printed = (is_in_order c line ≡ true) × ((q : Past) × Goes c.first line q printed × (d ≡ first_led c q))
+LeadsBy c (OfSecond line) d printed = (is_in_order c line ≡ true) × ((q : Past) × Goes c.second line q printed × (d ≡ second_led c line printed q))
 
-abbrev pub ChainLeads : Openings → Chained → Line → Chained → List Event → Type 0
-ChainLeads o c line d printed = LeadsBy o c (share c line) d printed
+abbrev pub ChainLeads : Chained → Line → Chained → List Event → Type 0
+ChainLeads c line d printed = LeadsBy c (share c line) d printed
 
--- the line can't be applied: it is no line of a chain, it is out of turn, or its session refuses it
+-- the line can't be applied: it is no line of a chain, it is out of order, or its session refuses it
 abbrev pub RefusesBy : Chained → Share → Type 0
 RefusesBy c Skipped = ⊥
 RefusesBy c OfNone = Unit {0}
-RefusesBy c (OfFirst line) = (is_in_turn c line ≡ false) ⊎ RefusesAlone (Some (Whole c.first)) line
-RefusesBy c (OfSecond line) = (is_in_turn c line ≡ false) ⊎ RefusesAlone (Some (Whole c.second)) line
+RefusesBy c MakesFirst = (c.is_under_way ≡ true) ⊎ (c.first.row.coarse ≡ true)
+RefusesBy c MakesSecond = (c.is_under_way ≡ true) ⊎ (c.second.row.coarse ≡ true)
+RefusesBy c (OfFirst line) = (is_in_order c line ≡ false) ⊎ IsRefusedWhole c.first.row c.first.past line
+RefusesBy c (OfSecond line) = (is_in_order c line ≡ false) ⊎ IsRefusedWhole c.second.row c.second.past line
 
 abbrev pub ChainRefuses : Chained → Line → Type 0
 ChainRefuses c line = RefusesBy c (share c line)
 
 -- these lines lead from c to d, and print this
-abbrev pub ChainLeadsTo : Openings → Chained → List Line → Chained → List Event → Type 0
-ChainLeadsTo o c [] d printed = (d ≡ c) × (printed ≡ [])
-ChainLeadsTo o c (line ∷ later) d printed =
+abbrev pub ChainLeadsTo : Chained → List Line → Chained → List Event → Type 0
+ChainLeadsTo c [] d printed = (d ≡ c) × (printed ≡ [])
+ChainLeadsTo c (line ∷ later) d printed =
     (mid : Chained) × (first : List Event) × (second : List Event)
-    × ChainLeads o c line mid first × ChainLeadsTo o mid later d second × (printed ≡ first ++ second)
+    × ChainLeads c line mid first × ChainLeadsTo mid later d second × (printed ≡ first ++ second)

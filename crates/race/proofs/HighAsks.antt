@@ -43,6 +43,11 @@ module _ {H : Type 0} (stands : H → Low → High → Type 0) where
   few_taken false w a = omega (arith, a.few)
   few_taken true w a = omega (arith, (a.hand_taken refl).0)
 
+  -- where all are removed, the receiver has none besides
+  pub all_removed : (took : Bool) (w : HighHalf H) → HighAt stands took w → w.count ≤ removed_of w.process → HighAt stands false w
+  all_removed false w a all = a
+  all_removed true w a all = absurd (omega (arith, few_taken true w a, all, a.is_past.holds.removed))
+
   -- nothing is taken yet
   pub none_taken : (w : HighHalf H) → HighAt stands false w → removed_of w.process ≡ 0 → recv_count w.receiver ≡ done_in []
   none_taken w a none = recv_count_of false w a ∙ omega (arith, none)

@@ -182,3 +182,11 @@ kept_on m role end counts old mid new failed is first second = kept_after m old 
 
 pub value_is : (disk : List ℕ) (R end : ℕ) → (value_of disk).0 ≡ R → (value_of disk).1 ≡ end → value_of disk ≡ (R, end)
 value_is disk R end a b = λ i. (a i, b i)
+
+-- new disks that are empty after calls which wrote none of them were empty before
+pub was_empty : {D : Type 0} (m : Meaning D) (old new : Trio D) → m.tells → Moves m Same old.low new.low → Moves m Same old.high new.high → Moves m Same old.recv new.recv
+    → (m.reading new.low ≡ []) × (m.reading new.high ≡ []) × (m.reading new.recv ≡ [])
+    → first_full (m.reading old.low) (m.reading old.high) (m.reading old.recv) ≡ None
+was_empty m old new told low high recv empty =
+    subst (λ (t : List ℕ × List ℕ × List ℕ). first_full t.0 t.1 t.2 ≡ None)
+    (λ i. (sym (sym (low.reads told) ∙ empty.0) i, sym (sym (high.reads told) ∙ empty.1) i, sym (sym (recv.reads told) ∙ empty.2) i)) refl

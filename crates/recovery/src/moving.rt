@@ -144,6 +144,7 @@ pub fn migrate<D: Disk>(
     ensures moved { IfOk result.end (λ n. D.told.tells → (live received : List (List ℕ))
         × AreFound from.now size n.0 n.1 live received (D.told.reading old.low) (D.told.reading old.high) (D.told.reading old.recv)
         × (length received ≡ n.2)
+        × (first_full (D.told.reading new.low) (D.told.reading new.high) (D.told.reading new.recv) ≡ None)
         × StandFor to.now n.0 n.1 live received (D.told.reading result.new.low) (D.told.reading result.new.high) (D.told.reading result.new.recv)) }
     ensures settled { OnOk result.end (Settled D.told result.new.low × Settled D.told result.new.high × Settled D.told result.new.recv) }
 
@@ -167,6 +168,10 @@ pub fn migrate<D: Disk>(
     ensures unwritten { D.told.tells → (f : MoveFault)
         → IsMoveRefused from.now to.now size (D.told.reading old.low) (D.told.reading old.high) (D.told.reading old.recv)
         (D.told.reading new.low) (D.told.reading new.high) (D.told.reading new.recv) f
+        → Moves D.told Same new.low result.new.low × Moves D.told Same new.high result.new.high × Moves D.told Same new.recv result.new.recv }
+
+    // Where a new disk is not empty no new disk is written, whatever comes.
+    ensures full { D.told.tells → (first_full (D.told.reading new.low) (D.told.reading new.high) (D.told.reading new.recv) ≡ None → ⊥)
         → Moves D.told Same new.low result.new.low × Moves D.told Same new.high result.new.high × Moves D.told Same new.recv result.new.recv }
 
     // A crash at any moment leaves of each new disk no buffer, or one that stands for just this.

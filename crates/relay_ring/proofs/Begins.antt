@@ -66,7 +66,7 @@ pairs_begin row words bound word width = record {
   bound = bound;
   each = each_alone (PairFits row 0 []) (pair_first row) (
     (λ _. record { one = refl; times = refl; shape = refl }),
-    λ _. record { averages = All-nil (IsAverage (shape_told row) []); never_fall = tt },
+    λ _. record { read_as = refl; averages = All-nil (IsAverage (shape_told row) []); never_fall = tt },
   );
 }
 

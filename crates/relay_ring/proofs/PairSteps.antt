@@ -45,13 +45,14 @@ module _ (row : RowTold) (slots id : ℕ) (v : PairView) where
           each = each_set (PairFits row h.writer h.times) s.views id w (
             (λ t. absurd (true≢false (sym t ∙ idle))),
             λ _. record {
+              read_as = mine.read_as;
               averages = all_snoc (IsAverage (shape_told row) h.times) v.pairs (r / 2 ^ 32, r % 2 ^ 32) mine.averages now;
               never_fall = never_fall_snoc v.pairs (r / 2 ^ 32, r % 2 ^ 32) mine.never_fall up;
             },
           )
               (λ j u _ e. h.each j u e);
         },
-        (refl, up, subst (λ z. z ≤ 10 ^ 9) (sym d) h.bound),
+        (refl, up, subst (λ z. z ≤ 10 ^ 9) (sym d) h.bound, (h.times, d ∙ ap (λ z. average_of z h.times) (sym mine.read_as))),
       )
 
   pub stores : v.writes ≡ true → v.reads ≡ false → (count average t taken : ℕ) → count ≡ length (v.times ++ t ∷ []) → average ≡ average_of (pair_shape v).averaging (v.times ++ t ∷ []) → average ≤ 10 ^ 9
@@ -74,7 +75,7 @@ module _ (row : RowTold) (slots id : ℕ) (v : PairView) where
           each = each_set (PairFits row h.writer all) s.views id (with_time v t taken) ((λ _. record { one = mine.one; times = grown; shape = mine.shape }), λ y. absurd (true≢false (sym y ∙ idle)))
               (λ j u other e. (
                 (λ y. absurd (other (((h.each j u e).0 y).one ∙ sym mine.one))),
-                (λ y. let r = (h.each j u e).1 y in record { averages = all_weaken (IsAverage (shape_told row) h.times) (IsAverage (shape_told row) all) u.pairs (average_stays (shape_told row) h.times t) r.averages; never_fall = r.never_fall }),
+                (λ y. let r = (h.each j u e).1 y in record { read_as = r.read_as; averages = all_weaken (IsAverage (shape_told row) h.times) (IsAverage (shape_told row) all) u.pairs (average_stays (shape_told row) h.times t) r.averages; never_fall = r.never_fall }),
               ));
         },
         refl,
@@ -92,7 +93,7 @@ module _ (row : RowTold) (slots id : ℕ) (v : PairView) where
         bound = h.bound;
         each = each_snoc (PairFits row h.writer h.times) vs r
             (each_set (PairFits row h.writer h.times) s.views id l ((λ t. let m = mine.0 t in record { one = m.one; times = m.times; shape = m.shape }), λ t. absurd (true≢false (sym t))) (λ j u _ e. h.each j u e))
-            ((λ t. absurd (true≢false (sym t))), λ t. let m = mine.1 t in record { averages = m.averages; never_fall = m.never_fall });
+            ((λ t. absurd (true≢false (sym t))), λ t. let m = mine.1 t in record { read_as = m.read_as; averages = m.averages; never_fall = m.never_fall });
       }
 
   pub merges : (other : ℕ) (u : PairView) → Joins (PairKept row) id v other u (pair_both v u) pair_spent
@@ -101,7 +102,7 @@ module _ (row : RowTold) (slots id : ℕ) (v : PairView) where
       let mine = h.each id v at in
       let theirs = h.each other u (was s.views id other w u two at') in
       let now : Each (PairFits row h.writer h.times) vs = each_set (PairFits row h.writer h.times) s.views id w
-      ((λ t. let m = mine.0 t in record { one = m.one; times = m.times; shape = m.shape }), λ t. let m = theirs.1 t in record { averages = m.averages; never_fall = m.never_fall }) (λ i z _ e. h.each i z e) in
+      ((λ t. let m = mine.0 t in record { one = m.one; times = m.times; shape = m.shape }), λ t. let m = theirs.1 t in record { read_as = m.read_as; averages = m.averages; never_fall = m.never_fall }) (λ i z _ e. h.each i z e) in
       record {
         writer = h.writer;
         times = h.times;

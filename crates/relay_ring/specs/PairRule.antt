@@ -5,6 +5,7 @@ use mathlib.Core.Option.{some}
 use lib.ListN.{get_elem?}
 use Rattle.atomic_table.specs.Table.{State, Me}
 use Rattle.pump_frame.specs.Averages.{average_of}
+use Rattle.pump_frame.specs.declared.averaging.Averaging.{Averaging}
 use Rattle.pump_core.specs.Passage.{Shape, NeverFall, IsAverage}
 use Rattle.passage.specs.HighRule.{no_averaging}
 use Rattle.relay_ring.specs.declared.pairs.RowTold.{RowTold}
@@ -31,8 +32,9 @@ pub record IsWriter (row : RowTold) (writer : ℕ) (published : List ℕ) (id : 
   pub times : v.times ≡ published
   pub shape : pair_shape v ≡ shape_told row
 
--- each pair that a reader read was the average once
+-- each pair that a reader read was the average once; it knows how times are averaged
 pub record IsReader (row : RowTold) (published : List ℕ) (v : PairView) : Type 0 where
+  pub read_as : v.read_as ≡ row.averaging
   pub averages : All (IsAverage (shape_told row) published) v.pairs
   pub never_fall : NeverFall v.pairs
 
@@ -54,7 +56,7 @@ pub record PairKept (row : RowTold) (s : State (Unit {0}) PairView) : Type 0 whe
 
 -- before any step, with both roles in one view
 abbrev pub pair_first : RowTold → PairView
-pair_first row = record { writes = true; places = row.places; averaging = row.averaging; times = []; taken_before = []; reads = true; pairs = [] }
+pair_first row = record { writes = true; places = row.places; averaging = row.averaging; times = []; taken_before = []; reads = true; read_as = row.averaging; pairs = [] }
 
 -- a seat: what it knows; it has no slot
 abbrev pub Mine : Type 0
@@ -72,22 +74,27 @@ PairsUpTo v count = All (λ p. p.0 ≤ count) v.pairs
 abbrev pub with_time : PairView → ℕ → ℕ → PairView
 with_time v micros taken = record v { times = v.times ++ micros ∷ []; taken_before = v.taken_before ++ taken ∷ [] }
 
+-- it comes down of some times
+abbrev pub IsAveraged : Averaging → ℕ → Type 0
+IsAveraged a average = (times : List ℕ) × (average ≡ average_of a times)
+
 abbrev pub SeesPair : Mine → ℕ → Mine → Type 0
 SeesPair m word m' =
     (m' ≡ (with_pair m.0 (word / 2 ^ 32) (word % 2 ^ 32), m.1)) × PairsUpTo m.0 (word / 2 ^ 32) × (word % 2 ^ 32 ≤ 10 ^ 9)
+    × IsAveraged m.0.read_as (word % 2 ^ 32)
 
 -- a view is parted into the two roles, and a reader's view is taken in
 abbrev pub pair_writer : PairView → PairView
-pair_writer v = record v { reads = false; pairs = [] }
+pair_writer v = record v { reads = false; read_as = no_averaging; pairs = [] }
 
 abbrev pub pair_reader : PairView → PairView
-pair_reader v = record { writes = false; places = 0; averaging = no_averaging; times = []; taken_before = []; reads = v.reads; pairs = v.pairs }
+pair_reader v = record { writes = false; places = 0; averaging = no_averaging; times = []; taken_before = []; reads = v.reads; read_as = v.read_as; pairs = v.pairs }
 
 abbrev pub pair_both : PairView → PairView → PairView
-pair_both v w = record v { reads = w.reads; pairs = w.pairs }
+pair_both v w = record v { reads = w.reads; read_as = w.read_as; pairs = w.pairs }
 
 abbrev pub pair_spent : PairView
-pair_spent = record { writes = false; places = 0; averaging = no_averaging; times = []; taken_before = []; reads = false; pairs = [] }
+pair_spent = record { writes = false; places = 0; averaging = no_averaging; times = []; taken_before = []; reads = false; read_as = no_averaging; pairs = [] }
 
 -- what a view with both roles knows
 pub record PairTies (v : PairView) : Type 0 where

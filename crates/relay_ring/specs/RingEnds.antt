@@ -6,7 +6,7 @@ use Rattle.pump_frame.specs.Rows.{greatest_capacity}
 use Rattle.pump_core.specs.Passage.{Shape, Low, High}
 use Rattle.moving_avg.specs.Windows.{HoldsTimes, averaging_in}
 use Rattle.relay_ring.specs.RingRule.{word_count, HoldsNext, HoldsFirst}
-use Rattle.relay_ring.specs.PairRule.{pair_words, pair_shape}
+use Rattle.relay_ring.specs.PairRule.{pair_words, pair_shape, IsAveraged}
 use Rattle.relay_ring.specs.declared.ends.RingLow.{RingLow}
 use Rattle.relay_ring.specs.declared.ends.RingHigh.{RingHigh}
 
@@ -30,6 +30,9 @@ pub record IsLow (e : RingLow) : Type 0 where
   pub pairs : e.reader.table_id ≡ e.pairs.now.shared.table_id
   pub width : e.reader.table_id.words ≡ pair_words
   pub reads : (e.reader.me.0.writes ≡ false) × (e.reader.me.0.reads ≡ true) × (e.reader.me.1 ≡ [])
+  -- each average that it read comes down of some times
+  pub read_as : e.reader.me.0.read_as ≡ e.averaging
+  pub averaged : All (λ p. IsAveraged e.averaging p.1) e.reader.me.0.pairs
 
 abbrev pub low_shape : RingLow → Shape
 low_shape e = record { places = e.places; averaging = e.averaging }

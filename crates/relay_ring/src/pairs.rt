@@ -2,7 +2,7 @@
 // average in its low half; the high end alone stores it.
 ghost use Rattle.std.specs.Prelude.{◌≡◌, ℕ, ◌^◌, ◌≤◌, ◌++◌, ◌∷◌, true, false, [], length};
 ghost use Rattle.pump_frame.specs.Averages.{average_of};
-ghost use Rattle.relay_ring.specs.PairRule.{pair_words, pair_shape, with_pair, with_time, PairsUpTo};
+ghost use Rattle.relay_ring.specs.PairRule.{pair_words, pair_shape, with_pair, with_time, IsAveraged, PairsUpTo};
 
 use atomic_table::{Join, Play, Seat, Split, Table, TableRule};
 use pump_core::Seen;
@@ -33,8 +33,9 @@ pub struct PairView {
     pub averaging: Averaging,
     pub times: LinkedList<u32>,
     pub taken_before: LinkedList<u64>,
-    // The low end's part.
+    // The low end's part: how what it reads is averaged, and what it read.
     pub reads: bool,
+    pub read_as: Averaging,
     pub pairs: LinkedList<(u64, u64)>,
 }
 
@@ -127,6 +128,7 @@ pub fn read_pair(table: &PairTable, seat: &mut PairSeat) -> Seen
     ensures pair { seat.new.me.0 ≡ with_pair seat.old.me.0 result.count result.average }
     ensures up_to { PairsUpTo seat.old.me.0 result.count }
     ensures bound { result.average ≤ 10 ^ 9 }
+    ensures averaged { IsAveraged seat.old.me.0.read_as result.average }
 {
     let word = table.shared.load::<ReadsPair>(seat, PAIR);
     Seen {

@@ -4,14 +4,17 @@ pub mod HighServing
 pub mod HighStaying
 pub mod HighTurning
 pub mod Kept
+pub mod Levels
 pub mod LowLives
 pub mod LowRecord
+pub mod LowReplays
 pub mod LowServing
 pub mod LowStaying
 pub mod LowTurning
 pub mod LowVisiting
 pub mod Machine
 pub mod Reaching
+pub mod ReadingBack
 pub mod Replaying
 pub mod ReplyKinds
 pub mod Scripting

@@ -85,7 +85,7 @@ gone_by true true s n x e = absurd (cc)
 gone_by true false false n x e = absurd (cc)
 gone_by true false true n x e = e
 
-gone_round : (row : SessionRow) (o : Opening) (before : List Made) (held : List ℕ) (r : Round) → IsRound row o before held r → cause r ≡ Some Gone → (m : Made) × (r.made ≡ Some m) × (m.look.arrival ≡ CameGone)
+pub gone_round : (row : SessionRow) (o : Opening) (before : List Made) (held : List ℕ) (r : Round) → IsRound row o before held r → cause r ≡ Some Gone → (m : Made) × (r.made ≡ Some m) × (m.look.arrival ≡ CameGone)
 gone_round row o before held r is e =
     let heard = gone_offered r.heard (gone_by r.is_kept (is_lost_in r.made) r.is_sent r.faults (cause_heard r.heard) e) in
     let makes : MakesLook r (Some CameGone) = subst (MakesLook r) heard is.makes in
@@ -106,7 +106,7 @@ ended_full row o before (r ∷ past) are made e =
 none_look : (before : List Made) (m : Option Made) → m ≡ None → with_look m before ≡ before
 none_look before m e = ap (λ z. with_look z before) e
 
-no_cause : (rounds : List Round) (why : LowWhy) → is_cause (Some why) ≡ false → newest_cause rounds ≡ Some why → ⊥
+pub no_cause : (rounds : List Round) (why : LowWhy) → is_cause (Some why) ≡ false → newest_cause rounds ≡ Some why → ⊥
 no_cause [] why c e = cc
 no_cause (r ∷ past) why c e = let x : is_cause (Some why) ≡ true = ap is_cause (sym e) ∙ round_cause r in let y : false ≡ true = sym c ∙ x in cc
 
@@ -129,7 +129,7 @@ over_full row o before (With m v) is made over was =
     let e = over.0.1 in
     left_full row o before v.rounds v.gone v.is_kept is.0 made why e (subst (λ (c : Option LowWhy). GoneAfter c v.gone) e is.1) (ap (λ c. end_at c v.is_kept) (sym e) ∙ over.1)
 
-made_before_stay : {L : Type 0} (row : SessionRow) (o : Opening) (before : List Made) (x : Stay L) → AreMade row o (stay_after before x) → AreMade row o before
+pub made_before_stay : {L : Type 0} (row : SessionRow) (o : Opening) (before : List Made) (x : Stay L) → AreMade row o (stay_after before x) → AreMade row o before
 made_before_stay row o before (Alone m answer) are = are
 made_before_stay row o before (With m v) are = made_before_rounds row o before v.rounds (made_before row o v.gone (made_after before v.rounds) are)
 

@@ -3,6 +3,7 @@ use Rattle.std.proofs.Common.{◌≡◌, ℕ, ◌≤◌, Bool, true, false, List
 use Rattle.std.specs.Prelude.{IfSome, is_some, if◌then◌else◌, not, ◌||◌}
 use Rattle.disk_model.specs.Disk.{Meaning}
 use Rattle.pump_frame.specs.Counts.{Rose}
+use Rattle.pump_frame.specs.Rows.{IsLawfulRow}
 use Rattle.stable_buffer.specs.declared.low.LowStore.{LowStore}
 use Rattle.stable_buffer.specs.Low.{low_disk}
 use Rattle.low_process.specs.Storing.{StoreStep}
@@ -15,6 +16,8 @@ use Rattle.relay_threads.specs.declared.hear.Heard.TheVariants as hears
 use Rattle.relay_threads.specs.declared.low_round.LowWhy.{LowWhy}
 use Rattle.relay_threads.specs.declared.low_round.LowWhy.TheVariants.{LinkFailed, Device, RecordFailed}
 use Rattle.relay_threads.specs.Hearings.{Ending, AtFrame, AtBad, AtNotYet, AtEnded, AtFailed, AtMost, Hearing, IsHearing, heard_as}
+use Rattle.relay_threads.specs.Records.{Made}
+use Rattle.relay_threads.specs.Replays.{ReadsBack}
 use Rattle.relay_threads.specs.LowRounds.{Round, offered, offered_at, MakesLook, cause_at, cause_heard}
 use Rattle.relay_threads.specs.LowServes.{Turns, heard_option, is_failed, arrival_heard, why_heard, why_by, CountsFaultIn}
 use Rattle.relay_threads.proofs.LowLives.{wants_is, look_made, lives_on}
@@ -126,6 +129,7 @@ module _ (p : LowProcess) (held : List ℕ) (h : Option Hearing) (heard : Heard)
       wants = λ parts cut. wants_is p o before parts lives cut ∙ sym wanted;
       reads = reads;
       makes = subst (MakesLook (round_failed n)) (sym (offers_none h (ap is_failed (sym same) ∙ failed))) refl;
+      readable = λ lawful. tt;
     };
     lives = λ o before lives. lives;
   }
@@ -134,14 +138,16 @@ module _ (p : LowProcess) (held : List ℕ) (h : Option Hearing) (heard : Heard)
     abbrev pub round : Round
     round = record { moment = m; word = w; heard = h; made = Some (look_made p q m w a d l); is_sent = is_sent; is_kept = is_kept; faults = n }
 
-    pub made_turn : row_of q ≡ row_of p → last_of p ≤ m → is_failed heard ≡ false → a ≡ arrival_heard heard → Looks (StandsFor p) q (row_of p) (look_of m w a d l.feedback) l → Turns p q held round
-    made_turn row order fine arrival looks = record {
+    pub made_turn : row_of q ≡ row_of p → last_of p ≤ m → is_failed heard ≡ false → a ≡ arrival_heard heard → Looks (StandsFor p) q (row_of p) (look_of m w a d l.feedback) l
+        → (IsLawfulRow (row_of p) → (before : List Made) → ReadsBack (row_of p) before (look_made p q m w a d l)) → Turns p q held round
+    made_turn row order fine arrival looks back = record {
       row = row;
       rule = λ o before lives. record {
         wants = λ parts cut. wants_is p o before parts lives cut ∙ sym wanted;
         reads = reads;
         makes = subst (MakesLook round) (sym (offers h (ap is_failed (sym same) ∙ fine)))
             (look_made p q m w a d l, refl, refl, refl, arrival ∙ ap arrival_heard same);
+        readable = λ lawful. back lawful before;
       };
       lives = lives_on p q m w a d l row order looks;
     }

@@ -2,6 +2,7 @@
 use Rattle.std.proofs.Common.{◌≡◌, ℕ, ◌≤◌, ◌<◌, Bool, true, false, List, [], ◌∷◌, length, Option, Some, None, refl, sym, ap, ◌∙◌, subst, append-nil, arith, inl, inr}
 use Rattle.std.specs.Prelude.{◌⊎◌, if◌then◌else◌, not}
 use Rattle.std.specs.Io.KnownBytes.{Appends}
+use Rattle.pump_frame.specs.Rows.{IsLawfulRow}
 use Rattle.pump_frame.specs.declared.row.SessionRow.{SessionRow}
 use Rattle.pump_link.proofs.Known.{Appends-then}
 use Rattle.low_process.specs.declared.process.LowProcess.{LowProcess}
@@ -12,6 +13,7 @@ use Rattle.relay_threads.specs.declared.rounds_end.RoundsEnd.TheVariants.{Record
 use Rattle.relay_threads.specs.Reaching.{Reaches}
 use Rattle.relay_threads.specs.Records.{Made, record_of}
 use Rattle.relay_threads.specs.RecordLines.{looks_text}
+use Rattle.relay_threads.specs.Replays.{ReadsBack}
 use Rattle.relay_threads.specs.LowRounds.{Round, made_after, made_in, AreRounds, GoOn, newest_cause}
 use Rattle.relay_threads.specs.LowServes.{Leads, Serves, EndsBy, all_kept, text_made}
 use Rattle.relay_threads.specs.LowStays.{IsGone, GoneAfter, IsVisit, visited, visit_text, end_at, end_by, is_left_so, is_kept_by, IsLeft}
@@ -102,13 +104,13 @@ gone_after rounds most Looks m e l is = absurd (cc)
 gone_after rounds most Stopped m e l is = absurd (cc)
 
 pub stays_on : (p q : LowProcess) (rounds : List Round) (most : ℕ) (why : LowWhy) → EndsBy rounds most why → is_left_so why ≡ false → Serves p q rounds → Leads p q (λ row o before. IsVisit row o before rounds None) (λ before. visited before rounds None)
-stays_on p q rounds most why e l s = record { row = s.row; rule = λ o before lives. (s.rule o before lives, none_after rounds most why e l); lives = s.lives }
+stays_on p q rounds most why e l s = record { row = s.row; rule = λ o before lives. (s.rule o before lives, none_after rounds most why e l, λ lawful. tt); lives = s.lives }
 
-pub goes : (p q q' : LowProcess) (rounds : List Round) (most : ℕ) (why : LowWhy) (m : Made) → EndsBy rounds most why → is_left_so why ≡ true → IsGone m → Serves p q rounds → Leads q q' (λ row o before. Unit {0}) (λ before. m ∷ before)
+pub goes : (p q q' : LowProcess) (rounds : List Round) (most : ℕ) (why : LowWhy) (m : Made) → EndsBy rounds most why → is_left_so why ≡ true → IsGone m → Serves p q rounds → Leads q q' (λ row o before. IsLawfulRow row → ReadsBack row before m) (λ before. m ∷ before)
     → Leads p q' (λ row o before. IsVisit row o before rounds (Some m)) (λ before. visited before rounds (Some m))
 goes p q q' rounds most why m e l is s g =
-    leads_then p q q' (λ row o before. AreRounds row o before rounds) (λ row o before. Unit {0}) (λ row o before. IsVisit row o before rounds (Some m)) (λ before. made_after before rounds) (λ before. m ∷ before)
-    (λ row o before are done. (are, gone_after rounds most why m e l is)) s g
+    leads_then p q q' (λ row o before. AreRounds row o before rounds) (λ row o before. IsLawfulRow row → ReadsBack row before m) (λ row o before. IsVisit row o before rounds (Some m)) (λ before. made_after before rounds) (λ before. m ∷ before)
+    (λ row o before are back. (are, gone_after rounds most why m e l is, back)) s g
 
 -- ---- the record ----
 

@@ -148,10 +148,10 @@ look_line row m bytes h =
 
 -- ---- a comment ----
 
-abbrev AreShort : List (List ℕ) → Type 0
+abbrev pub AreShort : List (List ℕ) → Type 0
 AreShort fields = AllByRecursion (λ field. length field ≤ 40) fields
 
-short_spaced : (fields : List (List ℕ)) → AreShort fields → length (spaced fields) ≤ 41 * length fields
+pub short_spaced : (fields : List (List ℕ)) → AreShort fields → length (spaced fields) ≤ 41 * length fields
 short_spaced [] short = omega arith
 short_spaced (a ∷ []) short = let h = short.0 in omega (arith, h)
 short_spaced (a ∷ b ∷ rest) short =
@@ -160,7 +160,7 @@ short_spaced (a ∷ b ∷ rest) short =
     let e = length-append a (32 ∷ spaced (b ∷ rest)) in
     omega (arith, h, k, e)
 
-short_decimal : (n : ℕ) → n < 2 ^ 64 → length (decimal n) ≤ 40
+pub short_decimal : (n : ℕ) → n < 2 ^ 64 → length (decimal n) ≤ 40
 short_decimal n fits = let h = length-decimal-le 20 n (omega arith) (omega (arith, fits)) fits in omega (arith, h)
 
 -- fields without a line end, each of which is short

@@ -2,6 +2,7 @@ pub mod Hearings
 pub mod HighRounds
 pub mod HighServes
 pub mod HighStays
+pub mod Levels
 pub mod LowRounds
 pub mod LowServes
 pub mod Pairs

@@ -5,6 +5,7 @@ use Rattle.std.specs.List.{AllByRecursion, flat_map}
 use Rattle.pump_frame.specs.declared.frame.Frame.{Frame}
 use Rattle.pump_frame.specs.declared.frame.Kind.{Kind}
 use Rattle.pump_frame.specs.declared.frame.Kind.TheVariants.{Ack}
+use Rattle.pump_frame.specs.Rows.{IsLawfulRow}
 use Rattle.pump_frame.specs.declared.row.SessionRow.{SessionRow}
 use Rattle.pump_frame.specs.Spellings.{spelling}
 use Rattle.pump_link.specs.declared.link.Looked.{Looked}
@@ -16,6 +17,7 @@ use Rattle.relay_threads.specs.declared.low_round.LowWhy.{LowWhy}
 use Rattle.relay_threads.specs.declared.low_round.LowWhy.TheVariants as whys
 use Rattle.relay_threads.specs.Hearings.{Ending, AtFrame, AtBad, AtNotYet, AtEnded, AtFailed, AtMost, Hearing, IsHearing, looks_in, held_by}
 use Rattle.relay_threads.specs.Records.{Made, life_made, replies_made}
+use Rattle.relay_threads.specs.Replays.{ReadsBack}
 
 -- one round: its moment and its word; what it read, if it read; its look, if it made one; whether its
 -- reply was sent whole and its lines were written whole; and the low disk's count of faults after it
@@ -128,6 +130,8 @@ pub record IsRound (row : SessionRow) (o : Opening) (before : List Made) (held :
   pub reads : IfSome r.heard (IsHearing held)
   -- it makes one look, but where the link failed
   pub makes : MakesLook r (offered r.heard)
+  -- a reader of scripts reads the line of the look, where a record has it
+  pub readable : IsLawfulRow row → IfSome r.made (ReadsBack row before)
 
 -- no round left the connection
 abbrev pub GoOn : List Round → Type 0

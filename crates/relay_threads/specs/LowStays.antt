@@ -1,8 +1,9 @@
 -- The stays of a low worker at its door, the newest first. Each begins with a round without connection,
 -- which draws a moment and asks the door; where a link comes, it is served, and then given back.
-use Rattle.std.specs.Prelude.{◌≡◌, ℕ, ◌+◌, ◌<◌, ◌≤◌, Bool, true, false, if◌then◌else◌, List, [], ◌∷◌, ◌++◌, length, Option, Some, None}
+use Rattle.std.specs.Prelude.{◌≡◌, ℕ, ◌+◌, ◌<◌, ◌≤◌, Bool, true, false, if◌then◌else◌, List, [], ◌∷◌, ◌++◌, length, Option, Some, None, IfSome}
 use Rattle.std.specs.List.{AllByRecursion}
 use Rattle.pump_frame.specs.Counts.{Rose}
+use Rattle.pump_frame.specs.Rows.{IsLawfulRow}
 use Rattle.pump_frame.specs.declared.row.SessionRow.{SessionRow}
 use Rattle.pump_link.specs.Tells.{Draws, Grows}
 use Rattle.pump_link.specs.Doors.{DoorStep, CameLink, BackLink}
@@ -19,6 +20,7 @@ use Rattle.relay_threads.specs.Reaching.{Reaches}
 use Rattle.relay_threads.specs.Workers.{IsNobody}
 use Rattle.relay_threads.specs.Records.{Made, record_of}
 use Rattle.relay_threads.specs.RecordLines.{looks_text}
+use Rattle.relay_threads.specs.Replays.{ReadsBack}
 use Rattle.relay_threads.specs.LowRounds.{Round, with_look, made_after, made_in, looks_of_rounds, moments_of, words_of, reply_bytes, AreRounds, newest_cause}
 use Rattle.relay_threads.specs.LowServes.{Leads, all_sent, text_made}
 
@@ -48,8 +50,10 @@ GoneAfter (Some LinkFailed) gone = (m : Made) × (gone ≡ Some m) × IsGone m
 GoneAfter (Some Bad) gone = (m : Made) × (gone ≡ Some m) × IsGone m
 GoneAfter _ gone = gone ≡ None
 
+-- rounds, and such a look after them, of which a record has a line that reads back
 abbrev pub IsVisit : SessionRow → Opening → List Made → List Round → Option Made → Type 0
 IsVisit row o before rounds gone = AreRounds row o before rounds × GoneAfter (newest_cause rounds) gone
+    × (IsLawfulRow row → IfSome gone (ReadsBack row (made_after before rounds)))
 
 abbrev pub IsStay : {L : Type 0} → SessionRow → Opening → List Made → Stay L → Type 0
 IsStay row o before (Alone m answer) = IsNobody answer

@@ -15,7 +15,7 @@ use Rattle.script_reader.specs.Lows.{printed_replies}
 use Rattle.script_reader.specs.Openings.{Openings}
 use Rattle.script_reader.specs.Spelling.{line_spelling}
 use Rattle.script_reader.specs.Sessions.{Sessions, no_sessions, ScriptLeadsTo, ScriptStops, IsScriptTranscript}
-use Rattle.relay_threads.specs.Records.{Made, record_of, replies_made}
+use Rattle.relay_threads.specs.Records.{Made, is_recorded, record_of, replies_made}
 use Rattle.relay_threads.specs.RecordLines.{taken_by, tells_fault, told_of, line_of, opening_line, coarse_lines, looks_script, record_script, HasLawfulFrame, IsReplyFrame}
 
 -- ---- the connections of a life ----
@@ -47,9 +47,13 @@ AreConnected (m ∷ before) = (is_broken before ≡ true → has_bytes (taken_by
 abbrev pub TakeLawful : List Made → Type 0
 TakeLawful made = AllByRecursion (λ m. HasLawfulFrame (taken_by m)) made
 
--- each average that was told is a level, where the session is coarse
+-- an average that was told is a level, where the session is coarse
+abbrev pub TellsLevel : SessionRow → Made → Type 0
+TellsLevel row m = tells_level row (told_of row m.look.feedback) ≡ true
+
+-- so is each
 abbrev pub TellLevels : SessionRow → List Made → Type 0
-TellLevels row made = AllByRecursion (λ m. tells_level row (told_of row m.look.feedback) ≡ true) made
+TellLevels row made = AllByRecursion (TellsLevel row) made
 
 -- the newest look lost its message: the device failed
 abbrev pub is_lost : List Made → Bool
@@ -97,6 +101,15 @@ pub record StopsAtLast (opens : Openings) (row : SessionRow) (o : Opening) (made
 pub record IsReadable (row : SessionRow) (m : Made) : Type 0 where
   pub line : IsLine (line_of row m) (line_spelling (line_of row m))
   pub reply : IfSome m.reply IsReplyFrame
+
+-- where a record has the look behind these
+abbrev pub ReadsBack : SessionRow → List Made → Made → Type 0
+ReadsBack row before m = is_recorded before m ≡ true → IsReadable row m
+
+-- the lines that a record begins with read back
+pub record BeginsReadable (row : SessionRow) (o : Opening) : Type 0 where
+  pub opening : IsLine (opening_line row o) (line_spelling (opening_line row o))
+  pub coarse : row.coarse ≡ true → IsLine (lines.Coarse row.id) (line_spelling (lines.Coarse row.id))
 
 -- so do all lines of a record
 pub record AreReadable (row : SessionRow) (o : Opening) (made : List Made) : Type 0 where

@@ -1,14 +1,18 @@
 ghost use Rattle.std.specs.Prelude.{◌≡◌, [], List, Some, true, false};
+ghost use Rattle.std.specs.List.{AllByRecursion};
 ghost use Rattle.pump_frame.specs.Rows.{IsLawfulRow};
 ghost use Rattle.pump_frame.specs.declared.row.SessionRow.{SessionRow};
 ghost use Rattle.pump_core.specs.History.{Opening};
 ghost use Rattle.pump_core.specs.Exchanges.{Part, IsCut};
 ghost use Rattle.pump_core.specs.Standing.{end_of};
 ghost use Rattle.relay_threads.specs.Records.{Made, AreMade, life_made, replies_made, record_of};
-ghost use Rattle.relay_threads.specs.Replays.{TellLevels, TakeLawful, AreConnected, is_lost, AreReadable, Replays, StopsAtLast};
+ghost use Rattle.relay_threads.specs.LowStays.{Stay, AreStays, stayed};
+ghost use Rattle.relay_threads.specs.Replays.{TellLevels, TakeLawful, AreConnected, is_lost, IsReadable, AreReadable, Replays, StopsAtLast};
 ghost use Rattle.relay_threads.specs.RecordLines.{record_text, record_script};
 ghost use Rattle.script_reader.specs.Lines.{AreLines};
 ghost use Rattle.script_reader.specs.Openings.{Openings};
+
+use pump_link::Door;
 
 /// The recorded looks of a life are a life of their own (`life`), each with what it took and replied.
 /// They have all the replies, at their moments (`replies`), and end where the life ends: with as many
@@ -40,4 +44,15 @@ pub fn records_replay()
 pub fn records_are_scripts()
     ensures { (row : SessionRow) (o : Opening) (made : List Made) → AreReadable row o made
         → AreLines (Some (record_text row o made)) (record_script row o made) (Some []) }
+{}
+
+/// The looks of a low worker's stays at its door are looks whose record replays: each frame that was taken
+/// is lawful (`lawful`), after bad bytes nothing more was taken of a connection but its loss
+/// (`connected`), and a reader of scripts reads each line that a record has of them (`readable`).
+pub fn stays_are_replayable<P: Door>()
+    ensures lawful { (row : SessionRow) (o : Opening) (stays : List (Stay P.Link)) → AreStays row o [] stays → TakeLawful (stayed [] stays) }
+    ensures connected { (row : SessionRow) (o : Opening) (stays : List (Stay P.Link)) → AreStays row o [] stays → AreMade row o (stayed [] stays)
+        → AreConnected (stayed [] stays) }
+    ensures readable { (row : SessionRow) (o : Opening) (stays : List (Stay P.Link)) → IsLawfulRow row → AreStays row o [] stays
+        → AllByRecursion (IsReadable row) (record_of (stayed [] stays)) }
 {}

@@ -20,7 +20,7 @@ pub use gate::{Gate, Open};
 pub use high_serve::serve_high;
 pub use high_served::{HighServed, HighWhy};
 pub use high_stays::high_rounds;
-pub use law::{records_are_lives, records_are_scripts, records_replay};
+pub use law::{records_are_lives, records_are_scripts, records_replay, stays_are_replayable};
 pub use low_round::LowWhy;
 pub use low_serving::{LowServed, serve_low};
 pub use low_stays::low_rounds;

@@ -6,7 +6,9 @@ ghost use Rattle.stable_buffer.specs.Low.{low_disk};
 ghost use Rattle.low_process.specs.Ready.{Ready};
 ghost use Rattle.low_process.specs.Looks.{row_of, last_of, is_down};
 ghost use Rattle.relay_threads.specs.declared.low_round.LowWhy.TheVariants.{LinkFailed, RecordFailed, Stopped};
+ghost use Rattle.relay_threads.specs.Levels.{IsEndOf};
 ghost use Rattle.relay_threads.specs.Reaching.{Reaches};
+ghost use Rattle.relay_threads.specs.Replays.{TellLevels};
 ghost use Rattle.relay_threads.specs.Records.{record_of};
 ghost use Rattle.relay_threads.specs.RecordLines.{looks_text};
 ghost use Rattle.relay_threads.specs.LowRounds.{Round, made_in, looks_of_rounds, moments_of, words_of, reply_bytes};
@@ -62,7 +64,8 @@ pub fn serve_low<R: Wait, C: Link, K: Clock, W: Words, D: Disk, L: WaitLowEnd, O
         × Draws (W.gives words.old) (W.gives words.new) (words_of rounds)
         × Reaches (Appends (O.written tape.old) (O.written tape.new)) (O.faults tape.old) (O.faults tape.new) (all_kept rounds)
         (looks_text (row_of process.old) (record_of (made_in rounds)))
-        × Grows (G.asked gate.old) (G.asked gate.new) (asked_in rounds result.why) }
+        × Grows (G.asked gate.old) (G.asked gate.new) (asked_in rounds result.why)
+        × (IsEndOf L.stands L.shape ends.old (row_of process.old) → TellLevels (row_of process.old) (made_in rounds)) }
     ensures ready { Ready D.told process.new store.new (L.stands ends.new) }
     ensures up { is_device result.why ≡ false → (result.why ≡ RecordFailed → ⊥) → is_down process.new ≡ false }
     ensures order { last_of process.new ≤ K.floor clock.new }

@@ -2,6 +2,7 @@ ghost use Rattle.std.specs.Prelude.{◌≡◌, ℕ, ◌<◌, ◌≤◌, Bool, tr
 ghost use Rattle.std.specs.List.{AllByRecursion};
 ghost use Rattle.std.specs.Io.KnownBytes.{Appends};
 ghost use Rattle.pump_frame.specs.Counts.{Rose};
+ghost use Rattle.pump_frame.specs.Rows.{IsLawfulRow};
 ghost use Rattle.pump_link.specs.Tells.{Draws, Grows};
 ghost use Rattle.pump_core.specs.History.{Opening};
 ghost use Rattle.stable_buffer.specs.Low.{low_disk};
@@ -9,12 +10,14 @@ ghost use Rattle.low_process.specs.Ready.{Ready};
 ghost use Rattle.low_process.specs.Looks.{row_of, last_of, is_down};
 ghost use Rattle.relay_threads.specs.declared.low_round.LowWhy.TheVariants.{LinkFailed};
 ghost use Rattle.relay_threads.specs.declared.rounds_end.RoundsEnd.TheVariants.{Rounds as RoundsMade, RecordFailed as RecordBroke};
+ghost use Rattle.relay_threads.specs.Levels.{IsEndOf};
 ghost use Rattle.relay_threads.specs.Reaching.{Reaches};
 ghost use Rattle.relay_threads.specs.Workers.{CountsEnd};
 ghost use Rattle.relay_threads.specs.Records.{Made};
+ghost use Rattle.relay_threads.specs.Replays.{ReadsBack, TellsLevel, TellLevels};
 ghost use Rattle.relay_threads.specs.LowRounds.{Round, made_in, looks_of_rounds, moments_of, words_of, reply_bytes, newest_cause};
 ghost use Rattle.relay_threads.specs.LowServes.{Lives, Leads, all_sent, text_made};
-ghost use Rattle.relay_threads.specs.LowStays.{Stay, IsRecord, IsGone, IsVisit, visited, IsStay, stay_after, StaysSo, EndsVisit, EndsStay, EndsStays, moment_made, visit_text, is_kept_by, is_left_so, end_by, is_ended, steps_at, steps, answers_at, answers, moments_at, moments_in, words_at, words_in, text_at, text_in, TellsVisit};
+ghost use Rattle.relay_threads.specs.LowStays.{Stay, IsRecord, IsGone, IsVisit, visited, IsStay, stay_after, stayed, StaysSo, EndsVisit, EndsStay, EndsStays, moment_made, visit_text, is_kept_by, is_left_so, end_by, is_ended, steps_at, steps, answers_at, answers, moments_at, moments_in, words_at, words_in, text_at, text_in, TellsVisit};
 
 use crate::gate::Open;
 use crate::low_round::LowWhy;
@@ -42,9 +45,10 @@ fn leave<R: Wait, K: Clock, D: Disk, L: WaitLowEnd, O: Sink>(
     requires ready { Ready D.told process.old store.old (L.stands ends.old) }
     requires up { is_down process.old ≡ false }
     requires order { last_of process.old ≤ K.floor clock.old }
-    ensures leaves { (m : Made) × IsGone m × Leads process.old process.new (λ row o before. Unit {0}) (λ before. m ∷ before)
+    ensures leaves { (m : Made) × IsGone m × Leads process.old process.new (λ row o before. IsLawfulRow row → ReadsBack row before m) (λ before. m ∷ before)
         × Draws (K.reads clock.old) (K.reads clock.new) (m.look.moment ∷ [])
-        × Reaches (Appends (O.written tape.old) (O.written tape.new)) (O.faults tape.old) (O.faults tape.new) result (text_made (row_of process.old) [] (Some m)) }
+        × Reaches (Appends (O.written tape.old) (O.written tape.new)) (O.faults tape.old) (O.faults tape.new) result (text_made (row_of process.old) [] (Some m))
+        × (IsEndOf L.stands L.shape ends.old (row_of process.old) → TellsLevel (row_of process.old) m) }
     ensures ready { Ready D.told process.new store.new (L.stands ends.new) }
     ensures up { is_down process.new ≡ false }
     ensures order { last_of process.new ≤ K.floor clock.new }
@@ -116,7 +120,8 @@ fn visit<R: Wait, C: Link, K: Clock, W: Words, D: Disk, L: WaitLowEnd, O: Sink>(
         × (newest_cause rounds ≡ Some LinkFailed → Rose (C.faults link.old) (C.faults link.new))
         × Draws (K.reads clock.old) (K.reads clock.new) (moments_of rounds ++ moment_made gone)
         × Draws (W.gives words.old) (W.gives words.new) (words_of rounds)
-        × Reaches (Appends (O.written tape.old) (O.written tape.new)) (O.faults tape.old) (O.faults tape.new) (is_kept_by result.end) (visit_text (row_of process.old) rounds gone) }
+        × Reaches (Appends (O.written tape.old) (O.written tape.new)) (O.faults tape.old) (O.faults tape.new) (is_kept_by result.end) (visit_text (row_of process.old) rounds gone)
+        × (IsEndOf L.stands L.shape ends.old (row_of process.old) → TellLevels (row_of process.old) (visited [] rounds gone)) }
     ensures ready { Ready D.told process.new store.new (L.stands ends.new) }
     ensures up { is_ended result.end ≡ false → is_down process.new ≡ false }
     ensures order { last_of process.new ≤ K.floor clock.new }
@@ -166,7 +171,8 @@ fn stay<R: Wait, P: Door, K: Clock, W: Words, D: Disk, L: WaitLowEnd, O: Sink>(
         × TellsVisit P.Link.gives P.Link.sent P.Link.faults x
         × Draws (K.reads clock.old) (K.reads clock.new) (moments_at x)
         × Draws (W.gives words.old) (W.gives words.new) (words_at x)
-        × Reaches (Appends (O.written tape.old) (O.written tape.new)) (O.faults tape.old) (O.faults tape.new) (is_kept_by result.end) (text_at (row_of process.old) x) }
+        × Reaches (Appends (O.written tape.old) (O.written tape.new)) (O.faults tape.old) (O.faults tape.new) (is_kept_by result.end) (text_at (row_of process.old) x)
+        × (IsEndOf L.stands L.shape ends.old (row_of process.old) → TellLevels (row_of process.old) (stay_after [] x)) }
     ensures port { (n : ℕ) → P.port door.old n → P.port door.new n }
     ensures ready { Ready D.told process.new store.new (L.stands ends.new) }
     ensures up { is_ended result.end ≡ false → is_down process.new ≡ false }
@@ -234,7 +240,8 @@ pub fn low_rounds<R: Wait, P: Door, K: Clock, W: Words, D: Disk, L: WaitLowEnd, 
         × Draws (K.reads clock.old) (K.reads clock.new) (moments_in stays)
         × Draws (W.gives words.old) (W.gives words.new) (words_in stays)
         × Reaches (Appends (O.written tape.old) (O.written tape.new)) (O.faults tape.old) (O.faults tape.new) (is_kept_by (Some result)) (text_in (row_of process.old) stays)
-        × ((o : Opening) → Lives process.old o [] → IsRecord (row_of process.old) stays) }
+        × ((o : Opening) → Lives process.old o [] → IsRecord (row_of process.old) stays)
+        × (IsEndOf L.stands L.shape ends.old (row_of process.old) → TellLevels (row_of process.old) (stayed [] stays)) }
     ensures port { (n : ℕ) → P.port door.old n → P.port door.new n }
     ensures ready { Ready D.told process.new store.new (L.stands ends.new) }
     ensures up { result ≡ RoundsMade → is_down process.new ≡ false }

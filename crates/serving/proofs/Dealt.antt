@@ -1,9 +1,10 @@
 -- The messages that an opening deals out, as the two processes begin with them.
-use Rattle.std.proofs.Common.{◌≡◌, ℕ, ◌+◌, ◌-◌, ◌≤◌, Bool, true, false, List, length, Option, Some, None, refl, sym, ap, ◌∙◌, subst}
+use Rattle.std.proofs.Common.{◌≡◌, ℕ, ◌+◌, ◌-◌, ◌≤◌, Bool, true, false, List, length, Option, Some, None, refl, sym, ap, ◌∙◌, subst, arith}
 use Rattle.std.specs.Prelude.{◌==◌, if◌then◌else◌, is_some, IfSome}
 use Rattle.pump_core.specs.Passage.{ComesNext}
 use Rattle.pump_frame.specs.declared.frame.Item.{Item}
 use Rattle.low_process.specs.Ends.{number_offered}
+use Rattle.low_process.specs.Looks.{IsHand}
 use Rattle.recovery.specs.Deals.{HandsFit, number_of, numbered, passing}
 use Rattle.recovery.proofs.Refill.{passing_next}
 use Rattle.two_worlds.proofs.Opening.Restarting.{number_some}
@@ -38,3 +39,8 @@ some_if false n = refl
 -- a message is held exactly where all places are taken
 pub held_is : (hand : Option Item) (b : Bool) (n : ℕ) → number_of hand ≡ (if b then Some n else None) → is_some hand ≡ b
 held_is hand b n is = sym (number_some hand) ∙ ap is_some is ∙ some_if b n
+
+-- where a message is in the hand, one is stored
+pub some_next : (next : ℕ) (hand : Option Item) → IsHand next hand → is_some hand ≡ true → 1 ≤ next
+some_next next None is some = absurd (cc)
+some_next next (Some x) is some = omega (arith, is)

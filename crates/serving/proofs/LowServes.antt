@@ -1,18 +1,22 @@
 -- What the low worker did, from the run of its half.
-use Rattle.std.proofs.Common.{◌≡◌, ℕ, ◌≤◌, ◌<◌, Bool, true, false, List, [], ◌++◌, length, Option, Some, None, refl, sym, ap, ◌∙◌, subst, append_assoc, arith}
-use Rattle.std.specs.Prelude.{Result, Ok, Err, OnOk, is_err, is_some}
+use Rattle.std.proofs.Common.{◌≡◌, ℕ, ◌≤◌, ◌<◌, Bool, true, false, List, [], ◌++◌, length, Option, Some, None, refl, sym, ap, ◌∙◌, subst, append_assoc, append-nil, arith}
+use Rattle.std.specs.Prelude.{Result, Ok, Err, OnOk, OnErr, is_err, is_some}
 use Rattle.std.specs.Io.KnownBytes.{Appends}
 use Rattle.rand_chacha.specs.ChaCha.{ChaCha, key_of}
 use Rattle.delay_table.specs.Streams.{AreWords}
 use Rattle.disk_model.specs.Disk.{Meaning}
+use Rattle.pump_frame.specs.Rows.{IsLawfulRow}
 use Rattle.pump_frame.specs.declared.frame.Item.{Item}
 use Rattle.pump_frame.specs.declared.row.SessionRow.{SessionRow}
+use Rattle.pump_link.specs.Causes.{AppendsFront, HasCause}
 use Rattle.pump_link.specs.Ports.{PortsStep}
 use Rattle.pump_link.specs.Tells.{Draws}
 use Rattle.pump_link.proofs.Grown.{Grows-all, Draws-all}
 use Rattle.pump_core.specs.Exchanges.{Part, IsCut, count_after}
 use Rattle.pump_core.specs.History.{Opening}
+use Rattle.pump_core.specs.Passage.{Shape, Low, High}
 use Rattle.pump_core.specs.Standing.{State, phase_after}
+use Rattle.script_reader.specs.Grammar.{IsCount}
 use Rattle.script_reader.specs.Spelling.{line_text}
 use Rattle.stable_buffer.specs.Low.{StandsForCount, low_disk, low_count}
 use Rattle.stable_buffer.specs.declared.low.LowStore.{LowStore}
@@ -20,17 +24,20 @@ use Rattle.low_process.specs.declared.values.Phase.{Phase}
 use Rattle.low_process.specs.declared.values.Phase.TheVariants as phases
 use Rattle.low_process.specs.declared.process.LowProcess.{LowProcess}
 use Rattle.low_process.specs.Looks.{row_of, next_of, opening_of, is_down, is_down_in, phase_of}
+use Rattle.relay_threads.specs.Levels.{IsEndOf}
 use Rattle.relay_threads.specs.LowServes.{Lives}
 use Rattle.relay_threads.specs.LowStays.{AreStays, is_kept_by, stayed, words_in, text_in}
 use Rattle.relay_threads.specs.Reaching.{Reaches}
 use Rattle.relay_threads.specs.RecordLines.{opening_line, coarse_text, first_text, looks_text, record_text}
 use Rattle.relay_threads.specs.Records.{AreMade, life_made, record_of}
+use Rattle.relay_threads.specs.Replays.{BeginsReadable, TellLevels}
 use Rattle.relay_threads.specs.Workers.{CountsEnd}
 use Rattle.relay_threads.specs.declared.rounds_end.RoundsEnd.{RoundsEnd}
 use Rattle.relay_threads.specs.declared.rounds_end.RoundsEnd.TheVariants as ends
+use Rattle.relay_threads.proofs.LowReplays.{stays_readable}
 use Rattle.serving.specs.Doors.{DoorsTell}
 use Rattle.serving.specs.LowEnds.{EndsLow}
-use Rattle.serving.specs.LowRuns.{LowLent, opening_text}
+use Rattle.serving.specs.LowRuns.{LowLent, found_in, opening_text}
 use Rattle.serving.specs.LowServing.{FindsLow, LowServed, is_lost}
 use Rattle.serving.specs.declared.low_half.LowParts.{LowParts}
 
@@ -58,6 +65,24 @@ opening_written {W} {S} {E} {T} {F} old new result row next parts row_is next_is
       by_result (Ok x) fine ok = ok
       by_result (Err x) fine ok = absurd (cc)
 
+-- a front of it was
+pub opening_broke : {W S E T F : Type 0} (old new : Option (List ℕ)) (before now : ℕ) (result : Result T F) (row : SessionRow) (next : ℕ) (parts : LowParts W S E) {failed : Bool}
+    → row ≡ row_of parts.process → next ≡ next_of parts.process → failed ≡ is_err result → failed ≡ true
+    → OnErr result (AppendsFront old new (first_text row (record { count = next; is_held = parts.is_held }))) → HasCause before now result → Reaches (Appends old new) before now false (opening_text parts ++ [])
+opening_broke {W} {S} {E} {T} {F} old new before now result row next parts row_is next_is asked broke err cause = by_result result (sym asked ∙ broke) err cause where
+  bytes_are : first_text row (record { count = next; is_held = parts.is_held }) ≡ opening_text parts ++ []
+  bytes_are = ap (λ (x : SessionRow × ℕ). first_text x.0 (record { count = x.1; is_held = parts.is_held })) (λ i. (row_is i, next_is i)) ∙ sym (append-nil (opening_text parts))
+
+  by_result : (r : Result T F) → is_err r ≡ true → OnErr r (AppendsFront old new (first_text row (record { count = next; is_held = parts.is_held }))) → HasCause before now r → Reaches (Appends old new) before now false (opening_text parts ++ [])
+  by_result (Ok x) broke err cause = absurd (cc)
+  by_result (Err x) broke err cause = record { whole = λ e. absurd (cc); front = subst (AppendsFront old new) bytes_are err; cause = λ e. cause.failed; later = cause.later }
+
+-- a reader of scripts reads it
+pub opening_reads : {W S E : Type 0} (row : SessionRow) (next : ℕ) (parts : LowParts W S E) → row ≡ row_of parts.process → next ≡ next_of parts.process
+    → (IsCount next parts.is_held → BeginsReadable row (record { count = next; is_held = parts.is_held })) → IsCount (found_in parts).count (found_in parts).is_held → BeginsReadable (row_of parts.process) (found_in parts)
+opening_reads row next parts row_is next_is reads =
+    subst (λ (x : SessionRow × ℕ). IsCount x.1 parts.is_held → BeginsReadable x.0 (record { count = x.1; is_held = parts.is_held })) (λ i. (row_is i, next_is i)) reads
+
 lost_is : (phase : Phase) (hand : ℕ) → is_lost (phase_of phase hand) ≡ is_down_in phase
 lost_is phases.Idle hand = refl
 lost_is (phases.Passing true) hand = refl
@@ -65,9 +90,9 @@ lost_is (phases.Passing false) hand = refl
 lost_is (phases.Waiting number due) hand = refl
 lost_is phases.Down hand = refl
 
-module _ {D L S E : Type 0} (t : DoorsTell D L) (m : Meaning S) (row : SessionRow) (rounds : ℕ) (key : List ℕ) (ports now_ports : List (PortsStep L D) → Type 0) (reads now_reads : List ℕ → Type 0)
+module _ {D L S E : Type 0} (t : DoorsTell D L) (m : Meaning S) (stands : E → Low → High → Type 0) (shape : E → Shape) (row : SessionRow) (rounds : ℕ) (key : List ℕ) (ports now_ports : List (PortsStep L D) → Type 0) (reads now_reads : List ℕ → Type 0)
     (written now_written : Option (List ℕ)) (faults now_faults next : ℕ) (hand : Option Item) (parts : LowParts ChaCha S E) (was store : LowStore S) (disk now_disk : S) (end : RoundsEnd)
-    (lent : LowLent t m words_given ports now_ports reads now_reads written now_written faults now_faults row.low_port rounds parts store end)
+    (lent : LowLent t m words_given stands shape ports now_ports reads now_reads written now_written faults now_faults row.low_port rounds parts store end)
     (row_is : row_of parts.process ≡ row) (next_is : next_of parts.process ≡ next) (held_is : parts.is_held ≡ is_some hand)
     (lives : Lives parts.process (opening_of next hand) []) (words_are : parts.words ≡ record { key = key_of key; stream = 0; word_pos = 0 })
     (store_was : parts.store ≡ was) (now_is : now_disk ≡ low_disk store)
@@ -114,6 +139,13 @@ module _ {D L S E : Type 0} (t : DoorsTell D L) (m : Meaning S) (row : SessionRo
       ∙ ap (λ (x : SessionRow × ℕ × Bool). first_text x.0 (record { count = x.1; is_held = x.2 }) ++ looks_text x.0 (record_of (stayed [] lent.ran.stays))) (λ i. (row_before i, next_before i, held_before i))
       ∙ append_assoc (line_text (opening_line row o)) (coarse_text row) (looks_text row (record_of (stayed [] lent.ran.stays)))
 
+  begins : IsCount next (is_some hand) → BeginsReadable row o
+  begins =
+      subst (λ (x : SessionRow × ℕ × Bool). IsCount x.1 x.2 → BeginsReadable x.0 (record { count = x.1; is_held = x.2 })) (λ i. (row_before i, next_before i, held_before i)) lent.ran.begins
+
+  are_stays : AreStays row o [] lent.ran.stays
+  are_stays = subst (λ (r : SessionRow). AreStays r o [] lent.ran.stays) row_before (lent.ran.so.rule o [] lived)
+
   -- the disk at the end is that of the half
   now_disk_is : low_disk lent.w.parts.store ≡ now_disk
   now_disk_is = ap low_disk lent.store_is ∙ sym now_is
@@ -133,13 +165,18 @@ module _ {D L S E : Type 0} (t : DoorsTell D L) (m : Meaning S) (row : SessionRo
   left_by told sound =
       subst (λ (x : ℕ × S). StandsForCount row x.0 (m.reading x.1)) (λ i. (ap (λ (s : State). s.next) lives_on.stands.stands.state i, now_disk_is i)) (stands_for told (is_up sound))
 
-  pub low_served : LowServed t m row rounds key ports now_ports reads now_reads written now_written faults now_faults disk now_disk end
-  low_served = record {
+  levels : IsEndOf stands shape parts.ends (row_of parts.process) → TellLevels row (stayed [] lent.ran.stays)
+  levels end =
+      let here : IsEndOf stands shape lent.v.parts.ends (row_of p) = subst (λ (x : LowParts ChaCha S E). IsEndOf stands shape x.ends (row_of x.process)) (sym lent.parts_are) end in
+      subst (λ (z : SessionRow). TellLevels z (stayed [] lent.ran.stays)) row_before (lent.ran.levels here)
+
+  pub low_served : IsLawfulRow row → IsCount next (is_some hand) → IsEndOf stands shape parts.ends (row_of parts.process) → LowServed t m row rounds key ports now_ports reads now_reads written now_written faults now_faults disk now_disk end
+  low_served lawful counted end_is_rows = record {
     opening = o;
     found = found;
     is_opened = lent.ran.is_opened;
     stays = lent.ran.stays;
-    are = subst (λ (r : SessionRow). AreStays r o [] lent.ran.stays) row_before (lent.ran.so.rule o [] lived);
+    are = are_stays;
     made = subst (λ (r : SessionRow). AreMade r o (stayed [] lent.ran.stays)) row_after lives_on.are_made;
     ends = subst (λ (e : RoundsEnd). EndsLow lent.ran.is_opened lent.ran.stays rounds e) lent.end_is lent.ran.ends;
     at = record {
@@ -154,6 +191,8 @@ module _ {D L S E : Type 0} (t : DoorsTell D L) (m : Meaning S) (row : SessionRo
     moments = lent.ran.moments;
     words = subst (λ (s : ChaCha). words_given s (words_in lent.ran.stays)) words_before (Draws-all (words_given lent.v.parts.words) (words_given lent.w.parts.words) (words_in lent.ran.stays) (no_words lent.w.parts.words) lent.ran.words);
     tape = subst (λ (x : RoundsEnd × List ℕ). Reaches (Appends written now_written) faults now_faults (is_kept_by (Some x.0)) x.1) (λ i. (lent.end_is i, record_is i)) lent.ran.tape;
+    readable = record { opening = (begins counted).opening; coarse = (begins counted).coarse; looks = stays_readable row o lent.ran.stays lawful are_stays };
+    levels = levels end_is_rows;
     left = λ told. (lived_parts, subst (λ (r : SessionRow). IsCut r (life_made o (stayed [] lent.ran.stays)) lived_parts) row_after lives_on.stands.stands.cut, left_by told);
     device = counts_from (Some end) (m.count disk) (m.count (low_disk lent.v.parts.store)) (m.count now_disk) first_counts
         (subst (λ (x : RoundsEnd × S). CountsEnd (Some x.0) (m.count (low_disk lent.v.parts.store)) (m.count x.1)) (λ i. (lent.end_is i, now_disk_is i)) lent.ran.device);

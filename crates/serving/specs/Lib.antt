@@ -4,5 +4,6 @@ pub mod HighServing
 pub mod LowEnds
 pub mod LowRuns
 pub mod LowServing
+pub mod Replayed
 pub mod Sessions
 pub mod WorkerEnds

@@ -18,6 +18,7 @@ use Rattle.relay_threads.specs.LowStays.{Stay, AreStays, TellsVisit, is_kept_by,
 use Rattle.relay_threads.specs.Reaching.{Reaches}
 use Rattle.relay_threads.specs.Records.{AreMade, life_made}
 use Rattle.relay_threads.specs.RecordLines.{record_text}
+use Rattle.relay_threads.specs.Replays.{AreReadable, TellLevels}
 use Rattle.relay_threads.specs.Workers.{CountsEnd}
 use Rattle.relay_threads.specs.declared.rounds_end.RoundsEnd.{RoundsEnd}
 use Rattle.serving.specs.Doors.{DoorsTell, AtDoor}
@@ -53,6 +54,10 @@ pub record LowServed {D L S : Type 0} (t : DoorsTell D L) (m : Meaning S) (row :
   pub words : AreWords (key_of key) 0 0 (words_in stays)
   -- the record of these looks was written, or a front of it
   pub tape : Reaches (Appends written now_written) faults now_faults (is_kept_by (Some end)) (record_text row opening (stayed [] stays))
+  -- a reader of scripts reads each line of it
+  pub readable : AreReadable row opening (stayed [] stays)
+  -- .. and each average that it tells is a level, where the session is coarse
+  pub levels : TellLevels row (stayed [] stays)
   -- the disk counts what the life stored, unless it failed
   pub left : m.tells → (parts : List Part) × IsCut row (life_made opening (stayed [] stays)) parts
       × (is_lost (phase_after row opening parts) ≡ false → StandsForCount row (count_after opening parts) (m.reading now_disk))

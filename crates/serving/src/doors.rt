@@ -112,7 +112,7 @@ where
     requires low_order { low_last low.process ≤ K.floor low_clock.old }
     requires high { HighReady D.told high.process high.store (H.stands high.ends) }
     requires high_order { high_last high.process ≤ K.floor high_clock.old }
-    ensures low { IfOk result.ends (λ ends. LowLent (doors P.Door.port P.Door.did P.Door.gives (links P.Link.gives P.Link.sent P.Link.faults)) D.told W.gives
+    ensures low { IfOk result.ends (λ ends. LowLent (doors P.Door.port P.Door.did P.Door.gives (links P.Link.gives P.Link.sent P.Link.faults)) D.told W.gives L.stands L.shape
         (P.did ports.old) (P.did ports.new) (K.reads low_clock.old) (K.reads low_clock.new) (O.written tape.old) (O.written tape.new) (O.faults tape.old) (O.faults tape.new)
         row.now.low_port rounds low result.low ends.low) }
     ensures high { IfOk result.ends (λ ends. HighLent (doors P.Door.port P.Door.did P.Door.gives (links P.Link.gives P.Link.sent P.Link.faults)) D.told

@@ -5,6 +5,7 @@
 mod doors;
 mod high_half;
 mod keys;
+mod laws;
 mod low_half;
 mod session;
 mod starting;
@@ -12,4 +13,5 @@ mod works;
 
 pub use doors::WorkersEnd;
 pub use keys::{KeyFault, read_key};
+pub use laws::served_records_replay;
 pub use session::{Served, SessionEnd, serve_session};

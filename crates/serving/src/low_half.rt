@@ -44,7 +44,7 @@ fn serve_low<T: Wait, R: Door, K: Clock, W: Words, D: Disk, L: WaitLowEnd, O: Si
     requires ready { Ready D.told half.old.parts.process half.old.parts.store (L.stands half.old.parts.ends) }
     requires up { is_down half.old.parts.process ≡ false }
     requires order { last_of half.old.parts.process ≤ K.floor clock.old }
-    ensures { LowRan (doors R.port R.did R.gives (links R.Link.gives R.Link.sent R.Link.faults)) D.told W.gives (K.reads clock.old) (K.reads clock.new)
+    ensures { LowRan (doors R.port R.did R.gives (links R.Link.gives R.Link.sent R.Link.faults)) D.told W.gives L.stands L.shape (K.reads clock.old) (K.reads clock.new)
         (O.written tape.old) (O.written tape.new) (O.faults tape.old) (O.faults tape.new) rounds half.old half.new }
 {
     let parts = &mut half.parts;
@@ -70,7 +70,7 @@ impl<R: Door, K: Clock, W: Words, D: Disk, L: WaitLowEnd, O: Sink> ServesLow<K, 
     for LowHalf<R, W, D, L> {
     ghost can_serve = { λ v k o. Ready D.told v.parts.process v.parts.store (L.stands v.parts.ends) × (is_down v.parts.process ≡ false) × (last_of v.parts.process ≤ K.floor k) };
 
-    ghost served = { λ n v w k j o t. LowRan (doors R.port R.did R.gives (links R.Link.gives R.Link.sent R.Link.faults)) D.told W.gives (K.reads k) (K.reads j)
+    ghost served = { λ n v w k j o t. LowRan (doors R.port R.did R.gives (links R.Link.gives R.Link.sent R.Link.faults)) D.told W.gives L.stands L.shape (K.reads k) (K.reads j)
         (O.written o) (O.written t) (O.faults o) (O.faults t) n v w };
 
     fn serve<T: Wait>(&mut self, rt: &T, clock: &mut K, tape: &mut O, rounds: u32) {

@@ -2,6 +2,7 @@ ghost use Rattle.std.specs.Prelude.{◌≡◌, ◌+◌, ◌-◌, ◌≤◌, ℕ,
 ghost use Rattle.pump_core.specs.Passage.{Low, High, new_low, new_high};
 ghost use Rattle.pump_frame.specs.Counts.{Rose};
 ghost use Rattle.pump_frame.specs.Rows.{IsLawfulRow};
+ghost use Rattle.relay_threads.specs.Levels.{IsEndOf};
 ghost use Rattle.serving.specs.Doors.{doors, links, WantDoor, OpensAndShuts};
 ghost use Rattle.serving.specs.HighServing.{HighServed};
 ghost use Rattle.serving.specs.LowServing.{LowServed};
@@ -70,6 +71,7 @@ where
     P::Door: Send,
     requires lawful { IsLawfulRow row.now }
     requires shape { (L.shape low_ends).places ≡ row.now.capacity - 2 }
+    requires averages { IsEndOf L.stands L.shape low_ends row.now }
     requires low_ends { L.stands low_ends new_low new_high }
     requires high_ends { (l : Low) × H.stands high_ends l new_high }
     ensures low { IfEnded result.end (λ ends. LowServed (doors P.Door.port P.Door.did P.Door.gives (links P.Link.gives P.Link.sent P.Link.faults)) D.told row.now rounds key

@@ -12,6 +12,7 @@ ghost use Rattle.high_process.specs.Past.{fresh};
 ghost use Rattle.high_process.specs.Ready.{Ready as HighReady};
 ghost use Rattle.high_process.specs.States.{last_of as high_last, row_of as high_row_of};
 ghost use Rattle.relay_threads.specs.LowServes.{Lives};
+ghost use Rattle.script_reader.specs.Grammar.{IsCount};
 
 use crate::high_half::HighParts;
 use crate::low_half::LowParts;
@@ -44,9 +45,11 @@ pub fn start_low<D: Disk, L: WaitLowEnd>(
     ensures row { low_row_of result.process ≡ row.now }
     ensures next { next_of result.process ≡ next }
     ensures held { result.is_held ≡ is_some hand }
+    ensures counted { IsCount next (is_some hand) }
     ensures lives { Lives result.process (opening_of next hand) [] }
     ensures words { result.words ≡ record { key = key_of key; stream = 0; word_pos = 0 } }
     ensures store { result.store ≡ store }
+    ensures kept { result.ends ≡ ends }
 {
     let is_held = hand.is_some();
     let process = LowProcess::open(row, next, hand);

@@ -2,6 +2,7 @@
 pub mod Comparing
 pub mod Ends
 pub mod Founds
+pub mod Headers
 pub mod Lives
 pub mod NewDisks
 pub mod Opened

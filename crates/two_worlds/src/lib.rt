@@ -13,4 +13,5 @@ mod pump;
 pub use applied::{Applied, Stop};
 pub use low_pump::LowPump;
 pub use not_open::NotOpen;
+pub use printing::events_of;
 pub use pump::{Pump, Survey, survey_disks};

@@ -26,8 +26,8 @@ use disk_model::Disk;
 use parts::Parts;
 use pump_frame::{Payload, SessionRow};
 use script_reader::{EventHead, Line, LineHead};
-use state::PumpState;
 use stable_buffer::Device;
+use state::PumpState;
 use std::alloc::Global;
 pub use surveying::{Survey, survey_disks};
 
@@ -43,7 +43,7 @@ pub struct Pump<D: Disk> {
 ghost use Rattle.two_worlds.specs.Keeping.{Keeps};
 
 impl<D: Disk> Pump<D> {
-    ghost use Rattle.std.specs.Prelude.{◌≡◌, ◌<◌, ◌≤◌, true, false, [], length, slice_index_or, None, OnOk, OnErr, IfOk, IfErr, IfSome};
+    ghost use Rattle.std.specs.Prelude.{◌≡◌, ◌<◌, ◌≤◌, ◌+◌, ◌^◌, true, false, [], length, slice_index_or, None, OnOk, OnErr, IfOk, IfErr, IfSome};
     ghost use Rattle.disk_model.specs.declared.name.Role.{Role};
     ghost use Rattle.disk_model.specs.declared.name.Role.TheVariants as roles;
     ghost use Rattle.pump_frame.specs.Rows.{IsLawfulRow};
@@ -59,6 +59,7 @@ impl<D: Disk> Pump<D> {
     ghost use Rattle.two_worlds.specs.Pumps.{row_of, StandsFor, StandsOrFails, counts_of, is_down, kept_moment, disk_at, Applies, AppliesOn};
     ghost use Rattle.two_worlds.specs.Rooms.{HasRoom, DisksGo};
     ghost use Rattle.two_worlds.specs.Reads.{ReadsOn, FailsReading};
+    ghost use Rattle.high_receiver.specs.Receiving.{record_at};
 
     /// The pump of a lawful row over three disks. Each that is empty is formatted first. Where they tell
     /// what they hold, the session begins on what they stand for, and where they stand for nothing they
@@ -95,6 +96,16 @@ impl<D: Disk> Pump<D> {
         Ok(Pump {
             state: PumpState::Open(parts),
         })
+    }
+
+    /// The row of the session.
+    pub fn row(&self) -> &SessionRow
+        ensures { result.now ≡ row_of self.now }
+    {
+        match &self.state {
+            PumpState::Open(parts) => &parts.row,
+            PumpState::Shut(disks) => &disks.row,
+        }
     }
 
     /// Whether the session is coarse.
@@ -170,6 +181,7 @@ impl<D: Disk> Pump<D> {
         ensures stands { (p : Past) → StandsFor D.told self.now p
             → result ≡ (length p.world.accepted, p.world.removed, length p.world.received) }
         ensures kept { result ≡ counts_of self.now }
+        ensures few { is_down self.now ≡ false → result.2 ≤ 2 ^ 48 }
     {
         match &self.state {
             PumpState::Open(parts) => (
@@ -179,6 +191,25 @@ impl<D: Disk> Pump<D> {
             ),
             PumpState::Shut(_) => (0, 0, 0),
         }
+    }
+
+    /// Message n of the receiver is put into the payload, as its disk has it. `at` is the offset of its
+    /// record, 80 for the first, and the answer is that of the next record: so the log is walked once. It
+    /// takes no memory, and changes no byte of a disk. After `Device` the pump is down: `close` alone may
+    /// follow, and its disks stand for what the pump stood for.
+    pub fn received(&mut self, n: u64, at: u64, into: &mut Payload) -> Result<u64, Device>
+        requires up { is_down self.old ≡ false }
+        requires taken { n < (counts_of self.old).2 }
+        requires place { D.told.tells → (p : Past) → StandsFor D.told self.old p → at ≡ record_at p.world.received n }
+        ensures message { OnOk result (D.told.tells → (p : Past) → StandsFor D.told self.old p
+            → into.new ≡ slice_index_or p.world.received n []) }
+        ensures next { IfOk result (λ next. D.told.tells → (p : Past) → StandsFor D.told self.old p
+            → next ≡ record_at p.world.received (n + 1)) }
+        ensures reads { OnOk result (ReadsOn D.told roles.Recv self.old self.new) }
+        ensures fails { OnErr result (FailsReading D.told roles.Recv self.old self.new) }
+        ensures device { IfErr result (λ e. e.faults ≡ D.told.count (disk_at roles.Recv self.new)) }
+    {
+        self.state.received(n, at, into)
     }
 
     /// Message n, which was accepted and is not removed, is put into the payload, as the low disk has it.

@@ -4,7 +4,6 @@ use Rattle.std.specs.Prelude.{slice_index_or}
 use Rattle.std.proofs.lemmas.List.{drop-drop, drop_at, take_at, take-append-drop}
 use Rattle.std.specs.List.{range_with_len}
 use Rattle.std.proofs.Math.Logic.{∥∥₁_elim, ∥∥₁_map}
-use Rattle.std.proofs.Props.{props}
 use Rattle.std.specs.Coded.{le_prop}
 use Rattle.disk_model.specs.Disk.{Meaning}
 use Rattle.pump_frame.specs.declared.row.SessionRow.{SessionRow}
@@ -18,6 +17,7 @@ use Rattle.pump_core.specs.Events.{Opened}
 use Rattle.pump_core.proofs.Laws.{begins_lawful}
 use Rattle.two_worlds.specs.Disks.{Opens, Hold, CrashesOpen}
 use Rattle.two_worlds.proofs.Disks.Crashes.{crashes_open, readings_open}
+use Rattle.two_worlds.proofs.Opening.Headers.{low_stands_is, high_stands_is}
 use Rattle.two_worlds.proofs.Opening.Ready.{disk_stands}
 
 -- ---- a log tells its messages ----
@@ -124,7 +124,7 @@ module _ (row : SessionRow) (a b c : List ℕ) (small : row.message < 2 ^ 16) wh
     same : (o : Opens row a b c) → o.world.accepted ≡ received ++ later (length received)
     same o = accepted_is o received (one_received row o.world.received received c o.recv_is stands)
 
-    agree : Agree 64 B received (later (length received))
+    agree : Agree 256 B received (later (length received))
     agree = record {
       taken = ∥∥₁_elim some le_prop (λ o. subst (λ (l : List (List ℕ)). B ≤ length l) (one_received row o.world.received received c o.recv_is stands) (has_removed o));
       fits = ∥∥₁_elim some le_prop (λ o. (let w = o.lawful.bounded in let l = ap length (same o) in let r = removed_is o in omega (arith, w.within.above, w.size, l, r)));
@@ -132,11 +132,11 @@ module _ (row : SessionRow) (a b c : List ℕ) (small : row.message < 2 ^ 16) wh
 
     opens_by : Opens row a b c
     opens_by = record {
-      world = opened 64 B received (later (length received));
-      lawful = begins_lawful _ (Opened 64 B received (later (length received)) (omega arith) (omega arith) agree);
-      low_is = ∥∥₁_elim some (hlevel props) (λ o.
-          subst (λ (t : List (List ℕ) × ℕ). LowStands row (length t.0) t.1 (drop t.1 t.0) a) (λ i. (same o i, removed_is o i)) o.low_is);
-      high_is = ∥∥₁_elim some (hlevel props) (λ o. subst (λ n. HighStands row n b) (removed_is o) o.high_is);
+      world = opened 256 B received (later (length received));
+      lawful = begins_lawful _ (Opened 256 B received (later (length received)) (omega arith) (omega arith) agree);
+      low_is = low_stands_is row _ _ _ a (∥∥₁_map some (λ o.
+          subst (λ (t : List (List ℕ) × ℕ). LowStands row (length t.0) t.1 (drop t.1 t.0) a) (λ i. (same o i, removed_is o i)) o.low_is));
+      high_is = high_stands_is row B b (∥∥₁_map some (λ o. subst (λ n. HighStands row n b) (removed_is o) o.high_is));
       recv_is = stands;
     }
 

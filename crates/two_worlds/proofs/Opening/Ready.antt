@@ -1,6 +1,6 @@
 -- The stores and the receiver of parts that work are ready.
 use Rattle.std.proofs.Common.{◌≡◌, inl, inr, ℕ, ◌≤◌, false, true, List, [], length, Option, Some, None, refl, sym, ap, ◌∙◌, subst, arith}
-use Rattle.std.proofs.Math.Logic.{∥∥₁_elim}
+use Rattle.std.proofs.Math.Logic.{∥∥₁_elim, ∥∥₁_map}
 use Rattle.std.proofs.Props.{props}
 use Rattle.std.specs.Coded.{le_prop}
 use Rattle.disk_model.specs.Disk.{Meaning}
@@ -19,6 +19,7 @@ use Rattle.pump_core.specs.World.{World}
 use Rattle.two_worlds.specs.Disks.{LowFits, HighFits, RecvFits, live_messages}
 use Rattle.two_worlds.specs.declared.pump.parts.Parts.{Parts}
 use Rattle.two_worlds.specs.Working.{IsAble}
+use Rattle.two_worlds.proofs.Opening.Headers.{header_is, high_stands_is}
 
 -- ---- what a disk stands for at rest ----
 
@@ -53,7 +54,7 @@ disk_stands row disk some =
     let log = found row.message v.0 (log_of v.1 disk) (∥∥₁_elim some (hlevel props) (λ s. fills row s.0 disk s.1)) in (
       log.0,
       record {
-        header = ∥∥₁_elim some (hlevel props) (λ s. s.1.header);
+        header = header_is row _ _ (∥∥₁_map some (λ s. s.1.header));
         end = v.1;
         from = ∥∥₁_elim some le_prop (λ s. subst (λ (n : ℕ). 80 ≤ n) (end_is row s.0 disk s.1) s.1.from);
         within = ∥∥₁_elim some le_prop (λ s. subst (λ (n : ℕ). n ≤ length disk) (end_is row s.0 disk s.1) s.1.within);
@@ -93,7 +94,7 @@ module _ {D : Type 0} (m : Meaning D) (c : Parts D) (able : IsAble m c) where
         E,
         [],
         record {
-          header = ∥∥₁_elim able.works (hlevel props) (λ s. (s.low_ready.store.ready.stands told).2.header);
+          header = header_is row _ _ (∥∥₁_map able.works (λ s. (s.low_ready.store.ready.stands told).2.header));
           size = ∥∥₁_elim able.works (hlevel props) (λ s. (s.low_ready.store.ready.stands told).2.size);
           value = ∥∥₁_elim able.works (hlevel props) (λ s. (s.low_ready.store.ready.stands told).2.value);
           kept = omega arith;
@@ -125,9 +126,9 @@ module _ {D : Type 0} (m : Meaning D) (c : Parts D) (able : IsAble m c) where
   }
 
   high_stands : m.tells → HighStands c.row (high_count c.high_store) (m.reading (high_disk c.high_store))
-  high_stands told = ∥∥₁_elim (able.stands told) (hlevel props) (λ s.
+  high_stands told = high_stands_is c.row (high_count c.high_store) (m.reading (high_disk c.high_store)) (∥∥₁_map (able.stands told) (λ s.
       subst (λ (n : ℕ). HighStands c.row n (m.reading (high_disk c.high_store))) (s.1.world.removed ∙ sym s.1.high_ready.count)
-      (high_reading c.row s.0.world (m.reading (high_disk c.high_store)) s.1.sound.rest.removing (s.1.disks.high_disk.reading told)))
+      (high_reading c.row s.0.world (m.reading (high_disk c.high_store)) s.1.sound.rest.removing (s.1.disks.high_disk.reading told))))
 
   pub high_is_up : high.is_down c.high ≡ false
   high_is_up = ∥∥₁_elim able.works (hlevel props) (λ s. s.high_ready.up)

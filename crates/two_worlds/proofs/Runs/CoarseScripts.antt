@@ -142,6 +142,7 @@ made_in_low (lines.Session row ∷ later) = made_in_low later
 made_in_low (lines.LowSession row next held ∷ later) = made_in_low later
 made_in_low (lines.Look session m w a ∷ later) = made_in_low later
 made_in_low (lines.Told session m w fault told a ∷ later) = made_in_low later
+made_in_low (lines.Step session m w ∷ later) = made_in_low later
 made_in_low (lines.Gone session m ∷ later) = made_in_low later
 made_in_low (lines.High session m ∷ later) = made_in_low later
 made_in_low (lines.Carry session back ∷ later) = made_in_low later

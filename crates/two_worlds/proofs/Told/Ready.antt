@@ -1,6 +1,6 @@
 -- The parts of a low pump that stand for something may be given a line.
 use Rattle.std.proofs.Common.{◌≡◌, ℕ, ◌≤◌, Bool, true, false, [], refl, ap, arith}
-use Rattle.std.proofs.Math.Logic.{∥∥₁_elim}
+use Rattle.std.proofs.Math.Logic.{∥∥₁_elim, ∥∥₁_map}
 use Rattle.std.proofs.Props.{props}
 use Rattle.std.specs.Coded.{le_prop}
 use Rattle.disk_model.specs.Disk.{Meaning}
@@ -14,6 +14,7 @@ use Rattle.low_process.specs.Looks.{IsBetweenLooks, last_of, is_down}
 use Rattle.low_process.specs.Whole.{HasStore}
 use Rattle.two_worlds.specs.declared.low_pump.parts.LowParts.{LowParts}
 use Rattle.two_worlds.specs.LowParts.{StandsForSome}
+use Rattle.two_worlds.proofs.Opening.Headers.{header_is}
 
 -- the count alone tells what the disk of a ready store stands for
 store_stands : {D : Type 0} (m : Meaning D) (store : LowStore D) → ∥ IsLowReady m store ∥₁ → m.tells → StandsForCount (low_row store) (low_count store) (m.reading (low_disk store))
@@ -21,7 +22,7 @@ store_stands m store some told = (
   low_count store,
   [],
   record {
-    header = ∥∥₁_elim some (hlevel props) (λ s. (s.stands told).2.header);
+    header = header_is (low_row store) _ _ (∥∥₁_map some (λ s. (s.stands told).2.header));
     size = ∥∥₁_elim some (hlevel props) (λ s. (s.stands told).2.size);
     value = ∥∥₁_elim some (hlevel props) (λ s. (s.stands told).2.value);
     kept = omega arith;

@@ -1,9 +1,10 @@
 //! A message of a pump is read from its disk.
 
-ghost use Rattle.std.specs.Prelude.{◌≡◌, ◌<◌, ◌≤◌, true, false, [], slice_index_or, OnOk, OnErr, IfErr};
+ghost use Rattle.std.specs.Prelude.{◌≡◌, ◌<◌, ◌≤◌, ◌+◌, true, false, [], slice_index_or, IfOk, OnOk, OnErr, IfErr};
 ghost use Rattle.disk_model.specs.Disk.{Moves, Same};
 ghost use Rattle.disk_model.specs.declared.name.Role.TheVariants as roles;
 ghost use Rattle.high_process.specs.States as high;
+ghost use Rattle.high_receiver.specs.Receiving.{IsRecvReady, recv_count, recv_disk, recv_end, recv_is_open, recv_row, recv_size, record_at};
 ghost use Rattle.low_process.specs.Looks as low;
 ghost use Rattle.script_reader.specs.Past.{Past};
 ghost use Rattle.stable_buffer.specs.Low.{IsLowReady, low_count, low_disk, low_row};
@@ -39,8 +40,37 @@ impl<D: Disk> Parts<D> {
         if self.low.next() - n > u64::from(self.row.capacity) {
             return Ok(());
         }
-        self.low_store.slot(n, into)?;
-        Ok(())
+        match self.low_store.slot(n, into) {
+            Ok(_) => Ok(()),
+            Err(device) => Err(device),
+        }
+    }
+
+    // Message n of the receiver, whose record is at this offset, and the offset of the next record. Over
+    // disks that do not agree no record may be there: the offset is cut at the end of the records.
+    fn received(&mut self, n: u64, at: u64, into: &mut Payload) -> Result<u64, Device>
+        requires able { IsAble D.told self.old }
+        requires taken { n < recv_count self.old.receiver }
+        requires place { D.told.tells → (p : Past) → Stands D.told self.old p → at ≡ record_at p.world.received n }
+        ensures message { OnOk result (D.told.tells → (p : Past) → Stands D.told self.old p → into.new ≡ slice_index_or p.world.received n []) }
+        ensures next { IfOk result (λ next. D.told.tells → (p : Past) → Stands D.told self.old p → next ≡ record_at p.world.received (n + 1)) }
+        ensures rest { self.new ≡ record self.old { receiver = self.new.receiver } }
+        ensures ready { OnOk result (IsRecvReady D.told self.new.receiver) }
+        ensures count { recv_count self.new.receiver ≡ recv_count self.old.receiver }
+        ensures end { recv_end self.new.receiver ≡ recv_end self.old.receiver }
+        ensures row { recv_row self.new.receiver ≡ recv_row self.old.receiver }
+        ensures size { recv_size self.new.receiver ≡ recv_size self.old.receiver }
+        ensures same { Moves D.told Same (recv_disk self.old.receiver) (recv_disk self.new.receiver) }
+        ensures serves { OnOk result (Serves D.told 0 (recv_disk self.old.receiver) (recv_disk self.new.receiver) false) }
+        ensures fails { OnErr result (Serves D.told 0 (recv_disk self.old.receiver) (recv_disk self.new.receiver) true) }
+        ensures closed { OnErr result (recv_is_open self.new.receiver ≡ false) }
+        ensures device { IfErr result (λ e. e.faults ≡ D.told.count (recv_disk self.new.receiver)) }
+    {
+        let place = at.min(self.receiver.end());
+        match self.receiver.at(n, place, into) {
+            Ok(next) => Ok(next),
+            Err(device) => Err(device),
+        }
     }
 }
 
@@ -73,6 +103,28 @@ impl<D: Disk> PumpState<D> {
                 replace_with(self, (), PumpState::shut);
                 Err(device)
             }
+        }
+    }
+
+    /// Message n of the receiver, whose record is at this offset, and the offset of the next record.
+    pub fn received(&mut self, n: u64, at: u64, into: &mut Payload) -> Result<u64, Device>
+        requires able { IsOpenWith (IsAble D.told) self.old }
+        requires taken { n < (counts_in self.old).2 }
+        requires place { D.told.tells → (p : Past) → StandsIn D.told self.old p → at ≡ record_at p.world.received n }
+        ensures message { OnOk result (D.told.tells → (p : Past) → StandsIn D.told self.old p → into.new ≡ slice_index_or p.world.received n []) }
+        ensures next { IfOk result (λ next. D.told.tells → (p : Past) → StandsIn D.told self.old p → next ≡ record_at p.world.received (n + 1)) }
+        ensures reads { OnOk result (ReadsIn D.told roles.Recv self.old self.new) }
+        ensures able { OnOk result (IsOpenWith (IsAble D.told) self.new) }
+        ensures fails { OnErr result (FailsToRead D.told roles.Recv self.old self.new) }
+        ensures device { IfErr result (λ e. e.faults ≡ D.told.count (bare_disk roles.Recv (disks_in self.new))) }
+    {
+        let read = match self {
+            PumpState::Open(parts) => parts.received(n, at, into),
+            PumpState::Shut(_) => unreachable!(),
+        };
+        match read {
+            Ok(next) => Ok(next),
+            Err(device) => Err(device),
         }
     }
 }

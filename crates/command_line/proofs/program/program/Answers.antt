@@ -14,4 +14,5 @@ returns c =
     let serve = c.in_ok-all-6.ensures ∙ ap₂ (λ (a s : App). with_subcommand a s.top) race c.in_ok-with_three-2.ensures.app in
     let receive = c.in_ok-all-7.ensures ∙ ap₂ (λ (a s : App). with_subcommand a s.top) serve c.in_ok-with_three-3.ensures.app in
     let send = c.in_ok-all-8.ensures ∙ ap₂ (λ (a s : App). with_subcommand a s.top) receive c.in_ok-with_three-4.ensures.app in
-    IfOk-weaker c.with-9.result _ _ (λ p h. h ∙ ap₂ (λ (a s : App). with_subcommand a s.top) send c.in_ok-with_four.ensures.app) c.with-9.ensures
+    let migrate = c.in_ok-all-9.ensures ∙ ap₂ (λ (a s : App). with_subcommand a s.top) send c.in_ok-with_four.ensures.app in
+    IfOk-weaker c.with-10.result _ _ (λ p h. h ∙ ap₂ (λ (a s : App). with_subcommand a s.top) migrate c.in_ok-with_two-4.ensures.app) c.with-10.ensures

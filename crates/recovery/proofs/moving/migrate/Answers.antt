@@ -9,7 +9,7 @@ use Rattle.stable_buffer.specs.Stands.{LowStands, HighStands}
 use Rattle.recovery.specs.Moves.{first_full, first_unfit}
 use Rattle.recovery.specs.Refusals.{or_else}
 use Rattle.recovery.specs.Surveys.{IsSurveyed}
-use Rattle.recovery.proofs.Moved.{IsJust, made_same, made_after, made_weaker, fit_both, just, not_refused, at_old, kept_on, value_is}
+use Rattle.recovery.proofs.Moved.{IsJust, made_same, made_after, made_weaker, fit_both, just, not_refused, at_old, kept_on, value_is, was_empty}
 use Rattle.recovery.proofs.Surveys.{kept_after}
 use Rattle.recovery.proofs.moving.migrate.Goals as goal
 
@@ -281,6 +281,7 @@ returns-clause-moved g c = λ told.
       received,
       found,
       count,
+      was_empty m new c.check_all.new.new told c.check_all.ensures.new_low.moves c.check_all.ensures.new_high.moves c.check_all.ensures.new_recv.moves (c.in_default.ensures.empty told),
       record {
         low_stands = done.low told live (subst (λ (z : List ℕ). LowStands from k.accepted k.removed live z) (sym (c.check_all.ensures.old_low.moves.reads told ∙ low_same told)) found.stand.low_stands) fits.live_fits;
         high_stands = done.high told;
@@ -289,3 +290,19 @@ returns-clause-moved g c = λ told.
             (value_is (m.reading old.recv) k.received k.end (ap (λ (v : ℕ × ℕ). v.0) found.stand.recv_stands.value ∙ count) end)) fits.received_fits;
       },
     )
+
+pub returns-in-Err-clause-full : goal.returns-in-Err-clause-full
+returns-in-Err-clause-full g c = λ told not_empty.
+    let same = started g.D.Disk.told Same (λ d. refl) in (same c.args.new.low, same c.args.new.high, same c.args.new.recv)
+
+pub returns-in-Err-check_all-clause-full : goal.returns-in-Err-check_all-clause-full
+returns-in-Err-check_all-clause-full g c = λ told not_empty.
+    (c.check_all.ensures.new_low.moves, c.check_all.ensures.new_high.moves, c.check_all.ensures.new_recv.moves)
+
+pub returns-in-Err-write_all-clause-full : goal.returns-in-Err-write_all-clause-full
+returns-in-Err-write_all-clause-full g c = λ told not_empty.
+    absurd (not_empty (was_empty g.D.Disk.told c.args.new c.check_all.new.new told c.check_all.ensures.new_low.moves c.check_all.ensures.new_high.moves c.check_all.ensures.new_recv.moves (c.in_default.ensures.empty told)))
+
+pub returns-clause-full : goal.returns-clause-full
+returns-clause-full g c = λ told not_empty.
+    absurd (not_empty (was_empty g.D.Disk.told c.args.new c.check_all.new.new told c.check_all.ensures.new_low.moves c.check_all.ensures.new_high.moves c.check_all.ensures.new_recv.moves (c.in_default.ensures.empty told)))

@@ -1,20 +1,25 @@
-use Rattle.std.proofs.Common.{[], refl, sym, ◌∙◌, subst, le_refl, le_trans}
+use Rattle.std.proofs.Common.{List, [], ◌≤◌, ◌^◌, refl, sym, ap, ◌∙◌, subst, le_refl, le_trans}
 use Rattle.std.specs.Prelude.{option_map}
 use Rattle.std.specs.Io.KnownBytes.{Appends}
 use Rattle.pump_link.proofs.Grown.{Draws-kept, Grows-then}
 use Rattle.pump_link.proofs.Known.{Appends-none}
-use Rattle.low_process.specs.Looks.{arrival_of, is_down, hand_of, row_of}
+use Rattle.low_process.specs.Looks.{arrival_of, is_down, hand_of, row_of, IsInBounds}
 use Rattle.low_process.specs.Heads.{look_with}
 use Rattle.low_process.specs.Storing.{message_in}
 use Rattle.low_process.specs.Ends.{StandsFitting}
 use Rattle.low_process.proofs.Offering.{stands_for_some}
+use Rattle.pump_frame.specs.Rows.{IsLawfulRow}
 use Rattle.pump_frame.specs.declared.row.SessionRow.{SessionRow}
+use Rattle.pump_core.specs.Passage.{Shape}
 use Rattle.pump_core.specs.ReplyFrames.{frame_of}
 use Rattle.pump_link.specs.Tells.{Grows}
 use Rattle.relay_threads.specs.declared.record.LookMade.{LookMade}
 use Rattle.relay_threads.specs.Reaching.{Reaches}
+use Rattle.relay_threads.specs.Records.{Made}
 use Rattle.relay_threads.specs.RecordLines.{made_by}
+use Rattle.relay_threads.specs.Replays.{ReadsBack}
 use Rattle.relay_threads.specs.LowServes.{bytes_of, text_after}
+use Rattle.relay_threads.proofs.Levels.{step_tells}
 use Rattle.relay_threads.proofs.Reaching.{rose_later, reaches_all, reaches_behind}
 use Rattle.relay_threads.proofs.LowTurning.{counts_by, rose_by, fault_by, down_is, round_failed, failed_turn, made_turn, round, failed_cause, made_cause, link_by}
 use Rattle.relay_threads.proofs.low_round.low_round.Goals as goal
@@ -39,6 +44,7 @@ returns-then-is_failed-clause-turn g c =
       failed_cause h.0 heard h.3 failed,
       refl,
       refl,
+      (λ end. tt),
     )
 
 pub returns-clause-turn : goal.returns-clause-turn
@@ -63,10 +69,13 @@ returns-clause-turn g c =
     let s1 = C.sent c.hear_if-heard.new.link in
     let s2 = C.sent c.answer-is_sent.new.link in
     let shown : LookMade = record { moment = m; word = w; arrival = c.arrival_in-arrival.result; look = head } in
+    let row_is = c.row-2.ensures ∙ c.look_waiting_into.ensures.row in
+    let reads = subst (λ (z : SessionRow). IsLawfulRow z → m ≤ 2 ^ 62 → IsInBounds head.feedback → (before : List Made) → ReadsBack z before (made_by z shown)) row_is c.record_look-is_kept.ensures.reads in
     let fine = sym c.if-is_failed.ensures in
     let down = c.is_down.ensures ∙ down_is (is_down q) (is_down p) looks.0 c.requires.up looks.1.falls in (
       round p _ h.0 heard m w h.3 wanted h.2 q looks.0 l a sent kept n,
-      made_turn p _ h.0 heard m w h.3 wanted h.2 q looks.0 l a sent kept n c.look_waiting_into.ensures.row (le_trans c.requires.order c.moment-moment.ensures.from) fine c.arrival_in-arrival.ensures.is looks.1.looks,
+      made_turn p _ h.0 heard m w h.3 wanted h.2 q looks.0 l a sent kept n c.look_waiting_into.ensures.row (le_trans c.requires.order c.moment-moment.ensures.from) fine c.arrival_in-arrival.ensures.is looks.1.looks
+          (λ lawful before is. let r = reads lawful c.moment-moment.ensures.bound c.look_waiting_into.ensures.bounds before is in record { line = r.line; reply = r.reply }),
       h.4,
       Draws-kept _ _ _ _ h.5 c.answer-is_sent.ensures.gives,
       subst (λ (z : SessionRow). Reaches (Grows s0 s2) (C.faults c.args.link.now) (C.faults c.answer-is_sent.new.link) sent (bytes_of (option_map (frame_of z.id) head.reply)))
@@ -77,10 +86,14 @@ returns-clause-turn g c =
       c.word-word.ensures.gives,
       (λ before e.
           subst (λ (z : SessionRow). Reaches (Appends (O.written c.args.tape.now) (O.written c.record_look-is_kept.new.tape)) (O.faults c.args.tape.now) (O.faults c.record_look-is_kept.new.tape) kept (text_after z before (made_by z shown)))
-          (c.row-2.ensures ∙ c.look_waiting_into.ensures.row) (c.record_look-is_kept.ensures before e)),
+          row_is (c.record_look-is_kept.ensures.text before e)),
       c.why_left.ensures ∙ made_cause h.0 heard kept c.is_down.result looks.0 sent n h.3 down,
       c.is_full.ensures,
       c.is_ack.ensures (row_of p).id,
+      (λ end.
+          let was = c.requires.ready in
+          step_tells g.L.LowSide.stands g.L.LowSide.shape c.look_waiting_into.new.ends (row_of p) end.0 (ap (λ (s : Shape). s.averaging) c.look_waiting_into.ensures.shape ∙ end.1)
+          (g.L.LowSide.shape c.args.ends.now) g.L.LowSide.on_one_thread q was.l was.h (hand_of p) head.feedback (c.look_waiting_into.ensures.ends was.l was.h was.fitting)),
     )
 
 pub returns-clause-ready : goal.returns-clause-ready

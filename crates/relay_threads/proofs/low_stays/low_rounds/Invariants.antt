@@ -1,9 +1,11 @@
-use Rattle.std.proofs.Common.{◌-◌, ◌≡◌, ℕ, ◌≤◌, ◌<◌, List, None, false}
+use Rattle.std.proofs.Common.{◌-◌, ◌≡◌, ℕ, ◌≤◌, ◌<◌, List, [], None, false}
 use Rattle.std.specs.List.{AllByRecursion}
 use Rattle.stable_buffer.specs.Low.{low_disk}
 use Rattle.low_process.specs.Ready.{Ready}
 use Rattle.low_process.specs.Looks.{row_of, last_of, is_down}
-use Rattle.relay_threads.specs.LowStays.{Stay, StaysSo, IsOver, count, newest_end}
+use Rattle.relay_threads.specs.Levels.{IsEndOf}
+use Rattle.relay_threads.specs.LowStays.{Stay, StaysSo, IsOver, count, newest_end, stayed}
+use Rattle.relay_threads.specs.Replays.{TellLevels}
 use Rattle.relay_threads.proofs.LowStaying.{StaysTold}
 use Rattle.relay_threads.proofs.low_stays.low_rounds.Given as goal
 
@@ -12,6 +14,7 @@ invariant-loop-made g l = record {
   stays : List (Stay g.row.P-Link.Denot);
   so : StaysSo l.fn.process l.process stays;
   told : StaysTold g.P.Link.Link.gives g.P.Link.Link.sent g.P.Link.Link.faults (g.P.Door.did l.fn.door) (g.P.Door.did l.door) (g.P.Door.gives l.fn.door) (g.P.Door.gives l.door) (g.K.Clock.reads l.fn.clock) (g.K.Clock.reads l.clock) (g.W.Words.gives l.fn.words) (g.W.Words.gives l.words) (g.O.Sink.written l.fn.tape) (g.O.Sink.written l.tape) (row_of l.fn.process) stays;
+  levels : IsEndOf g.L.LowSide.stands g.L.LowSide.shape l.fn.ends (row_of l.fn.process) → TellLevels (row_of l.fn.process) (stayed [] stays);
   on : newest_end stays ≡ None;
   over : l.made < l.most → AllByRecursion IsOver stays;
   made : l.made ≡ count stays;

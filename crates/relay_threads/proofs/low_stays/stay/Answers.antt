@@ -23,6 +23,7 @@ returns-in-Came-clause-stay g c =
       Draws-then _ _ _ _ _ c.moment.ensures.reads v.8,
       v.9,
       v.10,
+      v.11,
     )
 
 pub returns-in-NotYet-clause-stay : goal.returns-in-NotYet-clause-stay
@@ -38,4 +39,5 @@ returns-in-NotYet-clause-stay g c =
       c.moment.ensures.reads,
       Draws-nil _,
       reaches_all _ _ _ [] (le_refl _) (Appends-none _),
+      (λ end. tt),
     )

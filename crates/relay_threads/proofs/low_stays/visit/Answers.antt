@@ -2,7 +2,8 @@ use Rattle.std.proofs.Common.{Some, None, sym, ◌∙◌, subst, true, append-ni
 use Rattle.pump_link.proofs.Grown.{Draws-then}
 use Rattle.pump_link.specs.Tells.{Draws}
 use Rattle.low_process.specs.Looks.{row_of}
-use Rattle.relay_threads.specs.LowRounds.{moments_of}
+use Rattle.relay_threads.specs.LowRounds.{made_in, moments_of}
+use Rattle.relay_threads.proofs.Levels.{levels_then}
 use Rattle.relay_threads.proofs.LowVisiting.{stays_on, goes, caused_by, bound_of, left_of, ends_without, ends_with, kept_alone, kept_both}
 use Rattle.relay_threads.proofs.low_stays.visit.Goals as goal
 
@@ -25,6 +26,7 @@ returns-then-not-is_left_so-clause-visit g c =
       subst (Draws (g.K.Clock.reads c.args.clock.now) (g.K.Clock.reads c.serve_low-served.new.clock)) (sym (append-nil (moments_of rounds))) s.5,
       s.6,
       kept_alone _ _ _ _ (row_of c.args.process.now) rounds most why e s.7 c.end_by.result c.end_by.ensures,
+      s.9,
     )
 
 pub returns-clause-visit : goal.returns-clause-visit
@@ -47,4 +49,5 @@ returns-clause-visit g c =
       Draws-then _ _ _ _ _ s.5 l.3,
       s.6,
       kept_both _ _ _ _ (row_of c.args.process.now) rounds most why e s.7 _ _ (row_of c.serve_low-served.new.process) l.0 c.leave-is_kept.result c.end_kept.result left s.1.row c.end_kept.ensures l.4,
+      levels_then g.L.LowSide.stands g.L.LowSide.shape c.args.ends.now c.serve_low-served.new.ends (row_of c.args.process.now) (row_of c.serve_low-served.new.process) (Some l.0) (made_in rounds) c.serve_low-served.ensures.shape s.1.row s.9 l.5,
     )

@@ -1,6 +1,8 @@
 use Rattle.std.proofs.Common.{◌≡◌, ◌≤◌, ◌+◌, ◌-◌, ℕ, refl, sym, ap, ◌∙◌, subst, arith}
 use Rattle.std.specs.Prelude.{◌==◌}
 use Rattle.pump_core.specs.Passage.{new_low, new_high}
+use Rattle.low_process.specs.Looks.{row_of}
+use Rattle.relay_threads.proofs.Levels.{still_end}
 use Rattle.recovery.specs.Calls.{is_device}
 use Rattle.recovery.specs.Deals.{numbered, passing}
 use Rattle.script_reader.proofs.Opened.{row_capacity}
@@ -55,8 +57,9 @@ returns-clause-low g c =
     let row = c.args.row.now in
     let (messages, stands, dealt) = e.dealt in
     ended_so served.result.ends c.end_of.result c.end_of.ensures _ _ served.ensures.low
-    (λ (ends : WorkersEnd) lent. low_served _ g.D.Disk.told row _ c.args.key _ _ _ _ _ _ _ _ o.next o.low_hand c.start_low-low.result o.low served.result.low c.args.low c.into_disk.result ends.low lent
-    s.row s.next s.held s.lives s.words s.store c.into_disk.ensures (λ told. (o.removed, messages, stands told, held_is o.low_hand (o.next == o.removed + row.capacity) (o.next - 1) e.hands.last)) e.calls_low.counts)
+    (λ (ends : WorkersEnd) lent. low_served _ g.D.Disk.told g.L.LowSide.stands g.L.LowSide.shape row _ c.args.key _ _ _ _ _ _ _ _ o.next o.low_hand c.start_low-low.result o.low served.result.low c.args.low c.into_disk.result ends.low lent
+    s.row s.next s.held s.lives s.words s.store c.into_disk.ensures (λ told. (o.removed, messages, stands told, held_is o.low_hand (o.next == o.removed + row.capacity) (o.next - 1) e.hands.last)) e.calls_low.counts c.requires.lawful s.counted
+    (still_end g.L.LowSide.stands g.L.LowSide.shape c.args.low_ends c.start_low-low.result.ends row (row_of c.start_low-low.result.process) (ap g.L.LowSide.shape s.kept ∙ e.ends.0) s.row c.requires.averages))
 
 pub returns-clause-high : goal.returns-clause-high
 returns-clause-high g c =
@@ -112,7 +115,7 @@ returns-clause-counts g c =
     let calls = high_calls m row c.args.low c.args.high (high_disk o.high) _ e.calls_high in (
       both_ways served.result.ends _ _ _ served.ensures.low_kept
           (λ low. subst (λ (d : g.row.D.Denot). m.count c.args.low ≤ m.count d) (sym (c.into_disk.ensures ∙ ap low_disk (low ∙ s.store))) e.calls_low.counts) served.ensures.low
-          (λ (ends : WorkersEnd) lent. low_counts _ m row _ c.args.key _ _ _ _ _ _ _ _ o.next o.low_hand c.start_low-low.result o.low served.result.low c.args.low c.into_disk.result ends.low lent
+          (λ (ends : WorkersEnd) lent. low_counts _ m g.L.LowSide.stands g.L.LowSide.shape row _ c.args.key _ _ _ _ _ _ _ _ o.next o.low_hand c.start_low-low.result o.low served.result.low c.args.low c.into_disk.result ends.low lent
           s.row s.next s.held s.lives s.words s.store c.into_disk.ensures (λ told. (o.removed, messages, stands told, held_is o.low_hand (o.next == o.removed + row.capacity) (o.next - 1) e.hands.last)) e.calls_low.counts),
       both_ways served.result.ends _ _ _ served.ensures.high_kept
           (λ high. subst (λ (d : g.row.D.Denot). m.count c.args.high ≤ m.count d) (sym (c.into_disk-2.ensures ∙ ap high_disk (high ∙ h.store))) calls) served.ensures.high

@@ -1,7 +1,8 @@
-use Rattle.std.proofs.Common.{◌≡◌, sym, ◌∙◌, ap, subst, refl, Option, ℕ}
+use Rattle.std.proofs.Common.{◌≡◌, sym, ◌∙◌, ap, subst, refl, Option, ℕ, arith}
 use Rattle.pump_frame.specs.declared.frame.Item.{Item}
 use Rattle.pump_core.specs.Passage.{ComesNext}
 use Rattle.low_process.specs.Ends.{number_offered}
+use Rattle.serving.proofs.Dealt.{some_next}
 use Rattle.serving.proofs.starting.start_low.Goals as goal
 
 pub returns-clause-ready : goal.returns-clause-ready
@@ -18,3 +19,6 @@ returns-clause-ready g c =
 
 pub returns-clause-lives : goal.returns-clause-lives
 returns-clause-lives g c = record { stands = c.open-process.ensures.first; are_made = tt }
+
+pub returns-clause-counted : goal.returns-clause-counted
+returns-clause-counted g c = record { most = omega arith; some = some_next c.args.next c.args.hand c.requires.hand }

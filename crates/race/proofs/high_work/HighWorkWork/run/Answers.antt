@@ -1,9 +1,10 @@
-use Rattle.std.proofs.Common.{◌∙◌, Bool, true, false, refl, ap, subst, le_refl, le_trans, [], ◌∷◌}
+use Rattle.std.proofs.Common.{◌≡◌, ◌∙◌, Bool, true, false, refl, sym, ap, subst, le_refl, le_trans, [], ◌∷◌}
 use Rattle.pump_frame.specs.Counts.{raised}
 use Rattle.pump_link.proofs.Grown.{Grows-nil}
 use Rattle.high_process.specs.States.{removed_of}
 use Rattle.race.specs.HighHalf.{HighAt}
-use Rattle.race.proofs.HighAsks.{none_taken, more_taken, given_back, asks_more}
+use Rattle.relay_threads.proofs.Reaching.{rose_later}
+use Rattle.race.proofs.HighAsks.{all_removed, none_taken, more_taken, given_back, asks_more, asks_of_all, asks_of_stopped}
 use Rattle.race.proofs.high_work.HighWorkWork.run.Goals as goal
 
 pub loop-init : goal.loop-init
@@ -106,3 +107,39 @@ loop-preserved g c =
       },
       c.saturating_add-looks.ensures ∙ ap raised i.2,
     )
+
+pub returns-then-is_done : goal.returns-then-is_done
+returns-then-is_done g c =
+    let i = c.loop.invariant in
+    let s = i.1 in
+    let stands = g.H.HighSide.stands in
+    let w = c.loop.self.half.now in
+    let all = c.is_done.ensures.yes c.if-is_done.true in
+    record {
+      keeps = s.keeps;
+      any = (s.at.high, s.at.fitting.0);
+      ended = λ e. (all_removed stands c.loop.has_taken w s.at all, all);
+      stopped = λ e. let no : false ≡ true = sym s.going ∙ e in absurd (cc);
+      asks = asks_of_all stands c.loop.has_taken c.loop.self.is_stopped w i.0 _ _ s.at s.taken s.asks s.going all;
+    }
+
+pub returns-then-not-pass : goal.returns-then-not-pass
+returns-then-not-pass g c =
+    let i = c.loop.invariant in
+    let s = i.1 in
+    let stands = g.H.HighSide.stands in
+    let w = c.loop.self.half.now in
+    record {
+      keeps = record {
+        half = s.keeps.half;
+        gate = s.keeps.gate;
+        place_stays = s.keeps.place_stays;
+        shape_stays = s.keeps.shape_stays;
+        count = s.keeps.count;
+        times = s.keeps.times;
+      };
+      any = (s.at.high, s.at.fitting.0);
+      ended = λ e. absurd (cc);
+      stopped = λ e. rose_later _ _ _ s.stops_rise (c.pass.ensures.stopped c.if-not-pass.true);
+      asks = asks_of_stopped stands c.loop.has_taken w i.0 _ _ s.at s.taken (asks_more _ _ _ false i.0 c.loop.looks c.taken-taken.result i.2 (c.taken-taken.ensures ∙ s.taken) s.asks c.pass.ensures.asked);
+    }

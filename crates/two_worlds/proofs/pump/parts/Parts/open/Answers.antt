@@ -14,7 +14,7 @@ use Rattle.two_worlds.specs.Standing.{Stands, disk_at}
 use Rattle.two_worlds.specs.Working.{IsPacket}
 use Rattle.two_worlds.proofs.Opening.Lives.{begins}
 use Rattle.two_worlds.proofs.Opening.Opened.{works}
-use Rattle.two_worlds.proofs.Opening.Comparing.{goes_on, receiver_over, found_by, refused_over, some_why}
+use Rattle.two_worlds.proofs.Opening.Comparing.{goes_on, pump_over, receiver_over, found_by, refused_over, some_why}
 use Rattle.two_worlds.proofs.pump.parts.Parts.open.Goals as goal
 
 pub returns-in_err-pump-clause-back : goal.returns-in_err-pump-clause-back
@@ -35,6 +35,15 @@ returns-in_err-pump-clause-back g c =
     } in
     let t = err_from_is_err_and c.from_residual-in_err-pump.result c.from_residual-in_err-pump.ensures.1 in
     rw (t.1, t.2) fact
+
+pub assemble-requires-clause-pump : goal.assemble-requires-clause-pump
+assemble-requires-clause-pump g c =
+    let m = g.D.Disk.told in
+    let d = c.in_ok-disks.disks in
+    let o = c.in_ok-pump.ensures in
+    let p = c.in_ok-pump.pump in
+    pump_over m c.args.row.now (m.reading d.low) (m.reading d.high) (m.reading (low_disk p.low)) (m.reading (high_disk p.high)) p c.open_all.new.ends
+    (λ told. sym (o.moves_low.reads told)) (λ told. sym (o.moves_high.reads told)) o.pump
 
 pub assemble-requires-clause-receiver : goal.assemble-requires-clause-receiver
 assemble-requires-clause-receiver g c =

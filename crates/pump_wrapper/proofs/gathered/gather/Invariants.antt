@@ -1,0 +1,29 @@
+use Rattle.std.proofs.Common.{◌≡◌, ℕ, ◌-◌, ◌*◌, ◌≤◌, List, length, take}
+use Rattle.std.specs.Io.KnownBytes.{Appends}
+use Rattle.disk_model.specs.Disk.{Moves, Same}
+use Rattle.stable_buffer.specs.Log.{RecvStands}
+use Rattle.high_receiver.specs.Receiving.{IsRecvReady, IsRecordAt, recv_count, recv_disk, recv_end, recv_row, recv_size}
+use Rattle.pump_wrapper.specs.Wrapped.{unwrapped}
+use Rattle.pump_wrapper.specs.Gathering.{HasTaken}
+use Rattle.pump_wrapper.proofs.gathered.gather.Given as goal
+
+abbrev pub invariant-loop-number : goal.invariant-loop-number
+invariant-loop-number g l =
+    let m = g.D.Disk.told in
+    let r = l.fn.receiver in
+    record {
+      ready : IsRecvReady m l.receiver;
+      count : recv_count l.receiver ≡ recv_count r;
+      end : recv_end l.receiver ≡ recv_end r;
+      row : recv_row l.receiver ≡ recv_row r;
+      size : recv_size l.receiver ≡ recv_size r;
+      place : IsRecordAt m l.receiver l.number l.at;
+      moves : Moves m Same (recv_disk r) (recv_disk l.receiver);
+      counts : m.count (recv_disk r) ≤ m.count (recv_disk l.receiver);
+      later : g.O.Sink.faults l.fn.out ≤ g.O.Sink.faults l.out;
+      piece : l.gathering.size ≡ l.fn.message - 1;
+      few : l.gathering.bytes ≤ l.number * 1024;
+      taken : m.tells → (messages : List (List ℕ)) → RecvStands (recv_row r) messages (m.reading (recv_disk r)) → HasTaken l.fn.message (take l.number messages) l.gathering;
+      bytes : m.tells → (messages : List (List ℕ)) → RecvStands (recv_row r) messages (m.reading (recv_disk r)) → l.gathering.bytes ≡ length (unwrapped (take l.number messages));
+      wrote : m.tells → (messages : List (List ℕ)) → RecvStands (recv_row r) messages (m.reading (recv_disk r)) → Appends (g.O.Sink.written l.fn.out) (g.O.Sink.written l.out) (unwrapped (take l.number messages));
+    }

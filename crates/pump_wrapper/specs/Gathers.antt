@@ -1,0 +1,36 @@
+-- What a receiver's messages come to as a file.
+use Rattle.std.specs.Prelude.{◌≡◌, ℕ, ◌+◌, ◌<◌, ◌≤◌, ◌↔◌, IsTrue, List, length, take, Option, Result, Ok, Err}
+use Rattle.std.specs.Io.KnownBytes.{Appends}
+use Rattle.pump_frame.specs.Counts.{Rose}
+use Rattle.pump_link.specs.Causes.{AppendsFront}
+use Rattle.pump_wrapper.specs.Wrapped.{unwrapped, IsFile, BeginsFile}
+use Rattle.pump_wrapper.specs.declared.gathered.Gathered.{Gathered}
+use Rattle.pump_wrapper.specs.declared.gathered.GatherFault.{GatherFault}
+use Rattle.pump_wrapper.specs.declared.gathered.GatherFault.TheVariants.{Device, NotWrapped, Write}
+
+-- What was written of these messages, by the answer: the bytes of the pieces of all of them; or of those before the least with which they begin no file; or of the first n.
+abbrev pub Gathers : ℕ → List (List ℕ) → Option (List ℕ) → Option (List ℕ) → Result Gathered GatherFault → Type 0
+Gathers message messages old new (Ok gathered) =
+    BeginsFile message messages × Appends old new (unwrapped messages)
+    × (gathered.bytes ≡ length (unwrapped messages)) × (IsTrue gathered.whole ↔ IsFile message messages)
+Gathers message messages old new (Err (NotWrapped n)) =
+    (n < length messages) × BeginsFile message (take n messages) × (BeginsFile message (take (n + 1) messages) → ⊥)
+    × Appends old new (unwrapped (take n messages))
+Gathers message messages old new (Err (Device faults)) =
+    (n : ℕ) × (n < length messages) × BeginsFile message (take n messages) × Appends old new (unwrapped (take n messages))
+Gathers message messages old new (Err Write) =
+    (n : ℕ) × (n ≤ length messages) × BeginsFile message (take n messages) × AppendsFront old new (unwrapped (take n messages))
+
+-- the answer is that the disk failed
+abbrev pub IsDeviceFault : Result Gathered GatherFault → Type 0
+IsDeviceFault (Ok gathered) = ⊥
+IsDeviceFault (Err (Device faults)) = Unit {0}
+IsDeviceFault (Err (NotWrapped n)) = ⊥
+IsDeviceFault (Err Write) = ⊥
+
+-- the disk's count and the sink's, before and after: that of what failed rose
+abbrev pub GatherCause : ℕ → ℕ → ℕ → ℕ → Result Gathered GatherFault → Type 0
+GatherCause disk disk' out out' (Ok gathered) = Unit {0}
+GatherCause disk disk' out out' (Err (Device faults)) = (faults ≡ disk') × Rose disk disk'
+GatherCause disk disk' out out' (Err (NotWrapped n)) = Unit {0}
+GatherCause disk disk' out out' (Err Write) = Rose out out'

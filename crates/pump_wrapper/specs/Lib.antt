@@ -1,0 +1,4 @@
+pub mod Wrapped
+pub mod Cutting
+pub mod Gathering
+pub mod Gathers

@@ -1,0 +1,85 @@
+ghost use Rattle.std.specs.Prelude.{◌≡◌, ℕ, ◌≤◌, List, false};
+ghost use Rattle.disk_model.specs.Disk.{Moves, Same};
+ghost use Rattle.stable_buffer.specs.Log.{RecvStands};
+ghost use Rattle.high_receiver.specs.Receiving.{IsRecvReady, recv_count, recv_disk, recv_end, recv_is_open, recv_row, recv_size};
+ghost use Rattle.pump_wrapper.specs.Gathers.{Gathers, GatherCause, IsDeviceFault};
+
+use crate::gathering::Gathering;
+use disk_model::Disk;
+use high_receiver::Receiver;
+use pump_frame::Payload;
+use pump_link::{Sink, write_all};
+
+/// What was gathered of a receiver's messages.
+#[derive(Clone, Copy, PartialEq, Eq, Debug)]
+pub struct Gathered {
+    /// How many bytes their pieces have.
+    pub bytes: u64,
+    /// They are a whole file.
+    pub whole: bool,
+}
+
+/// Why messages were not all gathered.
+#[derive(Clone, Copy, PartialEq, Eq, Debug)]
+pub enum GatherFault {
+    /// A call of the disk failed: its count after that call.
+    Device { faults: u64 },
+    /// No file has these messages up to the one of this number, but some file has those before it.
+    NotWrapped { number: u64 },
+    /// A write failed.
+    Write,
+}
+
+/// Writes the bytes of the pieces among a receiver's messages, each of at most `message` bytes, 9 to
+/// 1024. After a fault the bytes of the pieces before were written, and after `Write` a front of them.
+pub fn gather<D: Disk, O: Sink>(
+    receiver: &mut Receiver<D>,
+    out: &mut O,
+    message: u32,
+) -> Result<Gathered, GatherFault>
+    requires ready { IsRecvReady D.told receiver.old }
+    requires least { 9 ≤ message }
+    requires greatest { message ≤ 1024 }
+
+    ensures gathers { D.told.tells → (messages : List (List ℕ))
+        → RecvStands (recv_row receiver.old) messages (D.told.reading (recv_disk receiver.old))
+        → Gathers message messages (O.written out.old) (O.written out.new) result }
+    ensures ready { (IsDeviceFault result → ⊥) → IsRecvReady D.told receiver.new }
+    ensures closed { IsDeviceFault result → recv_is_open receiver.new ≡ false }
+    ensures count { recv_count receiver.new ≡ recv_count receiver.old }
+    ensures end { recv_end receiver.new ≡ recv_end receiver.old }
+    ensures row { recv_row receiver.new ≡ recv_row receiver.old }
+    ensures size { recv_size receiver.new ≡ recv_size receiver.old }
+    ensures moves { Moves D.told Same (recv_disk receiver.old) (recv_disk receiver.new) }
+
+    ensures cause { GatherCause (D.told.count (recv_disk receiver.old))
+        (D.told.count (recv_disk receiver.new)) (O.faults out.old) (O.faults out.new) result }
+    ensures later { O.faults out.old ≤ O.faults out.new }
+    ensures counts { D.told.count (recv_disk receiver.old)
+        ≤ D.told.count (recv_disk receiver.new) }
+{
+    let mut gathering = Gathering::new(message);
+    let mut payload = Payload::default();
+    let mut at = 80;
+    for number in 0..receiver.count() {
+        at = match receiver.at(number, at, &mut payload) {
+            Ok(next) => next,
+            Err(device) => {
+                return Err(GatherFault::Device {
+                    faults: device.faults,
+                });
+            }
+        };
+        let Some(piece) = gathering.take(payload.as_slice()) else {
+            return Err(GatherFault::NotWrapped { number });
+        };
+        match write_all(out, piece) {
+            Ok(()) => {}
+            Err(_) => return Err(GatherFault::Write),
+        }
+    }
+    Ok(Gathered {
+        bytes: gathering.bytes(),
+        whole: gathering.is_whole(),
+    })
+}

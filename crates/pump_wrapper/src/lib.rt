@@ -1,0 +1,16 @@
+//! Files over the pump: a file as a list of messages, and the file again from the messages that a
+//! receiver has. The messages are those of `docs/formats.md`, "Files as messages".
+#![tactic(auto)]
+
+mod cutter;
+mod fill;
+mod gathered;
+mod gathering;
+pub mod laws;
+mod length;
+
+pub use cutter::{Cut, Cutter};
+pub use gathered::{GatherFault, Gathered, gather};
+
+#[cfg(test)]
+mod tests;

@@ -4,12 +4,13 @@ use Rattle.std.specs.Io.KnownBytes.{Appends}
 use Rattle.arrayvec.specs.ArrayVec.{ArrayVec}
 use Rattle.command_line.specs.Commands.{AreWordsOf}
 use Rattle.command_line.specs.declared.command.Command.{Command}
-use Rattle.command_line.specs.declared.command.Command.TheVariants.{Format, Show, Exercise, Race, Serve, Receive, Send}
+use Rattle.command_line.specs.declared.command.Command.TheVariants.{Format, Show, Exercise, Race, Serve, Receive, Send, Migrate}
 use Rattle.command_line.specs.declared.command.WordsFault.{WordsFault}
 use Rattle.command_line.specs.declared.command.WordsFault.TheVariants.{NoCommand, Memory}
 use Rattle.netpump.specs.Commands.{EndsSo, EndsWithStatus, end_status}
 use Rattle.netpump.specs.Exercises.{EndsExercise}
 use Rattle.netpump.specs.Formatting.{Formats}
+use Rattle.netpump.specs.Migrating.{Migrates}
 use Rattle.netpump.specs.Showing.{Shows}
 use Rattle.script_replay.specs.Shelves.{Places}
 use Rattle.netpump.specs.declared.command_end.CommandEnd.{CommandEnd}
@@ -56,6 +57,33 @@ shows_asked file before after old new t u n m end status ends is b one other =
 
 pub shows_nothing : (file : Option (List ℕ)) (places : Places) (old new : Option (List ℕ)) (session : ℕ) → Appends old new [] → EndsWithStatus (Shows file places places session) old new 1
 shows_nothing file places old new session a = (ends.Memory, refl, ([], ((λ name. refl), refl), a))
+
+moved_table_is : (t u v w : List ℕ) (n m k j : ℕ) → Migrate t n v k ≡ Migrate u m w j → t ≡ u
+moved_table_is t u v w n m k j e = cc
+
+moved_session_is : (t u v w : List ℕ) (n m k j : ℕ) → Migrate t n v k ≡ Migrate u m w j → n ≡ m
+moved_session_is t u v w n m k j e = cc
+
+new_table_is : (t u v w : List ℕ) (n m k j : ℕ) → Migrate t n v k ≡ Migrate u m w j → v ≡ w
+new_table_is t u v w n m k j e = cc
+
+new_session_is : (t u v w : List ℕ) (n m k j : ℕ) → Migrate t n v k ≡ Migrate u m w j → k ≡ j
+new_session_is t u v w n m k j e = cc
+
+pub migrates_asked : (file : List ℕ → Option (List ℕ)) (before after : Places) (old new : Option (List ℕ)) (t u v w : List ℕ) (n m k j : ℕ) (end : CommandEnd) (status : ℕ)
+    → EndsSo (Migrates (file t) (file v) before after n k) old new end → status ≡ end_status end → (b : Command) → b ≡ Migrate t n v k → b ≡ Migrate u m w j
+    → EndsWithStatus (Migrates (file u) (file w) before after m j) old new status
+migrates_asked file before after old new t u v w n m k j end status ends is b one other =
+    let same = sym one ∙ other in (
+      end,
+      sym is,
+      subst (λ (p : List ℕ × ℕ × List ℕ × ℕ). EndsSo (Migrates (file p.0) (file p.2) before after p.1 p.3) old new end)
+          (λ i. (moved_table_is t u v w n m k j same i, moved_session_is t u v w n m k j same i, new_table_is t u v w n m k j same i, new_session_is t u v w n m k j same i)) ends,
+    )
+
+pub migrates_nothing : (file new_file : Option (List ℕ)) (places : Places) (old new : Option (List ℕ)) (session new_session : ℕ) → Appends old new []
+    → EndsWithStatus (Migrates file new_file places places session new_session) old new 1
+migrates_nothing file new_file places old new session new_session a = (ends.Memory, refl, ([], ((λ name. refl), refl), a))
 
 seed_is : (a b n m : ℕ) → Exercise a n ≡ Exercise b m → a ≡ b
 seed_is a b n m e = cc

@@ -4,6 +4,9 @@ pub mod Exercised
 pub mod Formatted
 pub mod LentDisks
 pub mod LiveEnded
+pub mod Migrated
+pub mod MovedDisks
+pub mod MovedFound
 pub mod Raced
 pub mod Received
 pub mod Sent

@@ -8,6 +8,10 @@ use Rattle.script_replay.specs.Shelves.{Places, disk_name}
 abbrev pub LeavesOtherDisks : Places → Places → DiskName → Type 0
 LeavesOtherDisks before after name = (other : DiskName) → (other ≡ name → ⊥) → after other ≡ before other
 
+-- .. but those of these two sessions
+abbrev pub LeavesOtherPair : Places → Places → ℕ → ℕ → Type 0
+LeavesOtherPair before after one two = (other : DiskName) → (other.session ≡ one → ⊥) → (other.session ≡ two → ⊥) → after other ≡ before other
+
 -- .. but the low disk and the high one of this session
 abbrev pub LeavesBut : Places → Places → ℕ → Type 0
 LeavesBut before after session = (other : DiskName) → (other ≡ disk_name session roles.Low → ⊥) → (other ≡ disk_name session roles.High → ⊥) → after other ≡ before other

@@ -5,6 +5,7 @@ pub mod Files
 pub mod Formatting
 pub mod LentDisks
 pub mod LiveEnds
+pub mod Migrating
 pub mod Racing
 pub mod Receptions
 pub mod Sendings

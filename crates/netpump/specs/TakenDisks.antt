@@ -9,6 +9,8 @@ use Rattle.recovery.specs.declared.why.Why.TheVariants.{NotEmpty}
 use Rattle.netpump.specs.Formatting.{first_full}
 use Rattle.netpump.specs.declared.command_end.CommandEnd.{CommandEnd}
 use Rattle.netpump.specs.declared.command_end.CommandEnd.TheVariants.{Failed, Refused}
+use Rattle.script_replay.specs.Lending.{ReadAt, IsOutAt, RisesAt}
+use Rattle.script_replay.specs.Shelves.{Places}
 use Rattle.script_replay.specs.declared.disks.TakenDisks.{TakenDisks}
 
 -- ---- each of the three ----
@@ -38,6 +40,18 @@ abbrev pub RoseAt : {D : Type 0} → Meaning D → Role → TakenDisks D → Tak
 RoseAt d roles.Low old new = Rose (d.count old.low) (d.count new.low)
 RoseAt d roles.High old new = Rose (d.count old.high) (d.count new.high)
 RoseAt d roles.Recv old new = Rose (d.count old.recv) (d.count new.recv)
+
+-- ---- on the shelf and off it ----
+
+-- each was there to be taken, and reads what was read there; it is off the shelf; and where its count rose, so does the shelf's
+abbrev pub AreReadAt : {D : Type 0} → Meaning D → Places → ℕ → TakenDisks D → Type 0
+AreReadAt d places session disks = IsEach (λ role disk. ReadAt places session role (d.reading disk)) disks
+
+abbrev pub AreOutAt : {D : Type 0} → Meaning D → Places → ℕ → TakenDisks D → Type 0
+AreOutAt d places session disks = IsEach (λ role disk. IsOutAt places session role (d.count disk)) disks
+
+abbrev pub RiseAt : {D : Type 0} → Meaning D → Places → ℕ → ℕ → ℕ → TakenDisks D → Type 0
+RiseAt d places session before now disks = IsEach (λ role disk. RisesAt places session role (d.count disk) before now) disks
 
 -- ---- formatting ----
 

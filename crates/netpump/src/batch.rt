@@ -10,10 +10,12 @@ ghost use Rattle.script_replay.specs.Shelves.{AllAreBack, shelved};
 ghost use Rattle.netpump.specs.Commands.{is_live, IsNoCommand, IsReplay, TellsWords, RefusesWords, EndsWithStatus};
 ghost use Rattle.netpump.specs.Exercises.{EndsExercise};
 ghost use Rattle.netpump.specs.Formatting.{Formats};
+ghost use Rattle.netpump.specs.Migrating.{Migrates};
 ghost use Rattle.netpump.specs.Showing.{Shows};
 
 use crate::exercise::exercise;
 use crate::format::format_session;
+use crate::migrate::migrate_session;
 use crate::show::show_session;
 use arrayvec::ArrayVec;
 use command_line::{Command, WordsFault, command_of};
@@ -59,16 +61,16 @@ fn run_exercise<O: Sink>(alloc: Global, seed: u32, count: u32, out: &mut O) -> u
 /// - 1: there was not enough memory; nothing was written.
 /// - 2: the words are no command, which is what the output says. The script was not read.
 /// - 3: the script could not be read; the transcript of all whole lines that were read was written. Or
-///   the file of the table could not be read.
+///   the file of a table could not be read.
 /// - 4: the output could not be written; a front of what is to be written was.
 /// - 5: a line is outside the grammar or can't be applied; the transcript of the lines before was
 ///   written.
-/// - 6: the file of the table gives no row for the session.
+/// - 6: the file of a table gives no row for its session, or a session is to be moved to itself.
 /// - 7: a disk of a session could not be taken off the shelf, or a call of it failed; or a line told
 ///   that the device of a low side alone fails, in a store. The transcript of the lines before was
 ///   written, and what this line printed.
-/// - 8: the disks of a session are refused when they are opened, or are not empty when they are to be
-///   formatted.
+/// - 8: the disks of a session are refused when they are opened, are not empty when they are to be
+///   formatted or moved to, or can't take what is to be moved.
 /// - 10: a line's message does not fit on the receiver's disk; the same was written.
 ///
 /// Of a replay's 0, 5, 7, 8 and 10 it is the one whose cause is the first in the script, where it is none
@@ -77,7 +79,8 @@ fn run_exercise<O: Sink>(alloc: Global, seed: u32, count: u32, out: &mut O) -> u
 /// `KeepLaws`) and what is read of the disks then (`Shelved`): those of each session stand for the world
 /// that it came to, and outlive this call with every message whose acknowledgement was printed, at each
 /// status but 1, at which a replay writes nothing (`EndedWith`). They say too what a format leaves
-/// (`Formats`), what is shown (`Shows`), and what an exercise writes (`EndsExercise`). `docs/formats.md`
+/// (`Formats`), what is shown (`Shows`), what a move leaves (`Migrates`), and what an exercise writes
+/// (`EndsExercise`). `docs/formats.md`
 /// has the script, the table, the transcript, the disks and the last line at the statuses 2, 3, 5, 6, 7, 8
 /// and 10.
 pub fn batch<S: Shelf, I: Source, O: Sink>(
@@ -107,11 +110,14 @@ pub fn batch<S: Shelf, I: Source, O: Sink>(
     ensures memory { IsReplay (map string_bytes words.now.items) → result ≡ 1 → Appends (O.written out.old) (O.written out.new) [] }
     ensures replay { IsReplay (map string_bytes words.now.items) → S.told.tells → S.Disk.told.tells → EndsReplay result (S.told.disk shelf.old) (S.told.disk shelf.new)
         (I.left script.old) (I.left script.new) (O.written out.old) (O.written out.new) (I.faults script.old) (I.faults script.new) }
-    // How formatting, showing and an exercise end.
+    // How formatting, showing, moving and an exercise end.
     ensures format { (table : List ℕ) (session : ℕ) → AreWordsOf (map string_bytes words.now.items) (commands.Format table session) → S.told.tells → S.Disk.told.tells
         → EndsWithStatus (Formats (S.told.file shelf.old table) (S.told.disk shelf.old) (S.told.disk shelf.new) session) (O.written out.old) (O.written out.new) result }
     ensures show { (table : List ℕ) (session : ℕ) → AreWordsOf (map string_bytes words.now.items) (commands.Show table session) → S.told.tells → S.Disk.told.tells
         → EndsWithStatus (Shows (S.told.file shelf.old table) (S.told.disk shelf.old) (S.told.disk shelf.new) session) (O.written out.old) (O.written out.new) result }
+    ensures migrate { (table : List ℕ) (session : ℕ) (new_table : List ℕ) (new_session : ℕ) → AreWordsOf (map string_bytes words.now.items) (commands.Migrate table session new_table new_session)
+        → S.told.tells → S.Disk.told.tells → EndsWithStatus (Migrates (S.told.file shelf.old table) (S.told.file shelf.old new_table) (S.told.disk shelf.old) (S.told.disk shelf.new) session new_session)
+        (O.written out.old) (O.written out.new) result }
     ensures exercise { (seed : ℕ) (count : ℕ) → AreWordsOf (map string_bytes words.now.items) (commands.Exercise seed count)
         → (shelf.new ≡ shelf.old) × EndsExercise seed count (O.written out.old) (O.written out.new) result }
     ensures status { (result ≤ 8) ⊎ (result ≡ 10) }
@@ -128,6 +134,22 @@ pub fn batch<S: Shelf, I: Source, O: Sink>(
         }
         Command::Show { table, session } => {
             return show_session(alloc, table, *session, shelf, out).status();
+        }
+        Command::Migrate {
+            table,
+            session,
+            new_table,
+            new_session,
+        } => {
+            return migrate_session(
+                alloc,
+                table,
+                *session,
+                new_table,
+                *new_session,
+                shelf,
+                out,
+            ).status();
         }
         Command::Exercise { seed, count } => return run_exercise(alloc, *seed, *count, out),
         Command::Race { .. }

@@ -68,7 +68,8 @@ impl CommandEnd {
     }
 }
 
-fn put(into: &mut ArrayVec<u8, 256>, text: &[u8])
+/// Puts a text behind what is there.
+pub fn put(into: &mut ArrayVec<u8, 256>, text: &[u8])
     requires { array_vec_len into.old + length text.now ≤ 256 }
     ensures items { into.new.items ≡ into.old.items ++ text.now }
     ensures len { array_vec_len into.new ≡ array_vec_len into.old + length text.now }
@@ -76,7 +77,8 @@ fn put(into: &mut ArrayVec<u8, 256>, text: &[u8])
     into.try_extend_from_slice(text).unwrap();
 }
 
-fn put_number(into: &mut ArrayVec<u8, 256>, number: u64)
+/// Puts a space and a number behind what is there.
+pub fn put_number(into: &mut ArrayVec<u8, 256>, number: u64)
     requires { array_vec_len into.old ≤ 200 }
     ensures items { into.new.items ≡ into.old.items ++ 32 ∷ decimal number }
     ensures len { array_vec_len into.new ≤ array_vec_len into.old + 21 }

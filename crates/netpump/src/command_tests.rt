@@ -10,18 +10,34 @@ const TABLE: &str =
 const SMALL: &str =
     "[[session]]\nid = 1\nlow = \"weather\"\nhigh = \"watch\"\ncapacity = 2\nmessage = 8\nwindow = 2\nstart = 20000\nlongest = 100000\nresend = 500000\nlow_port = 7001\nhigh_port = 7002\n";
 
-/// A shelf with empty disks for session 1 and two tables, on which these calls fail.
+/// The first table with session 2 in place of 1 and these numbers.
+fn other_table(alloc: Global, capacity: &str, message: &str) -> Result<String, AllocError> {
+    let table = TABLE.replace(alloc, "id = 1", "id = 2")?;
+    let table = table.as_str().replace(alloc, "capacity = 3", capacity)?;
+    table.as_str().replace(alloc, "message = 8", message)
+}
+
+/// A shelf with empty disks for the sessions 1 and 2 and five tables, on which these calls fail.
 pub fn new_shelf(alloc: Global, fails: &[u64]) -> Result<MemShelf<PlainDisk>, Fail> {
     let mut disks = Vec::new(alloc);
-    for (role, room) in [
-        (Role::Low, 65_744),
-        (Role::High, 80),
-        (Role::Recv, 16_777_216),
-    ] {
-        disks.push((DiskName { session: 1, role }, PlainDisk::new(alloc, room)?))?;
+    for session in [1, 2] {
+        for (role, room) in [
+            (Role::Low, 65_744),
+            (Role::High, 80),
+            (Role::Recv, 16_777_216),
+        ] {
+            disks.push((DiskName { session, role }, PlainDisk::new(alloc, room)?))?;
+        }
     }
+    let grown = other_table(alloc, "capacity = 100", "message = 12")?;
+    let short = other_table(alloc, "capacity = 3", "message = 1")?;
     let mut files = Vec::new(alloc);
-    for (name, text) in [("t.toml", TABLE), ("small.toml", SMALL)] {
+    for (name, text) in [
+        ("t.toml", TABLE),
+        ("small.toml", SMALL),
+        ("u.toml", grown.as_str()),
+        ("short.toml", short.as_str()),
+    ] {
         let bytes = Vec::from_slice(alloc, text.as_bytes())?;
         files.push((String::from_str(alloc, name)?, bytes))?;
     }
@@ -88,6 +104,58 @@ fn shows_what_disks_stand_for(rt: HostRuntime) -> Result<(), Fail> {
         ("show none.toml 1", 3, "fault read\n"),
     ];
     assert!(rt; all_end(rt.alloc(), &[], lines.as_slice())?);
+    Ok(())
+}
+
+#[test]
+fn moves_a_session(rt: HostRuntime) -> Result<(), Fail> {
+    let shown = "show 1 2 0 0\nlive 1 0 61ff\nlive 1 1 -\n";
+    let moved = "show 2 2 0 0\nlive 2 0 61ff\nlive 2 1 -\n";
+    let lines = [
+        ("migrate t.toml 1 u.toml 2", 8, "fault disk 1 low 2 0 0\n"),
+        ("replay", 0, TRANSCRIPT),
+        ("migrate t.toml 1 t.toml 1", 6, "fault table 13 1\n"),
+        ("migrate t.toml 9 small.toml 2", 6, "fault table 11 9\n"),
+        ("migrate t.toml 1 small.toml 2", 6, "fault table 4 1\n"),
+        ("migrate t.toml 1 u.toml 1", 6, "fault table 11 1\n"),
+        ("migrate t.toml 1 none.toml 2", 3, "fault read\n"),
+        ("migrate none.toml 1 small.toml 2", 3, "fault read\n"),
+        (
+            "migrate t.toml 1 short.toml 2",
+            8,
+            "fault disk 1 low 11 0 2\n",
+        ),
+        ("show u.toml 2", 8, "fault disk 2 low 2 0 0\n"),
+        ("migrate t.toml 1 u.toml 2", 0, "migrated 1 2 2 0 0\n"),
+        ("show u.toml 2", 0, moved),
+        ("show t.toml 1", 0, shown),
+        (
+            "migrate t.toml 1 u.toml 2",
+            8,
+            "fault disk 2 low 9 1480 0\n",
+        ),
+        ("migrate u.toml 2 t.toml 1", 8, "fault disk 1 low 9 110 0\n"),
+    ];
+    assert!(rt; all_end(rt.alloc(), &[], lines.as_slice())?);
+    Ok(())
+}
+
+// The calls are `whole` for each table, and one for each disk.
+#[test]
+fn moves_nothing_after_a_fault(rt: HostRuntime) -> Result<(), Fail> {
+    for (fails, status, output) in [
+        (1, 3, "fault read\n"),
+        (2, 7, "fault device 1 low\n"),
+        (5, 7, "fault device 2 low\n"),
+        (7, 7, "fault device 2 recv\n"),
+    ] {
+        let lines = [
+            ("migrate t.toml 1 u.toml 2", status, output),
+            ("format t.toml 1", 0, "formatted 1\n"),
+            ("migrate t.toml 1 u.toml 2", 0, "migrated 1 2 0 0 0\n"),
+        ];
+        assert!(rt; all_end(rt.alloc(), &[fails], lines.as_slice())?);
+    }
     Ok(())
 }
 

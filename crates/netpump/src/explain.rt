@@ -1,7 +1,9 @@
 mod link;
+mod moving;
 
 use command_line::USAGE;
 use link::{explain_ahead, explain_full, explain_port, explain_refused, explain_unfinished};
+use moving::{explain_filled, explain_long, explain_same, explain_small, table_name};
 use session_table::{Table, TableFault};
 use std::{fs, io, str};
 
@@ -74,8 +76,7 @@ fn explain_device(rt: &HostRuntime, last: &[u8], trouble: Trouble) -> io::Result
 }
 
 /// What was found on a disk that is refused.
-fn explain_disk(rt: &HostRuntime, last: &[u8]) -> io::Result<()> {
-    let line = fault_line(last).unwrap_or("");
+fn explain_disk(rt: &HostRuntime, words: &[String], line: &str) -> io::Result<()> {
     let session = field(line, 2);
     let role = field(line, 3);
     let first = field(line, 5);
@@ -99,9 +100,9 @@ fn explain_disk(rt: &HostRuntime, last: &[u8]) -> io::Result<()> {
         "7" => eprintln!(rt;
             "netpump: the files of session {session} are not of one time: the receiver has {first} messages, and the bound is {second}"
         ),
-        "9" => eprintln!(rt;
-            "netpump: the file {session}.{role} has {first} bytes already, and only empty disks are formatted; if nothing in them is wanted, remove the files {session}.low, {session}.high and {session}.recv, and format again"
-        ),
+        "9" => explain_filled(rt, words, line),
+        "10" => explain_small(rt, line),
+        "11" => explain_long(rt, line),
         _ => eprintln!(rt;
             "netpump: the files of session {session} are not of one time: message {first} is another one in {session}.low than in {session}.recv"
         ),
@@ -126,8 +127,9 @@ fn explain_refusal(rt: &HostRuntime, words: &[String], last: &[u8]) -> io::Resul
     if number == "2" && field(line, 5) == "0" {
         return explain_empty(rt, words, last);
     }
-    explain_disk(rt, last)?;
-    if number == "9" {
+    explain_disk(rt, words, line)?;
+    // Those sentences say what to do.
+    if number == "9" || number == "10" || number == "11" {
         return Ok(());
     }
     eprintln!(rt;
@@ -136,7 +138,7 @@ fn explain_refusal(rt: &HostRuntime, words: &[String], last: &[u8]) -> io::Resul
 }
 
 fn explain_unread(rt: &HostRuntime, words: &[String], trouble: Trouble) -> io::Result<()> {
-    let table = word(words, 1).unwrap_or("TABLE");
+    let table = table_name(rt, words);
     match (trouble, word(words, 0)) {
         (Trouble::Unread, _) => eprintln!(rt;
             "netpump: the file {table} in this folder could not be read; see that it is there and that it is yours to read, and try again"
@@ -158,7 +160,7 @@ fn fault_of_table(rt: &HostRuntime, name: &str) -> Option<TableFault> {
 
 fn explain_table(rt: &HostRuntime, words: &[String], last: &[u8]) -> io::Result<()> {
     let line = fault_line(last).unwrap_or("");
-    let table = word(words, 1).unwrap_or("?");
+    let table = table_name(rt, words);
     let session = field(line, 3);
     match field(line, 2) {
         "10" => eprintln!(rt;
@@ -167,6 +169,7 @@ fn explain_table(rt: &HostRuntime, words: &[String], last: &[u8]) -> io::Result<
         "11" => eprintln!(rt;
             "netpump: no row of the table {table} has id = {session}; name a session that has one, or add it"
         ),
+        "13" => explain_same(rt, words, session),
         _ => match fault_of_table(rt, table) {
             Some(fault) => eprintln!(rt; "netpump: in the file {table}: {fault}"),
             None => eprintln!(rt;

@@ -14,6 +14,7 @@ mod format;
 mod keep_alive;
 mod key_source;
 mod live;
+mod migrate;
 mod read_ahead;
 mod readiness;
 mod real_clock;

@@ -1,6 +1,6 @@
 //! The row of a session in the file of a table.
 
-ghost use Rattle.std.specs.Prelude.{◌≡◌, length, IfOk, IfErr, IfSome, Err};
+ghost use Rattle.std.specs.Prelude.{◌≡◌, ◌≤◌, length, IfOk, IfErr, IfSome, Err};
 ghost use Rattle.pump_frame.specs.Counts.{Rose};
 ghost use Rattle.pump_frame.specs.Rows.{IsLawfulRow};
 ghost use Rattle.session_table.specs.Documents.{table_of};
@@ -57,6 +57,8 @@ fn row_over<S: Shelf>(
     ensures id { IfOk result (λ row. row.id ≡ session) }
     ensures disks { S.told.disk shelf.new ≡ S.told.disk shelf.old }
     ensures disk_faults { S.told.disk_faults shelf.new ≡ S.told.disk_faults shelf.old }
+    ensures files { S.told.file shelf.new ≡ S.told.file shelf.old }
+    ensures later { S.told.faults shelf.old ≤ S.told.faults shelf.new }
     ensures only { IfErr result IsTableEnd }
 {
     match shelf.whole(name, room) {
@@ -84,6 +86,8 @@ pub fn row_in_file<S: Shelf>(
     ensures id { IfOk result (λ row. row.id ≡ session) }
     ensures disks { S.told.disk shelf.new ≡ S.told.disk shelf.old }
     ensures disk_faults { S.told.disk_faults shelf.new ≡ S.told.disk_faults shelf.old }
+    ensures files { S.told.file shelf.new ≡ S.told.file shelf.old }
+    ensures later { S.told.faults shelf.old ≤ S.told.faults shelf.new }
     ensures only { IfErr result IsTableEnd }
 {
     let Some(mut room) = zeros(alloc, MOST) else {

@@ -88,7 +88,7 @@ pump_none row low high E B one two is_low is_high below above slots =
     (λ i. or_else (told_of Low (one i)) (or_else (told_of High (two i)) (refused_pair row (value_of high).0 (value_of low).0 low))) ∙ there
 
 -- lists that agree aren't refused
-never_apart : (row : SessionRow) (removed count accepted : ℕ) (ms : List (List ℕ)) (low : List ℕ) (why : Why) → removed ≤ count → count ≤ accepted → SlotsAgree row removed count ms low → Disagrees row removed count accepted ms low why → ⊥
+pub never_apart : (row : SessionRow) (removed count accepted : ℕ) (ms : List (List ℕ)) (low : List ℕ) (why : Why) → removed ≤ count → count ≤ accepted → SlotsAgree row removed count ms low → Disagrees row removed count accepted ms low why → ⊥
 never_apart row removed count accepted ms low (Apart found bound) up down all (_, inl (less, _)) = omega (arith, less, up)
 never_apart row removed count accepted ms low (Apart found bound) up down all (_, inr (_, more, _)) = omega (arith, more, down)
 never_apart row removed count accepted ms low (Differs n) up down all (_, _, from, to, _, other) = other (all n from to)

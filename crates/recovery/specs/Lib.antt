@@ -2,8 +2,11 @@ pub mod Agreement
 pub mod Calls
 pub mod Deals
 pub mod Faults
+pub mod Fillings
 pub mod Images
 pub mod Joint
+pub mod Moves
 pub mod Readings
 pub mod Refills
 pub mod Refusals
+pub mod Surveys

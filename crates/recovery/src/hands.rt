@@ -25,7 +25,7 @@ pub struct Hands {
 }
 
 // Reads message n, which is live.
-fn read_live<D: Disk>(low: &mut LowStore<D>, n: u64, row: &SessionRow) -> Result<Item, Why>
+pub fn read_live<D: Disk>(low: &mut LowStore<D>, n: u64, row: &SessionRow) -> Result<Item, Why>
     requires ready { IsLowReady D.told low.old }
     requires row { low_row low.old ≡ row.now }
     requires stored { n < low_count low.old }

@@ -3,15 +3,20 @@
 #![tactic(auto)]
 
 mod compare;
+mod filling;
+mod fitting;
 mod hands;
 mod kept;
 mod law;
+mod moving;
 mod pass;
 mod pump;
 mod receiver;
 mod records;
 mod sentence;
 mod shape;
+mod survey;
+mod trio;
 mod why;
 
 pub use compare::agree;
@@ -19,9 +24,13 @@ pub use law::{
     disks_tell_messages, each_triple_opens, each_world_opens, openings_refill, removed_images,
     stored_images, taken_images,
 };
+pub use moving::migrate;
 pub use pump::{NotOpened, Opened, open_pump, open_pump_waiting};
 pub use receiver::open_receiver;
+pub use trio::{Migrated, MoveFault, Trio};
 pub use why::Why;
 
+#[cfg(test)]
+mod move_tests;
 #[cfg(test)]
 mod tests;

@@ -42,7 +42,7 @@ pub struct NotOpened<D> {
     pub high: D,
 }
 
-fn refused<D>(role: Role, why: Why, low: D, high: D) -> NotOpened<D>
+pub fn refused<D>(role: Role, why: Why, low: D, high: D) -> NotOpened<D>
     ensures { result ≡ record { role = role; why = why; low = low; high = high } }
 {
     NotOpened {

@@ -9,7 +9,7 @@ use std::alloc::Global;
 use std::test::Fail;
 
 // Session 1 of capacity 3 and message size 8.
-fn row() -> Option<SessionRow>
+pub fn row() -> Option<SessionRow>
     ensures { IfSome result IsLawfulRow }
 {
     Some(SessionRow {
@@ -29,7 +29,7 @@ fn row() -> Option<SessionRow>
 }
 
 // The first 80 bytes of a disk of that row.
-fn front(letter: u8, first: u8, second: u8) -> [u8; 80] {
+pub fn front(letter: u8, first: u8, second: u8) -> [u8; 80] {
     let mut bytes = [0; 80];
     bytes[..6].copy_from_slice(&[b'N', b'P', b'D', b'1', letter, 2]);
     bytes[11] = 1;
@@ -41,7 +41,7 @@ fn front(letter: u8, first: u8, second: u8) -> [u8; 80] {
 }
 
 // A disk of low's, with the messages a, b and c in its slots.
-fn low(accepted: u8) -> [u8; 110] {
+pub fn low(accepted: u8) -> [u8; 110] {
     let mut bytes = [0; 110];
     bytes[..80].copy_from_slice(&front(b'L', accepted, 0));
     bytes[81] = 1;
@@ -53,12 +53,12 @@ fn low(accepted: u8) -> [u8; 110] {
     bytes
 }
 
-fn high(removed: u8) -> [u8; 80] {
+pub fn high(removed: u8) -> [u8; 80] {
     front(b'H', removed, 0)
 }
 
 // A disk of the receiver's, with the messages a and b.
-fn receiver() -> [u8; 86] {
+pub fn receiver() -> [u8; 86] {
     let mut bytes = [0; 86];
     bytes[..80].copy_from_slice(&front(b'R', 2, 86));
     bytes[80..86].copy_from_slice(&[0, 1, b'a', 0, 1, b'b']);

@@ -1,4 +1,4 @@
--- Reading a line field by field, as the code does it. It serves proofs alone: no public clause names it, and
+-- Reading a line field by field, as the code does it. Of what is public only the clauses of `Fields` name it;
 -- proofs/LineLaws.antt ties it to the grammar.
 use Rattle.std.specs.Prelude.{◌≡◌, ℕ, ◌+◌, ◌^◌, ◌/◌, ◌≤◌, ◌==◌, slice_index, ◌&&◌, nat_lt, nat_le, Bool, true, false, if◌then◌else◌, List, [], ◌∷◌, length, take, drop, position, codes, decimal, Option, None, Some, Result, Ok, Err}
 use Rattle.std.specs.List.{slice_split, list_all}

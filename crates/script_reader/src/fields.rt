@@ -35,18 +35,22 @@ fn first_space(bytes: &[u8]) -> Option<usize>
 impl<'a> Fields<'a> {
     ghost use Rattle.std.specs.List.{slice_split};
 
+    /// The fields of a line, without its end.
     pub fn new(bytes: &'a [u8]) -> Self
         ensures { result ≡ slice_split is_space bytes.now }
     {
         Fields { rest: Some(bytes) }
     }
 
+    /// Whether no field is left.
     pub fn is_done(&self) -> bool
         ensures { IsTrue result ↔ (self.now ≡ []) }
     {
         self.rest.is_none()
     }
 
+    /// The next field; `None` where none is left. Of this call and those below, which read the next field
+    /// as something, an answer `None` leaves the fields unsaid.
     pub fn next(&mut self) -> Option<&'a [u8]>
         ensures { MatchOption result (self.old ≡ []) (λ field. self.old ≡ field.now ∷ self.new) }
     {
@@ -93,6 +97,7 @@ impl<'a> Fields<'a> {
         word_of(self.next()?)
     }
 
+    /// A name.
     pub fn name(&mut self) -> Option<Name>
         ensures { Reads result self.new (field_at name self.old) }
     {

@@ -20,6 +20,7 @@ mod reading;
 pub use body::Body;
 pub use event::{Event, EventHead};
 pub use fault::Fault;
+pub use fields::Fields;
 pub use generator::{Generator, generated_lines_apply, generated_row};
 pub use head::{ArrivingHead, LineHead, LinedHead};
 pub use laws::{

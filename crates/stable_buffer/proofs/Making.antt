@@ -44,8 +44,8 @@ module _ {D : Type 0} (m : Meaning D) where
     short_each : Each m (λ c. length c < 80) old
     short_each = record { reading = λ told. omega (arith, ap length (empty told)); images = λ told c is. short c is }
 
-    pub first_leaves : (new : D) → Moves m (Torn 0 4) old new → Leaves m old new IsNone
-    first_leaves new moved = leaves m (λ c. length c < 80) IsNone (Torn 0 4) old new short_each short_none
+    pub first_leaves : (moment : ℕ) (new : D) → moment ≤ m.moment old → LeavesFrom m moment IsNone old → Moves m (Torn 0 4) old new → LeavesFrom m moment IsNone new
+    first_leaves moment new le so_far moved = leaves_on (λ c. length c < 80) IsNone (Torn 0 4) moment old new le so_far short_each
         (λ c d few torn. short_none d (let a = torn.no_longer in omega (arith, a, few))) moved
 
   pub cleared : (old new : D) → (m.tells → m.reading old ≡ []) → (m.tells → IsWritten (m.reading old) 0 (0 ∷ 0 ∷ 0 ∷ 0 ∷ []) (m.reading new)) → m.tells → m.reading new ≡ 0 ∷ 0 ∷ 0 ∷ 0 ∷ []

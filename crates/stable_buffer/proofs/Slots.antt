@@ -10,7 +10,7 @@ use Rattle.pump_frame.specs.declared.row.SessionRow.{SessionRow}
 use Rattle.stable_buffer.proofs.Cells.{byte_before, cell_beside, value-selects}
 
 -- numbers that are less than N apart have different slots
-apart : (n E N : ℕ) → 0 < N → n < E → E < n + N → n % N ≢ E % N
+pub apart : (n E N : ℕ) → 0 < N → n < E → E < n + N → n % N ≢ E % N
 apart n E N some lt near same = elim (cases_lt (n / N) (E / N)) [
   | inl less ↦ let le : suc (n / N) ≤ E / N = omega arith in omega (arith, mul-le-mul_left N le, div-add-mod n N, div-add-mod E N)
   | inr le ↦ omega (arith, mul-le-mul_left N le, div-add-mod n N, div-add-mod E N)
@@ -45,6 +45,17 @@ module _ (at n : ℕ) (old new : List ℕ) (torn : Torn at n old new) where
       let selector : selected new ≡ selected old = ap (λ b. b % 2) (byte_before at n old new torn 32 (omega arith)) in
       ap (λ p. cell_at new (place_of p)) selector ∙ cell_beside at n (place_of (selected old)) old new torn (inl (omega arith))
 
+-- a write of another slot
+pub slot_beside : (row : SessionRow) (k E n : ℕ) (message old new : List ℕ) → 1 ≤ row.capacity → n ≤ 2 + row.message → k % row.capacity ≢ E % row.capacity → Torn (slot_of row E) n old new
+    → InSlot row k message old → InSlot row k message new
+slot_beside row k E n message old new some fits other torn was = record { fits = was.fits; bytes = range ∙ was.bytes }
+  where
+    range : take (2 + length message) (drop (slot_of row k) new) ≡ take (2 + length message) (drop (slot_of row k) old)
+    range = elim (spaced (2 + row.message) (k % row.capacity) (E % row.capacity) other) [
+      | inl below ↦ range_before (slot_of row E) n old new torn (slot_of row k) (2 + length message) (omega (arith, below, was.fits))
+      | inr above ↦ range_after (slot_of row E) n old new torn (slot_of row k) (2 + length message) (omega (arith, above, fits))
+    ]
+
 -- a write of a slot that holds no message
 pub slot_torn : (row : SessionRow) (E b : ℕ) (messages : List (List ℕ)) (n : ℕ) (old new : List ℕ) → 1 ≤ row.capacity → n ≤ 2 + row.message → E + 1 ≤ b + row.capacity
     → LowStands row E b messages old → Torn (slot_of row E) n old new → LowStands row E b messages new
@@ -54,7 +65,7 @@ slot_torn row E b messages n old new some fits free stands torn = record {
   value = value_beside at n old new torn (omega arith) ∙ stands.value;
   kept = stands.kept;
   count = stands.count;
-  slots = λ i lt. let was = stands.slots i lt in record { fits = was.fits; bytes = range i lt (length (get_or messages i [])) was.fits ∙ was.bytes };
+  slots = λ i lt. slot_beside row (b + i) E n (get_or messages i []) old new some fits (apart (b + i) E row.capacity some (omega (arith, stands.count)) (omega (arith, stands.count))) torn (stands.slots i lt);
 }
   where
     w : ℕ
@@ -68,14 +79,6 @@ slot_torn row E b messages n old new some fits free stands torn = record {
 
     slot_within : slot_of row E + w ≤ low_size row
     slot_within = omega (arith, inside w (E % row.capacity) row.capacity (omega arith))
-
-    range : (i : ℕ) → i < length messages → (k : ℕ) → k ≤ row.message → take (2 + k) (drop (slot_of row (b + i)) new) ≡ take (2 + k) (drop (slot_of row (b + i)) old)
-    range i lt k le =
-        let other = apart (b + i) E row.capacity some (omega (arith, stands.count)) (omega (arith, stands.count)) in
-        elim (spaced w ((b + i) % row.capacity) (E % row.capacity) other) [
-          | inl below ↦ range_before at n old new torn (slot_of row (b + i)) (2 + k) (omega (arith, below, le))
-          | inr above ↦ range_after at n old new torn (slot_of row (b + i)) (2 + k) (omega (arith, above, fits))
-        ]
 
 pub slot_torn_stands_on : (row : SessionRow) (parity first second n : ℕ) (old new : List ℕ) → 1 ≤ row.capacity → n ≤ 2 + row.message → Selects parity first second old → Torn (slot_of row first) n old new → StandsOn row old new
 slot_torn_stands_on row parity first second n old new some fits selects torn = record {

@@ -1,6 +1,6 @@
 // A new disk.
 ghost use Rattle.std.specs.Prelude.{◌≡◌, ℕ, List, ◌<◌, ◌+◌, ◌-◌, ◌^◌, ◌≤◌, false, [], ◌∷◌, ◌++◌, length, replicate, OnOk, IfErr};
-ghost use Rattle.disk_model.specs.Disk.{Moves, Settled, Leaves, Each, Answers};
+ghost use Rattle.disk_model.specs.Disk.{Moves, Settled, Each, Answers};
 ghost use Rattle.disk_model.specs.declared.name.Role.TheVariants.{Recv};
 ghost use Rattle.byteorder.specs.Endian.{big_bytes};
 ghost use Rattle.pump_frame.specs.Rows.{IsLawfulRow};
@@ -148,9 +148,11 @@ pub fn begin<D: Disk>(
         → marked (D.told.reading disk.new) ≡ bare_bytes row.now role first second) }
     ensures zeros { OnOk result (Each D.told HasZeros disk.new) }
 
-    // Where a crash before the call leaves fewer than 80 bytes, one since leaves no buffer.
+    // Where a crash before the call leaves fewer than 80 bytes, one since leaves no buffer, as one
+    // before that did.
     ensures during { ((c : List ℕ) → D.told.images disk.old c → length c < 80)
-        → Leaves D.told disk.old disk.new IsNone }
+        → (moment : ℕ) → moment ≤ D.told.moment disk.old
+        → LeavesFrom D.told moment IsNone disk.old → LeavesFrom D.told moment IsNone disk.new }
     ensures later { D.told.moment disk.old ≤ D.told.moment disk.new }
     ensures answers { Answers D.told (size_of row.now role ≤ D.told.room disk.old)
         disk.old disk.new result }

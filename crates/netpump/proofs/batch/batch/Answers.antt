@@ -1,6 +1,6 @@
 use Rattle.std.proofs.Common.{rules, refl, sym, ◌∙◌}
 use Rattle.command_line.specs.declared.command.Command.TheVariants as commands
-use Rattle.netpump.proofs.Asked.{read_words, not_command, same_command, formats_asked, formats_nothing, shows_asked, shows_nothing, exercise_asked}
+use Rattle.netpump.proofs.Asked.{read_words, not_command, same_command, formats_asked, formats_nothing, shows_asked, shows_nothing, migrates_asked, migrates_nothing, exercise_asked}
 use Rattle.netpump.proofs.batch.batch.Goals as goal
 
 pub returns-in-Format-clause-format : goal.returns-in-Format-clause-format
@@ -28,6 +28,21 @@ returns-in-Err-NoCommand-clause-show g c = λ table session words.
 
 pub returns-in-Err-Memory-clause-show : goal.returns-in-Err-Memory-clause-show
 returns-in-Err-Memory-clause-show g c = λ table session words told tells. shows_nothing _ _ _ _ session (search rules)
+
+pub returns-in-Migrate-clause-migrate : goal.returns-in-Migrate-clause-migrate
+returns-in-Migrate-clause-migrate g c = λ table session new_table new_session words told tells.
+    let wanted = commands.Migrate table session new_table new_session in
+    let asked = c.in-Ok.ensures.command wanted (read_words _ _ wanted c.as_slice.ensures.value words) in
+    migrates_asked (g.S.Shelf.told.file c.args.shelf.now) _ _ _ _ _ table _ new_table _ session _ new_session c.migrate_session.result c.status-in-Migrate.result
+    (c.migrate_session.ensures.ends told tells) c.status-in-Migrate.ensures c.in-Ok.asked c.in-Migrate.is (same_command c.in-Ok.asked wanted asked)
+
+pub returns-in-Err-NoCommand-clause-migrate : goal.returns-in-Err-NoCommand-clause-migrate
+returns-in-Err-NoCommand-clause-migrate g c = λ table session new_table new_session words.
+    let wanted = commands.Migrate table session new_table new_session in
+    absurd (not_command wanted ((rw c.in-Err-NoCommand.field-0-is at c.in-Err-NoCommand.ensures.command) wanted (read_words _ _ wanted c.as_slice.ensures.value words)))
+
+pub returns-in-Err-Memory-clause-migrate : goal.returns-in-Err-Memory-clause-migrate
+returns-in-Err-Memory-clause-migrate g c = λ table session new_table new_session words told tells. migrates_nothing _ _ _ _ _ session new_session (search rules)
 
 pub returns-in-Exercise-clause-exercise : goal.returns-in-Exercise-clause-exercise
 returns-in-Exercise-clause-exercise g c = λ seed count words.

@@ -1,0 +1,9 @@
+pub mod AuditLaws
+pub mod BothLaws
+pub mod ClaimLaws
+pub mod EntryLaws
+pub mod Lives
+pub mod NoteLaws
+pub mod SideLaws
+pub mod StreamLaws
+pub mod TextLaws

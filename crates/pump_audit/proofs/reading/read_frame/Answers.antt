@@ -1,0 +1,20 @@
+use Rattle.std.proofs.Common.{◌∙◌, ap, arith}
+use Rattle.std.proofs.lemmas.List.{take_all}
+use Rattle.pump_frame.specs.Readings.{Within}
+use Rattle.pump_audit.proofs.EntryLaws.{ends_before, ends_with, no_frame_begins, one_whole, no_frame_ends}
+use Rattle.pump_audit.proofs.reading.read_frame.Goals as goal
+
+pub returns-then-i-bytes-clause-only : goal.returns-then-i-bytes-clause-only
+returns-then-i-bytes-clause-only c = ends_before c.args.bytes.now c.loop-i.i (omega arith) _ _ c.loop-i.invariant.held c.in-Whole.frame c.in-Whole.ensures.answer c.if-i-bytes.true
+
+pub returns-in-Whole-clause-only : goal.returns-in-Whole-clause-only
+returns-in-Whole-clause-only c f lawful e =
+    let w = ends_with c.args.bytes.now c.loop-i.i (omega arith) _ _ c.loop-i.invariant.held c.in-Whole.frame c.in-Whole.ensures.answer c.if-i-bytes.false in
+    one_whole c.args.bytes.now c.in-Whole.frame f w.0 w.1 lawful e
+
+pub returns-in-Bad-clause-only : goal.returns-in-Bad-clause-only
+returns-in-Bad-clause-only c = no_frame_begins c.args.bytes.now c.loop-i.i (omega arith) _ _ c.loop-i.invariant.held c.in-Bad.at c.in-Bad.ensures.answer
+
+pub returns-clause-only : goal.returns-clause-only
+returns-clause-only c =
+    no_frame_ends c.args.bytes.now c.loop-i.reader (c.loop-i.invariant.held ∙ ap Within (take_all c.loop-i.i c.args.bytes.now (omega arith))) c.loop-i.invariant.begun

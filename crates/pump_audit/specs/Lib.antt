@@ -1,0 +1,12 @@
+pub mod Auditing
+pub mod Claims
+pub mod Comparing
+pub mod Entries
+pub mod Machine
+pub mod Noting
+pub mod Pairs
+pub mod Places
+pub mod Records
+pub mod Siding
+pub mod Texts
+pub mod Verdicts

@@ -1,0 +1,125 @@
+ghost use Rattle.std.specs.Prelude.{◌≡◌, ℕ, ◌+◌, ◌≤◌, List, Some, Err, IfOk, IfSome};
+ghost use Rattle.std.specs.Io.KnownBytes.{prepend_known};
+ghost use Rattle.pump_frame.specs.Counts.{Rose};
+ghost use Rattle.pump_audit.specs.Comparing.{IsCompared};
+ghost use Rattle.pump_audit.specs.Siding.{SideComes, SideGoes};
+
+use crate::compared::Compared;
+use crate::side::Side;
+use crate::texts::{Texted, Texts};
+use crate::verdict::AuditFault;
+use arrayvec::ArrayVec;
+use pump_link::Source;
+use std::alloc::Global;
+
+/// The lines of two records, and how many came.
+#[derive(Drop)]
+struct Both {
+    alloc: Global,
+    texts: Texts,
+    text: ArrayVec<u8, 2400>,
+    lines: u32,
+}
+
+impl Both {
+    fn lines(&self) -> u32
+        ensures { result ≡ self.now.lines }
+    {
+        self.lines
+    }
+
+    // The next line is none of a record.
+    fn not_record(&self) -> Compared
+        ensures { result ≡ Compared.NotRecord (self.now.lines + 1) }
+    {
+        Compared::NotRecord {
+            line: u64::from(self.lines()) + 1,
+        }
+    }
+
+    // The lines of a side up to its end, behind those that came. `None` where the next line is none of a
+    // record in its place.
+    fn follow<I: Source>(
+        &mut self,
+        mut side: Side,
+        is_first: bool,
+        tape: &mut I,
+    ) -> Result<Option<Side>, AuditFault>
+        ensures side { (bytes : List ℕ) (before : ℕ) → SideGoes is_first before bytes side self.old.lines (prepend_known self.old.texts (I.left tape.old))
+            → IfOk result (λ o. SideComes is_first before bytes o self.new.lines (prepend_known self.new.texts (I.left tape.new))) }
+        ensures read { result ≡ Err AuditFault.Read → Rose (I.faults tape.old) (I.faults tape.new) }
+        ensures later { I.faults tape.old ≤ I.faults tape.new }
+    {
+        'lines: loop {
+            match self.texts.next(tape, &mut self.text) {
+                Texted::Text => {}
+                Texted::Cut => return Ok(None),
+                Texted::End => return Ok(side.ended(is_first)),
+                Texted::Failed => return Err(AuditFault::Read),
+            }
+            let lines = self.lines();
+            if lines == u32::MAX {
+                return Ok(None);
+            }
+            if side.is_separator(is_first, self.text.as_slice()) {
+                self.lines = lines + 1;
+                return Ok(Some(side));
+            }
+            match side.add(self.alloc, self.text.as_slice()) {
+                Ok(true) => self.lines = lines + 1,
+                Ok(false) => return Ok(None),
+                Err(_) => return Err(AuditFault::Memory),
+            }
+        }
+    }
+
+    // The lines of a side up to its end. `None` where the next line is none of a record in its place.
+    fn side<I: Source>(&mut self, is_first: bool, tape: &mut I) -> Result<Option<Side>, AuditFault>
+        ensures side { (bytes : List ℕ) → prepend_known self.old.texts (I.left tape.old) ≡ Some bytes
+            → IfOk result (λ o. SideComes is_first self.old.lines bytes o self.new.lines (prepend_known self.new.texts (I.left tape.new))) }
+        ensures read { result ≡ Err AuditFault.Read → Rose (I.faults tape.old) (I.faults tape.new) }
+        ensures later { I.faults tape.old ≤ I.faults tape.new }
+    {
+        match self.texts.next(tape, &mut self.text) {
+            Texted::Text => {}
+            Texted::Cut | Texted::End => return Ok(None),
+            Texted::Failed => return Err(AuditFault::Read),
+        }
+        let lines = self.lines();
+        if lines == u32::MAX {
+            return Ok(None);
+        }
+        match Side::begin(self.alloc, self.text.as_slice()) {
+            Ok(Some(side)) => {
+                self.lines = lines + 1;
+                self.follow(side, is_first, tape)
+            }
+            Ok(None) => Ok(None),
+            Err(_) => Err(AuditFault::Memory),
+        }
+    }
+}
+
+/// Compares low's sides of the two records that the tape gives, with a line `# compare` between them
+/// (`docs/formats.md`, "Audits"): the rows with what was found at the opening, and the looks. Comments and
+/// counts are no part of it. The answer is `NotRecord` exactly where a line is none of a record, or out of
+/// its place, or the line between is missing. `Read` comes only where the tape's count of faults rose.
+pub fn compare<I: Source>(alloc: Global, both: &mut I) -> Result<Compared, AuditFault>
+    ensures compared { IfSome (I.left both.old) (λ bytes. IfOk result (IsCompared bytes)) }
+    ensures read { result ≡ Err AuditFault.Read → Rose (I.faults both.old) (I.faults both.new) }
+    ensures later { I.faults both.old ≤ I.faults both.new }
+{
+    let mut lines = Both {
+        alloc,
+        texts: Texts::new(),
+        text: ArrayVec::new(),
+        lines: 0,
+    };
+    let Some(first) = lines.side(true, both)? else {
+        return Ok(lines.not_record());
+    };
+    let Some(second) = lines.side(false, both)? else {
+        return Ok(lines.not_record());
+    };
+    Ok(first.compared(&second))
+}

@@ -1,0 +1,24 @@
+//! What it says of a record that it is clean. Each is a function without a body whose contract is the law.
+
+ghost use Rattle.std.specs.Prelude.{◌≡◌, ◌+◌, ◌≤◌, ℕ, List, true, map};
+ghost use Rattle.std.specs.List.{All};
+ghost use Rattle.pump_core.specs.Passage.{shape_of_row, IsAverage};
+ghost use Rattle.pump_core.specs.Replies.{LowReplies};
+ghost use Rattle.pump_audit.specs.Claims.{pair_of, has_end};
+ghost use Rattle.pump_audit.specs.Records.{Record, history_of};
+ghost use Rattle.pump_audit.specs.Verdicts.{IsClean};
+
+/// The comments of a clean record are the low process's replies, each with its moment, and all of them.
+pub fn clean_records_tell_all_replies()
+    ensures { (bytes : List ℕ) (r : Record) → IsClean bytes r → LowReplies r.row (history_of r) r.comments }
+{}
+
+/// Where a clean record has an end, each pair that its looks tell is a count of its times and the average of
+/// the first so many, and of its numbers none is greater than it may be: no more are removed than taken, no
+/// more taken than accepted, and no more accepted than removed and places.
+pub fn clean_records_keep_their_numbers()
+    ensures averages { (bytes : List ℕ) (r : Record) → IsClean bytes r → has_end r ≡ true → All (IsAverage (shape_of_row r.row) r.times) (map pair_of r.claims) }
+    ensures removed { (bytes : List ℕ) (r : Record) → IsClean bytes r → has_end r ≡ true → r.removed ≤ r.taken }
+    ensures taken { (bytes : List ℕ) (r : Record) → IsClean bytes r → has_end r ≡ true → r.taken ≤ r.accepted }
+    ensures room { (bytes : List ℕ) (r : Record) → IsClean bytes r → has_end r ≡ true → r.accepted ≤ r.removed + r.row.capacity }
+{}

@@ -1,0 +1,30 @@
+//! Checks a finished record of the low side, and compares two.
+#![tactic(auto)]
+
+mod auditing;
+mod checking;
+mod claims;
+mod compared;
+mod comparing;
+mod differing;
+mod entry;
+mod form;
+mod laws;
+mod life;
+mod meeting;
+mod notes;
+mod reading;
+mod side;
+mod siding;
+mod state;
+mod texts;
+mod verdict;
+
+pub use checking::audit;
+pub use compared::{Compared, What};
+pub use comparing::compare;
+pub use laws::{clean_records_keep_their_numbers, clean_records_tell_all_replies};
+pub use verdict::{AuditFault, Verdict};
+
+#[cfg(test)]
+mod tests;

@@ -1,0 +1,131 @@
+// Reading low's side of a record.
+ghost use Rattle.std.specs.Prelude.{◌≡◌, ◌+◌, ◌≢◌, ◌⊎◌, IfOk, OnOk, MatchOption, true, false};
+ghost use Rattle.pump_audit.specs.Places.{ends_at};
+ghost use Rattle.pump_audit.specs.Comparing.{separator, SideTold, offered_bytes, uncounted, item_of, with_entry};
+ghost use Rattle.pump_audit.specs.Entries.{IsPlain};
+ghost use Rattle.pump_audit.specs.Siding.{tells, Stands, form_of_side, BeginsAs, GoesOnBy, IsSound};
+
+use crate::entry::{Coming, Entry, LookLine};
+use crate::form::{Form, Place};
+use crate::reading::read_entry;
+use crate::side::{Item, Side};
+use arrayvec::ArrayVec;
+use pump_frame::{OutOfMemory, encode};
+use script_reader::ToldFeedback;
+use std::alloc::Global;
+
+fn uncounted(told: &ToldFeedback) -> ToldFeedback
+    ensures { result ≡ uncounted told.now }
+{
+    match told {
+        ToldFeedback::Pair { average, .. } => ToldFeedback::Pair {
+            count: 0,
+            average: *average,
+        },
+        ToldFeedback::Quiet => ToldFeedback::Quiet,
+        ToldFeedback::Full => ToldFeedback::Full,
+    }
+}
+
+// What the look was offered, as bytes.
+fn offered(alloc: Global, line: &LookLine) -> Result<Vec<u8>, OutOfMemory>
+    requires { IsPlain line.now }
+    ensures { IfOk result (λ bytes. bytes.items ≡ offered_bytes line.now.coming) }
+{
+    let mut room: ArrayVec<u8, 1042> = ArrayVec::new();
+    match &line.coming {
+        Coming::Nothing => {}
+        Coming::Frame(frame) => encode(frame, &mut room),
+        Coming::Bad => room.push(0),
+        Coming::Gone => room.push(1),
+    }
+    Ok(Vec::from_slice(alloc, room.as_slice())?)
+}
+
+fn item(alloc: Global, line: &LookLine) -> Result<Item, OutOfMemory>
+    requires { IsPlain line.now }
+    ensures { IfOk result (λ x. tells x ≡ item_of line.now) }
+{
+    Ok(Item {
+        moment: line.moment,
+        word: line.word,
+        offered: offered(alloc, line)?,
+        is_fault: line.is_fault,
+        told: uncounted(&line.told),
+    })
+}
+
+impl Side {
+    /// The side that begins with this line, if one does.
+    pub fn begin(alloc: Global, text: &[u8]) -> Result<Option<Side>, OutOfMemory>
+        ensures { IfOk result (BeginsAs text.now) }
+    {
+        match read_entry(text) {
+            Some(Entry::Opening { row, next, is_held }) => Ok(Some(Side {
+                row,
+                next,
+                is_held,
+                place: Place::Opening,
+                items: Vec::new(alloc),
+            })),
+            _ => Ok(None),
+        }
+    }
+
+    fn form(&self) -> Form
+        ensures { result ≡ form_of_side self.now }
+    {
+        Form {
+            session: self.row.id,
+            place: self.place,
+        }
+    }
+
+    // A line behind which the record stands there.
+    fn add_entry(&mut self, alloc: Global, entry: &Entry, place: Place) -> Result<(), OutOfMemory>
+        requires { IsSound entry.now }
+        ensures { OnOk result ((s : SideTold) → Stands self.old s → Stands self.new (with_entry s entry.now place)) }
+    {
+        match entry {
+            Entry::Look(line) => self.items.push(item(alloc, line)?)?,
+            Entry::Coarse { .. } => self.row.coarse = true,
+            Entry::Opening { .. } | Entry::Comment(_) => {}
+        }
+        self.place = place;
+        Ok(())
+    }
+
+    /// One more line, without its end; false where it is none of a record in its place.
+    pub fn add(&mut self, alloc: Global, text: &[u8]) -> Result<bool, OutOfMemory>
+        ensures { IfOk result (λ went. (s : SideTold) → Stands self.old s → GoesOnBy s text.now self.new went) }
+    {
+        let Some(entry) = read_entry(text) else {
+            return Ok(false);
+        };
+        match self.form().behind_line(&entry) {
+            Some(form) => {
+                self.add_entry(alloc, &entry, form.place)?;
+                Ok(true)
+            }
+            None => Ok(false),
+        }
+    }
+
+    /// Whether this text may end the first of two records here.
+    pub fn is_separator(&self, is_first: bool, text: &[u8]) -> bool
+        ensures yes { result ≡ true → (is_first ≡ true) × (ends_at self.now.place ≡ true) × (text.now ≡ separator) }
+        ensures no { result ≡ false → is_first ≡ true → ends_at self.now.place ≡ true → text.now ≢ separator }
+    {
+        is_first && self.place.may_end() && text == b"# compare".as_slice()
+    }
+
+    /// The side at the end of the bytes, if it may end there.
+    pub fn ended(self, is_first: bool) -> Option<Side>
+        ensures { MatchOption result ((is_first ≡ true) ⊎ (ends_at self.place ≡ false)) (λ v. (v ≡ self) × (is_first ≡ false) × (ends_at self.place ≡ true)) }
+    {
+        if is_first || !self.place.may_end() {
+            return None;
+        }
+        Some(self)
+    }
+}

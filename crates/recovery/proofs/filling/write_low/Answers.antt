@@ -1,0 +1,74 @@
+use Rattle.std.proofs.Common.{◌≡◌, List, ℕ, sym, subst, arith}
+use Rattle.disk_model.proofs.Run.{each_after}
+use Rattle.disk_model.specs.declared.name.Role.TheVariants.{Low}
+use Rattle.stable_buffer.specs.Making.{marked, HasZeros, IsNone, KeepsFirst, LeavesFrom}
+use Rattle.stable_buffer.specs.Stands.{LowStands}
+use Rattle.stable_buffer.proofs.Making.{zeros_leave, zeros_stay}
+use Rattle.recovery.proofs.Wholes.{begun_length, none_leaves, whole_leaves, low_whole}
+use Rattle.recovery.proofs.filling.write_low.Goals as goal
+
+pub copy_messages-requires-clause-size : goal.copy_messages-requires-clause-size
+copy_messages-requires-clause-size g c = λ told.
+    let m = g.D.Disk.told in
+    let k = c.args.counts.now in
+    let to = c.args.to.now in
+    let d1 = c.begin_as.new.target in
+    begun_length to Low k.accepted 0 (m.reading d1) (omega arith) (c.in_ok-begin_as.ensures.bytes told)
+
+pub returns-in_err-copy_messages-clause-made : goal.returns-in_err-copy_messages-clause-made
+returns-in_err-copy_messages-clause-made g c = λ live stands fits short start le so_far.
+    let m = g.D.Disk.told in
+    let k = c.args.counts.now in
+    let to = c.args.to.now in
+    let d1 = c.begin_as.new.target in
+    let d2 = c.copy_messages.new.target in
+    let began : LeavesFrom m start IsNone d1 = c.begin_as.ensures.during short start le so_far in
+    let copied : LeavesFrom m start IsNone d2 = zeros_leave m 80 start d1 d2 (omega arith) (omega (arith, le, c.begin_as.ensures.later)) began c.in_ok-begin_as.ensures.zeros c.copy_messages.ensures.moves in
+    none_leaves m (LowStands to k.accepted k.removed live) start d2 copied
+
+pub finish_as-requires : goal.finish_as-requires
+finish_as-requires g c =
+    let m = g.D.Disk.told in
+    record { zeros = each_after m HasZeros HasZeros (KeepsFirst 80) c.begin_as.new.target c.copy_messages.new.target c.in_ok-begin_as.ensures.zeros (λ x y is keeps. zeros_stay 80 x y (omega arith) is keeps) c.copy_messages.ensures.moves }
+
+pub returns-in_err-finish_as-clause-made : goal.returns-in_err-finish_as-clause-made
+returns-in_err-finish_as-clause-made g c = λ live stands fits short start le so_far.
+    let m = g.D.Disk.told in
+    let k = c.args.counts.now in
+    let to = c.args.to.now in
+    let d1 = c.begin_as.new.target in
+    let d2 = c.copy_messages.new.target in
+    let began : LeavesFrom m start IsNone d1 = c.begin_as.ensures.during short start le so_far in
+    let copied : LeavesFrom m start IsNone d2 = zeros_leave m 80 start d1 d2 (omega arith) (omega (arith, le, c.begin_as.ensures.later)) began c.in_ok-begin_as.ensures.zeros c.copy_messages.ensures.moves in
+    let w = m.reading d2 in
+    let done = c.finish_as.ensures.during start (omega (arith, le, c.begin_as.ensures.later, c.copy_messages.ensures.moves.later)) (none_leaves m (λ x. x ≡ marked w) start d2 copied) in
+    whole_leaves m (LowStands to k.accepted k.removed live) start c.finish_as.new.target (marked w) (λ told. low_whole c.args.from.now to k.accepted k.removed live (m.reading c.args.source.now) (m.reading d1) (m.reading d2) c.requires.count c.requires.held.1 (stands told) (c.in_ok-begin_as.ensures.bytes told)
+    (c.copy_messages.ensures.moves.reads told).same (c.in_ok-copy_messages.ensures.size told) (c.in_ok-copy_messages.ensures.copied told live (stands told) (fits told))) done
+
+pub returns-clause-made : goal.returns-clause-made
+returns-clause-made g c = λ live stands fits short start le so_far.
+    let m = g.D.Disk.told in
+    let k = c.args.counts.now in
+    let to = c.args.to.now in
+    let d1 = c.begin_as.new.target in
+    let d2 = c.copy_messages.new.target in
+    let began : LeavesFrom m start IsNone d1 = c.begin_as.ensures.during short start le so_far in
+    let copied : LeavesFrom m start IsNone d2 = zeros_leave m 80 start d1 d2 (omega arith) (omega (arith, le, c.begin_as.ensures.later)) began c.in_ok-begin_as.ensures.zeros c.copy_messages.ensures.moves in
+    let w = m.reading d2 in
+    let done = c.finish_as.ensures.during start (omega (arith, le, c.begin_as.ensures.later, c.copy_messages.ensures.moves.later)) (none_leaves m (λ x. x ≡ marked w) start d2 copied) in
+    whole_leaves m (LowStands to k.accepted k.removed live) start c.finish_as.new.target (marked w) (λ told. low_whole c.args.from.now to k.accepted k.removed live (m.reading c.args.source.now) (m.reading d1) (m.reading d2) c.requires.count c.requires.held.1 (stands told) (c.in_ok-begin_as.ensures.bytes told)
+    (c.copy_messages.ensures.moves.reads told).same (c.in_ok-copy_messages.ensures.size told) (c.in_ok-copy_messages.ensures.copied told live (stands told) (fits told))) done
+
+pub returns-clause-stands : goal.returns-clause-stands
+returns-clause-stands g c = λ told live stands fits.
+    let m = g.D.Disk.told in
+    let k = c.args.counts.now in
+    let to = c.args.to.now in
+    let d1 = c.begin_as.new.target in
+    let d2 = c.copy_messages.new.target in
+    subst (λ (z : List ℕ). LowStands to k.accepted k.removed live z) (sym (c.in_ok-finish_as.ensures.bytes told)) (low_whole c.args.from.now to k.accepted k.removed live (m.reading c.args.source.now) (m.reading d1) (m.reading d2) c.requires.count c.requires.held.1 stands (c.in_ok-begin_as.ensures.bytes told)
+    (c.copy_messages.ensures.moves.reads told).same (c.in_ok-copy_messages.ensures.size told) (c.in_ok-copy_messages.ensures.copied told live stands fits))
+
+pub returns-in_err-begin_as-clause-made : goal.returns-in_err-begin_as-clause-made
+returns-in_err-begin_as-clause-made g c = λ live stands fits short start le so_far.
+    none_leaves g.D.Disk.told (LowStands c.args.to.now c.args.counts.now.accepted c.args.counts.now.removed live) start c.begin_as.new.target (c.begin_as.ensures.during short start le so_far)

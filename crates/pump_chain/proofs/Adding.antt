@@ -1,0 +1,32 @@
+-- What the sender adds.
+use Rattle.std.proofs.Common.{◌≡◌, ℕ, ◌<◌, ◌≤◌, Bool, true, false, List, [], length, get_or, slice_get, Some, sym, ap, ◌∙◌, arith}
+use Rattle.std.specs.Prelude.{if◌then◌else◌}
+use Rattle.std.proofs.lemmas.Option.{slice_get-get_or}
+use Rattle.pump_frame.specs.declared.payload.Payload.{Payload}
+use Rattle.script_reader.specs.declared.line.Arriving.{Arriving}
+use Rattle.script_reader.specs.declared.line.Arriving.TheVariants.{Nothing, Hello, Data}
+use Rattle.script_reader.specs.declared.head.ArrivingHead.{ArrivingHead}
+use Rattle.script_reader.specs.declared.head.ArrivingHead.TheVariants as heads
+use Rattle.script_reader.specs.Heads.{CanHold}
+use Rattle.pump_chain.specs.declared.sender.Sender.{Sender}
+use Rattle.pump_chain.specs.Chained.{Chained, accepted_of, received_of, message_of, added}
+
+-- a sender that is welcome, and has nothing under way, adds the first message that is not accepted
+pub adds_message : (c : Chained) (s : Sender) (n : ℕ) (payload : Payload) → s ≡ c.sender → s.is_under_way ≡ false → s.is_welcome ≡ true → n ≡ accepted_of c → n < length (received_of c) → payload ≡ get_or (received_of c) n [] → Data n payload ≡ added c
+adds_message c s n payload same idle welcome number few is =
+    let received = received_of c in
+    let none : c.sender.is_under_way ≡ false = ap (λ (x : Sender). x.is_under_way) (sym same) ∙ idle in
+    let greeted : c.sender.is_welcome ≡ true = ap (λ (x : Sender). x.is_welcome) (sym same) ∙ welcome in
+    let at : Some payload ≡ slice_get received n = ap Some is ∙ sym (slice_get-get_or received n [] few) in
+    let hello : Arriving = Hello c.second.row.low c.second.row.high in
+    let message : Arriving = message_of (accepted_of c) (slice_get received (accepted_of c)) in
+    ap (message_of n) at ∙ ap (λ (k : ℕ). message_of k (slice_get received k)) number
+    ∙ ap (λ (b : Bool). if b then message else hello) (sym greeted)
+    ∙ ap (λ (b : Bool). if b then Nothing else if c.sender.is_welcome then message else hello) (sym none)
+
+-- a message has room for what it adds
+pub can_hold : (a : ArrivingHead) (bytes : List ℕ) → length bytes ≤ 1024 → CanHold a bytes
+can_hold heads.Nothing bytes few = tt
+can_hold (heads.Hello low high) bytes few = tt
+can_hold (heads.Data number) bytes few = few
+can_hold heads.Raw bytes few = omega (arith, few)

@@ -1,0 +1,42 @@
+-- What two lists have the same of.
+use Rattle.std.proofs.Common.{◌≡◌, ◌⊎◌, inl, inr, ⊎_elim, ℕ, zero, suc, ◌+◌, ◌<◌, ◌≤◌, List, [], ◌∷◌, ◌++◌, length, get_or, refl, sym, ap, ◌∙◌, arith}
+use Rattle.pump_frame.specs.declared.payload.Payload.{Payload}
+use Rattle.pump_core.specs.Lawful.{IsPrefixOf}
+use Rattle.pump_chain.specs.Comparing.{Agree}
+
+split : (k n : ℕ) → k < n + 1 → (k < n) ⊎ (k ≡ n)
+split zero zero h = inr refl
+split zero (suc n) h = inl (omega arith)
+split (suc k) zero h = absurd (omega (arith, h))
+split (suc k) (suc n) h = ⊎_elim (λ (l : k < n). inl (omega (arith, l))) (λ (e : k ≡ n). inr (ap suc e)) (split k n (omega (arith, h)))
+
+halves : (k n : ℕ) → (k < n) ⊎ (n ≤ k)
+halves k zero = inr (omega arith)
+halves zero (suc n) = inl (omega arith)
+halves (suc k) (suc n) = ⊎_elim (λ (l : k < n). inl (omega (arith, l))) (λ (l : n ≤ k). inr (omega (arith, l))) (halves k n)
+
+-- one message more
+pub agree_more : (from n : ℕ) (xs ys : List Payload) → Agree from n xs ys → get_or xs n [] ≡ get_or ys n [] → Agree from (n + 1) xs ys
+agree_more from n xs ys agree same k least small = ⊎_elim
+    (λ (l : k < n). agree k least l)
+    (λ (e : k ≡ n). ap (λ (x : ℕ). get_or xs x []) e ∙ same ∙ ap (λ (x : ℕ). get_or ys x []) (sym e))
+    (split k n small)
+
+agree_front : (xs ys : List Payload) → length xs ≤ length ys → ((k : ℕ) → k < length xs → get_or xs k [] ≡ get_or ys k []) → IsPrefixOf xs ys
+agree_front [] ys few same = (ys, refl)
+agree_front (x ∷ xs) [] few same = absurd (omega (arith, few))
+agree_front (x ∷ xs) (y ∷ ys) few same =
+    let (more, e) = agree_front xs ys (omega (arith, few)) (λ k h. same (suc k) (omega (arith, h))) in
+    (more, λ i. same zero (omega arith) i ∷ e i)
+
+in_front : (xs more : List Payload) (k : ℕ) → k < length xs → get_or (xs ++ more) k [] ≡ get_or xs k []
+in_front [] more k h = absurd (omega (arith, h))
+in_front (x ∷ xs) more zero h = refl
+in_front (x ∷ xs) more (suc k) h = in_front xs more k (omega (arith, h))
+
+-- a list of which the front and all behind what is removed are as in another is a front of that one
+pub both_front : (taken accepted ys : List Payload) (removed : ℕ) → IsPrefixOf taken accepted → removed ≤ length taken → length accepted ≤ length ys → Agree 0 (length taken) taken ys → Agree removed (length accepted) accepted ys → IsPrefixOf accepted ys
+both_front taken accepted ys removed (more, e) behind few front live = agree_front accepted ys few (λ k small. ⊎_elim
+    (λ (l : k < length taken). ap (λ (zs : List Payload). get_or zs k []) (sym e) ∙ in_front taken more k l ∙ front k (omega arith) l)
+    (λ (l : length taken ≤ k). live k (omega (arith, behind, l)) small)
+    (halves k (length taken)))

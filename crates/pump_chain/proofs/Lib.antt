@@ -1,0 +1,13 @@
+pub mod Adding
+pub mod Applying
+pub mod Comparing
+pub mod Counting
+pub mod Crashing
+pub mod Fronts
+pub mod Linking
+pub mod Moving
+pub mod Placing
+pub mod Printing
+pub mod Reading
+pub mod Sharing
+pub mod Stepping

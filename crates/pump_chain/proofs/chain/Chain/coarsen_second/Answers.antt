@@ -1,0 +1,14 @@
+use Rattle.std.proofs.Common.{refl, sym, ◌∙◌}
+use Rattle.pump_chain.proofs.Applying.{still_fronts, second_coarse, same_fronts}
+use Rattle.pump_chain.proofs.chain.Chain.coarsen_second.Goals as goal
+
+pub returns-then-self-clause-crashes : goal.returns-then-self-clause-crashes
+returns-then-self-clause-crashes g c = λ told s stands. still_fronts g.D.Disk.told c.args.self.now s stands
+
+pub returns-clause-applies : goal.returns-clause-applies
+returns-clause-applies g c = λ told s stands.
+    let e = c.make_coarse.ensures in
+    second_coarse g.D.Disk.told c.args.self.now _ s stands c.if-self.false refl refl refl (sym c.is_coarse.ensures ∙ c.if-is_coarse.false) e.row e.stands
+
+pub returns-clause-crashes : goal.returns-clause-crashes
+returns-clause-crashes g c = λ told s stands. same_fronts g.D.Disk.told c.args.self.now c.args.self.now.first c.make_coarse.new.self s stands (λ role. refl) (λ role. c.make_coarse.ensures.disks role)

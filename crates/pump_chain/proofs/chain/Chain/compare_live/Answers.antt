@@ -1,0 +1,26 @@
+use Rattle.std.proofs.Common.{sym, ◌∙◌, subst, arith}
+use Rattle.disk_model.specs.declared.name.Role.TheVariants as roles
+use Rattle.two_worlds.specs.declared.pump.Pump.{Pump}
+use Rattle.two_worlds.specs.Reads.{ReadsOn}
+use Rattle.pump_chain.proofs.Comparing.{agree_more}
+use Rattle.pump_chain.proofs.Reading.{reads_then}
+use Rattle.pump_chain.proofs.chain.Chain.compare_live.Goals as goal
+
+pub loop-number-preserved : goal.loop-number-preserved
+loop-number-preserved g c =
+    let m = g.D.Disk.told in
+    let was = c.args.self.now in
+    let i = c.loop-number.invariant in
+    let e = c.in-Ok.ensures in
+    let r = c.in-Ok-live.ensures in
+    let from = i.from in
+    let equal = c.are_equal.ensures c.if-not-are_equal.false in
+    let second : ReadsOn m roles.Low was.second c.fetch.new.self.second = subst (λ (x : Pump _ _). ReadsOn m roles.Low was.second x) (sym e.second) i.second in
+    record {
+      from = omega (arith, from);
+      agree = λ told p q h k. agree_more c.args.removed c.loop-number.number q.world.accepted p.world.received (i.agree told p q h k) (sym (r.message told q (second.stands q k)) ∙ sym equal ∙ e.message told p (i.first.stands p h));
+      first = reads_then m roles.Recv was.first c.loop-number.self.first c.fetch.new.self.first i.first e.reads;
+      second = reads_then m roles.Low was.second c.fetch.new.self.second c.live.new.self second r.reads;
+      sender = e.sender ∙ i.sender;
+      under_way = e.under_way ∙ i.under_way;
+    }

@@ -1,0 +1,33 @@
+use Rattle.std.proofs.Common.{sym, ◌∙◌, subst}
+use Rattle.disk_model.specs.declared.name.Role.TheVariants as roles
+use Rattle.two_worlds.specs.declared.pump.Pump.{Pump}
+use Rattle.two_worlds.specs.Pumps.{StandsFor}
+use Rattle.two_worlds.specs.Reads.{ReadsOn}
+use Rattle.pump_chain.proofs.Comparing.{agree_more}
+use Rattle.pump_chain.proofs.Placing.{at_still}
+use Rattle.pump_chain.proofs.Reading.{reads_then}
+use Rattle.pump_chain.proofs.chain.Chain.compare_taken.Goals as goal
+
+pub received-requires-clause-place : goal.received-requires-clause-place
+received-requires-clause-place g c =
+    let m = g.D.Disk.told in
+    let i = c.loop-number.invariant in
+    at_still c.args.self.now.second c.fetch.new.self.second c.requires.second (λ p h. subst (λ (x : Pump _ _). StandsFor m x p) (sym c.in-Ok.ensures.second) (i.second.stands p h)) c.loop-number.at c.loop-number.number i.at
+
+pub loop-number-preserved : goal.loop-number-preserved
+loop-number-preserved g c =
+    let m = g.D.Disk.told in
+    let was = c.args.self.now in
+    let i = c.loop-number.invariant in
+    let e = c.in-Ok.ensures in
+    let r = c.in-Ok-received.ensures in
+    let equal = c.are_equal.ensures c.if-not-are_equal.false in
+    let second : ReadsOn m roles.Recv was.second c.fetch.new.self.second = subst (λ (x : Pump _ _). ReadsOn m roles.Recv was.second x) (sym e.second) i.second in
+    record {
+      at = λ told q h. r.next told q (second.stands q h);
+      agree = λ told p q h k. agree_more 0 c.loop-number.number q.world.received p.world.received (i.agree told p q h k) (sym (r.message told q (second.stands q k)) ∙ sym equal ∙ e.message told p (i.first.stands p h));
+      first = reads_then m roles.Recv was.first c.loop-number.self.first c.fetch.new.self.first i.first e.reads;
+      second = reads_then m roles.Recv was.second c.fetch.new.self.second c.received.new.self second r.reads;
+      sender = e.sender ∙ i.sender;
+      under_way = e.under_way ∙ i.under_way;
+    }

@@ -4,7 +4,7 @@ use Rattle.std.specs.Io.KnownBytes.{Appends}
 use Rattle.arrayvec.specs.ArrayVec.{ArrayVec}
 use Rattle.command_line.specs.Commands.{AreWordsOf}
 use Rattle.command_line.specs.declared.command.Command.{Command}
-use Rattle.command_line.specs.declared.command.Command.TheVariants.{Format, Show, Exercise, Race, Serve, Receive, Send, Migrate}
+use Rattle.command_line.specs.declared.command.Command.TheVariants.{Format, Show, Exercise, Race, Serve, Receive, Send, Migrate, Unwrap}
 use Rattle.command_line.specs.declared.command.WordsFault.{WordsFault}
 use Rattle.command_line.specs.declared.command.WordsFault.TheVariants.{NoCommand, Memory}
 use Rattle.netpump.specs.Commands.{EndsSo, EndsWithStatus, end_status}
@@ -12,6 +12,9 @@ use Rattle.netpump.specs.Exercises.{EndsExercise}
 use Rattle.netpump.specs.Formatting.{Formats}
 use Rattle.netpump.specs.Migrating.{Migrates}
 use Rattle.netpump.specs.Showing.{Shows}
+use Rattle.netpump.specs.Unwrapping.{EndsUnwrap, Unwraps, unwrap_status}
+use Rattle.netpump.specs.declared.unwrap.UnwrapEnd.{UnwrapEnd}
+use Rattle.netpump.specs.declared.unwrap.UnwrapEnd.TheVariants.{Stopped}
 use Rattle.script_replay.specs.Shelves.{Places}
 use Rattle.netpump.specs.declared.command_end.CommandEnd.{CommandEnd}
 use Rattle.netpump.specs.declared.command_end.CommandEnd.TheVariants as ends
@@ -84,6 +87,22 @@ migrates_asked file before after old new t u v w n m k j end status ends is b on
 pub migrates_nothing : (file new_file : Option (List ℕ)) (places : Places) (old new : Option (List ℕ)) (session new_session : ℕ) → Appends old new []
     → EndsWithStatus (Migrates file new_file places places session new_session) old new 1
 migrates_nothing file new_file places old new session new_session a = (ends.Memory, refl, ([], ((λ name. refl), refl), a))
+
+unwrapped_table_is : (t u : List ℕ) (n m : ℕ) → Unwrap t n ≡ Unwrap u m → t ≡ u
+unwrapped_table_is t u n m e = cc
+
+unwrapped_session_is : (t u : List ℕ) (n m : ℕ) → Unwrap t n ≡ Unwrap u m → n ≡ m
+unwrapped_session_is t u n m e = cc
+
+pub unwraps_asked : (file : List ℕ → Option (List ℕ)) (before after : Places) (old new : Option (List ℕ)) (t u : List ℕ) (n m : ℕ) (end : UnwrapEnd) (status : ℕ)
+    → Unwraps (file t) before after n old new end → status ≡ unwrap_status end → (b : Command) → b ≡ Unwrap t n → b ≡ Unwrap u m
+    → EndsUnwrap (file u) before after m old new status
+unwraps_asked file before after old new t u n m end status ends is b one other =
+    let same = sym one ∙ other in
+    (end, sym is, subst (λ (p : List ℕ × ℕ). Unwraps (file p.0) before after p.1 old new end) (λ i. (unwrapped_table_is t u n m same i, unwrapped_session_is t u n m same i)) ends)
+
+pub unwraps_nothing : (file : Option (List ℕ)) (places : Places) (old new : Option (List ℕ)) (session : ℕ) → Appends old new [] → EndsUnwrap file places places session old new 1
+unwraps_nothing file places old new session a = (Stopped ends.Memory, refl, ((λ name. refl), inl (ends.Memory, tt, refl, a)))
 
 seed_is : (a b n m : ℕ) → Exercise a n ≡ Exercise b m → a ≡ b
 seed_is a b n m e = cc

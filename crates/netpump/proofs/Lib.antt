@@ -14,3 +14,4 @@ pub mod Served
 pub mod Shown
 pub mod TableRows
 pub mod Tallies
+pub mod Unwrapped

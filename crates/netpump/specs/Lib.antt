@@ -14,3 +14,4 @@ pub mod Servings
 pub mod Showing
 pub mod Tables
 pub mod TakenDisks
+pub mod Unwrapping

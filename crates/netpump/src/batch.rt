@@ -13,12 +13,14 @@ ghost use Rattle.netpump.specs.Exercises.{EndsExercise};
 ghost use Rattle.netpump.specs.Formatting.{Formats};
 ghost use Rattle.netpump.specs.Migrating.{Migrates};
 ghost use Rattle.netpump.specs.Showing.{Shows};
+ghost use Rattle.netpump.specs.Unwrapping.{EndsUnwrap};
 
 use crate::audit::{audit_script, compare_script};
 use crate::exercise::exercise;
 use crate::format::format_session;
 use crate::migrate::migrate_session;
 use crate::show::show_session;
+use crate::unwrap::unwrap_session;
 use arrayvec::ArrayVec;
 use command_line::{Command, WordsFault, command_of};
 use disk_model::Shelf;
@@ -74,6 +76,8 @@ fn run_exercise<O: Sink>(alloc: Global, seed: u32, count: u32, out: &mut O) -> u
 /// - 8: the disks of a session are refused when they are opened, are not empty when they are to be
 ///   formatted or moved to, or can't take what is to be moved.
 /// - 10: a line's message does not fit on the receiver's disk; the same was written.
+/// - 13: the receiver's messages are no file from some message on; the file's bytes before it were written.
+/// - 14: the receiver's messages begin a file, and are not all of it; what they have of it was written.
 /// - 15: a line of a record is wrong, which is what the output says.
 /// - 16: two records differ, which is what the output says.
 ///
@@ -114,7 +118,7 @@ pub fn batch<S: Shelf, I: Source, O: Sink>(
     ensures memory { ReadsScript (map string_bytes words.now.items) → result ≡ 1 → Appends (O.written out.old) (O.written out.new) [] }
     ensures replay { IsReplay (map string_bytes words.now.items) → S.told.tells → S.Disk.told.tells → EndsReplay result (S.told.disk shelf.old) (S.told.disk shelf.new)
         (I.left script.old) (I.left script.new) (O.written out.old) (O.written out.new) (I.faults script.old) (I.faults script.new) }
-    // How formatting, showing, moving and an exercise end.
+    // How formatting, showing, moving, writing a file and an exercise end.
     ensures format { (table : List ℕ) (session : ℕ) → AreWordsOf (map string_bytes words.now.items) (commands.Format table session) → S.told.tells → S.Disk.told.tells
         → EndsWithStatus (Formats (S.told.file shelf.old table) (S.told.disk shelf.old) (S.told.disk shelf.new) session) (O.written out.old) (O.written out.new) result }
     ensures show { (table : List ℕ) (session : ℕ) → AreWordsOf (map string_bytes words.now.items) (commands.Show table session) → S.told.tells → S.Disk.told.tells
@@ -122,6 +126,8 @@ pub fn batch<S: Shelf, I: Source, O: Sink>(
     ensures migrate { (table : List ℕ) (session : ℕ) (new_table : List ℕ) (new_session : ℕ) → AreWordsOf (map string_bytes words.now.items) (commands.Migrate table session new_table new_session)
         → S.told.tells → S.Disk.told.tells → EndsWithStatus (Migrates (S.told.file shelf.old table) (S.told.file shelf.old new_table) (S.told.disk shelf.old) (S.told.disk shelf.new) session new_session)
         (O.written out.old) (O.written out.new) result }
+    ensures unwrap { (table : List ℕ) (session : ℕ) → AreWordsOf (map string_bytes words.now.items) (commands.Unwrap table session) → S.told.tells → S.Disk.told.tells
+        → EndsUnwrap (S.told.file shelf.old table) (S.told.disk shelf.old) (S.told.disk shelf.new) session (O.written out.old) (O.written out.new) result }
     ensures exercise { (seed : ℕ) (count : ℕ) → AreWordsOf (map string_bytes words.now.items) (commands.Exercise seed count)
         → (shelf.new ≡ shelf.old) × EndsExercise seed count (O.written out.old) (O.written out.new) result }
     // What is said of a record, and of two.
@@ -129,7 +135,7 @@ pub fn batch<S: Shelf, I: Source, O: Sink>(
         × IfSome (I.left script.old) (λ bytes. EndsAudit bytes (O.written out.old) (O.written out.new) result) }
     ensures compare { IsCompare (map string_bytes words.now.items) → (shelf.new ≡ shelf.old)
         × IfSome (I.left script.old) (λ bytes. EndsComparison bytes (O.written out.old) (O.written out.new) result) }
-    ensures status { (result ≤ 8) ⊎ ((result ≡ 10) ⊎ ((result ≡ 15) ⊎ (result ≡ 16))) }
+    ensures status { (result ≤ 8) ⊎ ((result ≡ 10) ⊎ ((13 ≤ result) × (result ≤ 16))) }
 {
     let asked = match command_of(alloc, words.as_slice()) {
         Ok(asked) => asked,
@@ -159,6 +165,9 @@ pub fn batch<S: Shelf, I: Source, O: Sink>(
                 shelf,
                 out,
             ).status();
+        }
+        Command::Unwrap { table, session } => {
+            return unwrap_session(alloc, table, *session, shelf, out).status();
         }
         Command::Exercise { seed, count } => return run_exercise(alloc, *seed, *count, out),
         Command::Audit => return audit_script(alloc, script, out),

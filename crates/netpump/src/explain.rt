@@ -1,11 +1,13 @@
 mod link;
 mod moving;
+mod unwrapping;
 
 use command_line::USAGE;
 use link::{explain_ahead, explain_full, explain_port, explain_refused, explain_unfinished};
 use moving::{explain_filled, explain_long, explain_same, explain_small, table_name};
 use session_table::{Table, TableFault};
 use std::{fs, io, str};
+use unwrapping::explain_unwrap;
 
 /// What the shelf knows of the file that stopped a command with status 3 or 7.
 #[derive(Clone, Copy)]
@@ -205,6 +207,9 @@ pub fn explain(
             "netpump: standard output could not be written; see that its reader is there, or that its disk has room, and try again"
         ),
         5 if word(words, 0) == Some("send") => explain_message(rt, last),
+        6 | 7 | 8 | 13 | 14 if word(words, 0) == Some("unwrap") => {
+            explain_unwrap(rt, words, status, trouble)
+        }
         6 => explain_table(rt, words, last),
         7 => explain_device(rt, last, trouble),
         8 => explain_refusal(rt, words, last),

@@ -31,6 +31,9 @@ mod tcp_door;
 mod tcp_link;
 mod tcp_ports;
 mod traffic;
+mod unwrap;
+#[cfg(test)]
+mod unwrap_tests;
 
 use batch::batch;
 use disk_model::Shelf;

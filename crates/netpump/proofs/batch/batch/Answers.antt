@@ -1,6 +1,6 @@
 use Rattle.std.proofs.Common.{rules, refl, sym, ◌∙◌}
 use Rattle.command_line.specs.declared.command.Command.TheVariants as commands
-use Rattle.netpump.proofs.Asked.{read_words, not_command, same_command, formats_asked, formats_nothing, shows_asked, shows_nothing, migrates_asked, migrates_nothing, exercise_asked}
+use Rattle.netpump.proofs.Asked.{read_words, not_command, same_command, formats_asked, formats_nothing, shows_asked, shows_nothing, migrates_asked, migrates_nothing, unwraps_asked, unwraps_nothing, exercise_asked}
 use Rattle.netpump.proofs.batch.batch.Goals as goal
 
 pub returns-in-Format-clause-format : goal.returns-in-Format-clause-format
@@ -43,6 +43,20 @@ returns-in-Err-NoCommand-clause-migrate g c = λ table session new_table new_ses
 
 pub returns-in-Err-Memory-clause-migrate : goal.returns-in-Err-Memory-clause-migrate
 returns-in-Err-Memory-clause-migrate g c = λ table session new_table new_session words told tells. migrates_nothing _ _ _ _ _ session new_session (search rules)
+
+pub returns-in-Unwrap-clause-unwrap : goal.returns-in-Unwrap-clause-unwrap
+returns-in-Unwrap-clause-unwrap g c = λ table session words told tells.
+    let asked = c.in-Ok.ensures.command (commands.Unwrap table session) (read_words _ _ (commands.Unwrap table session) c.as_slice.ensures.value words) in
+    unwraps_asked (g.S.Shelf.told.file c.args.shelf.now) (g.S.Shelf.told.disk c.args.shelf.now) (g.S.Shelf.told.disk c.unwrap_session.new.shelf) (g.O.Sink.written c.args.out.now) (g.O.Sink.written c.unwrap_session.new.out)
+    _ table _ session c.unwrap_session.result c.status-in-Unwrap.result (c.unwrap_session.ensures.unwraps told tells) c.status-in-Unwrap.ensures
+    c.in-Ok.asked c.in-Unwrap.is (same_command c.in-Ok.asked (commands.Unwrap table session) asked)
+
+pub returns-in-Err-NoCommand-clause-unwrap : goal.returns-in-Err-NoCommand-clause-unwrap
+returns-in-Err-NoCommand-clause-unwrap g c = λ table session words.
+    absurd (not_command (commands.Unwrap table session) ((rw c.in-Err-NoCommand.field-0-is at c.in-Err-NoCommand.ensures.command) (commands.Unwrap table session) (read_words _ _ (commands.Unwrap table session) c.as_slice.ensures.value words)))
+
+pub returns-in-Err-Memory-clause-unwrap : goal.returns-in-Err-Memory-clause-unwrap
+returns-in-Err-Memory-clause-unwrap g c = λ table session words told tells. unwraps_nothing (g.S.Shelf.told.file c.args.shelf.now table) (g.S.Shelf.told.disk c.args.shelf.now) _ _ session (search rules)
 
 pub returns-in-Exercise-clause-exercise : goal.returns-in-Exercise-clause-exercise
 returns-in-Exercise-clause-exercise g c = λ seed count words.

@@ -34,18 +34,18 @@ fn put_verdict(verdict: &Verdict, into: &mut ArrayVec<u8, 256>)
     }
 }
 
-fn part_word(part: What) -> &'static [u8]
+fn part_word(part: What) -> &'static str
     ensures word { result.now ≡ part_word part }
     ensures short { length result.now ≤ 8 }
 {
     match part {
-        What::Opening => b"opening",
-        What::Moment => b"moment",
-        What::Word => b"word",
-        What::Arrival => b"arrival",
-        What::Outcome => b"outcome",
-        What::Feedback => b"feedback",
-        What::Length => b"length",
+        What::Opening => "opening",
+        What::Moment => "moment",
+        What::Word => "word",
+        What::Arrival => "arrival",
+        What::Outcome => "outcome",
+        What::Feedback => "feedback",
+        What::Length => "length",
     }
 }
 
@@ -67,7 +67,7 @@ fn put_difference(item: u64, what: What, into: &mut ArrayVec<u8, 256>)
     put(into, b"differ");
     put_number(into, item);
     put(into, b" ");
-    put(into, part_word(what));
+    put(into, part_word(what).as_bytes());
     put(into, b"\n");
 }
 

@@ -12,7 +12,7 @@ use Rattle.command_line.specs.Commands.{IsSession, IsLooking, AreWordsOf}
 use Rattle.command_line.specs.Found.{GivesSession, GivesLooks, GivesNewSession, GivesIn}
 use Rattle.command_line.specs.Program.{bare, leaf_four, program, value_rule}
 use Rattle.command_line.specs.declared.command.Command.{Command}
-use Rattle.command_line.specs.declared.command.Command.TheVariants.{Replay, Format, Show, Exercise, Race, Serve, Receive, Send, Migrate, Unwrap}
+use Rattle.command_line.specs.declared.command.Command.TheVariants.{Replay, Format, Show, Exercise, Race, Serve, Receive, Send, Migrate, Unwrap, Audit, Compare}
 use Rattle.command_line.proofs.PlainWalks.{behind, walks_on, passes_on, passed}
 use Rattle.command_line.proofs.Plain.{plain_decimal, plain_table, plain_times}
 
@@ -80,6 +80,24 @@ unwrap_met t s = refl
 unwrap_taken : (x y : ℕ) (xs ys : Text) → (x == 45) ≡ false → (y == 45) ≡ false → takes program (codes "unwrap" ∷ (x ∷ xs) ∷ (y ∷ ys) ∷ []) ≡ true
 unfolding clap_on_literals
 unwrap_taken x y xs ys h k = simp (h, k)
+
+-- the two that read records
+
+audit_taken : takes program (codes "audit" ∷ []) ≡ true
+unfolding clap_on_literals
+audit_taken = refl
+
+audit_met : subcommand_of program (codes "audit" ∷ []) ≡ Some (codes "audit", [])
+unfolding clap_on_literals
+audit_met = refl
+
+compare_taken : takes program (codes "compare" ∷ []) ≡ true
+unfolding clap_on_literals
+compare_taken = refl
+
+compare_met : subcommand_of program (codes "compare" ∷ []) ≡ Some (codes "compare", [])
+unfolding clap_on_literals
+compare_met = refl
 
 -- a seed and a count
 
@@ -243,6 +261,8 @@ words_taken words (Migrate t n u m) h =
     rw (h.1, p.whole, q.whole, r.whole, s.whole)
     (migrate_taken p.first q.first r.first s.first p.rest q.rest r.rest s.rest p.undashed q.undashed r.undashed s.undashed)
 words_taken words (Unwrap t n) h = rw h.1 (session_taken (codes "unwrap") t n h.0 unwrap_taken)
+words_taken words Audit h = rw h.1 audit_taken
+words_taken words Compare h = rw h.1 compare_taken
 
 -- and finds its values
 pub values_found : (words : List Text) (c : Command) → AreWordsOf words c → GivesIn c (subcommand_of program words)
@@ -267,3 +287,5 @@ values_found words (Migrate t n u m) h =
     let given = migrate_given t u n m h.0.0 h.0.1 _ refl in
     rw (h.1, migrate_met) (refl, given.0, given.1)
 values_found words (Unwrap t n) h = rw (h.1, unwrap_met) (refl, session_given t n h.0)
+values_found words Audit h = rw (h.1, audit_met) refl
+values_found words Compare h = rw (h.1, compare_met) refl

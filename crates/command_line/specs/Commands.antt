@@ -3,7 +3,7 @@ use Rattle.std.specs.Prelude.{◌≡◌, ℕ, ◌≤◌, ◌<◌, ◌^◌, true,
 use Rattle.command_line.specs.TableNames.{is_table_name}
 use Rattle.command_line.specs.TimeLists.{AreTimes, times_word}
 use Rattle.command_line.specs.declared.command.Command.{Command}
-use Rattle.command_line.specs.declared.command.Command.TheVariants.{Replay, Format, Show, Exercise, Race, Serve, Receive, Send, Migrate, Unwrap}
+use Rattle.command_line.specs.declared.command.Command.TheVariants.{Replay, Format, Show, Exercise, Race, Serve, Receive, Send, Migrate, Unwrap, Audit, Compare}
 
 -- a session of a table
 abbrev pub IsSession : List ℕ → ℕ → Type 0
@@ -25,6 +25,8 @@ IsCommand (Receive table session looks) = IsLooking table session looks
 IsCommand (Send table session looks) = IsLooking table session looks
 IsCommand (Migrate table session new_table new_session) = IsSession table session × IsSession new_table new_session
 IsCommand (Unwrap table session) = IsSession table session
+IsCommand Audit = Unit {0}
+IsCommand Compare = Unit {0}
 
 -- its words, each as its bytes
 abbrev pub words_of : Command → List (List ℕ)
@@ -38,6 +40,8 @@ words_of (Receive table session looks) = codes "receive" ∷ table ∷ decimal s
 words_of (Send table session looks) = codes "send" ∷ table ∷ decimal session ∷ decimal looks ∷ []
 words_of (Migrate table session new_table new_session) = codes "migrate" ∷ table ∷ decimal session ∷ new_table ∷ decimal new_session ∷ []
 words_of (Unwrap table session) = codes "unwrap" ∷ table ∷ decimal session ∷ []
+words_of Audit = codes "audit" ∷ []
+words_of Compare = codes "compare" ∷ []
 
 -- the words are this command
 abbrev pub AreWordsOf : List (List ℕ) → Command → Type 0

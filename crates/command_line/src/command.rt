@@ -82,6 +82,10 @@ pub enum Command {
         /// The id of its row.
         session: u32,
     },
+    /// Checks a record.
+    Audit,
+    /// Compares Low's side of two records.
+    Compare,
 }
 
 /// Why the words give no command.

@@ -106,6 +106,8 @@ pub(crate) fn is_spelled(command: &Command, words: &[String]) -> bool
     let mut two = itoa::Buffer::new();
     match command {
         Command::Replay => is_one(words, "replay"),
+        Command::Audit => is_one(words, "audit"),
+        Command::Compare => is_one(words, "compare"),
         Command::Format { table, session } => {
             are_three(words, "format", table.as_str(), one.format(*session))
         }

@@ -22,6 +22,8 @@ fn answer(rt: &HostRuntime, line: &str) -> Result<&'static str, AllocError> {
         Ok(Command::Send { .. }) => Ok("send"),
         Ok(Command::Migrate { .. }) => Ok("migrate"),
         Ok(Command::Unwrap { .. }) => Ok("unwrap"),
+        Ok(Command::Audit) => Ok("audit"),
+        Ok(Command::Compare) => Ok("compare"),
         Err(WordsFault::NoCommand) => Ok("none"),
         Err(WordsFault::Memory) => Ok("memory"),
     }
@@ -84,6 +86,9 @@ fn command_lines(rt: HostRuntime) -> Result<(), Fail> {
         ("unwrap t.toml 1", "unwrap"),
         ("unwrap t.toml", "none"),
         ("unwrap t.toml 01", "none"),
+        ("audit", "audit"),
+        ("audit record", "none"),
+        ("compare", "compare"),
         ("help", "none"),
         ("help replay", "none"),
         ("--help", "none"),

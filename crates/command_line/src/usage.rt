@@ -10,4 +10,6 @@ pub const USAGE: &str = "type one of these after the program's name:
   send TABLE S LOOKS          sends the messages on standard input, a line of hexadecimal digits each, to the relay of session S, and prints a line for each that is stored; it waits LOOKS looks at most for an answer
   migrate TABLE S NEWTABLE T  writes what session S has on the three empty disks of session T, which has a row in the file NEWTABLE, and changes none of its own
   unwrap TABLE S              writes the file that the messages with the receiver of session S are, and nothing else
+  audit                       checks the record on standard input, and prints that it is clean, or the first line that is wrong and its cause, as in: netpump audit < RECORD
+  compare                     compares Low's side of two records on standard input, with a line '# compare' between them, and prints that they agree, or the first item that differs
 TABLE is the name of a file in this folder: 1 to 64 letters, digits, dots, underscores and dashes, the first a letter or a digit. TIMES are 1 to 16 numbers up to 1000000000 with commas between, as 50,700,20: how many microseconds the receiver takes for each message in turn. LOOKS is at least 1; a look or a round that finds nothing takes about a millisecond. Numbers are written without a sign and without zeros before them, and are below 2^32";

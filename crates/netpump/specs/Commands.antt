@@ -18,6 +18,17 @@ use Rattle.netpump.specs.declared.command_end.CommandEnd.TheVariants.{Done, Memo
 abbrev pub IsReplay : List (List ℕ) → Type 0
 IsReplay words = words ≡ codes "replay" ∷ []
 
+-- .. "audit" and "compare"
+abbrev pub IsAudit : List (List ℕ) → Type 0
+IsAudit words = words ≡ codes "audit" ∷ []
+
+abbrev pub IsCompare : List (List ℕ) → Type 0
+IsCompare words = words ≡ codes "compare" ∷ []
+
+-- the words are those of a command that reads the script
+abbrev pub ReadsScript : List (List ℕ) → Type 0
+ReadsScript words = IsReplay words ⊎ (IsAudit words ⊎ IsCompare words)
+
 -- a command with threads or over a socket is for `live`, every other one for `batch`
 abbrev pub is_live : Command → Bool
 is_live (Race seed count times) = true

@@ -1,3 +1,4 @@
+pub mod Auditing
 pub mod Commands
 pub mod Exercises
 pub mod Exercising

@@ -1,4 +1,4 @@
-ghost use Rattle.std.specs.Prelude.{◌≡◌, ℕ, ◌≤◌, ◌⊎◌, false, List, [], map, string_bytes};
+ghost use Rattle.std.specs.Prelude.{◌≡◌, ℕ, ◌≤◌, ◌⊎◌, false, List, [], map, string_bytes, IfSome};
 ghost use Rattle.command_line.specs.Commands.{AreWordsOf};
 ghost use Rattle.command_line.specs.declared.command.Command.{Command as Asked};
 ghost use Rattle.command_line.specs.declared.command.Command.TheVariants as commands;
@@ -7,13 +7,15 @@ ghost use Rattle.pump_frame.specs.Counts.{Rose};
 ghost use Rattle.script_replay.specs.Ends.{EndsReplay};
 ghost use Rattle.script_replay.specs.Replays.{IsFailed, Wrote};
 ghost use Rattle.script_replay.specs.Shelves.{AllAreBack, shelved};
-ghost use Rattle.netpump.specs.Commands.{is_live, IsNoCommand, IsReplay, TellsWords, RefusesWords, EndsWithStatus};
+ghost use Rattle.netpump.specs.Commands.{is_live, IsNoCommand, IsReplay, IsAudit, IsCompare, ReadsScript, TellsWords, RefusesWords, EndsWithStatus};
+ghost use Rattle.netpump.specs.Auditing.{EndsAudit, EndsComparison};
 ghost use Rattle.netpump.specs.Exercises.{EndsExercise};
 ghost use Rattle.netpump.specs.Formatting.{Formats};
 ghost use Rattle.netpump.specs.Migrating.{Migrates};
 ghost use Rattle.netpump.specs.Showing.{Shows};
 ghost use Rattle.netpump.specs.Unwrapping.{EndsUnwrap};
 
+use crate::audit::{audit_script, compare_script};
 use crate::exercise::exercise;
 use crate::format::format_session;
 use crate::migrate::migrate_session;
@@ -76,6 +78,8 @@ fn run_exercise<O: Sink>(alloc: Global, seed: u32, count: u32, out: &mut O) -> u
 /// - 10: a line's message does not fit on the receiver's disk; the same was written.
 /// - 13: the receiver's messages are no file from some message on; the file's bytes before it were written.
 /// - 14: the receiver's messages begin a file, and are not all of it; what they have of it was written.
+/// - 15: a line of a record is wrong, which is what the output says.
+/// - 16: two records differ, which is what the output says.
 ///
 /// Of a replay's 0, 5, 7, 8 and 10 it is the one whose cause is the first in the script, where it is none
 /// of the others. The disks that a command takes off the shelf are back on it at the return. Where the
@@ -98,8 +102,8 @@ pub fn batch<S: Shelf, I: Source, O: Sink>(
     ensures untouched { IsNoCommand (map string_bytes words.now.items) → (script.new ≡ script.old) × (shelf.new ≡ shelf.old) }
     ensures words { IsNoCommand (map string_bytes words.now.items) → RefusesWords (O.written out.old) (O.written out.new) result }
     ensures known { (c : Asked) → is_live c ≡ false → AreWordsOf (map string_bytes words.now.items) c → (result ≡ 2 → ⊥) }
-    // Only a replay reads the script.
-    ensures unasked { (IsReplay (map string_bytes words.now.items) → ⊥) → script.new ≡ script.old }
+    // Only a replay and the commands over records read the script.
+    ensures unasked { (ReadsScript (map string_bytes words.now.items) → ⊥) → script.new ≡ script.old }
     // Whatever the status is, every disk is back on the shelf.
     ensures back { S.told.tells → AllAreBack (S.told.disk shelf.old) (S.told.disk shelf.new) }
     // A disk fails only where the shelf's count rose, or a line tells so.
@@ -107,11 +111,11 @@ pub fn batch<S: Shelf, I: Source, O: Sink>(
         ⊎ (S.told.tells → S.Disk.told.tells → Wrote (I.left script.old) (O.written out.old) (O.written out.new) (IsFailed (shelved (S.told.disk shelf.old) (S.told.disk shelf.new)) (I.left script.new))) }
     ensures disk { (IsReplay (map string_bytes words.now.items) → ⊥) → result ≡ 7 → Rose (S.told.disk_faults shelf.old) (S.told.disk_faults shelf.new) }
     // A read fails, and a write, only where the source's, the shelf's or the sink's count rose.
-    ensures file { (IsReplay (map string_bytes words.now.items) → ⊥) → result ≡ 3 → Rose (S.told.faults shelf.old) (S.told.faults shelf.new) }
-    ensures read { IsReplay (map string_bytes words.now.items) → result ≡ 3 → Rose (I.faults script.old) (I.faults script.new) }
+    ensures file { (ReadsScript (map string_bytes words.now.items) → ⊥) → result ≡ 3 → Rose (S.told.faults shelf.old) (S.told.faults shelf.new) }
+    ensures read { ReadsScript (map string_bytes words.now.items) → result ≡ 3 → Rose (I.faults script.old) (I.faults script.new) }
     ensures unwritten { result ≡ 4 → Rose (O.faults out.old) (O.faults out.new) }
-    // A replay that wants memory has written nothing; of how it ends with another status see `EndsReplay`.
-    ensures memory { IsReplay (map string_bytes words.now.items) → result ≡ 1 → Appends (O.written out.old) (O.written out.new) [] }
+    // A command that reads the script has written nothing where memory was wanting; of how a replay ends with another status see `EndsReplay`.
+    ensures memory { ReadsScript (map string_bytes words.now.items) → result ≡ 1 → Appends (O.written out.old) (O.written out.new) [] }
     ensures replay { IsReplay (map string_bytes words.now.items) → S.told.tells → S.Disk.told.tells → EndsReplay result (S.told.disk shelf.old) (S.told.disk shelf.new)
         (I.left script.old) (I.left script.new) (O.written out.old) (O.written out.new) (I.faults script.old) (I.faults script.new) }
     // How formatting, showing, moving, writing a file and an exercise end.
@@ -126,7 +130,12 @@ pub fn batch<S: Shelf, I: Source, O: Sink>(
         → EndsUnwrap (S.told.file shelf.old table) (S.told.disk shelf.old) (S.told.disk shelf.new) session (O.written out.old) (O.written out.new) result }
     ensures exercise { (seed : ℕ) (count : ℕ) → AreWordsOf (map string_bytes words.now.items) (commands.Exercise seed count)
         → (shelf.new ≡ shelf.old) × EndsExercise seed count (O.written out.old) (O.written out.new) result }
-    ensures status { (result ≤ 8) ⊎ ((result ≡ 10) ⊎ ((result ≡ 13) ⊎ (result ≡ 14))) }
+    // What is said of a record, and of two.
+    ensures audit { IsAudit (map string_bytes words.now.items) → (shelf.new ≡ shelf.old)
+        × IfSome (I.left script.old) (λ bytes. EndsAudit bytes (O.written out.old) (O.written out.new) result) }
+    ensures compare { IsCompare (map string_bytes words.now.items) → (shelf.new ≡ shelf.old)
+        × IfSome (I.left script.old) (λ bytes. EndsComparison bytes (O.written out.old) (O.written out.new) result) }
+    ensures status { (result ≤ 8) ⊎ ((result ≡ 10) ⊎ ((13 ≤ result) × (result ≤ 16))) }
 {
     let asked = match command_of(alloc, words.as_slice()) {
         Ok(asked) => asked,
@@ -161,6 +170,8 @@ pub fn batch<S: Shelf, I: Source, O: Sink>(
             return unwrap_session(alloc, table, *session, shelf, out).status();
         }
         Command::Exercise { seed, count } => return run_exercise(alloc, *seed, *count, out),
+        Command::Audit => return audit_script(alloc, script, out),
+        Command::Compare => return compare_script(alloc, script, out),
         Command::Race { .. }
         | Command::Serve { .. }
         | Command::Receive { .. }

@@ -89,7 +89,7 @@ pub fn put_number(into: &mut ArrayVec<u8, 256>, number: u64)
 }
 
 /// A line of these words and a number.
-fn put_one(into: &mut ArrayVec<u8, 256>, words: &[u8], number: u64)
+pub fn put_one(into: &mut ArrayVec<u8, 256>, words: &[u8], number: u64)
     requires empty { into.old.items ≡ [] }
     requires short { length words.now ≤ 100 }
     ensures { into.new.items ≡ words.now ++ 32 ∷ decimal number ++ 10 ∷ [] }
@@ -100,7 +100,7 @@ fn put_one(into: &mut ArrayVec<u8, 256>, words: &[u8], number: u64)
 }
 
 /// .. and two numbers.
-fn put_two(into: &mut ArrayVec<u8, 256>, words: &[u8], first: u64, second: u64)
+pub fn put_two(into: &mut ArrayVec<u8, 256>, words: &[u8], first: u64, second: u64)
     requires empty { into.old.items ≡ [] }
     requires short { length words.now ≤ 100 }
     ensures { into.new.items ≡ words.now ++ 32 ∷ decimal first ++ 32 ∷ decimal second ++ 10 ∷ [] }
@@ -112,7 +112,7 @@ fn put_two(into: &mut ArrayVec<u8, 256>, words: &[u8], first: u64, second: u64)
 }
 
 /// .. and three numbers.
-fn put_three(into: &mut ArrayVec<u8, 256>, words: &[u8], first: u64, second: u64, third: u64)
+pub fn put_three(into: &mut ArrayVec<u8, 256>, words: &[u8], first: u64, second: u64, third: u64)
     requires empty { into.old.items ≡ [] }
     requires short { length words.now ≤ 100 }
     ensures { into.new.items ≡ words.now ++ 32 ∷ decimal first ++ 32 ∷ decimal second ++ 32 ∷ decimal third ++ 10 ∷ [] }

@@ -102,6 +102,8 @@ fn shows_what_disks_stand_for(rt: HostRuntime) -> Result<(), Fail> {
         ("show t.toml 9", 6, "fault table 11 9\n"),
         ("show small.toml 1", 6, "fault table 4 1\n"),
         ("show none.toml 1", 3, "fault read\n"),
+        ("audit", 15, "audit no 1 1\n"),
+        ("compare", 5, "fault script 1\n"),
     ];
     assert!(rt; all_end(rt.alloc(), &[], lines.as_slice())?);
     Ok(())

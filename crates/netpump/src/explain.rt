@@ -1,7 +1,9 @@
+mod auditing;
 mod link;
 mod moving;
 mod unwrapping;
 
+use auditing::{explain_audit, explain_difference, explain_unpaired};
 use command_line::USAGE;
 use link::{explain_ahead, explain_full, explain_port, explain_refused, explain_unfinished};
 use moving::{explain_filled, explain_long, explain_same, explain_small, table_name};
@@ -207,6 +209,7 @@ pub fn explain(
             "netpump: standard output could not be written; see that its reader is there, or that its disk has room, and try again"
         ),
         5 if word(words, 0) == Some("send") => explain_message(rt, last),
+        5 if word(words, 0) == Some("compare") => explain_unpaired(rt, last),
         6 | 7 | 8 | 13 | 14 if word(words, 0) == Some("unwrap") => {
             explain_unwrap(rt, words, status, trouble)
         }
@@ -217,6 +220,8 @@ pub fn explain(
         10 => explain_receiver(rt, words, last),
         11 => explain_refused(rt, words, fault_line(last).unwrap_or("")),
         12 => explain_unfinished(rt, fault_line(last).unwrap_or("")),
+        15 => explain_audit(rt, last),
+        16 => explain_difference(rt, last),
         _ => explain_script(rt, last),
     }
 }

@@ -1,6 +1,7 @@
 //! A verified one-way relay from a low party to a high party.
 #![tactic(auto)]
 
+mod audit;
 mod batch;
 mod command_end;
 #[cfg(test)]

@@ -1,8 +1,7 @@
 -- What a line makes of a record that is checked.
-use Rattle.std.proofs.Common.{◌≡◌, ◌⊎◌, inl, inr, ℕ, ◌+◌, ◌≤◌, Bool, true, false, List, [], ◌∷◌, ◌++◌, length, Option, None, Some, refl, sym, ap, ◌∙◌, subst, arith, append-nil, length-append}
+use Rattle.std.proofs.Common.{◌≡◌, inl, inr, ℕ, ◌+◌, ◌≤◌, Bool, true, false, List, [], ◌∷◌, ◌++◌, length, Option, None, Some, refl, sym, ap, ◌∙◌, subst, arith, append-nil, length-append}
 use Rattle.std.specs.Prelude.{◌==◌, slice_get, MatchOption, MatchBool, option_map, if◌then◌else◌, ◌&&◌, not, nat_le, is_some}
 use Rattle.std.proofs.lemmas.List.{append_cancel_left}
-use Rattle.std.specs.List.{All}
 use Rattle.std.proofs.lemmas.List.Sums.{sum_by-append}
 use Rattle.std.proofs.lemmas.List.Elements.{All-nil}
 use Rattle.moving_avg.specs.Windows.{HoldsTimes, averaging_in}
@@ -10,15 +9,13 @@ use Rattle.moving_avg.specs.declared.Window.{Window}
 use Rattle.pump_frame.specs.declared.averaging.Averaging.{Averaging}
 use Rattle.pump_frame.specs.Averages.{averaging_of, average_of}
 use Rattle.pump_frame.specs.declared.frame.Frame.{Frame}
-use Rattle.pump_frame.specs.declared.frame.Kind.{Kind}
-use Rattle.pump_frame.specs.declared.frame.Kind.TheVariants as kinds
 use Rattle.pump_frame.specs.declared.row.SessionRow.{SessionRow}
 use Rattle.pump_core.specs.declared.feedback.Feedback.{Feedback}
 use Rattle.pump_core.specs.declared.reply.Refusal.{Refusal}
 use Rattle.pump_core.specs.declared.reply.Refusal.TheVariants as refusals
 use Rattle.pump_core.specs.declared.reply.Reply.{Reply}
 use Rattle.pump_core.specs.declared.reply.Reply.TheVariants.{Welcome, Ack, Refuse}
-use Rattle.pump_core.specs.History.{Arrival, Look, Opening, History, looked}
+use Rattle.pump_core.specs.History.{Arrival, Look, Opening, History}
 use Rattle.pump_core.specs.History.{Nothing, Came, Bad, Gone}
 use Rattle.pump_core.specs.Exchanges.{is_gone, is_hello, is_repeat, is_next, permits_frame, due, Part, count_after, IsCut}
 use Rattle.pump_core.proofs.Cuts.{one_cut}
@@ -26,8 +23,8 @@ use Rattle.pump_core.specs.Phases.{Phase}
 use Rattle.pump_core.specs.Phases.{Idle, Passing, Waiting, Down}
 use Rattle.pump_core.specs.ReplyFrames.{code_of, frame_of}
 use Rattle.pump_core.specs.Replies.{Sent, sent, LowReplies}
-use Rattle.pump_core.specs.Standing.{State, StandsAt, last_moment}
-use Rattle.pump_core.specs.Step.{opened, after, after_in, after_idle, taken, passed, is_full, reply_at, FeedbackFits}
+use Rattle.pump_core.specs.Standing.{State, StandsAt}
+use Rattle.pump_core.specs.Step.{after, after_in, after_idle, taken, passed, is_full, reply_at}
 use Rattle.pump_core.proofs.Runs.{one_list_of_lives}
 use Rattle.pump_core.proofs.Standings.{stands_after, replies_after}
 use Rattle.pump_audit.specs.declared.claims.Claim.{Claim}
@@ -39,17 +36,17 @@ use Rattle.pump_audit.specs.declared.form.Place.{Place}
 use Rattle.pump_audit.specs.declared.form.Place.TheVariants as places
 use Rattle.pump_audit.specs.declared.life.Life.{Life}
 use Rattle.pump_audit.specs.declared.state.Audit.{Audit}
-use Rattle.pump_audit.specs.Auditing.{history_in, owed_in, LivesIn, MeetsAt, Held, IsFresh, Counts, Audits, LookIs, NoteIs, EntryIs, TextIs, EndIs, IsEnded, form_of_audit}
+use Rattle.pump_audit.specs.Auditing.{history_in, owed_in, LivesIn, MeetsAt, Held, Audits, LookIs, NoteIs, EntryIs, TextIs, EndIs, IsEnded, form_of_audit}
 use Rattle.pump_audit.specs.declared.entry.Entry.{Entry}
 use Rattle.pump_audit.specs.declared.entry.Entry.TheVariants as entries
 use Rattle.pump_audit.specs.declared.form.Form.{Form}
-use Rattle.pump_audit.specs.declared.verdict.Verdict.TheVariants.{Yes, No}
+use Rattle.pump_audit.specs.declared.verdict.Verdict.TheVariants.{No}
 use Rattle.pump_audit.specs.Claims.{has_end, AreRight, IsFirstWrong}
-use Rattle.pump_audit.specs.Entries.{arrival_of, IsEntry}
+use Rattle.pump_audit.specs.Entries.{IsEntry}
 use Rattle.pump_audit.specs.Machine.{state_of, is_down, stores_of, begins_store, Lets}
 use Rattle.pump_audit.specs.Pairs.{Keeps, Fell, IsMet, Waits, Meets}
-use Rattle.pump_audit.specs.Places.{is_opening, takes_looks, takes_times, behind_line, ends_at, has_end_at}
-use Rattle.pump_audit.specs.Records.{Record, begun, look_of, is_lost, GoesOn, AreTold, claims_of, told_by_note, form_of, with_look, with_note}
+use Rattle.pump_audit.specs.Places.{takes_looks, takes_times, behind_line, ends_at, has_end_at}
+use Rattle.pump_audit.specs.Records.{Record, look_of, GoesOn, AreTold, claims_of, told_by_note, form_of, with_look, with_note}
 use Rattle.pump_audit.specs.Verdicts.{is_ack, acknowledgements, IsRightEnd}
 use Rattle.pump_audit.proofs.ClaimLaws.{meet_push, met_right, unmet_wrong, risen_right, fall_wrong}
 use Rattle.pump_audit.proofs.Lives.{goes, lets_on, fits_of, outcome_of, up_of}

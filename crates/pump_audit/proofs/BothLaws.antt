@@ -1,5 +1,5 @@
 -- The lines of a stream that are two records.
-use Rattle.std.proofs.Common.{◌≡◌, ◌≢◌, ◌⊎◌, inl, inr, ℕ, ◌+◌, ◌^◌, ◌<◌, Bool, true, false, List, [], ◌∷◌, ◌++◌, Option, None, Some, IfSome, refl, sym, ap, ◌∙◌, subst, arith}
+use Rattle.std.proofs.Common.{◌≡◌, ◌≢◌, ◌⊎◌, inl, inr, ℕ, ◌+◌, ◌^◌, Bool, true, false, List, [], ◌∷◌, ◌++◌, Option, None, Some, IfSome, refl, sym, ap, ◌∙◌, subst, arith}
 use Rattle.std.specs.Prelude.{MatchOption, if◌then◌else◌}
 use Rattle.std.specs.Io.KnownBytes.{Consumes, IsAtEnd}
 use Rattle.script_reader.proofs.OneReading.{taken, not_nothing}
@@ -9,10 +9,10 @@ use Rattle.pump_audit.specs.declared.entry.Entry.{Entry}
 use Rattle.pump_audit.specs.declared.side.Side.{Side}
 use Rattle.pump_audit.specs.declared.texts.Texted.{Texted}
 use Rattle.pump_audit.specs.declared.texts.Texted.TheVariants.{Cut, End}
-use Rattle.pump_audit.specs.Comparing.{SideTold, form_of, form_in, lines_in, Lists, BeginsSide, BreaksSide, BreaksAt, AreSide, EndsSide, separator, SidesAre, IsCompared}
+use Rattle.pump_audit.specs.Comparing.{SideTold, form_of, Lists, BeginsSide, BreaksSide, BreaksAt, AreSide, EndsSide, separator, SidesAre, IsCompared}
 use Rattle.pump_audit.specs.Entries.{IsEntry}
 use Rattle.pump_audit.specs.Places.{may_end, ends_at}
-use Rattle.pump_audit.specs.Siding.{Stands, BeginsAs, GoesOnBy, IsNone, SideGoes, SideEnds, SideComes}
+use Rattle.pump_audit.specs.Siding.{BeginsAs, GoesOnBy, IsNone, SideGoes, SideEnds, SideComes}
 use Rattle.pump_audit.specs.Texts.{IsText, IsCut, IsNextText}
 
 longer : (bytes : List ℕ) (was : Option SideTold) (text rest : List ℕ) (e : Entry) (q : SideTold) → BeginsSide bytes was (text ++ 10 ∷ rest) → IsText text → IsEntry e text → Lists was e q → BeginsSide bytes (Some q) rest

@@ -1,18 +1,17 @@
 -- What is kept of a record's claims says which of them is the first wrong one.
-use Rattle.std.proofs.Common.{◌≡◌, ◌⊎◌, inl, inr, ℕ, suc, zero, ◌+◌, ◌<◌, ◌≤◌, Bool, true, false, List, [], ◌∷◌, ◌++◌, length, get_or, take, drop, Option, None, Some, refl, sym, ap, ◌∙◌, subst, arith, append_assoc, append-nil, length-append}
+use Rattle.std.proofs.Common.{◌≡◌, ◌⊎◌, inl, inr, ℕ, suc, zero, ◌+◌, ◌<◌, ◌≤◌, true, false, List, [], ◌∷◌, ◌++◌, length, get_or, take, drop, Option, None, Some, refl, sym, ap, ◌∙◌, subst, arith, length-append}
 use Rattle.std.specs.Prelude.{is_some, nat_le, slice_get}
 use Rattle.std.specs.List.{All}
 use Rattle.std.proofs.lemmas.Bool.{cases_eq, leb-true, leb-false}
-use Rattle.std.proofs.lemmas.List.{take_more, take_all, drop_all, take-append-le, take-append-drop}
-use Rattle.std.proofs.lemmas.List.Elements.{All-nil, All-cons, All-push, All-append, All-head, All-tail, All-weaker, All-take}
+use Rattle.std.proofs.lemmas.List.{take_more, take_all, drop_all, take-append-le}
+use Rattle.std.proofs.lemmas.List.Elements.{All-nil, All-cons, All-push, All-head, All-tail, All-weaker}
 use Rattle.std.proofs.Math.Seq.{drop-cons}
 use Rattle.pump_frame.specs.declared.averaging.Averaging.{Averaging}
-use Rattle.pump_frame.specs.declared.row.SessionRow.{SessionRow}
 use Rattle.pump_frame.specs.Averages.{averaging_of, average_of}
 use Rattle.pump_audit.specs.declared.claims.Claim.{Claim}
 use Rattle.pump_audit.specs.Records.{Record}
 use Rattle.pump_audit.specs.Claims.{has_end, IsRight, AreRight, IsFirstWrong}
-use Rattle.pump_audit.specs.Pairs.{EndsLike, Takes, Keeps, AreRisen, FallsAt, Fell, RiseFrom, top, IsMet, Fails, Waits, Meets}
+use Rattle.pump_audit.specs.Pairs.{Keeps, AreRisen, FallsAt, Fell, RiseFrom, top, IsMet, Fails, Waits, Meets}
 
 -- ---- a fall ----
 

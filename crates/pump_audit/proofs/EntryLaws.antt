@@ -5,7 +5,7 @@ use Rattle.std.proofs.lemmas.List.{take-append-drop}
 use Rattle.std.proofs.Math.Seq.{drop-cons}
 use Rattle.pump_frame.specs.Frames.{IsLawful}
 use Rattle.pump_frame.specs.Readings.{Reading, Within, HasBegun}
-use Rattle.pump_frame.specs.Spellings.{spelling, header_of, BeginsSpelling, IsPartial}
+use Rattle.pump_frame.specs.Spellings.{spelling, header_of}
 use Rattle.pump_frame.specs.Streams.{Feeds}
 use Rattle.pump_frame.specs.declared.frame.Frame.{Frame}
 use Rattle.pump_frame.specs.declared.reader.Fed.{Fed}
@@ -29,7 +29,7 @@ use Rattle.script_reader.specs.Grammar.{IsLine, IsSkipped}
 use Rattle.script_reader.specs.Lawful.{IsLawfulLine, IsLawfulFeedback}
 use Rattle.pump_audit.specs.declared.entry.Note.{Note}
 use Rattle.pump_audit.specs.declared.entry.Note.TheVariants as notes
-use Rattle.pump_audit.specs.Entries.{line_in, line_of, IsPlainIn, IsInRange, note_text, IsEntry}
+use Rattle.pump_audit.specs.Entries.{line_in, IsPlainIn, IsInRange, note_text, IsEntry}
 use Rattle.pump_audit.specs.Noting.{IsComing, IsScript, IsSmall}
 
 -- ---- frames ----
@@ -226,5 +226,6 @@ skip_head bytes (heads.High session moment) e = absurd (cc)
 skip_head bytes (heads.Carry session back) e = absurd (cc)
 skip_head bytes (heads.Return session moment back) e = absurd (cc)
 skip_head bytes (heads.Done session moment time) e = absurd (cc)
+skip_head bytes (heads.Step session moment word) e = absurd (cc)
 skip_head bytes (heads.Restart session moment) e = absurd (cc)
 skip_head bytes (heads.ReceiverRestart session moment) e = absurd (cc)

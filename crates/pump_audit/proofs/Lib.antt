@@ -1,9 +1,11 @@
+pub mod AgreeLaws
 pub mod AuditLaws
 pub mod BothLaws
 pub mod ClaimLaws
 pub mod EntryLaws
 pub mod Lives
 pub mod NoteLaws
+pub mod OnceLaws
 pub mod SideLaws
 pub mod StreamLaws
 pub mod TextLaws

@@ -1,28 +1,25 @@
 -- A look goes on with a life just where the machine that stands for the life lets it.
-use Rattle.std.proofs.Common.{◌≡◌, ℕ, ◌≤◌, Bool, true, false, cond, List, [], ◌∷◌, ◌++◌, Option, Some, None, refl, sym, ap, ◌∙◌, subst}
+use Rattle.std.proofs.Common.{◌≡◌, ℕ, ◌≤◌, Bool, true, false, List, [], ◌∷◌, Option, Some, None, refl, sym, ap, ◌∙◌, subst}
 use Rattle.std.specs.Prelude.{if◌then◌else◌, ◌&&◌, ◌||◌, not, ◌==◌, nat_le, nat_lt, length, option_map}
-use Rattle.std.proofs.lemmas.Bool.{and_parts, eqb-true, eq-eqb, both_ways}
+use Rattle.std.proofs.lemmas.Bool.{and_parts, eqb-true, eq-eqb}
 use Rattle.std.proofs.lemmas.List.{append_cancel_left}
 use Rattle.std.proofs.lemmas.Option.{cond_some, same_Some}
 use Rattle.pump_frame.specs.Averages.{averaging_of, average_of}
 use Rattle.pump_frame.specs.declared.frame.Frame.{Frame}
-use Rattle.pump_frame.specs.declared.frame.Kind.{Kind}
-use Rattle.pump_frame.specs.declared.frame.Kind.TheVariants.{Hello, Data}
 use Rattle.pump_frame.specs.declared.row.SessionRow.{SessionRow}
 use Rattle.pump_core.specs.declared.feedback.Seen.{Seen}
 use Rattle.pump_core.specs.declared.feedback.Feedback.{Feedback}
 use Rattle.pump_core.specs.declared.feedback.Feedback.TheVariants as feedbacks
 use Rattle.pump_core.specs.History.{Arrival, Look, History, looked}
 use Rattle.pump_core.specs.History.{Nothing, Came, Bad, Gone}
-use Rattle.pump_core.specs.Exchanges.{is_gone, is_hello, is_data, is_repeat, is_next, has_average, permits_frame, looks_of, IsCut}
+use Rattle.pump_core.specs.Exchanges.{is_gone, is_hello, is_data, is_repeat, is_next, has_average, permits_frame, looks_of}
 use Rattle.pump_core.specs.Comings.{is_nothing}
 use Rattle.pump_core.specs.Phases.{Phase}
 use Rattle.pump_core.specs.Phases.{Idle, Passing, Waiting, Down}
-use Rattle.pump_core.specs.Replies.{Sent, sent, LowReplies, takes, welcome, refusal, answer_to}
-use Rattle.pump_core.specs.Standing.{State, StandsAt, end_of, last_moment}
-use Rattle.pump_core.specs.Step.{reply_at, reply_in, reply_idle, takes_at, takes_in, FeedbackFits, fits_in, fits_passing, fits_idle, is_quiet}
-use Rattle.pump_core.proofs.Runs.{not_repeat, one_list_of_lives}
-use Rattle.pump_core.proofs.Cuts.{newest_of_cut}
+use Rattle.pump_core.specs.Replies.{Sent, sent, LowReplies, welcome, refusal, answer_to}
+use Rattle.pump_core.specs.Standing.{State, StandsAt}
+use Rattle.pump_core.specs.Step.{reply_at, reply_in, reply_idle, takes_in, FeedbackFits, fits_in, fits_passing, fits_idle, is_quiet}
+use Rattle.pump_core.proofs.Runs.{one_list_of_lives}
 use Rattle.pump_core.proofs.CutsFit.{cuts_fit}
 use Rattle.pump_core.proofs.Standings.{stands_after, replies_after, newest_after}
 use Rattle.script_reader.specs.declared.line.ToldFeedback.{ToldFeedback}
@@ -30,7 +27,7 @@ use Rattle.script_reader.specs.declared.line.ToldFeedback.TheVariants.{Quiet, Fu
 use Rattle.script_reader.specs.Alone.{tells_level}
 use Rattle.pump_audit.specs.declared.entry.LookLine.{LookLine}
 use Rattle.pump_audit.specs.Entries.{arrival_of}
-use Rattle.pump_audit.specs.Machine.{Lets, is_down, pair_in, of_nothing, of_release, of_offer, of_arrival, of_look, takes_all, stores_of, begins_store}
+use Rattle.pump_audit.specs.Machine.{Lets, is_down, pair_in, of_nothing, of_offer, of_arrival, of_look, takes_all, stores_of, begins_store}
 use Rattle.pump_audit.specs.Records.{Means, look_of, is_lost, tells_fault, IsNextLook}
 
 mapped : {A B : Type 0} (g : A → B) (o : Option A) (y : B) → option_map g o ≡ Some y → (x : A) × (o ≡ Some x) × (g x ≡ y)

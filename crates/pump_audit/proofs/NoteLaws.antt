@@ -1,5 +1,5 @@
 -- Reading a comment on lists is what a comment's text says.
-use Rattle.std.proofs.Common.{◌≡◌, ℕ, ◌+◌, ◌^◌, ◌<◌, ◌≤◌, inl, inr, true, false, cond, List, [], ◌∷◌, Option, None, Some, IfSome, codes, decimal, refl, sym, ap, ◌∙◌, subst, arith}
+use Rattle.std.proofs.Common.{◌≡◌, ℕ, ◌+◌, ◌^◌, ◌<◌, ◌≤◌, inl, inr, cond, List, [], ◌∷◌, Option, None, Some, IfSome, codes, decimal, refl, sym, ap, ◌∙◌, subst, arith}
 use Rattle.std.proofs.lemmas.Bool.{eqb-true}
 use Rattle.std.proofs.lemmas.Option.{same_Some}
 use Rattle.std.proofs.lemmas.Slice.Eq.{bytes_eq-Decides}
@@ -14,7 +14,6 @@ use Rattle.pump_core.specs.declared.reply.Reply.TheVariants.{Welcome, Ack, Refus
 use Rattle.pump_core.specs.ReplyFrames.{code_of, frame_of, IsLawfulReply}
 use Rattle.script_reader.specs.Fields.{is_space}
 use Rattle.script_reader.specs.Grammar.{spaced}
-use Rattle.script_reader.specs.Parsing.{field_at, number, at_end}
 use Rattle.script_reader.specs.Transcript.{reply_fields}
 use Rattle.script_reader.proofs.FieldChains.{bind_some, chosen, take_number, number_put, end_at}
 use Rattle.script_reader.proofs.FreeFields.{free_text, free_decimal}

@@ -1,17 +1,14 @@
 -- Low's sides of two records, and where they differ.
-use Rattle.std.proofs.Common.{◌≡◌, ◌≢◌, ◌⊎◌, inl, inr, ℕ, zero, suc, ◌+◌, ◌^◌, ◌<◌, ◌≤◌, Bool, true, false, List, [], ◌∷◌, ◌++◌, length, get_or, drop, map, Option, None, Some, IfSome, refl, sym, ap, ◌∙◌, subst, arith}
-use Rattle.std.specs.Prelude.{◌&&◌, ◌==◌, not, is_some, MatchOption, if◌then◌else◌}
+use Rattle.std.proofs.Common.{◌≡◌, inl, inr, ℕ, zero, suc, ◌+◌, ◌<◌, ◌≤◌, Bool, true, false, List, [], ◌∷◌, length, get_or, drop, map, None, Some, refl, sym, ap, ◌∙◌, subst, arith}
+use Rattle.std.specs.Prelude.{◌&&◌, ◌==◌}
 use Rattle.std.specs.Str.{bytes_eq}
-use Rattle.std.proofs.lemmas.Bool.{and_parts, eqb-true, eq-eqb, both_ways}
-use Rattle.std.proofs.lemmas.List.{drop_all}
+use Rattle.std.proofs.lemmas.Bool.{and_parts, eqb-true, eq-eqb}
 use Rattle.std.proofs.lemmas.Slice.Eq.{bytes_eq-Decides}
-use Rattle.std.specs.Io.KnownBytes.{Consumes, IsAtEnd}
-use Rattle.script_reader.proofs.OneReading.{taken, not_nothing}
 use Rattle.pump_frame.specs.declared.row.SessionRow.{SessionRow}
 use Rattle.pump_core.specs.History.{Opening}
 use Rattle.pump_audit.specs.declared.compared.What.{What}
 use Rattle.pump_audit.specs.declared.compared.What.TheVariants as what
-use Rattle.pump_audit.specs.declared.compared.Compared.TheVariants.{Agree, Differ, NotRecord}
+use Rattle.pump_audit.specs.declared.compared.Compared.TheVariants.{Agree, Differ}
 use Rattle.pump_audit.specs.declared.entry.Entry.{Entry}
 use Rattle.pump_audit.specs.declared.entry.Entry.TheVariants as entries
 use Rattle.pump_audit.specs.declared.form.Form.{Form}
@@ -21,7 +18,7 @@ use Rattle.pump_audit.specs.declared.side.Side.{Side}
 use Rattle.pump_audit.specs.Comparing.{ItemTold, SideTold, form_of, with_entry, same_bool, unlike, AreAlike, DifferAt, SameOpening, SidesAre}
 use Rattle.pump_audit.specs.Entries.{IsEntry}
 use Rattle.pump_audit.specs.Places.{behind_line}
-use Rattle.pump_audit.specs.Siding.{tells, Stands, form_of_side, GoesOnBy, has_same_numbers, has_same_row, has_same_opening}
+use Rattle.pump_audit.specs.Siding.{tells, Stands, form_of_side, GoesOnBy, has_same_row, has_same_opening}
 
 -- ---- one more line ----
 

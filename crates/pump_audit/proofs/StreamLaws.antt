@@ -1,16 +1,15 @@
 -- The lines of a stream that are a record.
-use Rattle.std.proofs.Common.{◌≡◌, ◌≢◌, ◌⊎◌, inl, inr, ℕ, ◌+◌, ◌^◌, ◌<◌, List, [], ◌∷◌, ◌++◌, Option, None, Some, IfSome, refl, sym, ap, ◌∙◌, subst, arith}
+use Rattle.std.proofs.Common.{◌≡◌, ◌⊎◌, inl, inr, ℕ, ◌+◌, ◌^◌, ◌<◌, List, [], ◌∷◌, ◌++◌, Option, None, Some, IfSome, refl, sym, ap, ◌∙◌, subst, arith}
 use Rattle.std.specs.Io.KnownBytes.{prepend_known, Consumes, IsAtEnd}
 use Rattle.script_reader.proofs.OneReading.{taken, not_nothing}
 use Rattle.pump_audit.specs.declared.entry.Entry.{Entry}
-use Rattle.pump_audit.specs.declared.entry.Entry.TheVariants as entries
 use Rattle.pump_audit.specs.declared.state.Audit.{Audit}
 use Rattle.pump_audit.specs.declared.verdict.Verdict.{Verdict}
 use Rattle.pump_audit.specs.declared.verdict.Verdict.TheVariants.{Yes, No}
-use Rattle.pump_audit.specs.Auditing.{Audits, TextIs, EndIs, Reads, OpensAs}
+use Rattle.pump_audit.specs.Auditing.{TextIs, EndIs, Reads, OpensAs}
 use Rattle.pump_audit.specs.Entries.{IsEntry}
 use Rattle.pump_audit.specs.Places.{behind}
-use Rattle.pump_audit.specs.Records.{Record, Follows, lines_in}
+use Rattle.pump_audit.specs.Records.{Record, Follows}
 use Rattle.pump_audit.specs.declared.texts.Texted.{Texted}
 use Rattle.pump_audit.specs.declared.texts.Texted.TheVariants.{Cut, End}
 use Rattle.pump_audit.specs.Texts.{IsText, IsCut, IsNextText}

@@ -1,5 +1,5 @@
 -- What the code that checks a record stands for. It serves private clauses and proofs alone.
-use Rattle.std.specs.Prelude.{◌≡◌, ◌⊎◌, ℕ, ◌+◌, ◌^◌, ◌≤◌, Bool, true, List, [], ◌∷◌, ◌++◌, length, Option, None, Some}
+use Rattle.std.specs.Prelude.{◌≡◌, ◌⊎◌, ℕ, ◌+◌, ◌^◌, ◌≤◌, true, List, [], ◌∷◌, ◌++◌, length, Option, None, Some}
 use Rattle.pump_frame.specs.Averages.{averaging_of}
 use Rattle.pump_frame.specs.declared.row.SessionRow.{SessionRow}
 use Rattle.moving_avg.specs.Windows.{HoldsTimes, averaging_in}

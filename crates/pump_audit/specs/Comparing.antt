@@ -1,6 +1,6 @@
 -- Low's side of a record, as a list of items with the oldest first, and how two such lists compare. Item 0 is
 -- the row with what was found at the opening; the looks are the items from 1 on. Comments are no part of it.
-use Rattle.std.specs.Prelude.{◌≡◌, ◌≢◌, ◌⊎◌, ℕ, ◌+◌, ◌^◌, ◌<◌, Bool, true, false, ◌&&◌, ◌==◌, not, if◌then◌else◌, List, [], ◌∷◌, ◌++◌, length, codes, Option, Some, None, option_map}
+use Rattle.std.specs.Prelude.{◌≡◌, ◌≢◌, ◌⊎◌, ℕ, ◌+◌, ◌^◌, Bool, true, false, ◌&&◌, ◌==◌, not, if◌then◌else◌, List, [], ◌∷◌, ◌++◌, length, codes, Option, Some, None, option_map}
 use Rattle.std.specs.Str.{bytes_eq}
 use Rattle.pump_frame.specs.Spellings.{spelling}
 use Rattle.pump_frame.specs.declared.row.SessionRow.{SessionRow}

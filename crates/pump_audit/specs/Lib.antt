@@ -1,3 +1,4 @@
+pub mod Agreeing
 pub mod Auditing
 pub mod Claims
 pub mod Comparing

@@ -1,6 +1,6 @@
 -- The low process of a record's life as a machine: which feedback a look's line tells it, and whether the
 -- look goes on with the life. It serves private clauses and proofs alone.
-use Rattle.std.specs.Prelude.{◌≡◌, ℕ, ◌+◌, ◌^◌, ◌≤◌, [], Bool, true, false, ◌&&◌, ◌||◌, not, ◌==◌, nat_le, if◌then◌else◌, Option, Some, None, option_map}
+use Rattle.std.specs.Prelude.{◌≡◌, ℕ, ◌+◌, ◌^◌, ◌≤◌, [], Bool, true, false, ◌&&◌, ◌||◌, not, ◌==◌, if◌then◌else◌, Option, Some, None, option_map}
 use Rattle.pump_frame.specs.Averages.{averaging_of, average_of}
 use Rattle.pump_frame.specs.declared.frame.Frame.{Frame}
 use Rattle.pump_frame.specs.declared.row.SessionRow.{SessionRow}
@@ -13,7 +13,6 @@ use Rattle.pump_core.specs.Exchanges.{is_gone, is_hello, is_repeat, is_next, per
 use Rattle.pump_core.specs.Comings.{is_nothing}
 use Rattle.pump_core.specs.Phases as phases
 use Rattle.pump_core.specs.Standing.{State}
-use Rattle.pump_core.specs.Step.{takes_idle}
 use Rattle.script_reader.specs.declared.line.ToldFeedback.{ToldFeedback}
 use Rattle.script_reader.specs.declared.line.ToldFeedback.TheVariants.{Quiet, Full, Pair}
 use Rattle.script_reader.specs.Alone.{tells_level}

@@ -1,12 +1,10 @@
 -- What is kept of the claims of a record's looks: those that differ from the one before, the oldest first, and
 -- how far they were met by the times. It serves private clauses and proofs alone.
-use Rattle.std.specs.Prelude.{◌≡◌, ◌⊎◌, ℕ, ◌+◌, ◌<◌, ◌≤◌, Bool, List, [], ◌∷◌, ◌++◌, length, take, drop, Option, None, Some}
+use Rattle.std.specs.Prelude.{◌≡◌, ◌⊎◌, ℕ, ◌<◌, ◌≤◌, List, [], ◌∷◌, ◌++◌, length, take, drop, Option, None, Some}
 use Rattle.std.specs.List.{All}
 use Rattle.pump_frame.specs.declared.averaging.Averaging.{Averaging}
 use Rattle.pump_frame.specs.Averages.{average_of}
-use Rattle.pump_core.specs.declared.feedback.Feedback.{Feedback}
 use Rattle.pump_audit.specs.declared.claims.Claim.{Claim}
-use Rattle.pump_audit.specs.declared.claims.Claims.{Claims}
 
 -- the last of these tells the same pair
 abbrev pub EndsLike : List Claim → Claim → Type 0

@@ -1,6 +1,6 @@
 -- The order of a record's lines: the opening; a line that makes the session coarse, or none; looks with
 -- the comments of their replies; then all or none of the times, how many messages were taken, and the end.
-use Rattle.std.specs.Prelude.{ℕ, Bool, true, false, ◌&&◌, ◌==◌, if◌then◌else◌, Option, Some, None}
+use Rattle.std.specs.Prelude.{Bool, true, false, ◌&&◌, ◌==◌, if◌then◌else◌, Option, Some, None}
 use Rattle.pump_audit.specs.declared.entry.Note.{Note}
 use Rattle.pump_audit.specs.declared.entry.Note.TheVariants as notes
 use Rattle.pump_audit.specs.declared.entry.Entry.{Entry}

@@ -1,5 +1,5 @@
 -- What the code's side of a record stands for. It serves private clauses and proofs alone.
-use Rattle.std.specs.Prelude.{◌≡◌, ℕ, ◌+◌, ◌^◌, ◌<◌, Bool, true, false, ◌&&◌, ◌==◌, if◌then◌else◌, List, map, Option, Some, None}
+use Rattle.std.specs.Prelude.{◌≡◌, ℕ, ◌+◌, Bool, true, false, ◌&&◌, ◌==◌, if◌then◌else◌, List, map, Option, Some, None}
 use Rattle.std.specs.Str.{bytes_eq}
 use Rattle.pump_frame.specs.declared.row.SessionRow.{SessionRow}
 use Rattle.pump_audit.specs.declared.entry.Entry.{Entry}

@@ -1,6 +1,6 @@
 -- The lines of a stream as texts. A text has no line end; the lines of a stream stand in a list with the
 -- newest first.
-use Rattle.std.specs.Prelude.{◌≡◌, ◌≢◌, ℕ, ◌≤◌, List, [], ◌∷◌, ◌++◌, length, Option, IfSome}
+use Rattle.std.specs.Prelude.{◌≢◌, ℕ, ◌≤◌, List, [], ◌∷◌, ◌++◌, length, Option, IfSome}
 use Rattle.std.specs.Io.KnownBytes.{Consumes, IsAtEnd}
 use Rattle.script_reader.specs.Lines.{IsUnended}
 use Rattle.pump_audit.specs.declared.texts.NextByte.{NextByte}

@@ -1,12 +1,15 @@
 //! What it says of a record that it is clean. Each is a function without a body whose contract is the law.
 
-ghost use Rattle.std.specs.Prelude.{◌≡◌, ◌+◌, ◌≤◌, ℕ, List, true, map};
+ghost use Rattle.std.specs.Prelude.{◌≡◌, ◌+◌, ◌≤◌, ◌++◌, ◌∷◌, ℕ, List, true, map};
 ghost use Rattle.std.specs.List.{All};
 ghost use Rattle.pump_core.specs.Passage.{shape_of_row, IsAverage};
-ghost use Rattle.pump_core.specs.Replies.{LowReplies};
+ghost use Rattle.pump_core.specs.Replies.{LowReplies, Sent};
+ghost use Rattle.pump_audit.specs.Agreeing.{side_of};
 ghost use Rattle.pump_audit.specs.Claims.{pair_of, has_end};
+ghost use Rattle.pump_audit.specs.Comparing.{SideTold, SidesAre, ArePair, separator, IsCompared};
 ghost use Rattle.pump_audit.specs.Records.{Record, history_of};
-ghost use Rattle.pump_audit.specs.Verdicts.{IsClean};
+ghost use Rattle.pump_audit.specs.declared.compared.Compared.TheVariants.{Agree};
+ghost use Rattle.pump_audit.specs.Verdicts.{IsWhole, IsClean};
 
 /// The comments of a clean record are the low process's replies, each with its moment, and all of them.
 pub fn clean_records_tell_all_replies()
@@ -21,4 +24,21 @@ pub fn clean_records_keep_their_numbers()
     ensures removed { (bytes : List ℕ) (r : Record) → IsClean bytes r → has_end r ≡ true → r.removed ≤ r.taken }
     ensures taken { (bytes : List ℕ) (r : Record) → IsClean bytes r → has_end r ≡ true → r.taken ≤ r.accepted }
     ensures room { (bytes : List ℕ) (r : Record) → IsClean bytes r → has_end r ≡ true → r.accepted ≤ r.removed + r.row.capacity }
+{}
+
+/// Two whole records with the line between them are the pair of their sides.
+pub fn records_are_their_sides()
+    ensures { (xs ys : List ℕ) (r q : Record) → IsWhole xs r → IsWhole ys q → ArePair (xs ++ (separator ++ 10 ∷ ys)) (side_of r) (side_of q) }
+{}
+
+/// Bytes are one pair of sides at most.
+pub fn pairs_are_one()
+    ensures { (bytes : List ℕ) (a b c d : SideTold) → ArePair bytes a b → ArePair bytes c d → (a ≡ c) × (b ≡ d) }
+{}
+
+/// Two whole records whose sides agree have the same replies, at the same moments. Two clean records that are
+/// found to agree have the same comments.
+pub fn records_that_agree_reply_alike()
+    ensures replies { (xs ys : List ℕ) (r q : Record) (items : ℕ) → IsWhole xs r → IsWhole ys q → SidesAre (side_of r) (side_of q) (Agree items) → (ts us : List Sent) → LowReplies r.row (history_of r) ts → LowReplies q.row (history_of q) us → ts ≡ us }
+    ensures comments { (xs ys : List ℕ) (r q : Record) (items : ℕ) → IsClean xs r → IsClean ys q → IsCompared (xs ++ (separator ++ 10 ∷ ys)) (Agree items) → r.comments ≡ q.comments }
 {}

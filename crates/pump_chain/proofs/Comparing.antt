@@ -1,5 +1,5 @@
 -- What two lists have the same of.
-use Rattle.std.proofs.Common.{◌≡◌, ◌⊎◌, inl, inr, ⊎_elim, ℕ, zero, suc, ◌+◌, ◌<◌, ◌≤◌, List, [], ◌∷◌, ◌++◌, length, get_or, refl, sym, ap, ◌∙◌, arith}
+use Rattle.std.proofs.Common.{◌≡◌, ◌⊎◌, inl, inr, ⊎_elim, ℕ, zero, suc, ◌+◌, ◌<◌, ◌≤◌, List, [], ◌∷◌, ◌++◌, length, get_or, refl, sym, ap, ◌∙◌, arith, length-append}
 use Rattle.pump_frame.specs.declared.payload.Payload.{Payload}
 use Rattle.pump_core.specs.Lawful.{IsPrefixOf}
 use Rattle.pump_chain.specs.Comparing.{Agree}
@@ -40,3 +40,10 @@ both_front taken accepted ys removed (more, e) behind few front live = agree_fro
     (λ (l : k < length taken). ap (λ (zs : List Payload). get_or zs k []) (sym e) ∙ in_front taken more k l ∙ front k (omega arith) l)
     (λ (l : length taken ≤ k). live k (omega (arith, behind, l)) small)
     (halves k (length taken)))
+
+-- what stands in a front stands in the list
+pub front_at : (xs ys : List Payload) (n : ℕ) → IsPrefixOf xs ys → n < length xs → (n < length ys) × (get_or ys n [] ≡ get_or xs n [])
+front_at xs ys n (more, e) small = ((let l = length-append xs more in let f = ap length e in omega (arith, l, f, small)), ap (λ (zs : List Payload). get_or zs n []) (sym e) ∙ in_front xs more n small)
+
+pub front_short : (xs ys : List Payload) → IsPrefixOf xs ys → length xs ≤ length ys
+front_short xs ys (more, e) = (let l = length-append xs more in let f = ap length e in omega (arith, l, f))

@@ -71,6 +71,13 @@ pub state_count : {D : Type 0} (m : Meaning D) (s : PumpState D) (p : Past) → 
 state_count m (Open c) p s = parts_count m c p s
 state_count m (Shut d) p s = absurd s
 
+parts_accepted : {D : Type 0} (m : Meaning D) (c : Parts D) (p : Past) → Stands m c p → length p.world.accepted ≡ (counts_in (Open c)).0
+parts_accepted m c p s = s.world.accepted
+
+pub state_accepted : {D : Type 0} (m : Meaning D) (s : PumpState D) (p : Past) → StandsIn m s p → length p.world.accepted ≡ (counts_in s).0
+state_accepted m (Open c) p s = parts_accepted m c p s
+state_accepted m (Shut d) p s = absurd s
+
 -- what stands for a session is up
 pub stands_up : {D : Type 0} (m : Meaning D) (s : PumpState D) (p : Past) → StandsIn m s p → is_down_in s ≡ false
 stands_up m (Open c) p s = works_up m (Open c) ∣ works_of m c p s ∣₁

@@ -18,14 +18,13 @@ pub enum ChainWhy {
         count: u64,
         bound: u64,
     },
-    /// The first message that the second pump has accepted otherwise than the first receiver has it.
+    /// A message that the second pump has accepted otherwise than the first receiver has it.
     Unlike {
         number: u64,
     },
 }
 
-/// Two pumps that make no chain. The six disks come back: one that was empty may be formatted, and each
-/// other is as it was.
+/// Two pumps that make no chain. The six disks come back; one that was empty may be formatted.
 #[derive(Drop)]
 pub struct NotChained<D> {
     pub disks: Six<D>,

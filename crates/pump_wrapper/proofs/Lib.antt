@@ -1,3 +1,4 @@
+pub mod Compared
 pub mod Cuts
 pub mod Example
 pub mod Files

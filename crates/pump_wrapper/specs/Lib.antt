@@ -2,3 +2,4 @@ pub mod Wrapped
 pub mod Cutting
 pub mod Gathering
 pub mod Gathers
+pub mod Comparing

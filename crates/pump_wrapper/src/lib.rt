@@ -2,6 +2,7 @@
 //! receiver has. The messages are those of `docs/formats.md`, "Files as messages".
 #![tactic(auto)]
 
+mod compare;
 mod cutter;
 mod fill;
 mod gathered;
@@ -9,6 +10,7 @@ mod gathering;
 pub mod laws;
 mod length;
 
+pub use compare::{CompareFault, skip_received};
 pub use cutter::{Cut, Cutter};
 pub use gathered::{GatherFault, Gathered, gather};
 

@@ -2,7 +2,7 @@ ghost use Rattle.std.specs.Prelude.{◌≡◌, ◌≤◌, [], IsTrue, IfSome, If
 ghost use Rattle.pump_frame.specs.Rows.{IsLawfulRow};
 ghost use Rattle.high_receiver.specs.Receiving.{IsRecvReady, recv_row};
 
-use crate::{Cut, Cutter, GatherFault, Gathered, gather};
+use crate::{CompareFault, Cut, Cutter, GatherFault, Gathered, gather, skip_received};
 use disk_model::{Disk, PlainDisk, Role};
 use high_receiver::Receiver;
 use pump_frame::{Name, Payload, SessionRow};
@@ -264,5 +264,49 @@ fn messages_are_gathered(rt: HostRuntime) -> Result<(), Fail> {
     for case in &rows {
         assert!(rt; is_gathered(rt.alloc(), &row, case)?);
     }
+    Ok(())
+}
+
+// A receiver with the first piece of a file of 12 bytes, beside this file.
+fn is_compared(
+    alloc: Global,
+    row: &SessionRow,
+    file: &[u8],
+    wanted: Result<(), CompareFault>,
+) -> Result<bool, AllocError>
+    requires lawful { IsLawfulRow row.now }
+    requires short { row.now.message ≡ 16 }
+{
+    let Ok(disk) = PlainDisk::new(alloc, 160) else {
+        return Err(AllocError);
+    };
+    let Ok(mut receiver) = fresh(disk, row) else {
+        return Ok(false);
+    };
+    if !takes(&mut receiver, &[b"\0hello, worl"]) {
+        return Ok(false);
+    }
+    let mut source = MemSource::new(copied(alloc, file)?, 5, Vec::new(alloc));
+    let mut cutter = Cutter::new(12);
+    let compared = skip_received(&mut receiver, &mut cutter, &mut source);
+    if compared.is_err() {
+        return Ok(compared == wanted);
+    }
+    let mut payload = Payload::default();
+    Ok(
+        compared == wanted
+            && cutter.next(&mut source, &mut payload) == Cut::Message
+            && payload.as_slice() == b"\0d".as_slice(),
+    )
+}
+
+#[test]
+fn a_cutter_goes_on_behind_a_receiver(rt: HostRuntime) -> Result<(), Fail> {
+    let Some(row) = row() else {
+        return Err(Fail::new("no row"));
+    };
+    let differs = Err(CompareFault::Differs { number: 0 });
+    assert!(rt; is_compared(rt.alloc(), &row, b"hello, world", Ok(()))?);
+    assert!(rt; is_compared(rt.alloc(), &row, b"hello, there", differs)?);
     Ok(())
 }

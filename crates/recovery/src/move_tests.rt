@@ -170,7 +170,8 @@ fn what_was_moved_opens(rt: HostRuntime) -> Result<(), Fail> {
     let to = row_of(4, 3)?;
     let done = moved(alloc, 3, (&low(3), &high(1), &receiver()), &to, 0)?;
     let mut ends = PlainEnds::new(alloc, &to)?;
-    match open_pump(done.new.low, done.new.high, &to, &mut ends) {
+    let new = done.new;
+    match open_pump(new.low, new.high, &to, &mut ends) {
         Ok(opened) => {
             assert_eq!(rt; (opened.next, opened.removed), (3, 1));
             let first = opened
@@ -216,31 +217,55 @@ fn is_none_or(mut disk: MemDisk, outcome: Outcome, value: (u64, u64)) -> bool {
     }
 }
 
-// Moves to new disks of which that of a role fails at a call, and then crashes.
-fn survives(alloc: Global, role: Role, call: u64, outcome: Outcome) -> Result<bool, Fail> {
-    let old = Trio {
-        low: memory(alloc, &low(3))?,
-        high: memory(alloc, &high(1))?,
-        recv: memory(alloc, &receiver())?,
-    };
-    let at = |other| if role == other { Some(call) } else { None };
-    let new = Trio {
-        low: failing(alloc, at(Role::Low))?,
-        high: failing(alloc, at(Role::High))?,
-        recv: failing(alloc, at(Role::Recv))?,
-    };
-    let (from, to) = (row_of(3, 8)?, row_of(4, 3)?);
-    let done = migrate(&from, &to, old, new, 128);
-    let ended = match done.end {
+fn memory_disks(alloc: Global) -> Result<Trio<MemDisk>, Fail> {
+    let lows = memory(alloc, &low(3))?;
+    let highs = memory(alloc, &high(1))?;
+    let recv = memory(alloc, &receiver())?;
+    Ok(Trio {
+        low: lows,
+        high: highs,
+        recv,
+    })
+}
+
+// The call at which a disk fails, where it is that of the role.
+fn call_of(role: Role, other: Role, call: u64) -> Option<u64> {
+    if role == other { Some(call) } else { None }
+}
+
+// Empty disks of which that of a role fails at a call.
+fn failing_disks(alloc: Global, role: Role, call: u64) -> Result<Trio<MemDisk>, Fail> {
+    let low = failing(alloc, call_of(role, Role::Low, call))?;
+    let high = failing(alloc, call_of(role, Role::High, call))?;
+    let recv = failing(alloc, call_of(role, Role::Recv, call))?;
+    Ok(Trio { low, high, recv })
+}
+
+// Whether each disk, after a crash, is no buffer or opens with the numbers of the old one.
+fn are_none_or(new: Trio<MemDisk>, outcome: Outcome) -> bool {
+    let lows = is_none_or(new.low, outcome, (3, 0));
+    let highs = is_none_or(new.high, outcome, (1, 0));
+    let received = is_none_or(new.recv, outcome, (2, 86));
+    lows && highs && received
+}
+
+// Whether a move ended since a call of this new disk failed.
+fn has_failed(end: &Result<(u64, u64, u64), MoveFault>, role: Role) -> bool {
+    match end {
         Ok(_) => false,
         Err(fault) => fault.new && fault.role == role && fault.why.number() == 1,
-    };
-    Ok(
-        ended
-            && is_none_or(done.new.low, outcome, (3, 0))
-            && is_none_or(done.new.high, outcome, (1, 0))
-            && is_none_or(done.new.recv, outcome, (2, 86)),
-    )
+    }
+}
+
+// Moves to new disks of which that of a role fails at a call, and then crashes.
+fn survives(alloc: Global, role: Role, call: u64, outcome: Outcome) -> Result<bool, Fail> {
+    let (from, to) = (row_of(3, 8)?, row_of(4, 3)?);
+    let old = memory_disks(alloc)?;
+    let new = failing_disks(alloc, role, call)?;
+    let done = migrate(&from, &to, old, new, 128);
+    let ended = has_failed(&done.end, role);
+    let survived = are_none_or(done.new, outcome);
+    Ok(ended && survived)
 }
 
 #[test]

@@ -1,7 +1,7 @@
 -- What an end tells of a coarse passage is a level.
-use Rattle.std.proofs.Common.{◌≡◌, ℕ, Bool, true, false, List, [], ◌∷◌, ◌++◌, Option, Some, None, refl, sym, ap, subst, eq-eqb}
+use Rattle.std.proofs.Common.{◌≡◌, ℕ, Bool, true, false, List, [], ◌∷◌, ◌++◌, Option, Some, None, refl, sym, subst, eq-eqb}
 use Rattle.std.specs.Prelude.{◌==◌, not, ◌||◌, if◌then◌else◌, IfSome}
-use Rattle.std.specs.List.{All, AllByRecursion}
+use Rattle.std.specs.List.{All}
 use Rattle.pump_frame.specs.Averages.{level, IsLevel, down, averaging_of, average_of, mean_of}
 use Rattle.pump_frame.specs.declared.averaging.Averaging.{Averaging}
 use Rattle.pump_frame.specs.declared.frame.Item.{Item}
@@ -20,7 +20,7 @@ use Rattle.relay_threads.specs.RecordLines.{told_of}
 use Rattle.relay_threads.specs.Replays.{TellsLevel, TellLevels}
 use Rattle.relay_threads.specs.Levels.{ReadsAverages, IsEndOf}
 use Rattle.relay_threads.specs.LowRounds.{Round, with_look, made_after}
-use Rattle.relay_threads.specs.LowStays.{Stay, Alone, With, Visit, visited, stay_after, stayed}
+use Rattle.relay_threads.specs.LowStays.{Stay, Alone, With, visited, stay_after, stayed}
 
 -- ---- what comes down in a coarse session is a level ----
 

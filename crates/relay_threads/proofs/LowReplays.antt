@@ -10,18 +10,18 @@ use Rattle.pump_core.specs.Exchanges.{is_gone}
 use Rattle.pump_core.specs.Phases.{Phase}
 use Rattle.pump_core.specs.Phases.{Idle, Passing, Waiting as Waits, Down}
 use Rattle.pump_core.specs.Standing.{State, end_of}
-use Rattle.pump_core.specs.Step.{after, after_in, after_idle, takes_at, takes_in, takes_idle}
+use Rattle.pump_core.specs.Step.{after, after_in, after_idle, takes_in, takes_idle}
 use Rattle.relay_threads.specs.declared.low_round.LowWhy.{LowWhy}
 use Rattle.relay_threads.specs.declared.low_round.LowWhy.TheVariants.{Gone, Bad, LinkFailed, Device, RecordFailed, Looks, Stopped}
 use Rattle.relay_threads.specs.Hearings.{Ending, AtFrame, AtBad, AtNotYet, AtEnded, AtFailed, AtMost, Hearing, IsHearing, EndsSo}
 use Rattle.relay_threads.specs.Records.{Made, looks_made, AreMade, is_recorded, recorded, made_of, record_of}
 use Rattle.relay_threads.specs.RecordLines.{taken_by, HasLawfulFrame}
 use Rattle.relay_threads.specs.Replays.{breaks, is_broken, has_bytes, AreConnected, TakeLawful, IsReadable, ReadsBack}
-use Rattle.relay_threads.specs.LowRounds.{Round, with_look, made_after, AreRounds, IsRound, MakesLook, offered, offered_at, GoOn, cause, cause_at, cause_heard, newest_cause}
-use Rattle.relay_threads.specs.LowStays.{Stay, Alone, With, IsGone, GoneAfter, IsVisit, IsStay, stay_after, stayed, AreStays, IsOver, visited, end_at}
+use Rattle.relay_threads.specs.LowRounds.{Round, with_look, made_after, AreRounds, IsRound, MakesLook, offered, offered_at, GoOn, cause_at, cause_heard, newest_cause}
+use Rattle.relay_threads.specs.LowStays.{Stay, Alone, With, GoneAfter, IsStay, stay_after, stayed, AreStays, IsOver, visited, end_at}
 use Rattle.relay_threads.proofs.Machine.{led}
 use Rattle.relay_threads.proofs.LowServing.{calm_round}
-use Rattle.relay_threads.proofs.LowRecord.{made_before, made_before_stay, cut_of, gone_round, no_cause}
+use Rattle.relay_threads.proofs.LowRecord.{made_before_stay, cut_of, gone_round, no_cause}
 
 -- ---- what a round's look was offered ----
 

@@ -1,15 +1,14 @@
 -- A reader of scripts reads the line of a look whose numbers are in range.
-use Rattle.std.proofs.Common.{◌≡◌, ℕ, ◌+◌, ◌*◌, ◌^◌, ◌<◌, ◌≤◌, zero, suc, Bool, true, false, List, [], ◌∷◌, ◌++◌, length, codes, decimal, Option, Some, None, refl, sym, ap, ◌∙◌, subst, pow_mono, arith}
+use Rattle.std.proofs.Common.{◌≡◌, ℕ, ◌+◌, ◌*◌, ◌^◌, ◌<◌, ◌≤◌, zero, suc, Bool, true, false, List, [], ◌∷◌, length, Option, Some, None, refl, sym, ap, ◌∙◌, subst, pow_mono, arith}
 use Rattle.std.specs.Prelude.{if◌then◌else◌, nat_le, is_some, not, ◌&&◌, ◌||◌, IfSome}
 use Rattle.std.specs.Int.{to_be_bytes, w32}
-use Rattle.std.specs.List.{AllByRecursion}
 use Rattle.std.proofs.lemmas.Bool.{and_parts}
 use Rattle.std.proofs.lemmas.Bool.Decides.{nat_tests}
 use native.Mathlib.Nat.{pow-succ'}
 use Rattle.hex.specs.Hex.{lower_digits}
 use Rattle.hex.proofs.HexLemmas.{length-encode_with}
-use Rattle.pump_frame.specs.Averages.{level_from, level, down, averaging_of, average_of}
-use Rattle.pump_frame.specs.Rows.{first_bad, is_within, IsLawfulRow, least_capacity, greatest_capacity}
+use Rattle.pump_frame.specs.Averages.{level_from, level, down, averaging_of}
+use Rattle.pump_frame.specs.Rows.{is_within, IsLawfulRow, least_capacity, greatest_capacity}
 use Rattle.pump_frame.specs.Spellings.{spelling, header_of}
 use Rattle.pump_frame.specs.declared.averaging.Averaging.{Averaging}
 use Rattle.pump_frame.specs.declared.frame.Frame.{Frame}
@@ -19,7 +18,7 @@ use Rattle.pump_frame.specs.declared.row.SessionRow.{SessionRow}
 use Rattle.pump_core.specs.declared.feedback.Feedback.{Feedback}
 use Rattle.pump_core.specs.declared.feedback.Feedback.TheVariants.{Quiet, Full, Passed, Released, Repeat}
 use Rattle.pump_core.specs.Exchanges.{is_gone}
-use Rattle.pump_core.specs.History.{Arrival, Look}
+use Rattle.pump_core.specs.History.{Arrival}
 use Rattle.pump_core.specs.History.{Nothing, Came, Bad, Gone}
 use Rattle.pump_core.specs.Step.{is_full}
 use Rattle.low_process.specs.Looks.{IsInBounds}
@@ -28,11 +27,11 @@ use Rattle.script_reader.specs.declared.line.Line.TheVariants as lines
 use Rattle.script_reader.specs.declared.line.ToldFeedback.TheVariants as told
 use Rattle.script_reader.specs.Grammar.{IsLine, outcome_field}
 use Rattle.script_reader.specs.Lawful.{IsLawfulArriving, IsLawfulFeedback, IsLawfulLine}
-use Rattle.script_reader.specs.Spelling.{line_spelling, line_fields, word_field, feedback_field}
+use Rattle.script_reader.specs.Spelling.{line_spelling, line_fields, word_field}
 use Rattle.script_reader.proofs.Spellings.{printed_line, printed_word}
 use Rattle.relay_threads.specs.Records.{Made, passes_on, was_full, is_recorded}
 use Rattle.relay_threads.specs.RecordLines.{told_of, taken_by, tells_fault, arriving_of, line_of, IsReplyFrame}
-use Rattle.relay_threads.specs.Replays.{IsReadable, ReadsBack}
+use Rattle.relay_threads.specs.Replays.{ReadsBack}
 use Rattle.relay_threads.proofs.Scripting.{AreShort, short_spaced, short_decimal}
 
 -- ---- an average that comes down ----

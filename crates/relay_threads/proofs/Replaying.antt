@@ -28,7 +28,7 @@ use Rattle.script_reader.specs.declared.line.Line.{Line}
 use Rattle.script_reader.specs.declared.line.Line.TheVariants as lines
 use Rattle.script_reader.specs.declared.line.ToldFeedback.{ToldFeedback}
 use Rattle.script_reader.specs.declared.line.ToldFeedback.TheVariants as told
-use Rattle.script_reader.specs.Alone.{PastAlone, fresh_alone, lost_alone, joined_alone, tells_level, is_apt_alone, StepAlone, IsToldAt}
+use Rattle.script_reader.specs.Alone.{PastAlone, lost_alone, joined_alone, tells_level, is_apt_alone, StepAlone, IsToldAt}
 use Rattle.script_reader.specs.Lows.{printed_replies, is_bad}
 use Rattle.script_reader.specs.Openings.{Openings}
 use Rattle.script_reader.specs.Scripts.{Begun, Alone, coarsened, Leads, Stops}

@@ -1,5 +1,5 @@
 -- The low end of a session's passage, of which each average that is read comes down of some times.
-use Rattle.std.specs.Prelude.{◌≡◌, ℕ}
+use Rattle.std.specs.Prelude.{◌≡◌}
 use Rattle.std.specs.List.{All}
 use Rattle.pump_frame.specs.Averages.{averaging_of}
 use Rattle.pump_frame.specs.declared.row.SessionRow.{SessionRow}

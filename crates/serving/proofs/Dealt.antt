@@ -1,5 +1,5 @@
 -- The messages that an opening deals out, as the two processes begin with them.
-use Rattle.std.proofs.Common.{◌≡◌, ℕ, ◌+◌, ◌-◌, ◌≤◌, Bool, true, false, List, length, Option, Some, None, refl, sym, ap, ◌∙◌, subst, arith}
+use Rattle.std.proofs.Common.{◌≡◌, ℕ, ◌+◌, ◌-◌, ◌≤◌, Bool, true, false, List, length, Option, Some, None, refl, sym, ap, ◌∙◌, arith}
 use Rattle.std.specs.Prelude.{◌==◌, if◌then◌else◌, is_some, IfSome}
 use Rattle.pump_core.specs.Passage.{ComesNext}
 use Rattle.pump_frame.specs.declared.frame.Item.{Item}

@@ -1,5 +1,5 @@
 -- What the high worker did, from the run of its half.
-use Rattle.std.proofs.Common.{◌≡◌, ℕ, ◌≤◌, ◌<◌, ◌^◌, false, List, [], Option, Some, IfSome, refl, sym, ap, ◌∙◌, subst, arith}
+use Rattle.std.proofs.Common.{◌≡◌, ℕ, ◌≤◌, false, List, Option, Some, IfSome, sym, ap, ◌∙◌, subst, arith}
 use Rattle.std.specs.List.{AllByRecursion}
 use Rattle.disk_model.specs.Disk.{Meaning}
 use Rattle.pump_frame.specs.declared.frame.Item.{Item}
@@ -11,7 +11,7 @@ use Rattle.stable_buffer.specs.Stands.{HighStands}
 use Rattle.stable_buffer.specs.declared.high.HighStore.{HighStore}
 use Rattle.high_process.specs.Looks.{StandsFor}
 use Rattle.high_process.specs.Past.{ProcessPast, fresh}
-use Rattle.high_process.specs.States.{row_of, removed_of}
+use Rattle.high_process.specs.States.{row_of}
 use Rattle.high_process.specs.declared.process.HighProcess.{HighProcess}
 use Rattle.relay_threads.specs.HighStays.{AreStays, EndsStays, TellsVisit, is_broken, stayed}
 use Rattle.relay_threads.specs.Workers.{CountsEnd}

@@ -1,5 +1,5 @@
 -- What the low worker did, from the run of its half.
-use Rattle.std.proofs.Common.{◌≡◌, ℕ, ◌≤◌, ◌<◌, Bool, true, false, List, [], ◌++◌, length, Option, Some, None, refl, sym, ap, ◌∙◌, subst, append_assoc, append-nil, arith}
+use Rattle.std.proofs.Common.{◌≡◌, ℕ, ◌≤◌, Bool, true, false, List, [], ◌++◌, Option, Some, None, refl, sym, ap, ◌∙◌, subst, append_assoc, append-nil, arith}
 use Rattle.std.specs.Prelude.{Result, Ok, Err, OnOk, OnErr, is_err, is_some}
 use Rattle.std.specs.Io.KnownBytes.{Appends}
 use Rattle.rand_chacha.specs.ChaCha.{ChaCha, key_of}
@@ -10,7 +10,6 @@ use Rattle.pump_frame.specs.declared.frame.Item.{Item}
 use Rattle.pump_frame.specs.declared.row.SessionRow.{SessionRow}
 use Rattle.pump_link.specs.Causes.{AppendsFront, HasCause}
 use Rattle.pump_link.specs.Ports.{PortsStep}
-use Rattle.pump_link.specs.Tells.{Draws}
 use Rattle.pump_link.proofs.Grown.{Grows-all, Draws-all}
 use Rattle.pump_core.specs.Exchanges.{Part, IsCut, count_after}
 use Rattle.pump_core.specs.History.{Opening}
@@ -18,7 +17,7 @@ use Rattle.pump_core.specs.Passage.{Shape, Low, High}
 use Rattle.pump_core.specs.Standing.{State, phase_after}
 use Rattle.script_reader.specs.Grammar.{IsCount}
 use Rattle.script_reader.specs.Spelling.{line_text}
-use Rattle.stable_buffer.specs.Low.{StandsForCount, low_disk, low_count}
+use Rattle.stable_buffer.specs.Low.{StandsForCount, low_disk}
 use Rattle.stable_buffer.specs.declared.low.LowStore.{LowStore}
 use Rattle.low_process.specs.declared.values.Phase.{Phase}
 use Rattle.low_process.specs.declared.values.Phase.TheVariants as phases

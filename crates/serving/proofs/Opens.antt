@@ -1,14 +1,11 @@
 -- How a session that was opened, or not, comes to its end.
-use Rattle.std.proofs.Common.{◌≡◌, ◌⊎◌, ℕ, ◌≤◌, ◌&&◌, Bool, true, false, List, Option, Some, None, inl, inr, refl, sym, ap, ◌∙◌, subst, arith}
+use Rattle.std.proofs.Common.{◌≡◌, ◌⊎◌, ◌≤◌, ◌&&◌, Bool, true, false, None, inl, inr, refl, sym, ap, ◌∙◌, subst, arith}
 use Rattle.disk_model.specs.Disk.{Meaning}
 use Rattle.disk_model.specs.declared.name.Role.{Role}
 use Rattle.disk_model.specs.declared.name.Role.TheVariants as roles
-use Rattle.pump_frame.specs.Counts.{Rose}
-use Rattle.pump_frame.specs.declared.frame.Item.{Item}
 use Rattle.pump_frame.specs.declared.row.SessionRow.{SessionRow}
-use Rattle.recovery.specs.Calls.{Calls, CallsHigh, is_device, is_low, is_high}
+use Rattle.recovery.specs.Calls.{Calls, CallsHigh, is_low, is_high}
 use Rattle.recovery.specs.Refusals.{refused_pump}
-use Rattle.recovery.specs.declared.why.Why.{Why}
 use Rattle.serving.specs.Sessions.{IfEnded, OpensBy, RoseAt, end_of, has_run, is_opened}
 use Rattle.std.specs.Prelude.{Result, Ok, Err, IfOk, IfErr, OnErr}
 use Rattle.serving.specs.declared.doors.NotServed.{NotServed}

@@ -1,5 +1,5 @@
 -- What a run of the low worker makes of its half. It serves the private functions and the proofs.
-use Rattle.std.specs.Prelude.{◌≡◌, ℕ, ◌≤◌, Bool, true, false, List, [], ◌++◌, Option, Some}
+use Rattle.std.specs.Prelude.{◌≡◌, ℕ, ◌≤◌, Bool, List, [], ◌++◌, Option, Some}
 use Rattle.std.specs.List.{AllByRecursion}
 use Rattle.std.specs.Io.KnownBytes.{Appends}
 use Rattle.disk_model.specs.Disk.{Meaning}
@@ -8,7 +8,6 @@ use Rattle.pump_link.specs.Tells.{Draws, Grows}
 use Rattle.pump_core.specs.History.{Opening}
 use Rattle.pump_core.specs.Passage.{Shape, Low, High}
 use Rattle.script_reader.specs.Grammar.{IsCount}
-use Rattle.script_reader.specs.Spelling.{line_text}
 use Rattle.stable_buffer.specs.Low.{low_disk}
 use Rattle.stable_buffer.specs.declared.low.LowStore.{LowStore}
 use Rattle.low_process.specs.Looks.{row_of, next_of}

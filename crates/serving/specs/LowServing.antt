@@ -10,7 +10,7 @@ use Rattle.pump_link.specs.Ports.{PortsStep}
 use Rattle.pump_link.specs.Tells.{Draws}
 use Rattle.pump_core.specs.Exchanges.{Part, IsCut, count_after}
 use Rattle.pump_core.specs.History.{Opening}
-use Rattle.pump_core.specs.Phases.{Phase, Idle, Passing, Waiting, Down}
+use Rattle.pump_core.specs.Phases.{Phase, Down}
 use Rattle.pump_core.specs.Standing.{phase_after}
 use Rattle.stable_buffer.specs.Low.{StandsForCount}
 use Rattle.stable_buffer.specs.Stands.{LowStands}

@@ -1,5 +1,5 @@
 -- How a session that was to be served ended.
-use Rattle.std.specs.Prelude.{◌≡◌, ℕ, Bool, true, false, List, Option, None, Some, Result, Ok, Err}
+use Rattle.std.specs.Prelude.{◌≡◌, Bool, true, false, None, Some, Result, Ok, Err}
 use Rattle.disk_model.specs.Disk.{Meaning}
 use Rattle.disk_model.specs.declared.name.Role.{Role}
 use Rattle.disk_model.specs.declared.name.Role.TheVariants as roles
@@ -7,7 +7,6 @@ use Rattle.pump_frame.specs.Counts.{Rose}
 use Rattle.pump_frame.specs.declared.row.SessionRow.{SessionRow}
 use Rattle.recovery.specs.Calls.{is_device}
 use Rattle.recovery.specs.Refusals.{refused_pump}
-use Rattle.recovery.specs.declared.why.Why.{Why}
 use Rattle.serving.specs.declared.doors.NotServed.{NotServed}
 use Rattle.serving.specs.declared.doors.NotServed.TheVariants as not_served
 use Rattle.serving.specs.declared.doors.WorkersEnd.{WorkersEnd}

@@ -1,8 +1,9 @@
 //! What the second pump has is compared with what the first receiver has.
 
-ghost use Rattle.std.specs.Prelude.{◌≡◌, ◌^◌, ◌≤◌, true, false, OnOk};
+ghost use Rattle.std.specs.Prelude.{◌≡◌, ◌^◌, ◌≤◌, true, false, List, OnOk, IfErr};
 ghost use Rattle.disk_model.specs.declared.name.Role.TheVariants as roles;
-ghost use Rattle.pump_chain.specs.Comparing.{Agree};
+ghost use Rattle.pump_chain.specs.Comparing.{Agree, IsUnlinked};
+ghost use Rattle.pump_frame.specs.declared.payload.Payload.{Payload};
 ghost use Rattle.script_reader.specs.Past.{Past};
 ghost use Rattle.two_worlds.specs.Pumps.{StandsFor, counts_of, is_down};
 ghost use Rattle.two_worlds.specs.Reads.{ReadsOn};
@@ -16,12 +17,15 @@ use stable_buffer::Device;
 
 // Whether two messages are equal.
 fn are_equal(one: &Payload, other: &Payload) -> bool
-    ensures { result ≡ true → one.now ≡ other.now }
+    ensures equal { result ≡ true → one.now ≡ other.now }
+    ensures unequal { result ≡ false → one.now ≡ other.now → ⊥ }
 {
     one.as_slice() == other.as_slice()
 }
 
-fn unread(session: u32, role: Role, device: Device) -> ChainWhy {
+fn unread(session: u32, role: Role, device: Device) -> ChainWhy
+    ensures { (accepted received : List Payload) → IsUnlinked accepted received result }
+{
     ChainWhy::Pump {
         session,
         role,
@@ -43,6 +47,8 @@ impl<D: Disk> Chain<D> {
             → Agree 0 count q.world.received p.world.received) }
         ensures first { OnOk result (ReadsOn D.told roles.Recv self.old.first self.new.first) }
         ensures second { OnOk result (ReadsOn D.told roles.Recv self.old.second self.new.second) }
+        ensures refused { IfErr result (λ why. D.told.tells → (p q : Past) → StandsFor D.told self.old.first p → StandsFor D.told self.old.second q
+            → IsUnlinked q.world.accepted p.world.received why) }
         ensures sender { self.new.sender ≡ self.old.sender }
         ensures under_way { self.new.is_under_way ≡ self.old.is_under_way }
     {
@@ -77,6 +83,8 @@ impl<D: Disk> Chain<D> {
             → Agree removed count q.world.accepted p.world.received) }
         ensures first { OnOk result (ReadsOn D.told roles.Recv self.old.first self.new.first) }
         ensures second { OnOk result (ReadsOn D.told roles.Low self.old.second self.new.second) }
+        ensures refused { IfErr result (λ why. D.told.tells → (p q : Past) → StandsFor D.told self.old.first p → StandsFor D.told self.old.second q
+            → IsUnlinked q.world.accepted p.world.received why) }
         ensures sender { self.new.sender ≡ self.old.sender }
         ensures under_way { self.new.is_under_way ≡ self.old.is_under_way }
     {

@@ -1,13 +1,14 @@
 //! Two pumps are opened and joined, and their disks come back.
 
-ghost use Rattle.std.specs.Prelude.{◌≡◌, false, IfOk, OnOk};
+ghost use Rattle.std.specs.Prelude.{◌≡◌, false, IfOk, IfErr, OnOk};
 ghost use Rattle.disk_model.specs.declared.name.Role.TheVariants as roles;
 ghost use Rattle.pump_chain.specs.Chained.{Chained, unsent};
+ghost use Rattle.pump_chain.specs.Comparing.{IsUnlinked};
 ghost use Rattle.pump_chain.specs.Opening.{first_chained};
 ghost use Rattle.pump_chain.specs.Standing.{ChainStands, ChainStandsOrFails, chain_is_down};
 ghost use Rattle.pump_core.specs.Lawful.{IsPrefixOf};
 ghost use Rattle.pump_frame.specs.Rows.{IsLawfulRow};
-ghost use Rattle.script_reader.specs.Openings.{Found};
+ghost use Rattle.script_reader.specs.Openings.{Found, accepted_in};
 ghost use Rattle.script_reader.specs.Past.{Past};
 ghost use Rattle.two_worlds.specs.Disks.{CrashesOpen, LeaveWorld, OpenAgain};
 ghost use Rattle.two_worlds.specs.Openings.{DisksStandFor};
@@ -46,6 +47,8 @@ impl<D: Disk> Chain<D> {
         requires second { is_down self.old.second ≡ false }
         ensures linked { OnOk result (D.told.tells → (p q : Past) → StandsFor D.told self.old.first p → StandsFor D.told self.old.second q
             → IsPrefixOf q.world.accepted p.world.received) }
+        ensures refused { IfErr result (λ why. D.told.tells → (p q : Past) → StandsFor D.told self.old.first p → StandsFor D.told self.old.second q
+            → IsUnlinked q.world.accepted p.world.received why) }
         ensures first { OnOk result ((p : Past) → StandsFor D.told self.old.first p → StandsFor D.told self.new.first p) }
         ensures second { OnOk result ((p : Past) → StandsFor D.told self.old.second p → StandsFor D.told self.new.second p) }
         ensures rows { OnOk result ((row_of self.new.first ≡ row_of self.old.first) × (row_of self.new.second ≡ row_of self.old.second)) }
@@ -87,6 +90,8 @@ impl<D: Disk> Chain<D> {
         ensures second { IfOk result (λ chain. D.told.tells → (f : Found) × DisksStandFor D.told two.now disks.second.0 disks.second.1 disks.second.2 f) }
         ensures stands { IfOk result (λ chain. D.told.tells → (f h : Found) → DisksStandFor D.told one.now disks.first.0 disks.first.1 disks.first.2 f
             → DisksStandFor D.told two.now disks.second.0 disks.second.1 disks.second.2 h → ChainStands D.told chain (first_chained one.now f two.now h)) }
+        ensures refused { IfErr result (λ e. D.told.tells → (f h : Found) → DisksStandFor D.told one.now disks.first.0 disks.first.1 disks.first.2 f
+            → DisksStandFor D.told two.now disks.second.0 disks.second.1 disks.second.2 h → IsUnlinked (accepted_in h) f.received e.why) }
         ensures up { IfOk result (λ chain. chain_is_down chain ≡ false) }
     {
         let (low, high, recv) = disks.first;

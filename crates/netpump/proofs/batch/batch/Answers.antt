@@ -73,3 +73,11 @@ returns-in-Err-NoCommand-clause-replay g c = λ replay.
 
 pub returns-clause-device : goal.returns-clause-device
 returns-clause-device g c = λ is. c.replay.ensures.device (sym c.status-2.ensures.is ∙ is)
+
+pub returns-in-Err-NoCommand-clause-audit : goal.returns-in-Err-NoCommand-clause-audit
+returns-in-Err-NoCommand-clause-audit g c = λ audit.
+    absurd (not_command commands.Audit ((rw c.in-Err-NoCommand.field-0-is at c.in-Err-NoCommand.ensures.command) commands.Audit (read_words _ _ commands.Audit c.as_slice.ensures.value (tt, audit))))
+
+pub returns-in-Err-NoCommand-clause-compare : goal.returns-in-Err-NoCommand-clause-compare
+returns-in-Err-NoCommand-clause-compare g c = λ compare.
+    absurd (not_command commands.Compare ((rw c.in-Err-NoCommand.field-0-is at c.in-Err-NoCommand.ensures.command) commands.Compare (read_words _ _ commands.Compare c.as_slice.ensures.value (tt, compare))))

@@ -1,4 +1,4 @@
-use Rattle.std.proofs.Common.{◌≡◌, ◌∙◌, List, ℕ, sym, subst}
+use Rattle.std.proofs.Common.{sym, subst}
 use Rattle.pump_audit.specs.declared.verdict.Verdict.{Verdict}
 use Rattle.pump_audit.specs.Verdicts.{IsVerdict}
 use Rattle.pump_audit.proofs.StreamLaws.{known_ahead, where_told, first_none, first_misplaced, first_reads}

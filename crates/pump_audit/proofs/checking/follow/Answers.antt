@@ -1,4 +1,4 @@
-use Rattle.std.proofs.Common.{◌≡◌, ◌+◌, ◌∙◌, sym, ap, arith, refl}
+use Rattle.std.proofs.Common.{◌≡◌, ◌+◌, arith}
 use Rattle.pump_audit.proofs.StreamLaws.{goes_on, stops, cut_off, too_many, ends}
 use Rattle.pump_audit.proofs.checking.follow.Goals as goal
 

@@ -1,4 +1,4 @@
-use Rattle.std.proofs.Common.{◌≡◌, ◌∙◌, List, ℕ, sym, subst, refl}
+use Rattle.std.proofs.Common.{sym, subst, refl}
 use Rattle.pump_audit.specs.declared.compared.Compared.{Compared}
 use Rattle.pump_audit.specs.Comparing.{IsCompared}
 use Rattle.pump_audit.proofs.StreamLaws.{known_ahead, where_told}

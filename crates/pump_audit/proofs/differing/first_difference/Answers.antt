@@ -1,4 +1,4 @@
-use Rattle.std.proofs.Common.{◌≡◌, ◌∙◌, sym, arith}
+use Rattle.std.proofs.Common.{◌∙◌, sym, arith}
 use Rattle.pump_audit.proofs.SideLaws.{one_more, found_here, second_ends, first_ends}
 use Rattle.pump_audit.proofs.differing.first_difference.Goals.{then-loop-at-test+else-at-b, else-loop-at-test, then-at-a-via-then-at-a, then-at-a-via-else-at-a+then-at-b-2}
 use Rattle.pump_audit.proofs.differing.first_difference.Goals as goal

@@ -1,4 +1,3 @@
-use Rattle.std.proofs.Common.{◌≡◌}
 use Rattle.std.proofs.lemmas.Option.{same_Some}
 use Rattle.pump_audit.proofs.EntryLaws.{no_entry}
 use Rattle.pump_audit.proofs.reading.read_entry.Goals as goal

@@ -1,4 +1,3 @@
-use Rattle.std.proofs.Common.{◌≡◌}
 use Rattle.script_reader.specs.Heads.{line_with}
 use Rattle.pump_audit.proofs.EntryLaws.{found_entry, only_script, small_entry, skip_head}
 use Rattle.pump_audit.proofs.reading.read_headed.Goals as goal

@@ -1,5 +1,4 @@
-use Rattle.std.proofs.Common.{◌≡◌, ◌∙◌}
-use Rattle.script_reader.specs.Heads.{arriving_with}
+use Rattle.std.proofs.Common.{◌∙◌}
 use Rattle.pump_audit.proofs.EntryLaws.{only_told}
 use Rattle.pump_audit.proofs.reading.read_script.Goals as goal
 

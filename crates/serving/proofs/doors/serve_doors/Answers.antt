@@ -1,4 +1,4 @@
-use Rattle.std.proofs.Common.{[], ◌∷◌, refl, sym, ap, subst}
+use Rattle.std.proofs.Common.{[], ◌∷◌, refl, ap, subst}
 use Rattle.pump_link.specs.Ports.{Listened, ShutDoor}
 use Rattle.pump_link.specs.Tells.{Grows}
 use Rattle.pump_link.proofs.Grown.{Grows-then}

@@ -1,4 +1,4 @@
-use Rattle.std.proofs.Common.{rules, ◌≡◌, ◌+◌, ◌≤◌, arith, sym, ap, ◌∙◌, subst, length, take}
+use Rattle.std.proofs.Common.{rules, ◌≡◌, ◌≤◌, arith, sym, ap, ◌∙◌, subst, length, take}
 use Rattle.std.proofs.Math.Seq.{take-length}
 use Rattle.std.specs.Io.KnownBytes.{Consumes}
 use Rattle.std.proofs.KnownBytes.{Consumes-trans}

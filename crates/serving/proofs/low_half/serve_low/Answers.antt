@@ -1,4 +1,4 @@
-use Rattle.std.proofs.Common.{◌≡◌, ◌≤◌, true, false, List, [], ℕ, refl, sym, ap, ◌∙◌, arith}
+use Rattle.std.proofs.Common.{true, false, List, [], refl, arith}
 use Rattle.std.proofs.KnownBytes.{Appends-trans}
 use Rattle.std.specs.Io.KnownBytes.{Appends}
 use Rattle.pump_link.proofs.Grown.{Draws-nil, Grows-nil}

@@ -1,5 +1,5 @@
 use Rattle.pump_core.specs.Passage.{new_low, new_high}
-use Rattle.std.proofs.Common.{◌≡◌, ℕ, List, sym, ap, ◌∙◌, subst}
+use Rattle.std.proofs.Common.{sym, ap, ◌∙◌, subst}
 use Rattle.std.specs.List.{All}
 use Rattle.pump_core.specs.Passage.{Shape, Low}
 use Rattle.relay_ring.specs.PairRule.{IsAveraged}

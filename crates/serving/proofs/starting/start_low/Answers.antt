@@ -1,4 +1,4 @@
-use Rattle.std.proofs.Common.{◌≡◌, sym, ◌∙◌, ap, subst, refl, Option, ℕ, arith}
+use Rattle.std.proofs.Common.{sym, ◌∙◌, subst, Option, ℕ, arith}
 use Rattle.pump_frame.specs.declared.frame.Item.{Item}
 use Rattle.pump_core.specs.Passage.{ComesNext}
 use Rattle.low_process.specs.Ends.{number_offered}

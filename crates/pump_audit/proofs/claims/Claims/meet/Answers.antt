@@ -1,4 +1,4 @@
-use Rattle.std.proofs.Common.{◌≡◌, ◌∙◌, ◌+◌, ℕ, sym, subst, arith}
+use Rattle.std.proofs.Common.{◌∙◌, ◌+◌, ℕ, sym, subst, arith}
 use Rattle.pump_audit.specs.Pairs.{Meets}
 use Rattle.pump_audit.proofs.ClaimLaws.{meet_step}
 use Rattle.pump_audit.proofs.claims.Claims.meet.Goals as goal

@@ -1,5 +1,5 @@
 use Rattle.std.proofs.Common.{◌∙◌, sym}
-use Rattle.pump_audit.proofs.ClaimLaws.{fell_kept, fell_now, fell_on}
+use Rattle.pump_audit.proofs.ClaimLaws.{fell_kept, fell_now}
 use Rattle.pump_audit.proofs.claims.Claims.note_fall.Goals as goal
 
 pub returns-then-is_some-clause-fell : goal.returns-then-is_some-clause-fell

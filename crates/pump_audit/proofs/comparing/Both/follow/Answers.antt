@@ -1,4 +1,4 @@
-use Rattle.std.proofs.Common.{◌≡◌, ◌∙◌, sym, arith}
+use Rattle.std.proofs.Common.{◌∙◌, sym, arith}
 use Rattle.pump_audit.proofs.BothLaws.{cut_off, too_many, outside, goes_on, separated, end_comes}
 use Rattle.pump_audit.proofs.comparing.Both.follow.Goals as goal
 

@@ -1,4 +1,4 @@
-use Rattle.std.proofs.Common.{◌≡◌, arith}
+use Rattle.std.proofs.Common.{arith}
 use Rattle.pump_audit.proofs.BothLaws.{first_none, first_full, first_outside, first_goes}
 use Rattle.pump_audit.proofs.comparing.Both.side.Goals as goal
 

@@ -1,4 +1,4 @@
-use Rattle.std.proofs.Common.{◌≡◌, ◌∙◌, sym, ap}
+use Rattle.std.proofs.Common.{◌∙◌, sym, ap}
 use Rattle.pump_audit.specs.Places.{behind_line}
 use Rattle.pump_audit.proofs.SideLaws.{goes_by}
 use Rattle.pump_audit.proofs.side.Side.add.Goals as goal

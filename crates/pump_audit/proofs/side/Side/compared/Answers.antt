@@ -1,4 +1,4 @@
-use Rattle.std.proofs.Common.{◌≡◌, ◌∙◌, sym, refl, arith}
+use Rattle.std.proofs.Common.{◌∙◌, sym, refl, arith}
 use Rattle.pump_audit.proofs.SideLaws.{apart, differs, agrees}
 use Rattle.pump_audit.proofs.side.Side.compared.Goals as goal
 

@@ -1,4 +1,3 @@
-use Rattle.std.proofs.Common.{◌≡◌}
 use Rattle.std.proofs.lemmas.Result.{IfOk-weaker}
 use Rattle.pump_audit.proofs.AuditLaws.{entry_look, entry_note}
 use Rattle.pump_audit.proofs.state.Audit.add_entry.Goals as goal

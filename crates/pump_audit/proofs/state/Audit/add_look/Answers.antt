@@ -1,4 +1,4 @@
-use Rattle.std.proofs.Common.{◌≡◌, inl, inr, refl, sym, ◌∙◌}
+use Rattle.std.proofs.Common.{inl, inr, refl, sym, ◌∙◌}
 use Rattle.pump_audit.proofs.AuditLaws.{look_goes, look_broken, look_untold, look_adds}
 use Rattle.pump_audit.proofs.state.Audit.add_look.Goals as goal
 

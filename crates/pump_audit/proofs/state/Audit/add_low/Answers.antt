@@ -1,4 +1,4 @@
-use Rattle.std.proofs.Common.{◌≡◌, ◌+◌, refl, sym, ap, ◌∙◌, arith, true, false, ℕ}
+use Rattle.std.proofs.Common.{◌+◌, refl, sym, ap, ◌∙◌, arith, true, false}
 use Rattle.pump_audit.proofs.AuditLaws.{low_untold, low_told, low_lives, low_acks, low_held}
 use Rattle.pump_audit.proofs.state.Audit.add_low.Goals as goal
 

@@ -1,4 +1,4 @@
-use Rattle.std.proofs.Common.{◌≡◌, refl, sym, subst, ◌∙◌, List}
+use Rattle.std.proofs.Common.{refl, sym, subst, ◌∙◌, List}
 use Rattle.pump_core.specs.Replies.{Sent}
 use Rattle.pump_audit.specs.Records.{AreTold}
 use Rattle.pump_audit.proofs.AuditLaws.{note_untold, tells_none}

@@ -1,4 +1,4 @@
-use Rattle.std.proofs.Common.{◌≡◌, ◌+◌, refl, ap}
+use Rattle.std.proofs.Common.{◌+◌, refl, ap}
 use Rattle.pump_audit.proofs.AuditLaws.{met_now, taken_held}
 use Rattle.pump_audit.proofs.state.Audit.add_taken.Goals as goal
 

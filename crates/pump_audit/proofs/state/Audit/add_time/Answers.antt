@@ -1,4 +1,4 @@
-use Rattle.std.proofs.Common.{◌≡◌, ◌+◌, refl, ap}
+use Rattle.std.proofs.Common.{◌+◌, refl, ap}
 use Rattle.pump_audit.proofs.AuditLaws.{met_now, time_held}
 use Rattle.pump_audit.proofs.state.Audit.add_time.Goals as goal
 

@@ -1,4 +1,4 @@
-use Rattle.std.proofs.Common.{◌≡◌, ◌∙◌, sym}
+use Rattle.std.proofs.Common.{◌∙◌, sym}
 use Rattle.pump_audit.proofs.AuditLaws.{ends_if, no_end}
 use Rattle.pump_audit.proofs.state.Audit.ends_wrong.Goals as goal
 

@@ -1,5 +1,5 @@
-use Rattle.std.proofs.Common.{◌≡◌, ◌∙◌, sym, inl, inr, refl}
-use Rattle.pump_audit.proofs.AuditLaws.{is_ended, uncommented}
+use Rattle.std.proofs.Common.{◌∙◌, sym}
+use Rattle.pump_audit.proofs.AuditLaws.{uncommented}
 use Rattle.pump_audit.proofs.state.Audit.verdict.Goals as goal
 
 pub returns-then-is_some : goal.returns-then-is_some

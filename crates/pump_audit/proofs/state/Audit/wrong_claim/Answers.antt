@@ -1,4 +1,4 @@
-use Rattle.std.proofs.Common.{◌≡◌, ◌∙◌, sym}
+use Rattle.std.proofs.Common.{◌∙◌, sym}
 use Rattle.pump_audit.proofs.AuditLaws.{claims_at_end, claims_open}
 use Rattle.pump_audit.proofs.state.Audit.wrong_claim.Goals as goal
 

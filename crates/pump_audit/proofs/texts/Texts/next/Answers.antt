@@ -1,7 +1,7 @@
-use Rattle.std.proofs.Common.{◌≡◌, ◌∙◌, ◌++◌, ◌∷◌, [], length, sym, arith, false, ◌==◌}
+use Rattle.std.proofs.Common.{◌≡◌, ◌∙◌, length, sym, arith, false, ◌==◌}
 use Rattle.std.proofs.KnownBytes.{Consumes-trans}
 use Rattle.std.proofs.lemmas.Bool.{eqb-true}
-use Rattle.pump_audit.proofs.TextLaws.{long_line, last_line, no_line_left, not_zero}
+use Rattle.pump_audit.proofs.TextLaws.{long_line, last_line, not_zero}
 use Rattle.pump_audit.proofs.texts.Texts.next.Goals as goal
 
 pub returns-in-Byte-eq10-clause-next : goal.returns-in-Byte-eq10-clause-next

@@ -3,6 +3,7 @@ use Rattle.disk_model.specs.declared.name.Role.TheVariants as roles
 use Rattle.two_worlds.specs.declared.pump.Pump.{Pump}
 use Rattle.two_worlds.specs.Reads.{ReadsOn}
 use Rattle.pump_chain.proofs.Comparing.{agree_more}
+use Rattle.pump_chain.proofs.Placing.{state_accepted}
 use Rattle.pump_chain.proofs.Reading.{reads_then}
 use Rattle.pump_chain.proofs.chain.Chain.compare_live.Goals as goal
 
@@ -14,7 +15,7 @@ loop-number-preserved g c =
     let e = c.in-Ok.ensures in
     let r = c.in-Ok-live.ensures in
     let from = i.from in
-    let equal = c.are_equal.ensures c.if-not-are_equal.false in
+    let equal = c.are_equal.ensures.equal c.if-not-are_equal.false in
     let second : ReadsOn m roles.Low was.second c.fetch.new.self.second = subst (λ (x : Pump _ _). ReadsOn m roles.Low was.second x) (sym e.second) i.second in
     record {
       from = omega (arith, from);
@@ -24,3 +25,24 @@ loop-number-preserved g c =
       sender = e.sender ∙ i.sender;
       under_way = e.under_way ∙ i.under_way;
     }
+
+pub returns-then-not-are_equal-clause-refused : goal.returns-then-not-are_equal-clause-refused
+returns-then-not-are_equal-clause-refused g c = λ told p q h k.
+    let m = g.D.Disk.told in
+    let was = c.args.self.now in
+    let i = c.loop-number.invariant in
+    let e = c.in-Ok.ensures in
+    let r = c.in-Ok-live.ensures in
+    let test = c.loop-number-test.true in
+    let count = c.requires.count in
+    let second : ReadsOn m roles.Low was.second c.fetch.new.self.second = subst (λ (x : Pump _ _). ReadsOn m roles.Low was.second x) (sym e.second) i.second in
+    let sent = e.message told p (i.first.stands p h) in
+    let other = r.message told q (second.stands q k) in
+    let has = state_accepted m was.second.state q k in
+    (omega (arith, test, count, has), λ same. c.are_equal.ensures.unequal c.if-not-are_equal.true (sent ∙ sym same ∙ sym other))
+
+pub returns-in-Err-clause-refused : goal.returns-in-Err-clause-refused
+returns-in-Err-clause-refused g c = λ told p q h k. c.unread.ensures q.world.accepted p.world.received
+
+pub returns-in-Err-live-clause-refused : goal.returns-in-Err-live-clause-refused
+returns-in-Err-live-clause-refused g c = λ told p q h k. c.unread-in-Err-live.ensures q.world.accepted p.world.received

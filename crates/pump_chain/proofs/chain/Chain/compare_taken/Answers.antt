@@ -1,10 +1,11 @@
-use Rattle.std.proofs.Common.{sym, ◌∙◌, subst}
+use Rattle.std.proofs.Common.{sym, ◌∙◌, subst, arith}
 use Rattle.disk_model.specs.declared.name.Role.TheVariants as roles
 use Rattle.two_worlds.specs.declared.pump.Pump.{Pump}
 use Rattle.two_worlds.specs.Pumps.{StandsFor}
 use Rattle.two_worlds.specs.Reads.{ReadsOn}
-use Rattle.pump_chain.proofs.Comparing.{agree_more}
-use Rattle.pump_chain.proofs.Placing.{at_still}
+use Rattle.pump_chain.proofs.Comparing.{agree_more, front_at}
+use Rattle.pump_chain.proofs.Crashing.{pump_lawful}
+use Rattle.pump_chain.proofs.Placing.{at_still, state_count}
 use Rattle.pump_chain.proofs.Reading.{reads_then}
 use Rattle.pump_chain.proofs.chain.Chain.compare_taken.Goals as goal
 
@@ -21,7 +22,7 @@ loop-number-preserved g c =
     let i = c.loop-number.invariant in
     let e = c.in-Ok.ensures in
     let r = c.in-Ok-received.ensures in
-    let equal = c.are_equal.ensures c.if-not-are_equal.false in
+    let equal = c.are_equal.ensures.equal c.if-not-are_equal.false in
     let second : ReadsOn m roles.Recv was.second c.fetch.new.self.second = subst (λ (x : Pump _ _). ReadsOn m roles.Recv was.second x) (sym e.second) i.second in
     record {
       at = λ told q h. r.next told q (second.stands q h);
@@ -31,3 +32,25 @@ loop-number-preserved g c =
       sender = e.sender ∙ i.sender;
       under_way = e.under_way ∙ i.under_way;
     }
+
+pub returns-then-not-are_equal-clause-refused : goal.returns-then-not-are_equal-clause-refused
+returns-then-not-are_equal-clause-refused g c = λ told p q h k.
+    let m = g.D.Disk.told in
+    let was = c.args.self.now in
+    let i = c.loop-number.invariant in
+    let e = c.in-Ok.ensures in
+    let r = c.in-Ok-received.ensures in
+    let test = c.loop-number-test.true in
+    let count = c.requires.count in
+    let second : ReadsOn m roles.Recv was.second c.fetch.new.self.second = subst (λ (x : Pump _ _). ReadsOn m roles.Recv was.second x) (sym e.second) i.second in
+    let sent = e.message told p (i.first.stands p h) in
+    let other = r.message told q (second.stands q k) in
+    let has = state_count m was.second.state q k in
+    let at = front_at q.world.received q.world.accepted c.loop-number.number (pump_lawful m was.second q k).delivered.prefix (omega (arith, test, count, has)) in
+    (at.0, λ same. c.are_equal.ensures.unequal c.if-not-are_equal.true (sent ∙ sym same ∙ at.1 ∙ sym other))
+
+pub returns-in-Err-clause-refused : goal.returns-in-Err-clause-refused
+returns-in-Err-clause-refused g c = λ told p q h k. c.unread.ensures q.world.accepted p.world.received
+
+pub returns-in-Err-received-clause-refused : goal.returns-in-Err-received-clause-refused
+returns-in-Err-received-clause-refused g c = λ told p q h k. c.unread-in-Err-received.ensures q.world.accepted p.world.received

@@ -25,3 +25,13 @@ returns-in-Ok-compare-clause-stands g c = λ told f h F H.
       linked = e.linked told p q first second;
       waits = All-nil (IsSentOn p.world.received);
     }
+
+pub returns-in-Err-compare-clause-refused : goal.returns-in-Err-compare-clause-refused
+returns-in-Err-compare-clause-refused g c = λ told f h F H.
+    let m = g.D.Disk.told in
+    let made = c.of-chain.ensures in
+    let p = first_past c.args.one.now f in
+    let q = first_past c.args.two.now h in
+    let first : StandsFor m c.of-chain.result.first p = subst (λ (x : Pump _ _). StandsFor m x p) (sym made.first) (c.in-Ok.ensures.stands told f F) in
+    let second : StandsFor m c.of-chain.result.second q = subst (λ (x : Pump _ _). StandsFor m x q) (sym made.second) (c.in-Ok-open.ensures.stands told h H) in
+    c.in-Err-compare.ensures.refused told p q first second

@@ -1,4 +1,4 @@
-use Rattle.std.proofs.Common.{◌≡◌, ℕ, ◌≤◌, ◌++◌, ◌∷◌, [], List, sym, ap, ◌∙◌, subst}
+use Rattle.std.proofs.Common.{ℕ, ◌≤◌, List, sym, ap, ◌∙◌, subst}
 use Rattle.std.specs.List.{All}
 use Rattle.pump_frame.specs.declared.averaging.Averaging.{Averaging}
 use Rattle.pump_core.specs.Passage.{Low, read_pair}
@@ -36,6 +36,6 @@ returns-clause-step c = λ l h stands.
           averaged = subst (λ (z : PairView). All P z.pairs) (sym q.pair) (all_snoc P v.pairs (count, average) is.averaged averaged);
         },
         ap (λ (z : Low). read_pair z count average) stands.1
-        ∙ ap (λ (z : PairView). record { forwarded = e.seat.me.0.forwarded; tries = e.seat.me.0.low_tries; pairs = z.pairs }) (sym q.pair),
+            ∙ ap (λ (z : PairView). record { forwarded = e.seat.me.0.forwarded; tries = e.seat.me.0.low_tries; pairs = z.pairs }) (sym q.pair),
       ),
     )

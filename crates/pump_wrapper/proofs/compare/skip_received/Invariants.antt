@@ -1,0 +1,28 @@
+use Rattle.std.proofs.Common.{◌≡◌, ℕ, ◌+◌, ◌≤◌, List, length, take}
+use Rattle.std.specs.Io.KnownBytes.{Consumes}
+use Rattle.disk_model.specs.Disk.{Moves, Same}
+use Rattle.stable_buffer.specs.Log.{RecvStands}
+use Rattle.high_receiver.specs.Receiving.{IsRecvReady, IsRecordAt, recv_count, recv_disk, recv_end, recv_row, recv_size}
+use Rattle.pump_wrapper.specs.Cutting.{MayCut, cut_message}
+use Rattle.pump_wrapper.proofs.Compared.{passed}
+use Rattle.pump_wrapper.proofs.compare.skip_received.Given as goal
+
+abbrev pub invariant-loop-number : goal.invariant-loop-number
+invariant-loop-number g l =
+    let m = g.D.Disk.told in
+    let r = l.fn.receiver in
+    record {
+      ready : IsRecvReady m l.receiver;
+      count : recv_count l.receiver ≡ recv_count r;
+      end : recv_end l.receiver ≡ recv_end r;
+      row : recv_row l.receiver ≡ recv_row r;
+      size : recv_size l.receiver ≡ recv_size r;
+      place : IsRecordAt m l.receiver l.number l.at;
+      moves : Moves m Same (recv_disk r) (recv_disk l.receiver);
+      counts : m.count (recv_disk r) ≤ m.count (recv_disk l.receiver);
+      later : g.I.Source.faults l.fn.file ≤ g.I.Source.faults l.file;
+      may : MayCut l.cutter;
+      message : cut_message l.cutter ≡ cut_message l.fn.cutter;
+      passed : m.tells → (messages : List (List ℕ)) → RecvStands (recv_row r) messages (m.reading (recv_disk r)) → passed (take l.number messages) l.fn.cutter l.cutter (g.I.Source.left l.fn.file) (g.I.Source.left l.file);
+      bytes : (taken : List ℕ) × Consumes (g.I.Source.left l.fn.file) (g.I.Source.left l.file) taken × (l.cutter.bytes ≡ l.fn.cutter.bytes + length taken);
+    }

@@ -1,5 +1,5 @@
 -- What a move says of its disks, said of disks that were taken off a shelf.
-use Rattle.std.proofs.Common.{◌≡◌, ℕ, Bool, true, false, List, [], ◌∷◌, length, Option, None, Some, Result, Ok, Err, IfOk, IfErr, refl, sym, ap, ◌∙◌, subst}
+use Rattle.std.proofs.Common.{◌≡◌, ℕ, Bool, true, false, List, [], ◌∷◌, length, None, Result, Ok, Err, IfOk, IfErr, refl, sym, ap, subst}
 use Rattle.disk_model.specs.Disk.{Meaning, Moves, Same}
 use Rattle.disk_model.specs.declared.name.Role.{Role}
 use Rattle.disk_model.specs.declared.name.Role.TheVariants as roles
@@ -12,7 +12,6 @@ use Rattle.recovery.specs.declared.trio.Trio.{Trio}
 use Rattle.recovery.specs.declared.why.Why.{Why}
 use Rattle.script_replay.specs.declared.disks.TakenDisks.{TakenDisks}
 use Rattle.stable_buffer.specs.Format.{receiver_size}
-use Rattle.two_worlds.specs.Openings.{StandForFound}
 use Rattle.netpump.specs.Migrating.{MovesTo, StopsMove, FailsAt, counted, taken_of, trio_of}
 use Rattle.netpump.specs.TakenDisks.{CountOn, ReadOn, SpareOn}
 use Rattle.netpump.specs.declared.migrate.Counts.{Counts}

@@ -1,6 +1,6 @@
 -- What is found on old disks is what the new ones stand for.
 use Rattle.std.proofs.Common.{◌≡◌, ℕ, ◌+◌, ◌-◌, ◌^◌, ◌≤◌, ◌<◌, Bool, true, false, List, [], length, get_or, Option, None, Some, refl, sym, ap, ◌∙◌, subst, arith}
-use Rattle.std.specs.Prelude.{◌==◌, ◌&&◌, nat_le, if◌then◌else◌}
+use Rattle.std.specs.Prelude.{◌&&◌, nat_le, if◌then◌else◌}
 use Rattle.std.proofs.lemmas.Bool.{and_parts, leb-true}
 use Rattle.disk_model.specs.declared.name.Role.{Role}
 use Rattle.disk_model.specs.declared.name.Role.TheVariants as roles
@@ -8,7 +8,7 @@ use Rattle.pump_frame.specs.Rows.{IsLawfulRow}
 use Rattle.pump_frame.specs.declared.row.SessionRow.{SessionRow}
 use Rattle.recovery.specs.Agreement.{SlotsAgree}
 use Rattle.recovery.specs.Moves.{StandFor, AreFound}
-use Rattle.recovery.specs.Refusals.{or_else, told_of, refused_count, refused_disk, refused_log, refused_shape, refused_pump, refused_receiver}
+use Rattle.recovery.specs.Refusals.{or_else, told_of, refused_count, refused_disk, refused_log, refused_shape}
 use Rattle.recovery.specs.declared.why.Why.{Why}
 use Rattle.recovery.proofs.Rows.{row_message}
 use Rattle.recovery.proofs.Slots.{slot_one}

@@ -1,4 +1,4 @@
-use Rattle.std.proofs.Common.{List, ℕ, sym, ◌∙◌, subst, ap}
+use Rattle.std.proofs.Common.{List, ℕ, sym, ◌∙◌, subst}
 use Rattle.netpump.specs.Migrating.{Migrates}
 use Rattle.netpump.specs.declared.command_end.CommandEnd.TheVariants as ends
 use Rattle.netpump.proofs.CommandEnds.{ends_so}

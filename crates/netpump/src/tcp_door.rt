@@ -9,11 +9,11 @@ use std::io::{self, ErrorKind};
 use std::net::TcpListener;
 
 /// How many milliseconds a call waits at most.
-const WAIT: i32 = 1;
+const WAIT: i32 = 2;
 
 /// A TCP listener as a door. It tells how often a call failed, and nothing of who came.
 ///
-/// A call waits a millisecond at most for a connection, and about as long where it fails, so that a
+/// A call waits two milliseconds at most for a connection, and about as long where it fails, so that a
 /// caller that asks again and again leaves the processor to others.
 #[derive(Drop)]
 pub struct TcpDoor<'a> {

@@ -1,9 +1,9 @@
-ghost use Rattle.std.specs.Prelude.{◌≡◌, ℕ, List, [], ◌∷◌, ◌++◌, map, string_bytes, IfSome, IfNone, IsTrue, ◌↔◌};
+ghost use Rattle.std.specs.Prelude.{◌≡◌, ℕ, List, [], ◌∷◌, ◌++◌, map, string_bytes, decimal, IfSome, IfNone, IsTrue, ◌↔◌};
 ghost use Rattle.command_line.specs.Commands.{IsCommand, words_of};
 ghost use Rattle.command_line.specs.TimeLists.{AreTimes, times_word};
 
-use crate::Command;
 use crate::times::are_times;
+use crate::{Command, TableName};
 
 /// The words after the first, where that is this text.
 fn after<'a>(words: &'a [String], text: &str) -> Option<&'a [String]>
@@ -97,6 +97,29 @@ fn are_timed(words: &[String], name: &str, first: &str, second: &str, times: &[u
     }
 }
 
+/// Are these words the command of this name for a session of a table?
+fn name_session(words: &[String], name: &str, table: &TableName, session: u32) -> bool
+    ensures { IsTrue result ↔ (map string_bytes words.now ≡ name.now ∷ table.now ∷ decimal session ∷ []) }
+{
+    let mut number = itoa::Buffer::new();
+    are_three(words, name, table.as_str(), number.format(session))
+}
+
+/// Are they one that has a number of looks behind it?
+fn name_looks(words: &[String], name: &str, table: &TableName, session: u32, looks: u32) -> bool
+    ensures { IsTrue result ↔ (map string_bytes words.now ≡ name.now ∷ table.now ∷ decimal session ∷ decimal looks ∷ []) }
+{
+    let mut one = itoa::Buffer::new();
+    let mut two = itoa::Buffer::new();
+    are_four(
+        words,
+        name,
+        table.as_str(),
+        one.format(session),
+        two.format(looks),
+    )
+}
+
 /// Are these the words of the command?
 pub(crate) fn is_spelled(command: &Command, words: &[String]) -> bool
     requires { IsCommand command.now }
@@ -108,54 +131,36 @@ pub(crate) fn is_spelled(command: &Command, words: &[String]) -> bool
         Command::Replay => is_one(words, "replay"),
         Command::Audit => is_one(words, "audit"),
         Command::Compare => is_one(words, "compare"),
-        Command::Format { table, session } => {
-            are_three(words, "format", table.as_str(), one.format(*session))
-        }
-        Command::Show { table, session } => {
-            are_three(words, "show", table.as_str(), one.format(*session))
-        }
-        Command::Exercise { seed, count } => {
-            are_three(words, "exercise", one.format(*seed), two.format(*count))
-        }
+        Command::Format { table, session } => name_session(words, "format", table, *session),
+        Command::Show { table, session } => name_session(words, "show", table, *session),
+        Command::Unwrap { table, session } => name_session(words, "unwrap", table, *session),
+        Command::Serve {
+            table,
+            session,
+            looks,
+        } => name_looks(words, "serve", table, *session, *looks),
+        Command::Receive {
+            table,
+            session,
+            looks,
+        } => name_looks(words, "receive", table, *session, *looks),
+        Command::Send {
+            table,
+            session,
+            looks,
+        } => name_looks(words, "send", table, *session, *looks),
+        Command::Exercise { seed, count } => are_three(
+            words,
+            "exercise",
+            one.format(*seed),
+            two.format(*count),
+        ),
         Command::Race { seed, count, times } => are_timed(
             words,
             "race",
             one.format(*seed),
             two.format(*count),
             times.as_slice(),
-        ),
-        Command::Serve {
-            table,
-            session,
-            looks,
-        } => are_four(
-            words,
-            "serve",
-            table.as_str(),
-            one.format(*session),
-            two.format(*looks),
-        ),
-        Command::Receive {
-            table,
-            session,
-            looks,
-        } => are_four(
-            words,
-            "receive",
-            table.as_str(),
-            one.format(*session),
-            two.format(*looks),
-        ),
-        Command::Send {
-            table,
-            session,
-            looks,
-        } => are_four(
-            words,
-            "send",
-            table.as_str(),
-            one.format(*session),
-            two.format(*looks),
         ),
         Command::Migrate {
             table,
@@ -170,8 +175,5 @@ pub(crate) fn is_spelled(command: &Command, words: &[String]) -> bool
             new_table.as_str(),
             two.format(*new_session),
         ),
-        Command::Unwrap { table, session } => {
-            are_three(words, "unwrap", table.as_str(), one.format(*session))
-        }
     }
 }

@@ -19,3 +19,6 @@ pub use migrate::migrate_session;
 pub use show::{end_at, show_session};
 pub use table_row::row_in_file;
 pub use unwrap::{UnwrapEnd, unwrap_session};
+
+#[cfg(test)]
+mod tests;

@@ -1,14 +1,26 @@
--- Disks of a session, one by one, off the shelf and back on it.
-use Rattle.std.proofs.Common.{◌≡◌, ◌⊎◌, ℕ, List, inl, inr, refl, sym, ap, ◌∙◌, subst}
+-- Disks of a session, one by one, off the shelf and back on it, and how a command ends that a disk stops.
+use Rattle.std.proofs.Common.{◌≡◌, ◌⊎◌, ◌≤◌, ℕ, false, List, Some, inl, inr, refl, sym, ap, ◌∙◌, subst, arith}
 use Rattle.std.proofs.lemmas.Bool.{cases_eq}
 use Rattle.disk_model.specs.declared.name.DiskName.{DiskName}
 use Rattle.disk_model.specs.declared.name.Role.{Role}
 use Rattle.disk_model.specs.declared.name.Role.TheVariants as roles
+use Rattle.disk_model.specs.declared.shelf.ShelfFault.{ShelfFault}
+use Rattle.disk_model.specs.declared.shelf.ShelfFault.TheVariants as shelf_faults
 use Rattle.disk_model.specs.Shelf.{Whereabouts, OnShelf, IsOut}
-use Rattle.script_replay.specs.Lending.{ReadAt}
+use Rattle.pump_frame.specs.Counts.{Rose}
+use Rattle.pump_frame.specs.declared.row.SessionRow.{SessionRow}
+use Rattle.recovery.specs.Calls.{is_device}
+use Rattle.recovery.specs.Refusals.{refused_receiver}
+use Rattle.recovery.specs.declared.why.Why.{Why}
+use Rattle.recovery.specs.declared.why.Why.TheVariants as whys
+use Rattle.script_replay.specs.Lending.{ReadAt, IsOutAt, RisesAt}
 use Rattle.script_replay.specs.Shelves.{Places, disk_name, reading_in, AllAreBack, ReadsAlike}
 use Rattle.script_replay.proofs.Shelving.{read_in}
-use Rattle.commands.specs.LentDisks.{LeavesOtherDisks, LeavesBut}
+use Rattle.stable_buffer.specs.Format.{receiver_size}
+use Rattle.commands.specs.LentDisks.{LeavesOtherDisks, LeavesBut, StopsAtDisk}
+use Rattle.commands.specs.Showing.{end_at}
+use Rattle.commands.specs.declared.command_end.CommandEnd.{CommandEnd}
+use Rattle.commands.specs.declared.command_end.CommandEnd.TheVariants.{Memory, Failed}
 
 -- ---- names ----
 

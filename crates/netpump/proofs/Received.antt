@@ -1,14 +1,10 @@
 -- A receiver's disk that is off the shelf and back on it.
-use Rattle.std.proofs.Common.{◌≡◌, ◌≤◌, ℕ, List, Option, inr, refl, sym, ap, subst, arith}
+use Rattle.std.proofs.Common.{◌≡◌, ℕ, List, Option, inr, sym, ap, subst}
 use Rattle.disk_model.specs.Shelf.{OnShelf}
-use Rattle.disk_model.specs.declared.name.Role.{Role}
 use Rattle.disk_model.specs.declared.name.Role.TheVariants as roles
-use Rattle.disk_model.specs.declared.shelf.ShelfFault.{ShelfFault}
-use Rattle.disk_model.specs.declared.shelf.ShelfFault.TheVariants as shelf_faults
-use Rattle.pump_frame.specs.Counts.{Rose}
 use Rattle.pump_frame.specs.declared.row.SessionRow.{SessionRow}
 use Rattle.pump_link.specs.Ports.{PortsStep}
-use Rattle.script_replay.specs.Lending.{ReadAt, IsOutAt, RisesAt}
+use Rattle.script_replay.specs.Lending.{ReadAt}
 use Rattle.script_replay.specs.Shelves.{Places, disk_name, reading_in, reading_at}
 use Rattle.script_replay.proofs.Shelving.{read_in}
 use Rattle.stable_buffer.specs.Format.{receiver_size}
@@ -16,11 +12,10 @@ use Rattle.peers.specs.Outputs.{Counts}
 use Rattle.peers.specs.Receiving.{Place, Reception, Receives}
 use Rattle.peers.specs.declared.receive.ReceiveEnd.{ReceiveEnd}
 use Rattle.serving.specs.Doors.{LinksTell}
-use Rattle.commands.specs.LentDisks.{LeavesOtherDisks, StopsAtDisk}
+use Rattle.commands.specs.LentDisks.{LeavesOtherDisks}
 use Rattle.netpump.specs.Receptions.{ReceivesOver, ReceivesFor, ReceiveComes}
 use Rattle.commands.specs.Tables.{HasRow}
 use Rattle.commands.specs.declared.command_end.CommandEnd.{CommandEnd}
-use Rattle.commands.specs.declared.command_end.CommandEnd.TheVariants.{Memory, Failed}
 
 module _ {D L : Type 0} (t : LinksTell L) (looks : ℕ) (ports now_ports : List (PortsStep L D) → Type 0) (written : Option (List ℕ)) (out_faults : ℕ) where
   -- what holds of the readings of the disk in hand holds of those on the shelf

@@ -1,14 +1,11 @@
 -- What a sender's end says, and that of a receiver.
-use Rattle.std.proofs.Common.{◌≡◌, ℕ, true, false, List, Option, Some, Err, refl}
+use Rattle.std.proofs.Common.{◌≡◌, ℕ, true, List, Option, Some, Err, refl}
 use Rattle.disk_model.specs.declared.name.Role.{Role}
-use Rattle.disk_model.specs.declared.name.Role.TheVariants as roles
 use Rattle.pump_frame.specs.Counts.{Rose}
 use Rattle.pump_frame.specs.declared.row.SessionRow.{SessionRow}
 use Rattle.recovery.specs.Calls.{is_device}
-use Rattle.recovery.specs.Refusals.{refused_receiver}
 use Rattle.recovery.specs.declared.why.Why.{Why}
 use Rattle.recovery.specs.declared.why.Why.TheVariants as whys
-use Rattle.stable_buffer.specs.Format.{receiver_size}
 use Rattle.peers.specs.Outputs.{Counts}
 use Rattle.peers.specs.Receiving.{Place, Reception, Receives}
 use Rattle.peers.specs.Sending.{Sending, Ungreeted, Greeted, Sends}
@@ -18,7 +15,6 @@ use Rattle.peers.specs.declared.send.SendEnd.{SendEnd}
 use Rattle.peers.specs.declared.send.SendEnd.TheVariants as sender
 use Rattle.commands.specs.Tables.{StopsAtTable, IsRowOf, IsTableEnd}
 use Rattle.netpump.specs.LiveEnds.{IsNoDiskEnd}
-use Rattle.commands.specs.LentDisks.{StopsAtDisk}
 use Rattle.netpump.specs.Receptions.{end_of_receiver}
 use Rattle.netpump.specs.Sendings.{end_of_sender}
 use Rattle.commands.specs.Showing.{end_at}

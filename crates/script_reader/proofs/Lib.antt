@@ -15,6 +15,7 @@ pub mod Leading
 pub mod Levels
 pub mod LineEnds
 pub mod LineLaws
+pub mod LineSteps
 pub mod LoneSession
 pub mod LookLaws
 pub mod LookSteps

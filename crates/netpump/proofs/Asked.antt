@@ -7,17 +7,17 @@ use Rattle.command_line.specs.declared.command.Command.{Command}
 use Rattle.command_line.specs.declared.command.Command.TheVariants.{Format, Show, Exercise, Race, Serve, Receive, Send, Migrate, Unwrap}
 use Rattle.command_line.specs.declared.command.WordsFault.{WordsFault}
 use Rattle.command_line.specs.declared.command.WordsFault.TheVariants.{NoCommand, Memory}
-use Rattle.netpump.specs.Commands.{EndsSo, EndsWithStatus, end_status}
-use Rattle.netpump.specs.Exercises.{EndsExercise}
-use Rattle.netpump.specs.Formatting.{Formats}
-use Rattle.netpump.specs.Migrating.{Migrates}
-use Rattle.netpump.specs.Showing.{Shows}
-use Rattle.netpump.specs.Unwrapping.{EndsUnwrap, Unwraps, unwrap_status}
-use Rattle.netpump.specs.declared.unwrap.UnwrapEnd.{UnwrapEnd}
-use Rattle.netpump.specs.declared.unwrap.UnwrapEnd.TheVariants.{Stopped}
+use Rattle.commands.specs.CommandEnds.{EndsSo, EndsWithStatus, end_status}
+use Rattle.exercises.specs.Exercises.{EndsExercise}
+use Rattle.commands.specs.Formatting.{Formats}
+use Rattle.commands.specs.Migrating.{Migrates}
+use Rattle.commands.specs.Showing.{Shows}
+use Rattle.commands.specs.Unwrapping.{EndsUnwrap, Unwraps, unwrap_status}
+use Rattle.commands.specs.declared.unwrap.UnwrapEnd.{UnwrapEnd}
+use Rattle.commands.specs.declared.unwrap.UnwrapEnd.TheVariants.{Stopped}
 use Rattle.script_replay.specs.Shelves.{Places}
-use Rattle.netpump.specs.declared.command_end.CommandEnd.{CommandEnd}
-use Rattle.netpump.specs.declared.command_end.CommandEnd.TheVariants as ends
+use Rattle.commands.specs.declared.command_end.CommandEnd.{CommandEnd}
+use Rattle.commands.specs.declared.command_end.CommandEnd.TheVariants as ends
 
 -- words that are no command are not this one
 pub not_command : (c : Command) → (let r : Result Command WordsFault = Err NoCommand in (r ≡ Ok c) ⊎ (r ≡ Err Memory)) → ⊥

@@ -1,17 +1,6 @@
 pub mod Asked
-pub mod CommandEnds
-pub mod Exercised
-pub mod Formatted
-pub mod LentDisks
 pub mod LiveEnded
-pub mod Migrated
-pub mod MovedDisks
-pub mod MovedFound
 pub mod Raced
 pub mod Received
 pub mod Sent
 pub mod Served
-pub mod Shown
-pub mod TableRows
-pub mod Tallies
-pub mod Unwrapped

@@ -1,14 +1,10 @@
 -- A receiver's disk that is off the shelf and back on it.
-use Rattle.std.proofs.Common.{◌≡◌, ◌≤◌, ℕ, List, Option, inr, refl, sym, ap, subst, arith}
+use Rattle.std.proofs.Common.{◌≡◌, ℕ, List, Option, inr, sym, ap, subst}
 use Rattle.disk_model.specs.Shelf.{OnShelf}
-use Rattle.disk_model.specs.declared.name.Role.{Role}
 use Rattle.disk_model.specs.declared.name.Role.TheVariants as roles
-use Rattle.disk_model.specs.declared.shelf.ShelfFault.{ShelfFault}
-use Rattle.disk_model.specs.declared.shelf.ShelfFault.TheVariants as shelf_faults
-use Rattle.pump_frame.specs.Counts.{Rose}
 use Rattle.pump_frame.specs.declared.row.SessionRow.{SessionRow}
 use Rattle.pump_link.specs.Ports.{PortsStep}
-use Rattle.script_replay.specs.Lending.{ReadAt, IsOutAt, RisesAt}
+use Rattle.script_replay.specs.Lending.{ReadAt}
 use Rattle.script_replay.specs.Shelves.{Places, disk_name, reading_in, reading_at}
 use Rattle.script_replay.proofs.Shelving.{read_in}
 use Rattle.stable_buffer.specs.Format.{receiver_size}
@@ -16,11 +12,10 @@ use Rattle.peers.specs.Outputs.{Counts}
 use Rattle.peers.specs.Receiving.{Place, Reception, Receives}
 use Rattle.peers.specs.declared.receive.ReceiveEnd.{ReceiveEnd}
 use Rattle.serving.specs.Doors.{LinksTell}
-use Rattle.netpump.specs.LentDisks.{LeavesOtherDisks}
-use Rattle.netpump.specs.Receptions.{StopsAtDisk, ReceivesOver, ReceivesFor, ReceiveComes}
-use Rattle.netpump.specs.Tables.{HasRow}
-use Rattle.netpump.specs.declared.command_end.CommandEnd.{CommandEnd}
-use Rattle.netpump.specs.declared.command_end.CommandEnd.TheVariants.{Memory, Failed}
+use Rattle.commands.specs.LentDisks.{LeavesOtherDisks}
+use Rattle.netpump.specs.Receptions.{ReceivesOver, ReceivesFor, ReceiveComes}
+use Rattle.commands.specs.Tables.{HasRow}
+use Rattle.commands.specs.declared.command_end.CommandEnd.{CommandEnd}
 
 module _ {D L : Type 0} (t : LinksTell L) (looks : ℕ) (ports now_ports : List (PortsStep L D) → Type 0) (written : Option (List ℕ)) (out_faults : ℕ) where
   -- what holds of the readings of the disk in hand holds of those on the shelf
@@ -41,18 +36,6 @@ module _ {D L : Type 0} (t : LinksTell L) (looks : ℕ) (ports now_ports : List 
         subst (λ (places : Places). LeavesOtherDisks places after (disk_name row.id roles.Recv)) same others,
         subst (λ (places : Places). ReceivesFor t looks ports now_ports written out_faults (reading_at places row.id roles.Recv) (reading_at after row.id roles.Recv) row end mid mid_faults) same h,
       )
-
--- a disk that could not be taken
-pub untaken_stops : (found : List ℕ) (row : SessionRow) (fault : ShelfFault) (end : CommandEnd) → (fault ≡ shelf_faults.Memory → end ≡ Memory) → (fault ≡ shelf_faults.Failed → end ≡ Failed roles.Recv) → StopsAtDisk found row end
-untaken_stops found row shelf_faults.Memory end memory failed = subst (StopsAtDisk found row) (sym (memory refl)) tt
-untaken_stops found row shelf_faults.Failed end memory failed = subst (StopsAtDisk found row) (sym (failed refl)) tt
-
--- the shelf's count rises where that of a disk that comes back rose
-pub rises_back : (places : Places) (session : ℕ) (role : Role) (count now before mid after : ℕ) → IsOutAt places session role count → Rose count now → before ≤ mid → RisesAt places session role now mid after → Rose before after
-rises_back places session role count now before mid after out rose low rises =
-    let least = out.2 in
-    let r : Rose mid after = rises out.0 out.1 (omega (arith, least, rose)) in
-    omega (arith, low, r)
 
 -- the receiver's disk read at its opening what it did before
 pub found_again : {D L : Type 0} (t : LinksTell L) (looks : ℕ) (ports now_ports : List (PortsStep L D) → Type 0) (written : Option (List ℕ)) (out_faults : ℕ) (found old left : List ℕ) (row : SessionRow) (end : CommandEnd) (mid : Option (List ℕ)) (mid_faults : ℕ)

@@ -1,14 +1,11 @@
 -- What a sender's end says, and that of a receiver.
-use Rattle.std.proofs.Common.{◌≡◌, ℕ, true, false, List, Option, Some, Err, refl}
+use Rattle.std.proofs.Common.{◌≡◌, ℕ, true, List, Option, Some, Err, refl}
 use Rattle.disk_model.specs.declared.name.Role.{Role}
-use Rattle.disk_model.specs.declared.name.Role.TheVariants as roles
 use Rattle.pump_frame.specs.Counts.{Rose}
 use Rattle.pump_frame.specs.declared.row.SessionRow.{SessionRow}
 use Rattle.recovery.specs.Calls.{is_device}
-use Rattle.recovery.specs.Refusals.{refused_receiver}
 use Rattle.recovery.specs.declared.why.Why.{Why}
 use Rattle.recovery.specs.declared.why.Why.TheVariants as whys
-use Rattle.stable_buffer.specs.Format.{receiver_size}
 use Rattle.peers.specs.Outputs.{Counts}
 use Rattle.peers.specs.Receiving.{Place, Reception, Receives}
 use Rattle.peers.specs.Sending.{Sending, Ungreeted, Greeted, Sends}
@@ -16,13 +13,13 @@ use Rattle.peers.specs.declared.receive.ReceiveEnd.{ReceiveEnd}
 use Rattle.peers.specs.declared.receive.ReceiveEnd.TheVariants as receiver
 use Rattle.peers.specs.declared.send.SendEnd.{SendEnd}
 use Rattle.peers.specs.declared.send.SendEnd.TheVariants as sender
-use Rattle.netpump.specs.LiveEnds.{StopsAtTable, IsNoDiskEnd}
-use Rattle.netpump.specs.Receptions.{end_of_receiver, StopsAtDisk}
+use Rattle.commands.specs.Tables.{StopsAtTable, IsRowOf, IsTableEnd}
+use Rattle.netpump.specs.LiveEnds.{IsNoDiskEnd}
+use Rattle.netpump.specs.Receptions.{end_of_receiver}
 use Rattle.netpump.specs.Sendings.{end_of_sender}
-use Rattle.netpump.specs.Showing.{end_at}
-use Rattle.netpump.specs.Tables.{IsRowOf, IsTableEnd}
-use Rattle.netpump.specs.declared.command_end.CommandEnd.{CommandEnd}
-use Rattle.netpump.specs.declared.command_end.CommandEnd.TheVariants.{Memory, Unread, NoRow, Failed, Unwritten, Unconnected}
+use Rattle.commands.specs.Showing.{end_at}
+use Rattle.commands.specs.declared.command_end.CommandEnd.{CommandEnd}
+use Rattle.commands.specs.declared.command_end.CommandEnd.TheVariants.{Memory, Unread, NoRow, Failed, Unwritten, Unconnected}
 
 -- ---- the table ----
 
@@ -133,19 +130,6 @@ refused_never role (whys.Differs number) = ((λ e. cc), (λ e. cc), (λ e. cc), 
 refused_never role (whys.NotEmpty size) = ((λ e. cc), (λ e. cc), (λ e. cc), λ e. cc)
 refused_never role (whys.Small held capacity) = ((λ e. cc), (λ e. cc), (λ e. cc), λ e. cc)
 refused_never role (whys.TooLong number size) = ((λ e. cc), (λ e. cc), (λ e. cc), λ e. cc)
-
-pub stops_at_disk : (found : List ℕ) (row : SessionRow) (why : Why) → (is_device why ≡ false → refused_receiver row receiver_size found ≡ Some why) → StopsAtDisk found row (end_at roles.Recv (Some why))
-stops_at_disk found row (whys.Device faults) is = tt
-stops_at_disk found row (whys.NotABuffer size bytes) is = is refl
-stops_at_disk found row (whys.WrongShape field at wanted) is = is refl
-stops_at_disk found row (whys.BadRegister first second) is = is refl
-stops_at_disk found row (whys.Mismatch removed accepted) is = is refl
-stops_at_disk found row (whys.BadSlot number length) is = is refl
-stops_at_disk found row (whys.Apart count bound) is = is refl
-stops_at_disk found row (whys.Differs number) is = is refl
-stops_at_disk found row (whys.NotEmpty size) is = is refl
-stops_at_disk found row (whys.Small held capacity) is = is refl
-stops_at_disk found row (whys.TooLong number size) is = is refl
 
 -- .. by the role of that disk
 pub refused_role : (role named : Role) (why : Why) → end_at role (Some why) ≡ Failed named → role ≡ named

@@ -21,12 +21,12 @@ use Rattle.serving.specs.Sessions.{IfEnded, OpensBy, RoseAt, has_run}
 use Rattle.serving.specs.declared.doors.WorkersEnd.{WorkersEnd}
 use Rattle.serving.specs.declared.session.SessionEnd.{SessionEnd}
 use Rattle.serving.specs.declared.session.SessionEnd.TheVariants as session_ends
-use Rattle.netpump.specs.LentDisks.{LeavesBut}
+use Rattle.commands.specs.LentDisks.{LeavesBut}
 use Rattle.netpump.specs.Servings.{StopsAtShelf, end_of_workers, end_of_session, ServesFor, ServeComes}
-use Rattle.netpump.specs.Tables.{HasRow}
-use Rattle.netpump.specs.declared.command_end.CommandEnd.{CommandEnd}
-use Rattle.netpump.specs.declared.command_end.CommandEnd.TheVariants.{Memory, Unread, Failed, Unwritten, Unconnected}
-use Rattle.netpump.proofs.Received.{rises_back}
+use Rattle.commands.specs.Tables.{HasRow}
+use Rattle.commands.specs.declared.command_end.CommandEnd.{CommandEnd}
+use Rattle.commands.specs.declared.command_end.CommandEnd.TheVariants.{Memory, Unread, Failed, Unwritten, Unconnected}
+use Rattle.commands.proofs.LentDisks.{rises_back}
 use Rattle.netpump.proofs.Sent.{refused_device, refused_never, refused_role}
 
 -- ---- the workers ----

@@ -1,17 +1,6 @@
-pub mod Auditing
 pub mod Commands
-pub mod Exercises
-pub mod Exercising
-pub mod Files
-pub mod Formatting
-pub mod LentDisks
 pub mod LiveEnds
-pub mod Migrating
 pub mod Racing
 pub mod Receptions
 pub mod Sendings
 pub mod Servings
-pub mod Showing
-pub mod Tables
-pub mod TakenDisks
-pub mod Unwrapping

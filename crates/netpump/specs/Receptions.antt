@@ -1,5 +1,5 @@
 -- How a call of `receive` comes to its end.
-use Rattle.std.specs.Prelude.{◌≡◌, ◌⊎◌, ℕ, false, List, [], ◌∷◌, ◌++◌, Option, None, Some}
+use Rattle.std.specs.Prelude.{◌≡◌, ◌⊎◌, ℕ, false, List, [], ◌∷◌, ◌++◌, Option, None}
 use Rattle.std.specs.Io.KnownBytes.{Appends}
 use Rattle.disk_model.specs.declared.name.Role.TheVariants as roles
 use Rattle.pump_frame.specs.declared.row.SessionRow.{SessionRow}
@@ -10,15 +10,14 @@ use Rattle.stable_buffer.specs.Format.{receiver_size}
 use Rattle.stable_buffer.specs.Log.{RecvStands}
 use Rattle.stable_buffer.specs.Register.{value_of}
 use Rattle.script_replay.specs.Shelves.{Places, disk_name, reading_at}
-use Rattle.netpump.specs.LentDisks.{LeavesOtherDisks}
+use Rattle.commands.specs.LentDisks.{LeavesOtherDisks, StopsAtDisk}
 use Rattle.peers.specs.Receiving.{Place, Reception, Receives, StandsForFront, attempted, is_device, messages}
 use Rattle.peers.specs.declared.receive.ReceiveEnd.{ReceiveEnd}
 use Rattle.peers.specs.declared.receive.ReceiveEnd.TheVariants as receiver
 use Rattle.serving.specs.Doors.{LinksTell}
-use Rattle.netpump.specs.LiveEnds.{StopsAtTable}
-use Rattle.netpump.specs.Tables.{HasRow}
-use Rattle.netpump.specs.declared.command_end.CommandEnd.{CommandEnd}
-use Rattle.netpump.specs.declared.command_end.CommandEnd.TheVariants.{Done, Memory, Failed, Refused, Unwritten, Unconnected, Ahead, Full}
+use Rattle.commands.specs.Tables.{StopsAtTable, HasRow}
+use Rattle.commands.specs.declared.command_end.CommandEnd.{CommandEnd}
+use Rattle.commands.specs.declared.command_end.CommandEnd.TheVariants.{Done, Failed, Unwritten, Unconnected, Ahead, Full}
 
 -- how the call ends where the receiver ended so
 abbrev pub end_of_receiver : ReceiveEnd → CommandEnd
@@ -28,13 +27,6 @@ end_of_receiver receiver.Write = Unwritten
 end_of_receiver (receiver.Device faults) = Failed roles.Recv
 end_of_receiver (receiver.Ahead number count) = Ahead number count
 end_of_receiver (receiver.LogFull end length size) = Full end length size
-
--- the receiver's disk, which reads this, could not be taken, or not be opened
-abbrev pub StopsAtDisk : List ℕ → SessionRow → CommandEnd → Type 0
-StopsAtDisk found row Memory = Unit {0}
-StopsAtDisk found row (Failed roles.Recv) = Unit {0}
-StopsAtDisk found row (Refused roles.Recv why) = refused_receiver row receiver_size found ≡ Some why
-StopsAtDisk found row end = ⊥
 
 -- Of the ports' steps and of the sink the second value is that at the end; `found` is what the receiver's disk
 -- reads before, and `left` what it reads then.

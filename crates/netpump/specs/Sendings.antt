@@ -8,10 +8,9 @@ use Rattle.peers.specs.Sending.{Sending, Sends, all_looks, all_sent, all_printed
 use Rattle.peers.specs.declared.send.SendEnd.{SendEnd}
 use Rattle.peers.specs.declared.send.SendEnd.TheVariants as sender
 use Rattle.serving.specs.Doors.{LinksTell}
-use Rattle.netpump.specs.LiveEnds.{StopsAtTable}
-use Rattle.netpump.specs.Tables.{HasRow}
-use Rattle.netpump.specs.declared.command_end.CommandEnd.{CommandEnd}
-use Rattle.netpump.specs.declared.command_end.CommandEnd.TheVariants.{Done, Unread, Unwritten, BadLine, Unconnected, Denied, Unfinished}
+use Rattle.commands.specs.Tables.{StopsAtTable, HasRow}
+use Rattle.commands.specs.declared.command_end.CommandEnd.{CommandEnd}
+use Rattle.commands.specs.declared.command_end.CommandEnd.TheVariants.{Done, Unread, Unwritten, BadLine, Unconnected, Denied, Unfinished}
 
 -- how the call ends where the sender ended so
 abbrev pub end_of_sender : SendEnd → CommandEnd

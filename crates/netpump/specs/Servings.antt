@@ -16,12 +16,11 @@ use Rattle.serving.specs.LowServing.{LowServed}
 use Rattle.serving.specs.Sessions.{IfEnded, OpensBy, has_run, is_opened}
 use Rattle.serving.specs.declared.session.SessionEnd.{SessionEnd}
 use Rattle.serving.specs.declared.session.SessionEnd.TheVariants as session_ends
-use Rattle.netpump.specs.LentDisks.{LeavesBut}
-use Rattle.netpump.specs.LiveEnds.{StopsAtTable}
-use Rattle.netpump.specs.Showing.{end_at}
-use Rattle.netpump.specs.Tables.{HasRow}
-use Rattle.netpump.specs.declared.command_end.CommandEnd.{CommandEnd}
-use Rattle.netpump.specs.declared.command_end.CommandEnd.TheVariants.{Done, Memory, Unread, Failed, Unwritten, Unconnected}
+use Rattle.commands.specs.LentDisks.{LeavesBut}
+use Rattle.commands.specs.Tables.{StopsAtTable, HasRow}
+use Rattle.commands.specs.Showing.{end_at}
+use Rattle.commands.specs.declared.command_end.CommandEnd.{CommandEnd}
+use Rattle.commands.specs.declared.command_end.CommandEnd.TheVariants.{Done, Memory, Unread, Failed, Unwritten, Unconnected}
 
 -- how the call ends where the workers ended so: the record comes first, then the low disk, then the high one
 abbrev pub end_of_workers : RoundsEnd → RoundsEnd → CommandEnd

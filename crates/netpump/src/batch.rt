@@ -7,23 +7,22 @@ ghost use Rattle.pump_frame.specs.Counts.{Rose};
 ghost use Rattle.script_replay.specs.Ends.{EndsReplay};
 ghost use Rattle.script_replay.specs.Replays.{IsFailed, Wrote};
 ghost use Rattle.script_replay.specs.Shelves.{AllAreBack, shelved};
-ghost use Rattle.netpump.specs.Commands.{is_live, IsNoCommand, IsReplay, IsAudit, IsCompare, ReadsScript, TellsWords, RefusesWords, EndsWithStatus};
-ghost use Rattle.netpump.specs.Auditing.{EndsAudit, EndsComparison};
-ghost use Rattle.netpump.specs.Exercises.{EndsExercise};
-ghost use Rattle.netpump.specs.Formatting.{Formats};
-ghost use Rattle.netpump.specs.Migrating.{Migrates};
-ghost use Rattle.netpump.specs.Showing.{Shows};
-ghost use Rattle.netpump.specs.Unwrapping.{EndsUnwrap};
+ghost use Rattle.commands.specs.CommandEnds.{EndsWithStatus};
+ghost use Rattle.netpump.specs.Commands.{is_live, IsNoCommand, IsReplay, IsAudit, IsCompare, ReadsScript, TellsWords, RefusesWords};
+ghost use Rattle.commands.specs.Auditing.{EndsAudit, EndsComparison};
+ghost use Rattle.exercises.specs.Exercises.{EndsExercise};
+ghost use Rattle.commands.specs.Formatting.{Formats};
+ghost use Rattle.commands.specs.Migrating.{Migrates};
+ghost use Rattle.commands.specs.Showing.{Shows};
+ghost use Rattle.commands.specs.Unwrapping.{EndsUnwrap};
 
-use crate::audit::{audit_script, compare_script};
-use crate::exercise::exercise;
-use crate::format::format_session;
-use crate::migrate::migrate_session;
-use crate::show::show_session;
-use crate::unwrap::unwrap_session;
 use arrayvec::ArrayVec;
 use command_line::{Command, WordsFault, command_of};
+use commands::{
+    audit_script, compare_script, format_session, migrate_session, show_session, unwrap_session,
+};
 use disk_model::Shelf;
+use exercises::exercise;
 use pump_link::{Sink, Source, write_all};
 use script_reader::{Fault, append_fault};
 use script_replay::{Ended, replay};

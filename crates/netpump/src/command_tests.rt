@@ -17,8 +17,8 @@ fn other_table(alloc: Global, capacity: &str, message: &str) -> Result<String, A
     table.as_str().replace(alloc, "message = 8", message)
 }
 
-/// A shelf with empty disks for the sessions 1 and 2 and five tables, on which these calls fail.
-pub fn new_shelf(alloc: Global, fails: &[u64]) -> Result<MemShelf<PlainDisk>, Fail> {
+/// A shelf with empty disks for the sessions 1 and 2 and five tables.
+pub fn new_shelf(alloc: Global) -> Result<MemShelf<PlainDisk>, Fail> {
     let mut disks = Vec::new(alloc);
     for session in [1, 2] {
         for (role, room) in [
@@ -45,8 +45,7 @@ pub fn new_shelf(alloc: Global, fails: &[u64]) -> Result<MemShelf<PlainDisk>, Fa
         String::from_str(alloc, "large.toml")?,
         vec![in alloc; 10; 65_537]?,
     ))?;
-    let fails = Vec::from_slice(alloc, fails)?;
-    Ok(MemShelf::new(disks, files, fails))
+    Ok(MemShelf::new(disks, files, Vec::new(alloc)))
 }
 
 /// Two messages are stored, of which the first was acknowledged.
@@ -77,8 +76,8 @@ fn run_on(
 }
 
 /// Whether the command lines end so one after another, on one shelf.
-fn all_end(alloc: Global, fails: &[u64], lines: &[(&str, u8, &str)]) -> Result<bool, Fail> {
-    let mut shelf = new_shelf(alloc, fails)?;
+fn all_end(alloc: Global, lines: &[(&str, u8, &str)]) -> Result<bool, Fail> {
+    let mut shelf = new_shelf(alloc)?;
     for (line, status, output) in lines {
         let (ended, written) = run_on(alloc, &mut shelf, *line)?;
         if ended != *status || written.as_slice() != output.as_bytes() {
@@ -105,7 +104,7 @@ fn shows_what_disks_stand_for(rt: HostRuntime) -> Result<(), Fail> {
         ("audit", 15, "audit no 1 1\n"),
         ("compare", 5, "fault script 1\n"),
     ];
-    assert!(rt; all_end(rt.alloc(), &[], lines.as_slice())?);
+    assert!(rt; all_end(rt.alloc(), lines.as_slice())?);
     Ok(())
 }
 
@@ -138,26 +137,7 @@ fn moves_a_session(rt: HostRuntime) -> Result<(), Fail> {
         ),
         ("migrate u.toml 2 t.toml 1", 8, "fault disk 1 low 9 110 0\n"),
     ];
-    assert!(rt; all_end(rt.alloc(), &[], lines.as_slice())?);
-    Ok(())
-}
-
-// The calls are `whole` for each table, and one for each disk.
-#[test]
-fn moves_nothing_after_a_fault(rt: HostRuntime) -> Result<(), Fail> {
-    for (fails, status, output) in [
-        (1, 3, "fault read\n"),
-        (2, 7, "fault device 1 low\n"),
-        (5, 7, "fault device 2 low\n"),
-        (7, 7, "fault device 2 recv\n"),
-    ] {
-        let lines = [
-            ("migrate t.toml 1 u.toml 2", status, output),
-            ("format t.toml 1", 0, "formatted 1\n"),
-            ("migrate t.toml 1 u.toml 2", 0, "migrated 1 2 0 0 0\n"),
-        ];
-        assert!(rt; all_end(rt.alloc(), &[fails], lines.as_slice())?);
-    }
+    assert!(rt; all_end(rt.alloc(), lines.as_slice())?);
     Ok(())
 }
 
@@ -176,24 +156,6 @@ fn formats_empty_disks(rt: HostRuntime) -> Result<(), Fail> {
         ("replay now", 2, "fault words\n"),
         ("--version", 2, "fault words\n"),
     ];
-    assert!(rt; all_end(rt.alloc(), &[], lines.as_slice())?);
-    Ok(())
-}
-
-// The calls are `whole`, and one for each disk.
-#[test]
-fn formats_nothing_after_a_fault(rt: HostRuntime) -> Result<(), Fail> {
-    for (fails, status, output) in [
-        (0, 3, "fault read\n"),
-        (1, 7, "fault device 1 low\n"),
-        (2, 7, "fault device 1 high\n"),
-        (3, 7, "fault device 1 recv\n"),
-    ] {
-        let lines = [
-            ("format t.toml 1", status, output),
-            ("format t.toml 1", 0, "formatted 1\n"),
-        ];
-        assert!(rt; all_end(rt.alloc(), &[fails], lines.as_slice())?);
-    }
+    assert!(rt; all_end(rt.alloc(), lines.as_slice())?);
     Ok(())
 }

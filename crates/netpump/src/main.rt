@@ -1,49 +1,25 @@
 //! A verified one-way relay from a low party to a high party.
 #![tactic(auto)]
 
-mod audit;
 mod batch;
-mod command_end;
 #[cfg(test)]
 mod command_tests;
-mod disk_pair;
-mod exercise;
 mod explain;
-mod file_disk;
-mod file_shelf;
-mod format;
-mod keep_alive;
-mod key_source;
 mod live;
-mod migrate;
-mod read_ahead;
-mod readiness;
-mod real_clock;
 mod receive;
 mod send;
 mod serve;
 #[cfg(test)]
 mod session_tests;
-mod show;
-mod standard;
-mod table_row;
-mod tcp_door;
-mod tcp_link;
-mod tcp_ports;
-mod traffic;
-mod unwrap;
 #[cfg(test)]
 mod unwrap_tests;
 
+use adapters::{FileShelf, KeySource, RealClock, StdSink, StdSource, TcpPorts, Traffic, now};
 use batch::batch;
 use disk_model::Shelf;
 use explain::{Trouble, explain};
-use file_shelf::FileShelf;
-use key_source::KeySource;
 use live::live;
 use pump_link::{Clock, Sink, Source, StepClock};
-use real_clock::{RealClock, now};
-use standard::{StdSink, StdSource};
 use std::alloc::Global;
 use std::fs::{File, Files};
 use std::net::{Net, TcpListener, TcpStream};
@@ -51,8 +27,6 @@ use std::process::ExitCode;
 use std::sync::Wait;
 use std::thread::Threads;
 use std::{env, io};
-use tcp_ports::TcpPorts;
-use traffic::Traffic;
 
 /// The words after the program's name.
 fn words(rt: &HostRuntime) -> io::Result<Vec<String>> {

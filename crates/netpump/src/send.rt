@@ -6,11 +6,10 @@ ghost use Rattle.pump_frame.specs.Counts.{Rose};
 ghost use Rattle.serving.specs.Doors.{links};
 ghost use Rattle.netpump.specs.LiveEnds.{EndsLive, IsNoDiskEnd};
 ghost use Rattle.netpump.specs.Sendings.{end_of_sender, SendsFor, SendComes};
-ghost use Rattle.netpump.specs.declared.command_end.CommandEnd.TheVariants as ends;
+ghost use Rattle.commands.specs.declared.command_end.CommandEnd.TheVariants as ends;
 
-use crate::command_end::{CommandEnd, finish};
-use crate::table_row::row_in_file;
 use command_line::TableName;
+use commands::{CommandEnd, finish, row_in_file};
 use disk_model::Shelf;
 use peers::{SendEnd, send_with};
 use pump_frame::SessionRow;

@@ -102,7 +102,7 @@ fn run<R: Threads + Wait + Sync>(
     case: &Case,
     keys: usize,
 ) -> Result<Ran, Fail> {
-    let mut shelf = new_shelf(alloc, &[])?;
+    let mut shelf = new_shelf(alloc)?;
     run_batch(alloc, &mut shelf, "format t.toml 1", Vec::new(alloc))?;
     let words = words(alloc, case.line)?;
     let fails = Vec::from_slice(alloc, case.fails)?;
@@ -280,7 +280,7 @@ fn a_served_record_replays_to_its_comments(rt: HostRuntime) -> Result<(), Fail> 
     assert!(rt; ran.sent.as_slice() == sent.as_slice());
     let comments = lines_after(alloc, ran.output.as_slice(), b"# low ")?;
     assert!(rt; comments.as_slice().ends_with(b" ack 0\n"));
-    let mut shelf = new_shelf(alloc, &[])?;
+    let mut shelf = new_shelf(alloc)?;
     let (status, transcript) = run_batch(alloc, &mut shelf, "replay", ran.output)?;
     assert_eq!(rt; status, 0);
     let lines = lines_after(alloc, transcript.as_slice(), b"low ")?;

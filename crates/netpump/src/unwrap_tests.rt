@@ -4,9 +4,8 @@ use pump_link::{MemSink, MemSource};
 use std::alloc::{AllocError, Global};
 use std::test::Fail;
 
-// Of session 1 in the two tables the messages have 12 bytes and 8.
-const ROW: &str =
-    "[[session]]\nid = 1\nlow = \"weather\"\nhigh = \"watch\"\ncapacity = 3\nwindow = 2\nstart = 20000\nlongest = 100000\nresend = 500000\nlow_port = 7001\nhigh_port = 7002\n";
+const TABLE: &str =
+    "[[session]]\nid = 1\nlow = \"weather\"\nhigh = \"watch\"\ncapacity = 3\nmessage = 12\nwindow = 2\nstart = 20000\nlongest = 100000\nresend = 500000\nlow_port = 7001\nhigh_port = 7002\n";
 
 const OPENING: &str =
     "session 1 3 12 2 20000 100000 500000 weather watch\nlook 1 0 00000000 hello weather watch\n";
@@ -28,8 +27,8 @@ fn joined(alloc: Global, parts: &[&str]) -> Result<Vec<u8>, AllocError> {
     Ok(bytes)
 }
 
-// A shelf with empty disks for session 1 and two tables, on which these calls fail.
-fn shelf(alloc: Global, fails: &[u64]) -> Result<MemShelf<PlainDisk>, Fail> {
+// A shelf with empty disks for session 1 and its table.
+fn shelf(alloc: Global) -> Result<MemShelf<PlainDisk>, Fail> {
     let mut disks = Vec::new(alloc);
     for (role, room) in [
         (Role::Low, 65_744),
@@ -39,11 +38,11 @@ fn shelf(alloc: Global, fails: &[u64]) -> Result<MemShelf<PlainDisk>, Fail> {
         disks.push((DiskName { session: 1, role }, PlainDisk::new(alloc, room)?))?;
     }
     let mut files = Vec::new(alloc);
-    for (name, message) in [("w.toml", "message = 12\n"), ("t.toml", "message = 8\n")] {
-        let bytes = joined(alloc, &[ROW, message])?;
-        files.push((String::from_str(alloc, name)?, bytes))?;
-    }
-    Ok(MemShelf::new(disks, files, Vec::from_slice(alloc, fails)?))
+    files.push((
+        String::from_str(alloc, "w.toml")?,
+        Vec::from_slice(alloc, TABLE.as_bytes())?,
+    ))?;
+    Ok(MemShelf::new(disks, files, Vec::new(alloc)))
 }
 
 // The status and the output of a command line.
@@ -65,7 +64,7 @@ fn run(
 
 #[test]
 fn writes_the_file_that_was_sent(rt: HostRuntime) -> Result<(), Fail> {
-    let mut shelf = shelf(rt.alloc(), &[])?;
+    let mut shelf = shelf(rt.alloc())?;
     assert!(rt; run(rt.alloc(), &mut shelf, "format w.toml 1", "")?.0 == 0);
     for (script, status, output) in [
         ("", 14, ""),
@@ -76,23 +75,6 @@ fn writes_the_file_that_was_sent(rt: HostRuntime) -> Result<(), Fail> {
         assert!(rt; run(rt.alloc(), &mut shelf, "replay", script)?.0 == 0);
         let (ended, written) = run(rt.alloc(), &mut shelf, "unwrap w.toml 1", "")?;
         assert_eq!(rt; (ended, written.as_slice()), (status, output.as_bytes()));
-    }
-    Ok(())
-}
-
-// No fault is written. The calls are `whole`, and one for the disk.
-#[test]
-fn writes_nothing_where_there_is_no_file(rt: HostRuntime) -> Result<(), Fail> {
-    for (fails, line, status) in [
-        (0, "unwrap w.toml 1", 3),
-        (1, "unwrap w.toml 1", 7),
-        (9, "unwrap w.toml 1", 8),
-        (9, "unwrap w.toml 9", 6),
-        (9, "unwrap t.toml 1", 6),
-    ] {
-        let mut shelf = shelf(rt.alloc(), &[fails])?;
-        let (ended, written) = run(rt.alloc(), &mut shelf, line, "")?;
-        assert_eq!(rt; (ended, written.len()), (status, 0));
     }
     Ok(())
 }

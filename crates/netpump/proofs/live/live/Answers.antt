@@ -9,7 +9,7 @@ use Rattle.netpump.specs.Receptions.{ReceiveComes}
 use Rattle.netpump.specs.Sendings.{SendComes}
 use Rattle.netpump.specs.Servings.{ServeComes}
 use Rattle.netpump.proofs.Asked.{read_words, not_command, same_command, race_asked, words_are, serve_asked, receive_asked, send_asked}
-use Rattle.netpump.specs.declared.command_end.CommandEnd.TheVariants as ends
+use Rattle.commands.specs.declared.command_end.CommandEnd.TheVariants as ends
 use Rattle.pump_link.proofs.Grown.{Grows-nil, Draws-nil}
 use Rattle.netpump.proofs.live.live.Goals as goal
 

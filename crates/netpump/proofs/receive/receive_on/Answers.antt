@@ -1,9 +1,10 @@
 use Rattle.std.proofs.Common.{inl, inr, refl, sym, ◌∙◌, subst, arith}
 use Rattle.disk_model.specs.declared.name.Role.TheVariants as roles
 use Rattle.pump_link.proofs.Grown.{Grows-nil}
-use Rattle.netpump.specs.Receptions.{StopsAtDisk}
+use Rattle.commands.specs.LentDisks.{StopsAtDisk}
 use Rattle.netpump.proofs.Received.{found_again}
-use Rattle.netpump.proofs.Sent.{stops_at_disk, refused_device, refused_never}
+use Rattle.commands.proofs.LentDisks.{stops_at_disk}
+use Rattle.netpump.proofs.Sent.{refused_device, refused_never}
 use Rattle.netpump.proofs.receive.receive_on.Goals as goal
 
 pub returns-in-Ok-clause-receives : goal.returns-in-Ok-clause-receives

@@ -3,9 +3,9 @@ use Rattle.disk_model.specs.declared.name.Role.TheVariants as roles
 use Rattle.pump_link.proofs.Grown.{Grows-nil}
 use Rattle.script_replay.specs.Shelves.{Places, reading_at}
 use Rattle.script_replay.proofs.Shelving.{is_out}
-use Rattle.netpump.specs.declared.command_end.CommandEnd.TheVariants.{Failed}
-use Rattle.netpump.proofs.LentDisks.{others_so, all_back}
-use Rattle.netpump.proofs.Received.{receives_at, untaken_stops, rises_back}
+use Rattle.commands.specs.declared.command_end.CommandEnd.TheVariants.{Failed}
+use Rattle.commands.proofs.LentDisks.{others_so, all_back, untaken_stops, rises_back}
+use Rattle.netpump.proofs.Received.{receives_at}
 use Rattle.netpump.proofs.receive.receive_row.Goals as goal
 
 pub returns-in-Err-clause-receives : goal.returns-in-Err-clause-receives

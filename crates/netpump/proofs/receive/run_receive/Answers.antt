@@ -1,6 +1,6 @@
 use Rattle.std.proofs.Common.{List, ℕ, Err, inl, refl, subst}
 use Rattle.pump_link.proofs.Grown.{Grows-nil}
-use Rattle.netpump.specs.Tables.{HasRow, IsRowOf}
+use Rattle.commands.specs.Tables.{HasRow, IsRowOf}
 use Rattle.netpump.proofs.Received.{receives_row}
 use Rattle.netpump.proofs.Sent.{stops_at_table}
 use Rattle.netpump.proofs.receive.run_receive.Goals as goal

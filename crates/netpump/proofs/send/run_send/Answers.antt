@@ -1,6 +1,6 @@
 use Rattle.std.proofs.Common.{List, ℕ, Err, inl, inr, refl, subst}
 use Rattle.pump_link.proofs.Grown.{Grows-nil}
-use Rattle.netpump.specs.Tables.{HasRow, IsRowOf}
+use Rattle.commands.specs.Tables.{HasRow, IsRowOf}
 use Rattle.netpump.proofs.Sent.{stops_at_table}
 use Rattle.netpump.proofs.send.run_send.Goals as goal
 

@@ -1,6 +1,6 @@
 use Rattle.std.proofs.Common.{List, ℕ, Err, inl, refl, subst}
 use Rattle.pump_link.proofs.Grown.{Grows-nil, Draws-nil}
-use Rattle.netpump.specs.Tables.{HasRow, IsRowOf}
+use Rattle.commands.specs.Tables.{HasRow, IsRowOf}
 use Rattle.netpump.proofs.Sent.{stops_at_table}
 use Rattle.netpump.proofs.Served.{serves_row, same_places}
 use Rattle.netpump.proofs.serve.run_serve.Goals as goal

@@ -7,7 +7,7 @@ use Rattle.script_replay.specs.Shelves.{reading_in}
 use Rattle.script_replay.proofs.Shelving.{read_in, is_out}
 use Rattle.serving.specs.Sessions.{RoseAt}
 use Rattle.serving.specs.declared.doors.WorkersEnd.{WorkersEnd}
-use Rattle.netpump.proofs.LentDisks.{both_others, both_back}
+use Rattle.commands.proofs.LentDisks.{both_others, both_back}
 use Rattle.netpump.proofs.Served.{session_device, session_memory, session_readable, session_link, session_unwritten, either_way, if_ended, pair_stops, pair_rises}
 use Rattle.netpump.proofs.serve.serve_row.Goals as goal
 

@@ -1,0 +1,123 @@
+ghost use Rattle.std.specs.Prelude.{◌≡◌, ◌≤◌};
+ghost use Rattle.pump_frame.specs.Counts.{raised};
+ghost use Rattle.adapters.specs.Files.{count_alone};
+
+use disk_model::{Disk, DiskFault};
+use pump_frame::raised;
+use std::fs::File;
+use std::os::unix::fs::FileExt;
+
+/// A file as a disk. It tells how often a call failed, and nothing of what it holds. Nobody else
+/// may write the file meanwhile.
+#[derive(Drop)]
+pub struct FileDisk {
+    file: File,
+    // The file's size, where it is known without asking.
+    size: Option<u64>,
+    faults: u64,
+}
+
+impl FileDisk {
+    /// A disk over a file that is open to read and to write and has this size in bytes.
+    pub fn new(file: File, size: u64) -> FileDisk
+        ensures { result.faults ≡ 0 }
+    {
+        FileDisk {
+            file,
+            size: Some(size),
+            faults: 0,
+        }
+    }
+
+    fn fault(&mut self) -> DiskFault
+        ensures raised { self.new.faults ≡ raised self.old.faults }
+        ensures later { self.old.faults ≤ self.new.faults }
+    {
+        self.faults = raised(self.faults);
+        DiskFault
+    }
+}
+
+impl Disk for FileDisk {
+    ghost told = { count_alone (λ d. d.faults) };
+
+    fn size(&mut self) -> Result<u64, DiskFault> {
+        if let Some(size) = self.size {
+            return Ok(size);
+        }
+        match self.file.metadata() {
+            Ok(metadata) => {
+                self.size = Some(metadata.len());
+                Ok(metadata.len())
+            }
+            Err(_) => Err(self.fault()),
+        }
+    }
+
+    fn read(&mut self, at: u64, into: &mut [u8]) -> Result<(), DiskFault> {
+        match self.file.read_exact_at(into, at) {
+            Ok(()) => Ok(()),
+            Err(_) => Err(self.fault()),
+        }
+    }
+
+    fn write_at(&mut self, at: u64, bytes: &[u8]) -> Result<(), DiskFault> {
+        match self.file.write_all_at(bytes, at) {
+            Ok(()) => {
+                let end = at.saturating_add(bytes.len() as u64);
+                self.size = self.size.map(|size| size.max(end));
+                Ok(())
+            }
+            Err(_) => {
+                // A part may be written.
+                self.size = None;
+                Err(self.fault())
+            }
+        }
+    }
+
+    // The size is kept too, since a later read needs it.
+    fn sync(&mut self) -> Result<(), DiskFault> {
+        match self.file.sync_data() {
+            Ok(()) => Ok(()),
+            Err(_) => Err(self.fault()),
+        }
+    }
+
+    fn faults(&self) -> u64 {
+        self.faults
+    }
+}
+
+#[cfg(test)]
+mod tests {
+    use super::*;
+    use std::fs::OpenOptions;
+    use std::test::Fail;
+    use std::{fs, process};
+
+    #[test]
+    fn a_file_is_a_disk(rt: HostRuntime) -> Result<(), Fail> {
+        let path = format!(in rt.alloc(); "/tmp/netpump_disk_{}", process::id(rt.process()))?;
+        let file = OpenOptions::new()
+            .read(true)
+            .write(true)
+            .create_new(true)
+            .open(&rt, path.as_str())?;
+        fs::remove_file(&rt, path.as_str())?;
+        let mut disk = FileDisk::new(file, 0);
+        for (at, bytes, size) in [(0, b"relay", 5), (3, b"pumps", 8), (1, b"elpum", 8)] {
+            assert_eq!(rt; disk.write_at(at, bytes), Ok(()));
+            assert_eq!(rt; disk.sync(), Ok(()));
+            assert_eq!(rt; disk.size(), Ok(size));
+        }
+        let mut into = [0; 6];
+        assert_eq!(rt; disk.read(2, &mut into), Ok(()));
+        assert_eq!(rt; &into, b"lpumps");
+        assert_eq!(rt; disk.read(3, &mut into), Err(DiskFault));
+        assert_eq!(rt; disk.write_at(u64::MAX, b"relay"), Err(DiskFault));
+        assert_eq!(rt; disk.size(), Ok(8));
+        assert_eq!(rt; disk.faults(), 2);
+        Ok(())
+    }
+}

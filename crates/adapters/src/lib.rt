@@ -1,0 +1,27 @@
+//! The outside of the relay over what the machine has: disks and a shelf over the files of the current
+//! folder, a source and a sink over a reader and a writer, random bytes, TCP ports, doors and links, and
+//! the machine's clock. Each counts its failures, and tells nothing of what it holds or brings.
+#![tactic(auto)]
+
+mod file_disk;
+mod file_shelf;
+mod keep_alive;
+mod key_source;
+mod read_ahead;
+mod readiness;
+mod real_clock;
+mod standard;
+mod tcp_door;
+mod tcp_link;
+mod tcp_ports;
+mod traffic;
+
+pub use file_disk::FileDisk;
+pub use file_shelf::FileShelf;
+pub use key_source::KeySource;
+pub use real_clock::{RealClock, now};
+pub use standard::{StdSink, StdSource};
+pub use tcp_door::TcpDoor;
+pub use tcp_link::TcpLink;
+pub use tcp_ports::TcpPorts;
+pub use traffic::Traffic;

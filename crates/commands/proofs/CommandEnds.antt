@@ -1,0 +1,15 @@
+-- How a command that closes with these bytes ends.
+use Rattle.std.proofs.Common.{ℕ, List, Option, inl, inr, sym, subst}
+use Rattle.std.specs.Io.KnownBytes.{Appends}
+use Rattle.commands.specs.CommandEnds.{EndsSo, ClosesSo}
+use Rattle.commands.specs.declared.command_end.CommandEnd.{CommandEnd}
+use Rattle.commands.specs.declared.command_end.CommandEnd.TheVariants.{Unwritten}
+
+module _ (Writes : CommandEnd → List ℕ → Type 0) (never : (output : List ℕ) → Writes Unwritten output → ⊥) (old new : Option (List ℕ)) where
+  written_so : (end : CommandEnd) (bytes : List ℕ) → Writes end bytes → Appends old new bytes → EndsSo Writes old new end
+  written_so Unwritten bytes h a = absurd (never bytes h)
+  written_so end bytes h a = (bytes, h, a)
+
+  pub ends_so : (before now : ℕ) (bytes : List ℕ) (end result : CommandEnd) → ClosesSo old new before now bytes end result → Writes end bytes → EndsSo Writes old new result
+  ends_so before now bytes end result (inl h) w = subst (EndsSo Writes old new) (sym h.0) (written_so end bytes w h.1)
+  ends_so before now bytes end result (inr h) w = subst (EndsSo Writes old new) (sym h.0) (end, bytes, w, h.1)

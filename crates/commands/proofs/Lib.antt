@@ -1,0 +1,9 @@
+pub mod CommandEnds
+pub mod Formatted
+pub mod LentDisks
+pub mod Migrated
+pub mod MovedDisks
+pub mod MovedFound
+pub mod Shown
+pub mod TableRows
+pub mod Unwrapped

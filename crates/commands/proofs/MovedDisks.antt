@@ -1,0 +1,148 @@
+-- What a move says of its disks, said of disks that were taken off a shelf.
+use Rattle.std.proofs.Common.{◌≡◌, ℕ, Bool, true, false, List, [], ◌∷◌, length, None, Result, Ok, Err, IfOk, IfErr, refl, sym, ap, subst}
+use Rattle.disk_model.specs.Disk.{Meaning, Moves, Same}
+use Rattle.disk_model.specs.declared.name.Role.{Role}
+use Rattle.disk_model.specs.declared.name.Role.TheVariants as roles
+use Rattle.pump_frame.specs.Rows.{IsLawfulRow}
+use Rattle.pump_frame.specs.declared.row.SessionRow.{SessionRow}
+use Rattle.recovery.specs.Calls.{is_device}
+use Rattle.recovery.specs.Moves.{StandFor, AreFound, IsMoveRefused, IsKept, Counted, is_blamed, first_full}
+use Rattle.recovery.specs.declared.trio.MoveFault.{MoveFault}
+use Rattle.recovery.specs.declared.trio.Trio.{Trio}
+use Rattle.recovery.specs.declared.why.Why.{Why}
+use Rattle.script_replay.specs.declared.disks.TakenDisks.{TakenDisks}
+use Rattle.stable_buffer.specs.Format.{receiver_size}
+use Rattle.commands.specs.Migrating.{MovesTo, StopsMove, FailsAt, counted, taken_of, trio_of}
+use Rattle.commands.specs.TakenDisks.{CountOn, ReadOn, SpareOn}
+use Rattle.commands.specs.declared.migrate.Counts.{Counts}
+use Rattle.commands.proofs.MovedFound.{found, stands, new_stands, accepted}
+
+-- ---- what was moved ----
+
+module _ {D : Type 0} (d : Meaning D) (row new_row : SessionRow) where
+  -- three disks stood for these messages, three were empty, and those stand for them now
+  abbrev Given : Trio D → Trio D → Trio D → (ℕ × ℕ × ℕ) → Type 0
+  Given old new now n = (live : List (List ℕ)) × (received : List (List ℕ))
+      × AreFound row receiver_size n.0 n.1 live received (d.reading old.low) (d.reading old.high) (d.reading old.recv)
+      × (length received ≡ n.2)
+      × (first_full (d.reading new.low) (d.reading new.high) (d.reading new.recv) ≡ None)
+      × StandFor new_row n.0 n.1 live received (d.reading now.low) (d.reading now.high) (d.reading now.recv)
+
+  moved : (lawful : IsLawfulRow row) (new_lawful : IsLawfulRow new_row) (old new now : TakenDisks D) (accepted_count removed_count received_count : ℕ)
+      → Given (trio_of old) (trio_of new) (trio_of now) (accepted_count, removed_count, received_count)
+      → MovesTo d row new_row old new now (record { accepted = accepted_count; removed = removed_count; received = received_count })
+  moved lawful new_lawful old new now e b r (live, received, a, count, none, s) = record {
+    found = found row new_row lawful new_lawful e b live received _ _ _ _ _ _ a s;
+    stand = stands row new_row lawful new_lawful e b live received _ _ _ _ _ _ a s;
+    empty = none;
+    moved = new_stands row new_row lawful new_lawful e b live received _ _ _ _ _ _ a s;
+    counted = (accepted row new_row lawful new_lawful e b live received _ _ _ _ _ _ a s, refl, sym count);
+  }
+
+  pub moved_ok : (lawful : IsLawfulRow row) (new_lawful : IsLawfulRow new_row) (old new now : TakenDisks D) (o t u : Trio D) (end : Result (ℕ × ℕ × ℕ) MoveFault) (r : Result Counts MoveFault)
+      → o ≡ trio_of old → t ≡ trio_of new → now ≡ taken_of u → r ≡ counted end → IfOk end (λ n. d.tells → Given o t u n) → IfOk r (λ counts. d.tells → MovesTo d row new_row old new now counts)
+  moved_ok lawful new_lawful old new now o t u (Err fault) r one two three four h = subst (λ (x : Result Counts MoveFault). IfOk x (λ counts. d.tells → MovesTo d row new_row old new now counts)) (sym four) tt
+  moved_ok lawful new_lawful old new now o t u (Ok n) r one two three four h =
+      subst (λ (x : Result Counts MoveFault). IfOk x (λ counts. d.tells → MovesTo d row new_row old new now counts)) (sym four)
+      (λ tells. moved lawful new_lawful old new now n.0 n.1 n.2
+      (subst (λ (x : Trio D × Trio D × Trio D). Given x.0 x.1 x.2 n) (λ i. (one i, two i, sym (ap (λ (x : TakenDisks D). trio_of x) three) i)) (h tells)))
+
+-- ---- what stopped it ----
+
+module _ {D : Type 0} (d : Meaning D) (old old_now new new_now : TakenDisks D) where
+  -- each disk's count, and why it rose
+  pub record AreCounted (end : Result (ℕ × ℕ × ℕ) MoveFault) : Type 0 where
+    pub low : Counted d old.low old_now.low (is_blamed false roles.Low end)
+    pub high : Counted d old.high old_now.high (is_blamed false roles.High end)
+    pub recv : Counted d old.recv old_now.recv (is_blamed false roles.Recv end)
+    pub new_low : Counted d new.low new_now.low (is_blamed true roles.Low end)
+    pub new_high : Counted d new.high new_now.high (is_blamed true roles.High end)
+    pub new_recv : Counted d new.recv new_now.recv (is_blamed true roles.Recv end)
+
+  fails_so : (is_new : Bool) (role : Role) (why : Why) → AreCounted (Err (record { new = is_new; role = role; why = why })) → is_device why ≡ true → FailsAt d is_new role old old_now new new_now
+  fails_so false roles.Low why c e = c.low.rose e
+  fails_so false roles.High why c e = c.high.rose e
+  fails_so false roles.Recv why c e = c.recv.rose e
+  fails_so true roles.Low why c e = c.new_low.rose e
+  fails_so true roles.High why c e = c.new_high.rose e
+  fails_so true roles.Recv why c e = c.new_recv.rose e
+
+  module _ (row new_row : SessionRow) where
+    -- refused for this cause, by what the disks read
+    abbrev Refused : MoveFault → Type 0
+    Refused fault = IsMoveRefused row new_row receiver_size (d.reading old.low) (d.reading old.high) (d.reading old.recv) (d.reading new.low) (d.reading new.high) (d.reading new.recv) fault
+
+    pub stopped : (end : Result (ℕ × ℕ × ℕ) MoveFault) (r : Result Counts MoveFault) → r ≡ counted end → AreCounted end
+        → IfErr end (λ fault. is_device fault.why ≡ false → d.tells → Refused fault) → (d.tells → (fault : MoveFault) → Refused fault → ReadOn d new new_now)
+        → IfErr r (StopsMove d row new_row old old_now new new_now)
+    stopped (Ok n) r same c refused unwritten = subst (λ (x : Result Counts MoveFault). IfErr x (StopsMove d row new_row old old_now new new_now)) (sym same) tt
+    stopped (Err fault) r same c refused unwritten = subst (λ (x : Result Counts MoveFault). IfErr x (StopsMove d row new_row old old_now new new_now)) (sym same) (record {
+      failed = fails_so fault.new fault.role fault.why c;
+      unwritten = λ e tells. unwritten tells fault (refused e tells) tells;
+      refused = refused;
+    })
+
+-- ---- a new disk that was not empty ----
+
+low_full : (low high recv : List ℕ) → (low ≡ [] → ⊥) → first_full low high recv ≡ None → ⊥
+low_full [] high recv some none = some refl
+low_full (b ∷ low) high recv some none = cc
+
+high_full : (low high recv : List ℕ) → (high ≡ [] → ⊥) → first_full low high recv ≡ None → ⊥
+high_full (b ∷ low) high recv some none = cc
+high_full [] [] recv some none = some refl
+high_full [] (b ∷ high) recv some none = cc
+
+recv_full : (low high recv : List ℕ) → (recv ≡ [] → ⊥) → first_full low high recv ≡ None → ⊥
+recv_full (b ∷ low) high recv some none = cc
+recv_full [] (b ∷ high) recv some none = cc
+recv_full [] [] [] some none = some refl
+recv_full [] [] (b ∷ recv) some none = cc
+
+pub spared_so : {D : Type 0} (d : Meaning D) (new new_now : TakenDisks D)
+    → (d.tells → (first_full (d.reading new.low) (d.reading new.high) (d.reading new.recv) ≡ None → ⊥) → ReadOn d new new_now) → SpareOn d new new_now
+spared_so d new new_now full tells = (
+  λ some. (full tells (low_full _ _ _ some) tells).0,
+  λ some. (full tells (high_full _ _ _ some) tells).1,
+  λ some. (full tells (recv_full _ _ _ some) tells).2,
+)
+
+-- ---- what is said of a move ----
+
+pub record Says {D : Type 0} (d : Meaning D) (row new_row : SessionRow) (old new old_now new_now : Trio D) (end : Result (ℕ × ℕ × ℕ) MoveFault) : Type 0 where
+  pub refused : IfErr end (λ f. is_device f.why ≡ false → d.tells → IsMoveRefused row new_row receiver_size (d.reading old.low) (d.reading old.high) (d.reading old.recv)
+      (d.reading new.low) (d.reading new.high) (d.reading new.recv) f)
+  pub low : IsKept d old.low old_now.low (is_blamed false roles.Low end)
+  pub high : IsKept d old.high old_now.high (is_blamed false roles.High end)
+  pub recv : IsKept d old.recv old_now.recv (is_blamed false roles.Recv end)
+  pub new_low : Counted d new.low new_now.low (is_blamed true roles.Low end)
+  pub new_high : Counted d new.high new_now.high (is_blamed true roles.High end)
+  pub new_recv : Counted d new.recv new_now.recv (is_blamed true roles.Recv end)
+  pub unwritten : d.tells → (f : MoveFault) → IsMoveRefused row new_row receiver_size (d.reading old.low) (d.reading old.high) (d.reading old.recv)
+      (d.reading new.low) (d.reading new.high) (d.reading new.recv) f
+      → Moves d Same new.low new_now.low × Moves d Same new.high new_now.high × Moves d Same new.recv new_now.recv
+  pub full : d.tells → (first_full (d.reading new.low) (d.reading new.high) (d.reading new.recv) ≡ None → ⊥)
+      → Moves d Same new.low new_now.low × Moves d Same new.high new_now.high × Moves d Same new.recv new_now.recv
+
+module _ {D : Type 0} (d : Meaning D) (row new_row : SessionRow) (old new old_now new_now : TakenDisks D) (o t u v : Trio D) (end : Result (ℕ × ℕ × ℕ) MoveFault)
+    (one : o ≡ trio_of old) (two : t ≡ trio_of new) (three : old_now ≡ taken_of u) (four : new_now ≡ taken_of v) (says : Says d row new_row o t u v end) where
+  said : Says d row new_row (trio_of old) (trio_of new) (trio_of old_now) (trio_of new_now) end
+  said = subst (λ (x : Trio D × Trio D × Trio D × Trio D). Says d row new_row x.0 x.1 x.2 x.3 end)
+      (λ i. (one i, two i, sym (ap (λ (x : TakenDisks D). trio_of x) three) i, sym (ap (λ (x : TakenDisks D). trio_of x) four) i)) says
+
+  pub read : ReadOn d old old_now
+  read tells = (said.low.moves.reads tells, said.high.moves.reads tells, said.recv.moves.reads tells)
+
+  pub spared : SpareOn d new new_now
+  spared = spared_so d new new_now (λ tells some told. let m = said.full tells some in (m.0.reads told, m.1.reads told, m.2.reads told))
+
+  pub counts : CountOn d old old_now
+  counts = (said.low.counted.counts, said.high.counted.counts, said.recv.counted.counts)
+
+  pub new_counts : CountOn d new new_now
+  new_counts = (said.new_low.counts, said.new_high.counts, said.new_recv.counts)
+
+  pub stops : (r : Result Counts MoveFault) → r ≡ counted end → IfErr r (StopsMove d row new_row old old_now new new_now)
+  stops r same = stopped d old old_now new new_now row new_row end r same
+      (record { low = said.low.counted; high = said.high.counted; recv = said.recv.counted; new_low = said.new_low; new_high = said.new_high; new_recv = said.new_recv })
+      said.refused (λ tells fault refused told. let m = said.unwritten tells fault refused in (m.0.reads told, m.1.reads told, m.2.reads told))

@@ -1,0 +1,89 @@
+-- How writing the file of a session ends.
+use Rattle.std.proofs.Common.{◌≡◌, ℕ, Bool, true, false, List, Option, None, Result, Ok, Err, inl, inr, refl, sym, subst, arith}
+use Rattle.std.specs.Prelude.{if◌then◌else◌}
+use Rattle.disk_model.specs.declared.name.Role.{Role}
+use Rattle.disk_model.specs.declared.name.Role.TheVariants as roles
+use Rattle.pump_frame.specs.Counts.{Rose}
+use Rattle.pump_frame.specs.declared.row.SessionRow.{SessionRow}
+use Rattle.disk_model.specs.declared.shelf.ShelfFault.{ShelfFault}
+use Rattle.disk_model.specs.declared.shelf.ShelfFault.TheVariants as shelf_faults
+use Rattle.pump_wrapper.specs.Gathers.{Gathers, GatherCause}
+use Rattle.pump_wrapper.specs.declared.gathered.Gathered.{Gathered}
+use Rattle.pump_wrapper.specs.declared.gathered.GatherFault.{GatherFault}
+use Rattle.pump_wrapper.specs.declared.gathered.GatherFault.TheVariants.{Device, NotWrapped, Write}
+use Rattle.script_replay.specs.Shelves.{Places, reading_at, ReadsAlike}
+use Rattle.recovery.specs.Refusals.{refused_receiver}
+use Rattle.stable_buffer.specs.Format.{receiver_size}
+use Rattle.stable_buffer.specs.Log.{RecvStands}
+use Rattle.commands.specs.CommandEnds.{end_status}
+use Rattle.commands.specs.Formatting.{IsDiskEnd}
+use Rattle.commands.specs.Unwrapping.{end_of_gather, unwrap_status, IsUnwrapStatus, UnwrapsOn, UnwrapsFrom, Unwraps}
+use Rattle.commands.specs.Tables.{HasRow, IsTableEnd}
+use Rattle.commands.specs.declared.command_end.CommandEnd.{CommandEnd}
+use Rattle.commands.specs.declared.command_end.CommandEnd.TheVariants.{Memory, Unread, NoRow, Failed, Refused, Unwritten}
+use Rattle.commands.specs.declared.unwrap.UnwrapEnd.{UnwrapEnd}
+use Rattle.commands.specs.declared.unwrap.UnwrapEnd.TheVariants.{Whole, Unfinished, Stopped}
+
+-- messages that were all gathered stop nothing
+no_stop : (whole : Bool) (end : CommandEnd) → (if whole then Whole else Unfinished) ≡ Stopped end → ⊥
+no_stop true end is = cc
+no_stop false end is = cc
+
+module _ (disk disk' out out' : ℕ) where
+  pub gather_device : (r : Result Gathered GatherFault) (role : Role) → GatherCause disk disk' out out' r → end_of_gather r ≡ Stopped (Failed role) → Rose disk disk'
+  gather_device (Ok gathered) role cause is = absurd (no_stop gathered.whole (Failed role) is)
+  gather_device (Err (Device faults)) role cause is = cause.1
+  gather_device (Err (NotWrapped n)) role cause is = absurd (cc)
+  gather_device (Err Write) role cause is = absurd (cc)
+
+  pub gather_unwritten : (r : Result Gathered GatherFault) → GatherCause disk disk' out out' r → end_of_gather r ≡ Stopped Unwritten → Rose out out'
+  gather_unwritten (Ok gathered) cause is = absurd (no_stop gathered.whole Unwritten is)
+  gather_unwritten (Err (Device faults)) cause is = absurd (cc)
+  gather_unwritten (Err (NotWrapped n)) cause is = absurd (cc)
+  gather_unwritten (Err Write) cause is = cause
+
+pub gather_reads : (r : Result Gathered GatherFault) → end_of_gather r ≡ Stopped Unread → ⊥
+gather_reads (Ok gathered) is = no_stop gathered.whole Unread is
+gather_reads (Err (Device faults)) is = cc
+gather_reads (Err (NotWrapped n)) is = cc
+gather_reads (Err Write) is = cc
+
+whole_status : (whole : Bool) → IsUnwrapStatus (unwrap_status (if whole then Whole else Unfinished))
+whole_status true = inl (omega arith)
+whole_status false = inr (inr refl)
+
+pub gather_status : (r : Result Gathered GatherFault) → IsUnwrapStatus (unwrap_status (end_of_gather r))
+gather_status (Ok gathered) = whole_status gathered.whole
+gather_status (Err (Device faults)) = inl (omega arith)
+gather_status (Err (NotWrapped n)) = inr (inl refl)
+gather_status (Err Write) = inl (omega arith)
+
+-- the end of a command that a disk stops
+pub disk_status : (end : CommandEnd) → IsDiskEnd end → IsUnwrapStatus (end_status end)
+disk_status Memory is = inl (omega arith)
+disk_status (Failed role) is = inl (omega arith)
+disk_status (Refused role why) is = inl (omega arith)
+disk_status end is = absurd is
+
+pub table_status : (end : CommandEnd) → IsTableEnd end → IsUnwrapStatus (end_status end)
+table_status Memory is = inl (omega arith)
+table_status Unread is = inl (omega arith)
+table_status (NoRow number row) is = inl (omega arith)
+table_status end is = absurd is
+
+pub untaken_status : (fault : ShelfFault) (end : CommandEnd) → (fault ≡ shelf_faults.Memory → end ≡ Memory) → (role : Role) → (fault ≡ shelf_faults.Failed → end ≡ Failed role) → IsUnwrapStatus (end_status end)
+untaken_status shelf_faults.Memory end memory role failed = disk_status end (subst IsDiskEnd (sym (memory refl)) tt)
+untaken_status shelf_faults.Failed end memory role failed = disk_status end (subst IsDiskEnd (sym (failed refl)) tt)
+
+-- the messages of an open receiver were gathered
+pub unwraps_gathered : (row : SessionRow) (found : List ℕ) (old new : Option (List ℕ)) (gathered : Result Gathered GatherFault) → refused_receiver row receiver_size found ≡ None
+    → (messages : List (List ℕ)) → RecvStands row messages found → Gathers row.message messages old new gathered → UnwrapsOn row found old new (end_of_gather gathered)
+unwraps_gathered row found old new gathered fine messages stands gathers = inr (fine, (messages, stands, gathered, refl, gathers))
+
+pub unwraps_row : (file : Option (List ℕ)) (before between after : Places) (session : ℕ) (row : SessionRow) (old new : Option (List ℕ)) (end : UnwrapEnd) → HasRow file session row → between ≡ before
+    → ReadsAlike between after → UnwrapsFrom row (reading_at between row.id roles.Recv) old new end → Unwraps file before after session old new end
+unwraps_row file before between after session row old new end has same alike h =
+    (subst (λ (places : Places). ReadsAlike places after) same alike, inr (row, has, subst (λ (places : Places). UnwrapsFrom row (reading_at places row.id roles.Recv) old new end) same h))
+
+pub stopped_end : (a b : CommandEnd) → Stopped a ≡ Stopped b → a ≡ b
+stopped_end a b e = cc

@@ -1,0 +1,14 @@
+use Rattle.std.proofs.Common.{◌∙◌, Err, ap}
+use Rattle.commands.proofs.Migrated.{migrates_so, rowless_so}
+use Rattle.commands.proofs.migrate.migrate_rows.Goals as goal
+
+pub returns-in-Ok-clause-migrates : goal.returns-in-Ok-clause-migrates
+returns-in-Ok-clause-migrates g c = λ told tells.
+    let r = c.in-Ok.ensures in
+    migrates_so g.S.Shelf.told.tells g.S.Disk.Disk.told.tells _ _ (g.S.Shelf.told.disk c.args.shelf.now) (g.S.Shelf.told.disk c.rows_in_files.new.shelf) (g.S.Shelf.told.disk c.migrate_disks.new.shelf)
+    c.args.session c.args.new_session c.in-Ok.rows.row c.in-Ok.rows.new_row c.migrate_disks.result (r.rows told) c.rows_in_files.ensures.disks c.migrate_disks.ensures.moved c.migrate_disks.ensures.stops told tells
+
+pub returns-in-Err-clause-migrates : goal.returns-in-Err-clause-migrates
+returns-in-Err-clause-migrates g c = λ told tells.
+    rowless_so _ _ (g.S.Shelf.told.disk c.args.shelf.now) (g.S.Shelf.told.disk c.rows_in_files.new.shelf) c.args.session c.args.new_session c.in-Err.end c.in-Err.ensures.only
+    (λ number place is. c.rows_in_files.ensures.none number place (c.in-Err.is ∙ ap Err is) told) c.rows_in_files.ensures.disks

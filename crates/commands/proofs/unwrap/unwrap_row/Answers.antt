@@ -1,0 +1,24 @@
+use Rattle.std.proofs.Common.{ℕ, List, inr, sym, ◌∙◌, ap, subst}
+use Rattle.disk_model.specs.Shelf.{OnShelf}
+use Rattle.disk_model.specs.declared.name.Role.TheVariants as roles
+use Rattle.script_replay.proofs.Shelving.{read_in}
+use Rattle.commands.specs.Unwrapping.{UnwrapsOn}
+use Rattle.commands.proofs.LentDisks.{alike, rises_back}
+use Rattle.commands.proofs.unwrap.unwrap_row.Goals as goal
+
+pub returns-clause-unwraps : goal.returns-clause-unwraps
+returns-clause-unwraps g c = λ told tells.
+    inr (
+      c.if-row-lt9.false,
+      subst (λ (found : List ℕ). UnwrapsOn c.args.row.now found (g.O.Sink.written c.args.out.now) (g.O.Sink.written c.unwrap_on-unwrapped.new.out) c.unwrap_on-unwrapped.result.end)
+          (sym (read_in _ _ (c.in-Ok.ensures.read told))) (c.unwrap_on-unwrapped.ensures.unwraps tells),
+    )
+
+pub returns-clause-alike : goal.returns-clause-alike
+returns-clause-alike g c = λ told tells.
+    alike (g.S.Shelf.told.disk c.args.shelf.now) (g.S.Shelf.told.disk c.take_disk.new.shelf) (g.S.Shelf.told.disk c.put_disk_back.new.shelf) c.args.row.now.id roles.Recv c.take_disk.ensures.others c.put_disk_back.ensures.others
+    _ (c.in-Ok.ensures.read told) (c.put_disk_back.ensures.back told ∙ ap OnShelf (c.unwrap_on-unwrapped.ensures.same tells))
+
+pub returns-clause-device : goal.returns-clause-device
+returns-clause-device g c = λ role is.
+    rises_back (g.S.Shelf.told.disk c.take_disk.new.shelf) c.args.row.now.id roles.Recv _ _ _ _ _ c.in-Ok.ensures.out (c.unwrap_on-unwrapped.ensures.device role is) c.take_disk.ensures.later c.put_disk_back.ensures.rises

@@ -1,0 +1,29 @@
+-- Disks of a session that a command takes off the shelf and puts back.
+use Rattle.std.specs.Prelude.{◌≡◌, ℕ, List, Some}
+use Rattle.disk_model.specs.declared.name.DiskName.{DiskName}
+use Rattle.disk_model.specs.declared.name.Role.TheVariants as roles
+use Rattle.pump_frame.specs.declared.row.SessionRow.{SessionRow}
+use Rattle.recovery.specs.Refusals.{refused_receiver}
+use Rattle.script_replay.specs.Shelves.{Places, disk_name}
+use Rattle.stable_buffer.specs.Format.{receiver_size}
+use Rattle.commands.specs.declared.command_end.CommandEnd.{CommandEnd}
+use Rattle.commands.specs.declared.command_end.CommandEnd.TheVariants.{Memory, Failed, Refused}
+
+-- every disk but the one of this name is where it was
+abbrev pub LeavesOtherDisks : Places → Places → DiskName → Type 0
+LeavesOtherDisks before after name = (other : DiskName) → (other ≡ name → ⊥) → after other ≡ before other
+
+-- .. but those of these two sessions
+abbrev pub LeavesOtherPair : Places → Places → ℕ → ℕ → Type 0
+LeavesOtherPair before after one two = (other : DiskName) → (other.session ≡ one → ⊥) → (other.session ≡ two → ⊥) → after other ≡ before other
+
+-- .. but the low disk and the high one of this session
+abbrev pub LeavesBut : Places → Places → ℕ → Type 0
+LeavesBut before after session = (other : DiskName) → (other ≡ disk_name session roles.Low → ⊥) → (other ≡ disk_name session roles.High → ⊥) → after other ≡ before other
+
+-- the receiver's disk, which reads this, could not be taken, or not be opened
+abbrev pub StopsAtDisk : List ℕ → SessionRow → CommandEnd → Type 0
+StopsAtDisk found row Memory = Unit {0}
+StopsAtDisk found row (Failed roles.Recv) = Unit {0}
+StopsAtDisk found row (Refused roles.Recv why) = refused_receiver row receiver_size found ≡ Some why
+StopsAtDisk found row end = ⊥

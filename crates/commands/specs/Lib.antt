@@ -1,0 +1,9 @@
+pub mod Auditing
+pub mod CommandEnds
+pub mod Formatting
+pub mod LentDisks
+pub mod Migrating
+pub mod Showing
+pub mod Tables
+pub mod TakenDisks
+pub mod Unwrapping

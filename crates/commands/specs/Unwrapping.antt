@@ -1,0 +1,62 @@
+-- What writing the file of a session writes, by how it ends. `before` and `after` say where each disk is.
+use Rattle.std.specs.Prelude.{◌≡◌, ◌⊎◌, ℕ, ◌<◌, ◌≤◌, if◌then◌else◌, List, [], Option, None, Result, Ok, Err}
+use Rattle.std.specs.Io.KnownBytes.{Appends}
+use Rattle.disk_model.specs.declared.name.Role.TheVariants as roles
+use Rattle.pump_frame.specs.declared.row.SessionRow.{SessionRow}
+use Rattle.pump_wrapper.specs.Gathers.{Gathers}
+use Rattle.pump_wrapper.specs.declared.gathered.Gathered.{Gathered}
+use Rattle.pump_wrapper.specs.declared.gathered.GatherFault.{GatherFault}
+use Rattle.pump_wrapper.specs.declared.gathered.GatherFault.TheVariants as gathers
+use Rattle.recovery.specs.Refusals.{refused_receiver}
+use Rattle.script_replay.specs.Shelves.{Places, reading_at, ReadsAlike}
+use Rattle.stable_buffer.specs.Format.{receiver_size}
+use Rattle.stable_buffer.specs.Log.{RecvStands}
+use Rattle.commands.specs.CommandEnds.{end_status}
+use Rattle.commands.specs.Tables.{StopsAtTable, HasRow}
+use Rattle.commands.specs.LentDisks.{StopsAtDisk}
+use Rattle.commands.specs.declared.command_end.CommandEnd.{CommandEnd}
+use Rattle.commands.specs.declared.command_end.CommandEnd.TheVariants.{NoRow, Failed, Unwritten}
+use Rattle.commands.specs.declared.unwrap.UnwrapEnd.{UnwrapEnd}
+use Rattle.commands.specs.declared.unwrap.UnwrapEnd.TheVariants.{Whole, Unfinished, NotWrapped, Stopped}
+
+abbrev pub unwrap_status : UnwrapEnd → ℕ
+unwrap_status Whole = 0
+unwrap_status (NotWrapped number) = 13
+unwrap_status Unfinished = 14
+unwrap_status (Stopped end) = end_status end
+
+-- one of its statuses
+abbrev pub IsUnwrapStatus : ℕ → Type 0
+IsUnwrapStatus status = (status ≤ 8) ⊎ ((status ≡ 13) ⊎ (status ≡ 14))
+
+-- how the command ends where the messages were gathered so
+abbrev pub end_of_gather : Result Gathered GatherFault → UnwrapEnd
+end_of_gather (Ok gathered) = if gathered.whole then Whole else Unfinished
+end_of_gather (Err (gathers.NotWrapped number)) = NotWrapped number
+end_of_gather (Err (gathers.Device faults)) = Stopped (Failed roles.Recv)
+end_of_gather (Err gathers.Write) = Stopped Unwritten
+
+-- Of the sink the second value is that at the end; `found` is what the receiver's disk reads. The disk could not be taken or not be
+-- opened, and nothing was written; or the messages that it stands for were gathered.
+abbrev pub UnwrapsOn : SessionRow → List ℕ → Option (List ℕ) → Option (List ℕ) → UnwrapEnd → Type 0
+UnwrapsOn row found old new end =
+    ((stop : CommandEnd) × StopsAtDisk found row stop × (end ≡ Stopped stop) × Appends old new [])
+    ⊎ ((refused_receiver row receiver_size found ≡ None)
+    × ((messages : List (List ℕ)) × RecvStands row messages found × (gathered : Result Gathered GatherFault) × (end ≡ end_of_gather gathered) × Gathers row.message messages old new gathered))
+
+-- the row's messages are too short for a length
+abbrev pub UnwrapsFrom : SessionRow → List ℕ → Option (List ℕ) → Option (List ℕ) → UnwrapEnd → Type 0
+UnwrapsFrom row found old new end =
+    ((row.message < 9) × (end ≡ Stopped (NoRow 12 row.id)) × Appends old new [])
+    ⊎ ((9 ≤ row.message) × UnwrapsOn row found old new end)
+
+-- with the row of the session, if the table has one; `file` is the table's. Every disk reads as it did.
+abbrev pub Unwraps : Option (List ℕ) → Places → Places → ℕ → Option (List ℕ) → Option (List ℕ) → UnwrapEnd → Type 0
+Unwraps file before after session old new end =
+    ReadsAlike before after
+    × (((stop : CommandEnd) × StopsAtTable file session stop × (end ≡ Stopped stop) × Appends old new [])
+    ⊎ ((row : SessionRow) × HasRow file session row × UnwrapsFrom row (reading_at before row.id roles.Recv) old new end))
+
+-- .. with this status
+abbrev pub EndsUnwrap : Option (List ℕ) → Places → Places → ℕ → Option (List ℕ) → Option (List ℕ) → ℕ → Type 0
+EndsUnwrap file before after session old new status = (end : UnwrapEnd) × (unwrap_status end ≡ status) × Unwraps file before after session old new end

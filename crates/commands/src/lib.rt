@@ -1,0 +1,24 @@
+//! How a command ends, in a status and a fault line, and the commands that run on one thread: those over
+//! the disks of a session of a table, which are taken off a shelf and put back, and those over records.
+#![tactic(auto)]
+
+mod audit;
+mod command_end;
+mod disk_pair;
+mod format;
+mod migrate;
+mod show;
+mod table_row;
+mod unwrap;
+
+pub use audit::{audit_script, compare_script};
+pub use command_end::{CommandEnd, finish};
+pub use disk_pair::{DiskPair, put_pair_back, take_pair};
+pub use format::{format_session, untaken};
+pub use migrate::migrate_session;
+pub use show::{end_at, show_session};
+pub use table_row::row_in_file;
+pub use unwrap::{UnwrapEnd, unwrap_session};
+
+#[cfg(test)]
+mod tests;

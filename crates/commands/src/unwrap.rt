@@ -1,0 +1,163 @@
+//! The file that a session's messages are is written.
+
+ghost use Rattle.std.specs.Prelude.{◌≡◌, ◌≤◌};
+ghost use Rattle.disk_model.specs.declared.name.Role.{Role as DiskRole};
+ghost use Rattle.disk_model.specs.declared.name.Role.TheVariants as roles;
+ghost use Rattle.pump_frame.specs.Counts.{Rose};
+ghost use Rattle.pump_frame.specs.Rows.{IsLawfulRow};
+ghost use Rattle.script_replay.specs.Shelves.{AllAreBack, ReadsAlike, reading_at};
+ghost use Rattle.commands.specs.Unwrapping.{IsUnwrapStatus, Unwraps, UnwrapsFrom, UnwrapsOn, end_of_gather, unwrap_status};
+ghost use Rattle.commands.specs.declared.command_end.CommandEnd.TheVariants as ends;
+ghost use Rattle.commands.specs.declared.unwrap.UnwrapEnd.TheVariants.{Stopped};
+
+use crate::command_end::CommandEnd;
+use crate::format::untaken;
+use crate::show::end_at;
+use crate::table_row::row_in_file;
+use command_line::TableName;
+use disk_model::{Disk, Role, Shelf};
+use pump_frame::SessionRow;
+use pump_link::Sink;
+use pump_wrapper::{GatherFault, Gathered, gather};
+use recovery::open_receiver;
+use script_replay::{put_disk_back, take_disk};
+use stable_buffer::RECEIVER_SIZE;
+use std::alloc::Global;
+
+/// How writing the file of a session ends. Nothing but bytes of the file is written, whatever the end.
+#[derive(Clone, Copy)]
+pub enum UnwrapEnd {
+    /// The messages are a file, which was written.
+    Whole,
+    /// The messages begin a file; what they have of it was written.
+    Unfinished,
+    /// No file has the message with this number there; what those before it have was written.
+    NotWrapped { number: u64 },
+    /// The command came to this end. Nothing was written, or a front of what the messages have.
+    Stopped { end: CommandEnd },
+}
+
+impl UnwrapEnd {
+    /// The status of the program.
+    pub fn status(&self) -> u8
+        ensures { result ≡ unwrap_status self.now }
+    {
+        match self {
+            UnwrapEnd::Whole => 0,
+            UnwrapEnd::NotWrapped { .. } => 13,
+            UnwrapEnd::Unfinished => 14,
+            UnwrapEnd::Stopped { end } => end.status(),
+        }
+    }
+}
+
+/// How writing a file ended, and the receiver's disk.
+#[derive(Drop)]
+struct Unwrapped<D> {
+    end: UnwrapEnd,
+    disk: D,
+}
+
+fn end_of_gather(gathered: Result<Gathered, GatherFault>) -> UnwrapEnd
+    ensures { result ≡ end_of_gather gathered }
+{
+    match gathered {
+        Ok(gathered) => {
+            if gathered.whole {
+                UnwrapEnd::Whole
+            } else {
+                UnwrapEnd::Unfinished
+            }
+        }
+        Err(GatherFault::NotWrapped { number }) => UnwrapEnd::NotWrapped { number },
+        Err(GatherFault::Device { .. }) => UnwrapEnd::Stopped {
+            end: CommandEnd::Failed { role: Role::Recv },
+        },
+        Err(GatherFault::Write) => UnwrapEnd::Stopped {
+            end: CommandEnd::Unwritten,
+        },
+    }
+}
+
+// Over the receiver's disk.
+fn unwrap_on<D: Disk, O: Sink>(row: &SessionRow, disk: D, out: &mut O) -> Unwrapped<D>
+    requires lawful { IsLawfulRow row.now }
+    requires long { 9 ≤ row.now.message }
+    ensures unwraps { D.told.tells → UnwrapsOn row.now (D.told.reading disk) (O.written out.old) (O.written out.new) result.end }
+    ensures same { D.told.tells → D.told.reading result.disk ≡ D.told.reading disk }
+    ensures device { (role : DiskRole) → result.end ≡ Stopped (ends.Failed role) → Rose (D.told.count disk) (D.told.count result.disk) }
+    ensures status { IsUnwrapStatus (unwrap_status result.end) }
+    ensures unread { result.end ≡ Stopped ends.Unread → ⊥ }
+    ensures unwritten { result.end ≡ Stopped ends.Unwritten → Rose (O.faults out.old) (O.faults out.new) }
+{
+    match open_receiver(disk, row, RECEIVER_SIZE) {
+        Ok(mut receiver) => {
+            let gathered = gather(&mut receiver, out, row.message);
+            Unwrapped {
+                end: end_of_gather(gathered),
+                disk: receiver.into_disk(),
+            }
+        }
+        Err((disk, why)) => Unwrapped {
+            end: UnwrapEnd::Stopped {
+                end: end_at(Role::Recv, &Some(why)),
+            },
+            disk,
+        },
+    }
+}
+
+// Over the row of the session.
+fn unwrap_row<S: Shelf, O: Sink>(row: &SessionRow, shelf: &mut S, out: &mut O) -> UnwrapEnd
+    requires lawful { IsLawfulRow row.now }
+    ensures unwraps { S.told.tells → S.Disk.told.tells → UnwrapsFrom row.now (reading_at (S.told.disk shelf.old) row.now.id roles.Recv) (O.written out.old) (O.written out.new) result }
+    ensures alike { S.told.tells → S.Disk.told.tells → ReadsAlike (S.told.disk shelf.old) (S.told.disk shelf.new) }
+    ensures back { S.told.tells → AllAreBack (S.told.disk shelf.old) (S.told.disk shelf.new) }
+    ensures device { (role : DiskRole) → result ≡ Stopped (ends.Failed role) → Rose (S.told.disk_faults shelf.old) (S.told.disk_faults shelf.new) }
+    ensures status { IsUnwrapStatus (unwrap_status result) }
+    ensures unread { result ≡ Stopped ends.Unread → ⊥ }
+    ensures unwritten { result ≡ Stopped ends.Unwritten → Rose (O.faults out.old) (O.faults out.new) }
+{
+    if row.message < 9 {
+        return UnwrapEnd::Stopped {
+            end: CommandEnd::NoRow {
+                number: 12,
+                row: row.id,
+            },
+        };
+    }
+    let disk = match take_disk(shelf, row.id, Role::Recv) {
+        Ok(disk) => disk,
+        Err(not_taken) => {
+            return UnwrapEnd::Stopped {
+                end: untaken(not_taken),
+            };
+        }
+    };
+    let unwrapped = unwrap_on(row, disk, out);
+    put_disk_back(shelf, row.id, Role::Recv, unwrapped.disk);
+    unwrapped.end
+}
+
+/// Writes the file that the messages with the receiver of a session of the table are, and nothing else.
+/// The disk is not formatted, no byte of it is changed, and it is back on the shelf at the return.
+pub fn unwrap_session<S: Shelf, O: Sink>(
+    alloc: Global,
+    table: &TableName,
+    session: u32,
+    shelf: &mut S,
+    out: &mut O,
+) -> UnwrapEnd
+    ensures unwraps { S.told.tells → S.Disk.told.tells
+        → Unwraps (S.told.file shelf.old table.now) (S.told.disk shelf.old) (S.told.disk shelf.new) session (O.written out.old) (O.written out.new) result }
+    ensures back { S.told.tells → AllAreBack (S.told.disk shelf.old) (S.told.disk shelf.new) }
+    ensures device { (role : DiskRole) → result ≡ Stopped (ends.Failed role) → Rose (S.told.disk_faults shelf.old) (S.told.disk_faults shelf.new) }
+    ensures read { result ≡ Stopped ends.Unread → Rose (S.told.faults shelf.old) (S.told.faults shelf.new) }
+    ensures unwritten { result ≡ Stopped ends.Unwritten → Rose (O.faults out.old) (O.faults out.new) }
+    ensures status { IsUnwrapStatus (unwrap_status result) }
+{
+    match row_in_file(alloc, shelf, table.as_str(), session) {
+        Ok(row) => unwrap_row(&row, shelf, out),
+        Err(end) => UnwrapEnd::Stopped { end },
+    }
+}

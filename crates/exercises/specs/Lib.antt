@@ -1,0 +1,2 @@
+pub mod Exercises
+pub mod Exercising

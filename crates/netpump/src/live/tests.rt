@@ -53,9 +53,9 @@ fn run_live<R: Threads + Wait + Sync>(
     Ok((status, Vec::from_slice(alloc, out.written())?))
 }
 
-/// The status and the output of a replay.
-fn replay(alloc: Global, script: Vec<u8>) -> Result<(u8, Vec<u8>), AllocError> {
-    let words = words(alloc, "replay")?;
+/// The status and the output of a command that reads a script.
+fn run_batch(alloc: Global, line: &str, script: Vec<u8>) -> Result<(u8, Vec<u8>), AllocError> {
+    let words = words(alloc, line)?;
     let mut shelf = bare_shelf(alloc);
     let mut source = MemSource::new(script, 4096, Vec::new(alloc));
     let mut out = MemSink::new(vec![in alloc; 0; ROOM]?, 4096, Vec::new(alloc));
@@ -87,10 +87,22 @@ fn a_record_replays_to_its_comments(rt: HostRuntime) -> Result<(), Fail> {
     );
     let comments = lines_after(alloc, record.as_slice(), b"# low ")?;
     assert!(rt; comments.as_slice().ends_with(b" ack 999\n"));
-    let (status, transcript) = replay(alloc, record)?;
+    let (status, transcript) = run_batch(alloc, "replay", record)?;
     assert_eq!(rt; status, 0);
     let lines = lines_after(alloc, transcript.as_slice(), b"low ")?;
     assert!(rt; lines.as_slice() == comments.as_slice());
+    Ok(())
+}
+
+#[test]
+fn the_record_of_a_race_is_clean(rt: HostRuntime) -> Result<(), Fail> {
+    let alloc = rt.alloc();
+    let (status, record) = run_live(&rt, alloc, "race 3 500 50,700,20", &[])?;
+    assert_eq!(rt; status, 0);
+    let (status, said) = run_batch(alloc, "audit", record)?;
+    assert_eq!(rt; status, 0);
+    assert!(rt; said.as_slice().starts_with(b"audit yes "));
+    assert!(rt; said.as_slice().ends_with(b" 500 500\n"));
     Ok(())
 }
 

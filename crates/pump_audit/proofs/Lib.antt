@@ -9,3 +9,4 @@ pub mod OnceLaws
 pub mod SideLaws
 pub mod StreamLaws
 pub mod TextLaws
+pub mod Writing

@@ -1,0 +1,6 @@
+mod Counting
+mod Goes
+mod LineEnds
+mod RaceEnd
+mod Sizes
+mod Told

@@ -9,4 +9,5 @@ pub mod OnceLaws
 pub mod SideLaws
 pub mod StreamLaws
 pub mod TextLaws
+pub mod VerdictLaws
 pub mod Writing

@@ -132,7 +132,7 @@ line_once l plain (entries.Coarse s) h = absurd (coarse_as s l l.coming (sym h))
 line_once l plain (entries.Look m) h = ap (λ (x : LookLine). Some (entries.Look x)) (look_once l m l.coming m.coming refl refl plain h.1 h.0)
 line_once l plain (entries.Comment note) h = absurd h
 
-entry_once : (text : List ℕ) (e d : Entry) → IsEntry e text → IsEntry d text → e ≡ d
+pub entry_once : (text : List ℕ) (e d : Entry) → IsEntry e text → IsEntry d text → e ≡ d
 entry_once text (entries.Opening row next is_held) d h k =
     same_Some _ d (only_script (lines.LowSession row next is_held) text (Some (entries.Opening row next is_held)) (λ l is. one_line text _ l h.0 is) (λ e. absurd (cc)) (opening_once row next is_held) d k)
 entry_once text (entries.Coarse s) d h k =
@@ -178,11 +178,11 @@ abbrev Goes : Option SideTold → List (List ℕ) → Option SideTold → Type 0
 Goes s [] t = s ≡ t
 Goes s (text ∷ later) t = IsText text × (e : Entry) × IsEntry e text × (q : SideTold) × Lists s e q × Goes (Some q) later t
 
-abbrev turned : List (List ℕ) → List (List ℕ) → List (List ℕ)
+abbrev pub turned : List (List ℕ) → List (List ℕ) → List (List ℕ)
 turned [] later = later
 turned (text ∷ before) later = turned before (text ∷ later)
 
-abbrev ahead : List (List ℕ) → List ℕ → List ℕ
+abbrev pub ahead : List (List ℕ) → List ℕ → List ℕ
 ahead [] rest = rest
 ahead (text ∷ later) rest = text ++ 10 ∷ ahead later rest
 
@@ -202,7 +202,7 @@ tail_of : List ℕ → List ℕ
 tail_of [] = []
 tail_of (b ∷ bytes) = bytes
 
-split_once : (x y a b : List ℕ) → IsUnended x → IsUnended y → x ++ 10 ∷ a ≡ y ++ 10 ∷ b → (x ≡ y) × (a ≡ b)
+pub split_once : (x y a b : List ℕ) → IsUnended x → IsUnended y → x ++ 10 ∷ a ≡ y ++ 10 ∷ b → (x ≡ y) × (a ≡ b)
 unfolding tail_of
 split_once [] [] a b u v e = (refl, ap tail_of e)
 split_once [] (c ∷ y) a b u v e = absurd (ten c (All-head (λ z. is_end z ≡ false) c y v) cc)
@@ -222,7 +222,7 @@ lists_once : (s : Option SideTold) (e : Entry) (p q : SideTold) → Lists s e p 
 lists_once None e p q h k = lists_first e p q h k
 lists_once (Some s) e p q h k = h.2 ∙ ap (λ (f : Form). with_entry s e f.place) (same_Some _ _ (sym h.1 ∙ k.1)) ∙ sym k.2
 
-nothing_left : (y b : List ℕ) → [] ≡ y ++ 10 ∷ b → ⊥
+pub nothing_left : (y b : List ℕ) → [] ≡ y ++ 10 ∷ b → ⊥
 nothing_left [] b e = absurd (cc)
 nothing_left (c ∷ y) b e = absurd (cc)
 

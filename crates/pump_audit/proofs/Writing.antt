@@ -87,7 +87,7 @@ pub record Written (bytes : List ℕ) (r : Record) : Type 0 where
   pub whole : (rest : List ℕ) → joined texts rest ≡ bytes ++ rest
   pub lines : line_ends bytes ≡ r.lines
 
-one_more : (text : List ℕ) → IsText text → line_ends (text ++ 10 ∷ []) ≡ 1
+pub one_more : (text : List ℕ) → IsText text → line_ends (text ++ 10 ∷ []) ≡ 1
 one_more text is =
     let a = ends_append text (10 ∷ []) in
     let b = none_within text is.unended in
@@ -261,6 +261,13 @@ looks_end places.Looks e = (refl, refl)
 looks_end places.Times e = absurd (cc)
 looks_end places.Taken e = absurd (cc)
 looks_end places.End e = absurd (cc)
+
+pub looks_times : (p : Place) → takes_looks p ≡ true → takes_times p ≡ true
+looks_times places.Opening e = refl
+looks_times places.Looks e = refl
+looks_times places.Times e = absurd (cc)
+looks_times places.Taken e = absurd (cc)
+looks_times places.End e = absurd (cc)
 
 clean : (bytes : List ℕ) (r : Record) → Written bytes r → line_ends bytes < 2 ^ 32 → ends_at r.place ≡ true → AreTold r [] → AreRight r r.claims → (has_end r ≡ true → IsRightEnd r) → IsClean bytes r
 clean bytes r w few at told claims end = record {

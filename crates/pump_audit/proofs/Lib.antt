@@ -2,6 +2,7 @@ pub mod AgreeLaws
 pub mod AuditLaws
 pub mod BothLaws
 pub mod ClaimLaws
+pub mod ComparedLaws
 pub mod EntryLaws
 pub mod Lives
 pub mod NoteLaws

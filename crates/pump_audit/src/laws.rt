@@ -1,6 +1,6 @@
 //! What it says of a record that it is clean. Each is a function without a body whose contract is the law.
 
-ghost use Rattle.std.specs.Prelude.{◌≡◌, ◌+◌, ◌≤◌, ◌++◌, ◌∷◌, ℕ, List, true, map};
+ghost use Rattle.std.specs.Prelude.{◌≡◌, ◌+◌, ◌^◌, ◌<◌, ◌≤◌, ◌++◌, ◌∷◌, ℕ, List, true, map};
 ghost use Rattle.std.specs.List.{All};
 ghost use Rattle.pump_core.specs.Passage.{shape_of_row, IsAverage};
 ghost use Rattle.pump_core.specs.Replies.{LowReplies, Sent};
@@ -8,6 +8,8 @@ ghost use Rattle.pump_audit.specs.Agreeing.{side_of};
 ghost use Rattle.pump_audit.specs.Claims.{pair_of, has_end};
 ghost use Rattle.pump_audit.specs.Comparing.{SideTold, SidesAre, ArePair, separator, IsCompared};
 ghost use Rattle.pump_audit.specs.Records.{Record, history_of};
+ghost use Rattle.pump_audit.specs.Texts.{line_ends};
+ghost use Rattle.pump_audit.specs.declared.compared.Compared.{Compared};
 ghost use Rattle.pump_audit.specs.declared.compared.Compared.TheVariants.{Agree};
 ghost use Rattle.pump_audit.specs.declared.verdict.Verdict.{Verdict};
 ghost use Rattle.pump_audit.specs.Verdicts.{IsWhole, IsClean, IsVerdict};
@@ -30,6 +32,11 @@ pub fn clean_records_keep_their_numbers()
 /// Bytes have one verdict.
 pub fn verdicts_are_one()
     ensures { (bytes : List ℕ) (v w : Verdict) → IsVerdict bytes v → IsVerdict bytes w → v ≡ w }
+{}
+
+/// Bytes of fewer than 2^32 lines compare in one way.
+pub fn comparisons_are_one()
+    ensures { (bytes : List ℕ) (v w : Compared) → line_ends bytes < 2 ^ 32 → IsCompared bytes v → IsCompared bytes w → v ≡ w }
 {}
 
 /// Two whole records with the line between them are the pair of their sides.

@@ -74,8 +74,7 @@ module _ (row : SessionRow) where
       let b = look_has m in
       let c = comment_has m.look.moment m.reply in
       let d = looks_have before in
-      let e = length-append (looks_script row before) (line_of row m ∷ comment_lines m.reply) in
-      (
+      let e = length-append (looks_script row before) (line_of row m ∷ comment_lines m.reply) in (
         record { line = unended (line_spelling (line_of row m)) (omega (arith, a, b, c, d, e, le)); comment = omega (arith, a, b, c, d, e, le) },
         looks_unended before (omega (arith, a, b, c, d, e, le)),
       )

@@ -222,13 +222,13 @@ whole_fine : (bytes : List ℕ) (r : Record) (q : Option Record) (rest : List �
 whole_fine bytes r q rest cause h k has =
     let p = begins_once bytes (Some r) q [] rest h.begins k (stops_end (Some r) [] refl) (stops_cause q rest cause has) in
     at_end (subst (λ (z : Option Record × List ℕ). RestHasCause z.0 z.1 cause) (λ i. (sym p.0 i, sym p.1 i)) has)
-    where
-      at_end : RestHasCause (Some r) [] cause → ⊥
-      at_end (inl (text, more, is, same, room, line)) = nothing_left text more same
-      at_end (inr (inl (c, cut))) = cut.some refl
-      at_end (inr (inr (inl (c, some, last)))) = some refl
-      at_end (inr (inr (inr (nil, inl (c, short))))) = true_false (may_end (form_in (Some r))) h.ends short
-      at_end (inr (inr (inr (nil, inr (c, ends, untold))))) = untold h.told
+  where
+    at_end : RestHasCause (Some r) [] cause → ⊥
+    at_end (inl (text, more, is, same, room, line)) = nothing_left text more same
+    at_end (inr (inl (c, cut))) = cut.some refl
+    at_end (inr (inr (inl (c, some, last)))) = some refl
+    at_end (inr (inr (inr (nil, inl (c, short))))) = true_false (may_end (form_in (Some r))) h.ends short
+    at_end (inr (inr (inr (nil, inr (c, ends, untold))))) = untold h.told
 
 -- ---- the first claim that is wrong ----
 

@@ -114,9 +114,6 @@ opened row next held text is line lawful = record {
 own : (n : ℕ) → (n == n) ≡ true
 own n = eq-eqb n n refl
 
-
-
-
 -- .. and that which makes it coarse
 pub coarsened : (bytes text : List ℕ) (r : Record) → Written bytes r → IsText text → IsLine (lines.Coarse r.row.id) text → is_opening r.place ≡ true → AreTold r [] → Written (bytes ++ (text ++ 10 ∷ [])) (made_coarse r)
 coarsened bytes text r w is line at told =
@@ -156,7 +153,7 @@ module _ (bytes text : List ℕ) (r : Record) (written : Written bytes r) (is : 
       let same : look_of l f ≡ x a = λ i. x (is_it i) in
       subst (λ (y : Look). Written (bytes ++ (text ++ 10 ∷ [])) (with_look r y)) same
       (more bytes text r (with_look r (look_of l f)) (entries.Look l) written is (line, plain)
-          (ap (λ (z : Bool × Bool). is_some (at_place (form_of r) (z.0 && z.1) places.Looks)) (λ i. (own r.row.id i, at i)), none, (f, (means, subst (IsNextLook r.row (history_of r)) (sym same) next), refl)) refl)
+      (ap (λ (z : Bool × Bool). is_some (at_place (form_of r) (z.0 && z.1) places.Looks)) (λ i. (own r.row.id i, at i)), none, (f, (means, subst (IsNextLook r.row (history_of r)) (sym same) next), refl)) refl)
 
   pub looked_at : (a : Arrival) → IsLine (line_told r.row.id t m w d a) text → IsPlainLook t w d a → Means r.row t f → IsNextLook r.row (history_of r) (x a) → Written (bytes ++ (text ++ 10 ∷ [])) (with_look r (x a))
   looked_at Nothing line plain means next = added Nothing coming.Nothing refl line plain means next

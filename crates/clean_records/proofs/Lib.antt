@@ -2,5 +2,6 @@ mod Counting
 mod Goes
 mod LineEnds
 mod RaceEnd
+mod Served
 mod Sizes
 mod Told

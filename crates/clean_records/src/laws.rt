@@ -1,6 +1,6 @@
 //! Records that the relay prints are clean. Each is a function without a body whose contract is the law.
 
-ghost use Rattle.std.specs.Prelude.{ℕ, List, []};
+ghost use Rattle.std.specs.Prelude.{ℕ, ◌+◌, ◌*◌, ◌^◌, ◌<◌, List, []};
 ghost use Rattle.pump_core.specs.History.{Opening};
 ghost use Rattle.pump_core.specs.Passage.{NeverFall};
 ghost use Rattle.pump_frame.specs.Rows.{IsLawfulRow};
@@ -8,7 +8,7 @@ ghost use Rattle.pump_frame.specs.declared.row.SessionRow.{SessionRow};
 ghost use Rattle.race.specs.MadeLooks.{pairs_of};
 ghost use Rattle.race.specs.Race.{IsRaceRecord};
 ghost use Rattle.race.specs.Turns.{CanTurn};
-ghost use Rattle.relay_threads.specs.LowStays.{Stay, AreStays, stayed};
+ghost use Rattle.relay_threads.specs.LowStays.{Stay, AreStays, stayed, count};
 ghost use Rattle.relay_threads.specs.RecordLines.{record_text};
 ghost use Rattle.relay_threads.specs.Records.{Made, AreMade, record_of};
 ghost use Rattle.relay_threads.specs.Replays.{AreReadable, TellLevels, TakeLawful};
@@ -26,13 +26,16 @@ pub fn records_are_clean()
 {}
 
 /// The record of a low worker's stays, of which `LowServed` says that they are stays, that their looks are a
-/// life, that each line reads back and that a coarse session is told levels, is clean. That the counts that
-/// are told never fall and that it has few enough lines is asked for: `LowServed` says neither.
+/// life, that each line reads back and that a coarse session is told levels, is clean if the counts that are
+/// told never fall and it has few enough lines (`clean`): `LowServed` says neither. It has at most two lines
+/// for each round and two at its head (`few`).
 pub fn served_records_are_clean<P: Door>()
-    ensures { (row : SessionRow) (o : Opening) (stays : List (Stay P.Link)) → IsLawfulRow row → AreStays row o [] stays
+    ensures clean { (row : SessionRow) (o : Opening) (stays : List (Stay P.Link)) → IsLawfulRow row → AreStays row o [] stays
         → AreMade row o (stayed [] stays) → AreReadable row o (stayed [] stays) → TellLevels row (stayed [] stays)
         → NeverFall (pairs_of (record_of (stayed [] stays))) → HasFewLines (record_text row o (stayed [] stays))
         → IsCleanRecord (record_text row o (stayed [] stays)) }
+    ensures few { (row : SessionRow) (o : Opening) (stays : List (Stay P.Link)) → AreReadable row o (stayed [] stays)
+        → 2 * count stays + 2 < 2 ^ 32 → HasFewLines (record_text row o (stayed [] stays)) }
 {}
 
 /// The record that a race prints where neither of its workers was stopped is clean, if it has few enough lines

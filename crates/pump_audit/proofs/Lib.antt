@@ -2,6 +2,7 @@ pub mod AgreeLaws
 pub mod AuditLaws
 pub mod BothLaws
 pub mod ClaimLaws
+pub mod ComparedLaws
 pub mod EntryLaws
 pub mod Lives
 pub mod NoteLaws
@@ -9,3 +10,5 @@ pub mod OnceLaws
 pub mod SideLaws
 pub mod StreamLaws
 pub mod TextLaws
+pub mod VerdictLaws
+pub mod Writing

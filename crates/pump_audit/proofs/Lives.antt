@@ -150,7 +150,7 @@ module _ (row : SessionRow) where
   means_gone true owed t f m q = means_nothing t f m q
   means_gone false owed t f m q = means_offer owed t f m q
 
-  means_look : (s : State) (l : LookLine) (ph : Phase) (f : Feedback) → is_down ph ≡ false → Means row l.told f → fits_in row s (look_of l f) ph ≡ true → of_look row s (arrival_of l.coming) l.told ph ≡ Some f
+  pub means_look : (s : State) (l : LookLine) (ph : Phase) (f : Feedback) → is_down ph ≡ false → Means row l.told f → fits_in row s (look_of l f) ph ≡ true → of_look row s (arrival_of l.coming) l.told ph ≡ Some f
   means_look s l Down f up m q = absurd (cc)
   means_look s l (Waiting n at) f up m q = means_nothing l.told f m q
   means_look s l (Passing owed) f up m q = means_gone (is_gone (arrival_of l.coming)) owed l.told f m q

@@ -132,7 +132,7 @@ line_once l plain (entries.Coarse s) h = absurd (coarse_as s l l.coming (sym h))
 line_once l plain (entries.Look m) h = ap (λ (x : LookLine). Some (entries.Look x)) (look_once l m l.coming m.coming refl refl plain h.1 h.0)
 line_once l plain (entries.Comment note) h = absurd h
 
-entry_once : (text : List ℕ) (e d : Entry) → IsEntry e text → IsEntry d text → e ≡ d
+pub entry_once : (text : List ℕ) (e d : Entry) → IsEntry e text → IsEntry d text → e ≡ d
 entry_once text (entries.Opening row next is_held) d h k =
     same_Some _ d (only_script (lines.LowSession row next is_held) text (Some (entries.Opening row next is_held)) (λ l is. one_line text _ l h.0 is) (λ e. absurd (cc)) (opening_once row next is_held) d k)
 entry_once text (entries.Coarse s) d h k =
@@ -169,7 +169,7 @@ flipped true e = absurd (cc)
 not_end : (b : ℕ) → not (is_end b) ≡ true → is_end b ≡ false
 not_end b e = flipped (is_end b) e
 
-separator_unended : IsUnended separator
+pub separator_unended : IsUnended separator
 separator_unended = All-weaker (λ x. not (is_end x) ≡ true) (λ b. is_end b ≡ false) not_end separator (AllPass-from_list_all (λ b. not (is_end b)) separator refl)
 
 -- ---- texts from the first one on ----
@@ -178,11 +178,11 @@ abbrev Goes : Option SideTold → List (List ℕ) → Option SideTold → Type 0
 Goes s [] t = s ≡ t
 Goes s (text ∷ later) t = IsText text × (e : Entry) × IsEntry e text × (q : SideTold) × Lists s e q × Goes (Some q) later t
 
-abbrev turned : List (List ℕ) → List (List ℕ) → List (List ℕ)
+abbrev pub turned : List (List ℕ) → List (List ℕ) → List (List ℕ)
 turned [] later = later
 turned (text ∷ before) later = turned before (text ∷ later)
 
-abbrev ahead : List (List ℕ) → List ℕ → List ℕ
+abbrev pub ahead : List (List ℕ) → List ℕ → List ℕ
 ahead [] rest = rest
 ahead (text ∷ later) rest = text ++ 10 ∷ ahead later rest
 
@@ -202,7 +202,7 @@ tail_of : List ℕ → List ℕ
 tail_of [] = []
 tail_of (b ∷ bytes) = bytes
 
-split_once : (x y a b : List ℕ) → IsUnended x → IsUnended y → x ++ 10 ∷ a ≡ y ++ 10 ∷ b → (x ≡ y) × (a ≡ b)
+pub split_once : (x y a b : List ℕ) → IsUnended x → IsUnended y → x ++ 10 ∷ a ≡ y ++ 10 ∷ b → (x ≡ y) × (a ≡ b)
 unfolding tail_of
 split_once [] [] a b u v e = (refl, ap tail_of e)
 split_once [] (c ∷ y) a b u v e = absurd (ten c (All-head (λ z. is_end z ≡ false) c y v) cc)
@@ -218,22 +218,22 @@ lists_first (entries.Coarse s) p q h k = absurd h
 lists_first (entries.Look l) p q h k = absurd h
 lists_first (entries.Comment note) p q h k = absurd h
 
-lists_once : (s : Option SideTold) (e : Entry) (p q : SideTold) → Lists s e p → Lists s e q → p ≡ q
+pub lists_once : (s : Option SideTold) (e : Entry) (p q : SideTold) → Lists s e p → Lists s e q → p ≡ q
 lists_once None e p q h k = lists_first e p q h k
 lists_once (Some s) e p q h k = h.2 ∙ ap (λ (f : Form). with_entry s e f.place) (same_Some _ _ (sym h.1 ∙ k.1)) ∙ sym k.2
 
-nothing_left : (y b : List ℕ) → [] ≡ y ++ 10 ∷ b → ⊥
+pub nothing_left : (y b : List ℕ) → [] ≡ y ++ 10 ∷ b → ⊥
 nothing_left [] b e = absurd (cc)
 nothing_left (c ∷ y) b e = absurd (cc)
 
 -- where one record ends no line of another one stands
-ends_there : (is_first : Bool) (t : SideTold) (rest left y b : List ℕ) (e : Entry) → EndsSide is_first t rest left → IsText y → IsEntry e y → rest ≡ y ++ 10 ∷ b → ⊥
+pub ends_there : (is_first : Bool) (t : SideTold) (rest left y b : List ℕ) (e : Entry) → EndsSide is_first t rest left → IsText y → IsEntry e y → rest ≡ y ++ 10 ∷ b → ⊥
 ends_there true t rest left y b e ends is_text is same =
     let p = split_once separator y left b separator_unended is_text.unended (sym ends.1 ∙ same) in
     no_separator e (subst (IsEntry e) (sym p.0) is)
 ends_there false t rest left y b e ends is_text is same = nothing_left y b (sym ends.1 ∙ same)
 
-left_once : (is_first : Bool) (t u : SideTold) (rest rest' left left' : List ℕ) → EndsSide is_first t rest left → EndsSide is_first u rest' left' → rest ≡ rest' → left ≡ left'
+pub left_once : (is_first : Bool) (t u : SideTold) (rest rest' left left' : List ℕ) → EndsSide is_first t rest left → EndsSide is_first u rest' left' → rest ≡ rest' → left ≡ left'
 left_once true t u rest rest' left left' h k e = (split_once separator separator left left' separator_unended separator_unended (sym h.1 ∙ e ∙ k.1)).1
 left_once false t u rest rest' left left' h k e = h.2 ∙ sym k.2
 
@@ -248,7 +248,7 @@ once is_first s (x ∷ xs) (y ∷ ys) t u rest rest' left left' (gt, ge, gi, gq,
     let side : hq ≡ gq = lists_once s ge hq gq (subst (λ (z : Entry). Lists s z hq) same hl) gl in
     once is_first (Some gq) xs ys t u rest rest' left left' gs (subst (λ (z : SideTold). Goes (Some z) ys (Some u)) side hs) ends ends' p.1
 
-side_once : (is_first : Bool) (bytes : List ℕ) (t u : SideTold) (left left' : List ℕ) → AreSide is_first bytes t left → AreSide is_first bytes u left' → (t ≡ u) × (left ≡ left')
+pub side_once : (is_first : Bool) (bytes : List ℕ) (t u : SideTold) (left left' : List ℕ) → AreSide is_first bytes t left → AreSide is_first bytes u left' → (t ≡ u) × (left ≡ left')
 side_once is_first bytes t u left left' h k =
     once is_first None (turned h.begins.texts []) (turned k.begins.texts []) t u h.rest k.rest left left'
     (forward h.begins.texts (Some t) [] (Some t) h.begins.side_of refl) (forward k.begins.texts (Some u) [] (Some u) k.begins.side_of refl)

@@ -46,10 +46,10 @@ module _ (bytes : List ℕ) (a : Audit) (old : Option (List ℕ)) (reads : Reads
         known = left.1;
       }
 
-  pub stops : (new : Option (List ℕ)) (text : List ℕ) (line cause : ℕ) → line ≡ a.lines + 1 → IsText text → Consumes old new (text ++ 10 ∷ []) → HasCause (Some r) text cause → IsVerdict bytes (No line cause)
-  stops new text line cause at is c h =
+  pub stops : (new : Option (List ℕ)) (text : List ℕ) (line cause : ℕ) → line ≡ a.lines + 1 → a.lines + 1 < 2 ^ 32 → IsText text → Consumes old new (text ++ 10 ∷ []) → HasCause (Some r) text cause → IsVerdict bytes (No line cause)
+  stops new text line cause at few is c h =
       let left = left_is old new reads.rest text reads.known c in
-      wrong line cause at (inl (text, left.0, is, left.2, h))
+      wrong line cause at (inl (text, left.0, is, left.2, omega (arith, few, reads.audits.counts.lines), h))
 
   pub cut_off : (line : ℕ) → line ≡ a.lines + 1 → IfSome old IsCut → IsVerdict bytes (No line 1)
   cut_off line at h = wrong line 1 at (inr (inl (refl, subst (λ o. IfSome o IsCut) reads.known h)))
@@ -87,7 +87,7 @@ module _ (bytes : List ℕ) (old : Option (List ℕ)) (known : old ≡ Some byte
   pub first_misplaced : (new : Option (List ℕ)) (text : List ℕ) → IsText text → Consumes old new (text ++ 10 ∷ []) → OpensAs text None → IsVerdict bytes (No 1 1)
   first_misplaced new text is c h =
       let left = left_is old new bytes text known c in
-      first_wrong (inl (text, left.0, is, left.2, inl (refl, h)))
+      first_wrong (inl (text, left.0, is, left.2, omega arith, inl (refl, h)))
 
   pub first_reads : (new : Option (List ℕ)) (text : List ℕ) (a : Audit) → IsText text → Consumes old new (text ++ 10 ∷ []) → OpensAs text (Some a) → Reads bytes a new
   first_reads new text a is c h =

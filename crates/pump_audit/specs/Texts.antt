@@ -1,8 +1,8 @@
 -- The lines of a stream as texts. A text has no line end; the lines of a stream stand in a list with the
 -- newest first.
-use Rattle.std.specs.Prelude.{◌≢◌, ℕ, ◌≤◌, List, [], ◌∷◌, ◌++◌, length, Option, IfSome}
+use Rattle.std.specs.Prelude.{◌≢◌, ℕ, ◌≤◌, List, [], ◌∷◌, ◌++◌, length, count_by, Option, IfSome}
 use Rattle.std.specs.Io.KnownBytes.{Consumes, IsAtEnd}
-use Rattle.script_reader.specs.Lines.{IsUnended}
+use Rattle.script_reader.specs.Lines.{is_end, IsUnended}
 use Rattle.pump_audit.specs.declared.texts.NextByte.{NextByte}
 use Rattle.pump_audit.specs.declared.texts.NextByte.TheVariants as next
 use Rattle.pump_audit.specs.declared.texts.Texted.{Texted}
@@ -34,3 +34,7 @@ abbrev pub IsNextByte : Option (List ℕ) → Option (List ℕ) → NextByte →
 IsNextByte old new (next.Byte byte) = Consumes old new (byte ∷ [])
 IsNextByte old new next.End = IsAtEnd old × Consumes old new []
 IsNextByte old new next.Failed = Consumes old new []
+
+-- how many lines the bytes end
+abbrev pub line_ends : List ℕ → ℕ
+line_ends bytes = count_by is_end bytes

@@ -78,10 +78,10 @@ abbrev pub EndHasCause : Option Record → ℕ → Type 0
 EndHasCause r cause = ((cause ≡ 1) × (may_end (form_in r) ≡ false)) ⊎ ((cause ≡ 3) × (may_end (form_in r) ≡ true) × IsUncommented r)
 
 -- what is left behind a record begins with a line that has this cause: bytes that begin with no line and a
--- line of number 2^32 have the first
+-- line of number 2^32 have the first, whatever else is wrong with that line
 abbrev pub RestHasCause : Option Record → List ℕ → ℕ → Type 0
 RestHasCause r rest cause =
-    ((text more : List ℕ) × IsText text × (rest ≡ text ++ 10 ∷ more) × HasCause r text cause)
+    ((text more : List ℕ) × IsText text × (rest ≡ text ++ 10 ∷ more) × (lines_in r + 1 < 2 ^ 32) × HasCause r text cause)
     ⊎ ((cause ≡ 1) × IsCutOff rest)
     ⊎ ((cause ≡ 1) × (rest ≢ []) × (lines_in r + 1 ≡ 2 ^ 32))
     ⊎ ((rest ≡ []) × EndHasCause r cause)

@@ -1,6 +1,6 @@
 //! What it says of a record that it is clean. Each is a function without a body whose contract is the law.
 
-ghost use Rattle.std.specs.Prelude.{◌≡◌, ◌+◌, ◌≤◌, ◌++◌, ◌∷◌, ℕ, List, true, map};
+ghost use Rattle.std.specs.Prelude.{◌≡◌, ◌+◌, ◌^◌, ◌<◌, ◌≤◌, ◌++◌, ◌∷◌, ℕ, List, true, map};
 ghost use Rattle.std.specs.List.{All};
 ghost use Rattle.pump_core.specs.Passage.{shape_of_row, IsAverage};
 ghost use Rattle.pump_core.specs.Replies.{LowReplies, Sent};
@@ -8,8 +8,11 @@ ghost use Rattle.pump_audit.specs.Agreeing.{side_of};
 ghost use Rattle.pump_audit.specs.Claims.{pair_of, has_end};
 ghost use Rattle.pump_audit.specs.Comparing.{SideTold, SidesAre, ArePair, separator, IsCompared};
 ghost use Rattle.pump_audit.specs.Records.{Record, history_of};
+ghost use Rattle.pump_audit.specs.Texts.{line_ends};
+ghost use Rattle.pump_audit.specs.declared.compared.Compared.{Compared};
 ghost use Rattle.pump_audit.specs.declared.compared.Compared.TheVariants.{Agree};
-ghost use Rattle.pump_audit.specs.Verdicts.{IsWhole, IsClean};
+ghost use Rattle.pump_audit.specs.declared.verdict.Verdict.{Verdict};
+ghost use Rattle.pump_audit.specs.Verdicts.{IsWhole, IsClean, IsVerdict};
 
 /// The comments of a clean record are the low process's replies, each with its moment, and all of them.
 pub fn clean_records_tell_all_replies()
@@ -24,6 +27,16 @@ pub fn clean_records_keep_their_numbers()
     ensures removed { (bytes : List ℕ) (r : Record) → IsClean bytes r → has_end r ≡ true → r.removed ≤ r.taken }
     ensures taken { (bytes : List ℕ) (r : Record) → IsClean bytes r → has_end r ≡ true → r.taken ≤ r.accepted }
     ensures room { (bytes : List ℕ) (r : Record) → IsClean bytes r → has_end r ≡ true → r.accepted ≤ r.removed + r.row.capacity }
+{}
+
+/// Bytes have one verdict.
+pub fn verdicts_are_one()
+    ensures { (bytes : List ℕ) (v w : Verdict) → IsVerdict bytes v → IsVerdict bytes w → v ≡ w }
+{}
+
+/// Bytes of fewer than 2^32 lines compare in one way.
+pub fn comparisons_are_one()
+    ensures { (bytes : List ℕ) (v w : Compared) → line_ends bytes < 2 ^ 32 → IsCompared bytes v → IsCompared bytes w → v ≡ w }
 {}
 
 /// Two whole records with the line between them are the pair of their sides.

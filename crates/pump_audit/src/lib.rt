@@ -23,7 +23,10 @@ mod verdict;
 pub use checking::audit;
 pub use compared::{Compared, What};
 pub use comparing::compare;
-pub use laws::{clean_records_keep_their_numbers, clean_records_tell_all_replies};
+pub use laws::{
+    clean_records_keep_their_numbers, clean_records_tell_all_replies, comparisons_are_one,
+    pairs_are_one, records_are_their_sides, records_that_agree_reply_alike, verdicts_are_one,
+};
 pub use verdict::{AuditFault, Verdict};
 
 #[cfg(test)]

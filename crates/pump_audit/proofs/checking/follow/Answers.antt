@@ -1,4 +1,4 @@
-use Rattle.std.proofs.Common.{◌≡◌, ◌+◌, arith}
+use Rattle.std.proofs.Common.{◌≡◌, ◌+◌, ◌^◌, ◌<◌, arith}
 use Rattle.pump_audit.proofs.StreamLaws.{goes_on, stops, cut_off, too_many, ends}
 use Rattle.pump_audit.proofs.checking.follow.Goals as goal
 
@@ -34,5 +34,6 @@ returns-in-Ok-Some-clause-verdict g c bytes reads =
     let next = c.in-Text.ensures.next in
     let was = c.lines.invariant.reads bytes reads in
     let line : c.from-line.result + 1 ≡ c.lines.audit.lines + 1 = omega (arith, c.from-line.ensures, c.lines-lines.ensures) in
+    let few : c.lines.audit.lines + 1 < 2 ^ 32 = omega (arith, c.if-lines.false, c.lines-lines.ensures) in
     let is = rw (c.in-Ok-Some.field-0-is, c.as_slice.ensures.value) at c.in-Ok-Some.ensures.is in
-    stops bytes c.lines.audit _ was _ c.next.new.text.items (c.from-line.result + 1) c.in-Ok-Some.cause line next.0 next.1 (is was.so_far was.audits)
+    stops bytes c.lines.audit _ was _ c.next.new.text.items (c.from-line.result + 1) c.in-Ok-Some.cause line few next.0 next.1 (is was.so_far was.audits)

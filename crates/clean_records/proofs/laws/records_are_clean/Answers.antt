@@ -1,0 +1,5 @@
+use Rattle.clean_records.proofs.Told.{record_clean}
+use Rattle.clean_records.proofs.laws.records_are_clean.Goals as goal
+
+pub returns : goal.returns
+returns c row o made lawful are readable levels takes falls few = record_clean row o made lawful are readable levels takes falls few

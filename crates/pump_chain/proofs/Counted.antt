@@ -2,6 +2,7 @@
 use Rattle.std.proofs.Common.{◌≡◌, ℕ, ◌+◌, Bool, true, false, List, [], ◌∷◌, ◌++◌, length, Option, Some, None, refl, sym, ap, ◌∙◌, subst, length-append, arith}
 use Rattle.std.specs.Prelude.{if◌then◌else◌}
 use Rattle.pump_frame.specs.declared.frame.Frame.{Frame}
+use Rattle.pump_frame.specs.declared.payload.Payload.{Payload}
 use Rattle.pump_frame.specs.declared.row.SessionRow.{SessionRow}
 use Rattle.pump_core.specs.World.{World}
 use Rattle.pump_core.specs.Exchanges.{is_gone, is_repeat, is_next, is_passed, Wait, Waiting, Over, Part, Holding, Release, Empty, Leaving, Answer, Repeated, Offering, Dropped, Delivery, Loss, looks_of, count_after, greeted_after, is_left, IsCut}
@@ -90,7 +91,7 @@ look_counts row p x q printed i counts = subst (λ (h : History). (parts : List 
         let o = p.history.life.opening in
         let same : parts ≡ i.after = one_cut row (looked p.history x).life parts i.after cut i.cut_with in
         let more = length-append p.world.accepted (payloads (stores i.after) x.arrival) in
-        let grown = ap (λ (l : List _). length l) (look_grows x.feedback (stores i.after) x.arrival i.new p.world q.world i.world).accepted in
+        let grown = ap (λ (l : List Payload). length l) (look_grows x.feedback (stores i.after) x.arrival i.new p.world q.world i.world).accepted in
         let rises = cut_rises row o x p.history.life.looks i.before i.after i.cut i.cut_with in
         let was = counts i.before i.cut in
         ap (count_after o) same ∙ omega (arith, more, grown, rises, was)
@@ -110,7 +111,7 @@ line_counts row p (lines.LowSession other next held) q printed h counts = absurd
 line_counts row p (lines.Coarse session) q printed h counts = absurd h
 line_counts row p (lines.Told session m w fault told a) q printed h counts = absurd h
 line_counts row p (lines.Step session m w) q printed h counts = absurd h
-line_counts row p (lines.Look session m w a) q printed (c, comes, few, (f, i)) counts = look_counts row (joined p c) _ q printed i counts
+line_counts row p (lines.Look session m w a) q printed (c, comes, (few, (f, i))) counts = look_counts row (joined p c) _ q printed i counts
 line_counts row p (lines.Gone session m) q printed (f, i) counts = look_counts row (lost p) _ q printed i counts
 line_counts row p (lines.Restart session m) q printed (h, e, f) counts = new_counts row q (ap (λ (x : Past). x.history.life.looks) e) (ap (λ (x : Past). x.history.life.opening.count) e)
 line_counts row p (lines.High session m) q printed h counts = subst (Counts row) (step_aside row p (lines.High session m) q printed refl h).half counts

@@ -133,7 +133,7 @@ module _ {D : Type 0} (m : Meaning D) where
 
   -- ---- disks that come back ----
 
-  left_then : {g : _} (row : SessionRow) (old : Trio D) (s t : Pump D g) (failed : Option Role) → AreLeft m row old (trio_of s) None → IsRead m s t failed → AreLeft m row old (trio_of t) failed
+  pub left_then : {g : _} (row : SessionRow) (old : Trio D) (s t : Pump D g) (failed : Option Role) → AreLeft m row old (trio_of s) None → IsRead m s t failed → AreLeft m row old (trio_of t) failed
   left_then row old s t failed a r = record {
     low = goes_on m row roles.Low old.low (disk_at roles.Low s) (disk_at roles.Low t) (is_failed roles.Low failed) a.low (r.serves roles.Low) (r.same roles.Low);
     high = goes_on m row roles.High old.high (disk_at roles.High s) (disk_at roles.High t) (is_failed roles.High failed) a.high (r.serves roles.High) (r.same roles.High);
@@ -154,6 +154,23 @@ module _ {D : Type 0} (m : Meaning D) where
     left = left_then row old s t failed c.left r;
     crashes = subst (λ (x : SessionRow). CrashesOpen m x (disk_at roles.Low t) (disk_at roles.High t) (disk_at roles.Recv t)) c.row_still c.crashes;
   }
+
+  -- a pump was opened on these disks, and closed
+  pub closed_back : {g : _} (row : SessionRow) (old new : Trio D) (s : Pump D g) → new ≡ trio_of s → (m.tells → (f : Found) × StandFor m row old f) → AreLeft m row old (trio_of s) None → row_of s ≡ row
+      → CrashesOpen m (row_of s) new.low new.high new.recv → HandsBack m row old new None
+  closed_back row old new s e found left row_is crashes = record {
+    found = found;
+    left = subst (λ (x : Trio D). AreLeft m row old x None) (sym e) left;
+    crashes = subst (λ (r : SessionRow). CrashesOpen m r new.low new.high new.recv) row_is crashes;
+  }
+
+  -- a comparison keeps the rows
+  pub rows_by : {g : _} (first last second final : Pump D g) (why : ChainWhy) → AreRead m first last second final why → (row_of last ≡ row_of first) × (row_of final ≡ row_of second)
+  rows_by first last second final reasons.Memory e = absurd e
+  rows_by first last second final (reasons.Pump session role why) (inl (number, at, x, y, is)) = (x.row, y.row)
+  rows_by first last second final (reasons.Pump session role why) (inr (number, at, x, y, is)) = (x.row, y.row)
+  rows_by first last second final (reasons.Link count bound) (x, y) = (x.row, y.row)
+  rows_by first last second final (reasons.Unlike number) (x, y) = (x.row, y.row)
 
   disk_is : {g : _} (role : Role) (t : Pump D g) → disk_at role t ≡ disk_in role (trio_of t)
   disk_is roles.Low t = refl

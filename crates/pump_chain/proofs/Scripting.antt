@@ -1,8 +1,8 @@
 -- Lines that lead a chain lead a script of its two sessions.
-use Rattle.std.proofs.Common.{◌≡◌, inl, inr, ℕ, ◌≤◌, ◌||◌, ◌&&◌, max, Bool, true, false, List, [], ◌∷◌, ◌++◌, Option, Some, None, refl, sym, ap, ◌∙◌, subst, arith, le_trans}
+use Rattle.std.proofs.Common.{◌≡◌, inl, inr, ℕ, zero, suc, ◌+◌, ◌≤◌, length, ◌||◌, ◌&&◌, max, Bool, true, false, List, [], ◌∷◌, ◌++◌, Option, Some, None, refl, sym, ap, ◌∙◌, subst, arith, le_trans}
 use Rattle.std.specs.Prelude.{◌==◌, not, nat_lt, nat_le, if◌then◌else◌}
 use Rattle.std.specs.List.{All}
-use Rattle.std.proofs.lemmas.Bool.{and_parts, eqb-true, eq-eqb, ne_eqb}
+use Rattle.std.proofs.lemmas.Bool.{and_parts, eqb-true, eq-eqb, ne_eqb, le-leb, leb-true}
 use Rattle.std.proofs.lemmas.List.Elements.{All-cons, All-nil}
 use Rattle.std.proofs.Math.Bool.{or-false}
 use Rattle.pump_frame.specs.Rows.{IsLawfulRow}
@@ -43,7 +43,7 @@ back_moment row (Some n) p m q printed (mid, first, second, c, h, e) le =
     omega (arith, at, le)
 
 from : (a b : ℕ) → nat_le a b ≡ true → a ≤ b
-from a b e = grind (arith, e)
+from a b e = leb-true a b e
 
 second_part : (a b : Bool) → (a && b) ≡ true → b ≡ true
 second_part a b e = (and_parts a b e).1
@@ -56,7 +56,7 @@ moment_rises row p (lines.LowSession other next held) q printed t h = absurd h
 moment_rises row p (lines.Coarse session) q printed t h = absurd h
 moment_rises row p (lines.Told session m w fault told a) q printed t h = absurd h
 moment_rises row p (lines.Step session m w) q printed t h = absurd h
-moment_rises row p (lines.Look session m w a) q printed t (c, comes, few, (f, i)) =
+moment_rises row p (lines.Look session m w a) q printed t (c, comes, (few, (f, i))) =
     let le = from p.moment m (second_part (session == row.id) (nat_le p.moment m) t) in let is = i.moment in omega (arith, le, is)
 moment_rises row p (lines.Gone session m) q printed t (f, i) =
     let le = from p.moment m (second_part (session == row.id) (nat_le p.moment m) t) in let is = i.moment in omega (arith, le, is)
@@ -140,7 +140,7 @@ pub record Matches (o : Openings) (c : Chained) (t : Sessions) : Type 0 where
 
 earlier : (a b : ℕ) (m : Option ℕ) → a ≤ b → is_from b m ≡ true → is_from a m ≡ true
 earlier a b None le e = refl
-earlier a b (Some m) le e = grind (arith, e, le)
+earlier a b (Some m) le e = le-leb a m (le_trans le (leb-true b m e))
 
 -- a line of the session that goes on is one of its script
 goes_leads : (o : Openings) (s : Running) (line : Line) (q : Past) (printed : List Event) → Goes s line q printed → Leads o (Some (Whole s)) line (Some (Whole (record { row = s.row; past = q }))) printed
@@ -395,22 +395,22 @@ first_lines c (line ∷ later) d printed (mid, first, second, leads, rest, e) ap
     (subst (λ (n : ℕ). lines_of n (looks_of mid later d second rest) ≡ lines_of n later) same.0 (first_lines mid later d second rest (λ x. apart (sym same.0 ∙ x ∙ same.1))))
 
 -- a chain begins no session
+begins_none : (o p : Openings) (c : Chained) (line : Line) (d : Chained) (printed : List Event) → ChainLeads c line d printed → OpensAlike o p line
+begins_none o p c lines.Skip d printed h = tt
+begins_none o p c (lines.Session row) d printed h = absurd h
+begins_none o p c (lines.LowSession row next held) d printed h = tt
+begins_none o p c (lines.Coarse session) d printed h = tt
+begins_none o p c (lines.Told session m w fault told a) d printed h = tt
+begins_none o p c (lines.Step session m w) d printed h = tt
+begins_none o p c (lines.Look session m w a) d printed h = tt
+begins_none o p c (lines.Gone session m) d printed h = tt
+begins_none o p c (lines.High session m) d printed h = tt
+begins_none o p c (lines.Carry session back) d printed h = tt
+begins_none o p c (lines.Return session m back) d printed h = tt
+begins_none o p c (lines.Done session m t) d printed h = tt
+begins_none o p c (lines.Restart session m) d printed h = tt
+begins_none o p c (lines.ReceiverRestart session m) d printed h = tt
+
 pub none_begins : (o p : Openings) (c : Chained) (script : List Line) (d : Chained) (printed : List Event) → ChainLeadsTo c script d printed → All (OpensAlike o p) script
 none_begins o p c [] d printed leads = All-nil (OpensAlike o p)
-none_begins o p c (line ∷ later) d printed (mid, first, second, leads, rest, e) = All-cons (OpensAlike o p) line later (begins line leads) (none_begins o p mid later d second rest)
-  where
-    begins : (line : Line) → ChainLeads c line mid first → OpensAlike o p line
-    begins lines.Skip h = tt
-    begins (lines.Session row) h = absurd h
-    begins (lines.LowSession row next held) h = tt
-    begins (lines.Coarse session) h = tt
-    begins (lines.Told session m w fault told a) h = tt
-    begins (lines.Step session m w) h = tt
-    begins (lines.Look session m w a) h = tt
-    begins (lines.Gone session m) h = tt
-    begins (lines.High session m) h = tt
-    begins (lines.Carry session back) h = tt
-    begins (lines.Return session m back) h = tt
-    begins (lines.Done session m t) h = tt
-    begins (lines.Restart session m) h = tt
-    begins (lines.ReceiverRestart session m) h = tt
+none_begins o p c (line ∷ later) d printed (mid, first, second, leads, rest, e) = All-cons (OpensAlike o p) line later (begins_none o p c line mid first leads) (none_begins o p mid later d second rest)

@@ -26,7 +26,7 @@ use Rattle.two_worlds.proofs.Opening.Comparing.{goes_on, free_still, never_fails
 use Rattle.two_worlds.proofs.Opening.Refusing.{none_fails}
 use Rattle.pump_chain.specs.Compared.{IsUnlike, EndsReading, IsRead, AreRead}
 use Rattle.pump_chain.specs.Comparing.{Agree, DifferAt, IsUnlinked}
-use Rattle.pump_chain.specs.Opening.{trio_of, StandFor, HaveRoom, disk_in, is_failed, AreLeft, HandsBack, IsUnopened, IsApart, IsExcused, is_by_device}
+use Rattle.pump_chain.specs.Opening.{trio_of, StandFor, HaveRoom, disk_in, is_failed, AreLeft, HandsBack, IsUnopened, IsApart, IsExcused, cause_of, is_by_device}
 use Rattle.pump_chain.specs.declared.not_chained.ChainWhy.{ChainWhy}
 use Rattle.pump_chain.specs.declared.not_chained.ChainWhy.TheVariants as reasons
 use Rattle.pump_chain.specs.declared.six.Six.{Six}
@@ -154,6 +154,13 @@ module _ {D : Type 0} (m : Meaning D) where
     left = left_then row old s t failed c.left r;
     crashes = subst (λ (x : SessionRow). CrashesOpen m x (disk_at roles.Low t) (disk_at roles.High t) (disk_at roles.Recv t)) c.row_still c.crashes;
   }
+
+  -- a pump is not opened, by the cause that its opening gives
+  pub unopened_by : (row : SessionRow) (old : Trio D) (e : NotOpen D) → ComeBack m row old.low old.high old.recv e → (why : Option Why) → e.why ≡ why
+      → IsUnopened m row old (record { low = e.low; high = e.high; recv = e.recv }) (cause_of row.id e.role why)
+  unopened_by row old e back None is = (let same = back.memory is in λ i. record { low = same.1 i; high = same.2 i; recv = same.3 i })
+  unopened_by row old e back (Some why) is =
+      (refl, subst (λ (x : NotOpen D). ComeBack m row old.low old.high old.recv x) (λ i. record { role = e.role; why = is i; low = e.low; high = e.high; recv = e.recv }) back)
 
   -- a pump was opened on these disks, and closed
   pub closed_back : {g : _} (row : SessionRow) (old new : Trio D) (s : Pump D g) → new ≡ trio_of s → (m.tells → (f : Found) × StandFor m row old f) → AreLeft m row old (trio_of s) None → row_of s ≡ row

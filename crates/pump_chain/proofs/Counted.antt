@@ -1,12 +1,11 @@
 -- However the low life of a session is cut, it ends with as many messages as the session has accepted.
-use Rattle.std.proofs.Common.{◌≡◌, ℕ, ◌+◌, Bool, true, false, List, [], ◌∷◌, ◌++◌, length, Option, Some, None, refl, sym, ap, ◌∙◌, subst, length-append, arith}
+use Rattle.std.proofs.Common.{◌≡◌, ℕ, ◌+◌, Bool, true, false, List, [], ◌∷◌, length, refl, sym, ap, ◌∙◌, subst, length-append, arith}
 use Rattle.std.specs.Prelude.{if◌then◌else◌}
 use Rattle.pump_frame.specs.declared.frame.Frame.{Frame}
 use Rattle.pump_frame.specs.declared.payload.Payload.{Payload}
 use Rattle.pump_frame.specs.declared.row.SessionRow.{SessionRow}
-use Rattle.pump_core.specs.World.{World}
-use Rattle.pump_core.specs.Exchanges.{is_gone, is_repeat, is_next, is_passed, Wait, Waiting, Over, Part, Holding, Release, Empty, Leaving, Answer, Repeated, Offering, Dropped, Delivery, Loss, looks_of, count_after, greeted_after, is_left, IsCut}
-use Rattle.pump_core.specs.History.{Arrival, Look, Opening, Life, History, looked}
+use Rattle.pump_core.specs.Exchanges.{is_gone, is_repeat, is_next, is_passed, Waiting, Over, Part, Holding, Release, Empty, Leaving, Answer, Repeated, Offering, Dropped, Delivery, Loss, count_after, greeted_after, is_left, IsCut}
+use Rattle.pump_core.specs.History.{Arrival, Look, Opening, History, looked}
 use Rattle.pump_core.specs.History.{Nothing, Came, Bad, Gone}
 use Rattle.pump_core.specs.Replies.{stores}
 use Rattle.pump_core.proofs.Cuts.{begun, begun_held, following, grow, cut_of, is_released, is_the_cut, one_cut}

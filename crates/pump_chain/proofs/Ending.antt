@@ -1,5 +1,5 @@
 -- How the comparison of two pumps ends, and what it leaves of their disks.
-use Rattle.std.proofs.Common.{◌≡◌, ◌⊎◌, inl, inr, ⊎_elim, ℕ, ◌≤◌, Bool, true, false, List, length, Option, Some, None, IfSome, refl, sym, ap, ◌∙◌, subst, arith}
+use Rattle.std.proofs.Common.{◌≡◌, ◌⊎◌, inl, inr, ⊎_elim, ℕ, ◌≤◌, Bool, true, false, List, length, Option, Some, None, refl, sym, ap, ◌∙◌, subst, arith}
 use Rattle.disk_model.specs.Disk.{Meaning, Moves, Same}
 use Rattle.disk_model.specs.declared.name.Role.{Role}
 use Rattle.disk_model.specs.declared.name.Role.TheVariants as roles
@@ -20,12 +20,12 @@ use Rattle.two_worlds.specs.Disks.{CrashesOpen}
 use Rattle.two_worlds.specs.Openings.{ComeBack}
 use Rattle.two_worlds.specs.Pumps.{disk_at, row_of}
 use Rattle.two_worlds.specs.Reads.{ReadsAlone, ReadsOn, FailsReading}
-use Rattle.two_worlds.specs.Rooms.{Serves, HasRoom, is_role}
+use Rattle.two_worlds.specs.Rooms.{Serves, is_role}
 use Rattle.two_worlds.proofs.Disks.Together.{serves_then}
 use Rattle.two_worlds.proofs.Opening.Comparing.{goes_on, free_still, never_fails}
 use Rattle.two_worlds.proofs.Opening.Refusing.{none_fails}
 use Rattle.pump_chain.specs.Compared.{IsUnlike, EndsReading, IsRead, AreRead}
-use Rattle.pump_chain.specs.Comparing.{Agree, DifferAt, IsUnlinked}
+use Rattle.pump_chain.specs.Comparing.{Agree, IsUnlinked}
 use Rattle.pump_chain.specs.Opening.{trio_of, StandFor, HaveRoom, disk_in, is_failed, AreLeft, HandsBack, IsUnopened, IsApart, IsExcused, cause_of, is_by_device}
 use Rattle.pump_chain.specs.declared.not_chained.ChainWhy.{ChainWhy}
 use Rattle.pump_chain.specs.declared.not_chained.ChainWhy.TheVariants as reasons

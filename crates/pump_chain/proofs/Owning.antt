@@ -1,6 +1,5 @@
 -- Each session of a chain does what the script of its own lines does.
-use Rattle.std.proofs.Common.{◌≡◌, ℕ, List, [], ◌∷◌, Option, Some, None, refl, sym, ap, ◌∙◌, subst}
-use Rattle.std.specs.List.{All}
+use Rattle.std.proofs.Common.{◌≡◌, ℕ, List, ◌∷◌, Option, Some, None, refl, sym, ap, ◌∙◌, subst}
 use Rattle.std.proofs.lemmas.Bool.{ne_eqb}
 use Rattle.std.proofs.lemmas.List.Elements.{All-cons, All-filter}
 use Rattle.pump_frame.specs.declared.row.SessionRow.{SessionRow}
@@ -9,7 +8,7 @@ use Rattle.script_reader.specs.declared.line.Line.{Line}
 use Rattle.script_reader.specs.declared.line.Line.TheVariants as lines
 use Rattle.script_reader.specs.Openings.{Openings}
 use Rattle.script_reader.specs.Scripts.{Begun, Whole, LeadTo}
-use Rattle.script_reader.specs.Sessions.{Sessions, no_sessions, session_at, session_in, is_number, lines_of, events_of}
+use Rattle.script_reader.specs.Sessions.{no_sessions, session_at, session_in, is_number, lines_of, events_of}
 use Rattle.script_reader.specs.Sides.{OpensAlike, OpenAlike}
 use Rattle.script_reader.proofs.Beside.{one_of, own_line, other_line}
 use Rattle.pump_chain.specs.Chained.{Chained, ChainLeadsTo}

@@ -1,18 +1,17 @@
 -- Lines that lead a chain lead a script of its two sessions.
-use Rattle.std.proofs.Common.{◌≡◌, inl, inr, ℕ, zero, suc, ◌+◌, ◌≤◌, length, ◌||◌, ◌&&◌, max, Bool, true, false, List, [], ◌∷◌, ◌++◌, Option, Some, None, refl, sym, ap, ◌∙◌, subst, arith, le_trans}
+use Rattle.std.proofs.Common.{◌≡◌, ℕ, zero, suc, ◌+◌, ◌≤◌, length, ◌||◌, ◌&&◌, Bool, true, false, List, [], ◌∷◌, Option, Some, None, refl, sym, ap, ◌∙◌, subst, arith, le_trans}
 use Rattle.std.specs.Prelude.{◌==◌, not, nat_lt, nat_le, if◌then◌else◌}
 use Rattle.std.specs.List.{All}
 use Rattle.std.proofs.lemmas.Bool.{and_parts, eqb-true, eq-eqb, ne_eqb, le-leb, leb-true}
 use Rattle.std.proofs.lemmas.List.Elements.{All-cons, All-nil}
 use Rattle.std.proofs.Math.Bool.{or-false}
-use Rattle.pump_frame.specs.Rows.{IsLawfulRow}
 use Rattle.pump_frame.specs.declared.row.SessionRow.{SessionRow}
 use Rattle.script_reader.specs.declared.event.Event.{Event}
 use Rattle.script_reader.specs.declared.line.Arriving.{Arriving}
 use Rattle.script_reader.specs.declared.line.Line.{Line}
 use Rattle.script_reader.specs.declared.line.Line.TheVariants as lines
-use Rattle.script_reader.specs.Highs.{IsWholeLook, is_ahead, IsReturnBy, IsAttach, IsCarried, place}
-use Rattle.script_reader.specs.Openings.{Openings, CanOpen, first_past}
+use Rattle.script_reader.specs.Highs.{IsWholeLook, is_ahead, IsReturnBy, IsAttach, place}
+use Rattle.script_reader.specs.Openings.{Openings, first_past}
 use Rattle.script_reader.specs.Past.{Past}
 use Rattle.script_reader.specs.Scripts.{Running, Begun, Whole, IsNew, Leads}
 use Rattle.script_reader.specs.Sessions.{session_in, stands_first, begins_session, moment_in, session_at, Sessions, no_sessions, led_to, is_from, is_in_turn, LeadsOne, ScriptLeads, ScriptLeadsTo, is_number, lines_of}

@@ -1,6 +1,6 @@
 -- Whatever lines lead a chain to, the second pump has accepted the first messages that the first receiver has.
-use Rattle.std.proofs.Common.{◌≡◌, ◌⊎◌, ⊎_elim, ℕ, Bool, true, false, List, [], ◌∷◌, length, refl, sym, ap, ◌∙◌, subst}
-use Rattle.std.specs.Prelude.{◌==◌, if◌then◌else◌, slice_get}
+use Rattle.std.proofs.Common.{◌≡◌, ℕ, Bool, true, false, List, [], ◌∷◌, length, refl, sym, subst}
+use Rattle.std.specs.Prelude.{◌==◌, if◌then◌else◌}
 use Rattle.std.specs.List.{All}
 use Rattle.std.proofs.lemmas.List.Elements.{All-nil}
 use Rattle.pump_core.specs.Lawful.{IsPrefixOf}
@@ -12,7 +12,7 @@ use Rattle.script_reader.specs.declared.line.Line.{Line}
 use Rattle.script_reader.specs.declared.line.Line.TheVariants as lines
 use Rattle.script_reader.specs.Openings.{Openings, accepted_in}
 use Rattle.script_reader.specs.Past.{Past}
-use Rattle.pump_chain.specs.Chained.{Chained, Share, Skipped, OfFirst, OfSecond, MakesFirst, MakesSecond, OfNone, added, received_of, share, share_of, share_by, first_led, second_led, LeadsBy, ChainLeadsTo}
+use Rattle.pump_chain.specs.Chained.{Chained, Share, Skipped, OfFirst, OfSecond, MakesFirst, MakesSecond, OfNone, added, received_of, share, share_by, LeadsBy, ChainLeadsTo}
 use Rattle.pump_chain.specs.Scripted.{chain_of}
 use Rattle.pump_chain.specs.Standing.{IsSentOn}
 use Rattle.pump_chain.proofs.Applying.{moves_on, still_sent}

@@ -1,11 +1,11 @@
 -- The laws of a chain.
-use Rattle.std.specs.Prelude.{◌≡◌, List, [], ◌∷◌, None, Some}
+use Rattle.std.specs.Prelude.{◌≡◌, List, ◌∷◌, None, Some}
 use Rattle.pump_core.specs.Lawful.{IsPrefixOf}
 use Rattle.pump_frame.specs.declared.row.SessionRow.{SessionRow}
 use Rattle.script_reader.specs.declared.event.Event.{Event}
 use Rattle.script_reader.specs.declared.line.Line.{Line}
 use Rattle.script_reader.specs.declared.line.Line.TheVariants.{Session}
-use Rattle.script_reader.specs.Openings.{Openings, Found, accepted_in}
+use Rattle.script_reader.specs.Openings.{Openings, accepted_in}
 use Rattle.script_reader.specs.Readouts.{low_lines}
 use Rattle.script_reader.specs.Scripts.{Whole, LeadTo}
 use Rattle.script_reader.specs.Sessions.{lines_of, events_of}

@@ -1,7 +1,6 @@
 ghost use Rattle.std.specs.Prelude.{◌≡◌, false, IfOk, IfSome};
 ghost use Rattle.pump_chain.specs.Standing.{chain_is_down};
 ghost use Rattle.pump_frame.specs.Rows.{IsLawfulRow};
-ghost use Rattle.two_worlds.specs.Pumps.{is_down};
 
 use crate::{Chain, ChainWhy, Six};
 use arrayvec::ArrayVec;

@@ -1,7 +1,6 @@
 //! Two pumps are opened and joined, and their disks come back.
 
 ghost use Rattle.std.specs.Prelude.{◌≡◌, ◌≤◌, false, None, IfOk, IfErr, OnOk};
-ghost use Rattle.disk_model.specs.declared.name.Role.TheVariants as roles;
 ghost use Rattle.pump_chain.specs.Chained.{Chained, unsent};
 ghost use Rattle.pump_chain.specs.Compared.{AreRead, IsRead};
 ghost use Rattle.pump_chain.specs.Comparing.{IsUnlinked};

@@ -1,6 +1,5 @@
 use Rattle.std.proofs.Common.{inl, inr, None, refl, sym, ap, ◌∙◌, subst}
 use Rattle.std.proofs.lemmas.List.Elements.{All-nil}
-use Rattle.pump_frame.specs.declared.row.SessionRow.{SessionRow}
 use Rattle.recovery.specs.declared.trio.Trio.{Trio}
 use Rattle.script_reader.specs.Openings.{first_past}
 use Rattle.two_worlds.specs.declared.pump.Pump.{Pump}
@@ -77,7 +76,7 @@ returns-in-Err-open_one-clause-back g c =
     let made = c.in-Ok.ensures in
     inr (inl (
       closed_back g.D.Disk.told c.args.one.now c.args.disks.first c.close_one-first.result c.in-Ok.pump c.close_one-first.ensures.disks made.found made.left made.row c.close_one-first.ensures.crashes,
-      c.in-Err-open_one.ensures.back
+      c.in-Err-open_one.ensures.back,
     ))
 
 pub returns-in-Err-open_one-clause-stops : goal.returns-in-Err-open_one-clause-stops

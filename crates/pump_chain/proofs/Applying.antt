@@ -56,7 +56,7 @@ none_kept w e = ap (λ (o : Option Payload). with_kept true o w.accepted) e
 pub order_is : {D : Type 0} {g : _} (m : Meaning D) (s : Chain D g) (c : Chained) (line : ScriptLine) → ChainStands m s c → order_by s line ≡ is_in_order c line
 order_is m s c line S = λ i. is_from (max (state_moment m s.first.state c.first.past S.first i) (state_moment m s.second.state c.second.past S.second i)) (moment_in line)
 
-moves_on : (p q : Past) → Moves p q → IsPrefixOf p.world.received q.world.received
+pub moves_on : (p q : Past) → Moves p q → IsPrefixOf p.world.received q.world.received
 moves_on p q m = ⊎_elim (λ (a : Above p.world q.world). a.received) (λ (b : Below p.world q.world). front_same _ _ (sym b.received)) m
 
 -- what is sent on of a list is of a longer one

@@ -2,7 +2,7 @@
 use Rattle.std.proofs.Common.{◌≡◌, ◌⊎◌, inl, inr, ⊎_elim, ℕ, zero, suc, ◌+◌, ◌<◌, ◌≤◌, List, [], ◌∷◌, ◌++◌, length, get_or, refl, sym, ap, ◌∙◌, arith, length-append}
 use Rattle.pump_frame.specs.declared.payload.Payload.{Payload}
 use Rattle.pump_core.specs.Lawful.{IsPrefixOf}
-use Rattle.pump_chain.specs.Comparing.{Agree}
+use Rattle.pump_chain.specs.Comparing.{Agree, DifferAt}
 
 split : (k n : ℕ) → k < n + 1 → (k < n) ⊎ (k ≡ n)
 split zero zero h = inr refl
@@ -47,3 +47,32 @@ front_at xs ys n (more, e) small = ((let l = length-append xs more in let f = ap
 
 pub front_short : (xs ys : List Payload) → IsPrefixOf xs ys → length xs ≤ length ys
 front_short xs ys (more, e) = (let l = length-append xs more in let f = ap length e in omega (arith, l, f))
+
+-- so many messages of a front are those of the list
+pub agree_longer : (taken accepted ys : List Payload) (n : ℕ) → IsPrefixOf taken accepted → n ≤ length taken → Agree 0 n taken ys → Agree 0 n accepted ys
+agree_longer taken accepted ys n (more, e) few agree k least small =
+    ap (λ (zs : List Payload). get_or zs k []) (sym e) ∙ in_front taken more k (omega (arith, few, small)) ∙ agree k least small
+
+-- the first one that differs from a number on, where those before it are alike, is the first of all
+pub differ_first : (from number : ℕ) (accepted received : List Payload) → Agree 0 from accepted received → DifferAt from number accepted received → DifferAt 0 number accepted received
+differ_first from number accepted received agree d = record {
+  least = omega arith;
+  within = d.within;
+  before = λ k least small. ⊎_elim (λ (l : k < from). agree k least l) (λ (l : from ≤ k). d.before k l small) (halves k from);
+  unlike = d.unlike;
+}
+
+-- one that differs in a front differs in the list
+pub differ_longer : (number : ℕ) (taken accepted ys : List Payload) → IsPrefixOf taken accepted → DifferAt 0 number taken ys → DifferAt 0 number accepted ys
+differ_longer number taken accepted ys front d =
+    let at = front_at taken accepted number front d.within in
+    record {
+      least = d.least;
+      within = at.0;
+      before = agree_longer taken accepted ys number front (let w = d.within in omega (arith, w)) d.before;
+      unlike = λ same. d.unlike (sym at.1 ∙ same);
+    }
+
+-- a front has none that differs
+pub front_alike : (accepted received : List Payload) (number : ℕ) → IsPrefixOf accepted received → DifferAt 0 number accepted received → ⊥
+front_alike accepted received number front d = d.unlike (sym (front_at accepted received number front d.within).1)

@@ -31,10 +31,13 @@ added_either P true d x y z h i k = h
 added_either P false true x y z h i k = i
 added_either P false false x y z h i k = k
 
-adds_of : (c : Chained) (session moment word : ℕ) → AddsOf (received_of c) (lines.Look session moment word (added c))
-adds_of c session moment word =
+pub added_of : (c : Chained) → IsAddedOf (received_of c) (added c)
+added_of c =
     added_either (IsAddedOf (received_of c)) c.sender.is_under_way c.sender.is_welcome Nothing _ (Hello c.second.row.low c.second.row.high) tt
     (message_added (received_of c) (accepted_of c) (slice_get (received_of c) (accepted_of c)) refl) tt
+
+adds_of : (c : Chained) (session moment word : ℕ) → AddsOf (received_of c) (lines.Look session moment word (added c))
+adds_of c session moment word = added_of c
 
 -- the sender after a look that was made, and after one that was refused
 abbrev pub looked_from : Sender → Bool → List Printed → Sender

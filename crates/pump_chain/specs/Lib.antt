@@ -1,6 +1,9 @@
 pub mod Chained
+pub mod Compared
 pub mod Comparing
 pub mod Keeping
+pub mod Laws
 pub mod Opening
 pub mod Private
+pub mod Scripted
 pub mod Standing

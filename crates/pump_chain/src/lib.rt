@@ -2,6 +2,7 @@
 #![tactic(auto)]
 
 mod chain;
+mod laws;
 mod not_chained;
 mod place;
 mod sender;
@@ -9,5 +10,11 @@ mod six;
 mod whose;
 
 pub use chain::Chain;
+pub use laws::{
+    chains_are_scripts, four_lists_are_fronts, second_pump_is_no_matter, sessions_are_their_own,
+};
 pub use not_chained::{ChainWhy, NotChained};
 pub use six::Six;
+
+#[cfg(test)]
+mod tests;

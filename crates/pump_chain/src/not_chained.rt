@@ -2,29 +2,24 @@ use crate::six::Six;
 use disk_model::Role;
 use recovery::Why;
 
-/// Why two pumps make no chain.
-#[derive(Clone, Copy)]
+/// Why two pumps make no chain: the first cause in this order. The first pump's opening, the second
+/// one's, and then their comparison: `Link` before `Unlike`.
+#[derive(Clone, Copy, PartialEq, Eq, Debug)]
 pub enum ChainWhy {
-    /// The pump of this session was not opened, or its disk failed while the two were compared: the disk
-    /// that is the cause, and why; no `why` where memory was wanting.
-    Pump {
-        session: u32,
-        role: Role,
-        why: Option<Why>,
-    },
+    /// Memory was wanting.
+    Memory,
+    /// The pump of this session is not opened, for the cause that its own opening gives; or its disk
+    /// failed while the two were compared.
+    Pump { session: u32, role: Role, why: Why },
     /// The second pump has accepted more messages than the first receiver has: how many, and how many
     /// that has.
-    Link {
-        count: u64,
-        bound: u64,
-    },
-    /// A message that the second pump has accepted otherwise than the first receiver has it.
-    Unlike {
-        number: u64,
-    },
+    Link { count: u64, bound: u64 },
+    /// The least message that the second pump has accepted and the first receiver has otherwise.
+    Unlike { number: u64 },
 }
 
-/// Two pumps that make no chain. The six disks come back; one that was empty may be formatted.
+/// Two pumps that make no chain. The six disks come back; one that was empty may be formatted, and each
+/// other is as it was.
 #[derive(Drop)]
 pub struct NotChained<D> {
     pub disks: Six<D>,

@@ -1,6 +1,8 @@
-/// The disks of two pumps in a row: of each its low, its high and its receiver's disk.
+use recovery::Trio;
+
+/// The disks of two pumps in a row.
 #[derive(Drop)]
 pub struct Six<D> {
-    pub first: (D, D, D),
-    pub second: (D, D, D),
+    pub first: Trio<D>,
+    pub second: Trio<D>,
 }

@@ -1,28 +1,77 @@
 //! Two pumps are opened and joined, and their disks come back.
 
-ghost use Rattle.std.specs.Prelude.{◌≡◌, false, IfOk, IfErr, OnOk};
-ghost use Rattle.disk_model.specs.declared.name.Role.TheVariants as roles;
+ghost use Rattle.std.specs.Prelude.{◌≡◌, ◌≤◌, false, None, IfOk, IfErr, OnOk};
 ghost use Rattle.pump_chain.specs.Chained.{Chained, unsent};
+ghost use Rattle.pump_chain.specs.Compared.{AreRead, IsRead};
 ghost use Rattle.pump_chain.specs.Comparing.{IsUnlinked};
-ghost use Rattle.pump_chain.specs.Opening.{first_chained};
+ghost use Rattle.pump_chain.specs.Opening.{first_chained, trio_of, StandFor, HaveRoom, AreLeft, IsUnopened, ComeBackFor, IsExcused, cause_of, is_by_device};
 ghost use Rattle.pump_chain.specs.Standing.{ChainStands, ChainStandsOrFails, chain_is_down};
 ghost use Rattle.pump_core.specs.Lawful.{IsPrefixOf};
 ghost use Rattle.pump_frame.specs.Rows.{IsLawfulRow};
-ghost use Rattle.script_reader.specs.Openings.{Found, accepted_in};
+ghost use Rattle.script_reader.specs.Openings.{Found, accepted_in, first_past};
 ghost use Rattle.script_reader.specs.Past.{Past};
 ghost use Rattle.two_worlds.specs.Disks.{CrashesOpen, LeaveWorld, OpenAgain};
-ghost use Rattle.two_worlds.specs.Openings.{DisksStandFor};
-ghost use Rattle.two_worlds.specs.Pumps.{StandsFor, row_of, disk_at, is_down};
+ghost use Rattle.two_worlds.specs.Pumps.{StandsFor, StandsOrFails, row_of, is_down};
 
 use crate::chain::Chain;
 use crate::not_chained::{ChainWhy, NotChained};
 use crate::place::Place;
 use crate::sender::Sender;
 use crate::six::Six;
-use disk_model::Disk;
+use disk_model::{Disk, Role};
 use pump_frame::SessionRow;
+use recovery::{Trio, Why};
 use std::alloc::Global;
 use two_worlds::Pump;
+
+// The pump of a session, or why there is none, and its disks.
+fn open_one<D: Disk>(
+    alloc: Global,
+    row: &SessionRow,
+    disks: Trio<D>,
+) -> Result<Pump<D>, (ChainWhy, Trio<D>)>
+    requires lawful { IsLawfulRow row.now }
+    ensures found { IfOk result (λ pump. D.told.tells → (f : Found) × StandFor D.told row.now disks f) }
+    ensures stands { IfOk result (λ pump. D.told.tells → (f : Found) → StandFor D.told row.now disks f → StandsFor D.told pump (first_past row.now f)) }
+    ensures row { IfOk result (λ pump. row_of pump ≡ row.now) }
+    ensures up { IfOk result (λ pump. is_down pump ≡ false) }
+    ensures left { IfOk result (λ pump. AreLeft D.told row.now disks (trio_of pump) None) }
+    ensures back { IfErr result (λ e. IsUnopened D.told row.now disks e.1 e.0) }
+    ensures stops { IfErr result (λ e. D.told.tells → (f : Found) → StandFor D.told row.now disks f → IsExcused e.0) }
+    ensures room { D.told.tells_plan → HaveRoom D.told row.now disks → IfOk result (λ pump. HaveRoom D.told row.now (trio_of pump)) }
+{
+    match Pump::open(alloc, row, disks.low, disks.high, disks.recv) {
+        Ok(pump) => Ok(pump),
+        Err(refused) => {
+            let disks = Trio {
+                low: refused.low,
+                high: refused.high,
+                recv: refused.recv,
+            };
+            Err((cause(row.id, refused.role, refused.why), disks))
+        }
+    }
+}
+
+// Why the pump of this session is not opened.
+fn cause(session: u32, role: Role, why: Option<Why>) -> ChainWhy
+    ensures { result ≡ cause_of session role why }
+{
+    match why {
+        Some(why) => ChainWhy::Pump { session, role, why },
+        None => ChainWhy::Memory,
+    }
+}
+
+fn close_one<D: Disk>(pump: Pump<D>) -> Trio<D>
+    ensures disks { result ≡ trio_of pump }
+    ensures left { (p : Past) → StandsOrFails D.told pump p → LeaveWorld D.told (row_of pump) p.world result.low result.high result.recv }
+    ensures again { (p : Past) → StandsOrFails D.told pump p → OpenAgain D.told (row_of pump) p.world result.low result.high result.recv }
+    ensures crashes { CrashesOpen D.told (row_of pump) result.low result.high result.recv }
+{
+    let (low, high, recv) = pump.close();
+    Trio { low, high, recv }
+}
 
 impl<D: Disk> Chain<D> {
     // Two pumps, with nothing between them yet.
@@ -47,25 +96,25 @@ impl<D: Disk> Chain<D> {
         requires second { is_down self.old.second ≡ false }
         ensures linked { OnOk result (D.told.tells → (p q : Past) → StandsFor D.told self.old.first p → StandsFor D.told self.old.second q
             → IsPrefixOf q.world.accepted p.world.received) }
-        ensures refused { IfErr result (λ why. D.told.tells → (p q : Past) → StandsFor D.told self.old.first p → StandsFor D.told self.old.second q
-            → IsUnlinked q.world.accepted p.world.received why) }
-        ensures first { OnOk result ((p : Past) → StandsFor D.told self.old.first p → StandsFor D.told self.new.first p) }
-        ensures second { OnOk result ((p : Past) → StandsFor D.told self.old.second p → StandsFor D.told self.new.second p) }
-        ensures rows { OnOk result ((row_of self.new.first ≡ row_of self.old.first) × (row_of self.new.second ≡ row_of self.old.second)) }
+        ensures unlinked { IfErr result (λ why. D.told.tells → (p q : Past) → StandsFor D.told self.old.first p → StandsFor D.told self.old.second q
+            → is_by_device why ≡ false → IsUnlinked q.world.accepted p.world.received why) }
+        ensures stands { OnOk result (((p : Past) → StandsFor D.told self.old.first p → StandsFor D.told self.new.first p)
+            × ((p : Past) → StandsFor D.told self.old.second p → StandsFor D.told self.new.second p)) }
+        ensures read { OnOk result (IsRead D.told self.old.first self.new.first None × IsRead D.told self.old.second self.new.second None) }
+        ensures ends { IfErr result (AreRead D.told self.old.first self.new.first self.old.second self.new.second) }
         ensures up { OnOk result (chain_is_down self.new ≡ false) }
         ensures sender { self.new.sender ≡ self.old.sender }
         ensures under_way { self.new.is_under_way ≡ self.old.is_under_way }
     {
         let (accepted, removed, taken) = self.second.counts();
         let (_, _, received) = self.first.counts();
-        let count = accepted.max(taken);
-        if count > received {
+        if accepted > received {
             return Err(ChainWhy::Link {
-                count,
+                count: accepted,
                 bound: received,
             });
         }
-        match self.compare_taken(taken) {
+        match self.compare_taken(taken.min(accepted)) {
             Ok(()) => {}
             Err(why) => return Err(why),
         }
@@ -77,7 +126,10 @@ impl<D: Disk> Chain<D> {
 
     /// The chain of two sessions of lawful rows, over six disks. Each disk that is empty is formatted
     /// first, the first pump's before the second's. Then all that the second pump has accepted is
-    /// compared with what the first receiver has.
+    /// compared with what the first receiver has. Where the disks tell what they hold, there is a chain
+    /// exactly where each three stand for a session and the second one has accepted no message but the
+    /// first ones that the first receiver has; it is refused for the first cause in the order of
+    /// `ChainWhy`.
     pub fn open(
         alloc: Global,
         one: &SessionRow,
@@ -86,45 +138,41 @@ impl<D: Disk> Chain<D> {
     ) -> Result<Chain<D>, NotChained<D>>
         requires one { IsLawfulRow one.now }
         requires two { IsLawfulRow two.now }
-        ensures first { IfOk result (λ chain. D.told.tells → (f : Found) × DisksStandFor D.told one.now disks.first.0 disks.first.1 disks.first.2 f) }
-        ensures second { IfOk result (λ chain. D.told.tells → (f : Found) × DisksStandFor D.told two.now disks.second.0 disks.second.1 disks.second.2 f) }
-        ensures stands { IfOk result (λ chain. D.told.tells → (f h : Found) → DisksStandFor D.told one.now disks.first.0 disks.first.1 disks.first.2 f
-            → DisksStandFor D.told two.now disks.second.0 disks.second.1 disks.second.2 h → ChainStands D.told chain (first_chained one.now f two.now h)) }
-        ensures refused { IfErr result (λ e. D.told.tells → (f h : Found) → DisksStandFor D.told one.now disks.first.0 disks.first.1 disks.first.2 f
-            → DisksStandFor D.told two.now disks.second.0 disks.second.1 disks.second.2 h → IsUnlinked (accepted_in h) f.received e.why) }
+        requires apart { one.now.id ≡ two.now.id → ⊥ }
+        requires message { one.now.message ≤ two.now.message }
+        ensures first { IfOk result (λ chain. D.told.tells → (f : Found) × StandFor D.told one.now disks.first f) }
+        ensures second { IfOk result (λ chain. D.told.tells → (h : Found) × StandFor D.told two.now disks.second h) }
+        ensures stands { IfOk result (λ chain. D.told.tells → (f h : Found) → StandFor D.told one.now disks.first f → StandFor D.told two.now disks.second h
+            → ChainStands D.told chain (first_chained one.now f two.now h)) }
+        ensures rows { IfOk result (λ chain. (row_of chain.first ≡ one.now) × (row_of chain.second ≡ two.now)) }
         ensures up { IfOk result (λ chain. chain_is_down chain ≡ false) }
+        ensures left { IfOk result (λ chain. AreLeft D.told one.now disks.first (trio_of chain.first) None
+            × AreLeft D.told two.now disks.second (trio_of chain.second) None) }
+        ensures back { IfErr result (λ e. ComeBackFor D.told one.now two.now disks e.disks e.why) }
+        ensures stops { IfErr result (λ e. D.told.tells → (f h : Found) → StandFor D.told one.now disks.first f → StandFor D.told two.now disks.second h
+            → IsPrefixOf (accepted_in h) f.received → IsExcused e.why) }
+        ensures room { D.told.tells_plan → HaveRoom D.told one.now disks.first → HaveRoom D.told two.now disks.second
+            → IfOk result (λ chain. HaveRoom D.told one.now (trio_of chain.first) × HaveRoom D.told two.now (trio_of chain.second)) }
+        ensures never { D.told.tells_plan → HaveRoom D.told one.now disks.first → HaveRoom D.told two.now disks.second
+            → IfErr result (λ e. is_by_device e.why ≡ false) }
     {
-        let (low, high, recv) = disks.first;
-        let (next_low, next_high, next_recv) = disks.second;
-        let first = match Pump::open(alloc, one, low, high, recv) {
+        let first = match open_one(alloc, one, disks.first) {
             Ok(pump) => pump,
-            Err(e) => {
+            Err((why, first)) => {
+                let second = disks.second;
                 return Err(NotChained {
-                    disks: Six {
-                        first: (e.low, e.high, e.recv),
-                        second: (next_low, next_high, next_recv),
-                    },
-                    why: ChainWhy::Pump {
-                        session: one.id,
-                        role: e.role,
-                        why: e.why,
-                    },
+                    disks: Six { first, second },
+                    why,
                 });
             }
         };
-        let second = match Pump::open(alloc, two, next_low, next_high, next_recv) {
+        let second = match open_one(alloc, two, disks.second) {
             Ok(pump) => pump,
-            Err(e) => {
+            Err((why, second)) => {
+                let first = close_one(first);
                 return Err(NotChained {
-                    disks: Six {
-                        first: first.close(),
-                        second: (e.low, e.high, e.recv),
-                    },
-                    why: ChainWhy::Pump {
-                        session: two.id,
-                        role: e.role,
-                        why: e.why,
-                    },
+                    disks: Six { first, second },
+                    why,
                 });
             }
         };
@@ -142,20 +190,20 @@ impl<D: Disk> Chain<D> {
     /// stands for what a crash leaves of the two worlds, also where a call of one of them failed: over
     /// such disks no opening of either pump refuses anything.
     pub fn close(self) -> Six<D>
-        ensures first { result.first ≡ (disk_at roles.Low self.first, disk_at roles.High self.first, disk_at roles.Recv self.first) }
-        ensures second { result.second ≡ (disk_at roles.Low self.second, disk_at roles.High self.second, disk_at roles.Recv self.second) }
+        ensures first { result.first ≡ trio_of self.first }
+        ensures second { result.second ≡ trio_of self.second }
         ensures left { (c : Chained) → ChainStandsOrFails D.told self c
-            → LeaveWorld D.told (row_of self.first) c.first.past.world result.first.0 result.first.1 result.first.2
-            × LeaveWorld D.told (row_of self.second) c.second.past.world result.second.0 result.second.1 result.second.2 }
+            → LeaveWorld D.told (row_of self.first) c.first.past.world result.first.low result.first.high result.first.recv
+            × LeaveWorld D.told (row_of self.second) c.second.past.world result.second.low result.second.high result.second.recv }
         ensures again { (c : Chained) → ChainStandsOrFails D.told self c
-            → OpenAgain D.told (row_of self.first) c.first.past.world result.first.0 result.first.1 result.first.2
-            × OpenAgain D.told (row_of self.second) c.second.past.world result.second.0 result.second.1 result.second.2 }
-        ensures open { CrashesOpen D.told (row_of self.first) result.first.0 result.first.1 result.first.2
-            × CrashesOpen D.told (row_of self.second) result.second.0 result.second.1 result.second.2 }
+            → OpenAgain D.told (row_of self.first) c.first.past.world result.first.low result.first.high result.first.recv
+            × OpenAgain D.told (row_of self.second) c.second.past.world result.second.low result.second.high result.second.recv }
+        ensures open { CrashesOpen D.told (row_of self.first) result.first.low result.first.high result.first.recv
+            × CrashesOpen D.told (row_of self.second) result.second.low result.second.high result.second.recv }
     {
         Six {
-            first: self.first.close(),
-            second: self.second.close(),
+            first: close_one(self.first),
+            second: close_one(self.second),
         }
     }
 }

@@ -3,11 +3,12 @@ use Rattle.std.proofs.Common.{◌≡◌, ℕ, ◌≤◌, List, ◌++◌, length,
 use Rattle.std.specs.List.{All}
 use Rattle.std.proofs.lemmas.List.{take-append-le, take_all}
 use Rattle.pump_core.specs.Passage.{Low, High, shape_of_row, Agrees, IsAverage, NeverFall}
+use Rattle.relay_threads.specs.PairsRead.{pairs_of}
 use Rattle.relay_threads.specs.Records.{Made, recorded, made_of}
 use Rattle.relay_threads.proofs.Kept.{thin_of}
 use Rattle.script_reader.specs.Generated.{generated_row}
 use Rattle.race.specs.Messages.{race_opening, race_items}
-use Rattle.race.specs.MadeLooks.{moments_of, pairs_of}
+use Rattle.race.specs.MadeLooks.{moments_of}
 use Rattle.race.specs.Race.{IsLowRun, IsHighRun, ArePrinted, payloads}
 use Rattle.race.specs.Turns.{payload_in}
 use Rattle.race.proofs.RaceItems.{items_count}

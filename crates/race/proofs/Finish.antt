@@ -22,7 +22,7 @@ use Rattle.race.specs.declared.low.LowHalf.{LowHalf}
 use Rattle.race.proofs.LowAsks.{acks_are}
 use Rattle.race.proofs.Derived.{printed, received_is}
 use Rattle.race.proofs.RaceItems.{items_count}
-use Rattle.race.proofs.Replayable.{take_lawful, are_connected, not_lost}
+use Rattle.race.proofs.Replayable.{only_frames, take_lawful, not_lost}
 
 empty_hand : (ph : Phase) (item : Item) → is_idle_in ph ≡ true → hand_in ph item ≡ None
 empty_hand Idle item e = refl
@@ -42,8 +42,8 @@ module _ {L : Type 0} (stands : L → Low → High → Type 0) (shape : L → Sh
     words = a.words;
     take_all = a.take_all;
     full = a.full;
-    lawful = take_lawful made a.plain;
-    connected = are_connected made a.plain;
+    plain = only_frames made a.plain;
+    lawful = take_lawful made (only_frames made a.plain);
     kept = not_lost made a.plain;
   }
 

@@ -26,13 +26,14 @@ use Rattle.low_process.specs.declared.values.LowLook.{LowLook}
 use Rattle.low_process.specs.Looks.{StandsFor, Looks, IsInBounds, row_of, next_of, last_of, is_down_in, is_idle_in, hand_of, hand_in, hand_after, hand_stored, hand_passed, look_of, phase_of, state_of}
 use Rattle.low_process.specs.Ends.{StandsFitting, EndStep}
 use Rattle.low_process.specs.Whole.{LookStep, HasStore}
+use Rattle.relay_threads.specs.PairsRead.{pair_in}
 use Rattle.relay_threads.specs.Records.{Made, looks_made, life_made, history_made, replies_made, IsMade}
 use Rattle.relay_threads.proofs.Machine.{Led, led, reply_led}
 use Rattle.script_reader.specs.Generated.{drawn, generated_row}
 use Rattle.relay_threads.specs.RecordLines.{tells_fault}
 use Rattle.race.specs.LookWords.{word_after, word_of_look}
 use Rattle.race.specs.LowHalf.{LowAt, LowRests, IsOffer, goes_on, owed_in, with_hand, frames_so_far, arrival_in}
-use Rattle.race.specs.MadeLooks.{HaveWords, frames_of, frame_in, pair_in, is_ack, acks_of}
+use Rattle.race.specs.MadeLooks.{HaveWords, frames_of, frame_in, is_ack, acks_of}
 use Rattle.race.specs.Turns.{done_in}
 use Rattle.race.specs.Messages.{messages_in, race_items, race_opening, hello_frame, data_frame}
 use Rattle.race.specs.declared.low.LowHalf.{LowHalf}

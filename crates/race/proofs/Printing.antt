@@ -19,11 +19,12 @@ use Rattle.pump_core.specs.Step.{FeedbackFits, fits_in, fits_idle, fits_passing,
 use Rattle.pump_core.proofs.Lists.{slice_get-append, slice_get-past}
 use Rattle.pump_core.proofs.PassageSteps.{all_weaken}
 use Rattle.pump_core.proofs.Cuts.{one_cut}
+use Rattle.relay_threads.specs.PairsRead.{pair_in, pairs_of}
 use Rattle.relay_threads.specs.Records.{Made, Shown, looks_made, life_made, AreMade, was_full, passes_on, is_recorded, recorded, made_of}
 use Rattle.relay_threads.proofs.Machine.{led}
 use Rattle.relay_threads.proofs.Kept.{thin_of}
 use Rattle.race.specs.LookWords.{word_of_look}
-use Rattle.race.specs.MadeLooks.{moments_of, HaveWords, TakeAll, frame_in, frames_of, pair_in, pairs_of, FullFrom, NumbersFall, HasItsOwn}
+use Rattle.race.specs.MadeLooks.{moments_of, HaveWords, TakeAll, frame_in, frames_of, FullFrom, NumbersFall, HasItsOwn}
 
 not_gone : (gone : Bool) (a b : Bool) → gone ≡ false → (if gone then a else b) ≡ true → b ≡ true
 not_gone true a b g e = absurd (cc)

@@ -18,7 +18,7 @@ use Rattle.script_reader.specs.Alone.{tells_level}
 use Rattle.script_reader.specs.Generated.{generated_row}
 use Rattle.script_reader.specs.declared.line.Line.TheVariants as lines
 use Rattle.script_reader.specs.Lawful.{IsLawfulLine, IsLawfulFeedback, IsLawfulArriving}
-use Rattle.race.specs.MadeLooks.{IsPlainArrival, IsPlain}
+use Rattle.race.specs.MadeLooks.{IsPlainArrival, IsPlain, OnlyFrames}
 use Rattle.script_reader.specs.Openings.{Openings}
 use Rattle.relay_threads.proofs.Replaying.{replays}
 use Rattle.relay_threads.proofs.Scripting.{record_reads}
@@ -78,15 +78,19 @@ line_lawful m p = lawful_by (is_gone m.look.arrival) m (not_gone m.look.arrival 
 
 -- ---- all looks ----
 
-pub take_lawful : (made : List Made) → AllByRecursion IsPlain made → TakeLawful made
+pub only_frames : (made : List Made) → AllByRecursion IsPlain made → OnlyFrames made
+only_frames [] p = tt
+only_frames (m ∷ before) (p, ps) = (p.arrival, only_frames before ps)
+
+pub take_lawful : (made : List Made) → OnlyFrames made → TakeLawful made
 take_lawful [] p = tt
-take_lawful (m ∷ before) (p, ps) = (lawful_taken m.look.arrival m.taken p.arrival, take_lawful before ps)
+take_lawful (m ∷ before) (p, ps) = (lawful_taken m.look.arrival m.taken p, take_lawful before ps)
 
-unbroken : (made : List Made) → AllByRecursion IsPlain made → is_broken made ≡ false
+unbroken : (made : List Made) → OnlyFrames made → is_broken made ≡ false
 unbroken [] p = refl
-unbroken (m ∷ before) (p, ps) = still m.look.arrival m.taken (is_broken before) p.arrival ∙ unbroken before ps
+unbroken (m ∷ before) (p, ps) = still m.look.arrival m.taken (is_broken before) p ∙ unbroken before ps
 
-pub are_connected : (made : List Made) → AllByRecursion IsPlain made → AreConnected made
+are_connected : (made : List Made) → OnlyFrames made → AreConnected made
 are_connected [] p = tt
 are_connected (m ∷ before) (p, ps) = ((λ e. let no = sym e ∙ unbroken before ps in absurd (cc)), are_connected before ps)
 
@@ -131,5 +135,5 @@ replays_to_itself opens seed made bytes comments looks readable is = record {
   comments = comments;
   bytes_are = is;
   lines = record_reads generated_row race_opening made readable;
-  replays = replays opens generated_row race_opening refl made looks.are_made (tell_levels made) looks.lawful looks.connected looks.kept;
+  replays = replays opens generated_row race_opening refl made looks.are_made (tell_levels made) looks.lawful (are_connected made looks.plain) looks.kept;
 }

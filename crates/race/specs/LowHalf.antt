@@ -18,10 +18,11 @@ use Rattle.pump_core.specs.Passage.{Low, High, new_high, Shape, shape_of_row}
 use Rattle.low_process.specs.Looks.{StandsFor, row_of, next_of, is_down, is_idle, hand_of}
 use Rattle.low_process.specs.Ends.{StandsFitting}
 use Rattle.low_process.specs.Whole.{HasStore}
+use Rattle.relay_threads.specs.PairsRead.{pairs_of}
 use Rattle.relay_threads.specs.Records.{Made, life_made, history_made, replies_made, AreMade}
 use Rattle.script_reader.specs.Generated.{generated_row}
 use Rattle.race.specs.LookWords.{word_after}
-use Rattle.race.specs.MadeLooks.{HaveWords, TakeAll, IsPlain, FullFrom, frames_of, pairs_of, acks_of}
+use Rattle.race.specs.MadeLooks.{HaveWords, TakeAll, IsPlain, FullFrom, frames_of, acks_of}
 use Rattle.race.specs.Messages.{messages_in, race_items, race_opening, hello_frame, data_frame}
 use Rattle.race.specs.Turns.{done_in}
 use Rattle.race.specs.declared.low.LowHalf.{LowHalf}

@@ -1,13 +1,11 @@
 -- Readings of the looks of a race. Each list of looks has its newest one first.
 use Rattle.std.specs.Prelude.{◌≡◌, ℕ, ◌^◌, ◌<◌, ◌≤◌, Bool, true, false, not, List, [], ◌∷◌, ◌++◌, length, slice_get, Option, Some, None}
-use Rattle.std.specs.List.{All}
+use Rattle.std.specs.List.{All, AllByRecursion}
 use Rattle.pump_frame.specs.Frames.{IsLawful}
 use Rattle.pump_frame.specs.declared.frame.Frame.{Frame}
 use Rattle.pump_frame.specs.declared.frame.Kind.{Kind}
 use Rattle.pump_frame.specs.declared.frame.Kind.TheVariants.{Ack}
 use Rattle.pump_frame.specs.declared.row.SessionRow.{SessionRow}
-use Rattle.pump_core.specs.declared.feedback.Feedback.{Feedback}
-use Rattle.pump_core.specs.declared.feedback.Feedback.TheVariants.{Passed, Repeat}
 use Rattle.pump_core.specs.History.{Arrival, Opening}
 use Rattle.pump_core.specs.History.{Nothing, Came, Bad, Gone}
 use Rattle.pump_core.specs.Comings.{is_nothing}
@@ -42,16 +40,6 @@ abbrev pub frames_of : List Made → List Frame
 frames_of [] = []
 frames_of (m ∷ before) = frames_of before ++ frame_in m.look.arrival
 
-abbrev pub pair_in : Feedback → List (ℕ × ℕ)
-pair_in (Passed seen) = (seen.count, seen.average) ∷ []
-pair_in (Repeat seen) = (seen.count, seen.average) ∷ []
-pair_in _ = []
-
--- the pairs of count and average, the oldest first
-abbrev pub pairs_of : List Made → List (ℕ × ℕ)
-pairs_of [] = []
-pairs_of (m ∷ before) = pairs_of before ++ pair_in m.look.feedback
-
 abbrev pub is_ack_kind : Kind → Bool
 is_ack_kind Ack = true
 is_ack_kind _ = false
@@ -71,6 +59,10 @@ IsPlainArrival Nothing = Unit {0}
 IsPlainArrival (Came f) = IsLawful f
 IsPlainArrival Bad = ⊥
 IsPlainArrival Gone = ⊥
+
+-- nothing but lawful frames came
+abbrev pub OnlyFrames : List Made → Type 0
+OnlyFrames made = AllByRecursion (λ m. IsPlainArrival m.look.arrival) made
 
 -- A look to which nothing or a lawful frame came, whose device did not fail, and whose numbers are in the
 -- ranges of a script's lines.

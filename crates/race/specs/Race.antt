@@ -8,10 +8,11 @@ use Rattle.pump_core.specs.Passage.{Low, High, shape_of_row, IsAverage, NeverFal
 use Rattle.script_reader.specs.Generated.{generated_row}
 use Rattle.script_reader.specs.Transcript.{line_with_end}
 use Rattle.script_reader.specs.Spelling.{line_text}
+use Rattle.relay_threads.specs.PairsRead.{pairs_of}
 use Rattle.relay_threads.specs.Records.{Made, Shown, AreMade, is_recorded, recorded, made_of, record_of}
 use Rattle.relay_threads.specs.RecordLines.{look_text, opening_line, record_text}
-use Rattle.relay_threads.specs.Replays.{TakeLawful, AreConnected, is_lost, IsReadable, AreReadable}
-use Rattle.race.specs.MadeLooks.{moments_of, acks_of, HaveWords, TakeAll, frames_of, pairs_of, FullFrom, NumbersFall, HasItsOwn}
+use Rattle.relay_threads.specs.Replays.{TakeLawful, is_lost, IsReadable, AreReadable}
+use Rattle.race.specs.MadeLooks.{moments_of, acks_of, HaveWords, TakeAll, OnlyFrames, frames_of, FullFrom, NumbersFall, HasItsOwn}
 use Rattle.race.specs.Messages.{race_items, race_frames, race_opening}
 use Rattle.race.specs.Turns.{turns, payload_in, done_in, asks_of, asks_in_run}
 
@@ -23,9 +24,9 @@ pub record AreRaceLooks (seed : ℕ) (made : List Made) : Type 0 where
   pub words : HaveWords seed made
   pub take_all : TakeAll made
   pub full : FullFrom 6 generated_row race_opening made
-  -- each frame is lawful, the connection goes on, and the device did not fail
+  -- nothing came but lawful frames, so each that was taken is one; and the device did not fail
+  pub plain : OnlyFrames made
   pub lawful : TakeLawful made
-  pub connected : AreConnected made
   pub kept : is_lost (record_of made) ≡ false
 
 -- what the low work did: these looks, while its end did this

@@ -13,6 +13,7 @@ pub mod LowStaying
 pub mod LowTurning
 pub mod LowVisiting
 pub mod Machine
+pub mod PairsRead
 pub mod Reaching
 pub mod ReadingBack
 pub mod Replaying

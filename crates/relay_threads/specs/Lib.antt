@@ -6,6 +6,7 @@ pub mod Levels
 pub mod LowRounds
 pub mod LowServes
 pub mod Pairs
+pub mod PairsRead
 pub mod LowStays
 pub mod Reaching
 pub mod RecordLines

@@ -11,11 +11,12 @@ ghost use Rattle.low_process.specs.Looks.{arrival_of, row_of, last_of, is_down, 
 ghost use Rattle.relay_threads.specs.declared.low_round.LowWhy.TheVariants.{LinkFailed, RecordFailed};
 ghost use Rattle.relay_threads.specs.Hearings.{held_in, IsLawfulHeard};
 ghost use Rattle.relay_threads.specs.Levels.{IsEndOf};
+ghost use Rattle.relay_threads.specs.PairsRead.{ReadsPairs};
 ghost use Rattle.relay_threads.specs.Reaching.{Reaches};
 ghost use Rattle.relay_threads.specs.Replays.{TellsLevel};
 ghost use Rattle.relay_threads.specs.Records.{Made, was_full as full_before};
 ghost use Rattle.relay_threads.specs.RecordLines.{HasLawfulFrame};
-ghost use Rattle.relay_threads.specs.LowRounds.{Round, looks_heard, is_ack, is_ack_made, cause};
+ghost use Rattle.relay_threads.specs.LowRounds.{Round, with_look, looks_heard, is_ack, is_ack_made, cause};
 ghost use Rattle.relay_threads.specs.LowServes.{Turns, LeavesIf, HearsIf, arrival_heard, is_failed, text_made, why_by, is_device_in, CountsFaultIn, bytes_of, bytes_made, full_after};
 
 use crate::hear::{Heard, hear};
@@ -183,7 +184,8 @@ pub fn low_round<R: Wait, C: Link, K: Clock, W: Words, D: Disk, L: WaitLowEnd, O
         × ((before : List Made) → was_full ≡ full_before before
         → Reaches (Appends (O.written tape.old) (O.written tape.new)) (O.faults tape.old) (O.faults tape.new) r.is_kept (text_made (row_of process.old) before r.made))
         × (result.why ≡ cause r) × (result.is_full ≡ full_after was_full r.made) × (result.is_acked ≡ is_ack_made r.made)
-        × (IsEndOf L.stands L.shape ends.old (row_of process.old) → IfSome r.made (TellsLevel (row_of process.old))) }
+        × (IsEndOf L.stands L.shape ends.old (row_of process.old) → IfSome r.made (TellsLevel (row_of process.old)))
+        × ReadsPairs L.stands ends.old ends.new process.old process.new (with_look r.made []) }
     ensures begun { HasBegun reader.new }
     ensures ready { Ready D.told process.new store.new (L.stands ends.new) }
     ensures up { is_device_in result.why ≡ false → (result.why ≡ Some RecordFailed → ⊥) → is_down process.new ≡ false }

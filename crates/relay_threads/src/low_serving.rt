@@ -7,6 +7,7 @@ ghost use Rattle.low_process.specs.Ready.{Ready};
 ghost use Rattle.low_process.specs.Looks.{row_of, last_of, is_down};
 ghost use Rattle.relay_threads.specs.declared.low_round.LowWhy.TheVariants.{LinkFailed, RecordFailed, Stopped};
 ghost use Rattle.relay_threads.specs.Levels.{IsEndOf};
+ghost use Rattle.relay_threads.specs.PairsRead.{ReadsPairs};
 ghost use Rattle.relay_threads.specs.Reaching.{Reaches};
 ghost use Rattle.relay_threads.specs.Replays.{TellLevels};
 ghost use Rattle.relay_threads.specs.Records.{record_of};
@@ -65,7 +66,8 @@ pub fn serve_low<R: Wait, C: Link, K: Clock, W: Words, D: Disk, L: WaitLowEnd, O
         × Reaches (Appends (O.written tape.old) (O.written tape.new)) (O.faults tape.old) (O.faults tape.new) (all_kept rounds)
         (looks_text (row_of process.old) (record_of (made_in rounds)))
         × Grows (G.asked gate.old) (G.asked gate.new) (asked_in rounds result.why)
-        × (IsEndOf L.stands L.shape ends.old (row_of process.old) → TellLevels (row_of process.old) (made_in rounds)) }
+        × (IsEndOf L.stands L.shape ends.old (row_of process.old) → TellLevels (row_of process.old) (made_in rounds))
+        × ReadsPairs L.stands ends.old ends.new process.old process.new (made_in rounds) }
     ensures ready { Ready D.told process.new store.new (L.stands ends.new) }
     ensures up { is_device result.why ≡ false → (result.why ≡ RecordFailed → ⊥) → is_down process.new ≡ false }
     ensures order { last_of process.new ≤ K.floor clock.new }

@@ -11,6 +11,7 @@ ghost use Rattle.low_process.specs.Looks.{row_of, last_of, is_down};
 ghost use Rattle.relay_threads.specs.declared.low_round.LowWhy.TheVariants.{LinkFailed};
 ghost use Rattle.relay_threads.specs.declared.rounds_end.RoundsEnd.TheVariants.{Rounds as RoundsMade, RecordFailed as RecordBroke};
 ghost use Rattle.relay_threads.specs.Levels.{IsEndOf};
+ghost use Rattle.relay_threads.specs.PairsRead.{ReadsPairs};
 ghost use Rattle.relay_threads.specs.Reaching.{Reaches};
 ghost use Rattle.relay_threads.specs.Workers.{CountsEnd};
 ghost use Rattle.relay_threads.specs.Records.{Made};
@@ -48,7 +49,8 @@ fn leave<R: Wait, K: Clock, D: Disk, L: WaitLowEnd, O: Sink>(
     ensures leaves { (m : Made) × IsGone m × Leads process.old process.new (λ row o before. IsLawfulRow row → ReadsBack row before m) (λ before. m ∷ before)
         × Draws (K.reads clock.old) (K.reads clock.new) (m.look.moment ∷ [])
         × Reaches (Appends (O.written tape.old) (O.written tape.new)) (O.faults tape.old) (O.faults tape.new) result (text_made (row_of process.old) [] (Some m))
-        × (IsEndOf L.stands L.shape ends.old (row_of process.old) → TellsLevel (row_of process.old) m) }
+        × (IsEndOf L.stands L.shape ends.old (row_of process.old) → TellsLevel (row_of process.old) m)
+        × ReadsPairs L.stands ends.old ends.new process.old process.new (m ∷ []) }
     ensures ready { Ready D.told process.new store.new (L.stands ends.new) }
     ensures up { is_down process.new ≡ false }
     ensures order { last_of process.new ≤ K.floor clock.new }
@@ -121,7 +123,8 @@ fn visit<R: Wait, C: Link, K: Clock, W: Words, D: Disk, L: WaitLowEnd, O: Sink>(
         × Draws (K.reads clock.old) (K.reads clock.new) (moments_of rounds ++ moment_made gone)
         × Draws (W.gives words.old) (W.gives words.new) (words_of rounds)
         × Reaches (Appends (O.written tape.old) (O.written tape.new)) (O.faults tape.old) (O.faults tape.new) (is_kept_by result.end) (visit_text (row_of process.old) rounds gone)
-        × (IsEndOf L.stands L.shape ends.old (row_of process.old) → TellLevels (row_of process.old) (visited [] rounds gone)) }
+        × (IsEndOf L.stands L.shape ends.old (row_of process.old) → TellLevels (row_of process.old) (visited [] rounds gone))
+        × ReadsPairs L.stands ends.old ends.new process.old process.new (visited [] rounds gone) }
     ensures ready { Ready D.told process.new store.new (L.stands ends.new) }
     ensures up { is_ended result.end ≡ false → is_down process.new ≡ false }
     ensures order { last_of process.new ≤ K.floor clock.new }
@@ -172,7 +175,8 @@ fn stay<R: Wait, P: Door, K: Clock, W: Words, D: Disk, L: WaitLowEnd, O: Sink>(
         × Draws (K.reads clock.old) (K.reads clock.new) (moments_at x)
         × Draws (W.gives words.old) (W.gives words.new) (words_at x)
         × Reaches (Appends (O.written tape.old) (O.written tape.new)) (O.faults tape.old) (O.faults tape.new) (is_kept_by result.end) (text_at (row_of process.old) x)
-        × (IsEndOf L.stands L.shape ends.old (row_of process.old) → TellLevels (row_of process.old) (stay_after [] x)) }
+        × (IsEndOf L.stands L.shape ends.old (row_of process.old) → TellLevels (row_of process.old) (stay_after [] x))
+        × ReadsPairs L.stands ends.old ends.new process.old process.new (stay_after [] x) }
     ensures port { (n : ℕ) → P.port door.old n → P.port door.new n }
     ensures ready { Ready D.told process.new store.new (L.stands ends.new) }
     ensures up { is_ended result.end ≡ false → is_down process.new ≡ false }
@@ -241,7 +245,8 @@ pub fn low_rounds<R: Wait, P: Door, K: Clock, W: Words, D: Disk, L: WaitLowEnd, 
         × Draws (W.gives words.old) (W.gives words.new) (words_in stays)
         × Reaches (Appends (O.written tape.old) (O.written tape.new)) (O.faults tape.old) (O.faults tape.new) (is_kept_by (Some result)) (text_in (row_of process.old) stays)
         × ((o : Opening) → Lives process.old o [] → IsRecord (row_of process.old) stays)
-        × (IsEndOf L.stands L.shape ends.old (row_of process.old) → TellLevels (row_of process.old) (stayed [] stays)) }
+        × (IsEndOf L.stands L.shape ends.old (row_of process.old) → TellLevels (row_of process.old) (stayed [] stays))
+        × ReadsPairs L.stands ends.old ends.new process.old process.new (stayed [] stays) }
     ensures port { (n : ℕ) → P.port door.old n → P.port door.new n }
     ensures ready { Ready D.told process.new store.new (L.stands ends.new) }
     ensures up { result ≡ RoundsMade → is_down process.new ≡ false }

@@ -13,7 +13,7 @@ use Rattle.pump_link.specs.Ports.{PortsStep}
 use Rattle.pump_link.proofs.Grown.{Grows-all, Draws-all}
 use Rattle.pump_core.specs.Exchanges.{Part, IsCut, count_after}
 use Rattle.pump_core.specs.History.{Opening}
-use Rattle.pump_core.specs.Passage.{Shape, Low, High}
+use Rattle.pump_core.specs.Passage.{Shape, Low, High, NeverFall}
 use Rattle.pump_core.specs.Standing.{State, phase_after}
 use Rattle.script_reader.specs.Grammar.{IsCount}
 use Rattle.script_reader.specs.Spelling.{line_text}
@@ -22,10 +22,12 @@ use Rattle.stable_buffer.specs.declared.low.LowStore.{LowStore}
 use Rattle.low_process.specs.declared.values.Phase.{Phase}
 use Rattle.low_process.specs.declared.values.Phase.TheVariants as phases
 use Rattle.low_process.specs.declared.process.LowProcess.{LowProcess}
+use Rattle.low_process.specs.Ends.{StandsFitting}
 use Rattle.low_process.specs.Looks.{row_of, next_of, opening_of, is_down, is_down_in, phase_of}
 use Rattle.relay_threads.specs.Levels.{IsEndOf}
 use Rattle.relay_threads.specs.LowServes.{Lives}
 use Rattle.relay_threads.specs.LowStays.{AreStays, is_kept_by, stayed, words_in, text_in}
+use Rattle.relay_threads.specs.PairsRead.{pairs_of}
 use Rattle.relay_threads.specs.Reaching.{Reaches}
 use Rattle.relay_threads.specs.RecordLines.{opening_line, coarse_text, first_text, looks_text, record_text}
 use Rattle.relay_threads.specs.Records.{AreMade, life_made, record_of}
@@ -169,8 +171,16 @@ module _ {D L S E : Type 0} (t : DoorsTell D L) (m : Meaning S) (stands : E → 
       let here : IsEndOf stands shape lent.v.parts.ends (row_of p) = subst (λ (x : LowParts ChaCha S E). IsEndOf stands shape x.ends (row_of x.process)) (sym lent.parts_are) end in
       subst (λ (z : SessionRow). TellLevels z (stayed [] lent.ran.stays)) row_before (lent.ran.levels here)
 
-  pub low_served : IsLawfulRow row → IsCount next (is_some hand) → IsEndOf stands shape parts.ends (row_of parts.process) → LowServed t m row rounds key ports now_ports reads now_reads written now_written faults now_faults disk now_disk end
-  low_served lawful counted end_is_rows = record {
+  -- the end had read nothing before
+  rising : (l : Low) (h : High) → l.pairs ≡ [] → StandsFitting (stands parts.ends) parts.process l h → NeverFall (pairs_of (stayed [] lent.ran.stays))
+  rising l h none fits =
+      let here : StandsFitting (stands lent.v.parts.ends) p l h = subst (λ (x : LowParts ChaCha S E). StandsFitting (stands x.ends) x.process l h) (sym lent.parts_are) fits in
+      let read = lent.ran.pairs l h here in
+      subst NeverFall (read.pairs_are ∙ ap (λ (ps : List (ℕ × ℕ)). ps ++ pairs_of (stayed [] lent.ran.stays)) none) (read.falls (subst NeverFall (sym none) tt))
+
+  pub low_served : IsLawfulRow row → IsCount next (is_some hand) → IsEndOf stands shape parts.ends (row_of parts.process) → (l : Low) (h : High) → l.pairs ≡ [] → StandsFitting (stands parts.ends) parts.process l h
+      → LowServed t m row rounds key ports now_ports reads now_reads written now_written faults now_faults disk now_disk end
+  low_served lawful counted end_is_rows l h none fits = record {
     opening = o;
     found = found;
     is_opened = lent.ran.is_opened;
@@ -192,6 +202,7 @@ module _ {D L S E : Type 0} (t : DoorsTell D L) (m : Meaning S) (stands : E → 
     tape = subst (λ (x : RoundsEnd × List ℕ). Reaches (Appends written now_written) faults now_faults (is_kept_by (Some x.0)) x.1) (λ i. (lent.end_is i, record_is i)) lent.ran.tape;
     readable = record { opening = (begins counted).opening; coarse = (begins counted).coarse; looks = stays_readable row o lent.ran.stays lawful are_stays };
     levels = levels end_is_rows;
+    rising = rising l h none fits;
     left = λ told. (lived_parts, subst (λ (r : SessionRow). IsCut r (life_made o (stayed [] lent.ran.stays)) lived_parts) row_after lives_on.stands.stands.cut, left_by told);
     device = counts_from (Some end) (m.count disk) (m.count (low_disk lent.v.parts.store)) (m.count now_disk) first_counts
         (subst (λ (x : RoundsEnd × S). CountsEnd (Some x.0) (m.count (low_disk lent.v.parts.store)) (m.count x.1)) (λ i. (lent.end_is i, now_disk_is i)) lent.ran.device);

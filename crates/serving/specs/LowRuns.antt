@@ -15,6 +15,7 @@ use Rattle.low_process.specs.Whole.{HasStore}
 use Rattle.relay_threads.specs.Levels.{IsEndOf}
 use Rattle.relay_threads.specs.LowServes.{Lives}
 use Rattle.relay_threads.specs.LowStays.{Stay, IsRecord, StaysSo, TellsVisit, is_kept_by, stayed, steps, answers, moments_in, words_in, text_in}
+use Rattle.relay_threads.specs.PairsRead.{ReadsPairs}
 use Rattle.relay_threads.specs.Reaching.{Reaches}
 use Rattle.relay_threads.specs.RecordLines.{first_text}
 use Rattle.relay_threads.specs.Replays.{BeginsReadable, TellLevels}
@@ -48,6 +49,7 @@ pub record LowRan {R L W S E : Type 0} (t : DoorsTell R L) (m : Meaning S) (give
   pub tape : Reaches (Appends written now_written) faults now_faults (is_kept_by (Some w.end)) (opening_text v.parts ++ text_in (row_of v.parts.process) stays)
   pub begins : IsCount (found_in v.parts).count (found_in v.parts).is_held → BeginsReadable (row_of v.parts.process) (found_in v.parts)
   pub levels : IsEndOf stands shape v.parts.ends (row_of v.parts.process) → TellLevels (row_of v.parts.process) (stayed [] stays)
+  pub pairs : ReadsPairs stands v.parts.ends w.parts.ends v.parts.process w.parts.process (stayed [] stays)
   pub is_record : (o : Opening) → Lives v.parts.process o [] → IsRecord (row_of v.parts.process) stays
   pub store : HasStore m w.parts.process w.parts.store
   pub counts : m.count (low_disk v.parts.store) ≤ m.count (low_disk w.parts.store)

@@ -10,11 +10,13 @@ use Rattle.pump_link.specs.Ports.{PortsStep}
 use Rattle.pump_link.specs.Tells.{Draws}
 use Rattle.pump_core.specs.Exchanges.{Part, IsCut, count_after}
 use Rattle.pump_core.specs.History.{Opening}
+use Rattle.pump_core.specs.Passage.{NeverFall}
 use Rattle.pump_core.specs.Phases.{Phase, Down}
 use Rattle.pump_core.specs.Standing.{phase_after}
 use Rattle.stable_buffer.specs.Low.{StandsForCount}
 use Rattle.stable_buffer.specs.Stands.{LowStands}
 use Rattle.relay_threads.specs.LowStays.{Stay, AreStays, TellsVisit, is_kept_by, stayed, steps, answers, moments_in, words_in}
+use Rattle.relay_threads.specs.PairsRead.{pairs_of}
 use Rattle.relay_threads.specs.Reaching.{Reaches}
 use Rattle.relay_threads.specs.Records.{AreMade, life_made}
 use Rattle.relay_threads.specs.RecordLines.{record_text}
@@ -58,6 +60,8 @@ pub record LowServed {D L S : Type 0} (t : DoorsTell D L) (m : Meaning S) (row :
   pub readable : AreReadable row opening (stayed [] stays)
   -- .. and each average that it tells is a level, where the session is coarse
   pub levels : TellLevels row (stayed [] stays)
+  -- the counts that the looks tell never fall
+  pub rising : NeverFall (pairs_of (stayed [] stays))
   -- the disk counts what the life stored, unless it failed
   pub left : m.tells → (parts : List Part) × IsCut row (life_made opening (stayed [] stays)) parts
       × (is_lost (phase_after row opening parts) ≡ false → StandsForCount row (count_after opening parts) (m.reading now_disk))

@@ -20,6 +20,7 @@ use Rattle.relay_threads.specs.RecordLines.{made_by}
 use Rattle.relay_threads.specs.Replays.{ReadsBack}
 use Rattle.relay_threads.specs.LowServes.{bytes_of, text_after}
 use Rattle.relay_threads.proofs.Levels.{step_tells}
+use Rattle.relay_threads.proofs.PairsRead.{step_reads, reads_none}
 use Rattle.relay_threads.proofs.Reaching.{rose_later, reaches_all, reaches_behind}
 use Rattle.relay_threads.proofs.LowTurning.{counts_by, rose_by, fault_by, down_is, round_failed, failed_turn, made_turn, round, failed_cause, made_cause, link_by}
 use Rattle.relay_threads.proofs.low_round.low_round.Goals as goal
@@ -45,6 +46,7 @@ returns-then-is_failed-clause-turn g c =
       refl,
       refl,
       (λ end. tt),
+      reads_none g.L.LowSide.stands c.args.ends.now p,
     )
 
 pub returns-clause-turn : goal.returns-clause-turn
@@ -94,6 +96,7 @@ returns-clause-turn g c =
           let was = c.requires.ready in
           step_tells g.L.LowSide.stands g.L.LowSide.shape c.look_waiting_into.new.ends (row_of p) end.0 (ap (λ (s : Shape). s.averaging) c.look_waiting_into.ensures.shape ∙ end.1)
           (g.L.LowSide.shape c.args.ends.now) g.L.LowSide.on_one_thread q was.l was.h (hand_of p) head.feedback (c.look_waiting_into.ensures.ends was.l was.h was.fitting)),
+      (λ l h fits. step_reads (g.L.LowSide.shape c.args.ends.now) g.L.LowSide.on_one_thread (StandsFitting (g.L.LowSide.stands c.look_waiting_into.new.ends) q) l h (hand_of p) head.feedback (c.look_waiting_into.ensures.ends l h fits)),
     )
 
 pub returns-clause-ready : goal.returns-clause-ready

@@ -2,6 +2,7 @@ use Rattle.std.proofs.Common.{◌≤◌, [], ◌∷◌, Some, length, refl, sym,
 use Rattle.relay_threads.specs.LowRounds.{made_in}
 use Rattle.relay_threads.specs.LowServes.{is_device_in}
 use Rattle.relay_threads.proofs.Levels.{levels_then}
+use Rattle.relay_threads.proofs.PairsRead.{reads_none, reads_more}
 use Rattle.relay_threads.proofs.Reaching.{reaches_whole}
 use Rattle.relay_threads.proofs.LowServing.{acks_few, calm_round, sent_on, kept_on, within_of, serves_more, so_far_none, so_far_more, told_none, sends_more, keeps_more, ended_by, broken_round, asked_by, asks_more}
 use Rattle.low_process.specs.Looks.{row_of}
@@ -15,6 +16,7 @@ loop-rounds-init g c = record {
   so_far = so_far_none c.args.process.now _ c.new-reader.ensures.value;
   told = told_none _ _ _ _ _ _ _;
   levels = λ end. tt;
+  pairs = reads_none g.L.LowSide.stands c.args.ends.now c.args.process.now;
   begun = c.new-reader.ensures.begun;
   ready = c.requires.ready;
   up = c.requires.up;
@@ -56,6 +58,7 @@ returns-in-Some-clause-served g c =
       keeps_more r rs _ _ _ _ _ _ _ _ _ was.tape f.serves.row f.full told.lines t.7,
       subst (Grows (g.G.Gate.asked c.args.gate.now) (g.G.Gate.asked c.pass.new.self)) (sym (asked_by r rs c.in-Some.why why)) (asks_more _ _ _ rs _ _ f.long f.acked told.asks c.pass.ensures.asked),
       levels_then g.L.LowSide.stands g.L.LowSide.shape c.args.ends.now c.loop-rounds.ends (row_of c.args.process.now) (row_of c.loop-rounds.process) r.made (made_in rs) was.shape f.serves.row was.levels t.11,
+      reads_more g.L.LowSide.stands c.args.ends.now c.loop-rounds.ends c.low_round-turn.new.ends c.args.process.now c.loop-rounds.process c.low_round-turn.new.process r.made (made_in rs) was.pairs t.12,
     )
 
 pub loop-rounds-preserved : goal.loop-rounds-preserved
@@ -85,6 +88,7 @@ loop-rounds-preserved g c =
         asks = asks_more _ _ _ rs _ _ f.long f.acked told.asks c.pass.ensures.asked;
       };
       levels = levels_then g.L.LowSide.stands g.L.LowSide.shape c.args.ends.now c.loop-rounds.ends (row_of c.args.process.now) (row_of c.loop-rounds.process) r.made (made_in rs) was.shape f.serves.row was.levels t.11;
+      pairs = reads_more g.L.LowSide.stands c.args.ends.now c.loop-rounds.ends c.low_round-turn.new.ends c.args.process.now c.loop-rounds.process c.low_round-turn.new.process r.made (made_in rs) was.pairs t.12;
       begun = c.low_round-turn.ensures.begun;
       ready = c.low_round-turn.ensures.ready;
       up = c.low_round-turn.ensures.up (ap is_device_in c.in_default.is) (λ e. let x = c.in_default.is in cc);
@@ -113,6 +117,7 @@ returns-then-not-pass-clause-served g c =
       reaches_whole _ _ _ _ _ (kept_on was.rounds f.go_on) was.tape t.lines,
       asks_more _ _ _ was.rounds _ _ f.long f.acked t.asks c.pass.ensures.asked,
       was.levels,
+      was.pairs,
     )
 
 pub returns-clause-served : goal.returns-clause-served
@@ -130,6 +135,7 @@ returns-clause-served g c =
       reaches_whole _ _ _ _ _ (kept_on was.rounds f.go_on) was.tape t.lines,
       t.asks,
       was.levels,
+      was.pairs,
     )
 
 pub returns-in-Some-clause-tape : goal.returns-in-Some-clause-tape

@@ -17,6 +17,7 @@ use Rattle.relay_threads.specs.Replays.{ReadsBack}
 use Rattle.relay_threads.specs.LowServes.{text_after}
 use Rattle.relay_threads.proofs.Levels.{step_tells}
 use Rattle.relay_threads.proofs.LowLives.{look_made, lives_on}
+use Rattle.relay_threads.proofs.PairsRead.{step_reads}
 use Rattle.relay_threads.proofs.low_stays.leave.Goals as goal
 
 pub returns-clause-leaves : goal.returns-clause-leaves
@@ -44,6 +45,7 @@ returns-clause-leaves g c =
           let was = c.requires.ready in
           step_tells g.L.LowSide.stands g.L.LowSide.shape c.look_waiting_into.new.ends (row_of p) end.0 (ap (λ (s : Shape). s.averaging) e.shape ∙ end.1)
           (g.L.LowSide.shape c.args.ends.now) g.L.LowSide.on_one_thread q was.l was.h (hand_of p) l.feedback (e.ends was.l was.h was.fitting)),
+      (λ low high fits. step_reads (g.L.LowSide.shape c.args.ends.now) g.L.LowSide.on_one_thread (StandsFitting (g.L.LowSide.stands c.look_waiting_into.new.ends) q) low high (hand_of p) l.feedback (e.ends low high fits)),
     )
 
 pub returns-clause-ready : goal.returns-clause-ready

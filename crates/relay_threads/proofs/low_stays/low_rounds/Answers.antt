@@ -5,6 +5,7 @@ use Rattle.low_process.specs.Looks.{row_of}
 use Rattle.relay_threads.specs.Reaching.{Reaches}
 use Rattle.relay_threads.specs.LowStays.{count, count_at, is_ended, is_kept_by, text_at}
 use Rattle.relay_threads.proofs.Levels.{levels_stays, still_end}
+use Rattle.relay_threads.proofs.PairsRead.{reads_none, reads_stays}
 use Rattle.relay_threads.proofs.Reaching.{rose_later, reaches_all}
 use Rattle.relay_threads.proofs.LowStaying.{stays_none, stays_more, stays_told_none, lines_more, worker_ends, no_rounds, recorded_as}
 use Rattle.relay_threads.proofs.low_stays.low_rounds.Goals as goal
@@ -15,6 +16,7 @@ loop-made-init g c = record {
   so = stays_none g.row.P-Link.Denot c.args.process.now;
   told = stays_told_none _ _ _ _ _ _ _ _ _;
   levels = λ end. tt;
+  pairs = reads_none g.L.LowSide.stands c.args.ends.now c.args.process.now;
   on = refl;
   over = λ lt. tt;
   made = refl;
@@ -53,6 +55,7 @@ returns-in-Some-clause-rounds g c =
       recorded_as c.args.process.now c.stay-turn.new.process (x ∷ past) (stays_more c.args.process.now c.loop-made.process c.stay-turn.new.process x past (was.over c.loop-made-test.true) was.so s.1),
       (λ end. levels_stays (row_of c.args.process.now) (row_of c.loop-made.process) x past was.so.row (was.levels end)
           (s.9 (still_end g.L.LowSide.stands g.L.LowSide.shape c.args.ends.now c.loop-made.ends (row_of c.args.process.now) (row_of c.loop-made.process) was.shape was.so.row end))),
+      reads_stays g.L.LowSide.stands c.args.ends.now c.loop-made.ends c.stay-turn.new.ends c.args.process.now c.loop-made.process c.stay-turn.new.process x past was.pairs s.10,
     )
 
 pub returns-clause-rounds : goal.returns-clause-rounds
@@ -70,6 +73,7 @@ returns-clause-rounds g c =
       reaches_all _ _ _ _ was.tape t.lines,
       recorded_as c.args.process.now c.loop-made.process was.stays was.so,
       was.levels,
+      was.pairs,
     )
 
 pub loop-made-preserved : goal.loop-made-preserved
@@ -98,6 +102,7 @@ loop-made-preserved g c =
       };
       levels = (λ end. levels_stays (row_of c.args.process.now) (row_of c.loop-made.process) x past was.so.row (was.levels end)
           (s.9 (still_end g.L.LowSide.stands g.L.LowSide.shape c.args.ends.now c.loop-made.ends (row_of c.args.process.now) (row_of c.loop-made.process) was.shape was.so.row end)));
+      pairs = reads_stays g.L.LowSide.stands c.args.ends.now c.loop-made.ends c.stay-turn.new.ends c.args.process.now c.loop-made.process c.stay-turn.new.process x past was.pairs s.10;
       on = none;
       over = λ lt. (ends.over (omega (arith, lt, ends.looks)) none, was.over c.loop-made-test.true);
       made = omega (arith, was.made, ends.looks);

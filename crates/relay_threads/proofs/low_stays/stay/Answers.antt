@@ -5,6 +5,7 @@ use Rattle.pump_link.proofs.Known.{Appends-none}
 use Rattle.relay_threads.specs.LowStays.{Alone, With, Visit}
 use Rattle.relay_threads.proofs.HighStaying.{nobody}
 use Rattle.relay_threads.proofs.LowStaying.{alone_so, alone_ends, with_so, ends_stay}
+use Rattle.relay_threads.proofs.PairsRead.{reads_none}
 use Rattle.relay_threads.proofs.Reaching.{reaches_all}
 use Rattle.relay_threads.proofs.low_stays.stay.Goals as goal
 
@@ -24,6 +25,7 @@ returns-in-Came-clause-stay g c =
       v.9,
       v.10,
       v.11,
+      v.12,
     )
 
 pub returns-in-NotYet-clause-stay : goal.returns-in-NotYet-clause-stay
@@ -40,4 +42,5 @@ returns-in-NotYet-clause-stay g c =
       Draws-nil _,
       reaches_all _ _ _ [] (le_refl _) (Appends-none _),
       (λ end. tt),
+      reads_none g.L.LowSide.stands c.args.ends.now c.args.process.now,
     )

@@ -5,6 +5,7 @@ use Rattle.low_process.specs.Looks.{row_of}
 use Rattle.relay_threads.specs.LowRounds.{made_in, moments_of}
 use Rattle.relay_threads.proofs.Levels.{levels_then}
 use Rattle.relay_threads.proofs.LowVisiting.{stays_on, goes, caused_by, bound_of, left_of, ends_without, ends_with, kept_alone, kept_both}
+use Rattle.relay_threads.proofs.PairsRead.{reads_more}
 use Rattle.relay_threads.proofs.low_stays.visit.Goals as goal
 
 pub returns-then-not-is_left_so-clause-visit : goal.returns-then-not-is_left_so-clause-visit
@@ -27,6 +28,7 @@ returns-then-not-is_left_so-clause-visit g c =
       s.6,
       kept_alone _ _ _ _ (row_of c.args.process.now) rounds most why e s.7 c.end_by.result c.end_by.ensures,
       s.9,
+      s.10,
     )
 
 pub returns-clause-visit : goal.returns-clause-visit
@@ -50,4 +52,5 @@ returns-clause-visit g c =
       s.6,
       kept_both _ _ _ _ (row_of c.args.process.now) rounds most why e s.7 _ _ (row_of c.serve_low-served.new.process) l.0 c.leave-is_kept.result c.end_kept.result left s.1.row c.end_kept.ensures l.4,
       levels_then g.L.LowSide.stands g.L.LowSide.shape c.args.ends.now c.serve_low-served.new.ends (row_of c.args.process.now) (row_of c.serve_low-served.new.process) (Some l.0) (made_in rounds) c.serve_low-served.ensures.shape s.1.row s.9 l.5,
+      reads_more g.L.LowSide.stands c.args.ends.now c.serve_low-served.new.ends c.leave-is_kept.new.ends c.args.process.now c.serve_low-served.new.process c.leave-is_kept.new.process (Some l.0) (made_in rounds) s.10 l.6,
     )

@@ -59,7 +59,9 @@ returns-clause-low g c =
     ended_so served.result.ends c.end_of.result c.end_of.ensures _ _ served.ensures.low
     (λ (ends : WorkersEnd) lent. low_served _ g.D.Disk.told g.L.LowSide.stands g.L.LowSide.shape row _ c.args.key _ _ _ _ _ _ _ _ o.next o.low_hand c.start_low-low.result o.low served.result.low c.args.low c.into_disk.result ends.low lent
     s.row s.next s.held s.lives s.words s.store c.into_disk.ensures (λ told. (o.removed, messages, stands told, held_is o.low_hand (o.next == o.removed + row.capacity) (o.next - 1) e.hands.last)) e.calls_low.counts c.requires.lawful s.counted
-    (still_end g.L.LowSide.stands g.L.LowSide.shape c.args.low_ends c.start_low-low.result.ends row (row_of c.start_low-low.result.process) (ap g.L.LowSide.shape s.kept ∙ e.ends.0) s.row c.requires.averages))
+    (still_end g.L.LowSide.stands g.L.LowSide.shape c.args.low_ends c.start_low-low.result.ends row (row_of c.start_low-low.result.process) (ap g.L.LowSide.shape s.kept ∙ e.ends.0) s.row c.requires.averages)
+    (record new_low { forwarded = passing row.capacity (numbered o.removed messages) }) new_high refl
+    (s.fits _ _ (dealt.fills new_low new_high c.requires.low_ends refl) (comes_next row.capacity o.removed o.next messages o.high_hand o.low_hand (row_capacity row c.requires.lawful).0 dealt.count dealt.places e.hands)))
 
 pub returns-clause-high : goal.returns-clause-high
 returns-clause-high g c =

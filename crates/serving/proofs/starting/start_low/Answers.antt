@@ -5,6 +5,11 @@ use Rattle.low_process.specs.Ends.{number_offered}
 use Rattle.serving.proofs.Dealt.{some_next}
 use Rattle.serving.proofs.starting.start_low.Goals as goal
 
+pub returns-clause-fits : goal.returns-clause-fits
+returns-clause-fits g c = λ l h stands comes.
+    let e = c.open-process.ensures in
+    (stands, λ up. subst (λ (x : ℕ × Option Item). ComesNext l.forwarded (number_offered x.0 x.1)) (λ i. (sym e.next i, sym e.hand i)) comes)
+
 pub returns-clause-ready : goal.returns-clause-ready
 returns-clause-ready g c =
     let e = c.open-process.ensures in
@@ -14,7 +19,7 @@ returns-clause-ready g c =
       of = λ up. record { ready = c.requires.ready; count = c.requires.count ∙ sym e.next; row = c.requires.row ∙ sym e.row };
       l = l;
       h = h;
-      fitting = (stands, λ up. subst (λ (x : ℕ × Option Item). ComesNext l.forwarded (number_offered x.0 x.1)) (λ i. (sym e.next i, sym e.hand i)) comes);
+      fitting = returns-clause-fits g c l h stands comes;
     }
 
 pub returns-clause-lives : goal.returns-clause-lives

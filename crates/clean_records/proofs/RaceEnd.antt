@@ -16,7 +16,7 @@ use Rattle.relay_threads.specs.RecordLines.{told_of, record_text}
 use Rattle.relay_threads.specs.Replays.{TellLevels}
 use Rattle.relay_threads.proofs.Kept.{thin_of}
 use Rattle.relay_threads.proofs.Scripting.{short_decimal}
-use Rattle.race.specs.MadeLooks.{pairs_of}
+use Rattle.relay_threads.specs.PairsRead.{pairs_of}
 use Rattle.race.specs.Messages.{race_opening}
 use Rattle.race.specs.Race.{IsRaceRecord, number_line, time_lines, end_line, end_lines}
 use Rattle.race.specs.Turns.{turn, turns, CanTurn}

@@ -28,7 +28,7 @@ use Rattle.race.specs.Turns.{turn, turns, CanTurn}
 use Rattle.race.proofs.RaceItems.{items_count}
 use Rattle.pump_audit.specs.Texts.{line_ends}
 use Rattle.pump_audit.proofs.Writing.{ends_append, one_more, comment_text}
-use Rattle.clean_records.specs.Clean.{OnlyFrames}
+use Rattle.race.specs.MadeLooks.{OnlyFrames}
 use Rattle.clean_records.proofs.LineEnds.{record_ends}
 use Rattle.clean_records.proofs.RaceEnd.{time_is_text, took_is_text, end_is_text, turns_few}
 use Rattle.clean_records.proofs.Goes.{state, moves}

@@ -31,7 +31,7 @@ use Rattle.relay_threads.specs.RecordLines.{taken_by, tells_fault, told_of, arri
 use Rattle.relay_threads.specs.Replays.{TakeLawful, TellsLevel, TellLevels, is_lost, IsReadable, AreReadable}
 use Rattle.relay_threads.proofs.Kept.{thin_of, recorded_at}
 use Rattle.relay_threads.proofs.Scripting.{comment_short}
-use Rattle.race.specs.MadeLooks.{pair_in, pairs_of}
+use Rattle.relay_threads.specs.PairsRead.{pair_in, pairs_of}
 use Rattle.pump_audit.specs.Records as audited
 use Rattle.pump_audit.specs.Records.{Record, history_of, Means, IsNextLook, AreTold, begun, with_look, made_coarse}
 use Rattle.pump_audit.specs.Places.{takes_looks}

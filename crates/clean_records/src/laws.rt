@@ -5,14 +5,14 @@ ghost use Rattle.pump_core.specs.History.{Opening};
 ghost use Rattle.pump_core.specs.Passage.{NeverFall};
 ghost use Rattle.pump_frame.specs.Rows.{IsLawfulRow};
 ghost use Rattle.pump_frame.specs.declared.row.SessionRow.{SessionRow};
-ghost use Rattle.race.specs.MadeLooks.{pairs_of};
 ghost use Rattle.race.specs.Race.{IsRaceRecord};
 ghost use Rattle.race.specs.Turns.{CanTurn};
 ghost use Rattle.relay_threads.specs.LowStays.{Stay, AreStays, stayed, count};
+ghost use Rattle.relay_threads.specs.PairsRead.{pairs_of};
 ghost use Rattle.relay_threads.specs.RecordLines.{record_text};
-ghost use Rattle.relay_threads.specs.Records.{Made, AreMade, record_of};
+ghost use Rattle.relay_threads.specs.Records.{Made, AreMade};
 ghost use Rattle.relay_threads.specs.Replays.{AreReadable, TellLevels, TakeLawful};
-ghost use Rattle.clean_records.specs.Clean.{IsCleanRecord, HasFewLines, OnlyFrames};
+ghost use Rattle.clean_records.specs.Clean.{IsCleanRecord, HasFewLines};
 
 use pump_link::Door;
 
@@ -21,30 +21,26 @@ use pump_link::Door;
 /// fall, and it has few enough lines.
 pub fn records_are_clean()
     ensures { (row : SessionRow) (o : Opening) (made : List Made) → IsLawfulRow row → AreMade row o made → AreReadable row o made
-        → TellLevels row made → TakeLawful made → NeverFall (pairs_of (record_of made)) → HasFewLines (record_text row o made)
+        → TellLevels row made → TakeLawful made → NeverFall (pairs_of made) → HasFewLines (record_text row o made)
         → IsCleanRecord (record_text row o made) }
 {}
 
-/// The record of a low worker's stays, of which `LowServed` says that they are stays, that their looks are a
-/// life, that each line reads back and that a coarse session is told levels, is clean if the counts that are
-/// told never fall and it has few enough lines (`clean`): `LowServed` says neither. It has at most two lines
-/// for each round and two at its head (`few`).
+/// The record of a low worker's stays is clean. `LowServed` says of what a relay served that they are stays,
+/// that their looks are a life, that each line reads back, that a coarse session is told levels and that the
+/// counts that are told never fall. It has at most two lines for each round and two at its head, so of fewer
+/// than 2^31 - 1 rounds it has few enough lines.
 pub fn served_records_are_clean<P: Door>()
     ensures clean { (row : SessionRow) (o : Opening) (stays : List (Stay P.Link)) → IsLawfulRow row → AreStays row o [] stays
         → AreMade row o (stayed [] stays) → AreReadable row o (stayed [] stays) → TellLevels row (stayed [] stays)
-        → NeverFall (pairs_of (record_of (stayed [] stays))) → HasFewLines (record_text row o (stayed [] stays))
+        → NeverFall (pairs_of (stayed [] stays)) → HasFewLines (record_text row o (stayed [] stays))
         → IsCleanRecord (record_text row o (stayed [] stays)) }
     ensures few { (row : SessionRow) (o : Opening) (stays : List (Stay P.Link)) → AreReadable row o (stayed [] stays)
         → 2 * count stays + 2 < 2 ^ 32 → HasFewLines (record_text row o (stayed [] stays)) }
 {}
 
-/// The record that a race prints where neither of its workers was stopped is clean, if it has few enough lines
-/// (`clean`). It has, where nothing but frames came to the low process (`few`), of which `IsRaceRecord` says
-/// nothing. The times of a race are 1 to 16, each at most 10^9, and its messages at most 100000, as it asks
-/// of its caller.
+/// The record that a race prints where neither of its workers was stopped is clean. The times of a race are 1
+/// to 16, each at most 10^9, and its messages at most 100000, as it asks of its caller.
 pub fn race_records_are_clean()
-    ensures clean { (seed count : ℕ) (times readings : List ℕ) (asks : List (ℕ × ℕ)) (bytes : List ℕ) → CanTurn times count
-        → IsRaceRecord seed count times readings asks bytes → HasFewLines bytes → IsCleanRecord bytes }
-    ensures few { (seed count : ℕ) (times readings : List ℕ) (asks : List (ℕ × ℕ)) (bytes : List ℕ) → CanTurn times count
-        → (is : IsRaceRecord seed count times readings asks bytes) → OnlyFrames is.made → HasFewLines bytes }
+    ensures { (seed count : ℕ) (times readings : List ℕ) (asks : List (ℕ × ℕ)) (bytes : List ℕ) → CanTurn times count
+        → IsRaceRecord seed count times readings asks bytes → IsCleanRecord bytes }
 {}

@@ -3,6 +3,8 @@ pub mod Cuts
 pub mod Example
 pub mod Files
 pub mod Following
+pub mod Going
+pub mod Lines
 pub mod Rooms
 pub mod Takings
 pub mod Wrapping

@@ -4,15 +4,22 @@
 
 mod compare;
 mod cutter;
+mod drain;
 mod fill;
 mod gathered;
 mod gathering;
 pub mod laws;
 mod length;
+mod lines;
+mod sending;
+mod wrap;
 
 pub use compare::{CompareFault, skip_received};
 pub use cutter::{Cut, Cutter};
 pub use gathered::{GatherFault, Gathered, gather};
+pub use wrap::{WrapEnd, Wrapped, wrap};
 
 #[cfg(test)]
 mod tests;
+#[cfg(test)]
+mod wrap_tests;

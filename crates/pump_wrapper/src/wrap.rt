@@ -54,6 +54,44 @@ pub struct Wrapped<D> {
 /// The size of a receiver's disk.
 const RECEIVER_SIZE: u64 = 16_777_216;
 
+/// Why a pump was not opened.
+fn not_opened(role: Role, why: Option<Why>) -> WrapEnd
+    ensures { IsFailure result }
+{
+    match why {
+        None => WrapEnd::Memory,
+        Some(why) => WrapEnd::Refused { role, why },
+    }
+}
+
+/// What a comparison came to.
+fn compared(answer: Result<(), CompareFault>) -> Result<(), WrapEnd>
+    ensures all { OnOk result (answer ≡ Ok tt) }
+    ensures failed { IfErr result IsFailure }
+{
+    match answer {
+        Ok(()) => Ok(()),
+        Err(CompareFault::Device { faults }) => Err(WrapEnd::Refused {
+            role: Role::Recv,
+            why: Why::Device { faults },
+        }),
+        Err(CompareFault::Differs { number }) => Err(WrapEnd::Differs { number }),
+        Err(CompareFault::Read) => Err(WrapEnd::Read),
+        Err(CompareFault::TooLong) => Err(WrapEnd::TooLong),
+    }
+}
+
+/// What the sending came to, of so many bytes.
+fn sent_all(bytes: u64, sent: Result<u64, WrapEnd>) -> WrapEnd
+    ensures all { IfOk sent (λ messages. result ≡ WrapEnd.Done bytes messages) }
+    ensures failed { IfErr sent (λ end. result ≡ end) }
+{
+    match sent {
+        Ok(messages) => WrapEnd::Done { bytes, messages },
+        Err(end) => end,
+    }
+}
+
 /// A pump over the three disks.
 fn open<D: Disk>(alloc: Global, row: &SessionRow, disks: Trio<D>) -> Result<Pump<D>, Wrapped<D>>
     requires lawful { IsLawfulRow row.now }
@@ -68,13 +106,7 @@ fn open<D: Disk>(alloc: Global, row: &SessionRow, disks: Trio<D>) -> Result<Pump
     match Pump::open(alloc, row, low, high, recv) {
         Ok(pump) => Ok(pump),
         Err(failed) => Err(Wrapped {
-            end: match failed.why {
-                None => WrapEnd::Memory,
-                Some(why) => WrapEnd::Refused {
-                    role: failed.role,
-                    why,
-                },
-            },
+            end: not_opened(failed.role, failed.why),
             disks: Trio {
                 low: failed.low,
                 high: failed.high,
@@ -140,17 +172,8 @@ fn compare<D: Disk, I: Source>(
             );
         }
     };
-    let compared = match skip_received(&mut receiver, cutter, file) {
-        Ok(()) => Ok(()),
-        Err(CompareFault::Device { faults }) => Err(WrapEnd::Refused {
-            role: Role::Recv,
-            why: Why::Device { faults },
-        }),
-        Err(CompareFault::Differs { number }) => Err(WrapEnd::Differs { number }),
-        Err(CompareFault::Read) => Err(WrapEnd::Read),
-        Err(CompareFault::TooLong) => Err(WrapEnd::TooLong),
-    };
-    (receiver.into_disk(), compared)
+    let answer = compared(skip_received(&mut receiver, cutter, file));
+    (receiver.into_disk(), answer)
 }
 
 /// The pump is opened again, and the further messages are sent.
@@ -172,15 +195,8 @@ fn send_further<D: Disk, I: Source>(
         Err(failed) => return failed,
     };
     let sent = send_rest(&mut pump, cutter, file);
-    let end = match sent {
-        Ok(messages) => WrapEnd::Done {
-            bytes: cutter.bytes(),
-            messages,
-        },
-        Err(end) => end,
-    };
     Wrapped {
-        end,
+        end: sent_all(cutter.bytes(), sent),
         disks: close(pump),
     }
 }
@@ -205,9 +221,9 @@ pub fn wrap<D: Disk, I: Source>(
     };
     let Trio { low, high, recv } = emptied;
     let mut cutter = Cutter::new(row.message);
-    let (recv, compared) = compare(row, recv, &mut cutter, file);
+    let (recv, answer) = compare(row, recv, &mut cutter, file);
     let disks = Trio { low, high, recv };
-    match compared {
+    match answer {
         Ok(()) => send_further(alloc, row, disks, &mut cutter, file),
         Err(end) => Wrapped { end, disks },
     }

@@ -53,7 +53,10 @@ module _ {D : Type 0} {g : _} (m : Meaning D) (row : SessionRow) (f : Found) whe
       let (low, at, is) = lines_lead row turned.past q (turn_lines row (2 * n)) _ (turn_on u n turned some small) led in
       let e : f.removed + n + 1 ≡ f.removed + (n + 1) = omega arith in
       let later = stands_later row q [] low k (f.removed + n + 1) (2 * n + 1) (2 * (n + 1)) (since_opening low k) (omega arith) at in
-      let lines : drain_lines row n 0 ++ turn_lines row (2 * n) ≡ drain_lines row (n + 1) 0 = sym (drain_more row n 0) in
+      let moment : 2 * n ≡ 0 + 2 * n = omega arith in
+      let one : suc n ≡ n + 1 = omega arith in
+      let lines : drain_lines row n 0 ++ turn_lines row (2 * n) ≡ drain_lines row (n + 1) 0 =
+      ap (λ (k : ℕ). drain_lines row n 0 ++ turn_lines row k) moment ∙ sym (drain_more row n 0) ∙ ap (λ (k : ℕ). drain_lines row k 0) one in
       record {
         past = q;
         led = subst (λ (l : List Line). LedBy row (first_past row f) l q) lines (led_then row (first_past row f) turned.past q (drain_lines row n 0) (turn_lines row (2 * n)) turned.led led);

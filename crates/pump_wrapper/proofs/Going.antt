@@ -1,5 +1,5 @@
 -- Lines one after another.
-use Rattle.std.proofs.Common.{◌≡◌, inl, inr, ℕ, ◌+◌, ◌≤◌, true, List, [], ◌∷◌, ◌++◌, Option, Some, None, Result, Ok, Err, refl, sym, ap, ◌∙◌, subst, arith, append_assoc}
+use Rattle.std.proofs.Common.{◌≡◌, inl, inr, ℕ, ◌+◌, ◌≤◌, Bool, true, List, [], ◌∷◌, ◌++◌, Option, Some, None, Result, Ok, Err, refl, sym, ap, ◌∙◌, subst, arith, append_assoc}
 use Rattle.std.specs.Prelude.{IfErr}
 use Rattle.disk_model.specs.Disk.{Meaning}
 use Rattle.disk_model.specs.declared.name.Role.{Role}
@@ -22,6 +22,21 @@ pub led_then : (row : SessionRow) (p mid q : Past) (xs ys : List Line) → LedBy
 led_then row p mid q [] ys e h = subst (λ (x : Past). LedBy row x ys q) e h
 led_then row p mid q (x ∷ xs) ys (next, printed, step, later) h = (next, printed, step, led_then row next mid q xs ys later h)
 
+-- ---- counts ----
+
+rose_later : (a b c : ℕ) → a ≤ b → Rose b c → Rose a c
+rose_later a b c le rose = omega (arith, le, rose)
+
+served_later : {D : Type 0} (m : Meaning D) (least : ℕ) (old new : D) (b : Bool) → Serves m least old new b → m.count old ≤ m.count new
+served_later m least old new b (inl (same, none)) = omega (arith, ap m.count same)
+served_later m least old new b (inr a) = a.counts
+
+served_rose : {D : Type 0} (m : Meaning D) (least : ℕ) (old new : D) → Serves m least old new true → Rose (m.count old) (m.count new)
+served_rose m least old new (inl (same, none)) = absurd (cc)
+served_rose m least old new (inr a) = a.rose refl
+
+-- ---- lines ----
+
 module _ {D : Type 0} {g : _} (m : Meaning D) where
   pub follows_then : (t : Pump D g) (row : SessionRow) (p mid : Past) (xs ys : List Line) (r : Result (Unit {0}) Stop) → LedBy row p xs mid → Follows m t row mid ys r → Follows m t row p (xs ++ ys) r
   follows_then t row p mid xs ys (Ok done) h (q, led, stands) = (q, led_then row p mid q xs ys h led, stands)
@@ -31,11 +46,6 @@ module _ {D : Type 0} {g : _} (m : Meaning D) where
   pub follows_stop : (t : Pump D g) (row : SessionRow) (p : Past) (xs ys : List Line) (stop : Stop) → Follows m t row p xs (Err stop) → Follows m t row p (xs ++ ys) (Err stop)
   follows_stop t row p xs ys stop (before, line, later, at, is, led, stopped) =
       (before, line, later ++ ys, at, ap (λ (l : List Line). l ++ ys) is ∙ append_assoc before (line ∷ later) ys, led, stopped)
-
-  -- ---- counts ----
-
-  rose_later : (a b c : ℕ) → a ≤ b → Rose b c → Rose a c
-  rose_later a b c le rose = omega (arith, le, rose)
 
   rose_before : (s u t : Pump D g) (stop : Stop) → ((role : Role) → m.count (disk_at role s) ≤ m.count (disk_at role u)) → RoseBy m u t stop → RoseBy m s t stop
   rose_before s u t stops.Line le h = tt
@@ -72,23 +82,15 @@ module _ {D : Type 0} {g : _} (m : Meaning D) where
   abbrev Moved : Pump D g → Pump D g → Option Stop → Type 0
   Moved s t stop = DisksGo m (row_of s) (disk_at roles.Low s) (disk_at roles.High s) (disk_at roles.Recv s) (disk_at roles.Low t) (disk_at roles.High t) (disk_at roles.Recv t) stop
 
-  served_later : (least : ℕ) (old new : D) (b : _) → Serves m least old new b → m.count old ≤ m.count new
-  served_later least old new b (inl (same, none)) = omega (arith, ap m.count same)
-  served_later least old new b (inr a) = a.counts
-
-  served_rose : (least : ℕ) (old new : D) → Serves m least old new true → Rose (m.count old) (m.count new)
-  served_rose least old new (inl (same, none)) = absurd (cc)
-  served_rose least old new (inr a) = a.rose refl
-
   moved_later : (s t : Pump D g) (stop : Option Stop) → Moved s t stop → (role : Role) → m.count (disk_at role s) ≤ m.count (disk_at role t)
-  moved_later s t stop go roles.Low = served_later _ _ _ _ go.low_goes
-  moved_later s t stop go roles.High = served_later _ _ _ _ go.high_goes
-  moved_later s t stop go roles.Recv = served_later _ _ _ _ go.recv_goes
+  moved_later s t stop go roles.Low = served_later m _ _ _ _ go.low_goes
+  moved_later s t stop go roles.High = served_later m _ _ _ _ go.high_goes
+  moved_later s t stop go roles.Recv = served_later m _ _ _ _ go.recv_goes
 
   moved_rose : (s t : Pump D g) (role : Role) (faults : ℕ) → Moved s t (Some (stops.Device role faults)) → Rose (m.count (disk_at role s)) (m.count (disk_at role t))
-  moved_rose s t roles.Low faults go = served_rose _ _ _ go.low_goes
-  moved_rose s t roles.High faults go = served_rose _ _ _ go.high_goes
-  moved_rose s t roles.Recv faults go = served_rose _ _ _ go.recv_goes
+  moved_rose s t roles.Low faults go = served_rose m _ _ _ go.low_goes
+  moved_rose s t roles.High faults go = served_rose m _ _ _ go.high_goes
+  moved_rose s t roles.Recv faults go = served_rose m _ _ _ go.recv_goes
 
   pub goes_one : (s t : Pump D g) (line : Line) (printed : List Event) → (m.tells → (p : Past) → StandsFor m s p → Applies m s t line p printed None) → row_of t ≡ row_of s → Moved s t None
       → Goes m s t (line ∷ []) (Ok tt)

@@ -1,5 +1,5 @@
 -- The further messages of a file that are sent one by one.
-use Rattle.std.proofs.Common.{◌≡◌, inl, inr, ℕ, zero, suc, ◌+◌, ◌-◌, ◌*◌, ◌^◌, ◌<◌, ◌≤◌, List, [], ◌∷◌, ◌++◌, length, Option, Some, None, Result, Ok, Err, refl, sym, ap, ◌∙◌, subst, arith, append_assoc, append-nil, length-append}
+use Rattle.std.proofs.Common.{◌≡◌, inl, inr, ℕ, zero, suc, ◌+◌, ◌-◌, ◌*◌, ◌^◌, ◌<◌, ◌≤◌, false, List, [], ◌∷◌, ◌++◌, length, Option, Some, None, Result, Ok, Err, refl, sym, ap, ◌∙◌, subst, arith, append_assoc, append-nil, length-append}
 use Rattle.std.specs.Prelude.{option_to_list}
 use Rattle.std.specs.Io.KnownBytes.{Consumes}
 use Rattle.disk_model.specs.Disk.{Meaning}
@@ -59,34 +59,42 @@ state_room : {D : Type 0} (m : Meaning D) (s : PumpState D) (p : Past) → Stand
 state_room m (Open c) p s = (let end = s.world.end in let within = s.recv_ready.ready.within in let size = s.recv_ready.size in omega (arith, end, within, size))
 state_room m (Shut d) p s = absurd s
 
+-- the session before its first line
+first_rests : (row : SessionRow) (messages : List Payload) → IsLawfulRow row → CanOpen row (all_taken messages)
+    → Stands row (first_past row (all_taken messages)) [] None (length messages) (length messages) 0 (at_rest false (length messages))
+first_rests row messages lawful can =
+    let f = all_taken messages in
+    let low = (opened_world row f).low_hand in
+    let first = opened_stands row f lawful can in
+    let count : length (accepted_in f) ≡ length messages = ap length (append-nil messages) in
+    let none : low ≡ None = none_in low (let live = live_are row (first_past row f) [] low (length (accepted_in f)) (length messages) 0 _ first in omega (arith, live, count)) in
+    subst (λ (o : Option ℕ). Stands row (first_past row f) [] o (length messages) (length messages) 0 (since_opening o (length messages))) none
+    (subst (λ (k : ℕ). Stands row (first_past row f) [] low k (length messages) 0 (since_opening low k)) count first)
+
+greets : (row : SessionRow) (messages : List Payload) → IsLawfulRow row → CanOpen row (all_taken messages) → LinesApply row (first_past row (all_taken messages)) (greeting row ∷ []) (Sent row (length messages) 0 messages)
+greets row messages lawful can = greeting_sends row (first_past row (all_taken messages)) (length messages) 0 messages (first_rests row messages lawful can) (omega arith) (append-nil messages)
+
+-- all that were to come are these
+gone : (more : List Payload) (start now new : Cutter) (left rest last : Option (List ℕ)) (message : List ℕ) (taken bytes : List ℕ) → Consumes left rest taken → Consumes rest last bytes → passed more start now left rest → GivesNext now new rest last message Done → AreToCome start left more
+gone more start now new None rest last message taken bytes c d was gives = tt
+gone more start now new (Some l) None last message taken bytes c d was gives = absurd c
+gone more start now new (Some l) (Some r) None message taken bytes c d was gives = absurd d
+gone more start now new (Some l) (Some r) (Some s) message taken bytes c d was gives = was ∙ ap (λ (ms : List (List ℕ)). more ++ ms) gives ∙ append-nil more
+
 module _ {D : Type 0} {g : _} (m : Meaning D) (row : SessionRow) (messages : List Payload) where
-  -- the session before its first line
-  first_rests : IsLawfulRow row → CanOpen row (all_taken messages)
-      → Stands row (first_past row (all_taken messages)) [] None (length messages) (length messages) 0 (at_rest false (length messages))
-  first_rests lawful can =
-      let f = all_taken messages in
-      let low = (opened_world row f).low_hand in
-      let first = opened_stands row f lawful can in
-      let count : length (accepted_in f) ≡ length messages = ap length (append-nil messages) in
-      let none : low ≡ None = none_in low (let live = live_are row (first_past row f) [] low (length (accepted_in f)) (length messages) 0 _ first in omega (arith, live, count)) in
-      subst (λ (o : Option ℕ). Stands row (first_past row f) [] o (length messages) (length messages) 0 (since_opening o (length messages))) none
-      (subst (λ (k : ℕ). Stands row (first_past row f) [] low k (length messages) 0 (since_opening low k)) count first)
-
-  greets : IsLawfulRow row → CanOpen row (all_taken messages) → LinesApply row (first_past row (all_taken messages)) (greeting row ∷ []) (Sent row (length messages) 0 messages)
-  greets lawful can = greeting_sends row (first_past row (all_taken messages)) (length messages) 0 messages (first_rests lawful can) (omega arith) (append-nil messages)
-
   pub sending_none : (u t : Pump D g) (start : Cutter) (left : Option (List ℕ)) → IsLawfulRow row → CanOpen row (all_taken messages) → StandsFor m u (first_past row (all_taken messages)) → row_of u ≡ row → m.tells
       → Goes m u t (greeting row ∷ []) (Ok tt) → Sending m t row messages start start left left (length messages)
   sending_none u t start left lawful can stands same told goes =
       let p = first_past row (all_taken messages) in
       let (q, led, at) = subst (λ (r : SessionRow). Follows m t r p (greeting row ∷ []) (Ok tt)) same (goes.follows told p stands) in
-      let sent = lines_lead row p q (greeting row ∷ []) _ (greets lawful can) led in
+      let sent = lines_lead row p q (greeting row ∷ []) _ (greets row messages lawful can) led in
+      let none : 0 ≡ 0 * pause row = omega arith in
       record {
         more = [];
         past = q;
         led = led;
         stands = at;
-        sent = (sent.0, sent.1 ∙ sym (append-nil messages));
+        sent = subst (λ (k : ℕ). Sent row (length messages) k (messages ++ []) q) none (sent.0, sent.1 ∙ sym (append-nil messages));
         count = omega arith;
         cut = none_passed start left;
       }
@@ -96,14 +104,14 @@ module _ {D : Type 0} {g : _} (m : Meaning D) (row : SessionRow) (messages : Lis
   greeting_goes u t stop lawful can stands same told goes line =
       let p = first_past row (all_taken messages) in
       let follows = subst (λ (r : SessionRow). Follows m t r p (greeting row ∷ []) (Err stop)) same (goes.follows told p stands) in
-      never_line m t row p (greeting row ∷ []) _ (greets lawful can) (subst (λ (s : Stop). Follows m t row p (greeting row ∷ []) (Err s)) line follows)
+      never_line m t row p (greeting row ∷ []) _ (greets row messages lawful can) (subst (λ (s : Stop). Follows m t row p (greeting row ∷ []) (Err s)) line follows)
 
   module _ (u t : Pump D g) (start old new : Cutter) (left between rest : Option (List ℕ)) (n moment : ℕ) (s : Sending m u row messages start old left between n)
       (is_moment : moment ≡ length s.more * pause row) (few : n ≤ 2 ^ 24) (small : pause row < 2 ^ 32) (message : Payload) (short : length message ≤ row.message) where
     late : length s.more * pause row ≤ 2 ^ 24 * 2 ^ 32
     late = (let all = times (length s.more) (pause row) (omega (arith, small)) in let count = s.count in omega (arith, all, count, few))
 
-    sends : LinesApply row s.past (message_lines row n moment message) (Sent row (n + 1) (moment + pause row) (messages ++ s.more ++ message ∷ []))
+    sends : LinesApply row s.past (message_lines row n moment message) (Sent row (n + 1) (moment + pause row) (messages ++ (s.more ++ message ∷ [])))
     sends =
         let sent = subst (λ (k : ℕ). Sent row n k (messages ++ s.more) s.past) (sym is_moment) s.sent in
         let l = late in
@@ -119,15 +127,16 @@ module _ {D : Type 0} {g : _} (m : Meaning D) (row : SessionRow) (messages : Lis
         let size : length (s.more ++ message ∷ []) ≡ length s.more + 1 = length-append s.more (message ∷ []) in
         let later : moment + pause row ≡ length (s.more ++ message ∷ []) * pause row = ap (λ (k : ℕ). k + pause row) is_moment ∙ next (length s.more) (pause row) ∙ ap (λ (k : ℕ). k * pause row) (sym size) in
         let number : length messages + length s.more ≡ n = sym s.count in
+        let at_moment : 0 + length s.more * pause row ≡ moment = omega (arith, is_moment) in
         let lines : send_lines row (length messages) 0 (s.more ++ message ∷ []) ≡ send_lines row (length messages) 0 s.more ++ message_lines row n moment message =
-        send_more row (length messages) 0 s.more message ∙ (λ i. send_lines row (length messages) 0 s.more ++ message_lines row (number i) (sym is_moment i) message) in
+        send_more row (length messages) 0 s.more message ∙ (λ i. send_lines row (length messages) 0 s.more ++ message_lines row (number i) (at_moment i) message) in
         record {
           more = s.more ++ message ∷ [];
           past = q;
           led = subst (λ (l : List Line). LedBy row p (greeting row ∷ l) q) (sym lines)
               (led_then row p s.past q (greeting row ∷ send_lines row (length messages) 0 s.more) (message_lines row n moment message) s.led led);
           stands = at;
-          sent = subst (λ (k : ℕ). Sent row (n + 1) k (messages ++ s.more ++ message ∷ []) q) later sent;
+          sent = subst (λ (k : ℕ). Sent row (n + 1) k (messages ++ (s.more ++ message ∷ [])) q) later sent;
           count = (let count = s.count in omega (arith, count, size));
           cut = one_passed s.more (s.more ++ message ∷ []) message start old new left between rest taken was s.cut gives refl;
         }
@@ -145,12 +154,6 @@ module _ {D : Type 0} {g : _} (m : Meaning D) (row : SessionRow) (messages : Lis
       let least = log_least s.past.world.received in
       let has = stands.rests.calm.stays.lawful.delivered.removed in
       omega (arith, room, least, has, stands.removed_is)
-
-  gone : (more : List Payload) (start now new : Cutter) (left rest last : Option (List ℕ)) (message : List ℕ) (taken bytes : List ℕ) → Consumes left rest taken → Consumes rest last bytes → passed more start now left rest → GivesNext now new rest last message Done → AreToCome start left more
-  gone more start now new None rest last message taken bytes c d was gives = tt
-  gone more start now new (Some l) None last message taken bytes c d was gives = absurd c
-  gone more start now new (Some l) (Some r) None message taken bytes c d was gives = absurd d
-  gone more start now new (Some l) (Some r) (Some s) message taken bytes c d was gives = was ∙ ap (λ (ms : List (List ℕ)). more ++ ms) gives ∙ append-nil more
 
   -- none is left
   pub sending_all : (t : Pump D g) (start now new : Cutter) (left rest last : Option (List ℕ)) (n : ℕ) (message taken bytes : List ℕ) → (s : Sending m t row messages start now left rest n) → Consumes left rest taken → Consumes rest last bytes

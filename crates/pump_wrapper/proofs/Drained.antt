@@ -16,7 +16,7 @@ use Rattle.two_worlds.specs.Pumps.{StandsFor, row_of}
 use Rattle.pump_wrapper.specs.Sending.{turn_lines, drain_lines, LedBy, Follows, Goes}
 use Rattle.pump_wrapper.specs.Wraps.{HasPassed, Drains}
 use Rattle.pump_wrapper.proofs.Going.{led_then}
-use Rattle.pump_wrapper.proofs.Lines.{LinesApply, lines_lead, never_line, Emptying, turn_empties, drain_more}
+use Rattle.pump_wrapper.proofs.Applying.{LinesApply, lines_lead, never_line, Emptying, turn_empties, drain_more}
 
 -- so many turns were made since the opening
 pub record Turned {D : Type 0} {g : _} (m : Meaning D) (t : Pump D g) (row : SessionRow) (f : Found) (n : ℕ) : Type 0 where
@@ -46,10 +46,10 @@ module _ {D : Type 0} {g : _} (m : Meaning D) (row : SessionRow) (f : Found) whe
   turn_on u n t some small = turn_empties row t.past (length (accepted_in f)) (f.removed + n) (2 * n) (2 * n) (accepted_in f) t.empties (omega arith) some (omega (arith, small))
 
   pub turned_more : (u t : Pump D g) (n : ℕ) → Turned m u row f n → f.removed + n < length (accepted_in f) → n ≤ 2 ^ 32 → row_of u ≡ row → m.tells
-      → Goes m u t (turn_lines row (2 * n)) (Ok tt) → Turned m t row f (n + 1)
+      → Goes m u t (turn_lines (row_of u) (2 * n)) (Ok tt) → Turned m t row f (n + 1)
   turned_more u t n turned some small same told goes =
       let k = length (accepted_in f) in
-      let (q, led, stands) = subst (λ (r : SessionRow). Follows m t r turned.past (turn_lines row (2 * n)) (Ok tt)) same (goes.follows told turned.past turned.stands) in
+      let (q, led, stands) = subst (λ (r : SessionRow). Follows m t r turned.past (turn_lines r (2 * n)) (Ok tt)) same (goes.follows told turned.past turned.stands) in
       let (low, at, is) = lines_lead row turned.past q (turn_lines row (2 * n)) _ (turn_on u n turned some small) led in
       let e : f.removed + n + 1 ≡ f.removed + (n + 1) = omega arith in
       let later = stands_later row q [] low k (f.removed + n + 1) (2 * n + 1) (2 * (n + 1)) (since_opening low k) (omega arith) at in
@@ -66,9 +66,9 @@ module _ {D : Type 0} {g : _} (m : Meaning D) (row : SessionRow) (f : Found) whe
       }
 
   pub turns_go : (u t : Pump D g) (n : ℕ) (stop : Stop) → Turned m u row f n → f.removed + n < length (accepted_in f) → n ≤ 2 ^ 32 → row_of u ≡ row → m.tells
-      → Goes m u t (turn_lines row (2 * n)) (Err stop) → stop ≡ stops.Line → ⊥
+      → Goes m u t (turn_lines (row_of u) (2 * n)) (Err stop) → stop ≡ stops.Line → ⊥
   turns_go u t n stop turned some small same told goes line =
-      let follows = subst (λ (r : SessionRow). Follows m t r turned.past (turn_lines row (2 * n)) (Err stop)) same (goes.follows told turned.past turned.stands) in
+      let follows = subst (λ (r : SessionRow). Follows m t r turned.past (turn_lines r (2 * n)) (Err stop)) same (goes.follows told turned.past turned.stands) in
       never_line m t row turned.past (turn_lines row (2 * n)) _ (turn_on u n turned some small) (subst (λ (s : Stop). Follows m t row turned.past (turn_lines row (2 * n)) (Err s)) line follows)
 
   -- nothing is left

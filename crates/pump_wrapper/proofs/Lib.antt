@@ -1,3 +1,4 @@
+pub mod Applying
 pub mod Compared
 pub mod Cuts
 pub mod Drained
@@ -6,9 +7,8 @@ pub mod Files
 pub mod Following
 pub mod Going
 pub mod Holding
-pub mod Lines
 pub mod Rooms
 pub mod Sent
 pub mod Takings
-pub mod Wrapping
 pub mod Wholes
+pub mod Wrapping

@@ -26,7 +26,7 @@ use Rattle.pump_wrapper.specs.Sending.{greeting, pause, message_lines, send_line
 use Rattle.pump_wrapper.specs.Wraps.{HasPassed, AreToCome, Sends, all_taken}
 use Rattle.pump_wrapper.proofs.Compared.{passed, none_passed, one_passed}
 use Rattle.pump_wrapper.proofs.Going.{led_then}
-use Rattle.pump_wrapper.proofs.Lines.{LinesApply, lines_lead, never_line, Sent, greeting_sends, message_sends, send_more}
+use Rattle.pump_wrapper.proofs.Applying.{LinesApply, lines_lead, never_line, Sent, greeting_sends, message_sends, send_more}
 
 -- these messages were sent since the opening, over a cutter and a source that were so then and are so now
 pub record Sending {D : Type 0} {g : _} (m : Meaning D) (t : Pump D g) (row : SessionRow) (messages : List Payload) (start now : Cutter) (left rest : Option (List ℕ)) (n : ℕ) : Type 0 where
@@ -83,10 +83,10 @@ gone more start now new (Some l) (Some r) (Some s) message taken bytes c d was g
 
 module _ {D : Type 0} {g : _} (m : Meaning D) (row : SessionRow) (messages : List Payload) where
   pub sending_none : (u t : Pump D g) (start : Cutter) (left : Option (List ℕ)) → IsLawfulRow row → CanOpen row (all_taken messages) → StandsFor m u (first_past row (all_taken messages)) → row_of u ≡ row → m.tells
-      → Goes m u t (greeting row ∷ []) (Ok tt) → Sending m t row messages start start left left (length messages)
+      → Goes m u t (greeting (row_of u) ∷ []) (Ok tt) → Sending m t row messages start start left left (length messages)
   sending_none u t start left lawful can stands same told goes =
       let p = first_past row (all_taken messages) in
-      let (q, led, at) = subst (λ (r : SessionRow). Follows m t r p (greeting row ∷ []) (Ok tt)) same (goes.follows told p stands) in
+      let (q, led, at) = subst (λ (r : SessionRow). Follows m t r p (greeting r ∷ []) (Ok tt)) same (goes.follows told p stands) in
       let sent = lines_lead row p q (greeting row ∷ []) _ (greets row messages lawful can) led in
       let none : 0 ≡ 0 * pause row = omega arith in
       record {
@@ -100,10 +100,10 @@ module _ {D : Type 0} {g : _} (m : Meaning D) (row : SessionRow) (messages : Lis
       }
 
   pub greeting_goes : (u t : Pump D g) (stop : Stop) → IsLawfulRow row → CanOpen row (all_taken messages) → StandsFor m u (first_past row (all_taken messages)) → row_of u ≡ row → m.tells
-      → Goes m u t (greeting row ∷ []) (Err stop) → stop ≡ stops.Line → ⊥
+      → Goes m u t (greeting (row_of u) ∷ []) (Err stop) → stop ≡ stops.Line → ⊥
   greeting_goes u t stop lawful can stands same told goes line =
       let p = first_past row (all_taken messages) in
-      let follows = subst (λ (r : SessionRow). Follows m t r p (greeting row ∷ []) (Err stop)) same (goes.follows told p stands) in
+      let follows = subst (λ (r : SessionRow). Follows m t r p (greeting r ∷ []) (Err stop)) same (goes.follows told p stands) in
       never_line m t row p (greeting row ∷ []) _ (greets row messages lawful can) (subst (λ (s : Stop). Follows m t row p (greeting row ∷ []) (Err s)) line follows)
 
   module _ (u t : Pump D g) (start old new : Cutter) (left between rest : Option (List ℕ)) (n moment : ℕ) (s : Sending m u row messages start old left between n)
@@ -118,10 +118,10 @@ module _ {D : Type 0} {g : _} (m : Meaning D) (row : SessionRow) (messages : Lis
         subst (λ (l : List Payload). LinesApply row s.past (message_lines row n moment message) (Sent row (n + 1) (moment + pause row) l)) (append_assoc messages s.more (message ∷ []))
         (message_sends row s.past n moment moment (messages ++ s.more) message sent (omega arith) short (omega (arith, few)) (omega (arith, is_moment, l)))
 
-    pub sending_more : row_of u ≡ row → m.tells → (taken : List ℕ) → Consumes left between taken → GivesNext old new between rest message Message → Goes m u t (message_lines row n moment message) (Ok tt)
+    pub sending_more : row_of u ≡ row → m.tells → (taken : List ℕ) → Consumes left between taken → GivesNext old new between rest message Message → Goes m u t (message_lines (row_of u) n moment message) (Ok tt)
         → Sending m t row messages start new left rest (n + 1)
     sending_more same told taken was gives goes =
-        let (q, led, at) = subst (λ (r : SessionRow). Follows m t r s.past (message_lines row n moment message) (Ok tt)) same (goes.follows told s.past s.stands) in
+        let (q, led, at) = subst (λ (r : SessionRow). Follows m t r s.past (message_lines r n moment message) (Ok tt)) same (goes.follows told s.past s.stands) in
         let sent = lines_lead row s.past q (message_lines row n moment message) _ sends led in
         let p = first_past row (all_taken messages) in
         let size : length (s.more ++ message ∷ []) ≡ length s.more + 1 = length-append s.more (message ∷ []) in
@@ -141,9 +141,9 @@ module _ {D : Type 0} {g : _} (m : Meaning D) (row : SessionRow) (messages : Lis
           cut = one_passed s.more (s.more ++ message ∷ []) message start old new left between rest taken was s.cut gives refl;
         }
 
-    pub sends_go : (stop : Stop) → row_of u ≡ row → m.tells → Goes m u t (message_lines row n moment message) (Err stop) → stop ≡ stops.Line → ⊥
+    pub sends_go : (stop : Stop) → row_of u ≡ row → m.tells → Goes m u t (message_lines (row_of u) n moment message) (Err stop) → stop ≡ stops.Line → ⊥
     sends_go stop same told goes line =
-        let follows = subst (λ (r : SessionRow). Follows m t r s.past (message_lines row n moment message) (Err stop)) same (goes.follows told s.past s.stands) in
+        let follows = subst (λ (r : SessionRow). Follows m t r s.past (message_lines r n moment message) (Err stop)) same (goes.follows told s.past s.stands) in
         never_line m t row s.past (message_lines row n moment message) _ sends (subst (λ (x : Stop). Follows m t row s.past (message_lines row n moment message) (Err x)) line follows)
 
   -- a receiver's disk is full before the numbers run out

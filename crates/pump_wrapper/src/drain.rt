@@ -25,7 +25,10 @@ pub fn drain<D: Disk>(pump: &mut Pump<D>) -> Result<(), Stop>
         if accepted == removed {
             return Ok(());
         }
-        turn(pump, 2 * number)?;
+        match turn(pump, 2 * number) {
+            Ok(()) => {}
+            Err(stop) => return Err(stop),
+        }
     }
     Ok(())
 }

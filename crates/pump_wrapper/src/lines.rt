@@ -73,8 +73,10 @@ pub fn turn<D: Disk>(pump: &mut Pump<D>, moment: u64) -> Result<(), Stop>
     ensures goes { Goes D.told pump.old pump.new (turn_lines (row_of pump.old) moment) result }
     ensures up { OnOk result (is_down pump.new ≡ false) }
 {
-    look(pump, moment, ArrivingHead::Nothing, &[])?;
-    done(pump, moment)
+    match look(pump, moment, ArrivingHead::Nothing, &[]) {
+        Ok(()) => done(pump, moment),
+        Err(stop) => Err(stop),
+    }
 }
 
 /// The row's own HELLO comes.
@@ -113,12 +115,13 @@ pub fn send<D: Disk>(
     ensures up { OnOk result (is_down pump.new ≡ false) }
 {
     let due = moment + pause(pump.row());
-    look(
-        pump,
-        moment,
-        ArrivingHead::Data { number },
-        message.as_slice(),
-    )?;
-    turn(pump, moment)?;
-    look(pump, due, ArrivingHead::Nothing, &[])
+    let arrival = ArrivingHead::Data { number };
+    match look(pump, moment, arrival, message.as_slice()) {
+        Ok(()) => {}
+        Err(stop) => return Err(stop),
+    }
+    match turn(pump, moment) {
+        Ok(()) => look(pump, due, ArrivingHead::Nothing, &[]),
+        Err(stop) => Err(stop),
+    }
 }

@@ -49,6 +49,12 @@ times (suc a) b le = omega (arith, le, times a b le)
 next : (a b : ℕ) → a * b + b ≡ (a + 1) * b
 next a b = omega arith
 
+-- the moment of a message, by its number
+pub moment_of : (n first pauses most count more : ℕ) → n ≡ count + more → first ≡ count → pauses ≡ most → (n - first) * pauses ≡ more * most
+moment_of n first pauses most count more number begins long =
+    let e : n - first ≡ more = omega (arith, number, begins) in
+    λ i. e i * long i
+
 -- ---- the receiver's room ----
 
 log_least : (messages : List Payload) → 80 + 2 * length messages ≤ log_end messages

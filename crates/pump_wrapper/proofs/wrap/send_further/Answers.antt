@@ -19,8 +19,8 @@ returns g c = record {
       (subst IsLawfulRow (sym e.row) c.requires.lawful)
       (subst (λ (r : SessionRow). CanOpen r (all_taken messages)) (sym e.row) has.can_open)
       (subst (λ (r : SessionRow). StandsFor m c.in-Ok.pump (first_past r (all_taken messages))) (sym e.row) (e.stands told (all_taken messages) (stand_for_all m row messages c.args.disks has))) in
-      sent_disks m c.send_rest-sent.new.pump row messages c.args.cutter.now _ c.send_rest-sent.result _ c.sent_all.result c.close.result
-      (subst (λ (r : SessionRow). Sends m c.send_rest-sent.new.pump r messages c.args.cutter.now _ c.send_rest-sent.result) e.row sends)
+      sent_disks m c.send_rest-sent.new.pump row messages c.args.cutter.now (g.I.Source.left c.args.file.now) c.send_rest-sent.result _ c.sent_all.result c.close.result
+      (subst (λ (r : SessionRow). Sends m c.send_rest-sent.new.pump r messages c.args.cutter.now (g.I.Source.left c.args.file.now) c.send_rest-sent.result) e.row sends)
       c.sent_all.ensures.all c.sent_all.ensures.failed s.failed
       (λ all q stands passed. subst (λ (r : SessionRow). HasAll m r all c.close.result) (s.row ∙ e.row) (c.close.ensures.all told all q stands passed));
 }

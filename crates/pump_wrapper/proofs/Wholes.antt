@@ -13,8 +13,8 @@ use Rattle.pump_wrapper.specs.Cutting.{to_come}
 use Rattle.pump_wrapper.specs.Wrapped.{wrapped}
 use Rattle.pump_wrapper.specs.Wraps.{IsFailure, IsSent, IsWhole, DisksHoldAll, HasAll, HasPassed, Sends}
 use Rattle.pump_wrapper.specs.declared.cutter.Cutter.{Cutter}
-use Rattle.pump_wrapper.specs.declared.wrap.WrapEnd.{WrapEnd}
-use Rattle.pump_wrapper.specs.declared.wrap.WrapEnd.TheVariants as ends
+use Rattle.pump_wrapper.specs.declared.file_sender.WrapEnd.{WrapEnd}
+use Rattle.pump_wrapper.specs.declared.file_sender.WrapEnd.TheVariants as ends
 
 module _ {D : Type 0} (m : Meaning D) (row : SessionRow) where
   pub failed_whole : (file : List ℕ) (end : WrapEnd) (disks : Trio D) → IsFailure end → IsWhole m row file end disks

@@ -17,9 +17,9 @@ use Rattle.pump_wrapper.specs.Wrapped.{wrapped}
 use Rattle.pump_wrapper.specs.Cutting.{to_come}
 use Rattle.pump_wrapper.specs.Sending.{drain_lines, send_lines, greeting, LedBy}
 use Rattle.pump_wrapper.specs.declared.cutter.Cutter.{Cutter}
-use Rattle.pump_wrapper.specs.declared.wrap.WrapEnd.{WrapEnd}
-use Rattle.pump_wrapper.specs.declared.wrap.WrapEnd.TheVariants as ends
-use Rattle.pump_wrapper.specs.declared.wrap.Wrapped.{Wrapped as Answer}
+use Rattle.pump_wrapper.specs.declared.file_sender.WrapEnd.{WrapEnd}
+use Rattle.pump_wrapper.specs.declared.file_sender.WrapEnd.TheVariants as ends
+use Rattle.pump_wrapper.specs.declared.file_sender.Wrapped.{Wrapped as Answer}
 
 -- ---- what the disks hold ----
 

@@ -12,12 +12,12 @@ pub mod laws;
 mod length;
 mod lines;
 mod sending;
-mod wrap;
+mod file_sender;
 
 pub use compare::{CompareFault, skip_received};
 pub use cutter::{Cut, Cutter};
 pub use gathered::{GatherFault, Gathered, gather};
-pub use wrap::{WrapEnd, Wrapped, wrap};
+pub use file_sender::{WrapEnd, Wrapped, wrap};
 
 #[cfg(test)]
 mod tests;

@@ -8,7 +8,7 @@ ghost use Rattle.pump_wrapper.specs.Cutting.{MayCut, cut_message};
 ghost use Rattle.pump_wrapper.specs.Wraps.{IsFailure, Sends, all_taken};
 
 use crate::lines::{greet, pause, send};
-use crate::wrap::WrapEnd;
+use crate::file_sender::WrapEnd;
 use crate::{Cut, Cutter};
 use disk_model::Disk;
 use pump_frame::Payload;

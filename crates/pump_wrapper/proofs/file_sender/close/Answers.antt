@@ -1,6 +1,6 @@
 use Rattle.std.proofs.Common.{inl}
 use Rattle.pump_wrapper.proofs.Holding.{closed_all}
-use Rattle.pump_wrapper.proofs.wrap.close.Goals as goal
+use Rattle.pump_wrapper.proofs.file_sender.close.Goals as goal
 
 pub returns : goal.returns
 returns g c = record {

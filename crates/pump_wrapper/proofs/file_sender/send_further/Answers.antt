@@ -6,7 +6,7 @@ use Rattle.pump_frame.specs.declared.row.SessionRow.{SessionRow}
 use Rattle.pump_wrapper.specs.Wraps.{HasAll, Sends, all_taken}
 use Rattle.pump_wrapper.proofs.Holding.{stand_for_all}
 use Rattle.pump_wrapper.proofs.Wholes.{sent_disks}
-use Rattle.pump_wrapper.proofs.wrap.send_further.Goals as goal
+use Rattle.pump_wrapper.proofs.file_sender.send_further.Goals as goal
 
 pub returns : goal.returns
 returns g c = record {

@@ -1,20 +1,18 @@
 -- The lines by which a pump is emptied and a file is sent can be applied, and where they lead.
-use Rattle.std.proofs.Common.{◌≡◌, ◌⊎◌, inl, inr, ⊎_elim, ℕ, zero, suc, ◌+◌, ◌-◌, ◌*◌, ◌^◌, ◌<◌, ◌≤◌, Bool, true, false, List, [], ◌∷◌, ◌++◌, length, Option, Some, None, Result, Ok, Err, refl, sym, ap, ◌∙◌, subst, arith, append_assoc, append-nil, length-append}
-use Rattle.std.specs.Prelude.{max, option_to_list}
+use Rattle.std.proofs.Common.{◌≡◌, inl, inr, ℕ, zero, suc, ◌+◌, ◌*◌, ◌^◌, ◌<◌, ◌≤◌, false, List, [], ◌∷◌, ◌++◌, length, Option, None, Err, sym, ap, ◌∙◌, subst, arith, append_assoc, append-nil}
+use Rattle.std.specs.Prelude.{max}
 use Rattle.disk_model.specs.Disk.{Meaning}
 use Rattle.pump_frame.specs.declared.payload.Payload.{Payload}
 use Rattle.pump_frame.specs.declared.row.SessionRow.{SessionRow}
-use Rattle.script_reader.specs.declared.event.Event.{Event}
 use Rattle.script_reader.specs.declared.line.Line.{Line}
 use Rattle.script_reader.specs.Past.{Past}
-use Rattle.script_reader.specs.Steps.{is_timely, IsCrowded, IsRefusedWhole, LineStep}
-use Rattle.script_reader.proofs.LineSteps.{LineApplies, Goes, Passed, Turned, stands_later, greeting_applies, offer_applies, pass_applies, ack_applies, done_applies, turn_applies}
-use Rattle.script_reader.proofs.LookSteps.{Stands, at_rest, idle, passing, waiting}
+use Rattle.script_reader.specs.Steps.{IsRefusedWhole, LineStep}
+use Rattle.script_reader.proofs.LineSteps.{LineApplies, greeting_applies, offer_applies, pass_applies, ack_applies, done_applies, turn_applies}
+use Rattle.script_reader.proofs.LookSteps.{Stands, at_rest, idle, waiting}
 use Rattle.script_reader.proofs.LineSteps.{since_opening}
 use Rattle.two_worlds.specs.declared.applied.Stop.TheVariants as stops
 use Rattle.two_worlds.specs.declared.pump.Pump.{Pump}
-use Rattle.two_worlds.specs.Pumps.{StandsFor}
-use Rattle.pump_wrapper.specs.Sending.{empty_look, turn_lines, drain_lines, greeting, pause, message_lines, send_lines, LedBy, Follows}
+use Rattle.pump_wrapper.specs.Sending.{turn_lines, drain_lines, greeting, pause, message_lines, send_lines, LedBy, Follows}
 
 -- ---- lines that can be applied ----
 

@@ -1,8 +1,7 @@
 -- A pump that is emptied turn by turn.
-use Rattle.std.proofs.Common.{◌≡◌, ℕ, zero, suc, ◌+◌, ◌-◌, ◌*◌, ◌^◌, ◌<◌, ◌≤◌, List, [], ◌∷◌, ◌++◌, length, Option, Some, None, Result, Ok, Err, refl, sym, ap, ◌∙◌, subst, arith}
+use Rattle.std.proofs.Common.{◌≡◌, ℕ, suc, ◌+◌, ◌-◌, ◌*◌, ◌^◌, ◌<◌, ◌≤◌, List, [], ◌++◌, length, Ok, Err, refl, sym, ap, ◌∙◌, subst, arith}
 use Rattle.disk_model.specs.Disk.{Meaning}
 use Rattle.pump_frame.specs.Rows.{IsLawfulRow}
-use Rattle.pump_frame.specs.declared.payload.Payload.{Payload}
 use Rattle.pump_frame.specs.declared.row.SessionRow.{SessionRow}
 use Rattle.script_reader.specs.declared.line.Line.{Line}
 use Rattle.script_reader.specs.Openings.{Found, CanOpen, accepted_in, opened_world, first_past}
@@ -14,7 +13,7 @@ use Rattle.two_worlds.specs.declared.applied.Stop.TheVariants as stops
 use Rattle.two_worlds.specs.declared.pump.Pump.{Pump}
 use Rattle.two_worlds.specs.Pumps.{StandsFor, row_of}
 use Rattle.pump_wrapper.specs.Sending.{turn_lines, drain_lines, LedBy, Follows, Goes}
-use Rattle.pump_wrapper.specs.Wraps.{HasPassed, Drains}
+use Rattle.pump_wrapper.specs.Wraps.{Drains}
 use Rattle.pump_wrapper.proofs.Going.{led_then}
 use Rattle.pump_wrapper.proofs.Applying.{LinesApply, lines_lead, never_line, Emptying, turn_empties, drain_more}
 

@@ -1,12 +1,12 @@
 -- What the disks of a pump hold that is emptied.
-use Rattle.std.proofs.Common.{◌≡◌, inl, inr, ℕ, zero, suc, ◌+◌, ◌-◌, ◌^◌, ◌<◌, ◌≤◌, Bool, true, false, List, [], ◌∷◌, ◌++◌, length, drop, Option, Some, None, refl, sym, ap, ◌∙◌, subst, arith, append-nil, length-append}
+use Rattle.std.proofs.Common.{◌≡◌, ℕ, ◌+◌, ◌^◌, ◌<◌, ◌≤◌, Bool, true, false, List, [], ◌∷◌, ◌++◌, length, drop, Option, Some, None, refl, sym, ap, ◌∙◌, subst, arith, append-nil, length-append}
 use Rattle.std.specs.Prelude.{◌&&◌, if◌then◌else◌}
 use Rattle.std.specs.List.{All}
 use Rattle.disk_model.specs.Disk.{Meaning}
 use Rattle.pump_frame.specs.declared.payload.Payload.{Payload}
 use Rattle.pump_frame.specs.declared.row.SessionRow.{SessionRow}
 use Rattle.pump_core.specs.Events.{with_kept}
-use Rattle.pump_core.specs.Lawful.{IsLawful, IsPrefixOf}
+use Rattle.pump_core.specs.Lawful.{IsPrefixOf}
 use Rattle.pump_core.specs.World.{World}
 use Rattle.recovery.specs.declared.trio.Trio.{Trio}
 use Rattle.script_reader.specs.Highs.{log_end, receiver_size}
@@ -18,13 +18,13 @@ use Rattle.two_worlds.specs.declared.pump.Pump.{Pump}
 use Rattle.two_worlds.specs.declared.pump.state.PumpState.{PumpState}
 use Rattle.two_worlds.specs.declared.pump.state.PumpState.TheVariants.{Open, Shut}
 use Rattle.two_worlds.specs.Disks.{crashed, StandFor, StandForLeft, LeaveWorld}
-use Rattle.two_worlds.specs.Openings.{StandForFound, DisksStandFor, readied}
+use Rattle.two_worlds.specs.Openings.{DisksStandFor, readied}
 use Rattle.disk_model.specs.declared.name.Role.{Role}
 use Rattle.disk_model.specs.declared.name.Role.TheVariants as roles
 use Rattle.two_worlds.specs.Pumps.{StandsFor, row_of}
 use Rattle.two_worlds.specs.Standing.{IsSound}
 use Rattle.two_worlds.specs.States.{disks_in, StandsIn}
-use Rattle.pump_wrapper.specs.Wraps.{HasPassed, HoldAll, DisksHoldAll, HasAll, all_taken}
+use Rattle.pump_wrapper.specs.Wraps.{HasPassed, HoldAll, HasAll, all_taken}
 
 -- ---- a world at rest after a crash ----
 

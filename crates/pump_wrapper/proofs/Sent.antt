@@ -1,5 +1,5 @@
 -- The further messages of a file that are sent one by one.
-use Rattle.std.proofs.Common.{◌≡◌, inl, inr, ℕ, zero, suc, ◌+◌, ◌-◌, ◌*◌, ◌^◌, ◌<◌, ◌≤◌, false, List, [], ◌∷◌, ◌++◌, length, Option, Some, None, Result, Ok, Err, refl, sym, ap, ◌∙◌, subst, arith, append_assoc, append-nil, length-append}
+use Rattle.std.proofs.Common.{◌≡◌, ℕ, zero, suc, ◌+◌, ◌-◌, ◌*◌, ◌^◌, ◌<◌, ◌≤◌, false, List, [], ◌∷◌, ◌++◌, length, Option, Some, None, Ok, Err, refl, sym, ap, ◌∙◌, subst, arith, append_assoc, append-nil, length-append}
 use Rattle.std.specs.Prelude.{option_to_list}
 use Rattle.std.specs.Io.KnownBytes.{Consumes}
 use Rattle.disk_model.specs.Disk.{Meaning}
@@ -8,10 +8,10 @@ use Rattle.pump_frame.specs.declared.payload.Payload.{Payload}
 use Rattle.pump_frame.specs.declared.row.SessionRow.{SessionRow}
 use Rattle.script_reader.specs.declared.line.Line.{Line}
 use Rattle.script_reader.specs.Highs.{log_end, receiver_size}
-use Rattle.script_reader.specs.Openings.{Found, CanOpen, accepted_in, opened_world, first_past}
+use Rattle.script_reader.specs.Openings.{CanOpen, accepted_in, opened_world, first_past}
 use Rattle.script_reader.specs.Past.{Past}
-use Rattle.script_reader.proofs.LineSteps.{opened_stands, stands_later, live_are, since_opening}
-use Rattle.script_reader.proofs.LookSteps.{Stands, at_rest, idle}
+use Rattle.script_reader.proofs.LineSteps.{opened_stands, live_are, since_opening}
+use Rattle.script_reader.proofs.LookSteps.{Stands, at_rest}
 use Rattle.two_worlds.specs.declared.applied.Stop.{Stop}
 use Rattle.two_worlds.specs.declared.applied.Stop.TheVariants as stops
 use Rattle.two_worlds.specs.declared.pump.Pump.{Pump}
@@ -19,11 +19,11 @@ use Rattle.two_worlds.specs.declared.pump.state.PumpState.{PumpState}
 use Rattle.two_worlds.specs.declared.pump.state.PumpState.TheVariants.{Open, Shut}
 use Rattle.two_worlds.specs.Pumps.{StandsFor, row_of}
 use Rattle.two_worlds.specs.States.{StandsIn}
-use Rattle.pump_wrapper.specs.Cutting.{GivesNext, Gives, to_come}
+use Rattle.pump_wrapper.specs.Cutting.{GivesNext}
 use Rattle.pump_wrapper.specs.declared.cutter.Cutter.{Cutter}
 use Rattle.pump_wrapper.specs.declared.cutter.Cut.TheVariants.{Message, Done}
 use Rattle.pump_wrapper.specs.Sending.{greeting, pause, message_lines, send_lines, LedBy, Follows, Goes}
-use Rattle.pump_wrapper.specs.Wraps.{HasPassed, AreToCome, Sends, all_taken}
+use Rattle.pump_wrapper.specs.Wraps.{AreToCome, Sends, all_taken}
 use Rattle.pump_wrapper.proofs.Compared.{passed, none_passed, one_passed}
 use Rattle.pump_wrapper.proofs.Going.{led_then}
 use Rattle.pump_wrapper.proofs.Applying.{LinesApply, lines_lead, never_line, Sent, greeting_sends, message_sends, send_more}

@@ -1,6 +1,6 @@
 -- The whole file is at the receiver.
 use Rattle.std.proofs.Common.{◌≡◌, ℕ, List, ◌++◌, length, Option, None, Some, Result, Ok, Err, sym, ap, ◌∙◌, subst}
-use Rattle.std.specs.Prelude.{IfOk, IfErr}
+use Rattle.std.specs.Prelude.{IfOk, IfErr, OnOk}
 use Rattle.std.specs.Io.KnownBytes.{Consumes}
 use Rattle.disk_model.specs.Disk.{Meaning}
 use Rattle.pump_frame.specs.declared.row.SessionRow.{SessionRow}
@@ -15,6 +15,11 @@ use Rattle.pump_wrapper.specs.Wraps.{IsFailure, IsSent, IsWhole, DisksHoldAll, H
 use Rattle.pump_wrapper.specs.declared.cutter.Cutter.{Cutter}
 use Rattle.pump_wrapper.specs.declared.file_sender.WrapEnd.{WrapEnd}
 use Rattle.pump_wrapper.specs.declared.file_sender.WrapEnd.TheVariants as ends
+
+-- what follows of an Ok from what holds there
+pub on_ok : {A B P Q : Type 0} (r : Result A B) → (P → Q) → OnOk r P → OnOk r Q
+on_ok (Ok x) f p = f p
+on_ok (Err e) f p = p
 
 module _ {D : Type 0} (m : Meaning D) (row : SessionRow) where
   pub failed_whole : (file : List ℕ) (end : WrapEnd) (disks : Trio D) → IsFailure end → IsWhole m row file end disks

@@ -1,5 +1,5 @@
 -- What it comes to to send a file over a session's pump.
-use Rattle.std.specs.Prelude.{◌≡◌, ℕ, ◌+◌, ◌-◌, List, [], ◌∷◌, ◌++◌, length, Option, None, Some, Result, Ok, Err}
+use Rattle.std.specs.Prelude.{◌≡◌, ℕ, ◌-◌, List, [], ◌∷◌, ◌++◌, length, Option, None, Some, Result, Ok, Err}
 use Rattle.disk_model.specs.Disk.{Meaning}
 use Rattle.pump_frame.specs.declared.payload.Payload.{Payload}
 use Rattle.pump_frame.specs.declared.row.SessionRow.{SessionRow}
@@ -12,14 +12,13 @@ use Rattle.stable_buffer.specs.Stands.{LowStands, HighStands}
 use Rattle.two_worlds.specs.declared.applied.Stop.{Stop}
 use Rattle.two_worlds.specs.declared.applied.Stop.TheVariants.{Line}
 use Rattle.two_worlds.specs.declared.pump.Pump.{Pump}
-use Rattle.two_worlds.specs.Pumps.{StandsFor, row_of}
+use Rattle.two_worlds.specs.Pumps.{StandsFor}
 use Rattle.pump_wrapper.specs.Wrapped.{wrapped}
 use Rattle.pump_wrapper.specs.Cutting.{to_come}
 use Rattle.pump_wrapper.specs.Sending.{drain_lines, send_lines, greeting, LedBy}
 use Rattle.pump_wrapper.specs.declared.cutter.Cutter.{Cutter}
 use Rattle.pump_wrapper.specs.declared.file_sender.WrapEnd.{WrapEnd}
 use Rattle.pump_wrapper.specs.declared.file_sender.WrapEnd.TheVariants as ends
-use Rattle.pump_wrapper.specs.declared.file_sender.Wrapped.{Wrapped as Answer}
 
 -- ---- what the disks hold ----
 

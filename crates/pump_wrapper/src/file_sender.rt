@@ -21,6 +21,7 @@ use disk_model::{Disk, Role};
 use pump_frame::SessionRow;
 use pump_link::Source;
 use recovery::{Trio, Why, open_receiver};
+use stable_buffer::RECEIVER_SIZE;
 use std::alloc::Global;
 use two_worlds::{Pump, Stop};
 
@@ -50,9 +51,6 @@ pub struct Wrapped<D> {
     pub end: WrapEnd,
     pub disks: Trio<D>,
 }
-
-/// The size of a receiver's disk.
-const RECEIVER_SIZE: u64 = 16_777_216;
 
 /// Why a pump was not opened.
 fn not_opened(role: Role, why: Option<Why>) -> WrapEnd

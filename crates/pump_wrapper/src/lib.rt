@@ -5,6 +5,7 @@
 mod compare;
 mod cutter;
 mod drain;
+mod file_sender;
 mod fill;
 mod gathered;
 mod gathering;
@@ -12,12 +13,11 @@ pub mod laws;
 mod length;
 mod lines;
 mod sending;
-mod file_sender;
 
 pub use compare::{CompareFault, skip_received};
 pub use cutter::{Cut, Cutter};
-pub use gathered::{GatherFault, Gathered, gather};
 pub use file_sender::{WrapEnd, Wrapped, wrap};
+pub use gathered::{GatherFault, Gathered, gather};
 
 #[cfg(test)]
 mod tests;

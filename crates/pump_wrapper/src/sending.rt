@@ -7,8 +7,8 @@ ghost use Rattle.two_worlds.specs.Pumps.{StandsFor, is_down, row_of};
 ghost use Rattle.pump_wrapper.specs.Cutting.{MayCut, cut_message};
 ghost use Rattle.pump_wrapper.specs.Wraps.{IsFailure, Sends, all_taken};
 
-use crate::lines::{greet, pause, send};
 use crate::file_sender::WrapEnd;
+use crate::lines::{greet, pause, send};
 use crate::{Cut, Cutter};
 use disk_model::Disk;
 use pump_frame::Payload;

@@ -1,8 +1,14 @@
+pub mod Applying
 pub mod Compared
 pub mod Cuts
+pub mod Drained
 pub mod Example
 pub mod Files
 pub mod Following
+pub mod Going
+pub mod Holding
 pub mod Rooms
+pub mod Sent
 pub mod Takings
+pub mod Wholes
 pub mod Wrapping

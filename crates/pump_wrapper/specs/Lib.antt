@@ -3,3 +3,5 @@ pub mod Cutting
 pub mod Gathering
 pub mod Gathers
 pub mod Comparing
+pub mod Sending
+pub mod Wraps

@@ -67,6 +67,13 @@ impl Cutter {
         }
     }
 
+    /// How many bytes the source gave so far.
+    pub fn bytes(&self) -> u64
+        ensures { result ≡ cut_bytes self.now }
+    {
+        self.bytes
+    }
+
     // The last message.
     fn give_length(&mut self, into: &mut Payload) -> Cut
         requires { MayCut self.old }

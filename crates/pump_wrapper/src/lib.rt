@@ -4,15 +4,22 @@
 
 mod compare;
 mod cutter;
+mod drain;
+mod file_sender;
 mod fill;
 mod gathered;
 mod gathering;
 pub mod laws;
 mod length;
+mod lines;
+mod sending;
 
 pub use compare::{CompareFault, skip_received};
 pub use cutter::{Cut, Cutter};
+pub use file_sender::{WrapEnd, Wrapped, wrap};
 pub use gathered::{GatherFault, Gathered, gather};
 
 #[cfg(test)]
 mod tests;
+#[cfg(test)]
+mod wrap_tests;

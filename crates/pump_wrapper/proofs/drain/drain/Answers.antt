@@ -1,0 +1,61 @@
+use Rattle.std.proofs.Common.{◌+◌, ◌<◌, ◌≤◌, ◌^◌, ℕ, length, refl, ap, ◌∙◌, arith}
+use Rattle.pump_frame.specs.declared.row.SessionRow.{SessionRow}
+use Rattle.script_reader.specs.Openings.{accepted_in}
+use Rattle.script_reader.proofs.Opened.{row_capacity}
+use Rattle.two_worlds.specs.Pumps.{row_of}
+use Rattle.pump_wrapper.proofs.Drained.{turned_none, turned_more, turned_all, turns_go, turns_few, counts_tell}
+use Rattle.pump_wrapper.proofs.drain.drain.Goals as goal
+
+pub loop-number-init : goal.loop-number-init
+loop-number-init g c = record {
+  up = c.requires.up;
+  row = refl;
+  turned = λ told f lawful can stands. turned_none g.D.Disk.told (row_of c.args.pump.now) f c.args.pump.now lawful can stands;
+}
+
+pub loop-number-preserved : goal.loop-number-preserved
+loop-number-preserved g c =
+    let m = g.D.Disk.told in
+    let row = row_of c.args.pump.now in
+    let u = c.loop-number.pump in
+    let n = c.loop-number.number in
+    let kept = c.loop-number.invariant in
+    let e = c.in-Ok.ensures in
+    record {
+      up = e.up;
+      row = e.goes.row ∙ kept.row;
+      turned = λ told f lawful can stands.
+          let turned = kept.turned told f lawful can stands in
+          let counts = c.counts-accepted.ensures.stands in
+          let (accepted, removed) = counts_tell m row f u n _ _ turned (λ p s. (ap (λ (x : ℕ × ℕ × ℕ). x.0) (counts p s), ap (λ (x : ℕ × ℕ × ℕ). x.1) (counts p s))) in
+          let some : f.removed + n < length (accepted_in f) = (let few = turned.few in let test = c.if-accepted-removed.false in omega (arith, few, test, accepted, removed)) in
+          let capacity = c.from-capacity.ensures ∙ ap (λ (r : SessionRow). r.capacity) c.row.ensures in
+          let small : n ≤ 2 ^ 32 = (let test = c.loop-number-test.true in let most = (row_capacity row lawful).1 in omega (arith, test, capacity, most)) in
+          turned_more m row f u c.turn.new.pump n turned some small kept.row told e.goes;
+    }
+
+pub returns-in-Err-clause-drains : goal.returns-in-Err-clause-drains
+returns-in-Err-clause-drains g c = λ told f lawful can stands line.
+    let m = g.D.Disk.told in
+    let row = row_of c.args.pump.now in
+    let u = c.loop-number.pump in
+    let n = c.loop-number.number in
+    let kept = c.loop-number.invariant in
+    let turned = kept.turned told f lawful can stands in
+    let counts = c.counts-accepted.ensures.stands in
+    let (accepted, removed) = counts_tell m row f u n _ _ turned (λ p s. (ap (λ (x : ℕ × ℕ × ℕ). x.0) (counts p s), ap (λ (x : ℕ × ℕ × ℕ). x.1) (counts p s))) in
+    let some : f.removed + n < length (accepted_in f) = (let few = turned.few in let test = c.if-accepted-removed.false in omega (arith, few, test, accepted, removed)) in
+    let capacity = c.from-capacity.ensures ∙ ap (λ (r : SessionRow). r.capacity) c.row.ensures in
+    let small : n ≤ 2 ^ 32 = (let test = c.loop-number-test.true in let most = (row_capacity row lawful).1 in omega (arith, test, capacity, most)) in
+    turns_go m row f u c.turn.new.pump n c.in-Err.stop turned some small kept.row told c.in-Err.ensures.goes line
+
+pub returns-clause-drains : goal.returns-clause-drains
+returns-clause-drains g c = λ told f lawful can stands.
+    let m = g.D.Disk.told in
+    let row = row_of c.args.pump.now in
+    let t = c.loop-number.pump in
+    let n = c.loop-number.number in
+    let turned = c.loop-number.invariant.turned told f lawful can stands in
+    let capacity = c.from-capacity.ensures ∙ ap (λ (r : SessionRow). r.capacity) c.row.ensures in
+    let most : row.capacity ≤ n = (let test = c.loop-number-test.false in omega (arith, test, capacity)) in
+    turned_all m row f t n turned (turns_few m row f t n turned can most)

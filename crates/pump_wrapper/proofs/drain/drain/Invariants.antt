@@ -1,0 +1,16 @@
+use Rattle.std.proofs.Common.{◌≡◌, false}
+use Rattle.pump_frame.specs.Rows.{IsLawfulRow}
+use Rattle.script_reader.specs.Openings.{Found, CanOpen, first_past}
+use Rattle.two_worlds.specs.Pumps.{StandsFor, is_down, row_of}
+use Rattle.pump_wrapper.proofs.Drained.{Turned}
+use Rattle.pump_wrapper.proofs.drain.drain.Given as goal
+
+abbrev pub invariant-loop-number : goal.invariant-loop-number
+invariant-loop-number g l =
+    let m = g.D.Disk.told in
+    let r = row_of l.fn.pump in
+    record {
+      up : is_down l.pump ≡ false;
+      row : row_of l.pump ≡ r;
+      turned : m.tells → (f : Found) → IsLawfulRow r → CanOpen r f → StandsFor m l.fn.pump (first_past r f) → Turned m l.pump r f l.number;
+    }

@@ -1,0 +1,85 @@
+-- What it comes to to send a file over a session's pump.
+use Rattle.std.specs.Prelude.{◌≡◌, ℕ, ◌-◌, List, [], ◌∷◌, ◌++◌, length, Option, None, Some, Result, Ok, Err}
+use Rattle.disk_model.specs.Disk.{Meaning}
+use Rattle.pump_frame.specs.declared.payload.Payload.{Payload}
+use Rattle.pump_frame.specs.declared.row.SessionRow.{SessionRow}
+use Rattle.pump_core.specs.World.{World}
+use Rattle.recovery.specs.declared.trio.Trio.{Trio}
+use Rattle.script_reader.specs.Openings.{Found, CanOpen, accepted_in, first_past}
+use Rattle.script_reader.specs.Past.{Past}
+use Rattle.stable_buffer.specs.Log.{RecvStands}
+use Rattle.stable_buffer.specs.Stands.{LowStands, HighStands}
+use Rattle.two_worlds.specs.declared.applied.Stop.{Stop}
+use Rattle.two_worlds.specs.declared.applied.Stop.TheVariants.{Line}
+use Rattle.two_worlds.specs.declared.pump.Pump.{Pump}
+use Rattle.two_worlds.specs.Pumps.{StandsFor}
+use Rattle.pump_wrapper.specs.Wrapped.{wrapped}
+use Rattle.pump_wrapper.specs.Cutting.{to_come}
+use Rattle.pump_wrapper.specs.Sending.{drain_lines, send_lines, greeting, LedBy}
+use Rattle.pump_wrapper.specs.declared.cutter.Cutter.{Cutter}
+use Rattle.pump_wrapper.specs.declared.file_sender.WrapEnd.{WrapEnd}
+use Rattle.pump_wrapper.specs.declared.file_sender.WrapEnd.TheVariants as ends
+
+-- ---- what the disks hold ----
+
+-- a session that begins with these messages, of which none is left
+abbrev pub all_taken : List Payload → Found
+all_taken messages = record { removed = length messages; received = messages; later = [] }
+
+-- what a cutter had to give, of a source with these bytes left, where they are told
+abbrev pub AreToCome : Cutter → Option (List ℕ) → List (List ℕ) → Type 0
+AreToCome cutter None messages = Unit {0}
+AreToCome cutter (Some left) messages = to_come cutter left ≡ messages
+
+-- the disks of a session that holds just these messages: all were accepted, and all are taken and removed
+pub record HoldAll (row : SessionRow) (messages : List (List ℕ)) (low high recv : List ℕ) : Type 0 where
+  pub low_is : LowStands row (length messages) (length messages) [] low
+  pub high_is : HighStands row (length messages) high
+  pub recv_is : RecvStands row messages recv
+
+-- .. of three disks, by what is read of them
+abbrev pub DisksHoldAll : {D : Type 0} → Meaning D → SessionRow → List (List ℕ) → Trio D → Type 0
+DisksHoldAll m row messages disks = HoldAll row messages (m.reading disks.low) (m.reading disks.high) (m.reading disks.recv)
+
+-- .. and a session can begin on them
+pub record HasAll {D : Type 0} (m : Meaning D) (row : SessionRow) (messages : List (List ℕ)) (disks : Trio D) : Type 0 where
+  pub can_open : CanOpen row (all_taken messages)
+  pub hold : DisksHoldAll m row messages disks
+
+-- the answer is not that all was sent
+abbrev pub IsFailure : WrapEnd → Type 0
+IsFailure (ends.Done bytes messages) = ⊥
+IsFailure end = Unit {0}
+
+-- so many messages are at the receiver now: these, and all further ones of a cutter
+abbrev pub IsSent : {D : Type 0} → Meaning D → SessionRow → List (List ℕ) → Cutter → Option (List ℕ) → WrapEnd → Trio D → Type 0
+IsSent m row messages cutter left (ends.Done bytes count) disks =
+    (more : List (List ℕ)) × AreToCome cutter left more × (count ≡ length (messages ++ more)) × DisksHoldAll m row (messages ++ more) disks
+IsSent m row messages cutter left end disks = Unit {0}
+
+-- the answer is that the whole file is at the receiver
+abbrev pub IsWhole : {D : Type 0} → Meaning D → SessionRow → List ℕ → WrapEnd → Trio D → Type 0
+IsWhole m row file (ends.Done bytes messages) disks =
+    (messages ≡ length (wrapped row.message file)) × DisksHoldAll m row (wrapped row.message file) disks
+IsWhole m row file end disks = Unit {0}
+
+-- ---- a pump ----
+
+-- just these messages were accepted, and all are removed
+pub record HasPassed (messages : List Payload) (w : World) : Type 0 where
+  pub accepted : w.accepted ≡ messages
+  pub removed : w.removed ≡ length messages
+
+-- a pump that began on what was found, and was emptied
+abbrev pub Drains : {D : Type 0} {g : _} → Meaning D → Pump D g → SessionRow → Found → Result (Unit {0}) Stop → Type 0
+Drains m t row f (Ok done) =
+    (q : Past) × LedBy row (first_past row f) (drain_lines row (length (accepted_in f) - f.removed) 0) q
+    × StandsFor m t q × HasPassed (accepted_in f) q.world
+Drains m t row f (Err stop) = stop ≡ Line → ⊥
+
+-- a pump that began with these messages, and over which all further ones of a cutter were sent
+abbrev pub Sends : {D : Type 0} {g : _} → Meaning D → Pump D g → SessionRow → List Payload → Cutter → Option (List ℕ) → Result ℕ WrapEnd → Type 0
+Sends m t row messages cutter left (Ok count) =
+    (more : List (List ℕ)) × (q : Past) × LedBy row (first_past row (all_taken messages)) (greeting row ∷ send_lines row (length messages) 0 more) q
+    × StandsFor m t q × HasPassed (messages ++ more) q.world × (count ≡ length (messages ++ more)) × AreToCome cutter left more
+Sends m t row messages cutter left (Err end) = end ≡ ends.Stopped Line → ⊥

@@ -1,0 +1,228 @@
+//! A file is sent over a session's pump.
+
+ghost use Rattle.std.specs.Prelude.{◌≡◌, ℕ, ◌≤◌, false, List, Some, Ok, IfOk, IfErr, OnOk};
+ghost use Rattle.std.specs.Io.KnownBytes.{Consumes};
+ghost use Rattle.disk_model.specs.Disk.{Moves, Same};
+ghost use Rattle.pump_frame.specs.Rows.{IsLawfulRow};
+ghost use Rattle.script_reader.specs.Openings.{Found, first_past};
+ghost use Rattle.script_reader.specs.Past.{Past};
+ghost use Rattle.stable_buffer.specs.Log.{RecvStands};
+ghost use Rattle.two_worlds.specs.Openings.{DisksStandFor};
+ghost use Rattle.two_worlds.specs.Pumps.{StandsFor, is_down, row_of};
+ghost use Rattle.pump_wrapper.specs.Comparing.{Compares};
+ghost use Rattle.pump_wrapper.specs.Cutting.{MayCut, cut_message};
+ghost use Rattle.pump_wrapper.specs.Wraps.{IsWhole, IsSent, IsFailure, HasAll, HasPassed};
+
+use crate::compare::{CompareFault, skip_received};
+use crate::cutter::Cutter;
+use crate::drain::drain;
+use crate::sending::send_rest;
+use disk_model::{Disk, Role};
+use pump_frame::SessionRow;
+use pump_link::Source;
+use recovery::{Trio, Why, open_receiver};
+use stable_buffer::RECEIVER_SIZE;
+use std::alloc::Global;
+use two_worlds::{Pump, Stop};
+
+/// What the sending of a file came to.
+#[derive(Clone, Copy, PartialEq, Eq, Debug)]
+pub enum WrapEnd {
+    /// The receiver has the whole file: its bytes, and its messages.
+    Done { bytes: u64, messages: u64 },
+    /// No memory.
+    Memory,
+    /// A read of the file failed.
+    Read,
+    /// The file has 2^48 bytes or more.
+    TooLong,
+    /// The receiver has another message with this number than the file, or one that the file lacks;
+    /// those before it are the file's.
+    Differs { number: u64 },
+    /// This disk was not opened.
+    Refused { role: Role, why: Why },
+    /// A line was stopped: a disk failed, or a message does not fit at the receiver.
+    Stopped(Stop),
+}
+
+/// What the sending of a file came to, and the disks.
+#[derive(Drop)]
+pub struct Wrapped<D> {
+    pub end: WrapEnd,
+    pub disks: Trio<D>,
+}
+
+/// Why a pump was not opened.
+fn not_opened(role: Role, why: Option<Why>) -> WrapEnd
+    ensures { IsFailure result }
+{
+    match why {
+        None => WrapEnd::Memory,
+        Some(why) => WrapEnd::Refused { role, why },
+    }
+}
+
+/// What a comparison came to.
+fn compared(answer: Result<(), CompareFault>) -> Result<(), WrapEnd>
+    ensures all { OnOk result (answer ≡ Ok tt) }
+    ensures failed { IfErr result IsFailure }
+{
+    match answer {
+        Ok(()) => Ok(()),
+        Err(CompareFault::Device { faults }) => Err(WrapEnd::Refused {
+            role: Role::Recv,
+            why: Why::Device { faults },
+        }),
+        Err(CompareFault::Differs { number }) => Err(WrapEnd::Differs { number }),
+        Err(CompareFault::Read) => Err(WrapEnd::Read),
+        Err(CompareFault::TooLong) => Err(WrapEnd::TooLong),
+    }
+}
+
+/// What the sending came to, of so many bytes.
+fn sent_all(bytes: u64, sent: Result<u64, WrapEnd>) -> WrapEnd
+    ensures all { IfOk sent (λ messages. result ≡ WrapEnd.Done bytes messages) }
+    ensures failed { IfErr sent (λ end. result ≡ end) }
+{
+    match sent {
+        Ok(messages) => WrapEnd::Done { bytes, messages },
+        Err(end) => end,
+    }
+}
+
+/// A pump over the three disks.
+fn open<D: Disk>(alloc: Global, row: &SessionRow, disks: Trio<D>) -> Result<Pump<D>, Wrapped<D>>
+    requires lawful { IsLawfulRow row.now }
+    ensures opens { IfOk result (λ pump. D.told.tells → (f : Found) × DisksStandFor D.told row.now disks.low disks.high disks.recv f) }
+    ensures stands { IfOk result (λ pump. D.told.tells → (f : Found) → DisksStandFor D.told row.now disks.low disks.high disks.recv f
+        → StandsFor D.told pump (first_past row.now f)) }
+    ensures row { IfOk result (λ pump. row_of pump ≡ row.now) }
+    ensures up { IfOk result (λ pump. is_down pump ≡ false) }
+    ensures failed { IfErr result (λ answer. IsFailure answer.end) }
+{
+    let Trio { low, high, recv } = disks;
+    match Pump::open(alloc, row, low, high, recv) {
+        Ok(pump) => Ok(pump),
+        Err(failed) => Err(Wrapped {
+            end: not_opened(failed.role, failed.why),
+            disks: Trio {
+                low: failed.low,
+                high: failed.high,
+                recv: failed.recv,
+            },
+        }),
+    }
+}
+
+/// The disks of a pump.
+fn close<D: Disk>(pump: Pump<D>) -> Trio<D>
+    ensures all { D.told.tells → (messages : List (List ℕ)) → (q : Past) → StandsFor D.told pump q → HasPassed messages q.world
+        → HasAll D.told (row_of pump) messages result }
+{
+    let (low, high, recv) = pump.close();
+    Trio { low, high, recv }
+}
+
+/// The pump is opened and emptied.
+fn empty<D: Disk>(alloc: Global, row: &SessionRow, disks: Trio<D>) -> Result<Trio<D>, Wrapped<D>>
+    requires lawful { IsLawfulRow row.now }
+    ensures emptied { IfOk result (λ left. D.told.tells → (messages : List (List ℕ)) × HasAll D.told row.now messages left) }
+    ensures failed { IfErr result (λ answer. IsFailure answer.end) }
+{
+    let mut pump = open(alloc, row, disks)?;
+    let drained = drain(&mut pump);
+    let disks = close(pump);
+    match drained {
+        Ok(()) => Ok(disks),
+        Err(stop) => Err(Wrapped {
+            end: WrapEnd::Stopped(stop),
+            disks,
+        }),
+    }
+}
+
+/// The receiver's messages are the first ones of the file. The cutter goes on behind them.
+fn compare<D: Disk, I: Source>(
+    row: &SessionRow,
+    recv: D,
+    cutter: &mut Cutter,
+    file: &mut I,
+) -> (D, Result<(), WrapEnd>)
+    requires lawful { IsLawfulRow row.now }
+    requires may { MayCut cutter.old }
+    ensures compares { OnOk result.1 (D.told.tells → (messages : List (List ℕ)) → RecvStands row.now messages (D.told.reading recv)
+        → Compares messages cutter.old cutter.new (I.left file.old) (I.left file.new) (Ok tt)) }
+    ensures takes { (bytes : List ℕ) × Consumes (I.left file.old) (I.left file.new) bytes }
+    ensures may { OnOk result.1 (MayCut cutter.new) }
+    ensures message { cut_message cutter.new ≡ cut_message cutter.old }
+    ensures same { Moves D.told Same recv result.0 }
+    ensures failed { IfErr result.1 IsFailure }
+{
+    let mut receiver = match open_receiver(recv, row, RECEIVER_SIZE) {
+        Ok(receiver) => receiver,
+        Err((recv, why)) => {
+            return (
+                recv,
+                Err(WrapEnd::Refused {
+                    role: Role::Recv,
+                    why,
+                }),
+            );
+        }
+    };
+    let answer = compared(skip_received(&mut receiver, cutter, file));
+    (receiver.into_disk(), answer)
+}
+
+/// The pump is opened again, and the further messages are sent.
+fn send_further<D: Disk, I: Source>(
+    alloc: Global,
+    row: &SessionRow,
+    disks: Trio<D>,
+    cutter: &mut Cutter,
+    file: &mut I,
+) -> Wrapped<D>
+    requires lawful { IsLawfulRow row.now }
+    requires may { MayCut cutter.old }
+    requires message { cut_message cutter.old ≡ row.now.message }
+    ensures sent { D.told.tells → (messages : List (List ℕ)) → HasAll D.told row.now messages disks
+        → IsSent D.told row.now messages cutter.old (I.left file.old) result.end result.disks }
+{
+    let mut pump = match open(alloc, row, disks) {
+        Ok(pump) => pump,
+        Err(failed) => return failed,
+    };
+    let sent = send_rest(&mut pump, cutter, file);
+    Wrapped {
+        end: sent_all(cutter.bytes(), sent),
+        disks: close(pump),
+    }
+}
+
+/// A file is sent over the pump of a row, whose three disks come back. What is left in the pump goes to
+/// the receiver first; then the receiver's messages must be the first ones of the file, and each further
+/// one is stored, passed on, taken and acknowledged before the next one comes. A file that was sent in
+/// part goes on where it was. It takes no memory but what the pump is opened with.
+pub fn wrap<D: Disk, I: Source>(
+    alloc: Global,
+    row: &SessionRow,
+    disks: Trio<D>,
+    file: &mut I,
+) -> Wrapped<D>
+    requires lawful { IsLawfulRow row.now }
+    requires least { 9 ≤ row.now.message }
+    ensures whole { D.told.tells → (bytes : List ℕ) → I.left file.old ≡ Some bytes → IsWhole D.told row.now bytes result.end result.disks }
+{
+    let emptied = match empty(alloc, row, disks) {
+        Ok(disks) => disks,
+        Err(failed) => return failed,
+    };
+    let Trio { low, high, recv } = emptied;
+    let mut cutter = Cutter::new(row.message);
+    let (recv, answer) = compare(row, recv, &mut cutter, file);
+    let disks = Trio { low, high, recv };
+    match answer {
+        Ok(()) => send_further(alloc, row, disks, &mut cutter, file),
+        Err(end) => Wrapped { end, disks },
+    }
+}

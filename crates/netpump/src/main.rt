@@ -90,6 +90,19 @@ where
     )
 }
 
+/// What the shelf knows of the file that stopped the command.
+fn trouble_of<R: Files<File = File>>(shelf: &FileShelf<R>) -> Trouble {
+    if shelf.faults() > 0 {
+        Trouble::Unread
+    } else if shelf.is_in_use() {
+        Trouble::InUse
+    } else if shelf.disk_faults() > 0 {
+        Trouble::Failed
+    } else {
+        Trouble::Told
+    }
+}
+
 fn main(rt: HostRuntime) -> ExitCode {
     let words = match words(&rt) {
         Ok(words) => words,
@@ -138,15 +151,7 @@ fn main(rt: HostRuntime) -> ExitCode {
     } else {
         batch(rt.alloc(), &words, &mut shelf, &mut script, &mut out)
     };
-    let trouble = if shelf.faults() > 0 {
-        Trouble::Unread
-    } else if shelf.is_in_use() {
-        Trouble::InUse
-    } else if shelf.disk_faults() > 0 {
-        Trouble::Failed
-    } else {
-        Trouble::Told
-    };
+    let trouble = trouble_of(&shelf);
     // The status tells it too, where standard error can't be written.
     let _ = explain(&rt, words.as_slice(), status, out.last(), trouble);
     ExitCode::from(status)

@@ -3,4 +3,4 @@ use Rattle.pump_chain.specs.Standing.{chain_is_down}
 use Rattle.pump_chain.proofs.tests.play.Given as goal
 
 abbrev pub invariant-loop-line : goal.invariant-loop-line
-invariant-loop-line g l = chain_is_down l.chain ≡ false
+invariant-loop-line l = chain_is_down l.chain ≡ false

@@ -15,6 +15,3 @@ pub use laws::{
 };
 pub use not_chained::{ChainWhy, NotChained};
 pub use six::Six;
-
-#[cfg(test)]
-mod tests;

@@ -1,9 +1,9 @@
 -- What is kept of a record's claims says which of them is the first wrong one.
-use Rattle.std.proofs.Common.{◌≡◌, ◌⊎◌, inl, inr, ℕ, suc, zero, ◌+◌, ◌<◌, ◌≤◌, true, false, List, [], ◌∷◌, ◌++◌, length, get_or, take, drop, Option, None, Some, refl, sym, ap, ◌∙◌, subst, arith, length-append}
-use Rattle.std.specs.Prelude.{is_some, nat_le, slice_get}
+use Rattle.std.proofs.Common.{◌≡◌, ◌⊎◌, inl, inr, ℕ, suc, zero, ◌+◌, ◌<◌, ◌≤◌, true, false, List, [], ◌∷◌, ◌++◌, length, get_or, take, drop, Option, None, Some, refl, sym, ap, ◌∙◌, subst, arith, length-append, append_assoc, ◌-◌}
+use Rattle.std.specs.Prelude.{Bool, if◌then◌else◌, is_some, nat_le, slice_get, slice_index_or}
 use Rattle.std.specs.List.{All}
 use Rattle.std.proofs.lemmas.Bool.{cases_eq, leb-true, leb-false}
-use Rattle.std.proofs.lemmas.List.{take_more, take_all, drop_all, take-append-le}
+use Rattle.std.proofs.lemmas.List.{take_more, take_all, drop_all, take-append-le, take-append-drop}
 use Rattle.std.proofs.lemmas.List.Elements.{All-nil, All-cons, All-push, All-head, All-tail, All-weaker}
 use Rattle.std.proofs.Math.Seq.{drop-cons}
 use Rattle.pump_frame.specs.declared.averaging.Averaging.{Averaging}
@@ -11,7 +11,7 @@ use Rattle.pump_frame.specs.Averages.{averaging_of, average_of}
 use Rattle.pump_audit.specs.declared.claims.Claim.{Claim}
 use Rattle.pump_audit.specs.Records.{Record}
 use Rattle.pump_audit.specs.Claims.{has_end, IsRight, AreRight, IsFirstWrong}
-use Rattle.pump_audit.specs.Pairs.{Keeps, AreRisen, FallsAt, Fell, RiseFrom, top, IsMet, Fails, Waits, Meets}
+use Rattle.pump_audit.specs.Pairs.{AreAlike, EndsLike, IsSettled, AreFew, Keeps, AreRisen, FallsAt, Fell, RiseFrom, top, IsMet, Fails, Waits, Meets}
 
 -- ---- a fall ----
 
@@ -144,6 +144,43 @@ snoc_split (f ∷ fs) p rest (b ∷ bs) c e =
       | inr more ↦ inr (more.0, let tail = more.1 in cc)
     ]
 
+-- ---- what is kept is few ----
+
+is_empty : (front : List Claim) (p q : Claim) (rest before : List Claim) (c : Claim) → front ++ p ∷ q ∷ rest ≡ before ++ c ∷ [] → front ++ p ∷ [] ≡ before → rest ≡ []
+is_empty front p q [] before c e same = refl
+is_empty front p q (x ∷ rest) before c e same =
+    absurd (let l = ap length e in let k = ap length same in omega (arith, l, k, length-append front (p ∷ q ∷ x ∷ rest), length-append front (p ∷ []), length-append before (c ∷ [])))
+
+pub last_two : (xs : List Claim) (none : Claim) → 2 ≤ length xs
+    → xs ≡ take (length xs - 2) xs ++ slice_index_or xs (length xs - 2) none ∷ slice_index_or xs (length xs - 1) none ∷ []
+last_two xs none low =
+    let n = length xs - 2 in
+    let m = length xs - 1 in
+    let first : drop n xs ≡ get_or xs n none ∷ drop (suc n) xs = drop-cons xs n none (omega (arith, low)) in
+    let next : suc n ≡ m = omega (arith, low) in
+    let second : drop m xs ≡ get_or xs m none ∷ drop (suc m) xs = drop-cons xs m none (omega (arith, low)) in
+    let end : drop (suc m) xs ≡ [] = drop_all (suc m) xs (omega (arith, low)) in
+    sym (take-append-drop n xs) ∙ ap (λ l. take n xs ++ l) (first ∙ ap (λ k. get_or xs n none ∷ drop k xs) next ∙ ap (λ l. get_or xs n none ∷ l) (second ∙ ap (λ l. get_or xs m none ∷ l) end))
+
+-- a claim more, behind a rise, that does not tell the last pair again
+pub few_push : (before : List Claim) (c : Claim) → AreFew before → (EndsLike before c → ⊥)
+    → ((front : List Claim) (p q : Claim) → before ≡ front ++ p ∷ q ∷ [] → p.count < q.count) → AreFew (before ++ c ∷ [])
+few_push before c few other rises front p q rest e = elim (snoc_split (front ++ p ∷ []) q rest before c (append_assoc front (p ∷ []) (q ∷ rest) ∙ sym e)) [
+  | inl same ↦ (
+    λ alike. other (front, p, sym same.0, subst (AreAlike p) same.1 alike),
+    λ more. absurd (more (is_empty front p q rest before c (sym e) same.0)),
+  )
+  | inr more ↦ (let now = more.1 ∙ append_assoc front (p ∷ []) (q ∷ more.0) in ((few front p q more.0 now).0, λ is. rise more.0 now))
+]
+  where
+    rise : (more : List Claim) → before ≡ front ++ p ∷ q ∷ more → p.count < q.count
+    rise [] now = rises front p q now
+    rise (m ∷ more) now = (few front p q (m ∷ more) now).1 (λ none. absurd (cc))
+
+pub few_if : (pushed : Bool) (before : List Claim) (c : Claim) → AreFew before → AreFew (before ++ c ∷ []) → AreFew (if pushed then before ++ c ∷ [] else before)
+few_if true before c was now = now
+few_if false before c was now = was
+
 module _ (r : Record) where
   abbrev ok : Claim → Type 0
   ok p = IsMet (averaging_of r.row) r.times p
@@ -155,6 +192,22 @@ module _ (r : Record) where
   last_all : (xs : List Claim) (x : Claim) → All ok (xs ++ x ∷ []) → ok x
   last_all [] x h = All-head ok x [] h
   last_all (y ∷ xs) x h = last_all xs x (All-tail ok y (xs ++ x ∷ []) h)
+
+  pair_risen : (n : ℕ) (front : List Claim) (p q : Claim) → RiseFrom n (front ++ p ∷ q ∷ []) → p.count ≤ q.count
+  pair_risen n [] p q h = h.1.0
+  pair_risen n (f ∷ front) p q h = pair_risen f.count front p q h.1
+
+  pair_all : (front : List Claim) (p q : Claim) → All ok (front ++ p ∷ q ∷ []) → ok p × ok q
+  pair_all [] p q h = (All-head ok p (q ∷ []) h, All-head ok q [] (All-tail ok p (q ∷ []) h))
+  pair_all (f ∷ front) p q h = pair_all front p q (All-tail ok f (front ++ p ∷ q ∷ []) h)
+
+  -- where one of the last two is wrong whatever the times are, not all are right
+  settled_wrong : (pairs : List Claim) → IsSettled pairs → RiseFrom 0 pairs → All ok pairs → ⊥
+  settled_wrong pairs (front, p, q, is, low, apart) rises all =
+      let up = pair_risen 0 front p q (subst (RiseFrom 0) is rises) in
+      let met = pair_all front p q (subst (All ok) is all) in
+      let same : p.count ≡ q.count = omega (arith, low, up) in
+      apart (same, met.0.1 ∙ ap (λ n. average_of (averaging_of r.row) (take n r.times)) same ∙ sym met.1.1)
 
   -- where those that are kept are right, all are, and none is greater than the last
   all_right : (claims pairs : List Claim) → Keeps claims pairs → RiseFrom 0 pairs → All ok pairs → AreRight r claims × All (λ b. b.count ≤ top 0 pairs) claims
@@ -168,15 +221,17 @@ module _ (r : Record) where
         (record { rises = below; average = λ t. last_all before c all' }, h.0),
         All-weaker (λ b. b.count ≤ c.count) (λ b. b.count ≤ top 0 pairs) (λ b low. omega (arith, low, last)) (c ∷ older) (All-cons (λ b. b.count ≤ c.count) c older (omega arith) below),
       )
-  all_right (c ∷ older) pairs (before, k, inr (e, same)) rises all =
+  all_right (c ∷ older) pairs (before, k, inr (e, inr settled)) rises all =
+      absurd (settled_wrong before settled (subst (RiseFrom 0) e rises) (subst (All ok) e all))
+  all_right (c ∷ older) pairs (before, k, inr (e, inl same)) rises all =
       let h = all_right older before k (subst (RiseFrom 0) e rises) (subst (All ok) e all) in
       let p = same.1 in
       let last : top 0 before ≡ p.count = ap (top 0) same.2 ∙ top_push 0 same.0 p in
       let met : ok p = last_all same.0 p (subst (All ok) (e ∙ same.2) all) in
-      let mine : ok c = (omega (arith, met.0, same.3), sym same.4 ∙ met.1 ∙ ap (λ n. average_of (averaging_of r.row) (take n r.times)) same.3) in
-      let below = All-weaker (λ b. b.count ≤ top 0 before) (λ b. b.count ≤ c.count) (λ b low. omega (arith, low, last, same.3)) older h.1 in (
+      let mine : ok c = (omega (arith, met.0, same.3.0), sym same.3.1 ∙ met.1 ∙ ap (λ n. average_of (averaging_of r.row) (take n r.times)) same.3.0) in
+      let below = All-weaker (λ b. b.count ≤ top 0 before) (λ b. b.count ≤ c.count) (λ b low. omega (arith, low, last, same.3.0)) older h.1 in (
         (record { rises = below; average = λ t. mine }, h.0),
-        All-weaker (λ b. b.count ≤ c.count) (λ b. b.count ≤ top 0 pairs) (λ b low. omega (arith, low, last, same.3, ap (top 0) e)) (c ∷ older) (All-cons (λ b. b.count ≤ c.count) c older (omega arith) below),
+        All-weaker (λ b. b.count ≤ c.count) (λ b. b.count ≤ top 0 pairs) (λ b low. omega (arith, low, last, same.3.0, ap (top 0) e)) (c ∷ older) (All-cons (λ b. b.count ≤ c.count) c older (omega arith) below),
       )
 
   keeps_most : (claims pairs : List Claim) → Keeps claims pairs → (m : ℕ) → All (λ b. b.count ≤ m) claims → top 0 pairs ≤ m
@@ -184,7 +239,7 @@ module _ (r : Record) where
   keeps_most (c ∷ older) pairs (before, k, inl e) m all =
       let low = All-head (λ b. b.count ≤ m) c older all in
       omega (arith, low, ap (top 0) e, top_push 0 before c)
-  keeps_most (c ∷ older) pairs (before, k, inr (e, same)) m all =
+  keeps_most (c ∷ older) pairs (before, k, inr (e, kept)) m all =
       let low = keeps_most older before k m (All-tail (λ b. b.count ≤ m) c older all) in
       omega (arith, low, ap (top 0) e)
 

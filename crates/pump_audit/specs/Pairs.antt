@@ -1,18 +1,32 @@
--- What is kept of the claims of a record's looks: those that differ from the one before, the oldest first, and
--- how far they were met by the times. It serves private clauses and proofs alone.
+-- What is kept of the claims of a record's looks: one of each count, the oldest first, and the first that can't be right
+-- beside them; and how far they were met by the times. It serves private clauses and proofs alone.
 use Rattle.std.specs.Prelude.{◌≡◌, ◌⊎◌, ℕ, ◌<◌, ◌≤◌, List, [], ◌∷◌, ◌++◌, length, take, drop, Option, None, Some}
 use Rattle.std.specs.List.{All}
 use Rattle.pump_frame.specs.declared.averaging.Averaging.{Averaging}
 use Rattle.pump_frame.specs.Averages.{average_of}
 use Rattle.pump_audit.specs.declared.claims.Claim.{Claim}
 
+-- two claims tell the same pair
+abbrev pub AreAlike : Claim → Claim → Type 0
+AreAlike p c = (p.count ≡ c.count) × (p.average ≡ c.average)
+
 -- the last of these tells the same pair
 abbrev pub EndsLike : List Claim → Claim → Type 0
-EndsLike pairs c = (front : List Claim) × (p : Claim) × (pairs ≡ front ++ p ∷ []) × (p.count ≡ c.count) × (p.average ≡ c.average)
+EndsLike pairs c = (front : List Claim) × (p : Claim) × (pairs ≡ front ++ p ∷ []) × AreAlike p c
 
--- the pairs after one more claim
+-- one of the last two is wrong, whatever the times are: the count falls, or another average is told for it
+abbrev pub IsSettled : List Claim → Type 0
+IsSettled pairs = (front : List Claim) × (p : Claim) × (q : Claim) × (pairs ≡ front ++ p ∷ q ∷ []) × (q.count ≤ p.count) × (AreAlike p q → ⊥)
+
+-- the pairs after one more claim: none is kept behind two of which one is wrong
 abbrev pub Takes : List Claim → Claim → List Claim → Type 0
-Takes before c pairs = (pairs ≡ before ++ c ∷ []) ⊎ ((pairs ≡ before) × EndsLike before c)
+Takes before c pairs = (pairs ≡ before ++ c ∷ []) ⊎ ((pairs ≡ before) × (EndsLike before c ⊎ IsSettled before))
+
+-- neighbours tell different pairs, and the counts rise, but perhaps to the last: so they are no more than the different
+-- counts, and one
+abbrev pub AreFew : List Claim → Type 0
+AreFew pairs = (front : List Claim) (p q : Claim) (rest : List Claim) → pairs ≡ front ++ p ∷ q ∷ rest
+    → (AreAlike p q → ⊥) × ((rest ≡ [] → ⊥) → p.count < q.count)
 
 -- these are kept of the claims, of which the newest stands first
 abbrev pub Keeps : List Claim → List Claim → Type 0

@@ -1,8 +1,8 @@
 // What the looks of a record tell of High's times, against the times at its end.
-ghost use Rattle.std.specs.Prelude.{◌≡◌, ℕ, ◌+◌, ◌≤◌, [], ◌∷◌, ◌++◌, List, length, IfOk, IfSome, Option, None, Some, true, OnOk, option_map, slice_get};
+ghost use Rattle.std.specs.Prelude.{◌≡◌, ℕ, ◌+◌, ◌<◌, ◌≤◌, [], ◌∷◌, ◌++◌, List, length, IfOk, IfSome, Option, None, Some, true, false, OnOk, option_map, slice_get};
 ghost use Rattle.pump_frame.specs.declared.averaging.Averaging.{Averaging};
 ghost use Rattle.pump_frame.specs.Averages.{average_of};
-ghost use Rattle.pump_audit.specs.Pairs.{EndsLike, Keeps, Fell, Takes, Meets};
+ghost use Rattle.pump_audit.specs.Pairs.{EndsLike, IsSettled, Keeps, Fell, Takes, Meets};
 ghost use Rattle.pump_audit.specs.Records.{claims_of};
 
 use crate::claims::{Claim, Claims};
@@ -28,10 +28,22 @@ impl Claims {
     // Whether the last pair that is kept is the claim's.
     fn ends_like(&self, claim: &Claim) -> bool
         ensures yes { result ≡ true → EndsLike self.now.pairs.items claim.now }
+        ensures no { result ≡ false → EndsLike self.now.pairs.items claim.now → ⊥ }
     {
         match self.pairs.last() {
             Some(last) => last.count == claim.count && last.average == claim.average,
             None => false,
+        }
+    }
+
+    // Whether one of the last two pairs that are kept is wrong, whatever the times are.
+    fn is_settled(&self) -> bool
+        ensures yes { result ≡ true → IsSettled self.now.pairs.items }
+        ensures no { result ≡ false → (front : List Claim) (p q : Claim) → self.now.pairs.items ≡ front ++ p ∷ q ∷ [] → p.count < q.count }
+    {
+        match self.pairs.as_slice() {
+            [.., one, other] => other.count <= one.count,
+            _ => false,
         }
     }
 
@@ -58,7 +70,7 @@ impl Claims {
         ensures met { self.new.met ≡ self.old.met }
     {
         self.note_fall(&claim);
-        if self.ends_like(&claim) {
+        if self.is_settled() || self.ends_like(&claim) {
             return Ok(());
         }
         self.pairs.push(claim)?;

@@ -2,18 +2,20 @@ ghost use Rattle.std.specs.Prelude.{◌≡◌, ◌≤◌};
 ghost use Rattle.pump_frame.specs.Counts.{raised};
 ghost use Rattle.adapters.specs.Files.{count_alone};
 
+use crate::file_ahead::FileAhead;
 use disk_model::{Disk, DiskFault};
 use pump_frame::raised;
 use std::fs::File;
 use std::os::unix::fs::FileExt;
 
 /// A file as a disk. It tells how often a call failed, and nothing of what it holds. Nobody else
-/// may write the file meanwhile.
+/// may write the file meanwhile: reads that follow one another are served from bytes read ahead.
 #[derive(Drop)]
 pub struct FileDisk {
     file: File,
     // The file's size, where it is known without asking.
     size: Option<u64>,
+    ahead: FileAhead,
     faults: u64,
 }
 
@@ -25,6 +27,7 @@ impl FileDisk {
         FileDisk {
             file,
             size: Some(size),
+            ahead: FileAhead::new(),
             faults: 0,
         }
     }
@@ -55,13 +58,14 @@ impl Disk for FileDisk {
     }
 
     fn read(&mut self, at: u64, into: &mut [u8]) -> Result<(), DiskFault> {
-        match self.file.read_exact_at(into, at) {
+        match self.ahead.read(&self.file, at, into) {
             Ok(()) => Ok(()),
             Err(_) => Err(self.fault()),
         }
     }
 
     fn write_at(&mut self, at: u64, bytes: &[u8]) -> Result<(), DiskFault> {
+        self.ahead.clear();
         match self.file.write_all_at(bytes, at) {
             Ok(()) => {
                 let end = at.saturating_add(bytes.len() as u64);
@@ -115,6 +119,14 @@ mod tests {
         assert_eq!(rt; disk.read(2, &mut into), Ok(()));
         assert_eq!(rt; &into, b"lpumps");
         assert_eq!(rt; disk.read(3, &mut into), Err(DiskFault));
+        let mut pair = [0; 2];
+        for (at, bytes) in [(0, b"re"), (2, b"lp"), (4, b"um")] {
+            assert_eq!(rt; disk.read(at, &mut pair), Ok(()));
+            assert_eq!(rt; &pair, bytes);
+        }
+        assert_eq!(rt; disk.write_at(6, b"PS"), Ok(()));
+        assert_eq!(rt; disk.read(6, &mut pair), Ok(()));
+        assert_eq!(rt; &pair, b"PS");
         assert_eq!(rt; disk.write_at(u64::MAX, b"relay"), Err(DiskFault));
         assert_eq!(rt; disk.size(), Ok(8));
         assert_eq!(rt; disk.faults(), 2);

@@ -3,6 +3,7 @@
 //! the machine's clock. Each counts its failures, and tells nothing of what it holds or brings.
 #![tactic(auto)]
 
+mod file_ahead;
 mod file_disk;
 mod file_shelf;
 mod keep_alive;

@@ -1,0 +1,69 @@
+ghost use Rattle.std.specs.Prelude.{◌≡◌, IfSome, length as count_of};
+
+use std::fs::File;
+use std::io;
+use std::os::unix::fs::FileExt;
+
+/// How many bytes are read ahead at most.
+const ROOM: usize = 8192;
+
+/// Bytes of a file that were read ahead. Nothing is read ahead but where one read begins where the one
+/// before it ended, as in a walk along a log: a read elsewhere asks for its own bytes alone.
+#[derive(Drop)]
+pub struct FileAhead {
+    bytes: [u8; ROOM],
+    /// Where in the file the bytes begin, and how many there are.
+    start: u64,
+    count: usize,
+    /// Where the last read ended, if the file was not written since.
+    next: Option<u64>,
+}
+
+impl FileAhead {
+    /// No bytes.
+    pub fn new() -> FileAhead {
+        FileAhead {
+            bytes: [0; ROOM],
+            start: 0,
+            count: 0,
+            next: None,
+        }
+    }
+
+    /// No bytes any more. The file is to be written.
+    pub fn clear(&mut self) {
+        self.count = 0;
+        self.next = None;
+    }
+
+    // The bytes from an offset of the file on, where all of them are there.
+    fn held(&self, at: u64, length: usize) -> Option<&[u8]>
+        ensures { IfSome result (λ bytes. count_of bytes.now ≡ length) }
+    {
+        let from = usize::try_from(at.checked_sub(self.start)?).ok()?;
+        let end = from.checked_add(length)?;
+        self.bytes.get(..self.count)?.get(from..end)
+    }
+
+    // Takes in the file's bytes from this offset on. A failure is met again by the read that follows.
+    fn fill(&mut self, file: &File, at: u64) {
+        self.start = at;
+        self.count = file.read_at(&mut self.bytes, at).unwrap_or(0);
+    }
+
+    /// The file's bytes from an offset on. A read past the file's end fails.
+    pub fn read(&mut self, file: &File, at: u64, into: &mut [u8]) -> io::Result<()> {
+        let is_next = self.next == Some(at);
+        self.next = at.checked_add(into.len() as u64);
+        if is_next && self.held(at, into.len()).is_none() {
+            self.fill(file, at);
+        }
+        match self.held(at, into.len()) {
+            Some(bytes) => {
+                into.copy_from_slice(bytes);
+                Ok(())
+            }
+            None => file.read_exact_at(into, at),
+        }
+    }
+}

@@ -4,6 +4,7 @@ pub mod Cuts
 pub mod Drained
 pub mod Example
 pub mod Files
+pub mod Flushed
 pub mod Following
 pub mod Going
 pub mod Holding

@@ -1,14 +1,17 @@
-ghost use Rattle.std.specs.Prelude.{◌≡◌, ℕ, ◌≤◌, List, false};
+ghost use Rattle.std.specs.Prelude.{◌≡◌, ◌≢◌, ℕ, ◌≤◌, List, [], true, false, Err};
 ghost use Rattle.disk_model.specs.Disk.{Moves, Same};
 ghost use Rattle.stable_buffer.specs.Log.{RecvStands};
 ghost use Rattle.high_receiver.specs.Receiving.{IsRecvReady, recv_count, recv_disk, recv_end, recv_is_open, recv_row, recv_size};
-ghost use Rattle.pump_wrapper.specs.Gathers.{Gathers, GatherCause, IsDeviceFault};
+ghost use Rattle.pump_wrapper.specs.Gathers.{Gathers, GathersBy, GatherCause, IsDeviceFault, IsUnbroken};
+ghost use Rattle.pump_wrapper.specs.HeldBack.{Held, held_in};
+ghost use Rattle.pump_link.specs.Causes.{AppendsFront};
 
 use crate::gathering::Gathering;
+use crate::room::Room;
 use disk_model::Disk;
 use high_receiver::Receiver;
 use pump_frame::Payload;
-use pump_link::{Sink, write_all};
+use pump_link::Sink;
 
 /// What was gathered of a receiver's messages.
 #[derive(Clone, Copy, PartialEq, Eq, Debug)]
@@ -30,20 +33,28 @@ pub enum GatherFault {
     Write,
 }
 
-/// Writes the bytes of the pieces among a receiver's messages, each of at most `message` bytes, 9 to
-/// 1024. After a fault the bytes of the pieces before were written, and after `Write` a front of them.
-pub fn gather<D: Disk, O: Sink>(
+fn is_unwritten(gathered: &Result<Gathered, GatherFault>) -> bool
+    ensures yes { result ≡ true → gathered.now ≡ Err GatherFault.Write }
+    ensures no { result ≡ false → gathered.now ≢ Err GatherFault.Write }
+{
+    matches!(gathered, Err(GatherFault::Write))
+}
+
+/// Puts the bytes of the pieces into the room, which hands them on.
+fn gather_held<D: Disk, O: Sink>(
     receiver: &mut Receiver<D>,
+    room: &mut Room,
     out: &mut O,
     message: u32,
 ) -> Result<Gathered, GatherFault>
     requires ready { IsRecvReady D.told receiver.old }
     requires least { 9 ≤ message }
     requires greatest { message ≤ 1024 }
+    requires empty { held_in room.old ≡ [] }
 
     ensures gathers { D.told.tells → (messages : List (List ℕ))
         → RecvStands (recv_row receiver.old) messages (D.told.reading (recv_disk receiver.old))
-        → Gathers message messages (O.written out.old) (O.written out.new) result }
+        → GathersBy (Held (O.written out.old) (O.written out.new) (held_in room.new)) (AppendsFront (O.written out.old) (O.written out.new)) message messages result }
     ensures ready { (IsDeviceFault result → ⊥) → IsRecvReady D.told receiver.new }
     ensures closed { IsDeviceFault result → recv_is_open receiver.new ≡ false }
     ensures count { recv_count receiver.new ≡ recv_count receiver.old }
@@ -73,7 +84,7 @@ pub fn gather<D: Disk, O: Sink>(
         let Some(piece) = gathering.take(payload.as_slice()) else {
             return Err(GatherFault::NotWrapped { number });
         };
-        match write_all(out, piece) {
+        match room.put(piece, out) {
             Ok(()) => {}
             Err(_) => return Err(GatherFault::Write),
         }
@@ -82,4 +93,43 @@ pub fn gather<D: Disk, O: Sink>(
         bytes: gathering.bytes(),
         whole: gathering.is_whole(),
     })
+}
+
+/// Writes the bytes of the pieces among a receiver's messages, each of at most `message` bytes, 9 to
+/// 1024. After a fault the bytes of the pieces before were written, and after `Write` a front of them.
+pub fn gather<D: Disk, O: Sink>(
+    receiver: &mut Receiver<D>,
+    out: &mut O,
+    message: u32,
+) -> Result<Gathered, GatherFault>
+    requires ready { IsRecvReady D.told receiver.old }
+    requires least { 9 ≤ message }
+    requires greatest { message ≤ 1024 }
+
+    ensures gathers { D.told.tells → (messages : List (List ℕ))
+        → RecvStands (recv_row receiver.old) messages (D.told.reading (recv_disk receiver.old))
+        → Gathers message messages (O.written out.old) (O.written out.new) result }
+    ensures ready { IsUnbroken result → IsRecvReady D.told receiver.new }
+    ensures closed { IsDeviceFault result → recv_is_open receiver.new ≡ false }
+    ensures count { recv_count receiver.new ≡ recv_count receiver.old }
+    ensures end { recv_end receiver.new ≡ recv_end receiver.old }
+    ensures row { recv_row receiver.new ≡ recv_row receiver.old }
+    ensures size { recv_size receiver.new ≡ recv_size receiver.old }
+    ensures moves { Moves D.told Same (recv_disk receiver.old) (recv_disk receiver.new) }
+
+    ensures cause { GatherCause (D.told.count (recv_disk receiver.old))
+        (D.told.count (recv_disk receiver.new)) (O.faults out.old) (O.faults out.new) result }
+    ensures later { O.faults out.old ≤ O.faults out.new }
+    ensures counts { D.told.count (recv_disk receiver.old)
+        ≤ D.told.count (recv_disk receiver.new) }
+{
+    let mut room = Room::new();
+    let gathered = gather_held(receiver, &mut room, out, message);
+    if is_unwritten(&gathered) {
+        return gathered;
+    }
+    match room.flush(out) {
+        Ok(()) => gathered,
+        Err(_) => Err(GatherFault::Write),
+    }
 }

@@ -12,6 +12,7 @@ mod gathering;
 pub mod laws;
 mod length;
 mod lines;
+mod room;
 mod sending;
 
 pub use compare::{CompareFault, skip_received};

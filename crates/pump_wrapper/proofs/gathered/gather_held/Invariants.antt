@@ -1,11 +1,11 @@
 use Rattle.std.proofs.Common.{◌≡◌, ℕ, ◌-◌, ◌*◌, ◌≤◌, List, length, take}
-use Rattle.std.specs.Io.KnownBytes.{Appends}
 use Rattle.disk_model.specs.Disk.{Moves, Same}
 use Rattle.stable_buffer.specs.Log.{RecvStands}
 use Rattle.high_receiver.specs.Receiving.{IsRecvReady, IsRecordAt, recv_count, recv_disk, recv_end, recv_row, recv_size}
+use Rattle.pump_wrapper.specs.HeldBack.{Held, held_in}
 use Rattle.pump_wrapper.specs.Wrapped.{unwrapped}
 use Rattle.pump_wrapper.specs.Gathering.{HasTaken}
-use Rattle.pump_wrapper.proofs.gathered.gather.Given as goal
+use Rattle.pump_wrapper.proofs.gathered.gather_held.Given as goal
 
 abbrev pub invariant-loop-number : goal.invariant-loop-number
 invariant-loop-number g l =
@@ -25,5 +25,5 @@ invariant-loop-number g l =
       few : l.gathering.bytes ≤ l.number * 1024;
       taken : m.tells → (messages : List (List ℕ)) → RecvStands (recv_row r) messages (m.reading (recv_disk r)) → HasTaken l.fn.message (take l.number messages) l.gathering;
       bytes : m.tells → (messages : List (List ℕ)) → RecvStands (recv_row r) messages (m.reading (recv_disk r)) → l.gathering.bytes ≡ length (unwrapped (take l.number messages));
-      wrote : m.tells → (messages : List (List ℕ)) → RecvStands (recv_row r) messages (m.reading (recv_disk r)) → Appends (g.O.Sink.written l.fn.out) (g.O.Sink.written l.out) (unwrapped (take l.number messages));
+      wrote : m.tells → (messages : List (List ℕ)) → RecvStands (recv_row r) messages (m.reading (recv_disk r)) → Held (g.O.Sink.written l.fn.out) (g.O.Sink.written l.out) (held_in l.room) (unwrapped (take l.number messages));
     }

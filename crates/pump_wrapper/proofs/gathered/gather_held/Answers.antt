@@ -1,0 +1,99 @@
+use Rattle.std.proofs.Common.{◌≡◌, ℕ, ◌+◌, ◌<◌, List, length, take, sym, ◌∙◌, ap, subst, arith, length-append}
+use Rattle.std.proofs.lemmas.List.{take_all}
+use Rattle.disk_model.specs.Disk.{Same}
+use Rattle.stable_buffer.specs.Log.{RecvStands}
+use Rattle.disk_model.proofs.Run.{goes_on_same}
+use Rattle.pump_link.specs.Causes.{AppendsFront}
+use Rattle.pump_wrapper.specs.HeldBack.{Held, held_in}
+use Rattle.pump_wrapper.specs.Wrapped.{unwrapped, BeginsFile}
+use Rattle.pump_wrapper.specs.Gathering.{HasTaken}
+use Rattle.pump_wrapper.proofs.Following.{begins, begins_no, one_taken, whole_file, file_whole}
+use Rattle.pump_wrapper.proofs.Takings.{length_of_piece, stands_on, count_is, next_message, next_bytes, front_behind}
+use Rattle.pump_wrapper.proofs.gathered.gather_held.Goals as goal
+
+pub returns-in-Err-clause-gathers : goal.returns-in-Err-clause-gathers
+returns-in-Err-clause-gathers g c = λ told messages stands.
+    let m = g.D.Disk.told in
+    let kept = c.loop-number.invariant in
+    let n = c.loop-number.number in
+    let on = stands_on m c.args.receiver.now c.loop-number.receiver messages kept.row kept.moves told stands in
+    let lt : n < length messages = omega (arith, c.loop-number-test.true, c.count-number-end.ensures, kept.count, count_is m c.loop-number.receiver messages kept.ready told on) in
+    (n, lt, begins c.args.message (take n messages) c.loop-number.gathering (kept.taken told messages stands), kept.wrote told messages stands)
+
+pub returns-in_default-clause-gathers : goal.returns-in_default-clause-gathers
+returns-in_default-clause-gathers g c = λ told messages stands.
+    let m = g.D.Disk.told in
+    let kept = c.loop-number.invariant in
+    let n = c.loop-number.number in
+    let on = stands_on m c.args.receiver.now c.loop-number.receiver messages kept.row kept.moves told stands in
+    let lt : n < length messages = omega (arith, c.loop-number-test.true, c.count-number-end.ensures, kept.count, count_is m c.loop-number.receiver messages kept.ready told on) in
+    let more = next_message messages n c.at.new.into c.as_slice.result.now lt (c.in-Ok.ensures.message told messages on) c.as_slice.ensures.value in
+    let has = kept.taken told messages stands in
+    let never = begins_no c.args.message (take n messages) c.as_slice.result.now c.loop-number.gathering has c.in_default.ensures.taken in
+    (lt, begins c.args.message (take n messages) c.loop-number.gathering has, subst (λ (ms : List (List ℕ)). BeginsFile c.args.message ms → ⊥) more never, kept.wrote told messages stands)
+
+pub returns-in-Err-put-clause-gathers : goal.returns-in-Err-put-clause-gathers
+returns-in-Err-put-clause-gathers g c = λ told messages stands.
+    let m = g.D.Disk.told in
+    let kept = c.loop-number.invariant in
+    let n = c.loop-number.number in
+    let on = stands_on m c.args.receiver.now c.loop-number.receiver messages kept.row kept.moves told stands in
+    let lt : n < length messages = omega (arith, c.loop-number-test.true, c.count-number-end.ensures, kept.count, count_is m c.loop-number.receiver messages kept.ready told on) in
+    let held = kept.wrote told messages stands in (
+      n,
+      omega (arith, lt),
+      begins c.args.message (take n messages) c.loop-number.gathering (kept.taken told messages stands),
+      subst (λ (bs : List ℕ). AppendsFront (g.O.Sink.written c.args.out.now) (g.O.Sink.written c.put.new.out) bs) (sym held.2)
+          (front_behind _ _ _ held.0 (held_in c.loop-number.room) held.1 c.in-Err-put.ensures.err),
+    )
+
+pub put-requires : goal.put-requires
+put-requires g c =
+    let asl = c.as_slice.result.now in
+    omega (arith, c.as_slice.ensures.short, length_of_piece asl, ap length c.in-Some.ensures.taken.1)
+
+pub loop-number-preserved : goal.loop-number-preserved
+loop-number-preserved g c =
+    let m = g.D.Disk.told in
+    let kept = c.loop-number.invariant in
+    let n = c.loop-number.number in
+    let message = c.args.message in
+    let e = c.in-Ok.ensures in
+    let step = c.in-Some.ensures.taken in
+    let asl = c.as_slice.result.now in
+    let piece = c.in-Some.piece.now in
+    let on = λ (told : m.tells) (messages : List (List ℕ)) (stands : RecvStands c.args.receiver.now.row messages (m.reading c.args.receiver.now.register.disk)). stands_on m c.args.receiver.now c.loop-number.receiver messages kept.row kept.moves told stands in
+    let more = λ (told : m.tells) (messages : List (List ℕ)) (stands : RecvStands c.args.receiver.now.row messages (m.reading c.args.receiver.now.register.disk)).
+    next_message messages n c.at.new.into asl (omega (arith, c.loop-number-test.true, c.count-number-end.ensures, kept.count, count_is m c.loop-number.receiver messages kept.ready told (on told messages stands))) (e.message told messages (on told messages stands)) c.as_slice.ensures.value in
+    let bytes = λ (told : m.tells) (messages : List (List ℕ)) (stands : RecvStands c.args.receiver.now.row messages (m.reading c.args.receiver.now.register.disk)). next_bytes messages n asl piece (more told messages stands) step.1 in
+    record {
+      ready = e.ready;
+      count = e.count ∙ kept.count;
+      end = e.end ∙ kept.end;
+      row = e.row ∙ kept.row;
+      size = e.size ∙ kept.size;
+      place = e.next;
+      moves = goes_on_same m Same _ _ _ kept.moves e.moves;
+      counts = omega (arith, kept.counts, e.answers.counts);
+      later = omega (arith, kept.later, c.put.ensures.cause.later);
+      piece = c.take.ensures.size ∙ kept.piece;
+      few = omega (arith, kept.few, c.in-Some.ensures.bytes, c.as_slice.ensures.short, length_of_piece asl, ap length step.1);
+      taken = λ told messages stands. subst (λ (ms : List (List ℕ)). HasTaken message ms c.take.new.self) (more told messages stands) (one_taken message (take n messages) asl c.loop-number.gathering c.take.new.self (kept.taken told messages stands) step.0);
+      bytes = λ told messages stands. c.in-Some.ensures.bytes ∙ ap (λ k. k + length piece) (kept.bytes told messages stands) ∙ sym (length-append (unwrapped (take n messages)) piece) ∙ ap length (bytes told messages stands);
+      wrote = λ told messages stands. subst (Held _ _ _) (bytes told messages stands) (c.in-Ok-put.ensures.ok _ (unwrapped (take n messages)) (kept.wrote told messages stands));
+    }
+
+pub returns-clause-gathers : goal.returns-clause-gathers
+returns-clause-gathers g c = λ told messages stands.
+    let m = g.D.Disk.told in
+    let kept = c.loop-number.invariant in
+    let n = c.loop-number.number in
+    let on = stands_on m c.args.receiver.now c.loop-number.receiver messages kept.row kept.moves told stands in
+    let all : take n messages ≡ messages = take_all n messages (omega (arith, c.loop-number-test.false, c.count-number-end.ensures, kept.count, count_is m c.loop-number.receiver messages kept.ready told on)) in
+    let has = subst (λ (ms : List (List ℕ)). HasTaken c.args.message ms c.loop-number.gathering) all (kept.taken told messages stands) in
+    let is = c.is_whole.ensures in (
+      begins c.args.message messages c.loop-number.gathering has,
+      subst (λ (ms : List (List ℕ)). Held (g.O.Sink.written c.args.out.now) (g.O.Sink.written c.loop-number.out) (held_in c.loop-number.room) (unwrapped ms)) all (kept.wrote told messages stands),
+      c.bytes.ensures ∙ kept.bytes told messages stands ∙ ap (λ (ms : List (List ℕ)). length (unwrapped ms)) all,
+      (λ whole. whole_file c.args.message messages c.loop-number.gathering has (is.0 whole), λ file. is.1 (file_whole c.args.message messages c.loop-number.gathering has file)),
+    )

@@ -9,7 +9,7 @@ use Rattle.pump_audit.specs.declared.entry.Entry.{Entry}
 use Rattle.pump_audit.specs.declared.side.Side.{Side}
 use Rattle.pump_audit.specs.declared.texts.Texted.{Texted}
 use Rattle.pump_audit.specs.declared.texts.Texted.TheVariants.{Cut, End}
-use Rattle.pump_audit.specs.Comparing.{SideTold, form_of, Lists, BeginsSide, BreaksSide, BreaksAt, AreSide, EndsSide, separator, SidesAre, IsCompared}
+use Rattle.pump_audit.specs.Comparing.{ItemTold, SideTold, form_of, Lists, BeginsSide, BreaksSide, BreaksAt, AreSide, EndsSide, separator, SidesAre, IsCompared}
 use Rattle.pump_audit.specs.Entries.{IsEntry}
 use Rattle.pump_audit.specs.Places.{may_end, ends_at}
 use Rattle.pump_audit.specs.Siding.{BeginsAs, GoesOnBy, IsNone, SideGoes, SideEnds, SideComes}
@@ -21,7 +21,7 @@ longer bytes was text rest e q b is entry lists = record { texts = text ∷ b.te
 left_is : (old new : Option (List ℕ)) (rest text : List ℕ) → old ≡ Some rest → Consumes old new (text ++ 10 ∷ []) → (more : List ℕ) × (new ≡ Some more) × (rest ≡ text ++ 10 ∷ more)
 left_is old new rest text known c = taken rest text new (subst (λ o. Consumes o new (text ++ 10 ∷ [])) known c)
 
-module _ (is_first : Bool) (before : ℕ) (bytes : List ℕ) (v : Side) (lines : ℕ) (old : Option (List ℕ)) (goes : SideGoes is_first before bytes v lines old) where
+module _ (first : Option (List ItemTold)) (is_first : Bool) (before : ℕ) (bytes : List ℕ) (v : Side) (lines : ℕ) (old : Option (List ℕ)) (goes : SideGoes first is_first before bytes v lines old) where
   abbrev s : SideTold
   s = goes.so_far
 
@@ -44,7 +44,7 @@ module _ (is_first : Bool) (before : ℕ) (bytes : List ℕ) (v : Side) (lines :
       let left = left_is old new goes.rest text goes.known c in
       breaks (inl (text, left.0, is, left.2, record { none = none; other = λ f e. other f (may ∙ e) }))
 
-  pub goes_on : (n : ℕ) → n ≡ lines → (new : Option (List ℕ)) (text : List ℕ) (w : Side) → IsText text → Consumes old new (text ++ 10 ∷ []) → GoesOnBy s text w true → SideGoes is_first before bytes w (n + 1) new
+  pub goes_on : (n : ℕ) → n ≡ lines → (new : Option (List ℕ)) (text : List ℕ) (w : Side) → IsText text → Consumes old new (text ++ 10 ∷ []) → GoesOnBy first s text w true → SideGoes first is_first before bytes w (n + 1) new
   goes_on n same new text w is c h =
       let left = left_is old new goes.rest text goes.known c in
       record {
@@ -56,8 +56,8 @@ module _ (is_first : Bool) (before : ℕ) (bytes : List ℕ) (v : Side) (lines :
         number = omega (arith, goes.number, h.5, same);
       }
 
-  pub separated : (n : ℕ) → n ≡ lines → (new : Option (List ℕ)) (text : List ℕ) → Consumes old new (text ++ 10 ∷ []) → is_first ≡ true → ends_at v.place ≡ true → text ≡ separator → SideEnds is_first before bytes v (n + 1) new
-  separated n same new text c first ends is =
+  pub separated : (n : ℕ) → n ≡ lines → (new : Option (List ℕ)) (text : List ℕ) → Consumes old new (text ++ 10 ∷ []) → is_first ≡ true → ends_at v.place ≡ true → text ≡ separator → SideEnds first is_first before bytes v (n + 1) new
+  separated n same new text c here ends is =
       let left = left_is old new goes.rest text goes.known c in
       record {
         side = s;
@@ -66,14 +66,14 @@ module _ (is_first : Bool) (before : ℕ) (bytes : List ℕ) (v : Side) (lines :
         are = record {
           rest = goes.rest;
           begins = goes.begins;
-          ends = subst (λ (b : Bool). EndsSide b s goes.rest left.0) (sym first) (sym may ∙ ends, left.2 ∙ ap (λ t. t ++ 10 ∷ left.0) is);
+          ends = subst (λ (b : Bool). EndsSide b s goes.rest left.0) (sym here) (sym may ∙ ends, left.2 ∙ ap (λ t. t ++ 10 ∷ left.0) is);
         };
         known = λ f. left.1;
-        number = subst (λ (b : Bool). n + 1 ≡ before + s.lines + (if b then 1 else 0)) (sym first) (omega (arith, goes.number, same));
+        number = subst (λ (b : Bool). n + 1 ≡ before + s.lines + (if b then 1 else 0)) (sym here) (omega (arith, goes.number, same));
       }
 
-  ended : (new : Option (List ℕ)) → IsAtEnd old → is_first ≡ false → ends_at v.place ≡ true → SideEnds is_first before bytes v lines new
-  ended new at_end first ends =
+  ended : (new : Option (List ℕ)) → IsAtEnd old → is_first ≡ false → ends_at v.place ≡ true → SideEnds first is_first before bytes v lines new
+  ended new at_end other ends =
       let none : goes.rest ≡ [] = subst (λ o. IsAtEnd o) goes.known at_end in
       record {
         side = s;
@@ -82,26 +82,26 @@ module _ (is_first : Bool) (before : ℕ) (bytes : List ℕ) (v : Side) (lines :
         are = record {
           rest = goes.rest;
           begins = goes.begins;
-          ends = subst (λ (b : Bool). EndsSide b s goes.rest []) (sym first) (sym may ∙ ends, none, refl);
+          ends = subst (λ (b : Bool). EndsSide b s goes.rest []) (sym other) (sym may ∙ ends, none, refl);
         };
-        known = λ f. absurd (let both = sym first ∙ f in cc);
-        number = subst (λ (b : Bool). lines ≡ before + s.lines + (if b then 1 else 0)) (sym first) (omega (arith, goes.number));
+        known = λ f. absurd (let both = sym other ∙ f in cc);
+        number = subst (λ (b : Bool). lines ≡ before + s.lines + (if b then 1 else 0)) (sym other) (omega (arith, goes.number));
       }
 
   unended : IsAtEnd old → (is_first ≡ true) ⊎ (ends_at v.place ≡ false) → BreaksAt is_first before bytes (lines + 1)
-  unended at_end (inl first) = breaks (inr (inr (inr (subst (λ o. IsAtEnd o) goes.known at_end, inl first))))
+  unended at_end (inl here) = breaks (inr (inr (inr (subst (λ o. IsAtEnd o) goes.known at_end, inl here))))
   unended at_end (inr ends) = breaks (inr (inr (inr (subst (λ o. IsAtEnd o) goes.known at_end, inr (sym may ∙ ends)))))
 
-  pub end_comes : (new : Option (List ℕ)) (o : Option Side) → IsAtEnd old → MatchOption o ((is_first ≡ true) ⊎ (ends_at v.place ≡ false)) (λ w. (w ≡ v) × (is_first ≡ false) × (ends_at v.place ≡ true)) → SideComes is_first before bytes o lines new
+  pub end_comes : (new : Option (List ℕ)) (o : Option Side) → IsAtEnd old → MatchOption o ((is_first ≡ true) ⊎ (ends_at v.place ≡ false)) (λ w. (w ≡ v) × (is_first ≡ false) × (ends_at v.place ≡ true)) → SideComes first is_first before bytes o lines new
   end_comes new None at_end h = unended at_end h
-  end_comes new (Some w) at_end h = subst (λ (x : Side). SideEnds is_first before bytes x lines new) (sym h.0) (ended new at_end h.1 h.2)
+  end_comes new (Some w) at_end h = subst (λ (x : Side). SideEnds first is_first before bytes x lines new) (sym h.0) (ended new at_end h.1 h.2)
 
 -- ---- a first line ----
 
 nothing_yet : (bytes : List ℕ) → BeginsSide bytes None bytes
 nothing_yet bytes = record { texts = []; side_of = refl; whole = refl }
 
-module _ (is_first : Bool) (lines : ℕ) (bytes : List ℕ) (old : Option (List ℕ)) (known : old ≡ Some bytes) where
+module _ (first : Option (List ItemTold)) (is_first : Bool) (lines : ℕ) (bytes : List ℕ) (old : Option (List ℕ)) (known : old ≡ Some bytes) where
   first_breaks : BreaksSide is_first lines None bytes → BreaksAt is_first lines bytes (lines + 1)
   first_breaks h = record { so_far = None; rest = bytes; begins = nothing_yet bytes; breaks = h; number = omega arith }
 
@@ -114,12 +114,12 @@ module _ (is_first : Bool) (lines : ℕ) (bytes : List ℕ) (old : Option (List 
       let left = left_is old new bytes text known c in
       first_breaks (inr (inr (inl ((λ e. not_nothing text left.0 (sym left.2 ∙ e)), omega (arith, last)))))
 
-  pub first_outside : (new : Option (List ℕ)) (text : List ℕ) → IsText text → Consumes old new (text ++ 10 ∷ []) → BeginsAs text None → BreaksAt is_first lines bytes (lines + 1)
+  pub first_outside : (new : Option (List ℕ)) (text : List ℕ) → IsText text → Consumes old new (text ++ 10 ∷ []) → BeginsAs first text None → BreaksAt is_first lines bytes (lines + 1)
   first_outside new text is c none =
       let left = left_is old new bytes text known c in
       first_breaks (inl (text, left.0, is, left.2, record { none = none; other = λ f e. absurd (cc) }))
 
-  pub first_goes : (n : ℕ) → n ≡ lines → (new : Option (List ℕ)) (text : List ℕ) (v : Side) → IsText text → Consumes old new (text ++ 10 ∷ []) → BeginsAs text (Some v) → SideGoes is_first lines bytes v (n + 1) new
+  pub first_goes : (n : ℕ) → n ≡ lines → (new : Option (List ℕ)) (text : List ℕ) (v : Side) → IsText text → Consumes old new (text ++ 10 ∷ []) → BeginsAs first text (Some v) → SideGoes first is_first lines bytes v (n + 1) new
   first_goes n same new text v is c h =
       let left = left_is old new bytes text known c in
       record {
@@ -136,12 +136,12 @@ module _ (is_first : Bool) (lines : ℕ) (bytes : List ℕ) (old : Option (List 
 pub first_not : (bytes : List ℕ) (line n : ℕ) → line ≡ n + 1 → BreaksAt true 0 bytes (n + 1) → IsCompared bytes (NotRecord line)
 first_not bytes line n e h = inl (subst (BreaksAt true 0 bytes) (sym e) h)
 
-pub second_not : (bytes : List ℕ) (v : Side) (lines line n : ℕ) (mid : Option (List ℕ)) (first : SideEnds true 0 bytes v lines mid) → line ≡ n + 1 → BreaksAt false lines first.left (n + 1) → IsCompared bytes (NotRecord line)
+pub second_not : (bytes : List ℕ) (v : Side) (lines line n : ℕ) (mid : Option (List ℕ)) (first : SideEnds None true 0 bytes v lines mid) → line ≡ n + 1 → BreaksAt false lines first.left (n + 1) → IsCompared bytes (NotRecord line)
 second_not bytes v lines line n mid first e h =
     let before : lines ≡ first.side.lines + 1 = omega (arith, first.number) in
     inr (first.side, first.left, first.are, subst (λ (x : ℕ × ℕ). BreaksAt false x.0 first.left x.1) (λ i. (before i, sym e i)) h)
 
-pub both_are : (bytes : List ℕ) (v w : Side) (lines more : ℕ) (mid end : Option (List ℕ)) (first : SideEnds true 0 bytes v lines mid) (second : SideEnds false lines first.left w more end) (r : Compared)
+pub both_are : (bytes : List ℕ) (v w : Side) (lines more : ℕ) (mid end : Option (List ℕ)) (first : SideEnds None true 0 bytes v lines mid) (second : SideEnds (Some first.side.items) false lines first.left w more end) (r : Compared)
     → SidesAre first.side second.side r → IsCompared bytes r
 both_are bytes v w lines more mid end first second (NotRecord line) h = absurd h
 both_are bytes v w lines more mid end first second (Agree items) h =

@@ -1,6 +1,6 @@
 -- Low's sides of two records, and where they differ.
-use Rattle.std.proofs.Common.{◌≡◌, inl, inr, ℕ, zero, suc, ◌+◌, ◌<◌, ◌≤◌, Bool, true, false, List, [], ◌∷◌, length, get_or, drop, map, None, Some, refl, sym, ap, ◌∙◌, subst, arith}
-use Rattle.std.specs.Prelude.{◌&&◌, ◌==◌}
+use Rattle.std.proofs.Common.{◌≡◌, inl, inr, ℕ, zero, suc, ◌+◌, ◌<◌, ◌≤◌, Bool, true, false, List, [], ◌∷◌, ◌++◌, length, get_or, length-append, append_assoc, map, Option, None, Some, refl, sym, ap, ◌∙◌, subst, arith}
+use Rattle.std.specs.Prelude.{◌&&◌, ◌==◌, is_some, slice_get}
 use Rattle.std.specs.Str.{bytes_eq}
 use Rattle.std.proofs.lemmas.Bool.{and_parts, eqb-true, eq-eqb}
 use Rattle.std.proofs.lemmas.Slice.Eq.{bytes_eq-Decides}
@@ -14,11 +14,12 @@ use Rattle.pump_audit.specs.declared.entry.Entry.TheVariants as entries
 use Rattle.pump_audit.specs.declared.form.Form.{Form}
 use Rattle.pump_audit.specs.declared.form.Place.{Place}
 use Rattle.pump_audit.specs.declared.side.Item.{Item}
+use Rattle.pump_audit.specs.declared.side.Opened.{Opened}
 use Rattle.pump_audit.specs.declared.side.Side.{Side}
 use Rattle.pump_audit.specs.Comparing.{ItemTold, SideTold, form_of, with_entry, same_bool, unlike, AreAlike, DifferAt, SameOpening, SidesAre}
 use Rattle.pump_audit.specs.Entries.{IsEntry}
 use Rattle.pump_audit.specs.Places.{behind_line}
-use Rattle.pump_audit.specs.Siding.{tells, Stands, form_of_side, GoesOnBy, has_same_row, has_same_opening}
+use Rattle.pump_audit.specs.Siding.{tells, AlikeSoFar, MatchesTo, Opens, Stands, form_of_side, GoesOnBy, has_same_row, has_same_opening}
 
 -- ---- one more line ----
 
@@ -28,74 +29,91 @@ lines_more s (entries.Coarse session) place = refl
 lines_more s (entries.Look line) place = refl
 lines_more s (entries.Comment note) place = refl
 
-pub goes_by : (v : Side) (s : SideTold) → Stands v s → (e : Entry) (text : List ℕ) → IsEntry e text → (f : Form) → behind_line (form_of_side v) e ≡ Some f → (new : Side) → Stands new (with_entry s e f.place) → GoesOnBy s text new true
-goes_by v s was e text is f h new stands =
-    let same : form_of_side v ≡ form_of s = λ i. record { session = (was.row i).id; place = was.place i } in
+pub goes_by : (first : Option (List ItemTold)) (v : Side) (s : SideTold) → Stands first v s → (e : Entry) (text : List ℕ) → IsEntry e text → (f : Form) → behind_line (form_of_side v) e ≡ Some f → (new : Side) → Stands first new (with_entry s e f.place) → GoesOnBy first s text new true
+goes_by first v s was e text is f h new stands =
+    let same : form_of_side v ≡ form_of s = λ i. record { session = (was.opens.row i).id; place = was.place i } in
     (e, is, with_entry s e f.place, (f, sym (ap (λ (x : Form). behind_line x e) same) ∙ h, refl), stands, lines_more s e f.place)
 
 -- ---- two lists ----
 
--- what is left of the items from this one on
-pub left_of : (xs : List Item) (i : ℕ) (x : Item) → i < length xs → x ≡ get_or xs i x → drop i (map tells xs) ≡ tells x ∷ drop (i + 1) (map tells xs)
-left_of xs i x low is = let next : suc i ≡ i + 1 = omega arith in from xs i x low is ∙ ap (λ k. tells x ∷ drop k (map tells xs)) next
-  where
-    from : (xs : List Item) (i : ℕ) (x : Item) → i < length xs → x ≡ get_or xs i x → drop i (map tells xs) ≡ tells x ∷ drop (suc i) (map tells xs)
-    from [] i x low is = absurd (omega (arith, low))
-    from (y ∷ xs) zero x low is = ap (λ z. tells z ∷ map tells xs) (sym is)
-    from (y ∷ xs) (suc i) x low is = from xs i x (omega (arith, low)) is
+own_of : (items : List Item) (n : ℕ) (own : Item) → n < length items → own ≡ get_or items n own → slice_get (map tells items) n ≡ Some (tells own)
+own_of [] n own low is = absurd (omega (arith, low))
+own_of (x ∷ items) zero own low is = ap (λ (y : Item). Some (tells y)) (sym is)
+own_of (x ∷ items) (suc n) own low is = own_of items n own (omega (arith, low)) is
 
-pub none_left : (xs : List Item) (i : ℕ) → length xs ≤ i → drop i (map tells xs) ≡ []
-none_left [] zero past = refl
-none_left [] (suc i) past = refl
-none_left (x ∷ xs) zero past = absurd (omega (arith, past))
-none_left (x ∷ xs) (suc i) past = none_left xs i (omega (arith, past))
+none_of : (items : List Item) (n : ℕ) → length items ≤ n → slice_get (map tells items) n ≡ None
+none_of [] n past = refl
+none_of (x ∷ items) zero past = absurd (omega (arith, past))
+none_of (x ∷ items) (suc n) past = none_of items n (omega (arith, past))
 
--- so far all items were alike
-pub record SoFar (us vs : List ItemTold) (at : ℕ) : Type 0 where
-  pub alike : AreAlike (drop at us) (drop at vs) → AreAlike us vs
-  pub differ : (k : ℕ) (w : What) → DifferAt (drop at us) (drop at vs) k w → DifferAt us vs (at + k) w
+pub nothing_met : (us : List ItemTold) → AlikeSoFar us []
+nothing_met [] = tt
+nothing_met (u ∷ us) = tt
 
-pub at_first : (us vs : List ItemTold) → SoFar us vs 0
-at_first us vs = record { alike = λ h. h; differ = λ k w h. subst (λ n. DifferAt us vs n w) (omega arith) h }
+alike_more : (us xs : List ItemTold) (u x : ItemTold) → AlikeSoFar us xs → slice_get us (length xs) ≡ Some u → unlike u x ≡ None → AlikeSoFar us (xs ++ x ∷ [])
+alike_more [] [] u x h is alike = absurd (cc)
+alike_more (v ∷ us) [] u x h is alike = (let same : v ≡ u = cc in subst (λ z. unlike z x ≡ None) (sym same) alike, nothing_met us)
+alike_more [] (y ∷ xs) u x h is alike = absurd h
+alike_more (v ∷ us) (y ∷ xs) u x h is alike = (h.0, alike_more us xs u x h.1 is alike)
 
-module _ (xs ys : List Item) (at : ℕ) (so_far : SoFar (map tells xs) (map tells ys) at) where
-  pub one_more : (x y : Item) → at < length xs → at < length ys → x ≡ get_or xs at x → y ≡ get_or ys at y → unlike (tells x) (tells y) ≡ None → SoFar (map tells xs) (map tells ys) (at + 1)
-  one_more x y low low' is is' none =
-      let l = left_of xs at x low is in
-      let l' = left_of ys at y low' is' in
-      record {
-        alike = λ h. so_far.alike (subst (λ (p : List ItemTold × List ItemTold). AreAlike p.0 p.1) (λ i. (sym l i, sym l' i)) (none, h));
-        differ = λ k w h.
-            subst (λ n. DifferAt (map tells xs) (map tells ys) n w) (omega arith)
-            (so_far.differ (k + 1) w (subst (λ (p : List ItemTold × List ItemTold). DifferAt p.0 p.1 (k + 1) w) (λ i. (sym l i, sym l' i)) (inr (none, k, refl, h))));
-      }
+differ_here : (us xs : List ItemTold) (u x : ItemTold) (w : What) → AlikeSoFar us xs → slice_get us (length xs) ≡ Some u → unlike u x ≡ Some w
+    → (rest : List ItemTold) → DifferAt us (xs ++ x ∷ rest) (length xs) w
+differ_here [] [] u x w h is other rest = absurd (cc)
+differ_here (v ∷ us) [] u x w h is other rest = inl (refl, let same : v ≡ u = cc in subst (λ z. unlike z x ≡ Some w) (sym same) other)
+differ_here [] (y ∷ xs) u x w h is other rest = absurd h
+differ_here (v ∷ us) (y ∷ xs) u x w h is other rest = inr (h.0, length xs, omega arith, differ_here us xs u x w h.1 is other rest)
 
-  here : (w : What) → DifferAt (drop at (map tells xs)) (drop at (map tells ys)) 0 w → DifferAt (map tells xs) (map tells ys) at w
-  here w h = subst (λ n. DifferAt (map tells xs) (map tells ys) n w) (omega arith) (so_far.differ 0 w h)
+longer_here : (us xs : List ItemTold) (x : ItemTold) → AlikeSoFar us xs → slice_get us (length xs) ≡ None
+    → (rest : List ItemTold) → DifferAt us (xs ++ x ∷ rest) (length xs) what.Length
+longer_here [] [] x h is rest = (refl, refl)
+longer_here (v ∷ us) [] x h is rest = absurd (cc)
+longer_here [] (y ∷ xs) x h is rest = absurd h
+longer_here (v ∷ us) (y ∷ xs) x h is rest = inr (h.0, length xs, omega arith, longer_here us xs x h.1 is rest)
 
-  pub found_here : (x y : Item) (w : What) → at < length xs → at < length ys → x ≡ get_or xs at x → y ≡ get_or ys at y → unlike (tells x) (tells y) ≡ Some w → DifferAt (map tells xs) (map tells ys) at w
-  found_here x y w low low' is is' some =
-      let l = left_of xs at x low is in
-      let l' = left_of ys at y low' is' in
-      here w (subst (λ (p : List ItemTold × List ItemTold). DifferAt p.0 p.1 0 w) (λ i. (sym l i, sym l' i)) (inl (refl, some)))
+pub all_alike : (us xs : List ItemTold) → AlikeSoFar us xs → length us ≤ length xs → AreAlike us xs × (length xs ≡ length us)
+all_alike [] [] h few = (tt, refl)
+all_alike (u ∷ us) [] h few = absurd (omega (arith, few))
+all_alike [] (x ∷ xs) h few = absurd h
+all_alike (u ∷ us) (x ∷ xs) h few = let r = all_alike us xs h.1 (omega (arith, few)) in ((h.0, r.0), ap suc r.1)
 
-  some_left : (zs : List Item) (i : ℕ) → i < length zs → (z : ItemTold) × (rest : List ItemTold) × (drop i (map tells zs) ≡ z ∷ rest)
-  some_left [] i low = absurd (omega (arith, low))
-  some_left (z ∷ zs) zero low = (tells z, map tells zs, refl)
-  some_left (z ∷ zs) (suc i) low = some_left zs i (omega (arith, low))
+pub ends_before : (us xs : List ItemTold) → AlikeSoFar us xs → length xs < length us → DifferAt us xs (length xs) what.Length
+ends_before [] [] h few = absurd (omega (arith, few))
+ends_before (u ∷ us) [] h few = (refl, refl)
+ends_before [] (x ∷ xs) h few = absurd h
+ends_before (u ∷ us) (x ∷ xs) h few = inr (h.0, length xs, omega arith, ends_before us xs h.1 (omega (arith, few)))
 
-  pub second_ends : at < length xs → length ys ≤ at → DifferAt (map tells xs) (map tells ys) at what.Length
-  second_ends low past =
-      let l = some_left xs at low in
-      here what.Length (subst (λ (p : List ItemTold × List ItemTold). DifferAt p.0 p.1 0 what.Length) (λ i. (sym l.2 i, sym (none_left ys at past) i)) (refl, refl))
+pub not_yet : (difference : Option What) → is_some difference ≡ false → difference ≡ None
+not_yet None e = refl
+not_yet (Some w) e = absurd (cc)
 
-  pub first_ends : length xs ≤ at → at < length ys → DifferAt (map tells xs) (map tells ys) at what.Length
-  first_ends past low =
-      let l = some_left ys at low in
-      here what.Length (subst (λ (p : List ItemTold × List ItemTold). DifferAt p.0 p.1 0 what.Length) (λ i. (sym (none_left xs at past) i, sym l.2 i)) (refl, refl))
+-- a look more
+module _ (us xs : List ItemTold) (x : ItemTold) (alike : ℕ) where
+  pub differs_on : (w : What) → MatchesTo us alike (Some w) xs → MatchesTo us alike (Some w) (xs ++ x ∷ [])
+  differs_on w h rest = subst (λ (ys : List ItemTold). DifferAt us ys alike w) (sym (append_assoc xs (x ∷ []) rest)) (h (x ∷ rest))
 
-  pub both_end : length xs ≤ at → length ys ≤ at → AreAlike (map tells xs) (map tells ys)
-  both_end past past' = so_far.alike (subst (λ (p : List ItemTold × List ItemTold). AreAlike p.0 p.1) (λ i. (sym (none_left xs at past) i, sym (none_left ys at past') i)) tt)
+  module _ (items : List Item) (told : map tells items ≡ us) (was : MatchesTo us alike None xs) where
+    abbrev IsNext : Item → Type 0
+    IsNext own = (alike < length items) × (own ≡ get_or items alike own)
+
+    at_own : (own : Item) → IsNext own → slice_get us (length xs) ≡ Some (tells own)
+    at_own own is = subst (λ (p : List ItemTold × ℕ). slice_get p.0 p.1 ≡ Some (tells own)) (λ i. (told i, was.1 i)) (own_of items alike own is.0 is.1)
+
+    pub alike_on : (own : Item) → IsNext own → unlike (tells own) x ≡ None → (n : ℕ) → n ≡ alike + 1 → MatchesTo us n None (xs ++ x ∷ [])
+    alike_on own is same n next = (alike_more us xs (tells own) x was.0 (at_own own is) same, omega (arith, next, was.1, length-append xs (x ∷ [])))
+
+    pub differs_now : (own : Item) → IsNext own → (w : What) → unlike (tells own) x ≡ Some w → MatchesTo us alike (Some w) (xs ++ x ∷ [])
+    differs_now own is w other rest =
+        subst (λ (p : List ItemTold × ℕ). DifferAt us p.0 p.1 w) (λ i. (sym (append_assoc xs (x ∷ []) rest) i, sym was.1 i)) (differ_here us xs (tells own) x w was.0 (at_own own is) other rest)
+
+    pub longer_now : length items ≤ alike → MatchesTo us alike (Some what.Length) (xs ++ x ∷ [])
+    longer_now is rest =
+        let none = subst (λ (p : List ItemTold × ℕ). slice_get p.0 p.1 ≡ None) (λ i. (told i, was.1 i)) (none_of items alike is) in
+        subst (λ (p : List ItemTold × ℕ). DifferAt us p.0 p.1 what.Length) (λ i. (sym (append_assoc xs (x ∷ []) rest) i, sym was.1 i)) (longer_here us xs x was.0 none rest)
+
+-- no further look comes
+pub told_length : (items : List Item) → length (map tells items) ≡ length items
+told_length [] = refl
+told_length (x ∷ items) = ap suc (told_length items)
 
 -- ---- openings ----
 
@@ -156,7 +174,7 @@ row_again a =
       bool_again a.coarse,
     ) refl
 
-module _ (v w : Side) (a b : SideTold) (sv : Stands v a) (sw : Stands w b) where
+module _ (v w : Opened) (a b : SideTold) (sv : Opens v a) (sw : Opens w b) where
   opening_same : has_same_opening v w ≡ true → SameOpening a b
   opening_same h =
       let p = and_parts (has_same_row v.row w.row && v.next == w.next) (same_bool v.is_held w.is_held) h in
@@ -182,16 +200,8 @@ module _ (v w : Side) (a b : SideTold) (sv : Stands v a) (sw : Stands w b) where
   pub apart : has_same_opening v w ≡ false → SidesAre a b (Differ 0 what.Opening)
   apart other = inl (opening_other other, refl, refl)
 
-  pub differs : has_same_opening v w ≡ true → (at n : ℕ) (x : What) → n ≡ at + 1 → DifferAt (map tells v.items.items) (map tells w.items.items) at x → SidesAre a b (Differ n x)
-  differs same at n x is d = inr (opening_same same, at, is, subst (λ (p : List ItemTold × List ItemTold). DifferAt p.0 p.1 at x) (λ i. (sv.items i, sw.items i)) d)
+  pub differs : has_same_opening v w ≡ true → (at n : ℕ) (x : What) → n ≡ at + 1 → DifferAt a.items b.items at x → SidesAre a b (Differ n x)
+  differs same at n x is d = inr (opening_same same, at, is, d)
 
-  pub agrees : has_same_opening v w ≡ true → (n : ℕ) → n ≡ length v.items.items + 1 → AreAlike (map tells v.items.items) (map tells w.items.items) → SidesAre a b (Agree n)
-  agrees same n is alike = (
-    opening_same same,
-    subst (λ (p : List ItemTold × List ItemTold). AreAlike p.0 p.1) (λ i. (sv.items i, sw.items i)) alike,
-    is ∙ ap (λ k. k + 1) (sym (length_map v.items.items) ∙ ap length sv.items),
-  )
-    where
-      length_map : (xs : List Item) → length (map tells xs) ≡ length xs
-      length_map [] = refl
-      length_map (x ∷ xs) = ap suc (length_map xs)
+  pub agrees : has_same_opening v w ≡ true → (at n : ℕ) → n ≡ at + 1 → AreAlike a.items b.items → at ≡ length a.items → SidesAre a b (Agree n)
+  agrees same at n is alike all = (opening_same same, alike, is ∙ ap (λ k. k + 1) all)

@@ -1,11 +1,11 @@
-ghost use Rattle.std.specs.Prelude.{◌≡◌, ℕ, ◌+◌, ◌≤◌, List, Some, Err, IfOk, IfSome};
+ghost use Rattle.std.specs.Prelude.{◌≡◌, ℕ, ◌+◌, ◌≤◌, List, [], Option, Some, Err, IfOk, IfSome};
 ghost use Rattle.std.specs.Io.KnownBytes.{prepend_known};
 ghost use Rattle.pump_frame.specs.Counts.{Rose};
-ghost use Rattle.pump_audit.specs.Comparing.{IsCompared};
-ghost use Rattle.pump_audit.specs.Siding.{SideComes, SideGoes};
+ghost use Rattle.pump_audit.specs.Comparing.{IsCompared, ItemTold};
+ghost use Rattle.pump_audit.specs.Siding.{LooksTell, SideComes, SideGoes};
 
 use crate::compared::Compared;
-use crate::side::Side;
+use crate::side::{Looks, Side};
 use crate::texts::{Texted, Texts};
 use crate::verdict::AuditFault;
 use arrayvec::ArrayVec;
@@ -45,8 +45,8 @@ impl Both {
         is_first: bool,
         tape: &mut I,
     ) -> Result<Option<Side>, AuditFault>
-        ensures side { (bytes : List ℕ) (before : ℕ) → SideGoes is_first before bytes side self.old.lines (prepend_known self.old.texts (I.left tape.old))
-            → IfOk result (λ o. SideComes is_first before bytes o self.new.lines (prepend_known self.new.texts (I.left tape.new))) }
+        ensures side { (first : Option (List ItemTold)) (bytes : List ℕ) (before : ℕ) → SideGoes first is_first before bytes side self.old.lines (prepend_known self.old.texts (I.left tape.old))
+            → IfOk result (λ o. SideComes first is_first before bytes o self.new.lines (prepend_known self.new.texts (I.left tape.new))) }
         ensures read { result ≡ Err AuditFault.Read → Rose (I.faults tape.old) (I.faults tape.new) }
         ensures later { I.faults tape.old ≤ I.faults tape.new }
     {
@@ -74,9 +74,14 @@ impl Both {
     }
 
     // The lines of a side up to its end. `None` where the next line is none of a record in its place.
-    fn side<I: Source>(&mut self, is_first: bool, tape: &mut I) -> Result<Option<Side>, AuditFault>
-        ensures side { (bytes : List ℕ) → prepend_known self.old.texts (I.left tape.old) ≡ Some bytes
-            → IfOk result (λ o. SideComes is_first self.old.lines bytes o self.new.lines (prepend_known self.new.texts (I.left tape.new))) }
+    fn side<I: Source>(
+        &mut self,
+        looks: Looks,
+        is_first: bool,
+        tape: &mut I,
+    ) -> Result<Option<Side>, AuditFault>
+        ensures side { (first : Option (List ItemTold)) (bytes : List ℕ) → LooksTell first looks [] → prepend_known self.old.texts (I.left tape.old) ≡ Some bytes
+            → IfOk result (λ o. SideComes first is_first self.old.lines bytes o self.new.lines (prepend_known self.new.texts (I.left tape.new))) }
         ensures read { result ≡ Err AuditFault.Read → Rose (I.faults tape.old) (I.faults tape.new) }
         ensures later { I.faults tape.old ≤ I.faults tape.new }
     {
@@ -89,20 +94,20 @@ impl Both {
         if lines == u32::MAX {
             return Ok(None);
         }
-        match Side::begin(self.alloc, self.text.as_slice()) {
-            Ok(Some(side)) => {
+        match Side::begin(self.text.as_slice(), looks) {
+            Some(side) => {
                 self.lines = lines + 1;
                 self.follow(side, is_first, tape)
             }
-            Ok(None) => Ok(None),
-            Err(_) => Err(AuditFault::Memory),
+            None => Ok(None),
         }
     }
 }
 
 /// Compares low's sides of the two records that the tape gives, with a line `# compare` between them
 /// (`docs/formats.md`, "Audits"): the rows with what was found at the opening, and the looks. Comments and
-/// counts are no part of it. The answer is `NotRecord` exactly where a line is none of a record, or out of
+/// counts are no part of it. The looks of the first record are kept, and those of the second one compared
+/// with them as they come. The answer is `NotRecord` exactly where a line is none of a record, or out of
 /// its place, or the line between is missing. `Read` comes only where the tape's count of faults rose.
 pub fn compare<I: Source>(alloc: Global, both: &mut I) -> Result<Compared, AuditFault>
     ensures compared { IfSome (I.left both.old) (λ bytes. IfOk result (IsCompared bytes)) }
@@ -115,11 +120,13 @@ pub fn compare<I: Source>(alloc: Global, both: &mut I) -> Result<Compared, Audit
         text: ArrayVec::new(),
         lines: 0,
     };
-    let Some(first) = lines.side(true, both)? else {
+    let kept = Looks::Kept(Vec::new(alloc));
+    let Some(first) = lines.side(kept, true, both)? else {
         return Ok(lines.not_record());
     };
-    let Some(second) = lines.side(false, both)? else {
+    let Side { opened, looks, .. } = first;
+    let Some(second) = lines.side(looks.to_match(), false, both)? else {
         return Ok(lines.not_record());
     };
-    Ok(first.compared(&second))
+    Ok(second.compared(&opened))
 }

@@ -1,12 +1,12 @@
 // How two sides differ.
-ghost use Rattle.std.specs.Prelude.{◌≡◌, ℕ, ◌+◌, Bool, true, false, ◌&&◌, ◌≤◌, length, IfSome, MatchOption, map};
+ghost use Rattle.std.specs.Prelude.{◌≡◌, ℕ, ◌+◌, ◌^◌, ◌<◌, Bool, true, false, ◌&&◌, List, [], ◌∷◌, ◌++◌, Option, None, Some, length, OnOk, MatchOption, map};
 ghost use Rattle.std.specs.Str.{bytes_eq};
-ghost use Rattle.pump_audit.specs.Comparing.{SideTold, SidesAre, AreAlike, DifferAt, same_told, unlike};
-ghost use Rattle.pump_audit.specs.Siding.{tells, Stands, has_same_numbers, has_same_row, has_same_opening};
+ghost use Rattle.pump_audit.specs.Comparing.{ItemTold, SideTold, SidesAre, AreAlike, DifferAt, same_told, unlike};
+ghost use Rattle.pump_audit.specs.Siding.{tells, LooksTell, Matches, Opens, Stands, has_same_numbers, has_same_row, has_same_opening};
 
 use crate::compared::{Compared, What};
-use crate::side::{Item, Side};
-use pump_frame::SessionRow;
+use crate::side::{Item, Looks, Matching, Opened, Side};
+use pump_frame::{OutOfMemory, SessionRow};
 use script_reader::ToldFeedback;
 
 fn same_told(a: &ToldFeedback, b: &ToldFeedback) -> bool
@@ -49,22 +49,82 @@ fn unlike(x: &Item, y: &Item) -> Option<What>
     None
 }
 
-// The first items that differ, by their place from 0 on; or one list ends there.
-fn first_difference(a: &[Item], b: &[Item]) -> Option<(usize, What)>
-    ensures is { MatchOption result (AreAlike (map tells a.now) (map tells b.now)) (λ found. DifferAt (map tells a.now) (map tells b.now) found.0 found.1) }
-    ensures bound { IfSome result (λ found. found.0 ≤ length a.now) }
-{
-    let mut at = 0;
-    while at < a.len() && at < b.len() {
-        if let Some(what) = unlike(&a[at], &b[at]) {
-            return Some((at, what));
+impl Matching {
+    /// Nothing came of the second record.
+    fn new(first: Vec<Item>) -> Matching
+        ensures { Matches (map tells first.items) result [] }
+    {
+        Matching {
+            first,
+            alike: 0,
+            difference: None,
         }
-        at += 1;
     }
-    if at < a.len() || at < b.len() {
-        return Some((at, What::Length));
+
+    /// The next look of the second record.
+    fn add(&mut self, item: &Item)
+        ensures { (us xs : List ItemTold) → Matches us self.old xs → Matches us self.new (xs ++ tells item.now ∷ []) }
+    {
+        if self.difference.is_some() {
+            return;
+        }
+        match self.first.get(self.alike) {
+            Some(own) => match unlike(own, item) {
+                Some(what) => self.difference = Some(what),
+                None => self.alike += 1,
+            },
+            None => self.difference = Some(What::Length),
+        }
     }
-    None
+
+    /// How many looks are alike where no further one comes, and in what those behind them differ.
+    fn ended(&self) -> (usize, Option<What>)
+        ensures is { (us xs : List ItemTold) → Matches us self.now xs
+            → MatchOption result.1 (AreAlike us xs × (result.0 ≡ length us)) (λ w. DifferAt us xs result.0 w) }
+        ensures bound { result.0 < 2 ^ 63 }
+    {
+        match self.difference {
+            Some(what) => (self.alike, Some(what)),
+            None if self.alike < self.first.len() => (self.alike, Some(What::Length)),
+            None => (self.alike, None),
+        }
+    }
+}
+
+impl Looks {
+    /// One more look.
+    pub fn add(&mut self, item: Item) -> Result<(), OutOfMemory>
+        ensures { OnOk result ((first : Option (List ItemTold)) (xs : List ItemTold) → LooksTell first self.old xs → LooksTell first self.new (xs ++ tells item ∷ [])) }
+    {
+        match self {
+            Looks::Kept(items) => items.push(item)?,
+            Looks::Matched(matching) => matching.add(&item),
+        }
+        Ok(())
+    }
+
+    // How many looks are alike where no further one comes, and in what those behind them differ. Looks that
+    // are kept are compared with none.
+    fn ended(&self) -> (usize, Option<What>)
+        ensures is { (us xs : List ItemTold) → LooksTell (Some us) self.now xs
+            → MatchOption result.1 (AreAlike us xs × (result.0 ≡ length us)) (λ w. DifferAt us xs result.0 w) }
+        ensures bound { result.0 < 2 ^ 63 }
+    {
+        match self {
+            Looks::Kept(items) => (items.len(), None),
+            Looks::Matched(matching) => matching.ended(),
+        }
+    }
+
+    /// The looks of a second record are to be compared with those that were kept.
+    pub fn to_match(self) -> Looks
+        ensures { (xs : List ItemTold) → LooksTell None self xs → LooksTell (Some xs) result [] }
+    {
+        match self {
+            Looks::Kept(items) => Looks::Matched(Matching::new(items)),
+            Looks::Matched(matching) => Looks::Matched(matching),
+        }
+    }
 }
 
 fn same_numbers(a: &SessionRow, b: &SessionRow) -> bool
@@ -90,30 +150,33 @@ fn same_row(a: &SessionRow, b: &SessionRow) -> bool
         && a.coarse == b.coarse
 }
 
-impl Side {
-    fn same_opening(&self, other: &Side) -> bool
+impl Opened {
+    fn is_same(&self, other: &Opened) -> bool
         ensures { result ≡ has_same_opening self.now other.now }
     {
         same_row(&self.row, &other.row) && self.next == other.next && self.is_held == other.is_held
     }
+}
 
-    /// How this side compares with another.
-    pub fn compared(&self, other: &Side) -> Compared
-        ensures { (a b : SideTold) → Stands self.now a → Stands other.now b → SidesAre a b result }
+impl Side {
+    /// How a first record that was opened so compares with this one, of which no further line comes.
+    pub fn compared(&self, first: &Opened) -> Compared
+        ensures { (a b : SideTold) → Opens first.now a → Stands (Some a.items) self.now b → SidesAre a b result }
     {
-        if !self.same_opening(other) {
+        if !self.opened.is_same(first) {
             return Compared::Differ {
                 item: 0,
                 what: What::Opening,
             };
         }
-        let count = self.items.len() as u64;
-        match first_difference(self.items.as_slice(), other.items.as_slice()) {
-            Some((at, what)) => Compared::Differ {
+        match self.looks.ended() {
+            (at, Some(what)) => Compared::Differ {
                 item: at as u64 + 1,
                 what,
             },
-            None => Compared::Agree { items: count + 1 },
+            (count, None) => Compared::Agree {
+                items: count as u64 + 1,
+            },
         }
     }
 }

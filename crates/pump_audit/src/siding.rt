@@ -1,14 +1,14 @@
 // Reading low's side of a record.
-ghost use Rattle.std.specs.Prelude.{◌≡◌, ◌+◌, ◌≢◌, ◌⊎◌, IfOk, OnOk, MatchOption, true, false};
+ghost use Rattle.std.specs.Prelude.{◌≡◌, ◌+◌, ◌≢◌, ◌⊎◌, List, [], Option, IfOk, OnOk, MatchOption, true, false};
 ghost use Rattle.pump_audit.specs.Places.{ends_at};
-ghost use Rattle.pump_audit.specs.Comparing.{separator, SideTold, offered_bytes, uncounted, item_of, with_entry};
+ghost use Rattle.pump_audit.specs.Comparing.{separator, ItemTold, SideTold, offered_bytes, uncounted, item_of, with_entry};
 ghost use Rattle.pump_audit.specs.Entries.{IsPlain};
-ghost use Rattle.pump_audit.specs.Siding.{tells, Stands, form_of_side, BeginsAs, GoesOnBy, IsSound};
+ghost use Rattle.pump_audit.specs.Siding.{tells, LooksTell, Stands, form_of_side, BeginsAs, GoesOnBy, IsSound};
 
 use crate::entry::{Coming, Entry, LookLine};
 use crate::form::{Form, Place};
 use crate::reading::read_entry;
-use crate::side::{Item, Side};
+use crate::side::{Item, Looks, Opened, Side};
 use arrayvec::ArrayVec;
 use pump_frame::{OutOfMemory, encode};
 use script_reader::ToldFeedback;
@@ -56,19 +56,17 @@ fn item(alloc: Global, line: &LookLine) -> Result<Item, OutOfMemory>
 }
 
 impl Side {
-    /// The side that begins with this line, if one does.
-    pub fn begin(alloc: Global, text: &[u8]) -> Result<Option<Side>, OutOfMemory>
-        ensures { IfOk result (BeginsAs text.now) }
+    /// The side that begins with this line, if one does. It takes its looks so, of which none came.
+    pub fn begin(text: &[u8], looks: Looks) -> Option<Side>
+        ensures { (first : Option (List ItemTold)) → LooksTell first looks [] → BeginsAs first text.now result }
     {
         match read_entry(text) {
-            Some(Entry::Opening { row, next, is_held }) => Ok(Some(Side {
-                row,
-                next,
-                is_held,
+            Some(Entry::Opening { row, next, is_held }) => Some(Side {
+                opened: Opened { row, next, is_held },
                 place: Place::Opening,
-                items: Vec::new(alloc),
-            })),
-            _ => Ok(None),
+                looks,
+            }),
+            _ => None,
         }
     }
 
@@ -76,7 +74,7 @@ impl Side {
         ensures { result ≡ form_of_side self.now }
     {
         Form {
-            session: self.row.id,
+            session: self.opened.row.id,
             place: self.place,
         }
     }
@@ -84,11 +82,11 @@ impl Side {
     // A line behind which the record stands there.
     fn add_entry(&mut self, alloc: Global, entry: &Entry, place: Place) -> Result<(), OutOfMemory>
         requires { IsSound entry.now }
-        ensures { OnOk result ((s : SideTold) → Stands self.old s → Stands self.new (with_entry s entry.now place)) }
+        ensures { OnOk result ((first : Option (List ItemTold)) (s : SideTold) → Stands first self.old s → Stands first self.new (with_entry s entry.now place)) }
     {
         match entry {
-            Entry::Look(line) => self.items.push(item(alloc, line)?)?,
-            Entry::Coarse { .. } => self.row.coarse = true,
+            Entry::Look(line) => self.looks.add(item(alloc, line)?)?,
+            Entry::Coarse { .. } => self.opened.row.coarse = true,
             Entry::Opening { .. } | Entry::Comment(_) => {}
         }
         self.place = place;
@@ -97,7 +95,7 @@ impl Side {
 
     /// One more line, without its end; false where it is none of a record in its place.
     pub fn add(&mut self, alloc: Global, text: &[u8]) -> Result<bool, OutOfMemory>
-        ensures { IfOk result (λ went. (s : SideTold) → Stands self.old s → GoesOnBy s text.now self.new went) }
+        ensures { IfOk result (λ went. (first : Option (List ItemTold)) (s : SideTold) → Stands first self.old s → GoesOnBy first s text.now self.new went) }
     {
         let Some(entry) = read_entry(text) else {
             return Ok(false);

@@ -143,6 +143,7 @@ fn says_where_two_records_differ(rt: HostRuntime) -> Result<(), AuditFault> {
             differ(4, What::Arrival),
         ),
         (5, b"# low 1 108 ack 9", differ(4, What::Length)),
+        (6, b"told 1 109 00000000 fine -", differ(5, What::Length)),
         (8, b"# time 50", Compared::NotRecord { line: 21 }),
     ] {
         let mut lines = whole;

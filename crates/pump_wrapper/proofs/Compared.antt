@@ -3,8 +3,8 @@ use Rattle.std.proofs.Common.{◌≡◌, ℕ, ◌+◌, ◌<◌, List, [], ◌∷
 use Rattle.std.specs.Io.KnownBytes.{Consumes}
 use Rattle.std.proofs.KnownBytes.{Consumes-trans}
 use Rattle.std.proofs.lemmas.List.{append_cancel_left}
-use Rattle.pump_wrapper.specs.Cutting.{to_come, GivesNext, Takes}
-use Rattle.pump_wrapper.specs.Comparing.{Compares, TakesInAll}
+use Rattle.pump_wrapper.specs.Cutting.{to_come, Counts, GivesNext, Takes}
+use Rattle.pump_wrapper.specs.Comparing.{Compares, SameBytes, TakesInAll}
 use Rattle.pump_wrapper.specs.declared.cutter.Cutter.{Cutter}
 use Rattle.pump_wrapper.specs.declared.cutter.Cut.{Cut}
 use Rattle.pump_wrapper.specs.declared.cutter.Cut.TheVariants.{Message, Done}
@@ -19,6 +19,17 @@ passed messages old new left rest = Compares messages old new left rest (Ok tt)
 pub none_passed : (cutter : Cutter) (left : Option (List ℕ)) → passed [] cutter cutter left left
 none_passed cutter None = tt
 none_passed cutter (Some left) = refl
+
+-- the bytes of the file are the same
+pub none_counted : (cutter : Cutter) (left : Option (List ℕ)) → SameBytes cutter cutter left left
+none_counted cutter None = tt
+none_counted cutter (Some left) = refl
+
+pub one_counted : (old mid new : Cutter) (left between rest : Option (List ℕ)) (taken : List ℕ) → Consumes left between taken → SameBytes old mid left between → Counts Message mid new between rest → SameBytes old new left rest
+one_counted old mid new None between rest taken c was counts = tt
+one_counted old mid new (Some l) None rest taken c was counts = absurd c
+one_counted old mid new (Some l) (Some b) None taken c was counts = tt
+one_counted old mid new (Some l) (Some b) (Some r) taken c was counts = counts ∙ was
 
 -- one more that is the same
 pub one_passed : (messages more : List (List ℕ)) (message : List ℕ) (old mid new : Cutter) (left between rest : Option (List ℕ)) (taken : List ℕ) → Consumes left between taken → passed messages old mid left between → GivesNext mid new between rest message Message

@@ -5,8 +5,12 @@ pub mod Drained
 pub mod Example
 pub mod Files
 pub mod Following
+pub mod Fronts
 pub mod Going
+pub mod Halting
 pub mod Holding
+pub mod Leaving
+pub mod Moving
 pub mod Rooms
 pub mod Sent
 pub mod Takings

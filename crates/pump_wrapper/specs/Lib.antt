@@ -4,4 +4,6 @@ pub mod Gathering
 pub mod Gathers
 pub mod Comparing
 pub mod Sending
+pub mod Halting
 pub mod Wraps
+pub mod WrapEnds

@@ -10,9 +10,10 @@ use Rattle.script_reader.specs.Past.{Past}
 use Rattle.stable_buffer.specs.Log.{RecvStands}
 use Rattle.stable_buffer.specs.Stands.{LowStands, HighStands}
 use Rattle.two_worlds.specs.declared.applied.Stop.{Stop}
-use Rattle.two_worlds.specs.declared.applied.Stop.TheVariants.{Line}
 use Rattle.two_worlds.specs.declared.pump.Pump.{Pump}
 use Rattle.two_worlds.specs.Pumps.{StandsFor}
+use Rattle.pump_wrapper.specs.Comparing.{Begins}
+use Rattle.pump_wrapper.specs.Halting.{Halts}
 use Rattle.pump_wrapper.specs.Wrapped.{wrapped}
 use Rattle.pump_wrapper.specs.Cutting.{to_come}
 use Rattle.pump_wrapper.specs.Sending.{drain_lines, send_lines, greeting, LedBy}
@@ -60,7 +61,7 @@ IsSent m row messages cutter left end disks = Unit {0}
 -- the answer is that the whole file is at the receiver
 abbrev pub IsWhole : {D : Type 0} → Meaning D → SessionRow → List ℕ → WrapEnd → Trio D → Type 0
 IsWhole m row file (ends.Done bytes messages) disks =
-    (messages ≡ length (wrapped row.message file)) × DisksHoldAll m row (wrapped row.message file) disks
+    (bytes ≡ length file) × (messages ≡ length (wrapped row.message file)) × DisksHoldAll m row (wrapped row.message file) disks
 IsWhole m row file end disks = Unit {0}
 
 -- ---- a pump ----
@@ -75,11 +76,27 @@ abbrev pub Drains : {D : Type 0} {g : _} → Meaning D → Pump D g → SessionR
 Drains m t row f (Ok done) =
     (q : Past) × LedBy row (first_past row f) (drain_lines row (length (accepted_in f) - f.removed) 0) q
     × StandsFor m t q × HasPassed (accepted_in f) q.world
-Drains m t row f (Err stop) = stop ≡ Line → ⊥
+Drains m t row f (Err stop) = Halts m t (accepted_in f) (accepted_in f) stop
+
+-- messages are the first of those that a cutter had to give, of a source with these bytes left, where they are told
+abbrev pub AreFirst : Cutter → Option (List ℕ) → List (List ℕ) → Type 0
+AreFirst cutter None messages = Unit {0}
+AreFirst cutter (Some left) messages = Begins messages (to_come cutter left)
+
+-- just these messages are accepted and removed
+abbrev pub Passes : {D : Type 0} {g : _} → Meaning D → Pump D g → List Payload → Type 0
+Passes m t messages = (q : Past) × StandsFor m t q × HasPassed messages q.world
+
+-- a pump that began with these messages, over which further ones of a cutter were sent until this end
+abbrev pub SendsPart : {D : Type 0} {g : _} → Meaning D → Pump D g → List Payload → Cutter → Option (List ℕ) → WrapEnd → Type 0
+SendsPart m t messages cutter left (ends.Stopped stop) = (more : List (List ℕ)) × AreFirst cutter left more × Halts m t messages (messages ++ more) stop
+SendsPart m t messages cutter left ends.Read = (more : List (List ℕ)) × AreFirst cutter left more × Passes m t (messages ++ more)
+SendsPart m t messages cutter left ends.TooLong = (more : List (List ℕ)) × AreFirst cutter left more × Passes m t (messages ++ more)
+SendsPart m t messages cutter left end = ⊥
 
 -- a pump that began with these messages, and over which all further ones of a cutter were sent
 abbrev pub Sends : {D : Type 0} {g : _} → Meaning D → Pump D g → SessionRow → List Payload → Cutter → Option (List ℕ) → Result ℕ WrapEnd → Type 0
 Sends m t row messages cutter left (Ok count) =
     (more : List (List ℕ)) × (q : Past) × LedBy row (first_past row (all_taken messages)) (greeting row ∷ send_lines row (length messages) 0 more) q
     × StandsFor m t q × HasPassed (messages ++ more) q.world × (count ≡ length (messages ++ more)) × AreToCome cutter left more
-Sends m t row messages cutter left (Err end) = end ≡ ends.Stopped Line → ⊥
+Sends m t row messages cutter left (Err end) = SendsPart m t messages cutter left end

@@ -47,7 +47,7 @@ module _ {D : Type 0} {g : _} (m : Meaning D) where
   follows_stop t row p xs ys stop (before, line, later, at, is, led, stopped) =
       (before, line, later ++ ys, at, ap (λ (l : List Line). l ++ ys) is ∙ append_assoc before (line ∷ later) ys, led, stopped)
 
-  rose_before : (s u t : Pump D g) (stop : Stop) → ((role : Role) → m.count (disk_at role s) ≤ m.count (disk_at role u)) → RoseBy m u t stop → RoseBy m s t stop
+  pub rose_before : (s u t : Pump D g) (stop : Stop) → ((role : Role) → m.count (disk_at role s) ≤ m.count (disk_at role u)) → RoseBy m u t stop → RoseBy m s t stop
   rose_before s u t stops.Line le h = tt
   rose_before s u t (stops.Device role faults) le h = (h.0, rose_later _ _ _ (le role) h.1)
   rose_before s u t (stops.Full end length size) le h = tt

@@ -25,7 +25,8 @@ use Rattle.script_reader.specs.Lows.{first_of}
 use Rattle.script_reader.specs.Openings.{accepted_in}
 use Rattle.script_reader.specs.Past.{Past}
 use Rattle.script_reader.specs.Steps.{LineStep, Overfills, hello_frame, data_frame}
-use Rattle.script_reader.proofs.LookSteps.{Stands}
+use Rattle.script_reader.proofs.LineSteps.{offer_applies, pass_applies, done_applies, turn_applies}
+use Rattle.script_reader.proofs.LookSteps.{Stands, waiting}
 use Rattle.two_worlds.specs.declared.applied.Stop.{Stop}
 use Rattle.two_worlds.specs.declared.applied.Stop.TheVariants as stops
 use Rattle.two_worlds.specs.declared.pump.Pump.{Pump}
@@ -35,8 +36,8 @@ use Rattle.two_worlds.specs.Pumps.{StandsFor, row_of}
 use Rattle.two_worlds.specs.States.{StandsIn}
 use Rattle.pump_wrapper.specs.Comparing.{Begins}
 use Rattle.pump_wrapper.specs.Halting.{found_of, HasNoRoom, IsBetween, Halts}
-use Rattle.pump_wrapper.specs.Sending.{empty_look, turn_lines, greeting, LedBy, Follows}
-use Rattle.pump_wrapper.proofs.Applying.{LinesApply, never_line}
+use Rattle.pump_wrapper.specs.Sending.{empty_look, turn_lines, message_lines, greeting, pause, LedBy, Follows}
+use Rattle.pump_wrapper.proofs.Applying.{LinesApply, never_line, Emptying, Sent}
 use Rattle.pump_wrapper.proofs.Fronts.{begins_same, begins_more, begins_then, kept_none}
 use Rattle.pump_wrapper.proofs.Leaving.{accepted_found}
 use Rattle.pump_wrapper.proofs.Moving.{Keeps, keeps_same, look_keeps, breaks_off_keeps}
@@ -111,9 +112,9 @@ data_halts row p accepted message calm number m = record { breaks = breaks; over
   where
     breaks : (role : Role) (q : Past) (printed : List Printed) → Breaks row p (lines.Look row.id m 0 (arriving.Data number message)) role q printed → IsBetween accepted (accepted ++ message ∷ []) q.world
     breaks roles.Low q printed (c, comes, few, l) =
-        let data = Came (data_frame row.id number message) in
-        let is : first_of p.is_broken (p.waits ++ c.added) ≡ data =
-        ap (λ (added : List Arrival). first_of p.is_broken (p.waits ++ added)) (ap (λ x. x.added) comes) ∙ offered p.is_broken p.waits (data ∷ []) calm.waits calm.broken in
+        let arrival = Came (data_frame row.id number message) in
+        let is : first_of p.is_broken (p.waits ++ c.added) ≡ arrival =
+        ap (λ (added : List Arrival). first_of p.is_broken (p.waits ++ added)) (ap (λ x. x.added) comes) ∙ offered p.is_broken p.waits (arrival ∷ []) calm.waits calm.broken in
         let frame : l.frame ≡ data_frame row.id number message = (let e = sym l.comes ∙ is in cc) in
         let payload : l.frame.payload ≡ message = ap (λ (f : Frame). f.payload) frame in
         let world = l.begins.2 in
@@ -128,6 +129,47 @@ data_halts row p accepted message calm number m = record { breaks = breaks; over
 
 pub calm_of : (row : SessionRow) (p : Past) (low : Option ℕ) (k r m : ℕ) (s : _) (accepted : List Payload) → Stands row p [] low k r m s → p.world.accepted ≡ accepted → IsCalm p accepted
 calm_of row p low k r m s accepted stands is = record { waits = stands.waits_are; broken = stands.broken; storing = stands.rests.calm.storing; accepted_is = is }
+
+pub turn_halts : (row : SessionRow) (p : Past) (k r m0 m : ℕ) (accepted : List Payload) → Emptying row k r m0 accepted p → m0 ≤ m → r < k → LinesHalt row p (turn_lines row m) accepted accepted
+turn_halts row p k r m0 m accepted (low, stands, is) le some =
+    let all = begins_same accepted accepted refl in
+    let look = turn_applies row p low k r m0 m 0 stands le some in (
+      empty_halts row p accepted accepted accepted (calm_of row p low k r m0 _ accepted stands is) all all m,
+      λ q printed step.
+          let (mid, at, one, same) = look.after q printed step in
+          (done_halts row q accepted accepted accepted (calm_of row q mid k r m _ accepted at (same ∙ is)) all all m 1, λ u out taken. tt),
+    )
+
+pub greeting_only : (row : SessionRow) (p : Past) (k m0 : ℕ) (s : _) (accepted : List Payload) → Stands row p [] None k k m0 s → p.world.accepted ≡ accepted → LinesHalt row p (greeting row ∷ []) accepted accepted
+greeting_only row p k m0 s accepted stands is =
+    let all = begins_same accepted accepted refl in
+    (greeting_halts row p accepted accepted accepted (calm_of row p None k k m0 s accepted stands is) all all, λ q printed step. tt)
+
+pub message_halts : (row : SessionRow) (p : Past) (k m0 m : ℕ) (accepted : List Payload) (message : Payload) → Sent row k m0 accepted p → m0 ≤ m → length message ≤ row.message → k < 2 ^ 48 → m + 1 ≤ 2 ^ 62
+    → LinesHalt row p (message_lines row k m message) accepted (accepted ++ message ∷ [])
+message_halts row p k m0 m accepted message (stands, is) le short few end =
+    let stays = stands.rests.calm.stays in
+    let more = accepted ++ message ∷ [] in
+    let from = begins_more accepted (message ∷ []) in
+    let to = begins_same more more refl in
+    let offer = offer_applies row p k k m0 m 0 message stands le short few in (
+      data_halts row p accepted message (calm_of row p None k k m0 _ accepted stands is) k m,
+      λ a printed_a step_a.
+          let (stands_a, adds_a) = offer.after a printed_a step_a in
+          let is_a : a.world.accepted ≡ more = adds_a.accepted ∙ ap (λ (l : List Payload). l ++ message ∷ []) is in
+          let pass = pass_applies row a k k m m 0 stands_a (omega arith) (omega (arith, stays.capacity, stays.lawful.bounded.size.0)) in (
+            empty_halts row a more accepted more (calm_of row a (Some k) (k + 1) k m _ more stands_a is_a) from to m,
+            λ b printed_b step_b.
+                let (at, due, (stands_b, adds_b)) = pass.after b printed_b step_b in
+                let is_b : b.world.accepted ≡ more = adds_b.accepted ∙ append-nil a.world.accepted ∙ is_a in
+                let done = done_applies row b None (k + 1) k m m 1 (waiting k at) stands_b (omega arith) (omega arith) end in (
+                  done_halts row b more accepted more (calm_of row b None (k + 1) k m _ more stands_b is_b) from to m 1,
+                  λ c printed_c step_c.
+                      let (stands_c, same_c) = done.after c printed_c step_c in
+                      (empty_halts row c more accepted more (calm_of row c None (k + 1) (k + 1) (m + 1) _ more stands_c (same_c ∙ is_b)) from to (m + pause row), λ q printed step. tt),
+                ),
+          ),
+    )
 
 halt_at : (row : SessionRow) (p mid : Past) (lines before later : List Line) (line : Line) (first most : List Payload) → LinesHalt row p lines first most
     → lines ≡ before ++ line ∷ later → LedBy row p before mid → LineHalts row mid line first most

@@ -247,3 +247,15 @@ module _ {D : Type 0} {g : _} (m : Meaning D) (t : Pump D g) (row : SessionRow) 
         by = (stands, no_room q.world at.0 end k size (state_lawful m t.state q stands) at.1);
       }
   halts (stops.Disk role why) (before, line, later, mid, is, led, stopped) = absurd stopped
+
+-- .. between wider lists
+pub halts_wider : {D : Type 0} {g : _} (m : Meaning D) (t : Pump D g) (first most first' most' : List Payload) (stop : Stop) → Begins first' first → Begins most most' → Halts m t first most stop → Halts m t first' most' stop
+halts_wider m t first most first' most' stop from to h = record {
+  past = h.past;
+  stands = h.stands;
+  between = record {
+    from = begins_then first' first h.past.world.accepted from h.between.from;
+    to = begins_then _ most most' h.between.to to;
+  };
+  by = h.by;
+}

@@ -1,5 +1,6 @@
 -- A cutter, and what it has still to give.
-use Rattle.std.specs.Prelude.{◌≡◌, ◌≢◌, ℕ, ◌+◌, ◌^◌, ◌<◌, ◌≤◌, List, [], ◌∷◌, ◌++◌, length, map, Option, None, Some}
+use Rattle.std.specs.Prelude.{◌≡◌, ◌≢◌, ℕ, ◌+◌, ◌^◌, ◌<◌, ◌≤◌, Bool, true, false, List, [], ◌∷◌, ◌++◌, length, map, Option, None, Some}
+use Rattle.std.specs.Io.KnownBytes.{Consumes}
 use Rattle.pump_wrapper.specs.Wrapped.{pieces, piece_message, length_message}
 use Rattle.pump_wrapper.specs.declared.cutter.Cutter.{Cutter}
 use Rattle.pump_wrapper.specs.declared.cutter.Stage.{Stage}
@@ -83,3 +84,14 @@ abbrev pub Counts : Cut → Cutter → Cutter → Option (List ℕ) → Option (
 Counts result old new None rest = Unit {0}
 Counts result old new (Some left) None = Unit {0}
 Counts result old new (Some left) (Some rest) = CountsIn result old new left rest
+
+-- so many bytes are the file's, where the source tells them
+abbrev pub IsTotal : Cutter → Option (List ℕ) → ℕ → Type 0
+IsTotal cutter None total = Unit {0}
+IsTotal cutter (Some left) total = total ≡ bytes_in_all cutter left
+
+-- with those that it gave before, the source gave 2^48 bytes; or it gave fewer
+abbrev pub Gave : ℕ → Option (List ℕ) → Option (List ℕ) → Bool → Type 0
+Gave before left rest is_long =
+    (bytes : List ℕ) × Consumes left rest bytes
+    × (is_long ≡ true → before + length bytes ≡ 2 ^ 48) × (is_long ≡ false → before + length bytes < 2 ^ 48)

@@ -1,6 +1,5 @@
 -- How the sending of a file ends, and what the session's disks stand for then.
-use Rattle.std.specs.Prelude.{◌≡◌, ◌⊎◌, ℕ, ◌+◌, ◌^◌, ◌<◌, ◌≤◌, Bool, true, false, List, [], length, take, Option, None, Some}
-use Rattle.std.specs.Io.KnownBytes.{Consumes}
+use Rattle.std.specs.Prelude.{◌≡◌, ◌⊎◌, ℕ, ◌+◌, ◌<◌, ◌≤◌, true, false, List, [], length, take, Option, None, Some}
 use Rattle.disk_model.specs.Disk.{Meaning}
 use Rattle.disk_model.specs.declared.name.Role.{Role}
 use Rattle.disk_model.specs.declared.name.Role.TheVariants as roles
@@ -41,16 +40,6 @@ abbrev pub CountOn : {D : Type 0} → Meaning D → Trio D → Trio D → Type 0
 CountOn m old new = (role : Role) → m.count (disk_of old role) ≤ m.count (disk_of new role)
 
 -- ---- the bytes of the file ----
-
-abbrev pub is_too_long : WrapEnd → Bool
-is_too_long ends.TooLong = true
-is_too_long end = false
-
--- with those that it gave before, the source gave 2^48 bytes; or it gave fewer
-abbrev pub Gave : ℕ → Option (List ℕ) → Option (List ℕ) → Bool → Type 0
-Gave before left rest is_long =
-    (bytes : List ℕ) × Consumes left rest bytes
-    × (is_long ≡ true → before + length bytes ≡ 2 ^ 48) × (is_long ≡ false → before + length bytes < 2 ^ 48)
 
 -- messages are the first ones of the file, where its bytes are told
 abbrev pub BeginFile : SessionRow → Option (List ℕ) → List Payload → Type 0

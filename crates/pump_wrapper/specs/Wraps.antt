@@ -1,5 +1,5 @@
 -- What it comes to to send a file over a session's pump.
-use Rattle.std.specs.Prelude.{◌≡◌, ℕ, ◌-◌, List, [], ◌∷◌, ◌++◌, length, Option, None, Some, Result, Ok, Err}
+use Rattle.std.specs.Prelude.{◌≡◌, ℕ, ◌-◌, Bool, true, false, List, [], ◌∷◌, ◌++◌, length, Option, None, Some, Result, Ok, Err}
 use Rattle.disk_model.specs.Disk.{Meaning}
 use Rattle.pump_frame.specs.declared.payload.Payload.{Payload}
 use Rattle.pump_frame.specs.declared.row.SessionRow.{SessionRow}
@@ -16,7 +16,7 @@ use Rattle.pump_wrapper.specs.Comparing.{Begins}
 use Rattle.pump_wrapper.specs.Halting.{Halts}
 use Rattle.pump_wrapper.specs.Wrapped.{wrapped}
 use Rattle.pump_wrapper.specs.Cutting.{to_come}
-use Rattle.pump_wrapper.specs.Sending.{drain_lines, send_lines, greeting, LedBy}
+use Rattle.pump_wrapper.specs.Sending.{drain_lines, send_lines, greeting, LedBy, RoseBy}
 use Rattle.pump_wrapper.specs.declared.cutter.Cutter.{Cutter}
 use Rattle.pump_wrapper.specs.declared.file_sender.WrapEnd.{WrapEnd}
 use Rattle.pump_wrapper.specs.declared.file_sender.WrapEnd.TheVariants as ends
@@ -64,6 +64,15 @@ IsWhole m row file (ends.Done bytes messages) disks =
     (bytes ≡ length file) × (messages ≡ length (wrapped row.message file)) × DisksHoldAll m row (wrapped row.message file) disks
 IsWhole m row file end disks = Unit {0}
 
+-- the file is too long
+abbrev pub is_too_long : WrapEnd → Bool
+is_too_long ends.TooLong = true
+is_too_long end = false
+
+abbrev pub is_long_in : {T : Type 0} → Result T WrapEnd → Bool
+is_long_in (Ok value) = false
+is_long_in (Err end) = is_too_long end
+
 -- ---- a pump ----
 
 -- just these messages were accepted, and all are removed
@@ -100,3 +109,10 @@ Sends m t row messages cutter left (Ok count) =
     (more : List (List ℕ)) × (q : Past) × LedBy row (first_past row (all_taken messages)) (greeting row ∷ send_lines row (length messages) 0 more) q
     × StandsFor m t q × HasPassed (messages ++ more) q.world × (count ≡ length (messages ++ more)) × AreToCome cutter left more
 Sends m t row messages cutter left (Err end) = SendsPart m t messages cutter left end
+
+-- a disk stops a sending only where its count of failed calls rose; nothing but these stops it
+abbrev pub SendCause : {D : Type 0} {g : _} → Meaning D → Pump D g → Pump D g → WrapEnd → Type 0
+SendCause m s t (ends.Stopped stop) = RoseBy m s t stop
+SendCause m s t ends.Read = Unit {0}
+SendCause m s t ends.TooLong = Unit {0}
+SendCause m s t end = ⊥

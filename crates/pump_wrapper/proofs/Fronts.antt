@@ -1,9 +1,12 @@
 -- Fronts of lists.
-use Rattle.std.proofs.Common.{◌≡◌, Bool, true, false, List, [], ◌∷◌, ◌++◌, Option, Some, None, refl, sym, ap, ◌∙◌, subst, append_assoc, append-nil}
+use Rattle.std.proofs.Common.{◌≡◌, ℕ, Bool, true, false, List, [], ◌∷◌, ◌++◌, length, Option, Some, None, refl, sym, ap, ◌∙◌, arith, append_assoc, append-nil, length-append}
 use Rattle.pump_frame.specs.declared.payload.Payload.{Payload}
 use Rattle.pump_core.specs.Events.{with_kept}
 use Rattle.pump_core.specs.Lawful.{IsPrefixOf}
+use Rattle.pump_frame.specs.declared.row.SessionRow.{SessionRow}
 use Rattle.pump_wrapper.specs.Comparing.{Begins}
+use Rattle.pump_wrapper.specs.WrapEnds.{BeginFile}
+use Rattle.pump_wrapper.specs.Wrapped.{wrapped}
 
 pub begins_same : (xs ys : List Payload) → ys ≡ xs → Begins xs ys
 begins_same xs ys e = ([], e ∙ sym (append-nil xs))
@@ -34,3 +37,13 @@ kept_none false o ps e = refl
 
 pub prefix_begins : (xs ys : List Payload) → IsPrefixOf xs ys → Begins xs ys
 prefix_begins xs ys (rest, e) = (rest, sym e)
+
+-- two lists that begin each other are the same
+pub begins_both : (xs ys : List Payload) → Begins xs ys → Begins ys xs → ys ≡ xs
+begins_both xs ys ([], e) h = e ∙ append-nil xs
+begins_both xs ys (x ∷ a, e) (b, f) = absurd (omega (arith, ap length e, ap length f, length-append xs (x ∷ a), length-append ys b))
+
+-- what begins the first messages of a file does
+pub begins_file : (row : SessionRow) (left : Option (List ℕ)) (xs ys : List Payload) → Begins xs ys → BeginFile row left ys → BeginFile row left xs
+begins_file row None xs ys front begins = tt
+begins_file row (Some file) xs ys front begins = begins_then xs ys (wrapped row.message file) front begins

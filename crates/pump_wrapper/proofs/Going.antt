@@ -24,14 +24,14 @@ led_then row p mid q (x ∷ xs) ys (next, printed, step, later) h = (next, print
 
 -- ---- counts ----
 
-rose_later : (a b c : ℕ) → a ≤ b → Rose b c → Rose a c
+pub rose_later : (a b c : ℕ) → a ≤ b → Rose b c → Rose a c
 rose_later a b c le rose = omega (arith, le, rose)
 
-served_later : {D : Type 0} (m : Meaning D) (least : ℕ) (old new : D) (b : Bool) → Serves m least old new b → m.count old ≤ m.count new
+pub served_later : {D : Type 0} (m : Meaning D) (least : ℕ) (old new : D) (b : Bool) → Serves m least old new b → m.count old ≤ m.count new
 served_later m least old new b (inl (same, none)) = omega (arith, ap m.count same)
 served_later m least old new b (inr a) = a.counts
 
-served_rose : {D : Type 0} (m : Meaning D) (least : ℕ) (old new : D) → Serves m least old new true → Rose (m.count old) (m.count new)
+pub served_rose : {D : Type 0} (m : Meaning D) (least : ℕ) (old new : D) → Serves m least old new true → Rose (m.count old) (m.count new)
 served_rose m least old new (inl (same, none)) = absurd (cc)
 served_rose m least old new (inr a) = a.rose refl
 

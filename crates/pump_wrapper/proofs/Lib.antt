@@ -1,7 +1,10 @@
 pub mod Applying
 pub mod Compared
+pub mod Comparisons
 pub mod Cuts
 pub mod Drained
+pub mod Emptied
+pub mod Ending
 pub mod Example
 pub mod Files
 pub mod Following
@@ -14,5 +17,6 @@ pub mod Moving
 pub mod Rooms
 pub mod Sent
 pub mod Takings
+pub mod Unopened
 pub mod Wholes
 pub mod Wrapping

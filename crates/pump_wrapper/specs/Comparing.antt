@@ -51,3 +51,9 @@ abbrev pub SameBytes : Cutter → Cutter → Option (List ℕ) → Option (List 
 SameBytes old new None rest = Unit {0}
 SameBytes old new (Some left) None = Unit {0}
 SameBytes old new (Some left) (Some rest) = bytes_in_all new rest ≡ bytes_in_all old left
+
+-- the first n messages are the first that a cutter had to give, and the first n + 1 are not, where its source tells its bytes
+abbrev pub FirstDiffer : List (List ℕ) → Cutter → Option (List ℕ) → ℕ → Type 0
+FirstDiffer messages cutter None n = Unit {0}
+FirstDiffer messages cutter (Some left) n =
+    (n < length messages) × Begins (take n messages) (to_come cutter left) × (Begins (take (n + 1) messages) (to_come cutter left) → ⊥)

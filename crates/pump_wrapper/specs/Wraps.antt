@@ -1,10 +1,14 @@
 -- What it comes to to send a file over a session's pump.
 use Rattle.std.specs.Prelude.{◌≡◌, ℕ, ◌-◌, Bool, true, false, List, [], ◌∷◌, ◌++◌, length, Option, None, Some, Result, Ok, Err}
 use Rattle.disk_model.specs.Disk.{Meaning}
+use Rattle.disk_model.specs.declared.name.Role.{Role}
+use Rattle.disk_model.specs.declared.name.Role.TheVariants as roles
 use Rattle.pump_frame.specs.declared.payload.Payload.{Payload}
 use Rattle.pump_frame.specs.declared.row.SessionRow.{SessionRow}
 use Rattle.pump_core.specs.World.{World}
 use Rattle.recovery.specs.declared.trio.Trio.{Trio}
+use Rattle.recovery.specs.declared.why.Why.{Why}
+use Rattle.recovery.specs.declared.why.Why.TheVariants as whys
 use Rattle.script_reader.specs.Openings.{Found, CanOpen, accepted_in, first_past}
 use Rattle.script_reader.specs.Past.{Past}
 use Rattle.stable_buffer.specs.Log.{RecvStands}
@@ -15,8 +19,10 @@ use Rattle.two_worlds.specs.Pumps.{StandsFor}
 use Rattle.pump_wrapper.specs.Comparing.{Begins}
 use Rattle.pump_wrapper.specs.Halting.{Halts}
 use Rattle.pump_wrapper.specs.Wrapped.{wrapped}
-use Rattle.pump_wrapper.specs.Cutting.{to_come}
+use Rattle.pump_wrapper.specs.Cutting.{to_come, IsTotal}
 use Rattle.pump_wrapper.specs.Sending.{drain_lines, send_lines, greeting, LedBy, RoseBy}
+use Rattle.pump_wrapper.specs.declared.compare.CompareFault.{CompareFault}
+use Rattle.pump_wrapper.specs.declared.compare.CompareFault.TheVariants as compares
 use Rattle.pump_wrapper.specs.declared.cutter.Cutter.{Cutter}
 use Rattle.pump_wrapper.specs.declared.file_sender.WrapEnd.{WrapEnd}
 use Rattle.pump_wrapper.specs.declared.file_sender.WrapEnd.TheVariants as ends
@@ -56,6 +62,7 @@ IsFailure end = Unit {0}
 abbrev pub IsSent : {D : Type 0} → Meaning D → SessionRow → List (List ℕ) → Cutter → Option (List ℕ) → WrapEnd → Trio D → Type 0
 IsSent m row messages cutter left (ends.Done bytes count) disks =
     (more : List (List ℕ)) × AreToCome cutter left more × (count ≡ length (messages ++ more)) × DisksHoldAll m row (messages ++ more) disks
+    × IsTotal cutter left bytes
 IsSent m row messages cutter left end disks = Unit {0}
 
 -- the answer is that the whole file is at the receiver
@@ -63,6 +70,24 @@ abbrev pub IsWhole : {D : Type 0} → Meaning D → SessionRow → List ℕ → 
 IsWhole m row file (ends.Done bytes messages) disks =
     (bytes ≡ length file) × (messages ≡ length (wrapped row.message file)) × DisksHoldAll m row (wrapped row.message file) disks
 IsWhole m row file end disks = Unit {0}
+
+-- how an opening ends that failed
+abbrev pub end_of_opening : Role → Option Why → WrapEnd
+end_of_opening role None = ends.Memory
+end_of_opening role (Some why) = ends.Refused role why
+
+-- .. a comparison
+abbrev pub end_of_comparison : Result (Unit {0}) CompareFault → Result (Unit {0}) WrapEnd
+end_of_comparison (Ok done) = Ok tt
+end_of_comparison (Err (compares.Device faults)) = Err (ends.Refused roles.Recv (whys.Device faults))
+end_of_comparison (Err (compares.Differs number)) = Err (ends.Differs number)
+end_of_comparison (Err compares.Read) = Err ends.Read
+end_of_comparison (Err compares.TooLong) = Err ends.TooLong
+
+-- .. a sending of so many bytes
+abbrev pub end_of_sending : ℕ → Result ℕ WrapEnd → WrapEnd
+end_of_sending bytes (Ok messages) = ends.Done bytes messages
+end_of_sending bytes (Err end) = end
 
 -- the file is too long
 abbrev pub is_too_long : WrapEnd → Bool

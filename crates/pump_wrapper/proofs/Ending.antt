@@ -211,14 +211,14 @@ all_end m row messages whole old new end has (inl (role, faults, e, none)) = by 
     by roles.Recv none = absurd (let from = has.hold.recv_is.from in let within = has.hold.recv_is.within in omega (arith, ap length none, from, within))
 
 -- the disks that a session ended on are not refused
-pub refuses_never : {D : Type 0} (m : Meaning D) (row : SessionRow) (whole : Option (List ℕ)) (accepted : List Payload) (old new disks : Trio D) (end : WrapEnd) → (m.tells → EndsOn m row whole accepted end disks) → RefusesDisks m row old end new
-refuses_never m row whole accepted old new disks (ends.Refused role why) on = λ told other. (let e = (on told).ends.0 in absurd (cc))
-refuses_never m row whole accepted old new disks (ends.Done b n) on = tt
-refuses_never m row whole accepted old new disks ends.Memory on = tt
-refuses_never m row whole accepted old new disks ends.Read on = tt
-refuses_never m row whole accepted old new disks ends.TooLong on = tt
-refuses_never m row whole accepted old new disks (ends.Differs n) on = tt
-refuses_never m row whole accepted old new disks (ends.Stopped stop) on = tt
+pub refuses_never : {D : Type 0} (m : Meaning D) (row : SessionRow) (whole : Option (List ℕ)) (old new disks : Trio D) (end : WrapEnd) → (m.tells → (accepted : List Payload) × EndsOn m row whole accepted end disks) → RefusesDisks m row old end new
+refuses_never m row whole old new disks (ends.Refused role why) on = λ told other. (let e = (on told).1.ends.0 in absurd (cc))
+refuses_never m row whole old new disks (ends.Done b n) on = tt
+refuses_never m row whole old new disks ends.Memory on = tt
+refuses_never m row whole old new disks ends.Read on = tt
+refuses_never m row whole old new disks ends.TooLong on = tt
+refuses_never m row whole old new disks (ends.Differs n) on = tt
+refuses_never m row whole old new disks (ends.Stopped stop) on = tt
 
 -- images of disks that hold all messages
 pub front_again : {D : Type 0} (m : Meaning D) (row : SessionRow) (messages all : List Payload) (old new : Trio D) (end : WrapEnd) → LeavesFront m row messages old.recv → Begins messages all

@@ -20,3 +20,4 @@ pub mod Takings
 pub mod Unopened
 pub mod Wholes
 pub mod Wrapping
+pub mod Wrappings

@@ -248,6 +248,8 @@ pub fn wrap<D: Disk, I: Source>(
     ensures cause { HasDiskCause D.told disks result.disks result.end }
     ensures read { result.end ≡ ends.Read → Rose (I.faults file.old) (I.faults file.new) }
 {
+    // It is read so that it is known to be in the range of its type.
+    let _id = row.id;
     let emptied = match empty(alloc, row, disks) {
         Ok(disks) => disks,
         Err(failed) => return failed,

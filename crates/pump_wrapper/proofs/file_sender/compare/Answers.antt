@@ -27,14 +27,14 @@ returns-clause-compares g c =
     let e = c.in-Ok.ensures in
     let s = c.skip_received.ensures in
     subst (λ (r : Result (Unit {0}) WrapEnd). OnOk r (m.tells → (messages : List (List ℕ)) → RecvStands c.args.row.now messages (m.reading c.args.recv)
-        → Compares messages c.args.cutter.now c.skip_received.new.cutter (g.I.Source.left c.args.file.now) (g.I.Source.left c.skip_received.new.file) (Ok tt)))
+    → Compares messages c.args.cutter.now c.skip_received.new.cutter (g.I.Source.left c.args.file.now) (g.I.Source.left c.skip_received.new.file) (Ok tt)))
     (sym c.compared-answer.ensures)
     (ok_only c.skip_received.result (λ is told messages stands.
-      let row = recv_row c.in-Ok.receiver in
-      let held = subst (λ (r : SessionRow). RecvStands r messages (m.reading c.args.recv)) (sym e.row) stands in
-      let read = subst (λ (bytes : List ℕ). RecvStands row messages bytes) (sym (e.same.reads told)) held in
-      subst (λ (r : Result (Unit {0}) CompareFault). Compares messages c.args.cutter.now c.skip_received.new.cutter (g.I.Source.left c.args.file.now) (g.I.Source.left c.skip_received.new.file) r) is
-      (s.compares told messages read)))
+    let row = recv_row c.in-Ok.receiver in
+    let held = subst (λ (r : SessionRow). RecvStands r messages (m.reading c.args.recv)) (sym e.row) stands in
+    let read = subst (λ (bytes : List ℕ). RecvStands row messages bytes) (sym (e.same.reads told)) held in
+    subst (λ (r : Result (Unit {0}) CompareFault). Compares messages c.args.cutter.now c.skip_received.new.cutter (g.I.Source.left c.args.file.now) (g.I.Source.left c.skip_received.new.file) r) is
+    (s.compares told messages read)))
 
 pub returns-clause-not : goal.returns-clause-not
 returns-clause-not g c =
@@ -48,11 +48,11 @@ returns-clause-not g c =
     (sym c.compared-answer.ensures)
     (subst (λ d. IfErr (end_of_comparison c.skip_received.result) (λ end. ComparesNot m c.args.row.now c.args.recv d c.args.cutter.now left end)) (sym c.into_disk.ensures)
     (compares_not m c.args.row.now c.args.recv (recv_disk c.in-Ok.receiver) disk c.args.cutter.now c.skip_received.new.cutter left rest _ _ c.skip_received.result s.takes
-      (λ told messages stands.
-        let row = recv_row c.in-Ok.receiver in
-        let held = subst (λ (r : SessionRow). RecvStands r messages (m.reading c.args.recv)) (sym e.row) stands in
-        s.compares told messages (subst (λ (bytes : List ℕ). RecvStands row messages bytes) (sym (e.same.reads told)) held))
-      e.calls.counts s.cause))
+    (λ told messages stands.
+    let row = recv_row c.in-Ok.receiver in
+    let held = subst (λ (r : SessionRow). RecvStands r messages (m.reading c.args.recv)) (sym e.row) stands in
+    s.compares told messages (subst (λ (bytes : List ℕ). RecvStands row messages bytes) (sym (e.same.reads told)) held))
+    e.calls.counts s.cause))
 
 pub returns-clause-bytes : goal.returns-clause-bytes
 returns-clause-bytes g c =

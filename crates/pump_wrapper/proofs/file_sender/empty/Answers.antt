@@ -21,9 +21,9 @@ returns-in-Ok-clause-empties g c =
     (λ told messages q stands passed. subst (λ (r : SessionRow). HasAll m r messages c.close-disks.result) same (closed.all told messages q stands passed))
     (λ q stands. subst (λ (r : SessionRow). LeaveWorld m r q.world c.close-disks.result.low c.close-disks.result.high c.close-disks.result.recv) same (closed.left q stands))
     (λ told f found. subst (λ (r : SessionRow). Drains m c.drain-drained.new.pump r f (Ok tt)) opened.row (drained.drains told f
-      (subst IsLawfulRow (sym opened.row) c.requires.lawful)
-      (subst (λ (r : SessionRow). CanOpen r f) (sym opened.row) found.can_open)
-      (subst (λ (r : SessionRow). StandsFor m s (first_past r f)) (sym opened.row) (opened.stands told f found))))
+    (subst IsLawfulRow (sym opened.row) c.requires.lawful)
+    (subst (λ (r : SessionRow). CanOpen r f) (sym opened.row) found.can_open)
+    (subst (λ (r : SessionRow). StandsFor m s (first_past r f)) (sym opened.row) (opened.stands told f found))))
 
 pub returns-in-Err-clause-not : goal.returns-in-Err-clause-not
 returns-in-Err-clause-not g c =
@@ -39,6 +39,6 @@ returns-in-Err-clause-not g c =
     (λ q stands. subst (λ (r : SessionRow). LeaveWorld m r q.world c.close-disks.result.low c.close-disks.result.high c.close-disks.result.recv) same (closed.left q stands))
     c.in-Err.stop drained.rose
     (λ told f found. subst (λ (r : SessionRow). Drains m c.drain-drained.new.pump r f (Err c.in-Err.stop)) opened.row (drained.drains told f
-      (subst IsLawfulRow (sym opened.row) c.requires.lawful)
-      (subst (λ (r : SessionRow). CanOpen r f) (sym opened.row) found.can_open)
-      (subst (λ (r : SessionRow). StandsFor m s (first_past r f)) (sym opened.row) (opened.stands told f found))))
+    (subst IsLawfulRow (sym opened.row) c.requires.lawful)
+    (subst (λ (r : SessionRow). CanOpen r f) (sym opened.row) found.can_open)
+    (subst (λ (r : SessionRow). StandsFor m s (first_past r f)) (sym opened.row) (opened.stands told f found))))

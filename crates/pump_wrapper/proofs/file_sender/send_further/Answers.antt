@@ -63,10 +63,10 @@ returns-clause-ends g c = λ told messages has whole continues.
     (subst (λ (r : SessionRow). StandsFor m c.in-Ok.pump (first_past r (all_taken messages))) (sym e.row) (e.stands told (all_taken messages) (stand_for_all m row messages c.args.disks has))) in
     subst (λ (end : WrapEnd). EndsOn m row whole messages end c.close.result) (sym c.sent_all.ensures)
     (sent_ends m row c.close.result c.send_rest-sent.new.pump messages c.args.cutter.now left c.bytes.result
-      (λ all q stands passed. subst (λ (r : SessionRow). HasAll m r all c.close.result) (s.row ∙ e.row) (c.close.ensures.all told all q stands passed))
-      (λ q stands. subst (λ (r : SessionRow). LeaveWorld m r q.world c.close.result.low c.close.result.high c.close.result.recv) (s.row ∙ e.row) (c.close.ensures.left q stands))
-      whole c.send_rest-sent.result
-      (subst (λ (r : SessionRow). Sends m c.send_rest-sent.new.pump r messages c.args.cutter.now left c.send_rest-sent.result) e.row sends) told continues)
+    (λ all q stands passed. subst (λ (r : SessionRow). HasAll m r all c.close.result) (s.row ∙ e.row) (c.close.ensures.all told all q stands passed))
+    (λ q stands. subst (λ (r : SessionRow). LeaveWorld m r q.world c.close.result.low c.close.result.high c.close.result.recv) (s.row ∙ e.row) (c.close.ensures.left q stands))
+    whole c.send_rest-sent.result
+    (subst (λ (r : SessionRow). Sends m c.send_rest-sent.new.pump r messages c.args.cutter.now left c.send_rest-sent.result) e.row sends) told continues)
 
 pub returns-clause-images : goal.returns-clause-images
 returns-clause-images g c = λ told messages has front all begins continues.

@@ -125,7 +125,7 @@ returns-in-Err-send-clause-sends g c = λ told messages lawful can stands.
       sending.more ++ c.next.new.into ∷ [],
       are_first (sending.more ++ c.next.new.into ∷ []) c.args.cutter.now c.next.new.self (g.I.Source.left c.args.file.now) (g.I.Source.left c.next.new.file) _ all cut,
       sends_go m row messages c.loop-number.pump c.send.new.pump c.args.cutter.now c.loop-number.cutter c.next.new.self (g.I.Source.left c.args.file.now) (g.I.Source.left c.loop-number.file) (g.I.Source.left c.next.new.file) c.loop-number.number _ sending
-    (moment_of c.loop-number.number _ _ _ _ _ sending.count first pauses) few small c.next.new.into fits c.in-Err-send.stop kept.row told c.in-Err-send.ensures.goes,
+          (moment_of c.loop-number.number _ _ _ _ _ sending.count first pauses) few small c.next.new.into fits c.in-Err-send.stop kept.row told c.in-Err-send.ensures.goes,
     )
 
 pub loop-number-preserved : goal.loop-number-preserved

@@ -1,5 +1,5 @@
 -- What a comparison of the receiver's messages comes to.
-use Rattle.std.proofs.Common.{◌≡◌, ℕ, ◌+◌, ◌≤◌, ◌<◌, ◌^◌, true, false, List, [], length, Option, Some, None, Result, Ok, Err, refl, ap, subst, arith}
+use Rattle.std.proofs.Common.{◌≡◌, ℕ, ◌≤◌, List, Option, Some, None, Result, Ok, Err, refl, ap}
 use Rattle.std.specs.Prelude.{OnOk, IfErr}
 use Rattle.std.specs.Io.KnownBytes.{Consumes}
 use Rattle.disk_model.specs.Disk.{Meaning}
@@ -13,7 +13,6 @@ use Rattle.pump_wrapper.specs.WrapEnds.{ComparesNot, TakesSoFar}
 use Rattle.pump_wrapper.specs.declared.compare.CompareFault.{CompareFault}
 use Rattle.pump_wrapper.specs.declared.compare.CompareFault.TheVariants as compares
 use Rattle.pump_wrapper.specs.declared.cutter.Cutter.{Cutter}
-use Rattle.pump_wrapper.specs.declared.file_sender.WrapEnd.{WrapEnd}
 use Rattle.pump_wrapper.specs.declared.file_sender.WrapEnd.TheVariants as ends
 use Rattle.pump_wrapper.proofs.Going.{rose_later}
 

@@ -1,8 +1,7 @@
 -- What the disks of a pump over which a file was sent stand for.
-use Rattle.std.proofs.Common.{◌≡◌, ◌⊎◌, inl, inr, ℕ, ◌+◌, ◌≤◌, ◌<◌, ◌^◌, true, false, List, [], ◌∷◌, ◌++◌, length, Option, Some, None, Result, Ok, Err, refl, sym, ap, ◌∙◌, subst, arith, append-nil}
-use Rattle.std.specs.Prelude.{IfErr, OnOk}
-use Rattle.std.specs.Io.KnownBytes.{Consumes}
-use Rattle.std.proofs.KnownBytes.{Consumes-nil, Consumes-trans}
+use Rattle.std.proofs.Common.{◌≡◌, ◌⊎◌, inl, inr, ℕ, ◌≤◌, ◌<◌, ◌^◌, true, false, List, [], ◌++◌, length, Option, Some, None, Result, Ok, Err, refl, sym, ap, ◌∙◌, subst, arith, append-nil}
+use Rattle.std.specs.Prelude.{IfErr}
+use Rattle.std.proofs.KnownBytes.{Consumes-nil}
 use Rattle.disk_model.specs.Disk.{Meaning}
 use Rattle.disk_model.specs.declared.name.Role.{Role}
 use Rattle.disk_model.specs.declared.name.Role.TheVariants as roles
@@ -13,16 +12,15 @@ use Rattle.pump_core.specs.Events.{with_kept}
 use Rattle.recovery.specs.Moves.{disk_of}
 use Rattle.recovery.specs.declared.trio.Trio.{Trio}
 use Rattle.recovery.specs.declared.why.Why.TheVariants as whys
-use Rattle.script_reader.specs.Openings.{Found, accepted_in}
+use Rattle.script_reader.specs.Openings.{accepted_in}
 use Rattle.script_reader.specs.Past.{Past}
-use Rattle.stable_buffer.specs.Stands.{LowStands}
 use Rattle.two_worlds.specs.declared.applied.Stop.{Stop}
 use Rattle.two_worlds.specs.declared.applied.Stop.TheVariants as stops
 use Rattle.two_worlds.specs.declared.pump.Pump.{Pump}
 use Rattle.two_worlds.specs.Disks.{LeaveWorld}
 use Rattle.two_worlds.specs.Pumps.{StandsFor, StandsOrFails, disk_at}
 use Rattle.pump_wrapper.specs.Comparing.{Begins}
-use Rattle.pump_wrapper.specs.Cutting.{Gave, IsTotal, to_come}
+use Rattle.pump_wrapper.specs.Cutting.{Gave, to_come}
 use Rattle.pump_wrapper.specs.Halting.{Halts, HaltsBy}
 use Rattle.pump_wrapper.specs.Sending.{RoseBy}
 use Rattle.pump_wrapper.specs.Wraps.{AreFirst, AreToCome, HasAll, HasPassed, IsSent, Passes, SendCause, Sends, all_taken, end_of_sending, is_long_in, is_too_long}

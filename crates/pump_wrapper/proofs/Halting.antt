@@ -1,6 +1,6 @@
 -- Where the lines by which a pump is emptied and a file is sent may be stopped.
 use Rattle.std.proofs.Common.{◌≡◌, inl, inr, ℕ, ◌+◌, ◌<◌, ◌≤◌, ◌^◌, Bool, true, false, List, [], ◌∷◌, ◌++◌, length, slice_get, Option, Some, None, Err, refl, sym, ap, ◌∙◌, subst, arith, append-nil}
-use Rattle.std.specs.Prelude.{◌==◌, ◌&&◌, nat_lt, max}
+use Rattle.std.specs.Prelude.{◌==◌, ◌&&◌, nat_lt}
 use Rattle.std.proofs.lemmas.Bool.{and_parts, eqb-true}
 use Rattle.disk_model.specs.Disk.{Meaning}
 use Rattle.disk_model.specs.declared.name.Role.{Role}
@@ -10,7 +10,7 @@ use Rattle.pump_frame.specs.declared.frame.Item.{Item}
 use Rattle.pump_frame.specs.declared.payload.Payload.{Payload}
 use Rattle.pump_frame.specs.declared.row.SessionRow.{SessionRow}
 use Rattle.pump_core.specs.Events.{with_kept}
-use Rattle.pump_core.specs.Exchanges.{is_next, IsFrame, count_after, greeted_after}
+use Rattle.pump_core.specs.Exchanges.{is_next, IsFrame}
 use Rattle.pump_core.specs.History.{Arrival, Came, Nothing}
 use Rattle.pump_core.specs.Lawful.{IsLawful, IsMessage}
 use Rattle.pump_core.specs.World.{World}
@@ -19,7 +19,7 @@ use Rattle.script_reader.specs.declared.event.Event.{Event as Printed}
 use Rattle.script_reader.specs.declared.line.Arriving.TheVariants as arriving
 use Rattle.script_reader.specs.declared.line.Line.{Line}
 use Rattle.script_reader.specs.declared.line.Line.TheVariants as lines
-use Rattle.script_reader.specs.Breaks.{Breaks, IsLostLook}
+use Rattle.script_reader.specs.Breaks.{Breaks}
 use Rattle.script_reader.specs.Highs.{IsOverfull, receiver_size, log_end}
 use Rattle.script_reader.specs.Lows.{first_of}
 use Rattle.script_reader.specs.Openings.{accepted_in}
@@ -32,7 +32,6 @@ use Rattle.two_worlds.specs.declared.applied.Stop.TheVariants as stops
 use Rattle.two_worlds.specs.declared.pump.Pump.{Pump}
 use Rattle.two_worlds.specs.declared.pump.state.PumpState.{PumpState}
 use Rattle.two_worlds.specs.declared.pump.state.PumpState.TheVariants.{Open, Shut}
-use Rattle.two_worlds.specs.Pumps.{StandsFor, row_of}
 use Rattle.two_worlds.specs.States.{StandsIn}
 use Rattle.pump_wrapper.specs.Comparing.{Begins}
 use Rattle.pump_wrapper.specs.Halting.{found_of, HasNoRoom, IsBetween, Halts}
@@ -40,7 +39,7 @@ use Rattle.pump_wrapper.specs.Sending.{empty_look, turn_lines, message_lines, gr
 use Rattle.pump_wrapper.proofs.Applying.{LinesApply, never_line, Emptying, Sent}
 use Rattle.pump_wrapper.proofs.Fronts.{begins_same, begins_more, begins_then, kept_none}
 use Rattle.pump_wrapper.proofs.Leaving.{accepted_found}
-use Rattle.pump_wrapper.proofs.Moving.{Keeps, keeps_same, look_keeps, breaks_off_keeps}
+use Rattle.pump_wrapper.proofs.Moving.{Keeps, look_keeps, breaks_off_keeps}
 
 -- wherever the line is stopped, the accepted messages are between these
 pub record LineHalts (row : SessionRow) (p : Past) (line : Line) (first most : List Payload) : Type 0 where

@@ -1,5 +1,5 @@
 -- What the disks of a pump stand for once it is closed.
-use Rattle.std.proofs.Common.{◌≡◌, inl, inr, ℕ, ◌+◌, ◌-◌, ◌^◌, ◌≤◌, ◌<◌, Bool, true, false, List, [], ◌∷◌, ◌++◌, length, drop, slice_get, get_or, Option, None, refl, sym, ap, ◌∙◌, subst, arith}
+use Rattle.std.proofs.Common.{◌≡◌, ℕ, ◌+◌, ◌-◌, ◌≤◌, ◌<◌, Bool, true, List, [], ◌∷◌, ◌++◌, length, drop, slice_get, get_or, Option, None, refl, sym, ap, ◌∙◌, subst, arith}
 use Rattle.std.specs.Prelude.{◌&&◌, suc}
 use Rattle.std.specs.List.{All}
 use Rattle.std.proofs.Math.Seq.{drop-append_seam}
@@ -12,10 +12,8 @@ use Rattle.pump_frame.specs.declared.row.SessionRow.{SessionRow}
 use Rattle.pump_core.specs.Events.{with_kept}
 use Rattle.pump_core.specs.Lawful.{IsPrefixOf, IsLawful}
 use Rattle.pump_core.specs.World.{World}
-use Rattle.recovery.specs.declared.trio.Trio.{Trio}
 use Rattle.script_reader.specs.Highs.{log_end}
 use Rattle.script_reader.specs.Openings.{Found, accepted_in}
-use Rattle.script_reader.specs.Past.{Past}
 use Rattle.stable_buffer.specs.Log.{RecvStands, Records, log_of}
 use Rattle.stable_buffer.specs.Stands.{LowStands, HighStands, InSlot}
 use Rattle.two_worlds.specs.Disks.{crashed, StandFor, StandForLeft, LeaveWorld}
@@ -23,7 +21,7 @@ use Rattle.two_worlds.specs.Openings.{StandForFound, readied}
 use Rattle.two_worlds.specs.Timelines.{IsAtRest}
 use Rattle.pump_wrapper.specs.Comparing.{Begins}
 use Rattle.pump_wrapper.specs.Halting.{found_of, HasNoRoom}
-use Rattle.pump_wrapper.specs.WrapEnds.{LeavesFront, Stand}
+use Rattle.pump_wrapper.specs.WrapEnds.{LeavesFront}
 use Rattle.pump_wrapper.proofs.Fronts.{begins_same, begins_then, prefix_begins, kept_begins, kept_most, kept_none}
 
 -- all that a world accepted is found

@@ -1,7 +1,7 @@
 -- What a pump that was not opened leaves.
 use Rattle.std.proofs.Common.{◌≡◌, ◌⊎◌, inl, inr, ℕ, ◌≤◌, ◌<◌, Bool, true, false, List, [], length, Option, Some, None, refl, sym, ap, ◌∙◌, subst, arith}
 use Rattle.std.specs.Prelude.{◌&&◌, IfSome}
-use Rattle.disk_model.specs.Disk.{Meaning, Moves, Same}
+use Rattle.disk_model.specs.Disk.{Meaning}
 use Rattle.disk_model.specs.declared.name.Role.{Role}
 use Rattle.disk_model.specs.declared.name.Role.TheVariants as roles
 use Rattle.pump_frame.specs.Counts.{Rose}
@@ -16,9 +16,7 @@ use Rattle.script_reader.specs.Openings.{Found, accepted_in}
 use Rattle.stable_buffer.specs.Format.{new_bytes}
 use Rattle.stable_buffer.specs.Log.{RecvStands}
 use Rattle.two_worlds.specs.Openings.{ComeBack, IsLeft, LeavesDisk, StandForFound, readied}
-use Rattle.two_worlds.specs.Rooms.{Serves, is_role}
-use Rattle.two_worlds.specs.declared.not_open.NotOpen.{NotOpen}
-use Rattle.pump_wrapper.specs.Comparing.{Begins}
+use Rattle.two_worlds.specs.Rooms.{is_role}
 use Rattle.pump_wrapper.specs.Wraps.{end_of_opening}
 use Rattle.pump_wrapper.specs.WrapEnds.{Ends, EndsEarly, EndsOn, FailsFormat, HasDiskCause, LeavesFront, RefusesDisks, Stand}
 use Rattle.pump_wrapper.specs.declared.file_sender.WrapEnd.TheVariants as ends

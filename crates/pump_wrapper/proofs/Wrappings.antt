@@ -1,5 +1,5 @@
 -- The steps of a sending put together.
-use Rattle.std.proofs.Common.{◌≡◌, inl, inr, ℕ, ◌+◌, ◌≤◌, ◌<◌, ◌^◌, Bool, true, false, List, [], ◌∷◌, ◌++◌, length, take, Option, Some, None, Result, Ok, Err, refl, sym, ap, ◌∙◌, subst, arith, append_assoc, append-nil, length-append}
+use Rattle.std.proofs.Common.{◌≡◌, inl, ℕ, ◌+◌, ◌<◌, ◌^◌, Bool, true, false, List, ◌++◌, length, take, Option, Some, None, Result, Ok, Err, refl, sym, ap, ◌∙◌, subst, arith, append_assoc, append-nil, length-append}
 use Rattle.std.specs.Prelude.{OnOk, IfErr}
 use Rattle.std.specs.Io.KnownBytes.{Consumes}
 use Rattle.std.proofs.KnownBytes.{Consumes-trans}
@@ -13,14 +13,13 @@ use Rattle.recovery.specs.declared.trio.Trio.{Trio}
 use Rattle.recovery.proofs.Accepts.{recv_none}
 use Rattle.recovery.proofs.Rows.{row_capacity, row_message}
 use Rattle.script_reader.specs.Highs.{receiver_size}
-use Rattle.script_reader.specs.Openings.{Found, accepted_in}
 use Rattle.stable_buffer.specs.Log.{RecvStands}
 use Rattle.two_worlds.proofs.Opening.Opened.{received_end}
 use Rattle.pump_wrapper.specs.Comparing.{Begins, Compares, FirstDiffer}
 use Rattle.pump_wrapper.specs.Cutting.{Gave, to_come}
 use Rattle.pump_wrapper.specs.Wrapped.{wrapped}
-use Rattle.pump_wrapper.specs.Wraps.{AreFirst, HasAll, all_taken}
-use Rattle.pump_wrapper.specs.WrapEnds.{BeginFile, ComparesNot, Continues, DifferAt, EndsAt, EndsOn, LeavesFront, TakesSoFar}
+use Rattle.pump_wrapper.specs.Wraps.{HasAll, all_taken}
+use Rattle.pump_wrapper.specs.WrapEnds.{ComparesNot, Continues, DifferAt, EndsAt, EndsOn, LeavesFront, TakesSoFar}
 use Rattle.pump_wrapper.specs.declared.cutter.Cutter.{Cutter}
 use Rattle.pump_wrapper.specs.declared.file_sender.WrapEnd.{WrapEnd}
 use Rattle.pump_wrapper.specs.declared.file_sender.WrapEnd.TheVariants as ends

@@ -1,4 +1,4 @@
-use Rattle.std.proofs.Common.{◌≡◌, ℕ, ◌∙◌, [], List, Result, Ok, refl, sym, subst, arith}
+use Rattle.std.proofs.Common.{ℕ, ◌∙◌, [], List, Result, Ok, refl, sym, subst, arith}
 use Rattle.std.specs.Prelude.{IfErr, OnOk}
 use Rattle.std.proofs.KnownBytes.{Consumes-nil}
 use Rattle.pump_frame.specs.declared.row.SessionRow.{SessionRow}

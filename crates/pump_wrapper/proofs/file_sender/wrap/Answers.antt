@@ -1,4 +1,4 @@
-use Rattle.std.proofs.Common.{◌≡◌, ◌^◌, ◌<◌, ◌++◌, inr, ℕ, List, Option, Result, Ok, subst, arith}
+use Rattle.std.proofs.Common.{◌^◌, ◌<◌, ◌++◌, inr, ℕ, List, Option, Result, Ok, subst, arith}
 use Rattle.std.specs.Io.KnownBytes.{Consumes}
 use Rattle.script_reader.specs.Openings.{accepted_in}
 use Rattle.pump_wrapper.specs.Comparing.{Compares, SameBytes}

@@ -1,5 +1,5 @@
 -- What sending a file over a session leaves on the shelf.
-use Rattle.std.proofs.Common.{◌≡◌, ◌⊎◌, inl, inr, ℕ, ◌≤◌, List, [], Option, Some, None, refl, sym, ◌∙◌, subst, arith}
+use Rattle.std.proofs.Common.{◌≡◌, ◌⊎◌, inl, inr, ℕ, List, Option, Some, None, refl, sym, ◌∙◌, subst, arith}
 use Rattle.std.specs.Io.KnownBytes.{Appends}
 use Rattle.disk_model.specs.Disk.{Meaning}
 use Rattle.disk_model.specs.declared.name.Role.{Role}
@@ -18,7 +18,7 @@ use Rattle.recovery.specs.declared.why.Why.{Why}
 use Rattle.recovery.specs.declared.why.Why.TheVariants as whys
 use Rattle.script_reader.specs.Openings.{Found, accepted_in}
 use Rattle.script_replay.specs.Lending.{ReadAt, AreOnShelf}
-use Rattle.script_replay.specs.Shelves.{Places, HasFound, LeavesOtherSessions, reading_at}
+use Rattle.script_replay.specs.Shelves.{Places, LeavesOtherSessions, reading_at}
 use Rattle.script_replay.specs.declared.disks.TakenDisks.{TakenDisks}
 use Rattle.script_replay.proofs.Shelving.{others_so}
 use Rattle.two_worlds.specs.Openings.{IsRefused, StandForFound, readied}
@@ -30,7 +30,7 @@ use Rattle.commands.specs.TakenDisks.{RoseAt}
 use Rattle.commands.specs.Tables.{HasRow, IsTableEnd}
 use Rattle.commands.specs.Wrapping.{IsSendStatus, FailsAtFormat, HoldsFile, HoldsOn, Leaves, RefusesSession, StopsAtShelf, Wraps, WrapsFrom, WritesSend, end_of_stop, end_of_wrap, is_long, send_line, send_status}
 use Rattle.commands.specs.declared.command_end.CommandEnd.{CommandEnd}
-use Rattle.commands.specs.declared.command_end.CommandEnd.TheVariants.{Memory, Unread, NoRow, Failed, Refused, Unwritten}
+use Rattle.commands.specs.declared.command_end.CommandEnd.TheVariants.{Memory, Unread, NoRow, Failed, Unwritten}
 use Rattle.commands.specs.declared.wrap.SendEnd.{SendEnd}
 use Rattle.commands.specs.declared.wrap.SendEnd.TheVariants.{Sent, Differs, TooLong, Stopped}
 use Rattle.commands.proofs.Formatted.{was, is}

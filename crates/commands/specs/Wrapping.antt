@@ -1,5 +1,5 @@
 -- What sending a file over a session leaves and writes, by how it ends. `before` and `after` say where each disk is.
-use Rattle.std.specs.Prelude.{◌≡◌, ◌⊎◌, ℕ, ◌<◌, ◌≤◌, Bool, true, false, List, [], ◌∷◌, length, Option, None, Some, codes, decimal}
+use Rattle.std.specs.Prelude.{◌≡◌, ◌⊎◌, ℕ, ◌<◌, ◌≤◌, Bool, true, false, List, [], ◌∷◌, length, Option, Some, codes, decimal}
 use Rattle.std.specs.Io.KnownBytes.{Appends}
 use Rattle.disk_model.specs.declared.name.Role.{Role}
 use Rattle.pump_frame.specs.declared.payload.Payload.{Payload}
@@ -12,7 +12,6 @@ use Rattle.pump_wrapper.specs.Wraps.{HoldAll}
 use Rattle.pump_wrapper.specs.declared.file_sender.WrapEnd.{WrapEnd}
 use Rattle.pump_wrapper.specs.declared.file_sender.WrapEnd.TheVariants as answers
 use Rattle.recovery.specs.Calls.{is_device}
-use Rattle.recovery.specs.declared.why.Why.{Why}
 use Rattle.recovery.specs.declared.why.Why.TheVariants as whys
 use Rattle.script_reader.specs.Openings.{Found, accepted_in}
 use Rattle.script_reader.specs.Transcript.{line_with_end}

@@ -7,3 +7,4 @@ pub mod MovedFound
 pub mod Shown
 pub mod TableRows
 pub mod Unwrapped
+pub mod Wrapped

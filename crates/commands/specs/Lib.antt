@@ -7,3 +7,4 @@ pub mod Showing
 pub mod Tables
 pub mod TakenDisks
 pub mod Unwrapping
+pub mod Wrapping

@@ -10,6 +10,7 @@ mod migrate;
 mod show;
 mod table_row;
 mod unwrap;
+mod wrap;
 
 pub use audit::{audit_script, compare_script};
 pub use command_end::{CommandEnd, finish};
@@ -19,6 +20,7 @@ pub use migrate::migrate_session;
 pub use show::{end_at, show_session};
 pub use table_row::row_in_file;
 pub use unwrap::{UnwrapEnd, unwrap_session};
+pub use wrap::{SendEnd, wrap_session};
 
 #[cfg(test)]
 mod tests;

@@ -1,7 +1,7 @@
-use crate::{format_session, migrate_session, show_session, unwrap_session};
+use crate::{format_session, migrate_session, show_session, unwrap_session, wrap_session};
 use command_line::TableName;
 use disk_model::{DiskName, MemShelf, PlainDisk, Role};
-use pump_link::MemSink;
+use pump_link::{MemSink, MemSource};
 use std::alloc::{AllocError, Global};
 use std::test::Fail;
 
@@ -43,6 +43,7 @@ fn new_shelf(alloc: Global, fails: &[u64]) -> Result<MemShelf<PlainDisk>, Fail> 
 }
 
 /// The status and the output of a command over a session of a table. `migrate` moves it to session 2.
+/// Behind `wrap` stands the file.
 fn run(
     alloc: Global,
     shelf: &mut MemShelf<PlainDisk>,
@@ -53,6 +54,12 @@ fn run(
     else {
         return Ok((2, Vec::new(alloc)));
     };
+    if let Some(file) = command.strip_prefix("wrap ") {
+        let bytes = Vec::from_slice(alloc, file.as_bytes())?;
+        let mut source = MemSource::new(bytes, 5, Vec::new(alloc));
+        let end = wrap_session(alloc, &table, session, shelf, &mut source, &mut sink);
+        return Ok((end.status(), Vec::from_slice(alloc, sink.written())?));
+    }
     let status = match command {
         "format" => format_session(alloc, &table, session, shelf, &mut sink).status(),
         "show" => show_session(alloc, &table, session, shelf, &mut sink).status(),
@@ -144,6 +151,39 @@ fn writes_nothing_where_there_is_no_file(rt: HostRuntime) -> Result<(), Fail> {
         (9, "t.toml", 1, 6),
     ] {
         let commands = [(("unwrap", table, session), status, "")];
+        assert!(rt; all_end(rt.alloc(), &[fails], commands.as_slice())?);
+    }
+    Ok(())
+}
+
+#[test]
+fn a_file_is_sent_and_written(rt: HostRuntime) -> Result<(), Fail> {
+    let sent = (("wrap hello, world", "w.toml", 1), 0, "wrapped 1 12 3\n");
+    let shown = (("show", "w.toml", 1), 0, "show 1 3 3 3\n");
+    let commands = [
+        (("format", "w.toml", 1), 0, "formatted 1\n"),
+        sent,
+        shown,
+        (("unwrap", "w.toml", 1), 0, "hello, world"),
+        sent,
+        shown,
+        (("wrap hello, there", "w.toml", 1), 13, "fault wrapped 1 0\n"),
+        shown,
+    ];
+    assert!(rt; all_end(rt.alloc(), &[], commands.as_slice())?);
+    Ok(())
+}
+
+// The calls are `whole`, and one for each disk.
+#[test]
+fn a_file_is_sent_over_new_disks(rt: HostRuntime) -> Result<(), Fail> {
+    for (fails, file, table, status, output) in [
+        (9, "wrap ", "w.toml", 0, "wrapped 1 0 1\n"),
+        (9, "wrap ", "t.toml", 6, "fault table 12 1\n"),
+        (0, "wrap a", "w.toml", 3, "fault read\n"),
+        (3, "wrap a", "w.toml", 7, "fault device 1 recv\n"),
+    ] {
+        let commands = [((file, table, 1), status, output)];
         assert!(rt; all_end(rt.alloc(), &[fails], commands.as_slice())?);
     }
     Ok(())

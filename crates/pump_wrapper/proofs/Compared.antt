@@ -1,10 +1,10 @@
 -- The messages that a cutter gave, and a receiver has.
-use Rattle.std.proofs.Common.{◌≡◌, ℕ, ◌+◌, ◌<◌, List, [], ◌∷◌, ◌++◌, Option, None, Some, Ok, Err, length, take, refl, sym, ◌∙◌, ap, arith, append_assoc, length-append}
+use Rattle.std.proofs.Common.{◌≡◌, ℕ, ◌+◌, ◌<◌, true, false, List, [], ◌∷◌, ◌++◌, Option, None, Some, Ok, Err, length, take, refl, sym, ◌∙◌, ap, arith, append_assoc, length-append}
 use Rattle.std.specs.Io.KnownBytes.{Consumes}
 use Rattle.std.proofs.KnownBytes.{Consumes-trans}
 use Rattle.std.proofs.lemmas.List.{append_cancel_left}
-use Rattle.pump_wrapper.specs.Cutting.{to_come, GivesNext, Takes}
-use Rattle.pump_wrapper.specs.Comparing.{Compares, TakesInAll}
+use Rattle.pump_wrapper.specs.Cutting.{to_come, Counts, Gave, GivesNext, IsTotal, Takes}
+use Rattle.pump_wrapper.specs.Comparing.{Compares, SameBytes, TakesInAll}
 use Rattle.pump_wrapper.specs.declared.cutter.Cutter.{Cutter}
 use Rattle.pump_wrapper.specs.declared.cutter.Cut.{Cut}
 use Rattle.pump_wrapper.specs.declared.cutter.Cut.TheVariants.{Message, Done}
@@ -19,6 +19,17 @@ passed messages old new left rest = Compares messages old new left rest (Ok tt)
 pub none_passed : (cutter : Cutter) (left : Option (List ℕ)) → passed [] cutter cutter left left
 none_passed cutter None = tt
 none_passed cutter (Some left) = refl
+
+-- the bytes of the file are the same
+pub none_counted : (cutter : Cutter) (left : Option (List ℕ)) → SameBytes cutter cutter left left
+none_counted cutter None = tt
+none_counted cutter (Some left) = refl
+
+pub one_counted : (old mid new : Cutter) (left between rest : Option (List ℕ)) (taken : List ℕ) → Consumes left between taken → SameBytes old mid left between → Counts Message mid new between rest → SameBytes old new left rest
+one_counted old mid new None between rest taken c was counts = tt
+one_counted old mid new (Some l) None rest taken c was counts = absurd c
+one_counted old mid new (Some l) (Some b) None taken c was counts = tt
+one_counted old mid new (Some l) (Some b) (Some r) taken c was counts = counts ∙ was
 
 -- one more that is the same
 pub one_passed : (messages more : List (List ℕ)) (message : List ℕ) (old mid new : Cutter) (left between rest : Option (List ℕ)) (taken : List ℕ) → Consumes left between taken → passed messages old mid left between → GivesNext mid new between rest message Message
@@ -77,3 +88,16 @@ module _ (start old new : Cutter) (left between rest : Option (List ℕ)) (taken
 
   pub takes_on : (cut ≡ cuts.Failed → ⊥) → (xs : List ℕ) × Consumes left rest xs × (new.bytes ≡ start.bytes + length xs)
   takes_on other = let next = takes.counted other in (taken ++ bytes, all, omega (arith, next, count, size))
+
+  pub gave_few : (cut ≡ cuts.TooLong → ⊥) → Gave start.bytes left rest false
+  gave_few short = let few = takes.short short in (taken ++ bytes, all, (λ e. absurd (cc)), λ e. omega (arith, few, count, size))
+
+  pub gave_all : cut ≡ cuts.TooLong → Gave start.bytes left rest true
+  gave_all is = let full = takes.long is in (taken ++ bytes, all, (λ e. omega (arith, full, count, size)), λ e. absurd (cc))
+
+-- all bytes of the file were read
+pub total_is : (start now new : Cutter) (left rest last : Option (List ℕ)) (taken bytes : List ℕ) → Consumes left rest taken → Consumes rest last bytes → SameBytes start now left rest → Counts Done now new rest last → IsTotal start left new.bytes
+total_is start now new None rest last taken bytes c d same counts = tt
+total_is start now new (Some l) None last taken bytes c d same counts = absurd c
+total_is start now new (Some l) (Some r) None taken bytes c d same counts = absurd d
+total_is start now new (Some l) (Some r) (Some s) taken bytes c d same counts = counts ∙ same

@@ -1,10 +1,11 @@
 -- What a cutter gives.
-use Rattle.std.proofs.Common.{◌≡◌, ℕ, ◌+◌, ◌<◌, ◌≤◌, List, [], ◌∷◌, ◌++◌, Option, None, Some, length, sym, ◌∙◌, ap, subst, arith}
+use Rattle.std.proofs.Common.{◌≡◌, ℕ, ◌+◌, ◌<◌, ◌≤◌, List, [], ◌∷◌, ◌++◌, Option, None, Some, length, sym, ◌∙◌, ap, subst, arith, length-append}
 use Rattle.std.specs.Io.KnownBytes.{Consumes, IsAtEnd}
 use Rattle.std.proofs.lemmas.List.{append-nil}
 use Rattle.pump_wrapper.specs.Wrapped.{piece_message, length_message}
-use Rattle.pump_wrapper.specs.Cutting.{wrapped_from, stage_to_come, to_come, Gives, GivesNext}
+use Rattle.pump_wrapper.specs.Cutting.{wrapped_from, stage_to_come, to_come, stage_bytes, bytes_in_all, Counts, CountsIn, Gives, GivesNext}
 use Rattle.pump_wrapper.specs.declared.cutter.Cutter.{Cutter}
+use Rattle.pump_wrapper.specs.declared.cutter.Stage.{Stage}
 use Rattle.pump_wrapper.specs.declared.cutter.Stage.TheVariants.{Pieces, Length}
 use Rattle.pump_wrapper.specs.declared.cutter.Cut.{Cut}
 use Rattle.pump_wrapper.specs.declared.cutter.Cut.TheVariants.{Message}
@@ -42,3 +43,33 @@ gives_full old new (Some xs) None piece message was now size bytes takes any ful
 gives_full old new (Some xs) (Some ys) piece message was now size bytes takes any full is =
     cutting old xs was ∙ ap (wrapped_from old.size old.bytes) takes ∙ piece_before old.size old.bytes piece ys any full
     ∙ (λ i. sym is i ∷ ((λ j. wrapped_from (sym size j) (sym bytes j) ys) ∙ sym (cutting new ys now)) i)
+
+-- ---- the bytes of the file ----
+
+in_all : (cutter : Cutter) (left : List ℕ) (stage : Stage) → cutter.stage ≡ stage → bytes_in_all cutter left ≡ stage_bytes stage cutter.bytes left
+in_all cutter left stage is = ap (λ s. stage_bytes s cutter.bytes left) is
+
+-- the length, at the source's end
+pub counts_length : (old new : Cutter) (left rest : Option (List ℕ)) (bytes : List ℕ) (result : Cut) → old.stage ≡ Pieces → Consumes left rest bytes → length bytes ≡ 0 → IsAtEnd rest
+    → result ≡ Message → ((later : List ℕ) → bytes_in_all new later ≡ old.bytes) → Counts result old new left rest
+counts_length old new None rest bytes result was takes none end gives total = tt
+counts_length old new (Some xs) None bytes result was takes none end gives total = tt
+counts_length old new (Some xs) (Some ys) bytes result was takes none end gives total =
+    let size : length xs ≡ 0 = omega (arith, ap length takes, length-append bytes ys, none, ap length end) in
+    subst (λ r. CountsIn r old new xs ys) (sym gives) (total ys ∙ omega (arith, size) ∙ sym (in_all old xs Pieces was))
+
+-- the last piece, where it is shorter
+pub counts_last : (old new : Cutter) (left rest : Option (List ℕ)) (piece : List ℕ) → old.stage ≡ Pieces → new.stage ≡ Length → new.bytes ≡ old.bytes + length piece
+    → Consumes left rest piece → IsAtEnd rest → Counts Message old new left rest
+counts_last old new None rest piece was now bytes takes end = tt
+counts_last old new (Some xs) None piece was now bytes takes end = tt
+counts_last old new (Some xs) (Some ys) piece was now bytes takes end =
+    in_all new ys Length now ∙ omega (arith, bytes, ap length takes, length-append piece ys, ap length end) ∙ sym (in_all old xs Pieces was)
+
+-- a full piece
+pub counts_full : (old new : Cutter) (left rest : Option (List ℕ)) (piece : List ℕ) → old.stage ≡ Pieces → new.stage ≡ Pieces → new.bytes ≡ old.bytes + length piece
+    → Consumes left rest piece → Counts Message old new left rest
+counts_full old new None rest piece was now bytes takes = tt
+counts_full old new (Some xs) None piece was now bytes takes = tt
+counts_full old new (Some xs) (Some ys) piece was now bytes takes =
+    in_all new ys Pieces now ∙ omega (arith, bytes, ap length takes, length-append piece ys) ∙ sym (in_all old xs Pieces was)

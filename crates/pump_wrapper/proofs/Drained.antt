@@ -9,13 +9,14 @@ use Rattle.script_reader.specs.Past.{Past}
 use Rattle.script_reader.proofs.LineSteps.{opened_stands, stands_later, since_opening}
 use Rattle.script_reader.proofs.LookSteps.{Stands}
 use Rattle.two_worlds.specs.declared.applied.Stop.{Stop}
-use Rattle.two_worlds.specs.declared.applied.Stop.TheVariants as stops
 use Rattle.two_worlds.specs.declared.pump.Pump.{Pump}
 use Rattle.two_worlds.specs.Pumps.{StandsFor, row_of}
 use Rattle.pump_wrapper.specs.Sending.{turn_lines, drain_lines, LedBy, Follows, Goes}
+use Rattle.pump_wrapper.specs.Halting.{Halts}
 use Rattle.pump_wrapper.specs.Wraps.{Drains}
 use Rattle.pump_wrapper.proofs.Going.{led_then}
-use Rattle.pump_wrapper.proofs.Applying.{LinesApply, lines_lead, never_line, Emptying, turn_empties, drain_more}
+use Rattle.pump_wrapper.proofs.Applying.{LinesApply, lines_lead, Emptying, turn_empties, drain_more}
+use Rattle.pump_wrapper.proofs.Halting.{turn_halts, halts}
 
 -- so many turns were made since the opening
 pub record Turned {D : Type 0} {g : _} (m : Meaning D) (t : Pump D g) (row : SessionRow) (f : Found) (n : ℕ) : Type 0 where
@@ -65,10 +66,11 @@ module _ {D : Type 0} {g : _} (m : Meaning D) (row : SessionRow) (f : Found) whe
       }
 
   pub turns_go : (u t : Pump D g) (n : ℕ) (stop : Stop) → Turned m u row f n → f.removed + n < length (accepted_in f) → n ≤ 2 ^ 32 → row_of u ≡ row → m.tells
-      → Goes m u t (turn_lines (row_of u) (2 * n)) (Err stop) → stop ≡ stops.Line → ⊥
-  turns_go u t n stop turned some small same told goes line =
+      → Goes m u t (turn_lines (row_of u) (2 * n)) (Err stop) → Halts m t (accepted_in f) (accepted_in f) stop
+  turns_go u t n stop turned some small same told goes =
       let follows = subst (λ (r : SessionRow). Follows m t r turned.past (turn_lines r (2 * n)) (Err stop)) same (goes.follows told turned.past turned.stands) in
-      never_line m t row turned.past (turn_lines row (2 * n)) _ (turn_on u n turned some small) (subst (λ (s : Stop). Follows m t row turned.past (turn_lines row (2 * n)) (Err s)) line follows)
+      let stop_at = turn_halts row turned.past (length (accepted_in f)) (f.removed + n) (2 * n) (2 * n) (accepted_in f) turned.empties (omega arith) some in
+      halts m t row turned.past (turn_lines row (2 * n)) _ (accepted_in f) (accepted_in f) (turn_on u n turned some small) stop_at stop follows
 
   -- nothing is left
   pub turned_all : (t : Pump D g) (n : ℕ) → Turned m t row f n → f.removed + n ≡ length (accepted_in f) → Drains m t row f (Ok tt)

@@ -24,14 +24,14 @@ led_then row p mid q (x ∷ xs) ys (next, printed, step, later) h = (next, print
 
 -- ---- counts ----
 
-rose_later : (a b c : ℕ) → a ≤ b → Rose b c → Rose a c
+pub rose_later : (a b c : ℕ) → a ≤ b → Rose b c → Rose a c
 rose_later a b c le rose = omega (arith, le, rose)
 
-served_later : {D : Type 0} (m : Meaning D) (least : ℕ) (old new : D) (b : Bool) → Serves m least old new b → m.count old ≤ m.count new
+pub served_later : {D : Type 0} (m : Meaning D) (least : ℕ) (old new : D) (b : Bool) → Serves m least old new b → m.count old ≤ m.count new
 served_later m least old new b (inl (same, none)) = omega (arith, ap m.count same)
 served_later m least old new b (inr a) = a.counts
 
-served_rose : {D : Type 0} (m : Meaning D) (least : ℕ) (old new : D) → Serves m least old new true → Rose (m.count old) (m.count new)
+pub served_rose : {D : Type 0} (m : Meaning D) (least : ℕ) (old new : D) → Serves m least old new true → Rose (m.count old) (m.count new)
 served_rose m least old new (inl (same, none)) = absurd (cc)
 served_rose m least old new (inr a) = a.rose refl
 
@@ -47,7 +47,7 @@ module _ {D : Type 0} {g : _} (m : Meaning D) where
   follows_stop t row p xs ys stop (before, line, later, at, is, led, stopped) =
       (before, line, later ++ ys, at, ap (λ (l : List Line). l ++ ys) is ∙ append_assoc before (line ∷ later) ys, led, stopped)
 
-  rose_before : (s u t : Pump D g) (stop : Stop) → ((role : Role) → m.count (disk_at role s) ≤ m.count (disk_at role u)) → RoseBy m u t stop → RoseBy m s t stop
+  pub rose_before : (s u t : Pump D g) (stop : Stop) → ((role : Role) → m.count (disk_at role s) ≤ m.count (disk_at role u)) → RoseBy m u t stop → RoseBy m s t stop
   rose_before s u t stops.Line le h = tt
   rose_before s u t (stops.Device role faults) le h = (h.0, rose_later _ _ _ (le role) h.1)
   rose_before s u t (stops.Full end length size) le h = tt

@@ -90,7 +90,7 @@ left_all m row p messages low high recv sound passed told (a, b, c, s) =
       hold = holds_all row (crashed w a b c) messages _ _ _ accepted removed received s;
     }
 
-state_sound : {D : Type 0} (m : Meaning D) (s : PumpState D) (p : Past) → StandsIn m s p → IsSound (disks_in s).row p
+pub state_sound : {D : Type 0} (m : Meaning D) (s : PumpState D) (p : Past) → StandsIn m s p → IsSound (disks_in s).row p
 state_sound m (Open c) p s = s.sound
 state_sound m (Shut d) p s = absurd s
 

@@ -13,20 +13,22 @@ use Rattle.script_reader.specs.Past.{Past}
 use Rattle.script_reader.proofs.LineSteps.{opened_stands, live_are, since_opening}
 use Rattle.script_reader.proofs.LookSteps.{Stands, at_rest}
 use Rattle.two_worlds.specs.declared.applied.Stop.{Stop}
-use Rattle.two_worlds.specs.declared.applied.Stop.TheVariants as stops
 use Rattle.two_worlds.specs.declared.pump.Pump.{Pump}
 use Rattle.two_worlds.specs.declared.pump.state.PumpState.{PumpState}
 use Rattle.two_worlds.specs.declared.pump.state.PumpState.TheVariants.{Open, Shut}
 use Rattle.two_worlds.specs.Pumps.{StandsFor, row_of}
 use Rattle.two_worlds.specs.States.{StandsIn}
-use Rattle.pump_wrapper.specs.Cutting.{GivesNext}
+use Rattle.pump_wrapper.specs.Cutting.{GivesNext, to_come}
 use Rattle.pump_wrapper.specs.declared.cutter.Cutter.{Cutter}
 use Rattle.pump_wrapper.specs.declared.cutter.Cut.TheVariants.{Message, Done}
 use Rattle.pump_wrapper.specs.Sending.{greeting, pause, message_lines, send_lines, LedBy, Follows, Goes}
-use Rattle.pump_wrapper.specs.Wraps.{AreToCome, Sends, all_taken}
+use Rattle.pump_wrapper.specs.Halting.{Halts}
+use Rattle.pump_wrapper.specs.Wraps.{AreFirst, AreToCome, Passes, Sends, all_taken}
 use Rattle.pump_wrapper.proofs.Compared.{passed, none_passed, one_passed}
+use Rattle.pump_wrapper.proofs.Fronts.{begins_same, begins_more}
 use Rattle.pump_wrapper.proofs.Going.{led_then}
-use Rattle.pump_wrapper.proofs.Applying.{LinesApply, lines_lead, never_line, Sent, greeting_sends, message_sends, send_more}
+use Rattle.pump_wrapper.proofs.Halting.{halts, halts_wider, greeting_only, message_halts}
+use Rattle.pump_wrapper.proofs.Applying.{LinesApply, lines_lead, Sent, greeting_sends, message_sends, send_more}
 
 -- these messages were sent since the opening, over a cutter and a source that were so then and are so now
 pub record Sending {D : Type 0} {g : _} (m : Meaning D) (t : Pump D g) (row : SessionRow) (messages : List Payload) (start now : Cutter) (left rest : Option (List ℕ)) (n : ℕ) : Type 0 where
@@ -87,6 +89,12 @@ gone more start now new (Some l) None last message taken bytes c d was gives = a
 gone more start now new (Some l) (Some r) None message taken bytes c d was gives = absurd d
 gone more start now new (Some l) (Some r) (Some s) message taken bytes c d was gives = was ∙ ap (λ (ms : List (List ℕ)). more ++ ms) gives ∙ append-nil more
 
+-- those that were passed are the first ones
+pub are_first : (more : List (List ℕ)) (start now : Cutter) (left rest : Option (List ℕ)) (taken : List ℕ) → Consumes left rest taken → passed more start now left rest → AreFirst start left more
+are_first more start now None rest taken c was = tt
+are_first more start now (Some l) None taken c was = absurd c
+are_first more start now (Some l) (Some r) taken c was = (to_come now r, was)
+
 module _ {D : Type 0} {g : _} (m : Meaning D) (row : SessionRow) (messages : List Payload) where
   pub sending_none : (u t : Pump D g) (start : Cutter) (left : Option (List ℕ)) → IsLawfulRow row → CanOpen row (all_taken messages) → StandsFor m u (first_past row (all_taken messages)) → row_of u ≡ row → m.tells
       → Goes m u t (greeting (row_of u) ∷ []) (Ok tt) → Sending m t row messages start start left left (length messages)
@@ -106,11 +114,13 @@ module _ {D : Type 0} {g : _} (m : Meaning D) (row : SessionRow) (messages : Lis
       }
 
   pub greeting_goes : (u t : Pump D g) (stop : Stop) → IsLawfulRow row → CanOpen row (all_taken messages) → StandsFor m u (first_past row (all_taken messages)) → row_of u ≡ row → m.tells
-      → Goes m u t (greeting (row_of u) ∷ []) (Err stop) → stop ≡ stops.Line → ⊥
-  greeting_goes u t stop lawful can stands same told goes line =
+      → Goes m u t (greeting (row_of u) ∷ []) (Err stop) → Halts m t messages (messages ++ []) stop
+  greeting_goes u t stop lawful can stands same told goes =
       let p = first_past row (all_taken messages) in
       let follows = subst (λ (r : SessionRow). Follows m t r p (greeting r ∷ []) (Err stop)) same (goes.follows told p stands) in
-      never_line m t row p (greeting row ∷ []) _ (greets row messages lawful can) (subst (λ (s : Stop). Follows m t row p (greeting row ∷ []) (Err s)) line follows)
+      let all = begins_same messages messages refl in
+      halts_wider m t messages messages messages (messages ++ []) stop all (begins_more messages [])
+      (halts m t row p (greeting row ∷ []) _ messages messages (greets row messages lawful can) (greeting_only row p (length messages) 0 _ messages (first_rests row messages lawful can) (append-nil messages)) stop follows)
 
   module _ (u t : Pump D g) (start old new : Cutter) (left between rest : Option (List ℕ)) (n moment : ℕ) (s : Sending m u row messages start old left between n)
       (is_moment : moment ≡ length s.more * pause row) (few : n ≤ 2 ^ 24) (small : pause row < 2 ^ 32) (message : Payload) (short : length message ≤ row.message) where
@@ -147,10 +157,27 @@ module _ {D : Type 0} {g : _} (m : Meaning D) (row : SessionRow) (messages : Lis
           cut = one_passed s.more (s.more ++ message ∷ []) message start old new left between rest taken was s.cut gives refl;
         }
 
-    pub sends_go : (stop : Stop) → row_of u ≡ row → m.tells → Goes m u t (message_lines (row_of u) n moment message) (Err stop) → stop ≡ stops.Line → ⊥
-    sends_go stop same told goes line =
+    pub sends_go : (stop : Stop) → row_of u ≡ row → m.tells → Goes m u t (message_lines (row_of u) n moment message) (Err stop)
+        → Halts m t messages (messages ++ (s.more ++ message ∷ [])) stop
+    sends_go stop same told goes =
         let follows = subst (λ (r : SessionRow). Follows m t r s.past (message_lines r n moment message) (Err stop)) same (goes.follows told s.past s.stands) in
-        never_line m t row s.past (message_lines row n moment message) _ sends (subst (λ (x : Stop). Follows m t row s.past (message_lines row n moment message) (Err x)) line follows)
+        let held = messages ++ s.more in
+        let sent = subst (λ (k : ℕ). Sent row n k held s.past) (sym is_moment) s.sent in
+        let l = late in
+        let halt = message_halts row s.past n moment moment held message sent (omega arith) short (omega (arith, few)) (omega (arith, is_moment, l)) in
+        halts_wider m t held (held ++ message ∷ []) messages (messages ++ (s.more ++ message ∷ [])) stop
+        (begins_more messages s.more) (begins_same _ _ (sym (append_assoc messages s.more (message ∷ []))))
+        (halts m t row s.past (message_lines row n moment message) _ held (held ++ message ∷ []) sends halt stop follows)
+
+  -- a read of the file failed, or it is too long
+  pub sending_part : (t : Pump D g) (start now : Cutter) (left rest : Option (List ℕ)) (n : ℕ) (taken : List ℕ) → Sending m t row messages start now left rest n → Consumes left rest taken
+      → (more : List (List ℕ)) × AreFirst start left more × Passes m t (messages ++ more)
+  sending_part t start now left rest n taken s c =
+      let size : length (messages ++ s.more) ≡ length messages + length s.more = length-append messages s.more in (
+        s.more,
+        are_first s.more start now left rest taken c s.cut,
+        (s.past, s.stands, record { accepted = s.sent.1; removed = s.sent.0.removed_is ∙ s.count ∙ sym size }),
+      )
 
   -- a receiver's disk is full before the numbers run out
   pub sending_few : (t : Pump D g) (start now : Cutter) (left rest : Option (List ℕ)) (n : ℕ) → Sending m t row messages start now left rest n → n < 2 ^ 24

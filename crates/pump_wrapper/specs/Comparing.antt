@@ -2,7 +2,7 @@
 use Rattle.std.specs.Prelude.{◌≡◌, ◌≢◌, ℕ, ◌+◌, ◌^◌, ◌<◌, List, ◌++◌, length, take, Option, None, Some, Result, Ok, Err}
 use Rattle.std.specs.Io.KnownBytes.{Consumes}
 use Rattle.pump_frame.specs.Counts.{Rose}
-use Rattle.pump_wrapper.specs.Cutting.{to_come}
+use Rattle.pump_wrapper.specs.Cutting.{to_come, bytes_in_all}
 use Rattle.pump_wrapper.specs.declared.cutter.Cutter.{Cutter}
 use Rattle.pump_wrapper.specs.declared.compare.CompareFault.{CompareFault}
 use Rattle.pump_wrapper.specs.declared.compare.CompareFault.TheVariants.{Device, Differs, Read, TooLong}
@@ -45,3 +45,15 @@ CompareCause disk disk' file file' (Err (Device faults)) = (faults ≡ disk') ×
 CompareCause disk disk' file file' (Err (Differs n)) = Unit {0}
 CompareCause disk disk' file file' (Err Read) = Rose file file'
 CompareCause disk disk' file file' (Err TooLong) = Unit {0}
+
+-- the file has as many bytes as before, where the source tells them
+abbrev pub SameBytes : Cutter → Cutter → Option (List ℕ) → Option (List ℕ) → Type 0
+SameBytes old new None rest = Unit {0}
+SameBytes old new (Some left) None = Unit {0}
+SameBytes old new (Some left) (Some rest) = bytes_in_all new rest ≡ bytes_in_all old left
+
+-- the first n messages are the first that a cutter had to give, and the first n + 1 are not, where its source tells its bytes
+abbrev pub FirstDiffer : List (List ℕ) → Cutter → Option (List ℕ) → ℕ → Type 0
+FirstDiffer messages cutter None n = Unit {0}
+FirstDiffer messages cutter (Some left) n =
+    (n < length messages) × Begins (take n messages) (to_come cutter left) × (Begins (take (n + 1) messages) (to_come cutter left) → ⊥)

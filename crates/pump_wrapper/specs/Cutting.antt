@@ -1,5 +1,6 @@
 -- A cutter, and what it has still to give.
-use Rattle.std.specs.Prelude.{◌≡◌, ◌≢◌, ℕ, ◌+◌, ◌^◌, ◌<◌, ◌≤◌, List, [], ◌∷◌, ◌++◌, length, map, Option, None, Some}
+use Rattle.std.specs.Prelude.{◌≡◌, ◌≢◌, ℕ, ◌+◌, ◌^◌, ◌<◌, ◌≤◌, Bool, true, false, List, [], ◌∷◌, ◌++◌, length, map, Option, None, Some}
+use Rattle.std.specs.Io.KnownBytes.{Consumes}
 use Rattle.pump_wrapper.specs.Wrapped.{pieces, piece_message, length_message}
 use Rattle.pump_wrapper.specs.declared.cutter.Cutter.{Cutter}
 use Rattle.pump_wrapper.specs.declared.cutter.Stage.{Stage}
@@ -58,3 +59,39 @@ pub record Takes (result : Cut) (old new : Cutter) (bytes : List ℕ) : Type 0 w
   pub long : result ≡ TooLong → old.bytes + length bytes ≡ 2 ^ 48
   pub short : result ≢ TooLong → old.bytes + length bytes < 2 ^ 48
   pub counted : result ≢ Failed → new.bytes ≡ old.bytes + length bytes
+
+-- ---- the bytes of the file ----
+
+abbrev pub stage_bytes : Stage → ℕ → List ℕ → ℕ
+stage_bytes Pieces bytes left = bytes + length left
+stage_bytes Length bytes left = bytes
+stage_bytes End bytes left = bytes
+stage_bytes Stopped bytes left = bytes
+
+-- how many bytes the file has in all, of a source with these bytes left
+abbrev pub bytes_in_all : Cutter → List ℕ → ℕ
+bytes_in_all cutter left = stage_bytes cutter.stage cutter.bytes left
+
+-- after a message that number is the same; behind the last one so many bytes were read
+abbrev pub CountsIn : Cut → Cutter → Cutter → List ℕ → List ℕ → Type 0
+CountsIn Message old new left rest = bytes_in_all new rest ≡ bytes_in_all old left
+CountsIn Done old new left rest = new.bytes ≡ bytes_in_all old left
+CountsIn Failed old new left rest = Unit {0}
+CountsIn TooLong old new left rest = Unit {0}
+
+-- .. where the source tells its bytes
+abbrev pub Counts : Cut → Cutter → Cutter → Option (List ℕ) → Option (List ℕ) → Type 0
+Counts result old new None rest = Unit {0}
+Counts result old new (Some left) None = Unit {0}
+Counts result old new (Some left) (Some rest) = CountsIn result old new left rest
+
+-- so many bytes are the file's, where the source tells them
+abbrev pub IsTotal : Cutter → Option (List ℕ) → ℕ → Type 0
+IsTotal cutter None total = Unit {0}
+IsTotal cutter (Some left) total = total ≡ bytes_in_all cutter left
+
+-- with those that it gave before, the source gave 2^48 bytes; or it gave fewer
+abbrev pub Gave : ℕ → Option (List ℕ) → Option (List ℕ) → Bool → Type 0
+Gave before left rest is_long =
+    (bytes : List ℕ) × Consumes left rest bytes
+    × (is_long ≡ true → before + length bytes ≡ 2 ^ 48) × (is_long ≡ false → before + length bytes < 2 ^ 48)

@@ -5,4 +5,6 @@ pub mod Gathers
 pub mod HeldBack
 pub mod Comparing
 pub mod Sending
+pub mod Halting
 pub mod Wraps
+pub mod WrapEnds

@@ -2,7 +2,7 @@ ghost use Rattle.std.specs.Prelude.{◌≡◌, ℕ, ◌≤◌, false, List, OnOk
 ghost use Rattle.disk_model.specs.Disk.{Moves, Same};
 ghost use Rattle.stable_buffer.specs.Log.{RecvStands};
 ghost use Rattle.high_receiver.specs.Receiving.{IsRecvReady, recv_count, recv_disk, recv_end, recv_is_open, recv_row, recv_size};
-ghost use Rattle.pump_wrapper.specs.Comparing.{Compares, CompareCause, IsDeviceStop, TakesInAll};
+ghost use Rattle.pump_wrapper.specs.Comparing.{Compares, CompareCause, IsDeviceStop, SameBytes, TakesInAll};
 ghost use Rattle.pump_wrapper.specs.Cutting.{MayCut, cut_message};
 
 use crate::{Cut, Cutter};
@@ -37,6 +37,7 @@ pub fn skip_received<D: Disk, I: Source>(
     ensures compares { D.told.tells → (messages : List (List ℕ))
         → RecvStands (recv_row receiver.old) messages (D.told.reading (recv_disk receiver.old))
         → Compares messages cutter.old cutter.new (I.left file.old) (I.left file.new) result }
+    ensures same { OnOk result (SameBytes cutter.old cutter.new (I.left file.old) (I.left file.new)) }
     ensures takes { TakesInAll cutter.old cutter.new (I.left file.old) (I.left file.new) result }
     ensures may { OnOk result (MayCut cutter.new) }
     ensures message { cut_message cutter.new ≡ cut_message cutter.old }

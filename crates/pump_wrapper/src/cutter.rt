@@ -2,7 +2,7 @@ ghost use Rattle.std.specs.Prelude.{◌≡◌, ◌≢◌, ℕ, ◌+◌, ◌<◌,
 ghost use Rattle.std.specs.Io.KnownBytes.{Consumes};
 ghost use Rattle.pump_frame.specs.Counts.{Rose};
 ghost use Rattle.pump_wrapper.specs.Wrapped.{wrapped, length_message};
-ghost use Rattle.pump_wrapper.specs.Cutting.{MayCut, IsCutting, GivesNext, Takes, to_come, cut_bytes, cut_message};
+ghost use Rattle.pump_wrapper.specs.Cutting.{MayCut, IsCutting, GivesNext, Takes, Counts, to_come, bytes_in_all, cut_bytes, cut_message};
 ghost use Rattle.pump_wrapper.specs.declared.cutter.Cut.TheVariants.{Message, Failed};
 
 use crate::fill::fill;
@@ -59,6 +59,7 @@ impl Cutter {
         ensures message { cut_message result ≡ message }
         ensures bytes { cut_bytes result ≡ 0 }
         ensures all { (file : List ℕ) → to_come result file ≡ wrapped message file }
+        ensures total { (file : List ℕ) → bytes_in_all result file ≡ length file }
     {
         Cutter {
             size: message - 1,
@@ -81,6 +82,7 @@ impl Cutter {
         ensures fits { length into.new ≤ cut_message self.old }
         ensures result { result ≡ Message }
         ensures none { (left : List ℕ) → to_come self.new left ≡ [] }
+        ensures total { (left : List ℕ) → bytes_in_all self.new left ≡ cut_bytes self.old }
         ensures may { MayCut self.new }
         ensures same { cut_message self.new ≡ cut_message self.old }
         ensures bytes { cut_bytes self.new ≡ cut_bytes self.old }
@@ -96,6 +98,7 @@ impl Cutter {
         requires pieces { IsCutting self.old }
         ensures gives { GivesNext self.old self.new (I.left file.old) (I.left file.new) into.new
             result }
+        ensures counts { Counts result self.old self.new (I.left file.old) (I.left file.new) }
         ensures takes { (bytes : List ℕ) × Consumes (I.left file.old) (I.left file.new) bytes
             × Takes result self.old self.new bytes }
         ensures fits { result ≡ Message → length into.new ≤ cut_message self.old }
@@ -132,6 +135,7 @@ impl Cutter {
         requires { MayCut self.old }
         ensures gives { GivesNext self.old self.new (I.left file.old) (I.left file.new) into.new
             result }
+        ensures counts { Counts result self.old self.new (I.left file.old) (I.left file.new) }
         ensures takes { (bytes : List ℕ) × Consumes (I.left file.old) (I.left file.new) bytes
             × Takes result self.old self.new bytes }
         ensures fits { result ≡ Message → length into.new ≤ cut_message self.old }

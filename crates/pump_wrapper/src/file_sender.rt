@@ -1,17 +1,23 @@
 //! A file is sent over a session's pump.
 
-ghost use Rattle.std.specs.Prelude.{◌≡◌, ℕ, ◌≤◌, false, List, Some, Ok, IfOk, IfErr, OnOk};
+ghost use Rattle.std.specs.Prelude.{◌≡◌, ◌⊎◌, ℕ, ◌≤◌, ◌++◌, false, List, Option, Some, Ok, Err, IfOk, IfErr, OnOk};
 ghost use Rattle.std.specs.Io.KnownBytes.{Consumes};
 ghost use Rattle.disk_model.specs.Disk.{Moves, Same};
+ghost use Rattle.disk_model.specs.declared.name.Role.{Role as DiskRole};
+ghost use Rattle.pump_frame.specs.Counts.{Rose};
 ghost use Rattle.pump_frame.specs.Rows.{IsLawfulRow};
-ghost use Rattle.script_reader.specs.Openings.{Found, first_past};
+ghost use Rattle.recovery.specs.Moves.{disk_of};
+ghost use Rattle.script_reader.specs.Openings.{Found, accepted_in, first_past};
 ghost use Rattle.script_reader.specs.Past.{Past};
 ghost use Rattle.stable_buffer.specs.Log.{RecvStands};
-ghost use Rattle.two_worlds.specs.Openings.{DisksStandFor};
-ghost use Rattle.two_worlds.specs.Pumps.{StandsFor, is_down, row_of};
-ghost use Rattle.pump_wrapper.specs.Comparing.{Compares};
-ghost use Rattle.pump_wrapper.specs.Cutting.{MayCut, cut_message};
-ghost use Rattle.pump_wrapper.specs.Wraps.{IsWhole, IsSent, IsFailure, HasAll, HasPassed};
+ghost use Rattle.two_worlds.specs.Disks.{LeaveWorld};
+ghost use Rattle.two_worlds.specs.Pumps.{StandsFor, StandsOrFails, disk_at, is_down, row_of};
+ghost use Rattle.pump_wrapper.specs.Comparing.{Begins, Compares, SameBytes};
+ghost use Rattle.pump_wrapper.specs.Cutting.{Gave, MayCut, cut_bytes, cut_message};
+ghost use Rattle.pump_wrapper.specs.Wrapped.{wrapped};
+ghost use Rattle.pump_wrapper.specs.Wraps.{AreFirst, IsWhole, IsSent, HasAll, HasPassed, end_of_comparison, end_of_opening, end_of_sending, is_too_long};
+ghost use Rattle.pump_wrapper.specs.WrapEnds.{TakesSoFar, ComparesNot, Continues, Empties, Ends, EndsEarly, EndsOn, HasDiskCause, IsNotOpened, LeavesFront, LeavesFrontBy, RefusesDisks, Stand};
+ghost use Rattle.pump_wrapper.specs.declared.file_sender.WrapEnd.TheVariants as ends;
 
 use crate::compare::{CompareFault, skip_received};
 use crate::cutter::Cutter;
@@ -54,7 +60,7 @@ pub struct Wrapped<D> {
 
 /// Why a pump was not opened.
 fn not_opened(role: Role, why: Option<Why>) -> WrapEnd
-    ensures { IsFailure result }
+    ensures { result ≡ end_of_opening role why }
 {
     match why {
         None => WrapEnd::Memory,
@@ -64,8 +70,7 @@ fn not_opened(role: Role, why: Option<Why>) -> WrapEnd
 
 /// What a comparison came to.
 fn compared(answer: Result<(), CompareFault>) -> Result<(), WrapEnd>
-    ensures all { OnOk result (answer ≡ Ok tt) }
-    ensures failed { IfErr result IsFailure }
+    ensures { result ≡ end_of_comparison answer }
 {
     match answer {
         Ok(()) => Ok(()),
@@ -81,8 +86,7 @@ fn compared(answer: Result<(), CompareFault>) -> Result<(), WrapEnd>
 
 /// What the sending came to, of so many bytes.
 fn sent_all(bytes: u64, sent: Result<u64, WrapEnd>) -> WrapEnd
-    ensures all { IfOk sent (λ messages. result ≡ WrapEnd.Done bytes messages) }
-    ensures failed { IfErr sent (λ end. result ≡ end) }
+    ensures { result ≡ end_of_sending bytes sent }
 {
     match sent {
         Ok(messages) => WrapEnd::Done { bytes, messages },
@@ -93,12 +97,13 @@ fn sent_all(bytes: u64, sent: Result<u64, WrapEnd>) -> WrapEnd
 /// A pump over the three disks.
 fn open<D: Disk>(alloc: Global, row: &SessionRow, disks: Trio<D>) -> Result<Pump<D>, Wrapped<D>>
     requires lawful { IsLawfulRow row.now }
-    ensures opens { IfOk result (λ pump. D.told.tells → (f : Found) × DisksStandFor D.told row.now disks.low disks.high disks.recv f) }
-    ensures stands { IfOk result (λ pump. D.told.tells → (f : Found) → DisksStandFor D.told row.now disks.low disks.high disks.recv f
+    ensures opens { IfOk result (λ pump. D.told.tells → (f : Found) × Stand D.told row.now disks f) }
+    ensures stands { IfOk result (λ pump. D.told.tells → (f : Found) → Stand D.told row.now disks f
         → StandsFor D.told pump (first_past row.now f)) }
+    ensures counts { IfOk result (λ pump. (role : DiskRole) → D.told.count (disk_of disks role) ≤ D.told.count (disk_at role pump)) }
     ensures row { IfOk result (λ pump. row_of pump ≡ row.now) }
     ensures up { IfOk result (λ pump. is_down pump ≡ false) }
-    ensures failed { IfErr result (λ answer. IsFailure answer.end) }
+    ensures not { IfErr result (λ answer. EndsEarly D.told row.now disks answer.end answer.disks) }
 {
     let Trio { low, high, recv } = disks;
     match Pump::open(alloc, row, low, high, recv) {
@@ -118,6 +123,8 @@ fn open<D: Disk>(alloc: Global, row: &SessionRow, disks: Trio<D>) -> Result<Pump
 fn close<D: Disk>(pump: Pump<D>) -> Trio<D>
     ensures all { D.told.tells → (messages : List (List ℕ)) → (q : Past) → StandsFor D.told pump q → HasPassed messages q.world
         → HasAll D.told (row_of pump) messages result }
+    ensures left { (q : Past) → StandsOrFails D.told pump q → LeaveWorld D.told (row_of pump) q.world result.low result.high result.recv }
+    ensures disks { (role : DiskRole) → disk_of result role ≡ disk_at role pump }
 {
     let (low, high, recv) = pump.close();
     Trio { low, high, recv }
@@ -126,8 +133,8 @@ fn close<D: Disk>(pump: Pump<D>) -> Trio<D>
 /// The pump is opened and emptied.
 fn empty<D: Disk>(alloc: Global, row: &SessionRow, disks: Trio<D>) -> Result<Trio<D>, Wrapped<D>>
     requires lawful { IsLawfulRow row.now }
-    ensures emptied { IfOk result (λ left. D.told.tells → (messages : List (List ℕ)) × HasAll D.told row.now messages left) }
-    ensures failed { IfErr result (λ answer. IsFailure answer.end) }
+    ensures empties { IfOk result (λ left. Empties D.told row.now disks left) }
+    ensures not { IfErr result (λ answer. EndsEarly D.told row.now disks answer.end answer.disks) }
 {
     let mut pump = open(alloc, row, disks)?;
     let drained = drain(&mut pump);
@@ -152,11 +159,15 @@ fn compare<D: Disk, I: Source>(
     requires may { MayCut cutter.old }
     ensures compares { OnOk result.1 (D.told.tells → (messages : List (List ℕ)) → RecvStands row.now messages (D.told.reading recv)
         → Compares messages cutter.old cutter.new (I.left file.old) (I.left file.new) (Ok tt)) }
-    ensures takes { (bytes : List ℕ) × Consumes (I.left file.old) (I.left file.new) bytes }
+    ensures not { IfErr result.1 (λ end. ComparesNot D.told row.now recv result.0 cutter.old (I.left file.old) end) }
+    ensures bytes { OnOk result.1 (SameBytes cutter.old cutter.new (I.left file.old) (I.left file.new)) }
+    ensures takes { TakesSoFar cutter.old cutter.new (I.left file.old) (I.left file.new) result.1 }
+    ensures read { result.1 ≡ Err ends.Read → Rose (I.faults file.old) (I.faults file.new) }
+    ensures later { I.faults file.old ≤ I.faults file.new }
     ensures may { OnOk result.1 (MayCut cutter.new) }
     ensures message { cut_message cutter.new ≡ cut_message cutter.old }
     ensures same { Moves D.told Same recv result.0 }
-    ensures failed { IfErr result.1 IsFailure }
+    ensures counts { D.told.count recv ≤ D.told.count result.0 }
 {
     let mut receiver = match open_receiver(recv, row, RECEIVER_SIZE) {
         Ok(receiver) => receiver,
@@ -187,6 +198,16 @@ fn send_further<D: Disk, I: Source>(
     requires message { cut_message cutter.old ≡ row.now.message }
     ensures sent { D.told.tells → (messages : List (List ℕ)) → HasAll D.told row.now messages disks
         → IsSent D.told row.now messages cutter.old (I.left file.old) result.end result.disks }
+    ensures ends { D.told.tells → (messages : List (List ℕ)) → HasAll D.told row.now messages disks
+        → (whole : Option (List ℕ)) → Continues row.now whole messages cutter.old (I.left file.old)
+        → EndsOn D.told row.now whole messages result.end result.disks }
+    ensures images { D.told.tells_images → (messages : List (List ℕ)) → HasAll D.told row.now messages disks
+        → LeavesFront D.told row.now messages disks.recv
+        → (all : List (List ℕ)) → Begins messages all → ((more : List (List ℕ)) → AreFirst cutter.old (I.left file.old) more → Begins (messages ++ more) all)
+        → LeavesFront D.told row.now all result.disks.recv }
+    ensures cause { HasDiskCause D.told disks result.disks result.end }
+    ensures gave { Gave (cut_bytes cutter.old) (I.left file.old) (I.left file.new) (is_too_long result.end) }
+    ensures read { result.end ≡ ends.Read → Rose (I.faults file.old) (I.faults file.new) }
 {
     let mut pump = match open(alloc, row, disks) {
         Ok(pump) => pump,
@@ -203,6 +224,10 @@ fn send_further<D: Disk, I: Source>(
 /// the receiver first; then the receiver's messages must be the first ones of the file, and each further
 /// one is stored, passed on, taken and acknowledged before the next one comes. A file that was sent in
 /// part goes on where it was. It takes no memory but what the pump is opened with.
+///
+/// However it ends, disks that stood for a session stand for one again, unless an empty one could not be
+/// formatted. No message is lost, and where one was added, all are the first messages of the file. That
+/// holds of the receiver's list in whatever a crash then leaves, too.
 pub fn wrap<D: Disk, I: Source>(
     alloc: Global,
     row: &SessionRow,
@@ -212,7 +237,19 @@ pub fn wrap<D: Disk, I: Source>(
     requires lawful { IsLawfulRow row.now }
     requires least { 9 ≤ row.now.message }
     ensures whole { D.told.tells → (bytes : List ℕ) → I.left file.old ≡ Some bytes → IsWhole D.told row.now bytes result.end result.disks }
+    ensures ends { D.told.tells → (f : Found) → Stand D.told row.now disks f
+        → Ends D.told row.now (I.left file.old) (accepted_in f) disks result.end result.disks }
+    ensures opened { D.told.tells → IsNotOpened result.end ⊎ ((f : Found) × Stand D.told row.now disks f) }
+    ensures refused { RefusesDisks D.told row.now disks result.end result.disks }
+    ensures images { D.told.tells_images → (f : Found) → Stand D.told row.now disks f → (bytes : List ℕ) → I.left file.old ≡ Some bytes
+        → Begins (accepted_in f) (wrapped row.now.message bytes)
+        → LeavesFrontBy D.told row.now disks result.end result.disks (wrapped row.now.message bytes) }
+    ensures gave { Gave 0 (I.left file.old) (I.left file.new) (is_too_long result.end) }
+    ensures cause { HasDiskCause D.told disks result.disks result.end }
+    ensures read { result.end ≡ ends.Read → Rose (I.faults file.old) (I.faults file.new) }
 {
+    // It is read so that it is known to be in the range of its type.
+    let _id = row.id;
     let emptied = match empty(alloc, row, disks) {
         Ok(disks) => disks,
         Err(failed) => return failed,

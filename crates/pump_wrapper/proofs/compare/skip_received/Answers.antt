@@ -5,7 +5,7 @@ use Rattle.std.proofs.lemmas.Slice.Eq.{bytes_eq-Decides}
 use Rattle.disk_model.specs.Disk.{Same}
 use Rattle.disk_model.proofs.Run.{goes_on_same}
 use Rattle.pump_wrapper.specs.declared.compare.CompareFault.TheVariants.{Differs, Read}
-use Rattle.pump_wrapper.proofs.Compared.{passed, one_passed, ends_before, differs_there, takes_stopped, takes_long, takes_on}
+use Rattle.pump_wrapper.proofs.Compared.{passed, one_passed, one_counted, ends_before, differs_there, takes_stopped, takes_long, takes_on}
 use Rattle.pump_wrapper.proofs.Takings.{stands_on, count_is, next_message}
 use Rattle.pump_wrapper.proofs.compare.skip_received.Goals as goal
 
@@ -87,6 +87,7 @@ loop-number-preserved g c =
           let lt : n < length messages = omega (arith, c.loop-number-test.true, c.count-number-end.ensures, kept.count, count_is m c.loop-number.receiver messages kept.ready told on) in
           let more = next_message messages n c.at.new.into c.next.new.into lt (e.message told messages on) (sym same) in
           one_passed (take n messages) (take (n + 1) messages) c.next.new.into c.args.cutter.now c.loop-number.cutter c.next.new.self _ _ _ kept.bytes.0 kept.bytes.1 (kept.passed told messages stands) next.gives more;
+      same = one_counted c.args.cutter.now c.loop-number.cutter c.next.new.self _ _ _ kept.bytes.0 kept.bytes.1 kept.same next.counts;
       bytes = takes_on c.args.cutter.now c.loop-number.cutter c.next.new.self _ _ _ kept.bytes.0 t.0 _ kept.bytes.1 kept.bytes.2 t.1 t.2 (λ e. cc);
     }
 

@@ -4,12 +4,14 @@ use Rattle.script_reader.specs.Openings.{accepted_in}
 use Rattle.script_reader.proofs.Opened.{row_capacity}
 use Rattle.two_worlds.specs.Pumps.{row_of}
 use Rattle.pump_wrapper.proofs.Drained.{turned_none, turned_more, turned_all, turns_go, turns_few, counts_tell}
+use Rattle.pump_wrapper.proofs.Going.{rose_before}
 use Rattle.pump_wrapper.proofs.drain.drain.Goals as goal
 
 pub loop-number-init : goal.loop-number-init
 loop-number-init g c = record {
   up = c.requires.up;
   row = refl;
+  later = λ role. omega arith;
   turned = λ told f lawful can stands. turned_none g.D.Disk.told (row_of c.args.pump.now) f c.args.pump.now lawful can stands;
 }
 
@@ -24,6 +26,7 @@ loop-number-preserved g c =
     record {
       up = e.up;
       row = e.goes.row ∙ kept.row;
+      later = λ role. (let one = kept.later role in let other = e.goes.later role in omega (arith, one, other));
       turned = λ told f lawful can stands.
           let turned = kept.turned told f lawful can stands in
           let counts = c.counts-accepted.ensures.stands in
@@ -35,7 +38,7 @@ loop-number-preserved g c =
     }
 
 pub returns-in-Err-clause-drains : goal.returns-in-Err-clause-drains
-returns-in-Err-clause-drains g c = λ told f lawful can stands line.
+returns-in-Err-clause-drains g c = λ told f lawful can stands.
     let m = g.D.Disk.told in
     let row = row_of c.args.pump.now in
     let u = c.loop-number.pump in
@@ -47,7 +50,7 @@ returns-in-Err-clause-drains g c = λ told f lawful can stands line.
     let some : f.removed + n < length (accepted_in f) = (let few = turned.few in let test = c.if-accepted-removed.false in omega (arith, few, test, accepted, removed)) in
     let capacity = c.from-capacity.ensures ∙ ap (λ (r : SessionRow). r.capacity) c.row.ensures in
     let small : n ≤ 2 ^ 32 = (let test = c.loop-number-test.true in let most = (row_capacity row lawful).1 in omega (arith, test, capacity, most)) in
-    turns_go m row f u c.turn.new.pump n c.in-Err.stop turned some small kept.row told c.in-Err.ensures.goes line
+    turns_go m row f u c.turn.new.pump n c.in-Err.stop turned some small kept.row told c.in-Err.ensures.goes
 
 pub returns-clause-drains : goal.returns-clause-drains
 returns-clause-drains g c = λ told f lawful can stands.
@@ -59,3 +62,13 @@ returns-clause-drains g c = λ told f lawful can stands.
     let capacity = c.from-capacity.ensures ∙ ap (λ (r : SessionRow). r.capacity) c.row.ensures in
     let most : row.capacity ≤ n = (let test = c.loop-number-test.false in omega (arith, test, capacity)) in
     turned_all m row f t n turned (turns_few m row f t n turned can most)
+
+pub returns-in-Err-clause-counts : goal.returns-in-Err-clause-counts
+returns-in-Err-clause-counts g c = λ role.
+    let one = c.loop-number.invariant.later role in
+    let other = c.in-Err.ensures.goes.later role in
+    omega (arith, one, other)
+
+pub returns-in-Err-clause-rose : goal.returns-in-Err-clause-rose
+returns-in-Err-clause-rose g c =
+    rose_before g.D.Disk.told c.args.pump.now c.loop-number.pump c.turn.new.pump c.in-Err.stop c.loop-number.invariant.later c.in-Err.ensures.goes.rose

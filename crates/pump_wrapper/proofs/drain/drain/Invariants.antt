@@ -1,7 +1,8 @@
-use Rattle.std.proofs.Common.{◌≡◌, false}
+use Rattle.std.proofs.Common.{◌≡◌, ◌≤◌, false}
+use Rattle.disk_model.specs.declared.name.Role.{Role}
 use Rattle.pump_frame.specs.Rows.{IsLawfulRow}
 use Rattle.script_reader.specs.Openings.{Found, CanOpen, first_past}
-use Rattle.two_worlds.specs.Pumps.{StandsFor, is_down, row_of}
+use Rattle.two_worlds.specs.Pumps.{StandsFor, disk_at, is_down, row_of}
 use Rattle.pump_wrapper.proofs.Drained.{Turned}
 use Rattle.pump_wrapper.proofs.drain.drain.Given as goal
 
@@ -12,5 +13,6 @@ invariant-loop-number g l =
     record {
       up : is_down l.pump ≡ false;
       row : row_of l.pump ≡ r;
+      later : (role : Role) → m.count (disk_at role l.fn.pump) ≤ m.count (disk_at role l.pump);
       turned : m.tells → (f : Found) → IsLawfulRow r → CanOpen r f → StandsFor m l.fn.pump (first_past r f) → Turned m l.pump r f l.number;
     }

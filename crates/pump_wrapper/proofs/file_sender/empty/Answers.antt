@@ -1,20 +1,44 @@
-use Rattle.std.proofs.Common.{◌∙◌, sym, subst}
+use Rattle.std.proofs.Common.{◌∙◌, Ok, Err, sym, subst}
 use Rattle.pump_frame.specs.Rows.{IsLawfulRow}
 use Rattle.pump_frame.specs.declared.row.SessionRow.{SessionRow}
-use Rattle.script_reader.specs.Openings.{CanOpen, accepted_in, first_past}
+use Rattle.script_reader.specs.Openings.{CanOpen, first_past}
+use Rattle.two_worlds.specs.Disks.{LeaveWorld}
 use Rattle.two_worlds.specs.Pumps.{StandsFor}
-use Rattle.pump_wrapper.specs.Wraps.{HasAll}
+use Rattle.pump_wrapper.specs.Wraps.{Drains, HasAll}
+use Rattle.pump_wrapper.proofs.Emptied.{empties, stops_early}
 use Rattle.pump_wrapper.proofs.file_sender.empty.Goals as goal
 
-pub returns-in-Ok-clause-emptied : goal.returns-in-Ok-clause-emptied
-returns-in-Ok-clause-emptied g c = λ told.
+pub returns-in-Ok-clause-empties : goal.returns-in-Ok-clause-empties
+returns-in-Ok-clause-empties g c =
     let m = g.D.Disk.told in
+    let row = c.args.row.now in
     let opened = c.in_ok-pump.ensures in
+    let s = c.in_ok-pump.pump in
     let drained = c.in-Ok.ensures in
-    let (f, found) = opened.opens told in
-    let (q, led, stands, passed) = drained.drains told f
+    let closed = c.close-disks.ensures in
+    let same = drained.row ∙ opened.row in
+    empties m row c.args.disks c.close-disks.result s c.drain-drained.new.pump opened.opens opened.counts drained.counts closed.disks
+    (λ told messages q stands passed. subst (λ (r : SessionRow). HasAll m r messages c.close-disks.result) same (closed.all told messages q stands passed))
+    (λ q stands. subst (λ (r : SessionRow). LeaveWorld m r q.world c.close-disks.result.low c.close-disks.result.high c.close-disks.result.recv) same (closed.left q stands))
+    (λ told f found. subst (λ (r : SessionRow). Drains m c.drain-drained.new.pump r f (Ok tt)) opened.row (drained.drains told f
     (subst IsLawfulRow (sym opened.row) c.requires.lawful)
     (subst (λ (r : SessionRow). CanOpen r f) (sym opened.row) found.can_open)
-    (subst (λ (r : SessionRow). StandsFor m c.in_ok-pump.pump (first_past r f)) (sym opened.row) (opened.stands told f found)) in
-    let has = c.close-disks.ensures.all told (accepted_in f) q stands passed in
-    (accepted_in f, subst (λ (r : SessionRow). HasAll m r (accepted_in f) c.close-disks.result) (drained.row ∙ opened.row) has)
+    (subst (λ (r : SessionRow). StandsFor m s (first_past r f)) (sym opened.row) (opened.stands told f found))))
+
+pub returns-in-Err-clause-not : goal.returns-in-Err-clause-not
+returns-in-Err-clause-not g c =
+    let m = g.D.Disk.told in
+    let row = c.args.row.now in
+    let opened = c.in_ok-pump.ensures in
+    let s = c.in_ok-pump.pump in
+    let drained = c.in-Err.ensures in
+    let closed = c.close-disks.ensures in
+    let same = drained.row ∙ opened.row in
+    stops_early m row c.args.disks c.close-disks.result s c.drain-drained.new.pump opened.opens opened.counts drained.counts closed.disks
+    (λ told messages q stands passed. subst (λ (r : SessionRow). HasAll m r messages c.close-disks.result) same (closed.all told messages q stands passed))
+    (λ q stands. subst (λ (r : SessionRow). LeaveWorld m r q.world c.close-disks.result.low c.close-disks.result.high c.close-disks.result.recv) same (closed.left q stands))
+    c.in-Err.stop drained.rose
+    (λ told f found. subst (λ (r : SessionRow). Drains m c.drain-drained.new.pump r f (Err c.in-Err.stop)) opened.row (drained.drains told f
+    (subst IsLawfulRow (sym opened.row) c.requires.lawful)
+    (subst (λ (r : SessionRow). CanOpen r f) (sym opened.row) found.can_open)
+    (subst (λ (r : SessionRow). StandsFor m s (first_past r f)) (sym opened.row) (opened.stands told f found))))

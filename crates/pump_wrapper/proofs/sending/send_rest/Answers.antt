@@ -1,11 +1,12 @@
-use Rattle.std.proofs.Common.{◌≡◌, ℕ, ◌<◌, ◌≤◌, ◌^◌, [], length, refl, sym, ap, ◌∙◌, subst, arith, append-nil}
+use Rattle.std.proofs.Common.{◌≡◌, ℕ, ◌<◌, ◌≤◌, ◌^◌, [], ◌∷◌, ◌++◌, length, refl, sym, ap, ◌∙◌, subst, arith, append-nil}
 use Rattle.std.proofs.KnownBytes.{Consumes-nil, Consumes-trans}
 use Rattle.script_reader.specs.Openings.{first_past}
-use Rattle.two_worlds.specs.declared.applied.Stop.TheVariants as stops
 use Rattle.two_worlds.specs.Pumps.{row_of}
 use Rattle.pump_wrapper.specs.Sending.{pause}
 use Rattle.pump_wrapper.specs.Wraps.{all_taken}
-use Rattle.pump_wrapper.proofs.Sent.{Sending, sending_none, greeting_goes, sending_more, sends_go, sending_few, sending_all, moment_of}
+use Rattle.pump_wrapper.proofs.Compared.{none_passed, one_passed, none_counted, one_counted, takes_on, gave_few, gave_all, total_is}
+use Rattle.pump_wrapper.proofs.Going.{rose_before}
+use Rattle.pump_wrapper.proofs.Sent.{Sending, are_first, sending_part, sending_none, greeting_goes, sending_more, sends_go, sending_few, sending_all, moment_of}
 use Rattle.pump_wrapper.proofs.sending.send_rest.Goals as goal
 
 pub loop-number-init : goal.loop-number-init
@@ -21,7 +22,10 @@ loop-number-init g c =
       may = c.requires.may;
       message = c.requires.message;
       from = omega arith;
-      taken = ([], Consumes-nil left);
+      taken = ([], Consumes-nil left, omega arith);
+      same = none_counted start left;
+      reads = omega arith;
+      counts = e.goes.later;
       sending = λ told messages lawful can stands.
           let count : c.counts-first.result.0 ≡ length messages =
           ap (λ (x : ℕ × ℕ × ℕ). x.0) (c.counts-first.ensures.stands (first_past row (all_taken messages)) stands) ∙ ap length (append-nil messages) in
@@ -30,9 +34,70 @@ loop-number-init g c =
     }
 
 pub returns-in-Err-clause-sends : goal.returns-in-Err-clause-sends
-returns-in-Err-clause-sends g c = λ told messages lawful can stands line.
-    let same : c.in-Err.stop ≡ stops.Line = cc line in
-    greeting_goes g.D.Disk.told (row_of c.args.pump.now) messages c.args.pump.now c.greet.new.pump c.in-Err.stop lawful can stands refl told c.in-Err.ensures.goes same
+returns-in-Err-clause-sends g c = λ told messages lawful can stands. (
+  [],
+  are_first [] c.args.cutter.now c.args.cutter.now (g.I.Source.left c.args.file.now) (g.I.Source.left c.args.file.now) [] (Consumes-nil (g.I.Source.left c.args.file.now)) (none_passed c.args.cutter.now (g.I.Source.left c.args.file.now)),
+  greeting_goes g.D.Disk.told (row_of c.args.pump.now) messages c.args.pump.now c.greet.new.pump c.in-Err.stop lawful can stands refl told c.in-Err.ensures.goes,
+)
+
+pub returns-in-Err-clause-gave : goal.returns-in-Err-clause-gave
+returns-in-Err-clause-gave g c = (let few = c.requires.may.few in ([], Consumes-nil (g.I.Source.left c.args.file.now), (λ e. absurd (cc)), λ e. omega (arith, few)))
+
+pub returns-in-Failed-clause-sends : goal.returns-in-Failed-clause-sends
+returns-in-Failed-clause-sends g c = λ told messages lawful can stands.
+    let kept = c.loop-number.invariant in
+    sending_part g.D.Disk.told (row_of c.args.pump.now) messages c.loop-number.pump c.args.cutter.now c.loop-number.cutter _ _ c.loop-number.number kept.taken.0 (kept.sending told messages lawful can stands) kept.taken.1
+
+pub returns-in-TooLong-clause-sends : goal.returns-in-TooLong-clause-sends
+returns-in-TooLong-clause-sends g c = λ told messages lawful can stands.
+    let kept = c.loop-number.invariant in
+    sending_part g.D.Disk.told (row_of c.args.pump.now) messages c.loop-number.pump c.args.cutter.now c.loop-number.cutter _ _ c.loop-number.number kept.taken.0 (kept.sending told messages lawful can stands) kept.taken.1
+
+pub returns-in-Failed-clause-gave : goal.returns-in-Failed-clause-gave
+returns-in-Failed-clause-gave g c =
+    let kept = c.loop-number.invariant in
+    let t = c.in-Failed.ensures.takes in
+    gave_few c.args.cutter.now c.loop-number.cutter c.next.new.self _ _ _ kept.taken.0 t.0 _ kept.taken.1 kept.taken.2 t.1 t.2 (λ e. cc)
+
+pub returns-in-Done-clause-gave : goal.returns-in-Done-clause-gave
+returns-in-Done-clause-gave g c =
+    let kept = c.loop-number.invariant in
+    let t = c.in-Done.ensures.takes in
+    gave_few c.args.cutter.now c.loop-number.cutter c.next.new.self _ _ _ kept.taken.0 t.0 _ kept.taken.1 kept.taken.2 t.1 t.2 (λ e. cc)
+
+pub returns-in-TooLong-clause-gave : goal.returns-in-TooLong-clause-gave
+returns-in-TooLong-clause-gave g c =
+    let kept = c.loop-number.invariant in
+    let t = c.in-TooLong.ensures.takes in
+    gave_all c.args.cutter.now c.loop-number.cutter c.next.new.self _ _ _ kept.taken.0 t.0 _ kept.taken.1 kept.taken.2 t.1 t.2 refl
+
+pub returns-in-Err-send-clause-gave : goal.returns-in-Err-send-clause-gave
+returns-in-Err-send-clause-gave g c =
+    let kept = c.loop-number.invariant in
+    let t = c.in-Message.ensures.takes in
+    gave_few c.args.cutter.now c.loop-number.cutter c.next.new.self _ _ _ kept.taken.0 t.0 _ kept.taken.1 kept.taken.2 t.1 t.2 (λ e. cc)
+
+pub returns-clause-gave : goal.returns-clause-gave
+returns-clause-gave g c =
+    let kept = c.loop-number.invariant in
+    let few = kept.may.few in
+    let count = kept.taken.2 in
+    (kept.taken.0, kept.taken.1, (λ e. absurd (cc)), λ e. omega (arith, few, count))
+
+pub returns-in-Done-clause-total : goal.returns-in-Done-clause-total
+returns-in-Done-clause-total g c =
+    let kept = c.loop-number.invariant in
+    total_is c.args.cutter.now c.loop-number.cutter c.next.new.self _ _ _ kept.taken.0 c.in-Done.ensures.takes.0 kept.taken.1 c.in-Done.ensures.takes.1 kept.same c.in-Done.ensures.counts
+
+pub returns-in-Failed-clause-read : goal.returns-in-Failed-clause-read
+returns-in-Failed-clause-read g c = λ e. (let rose = c.in-Failed.ensures.failed refl in let before = c.loop-number.invariant.reads in omega (arith, rose, before))
+
+pub returns-in-Err-send-clause-counts : goal.returns-in-Err-send-clause-counts
+returns-in-Err-send-clause-counts g c = λ role. (let one = c.loop-number.invariant.counts role in let other = c.in-Err-send.ensures.goes.later role in omega (arith, one, other))
+
+pub returns-in-Err-send-clause-cause : goal.returns-in-Err-send-clause-cause
+returns-in-Err-send-clause-cause g c =
+    rose_before g.D.Disk.told c.args.pump.now c.loop-number.pump c.send.new.pump c.in-Err-send.stop c.loop-number.invariant.counts c.in-Err-send.ensures.goes.rose
 
 pub returns-in-Done-clause-sends : goal.returns-in-Done-clause-sends
 returns-in-Done-clause-sends g c = λ told messages lawful can stands.
@@ -42,21 +107,26 @@ returns-in-Done-clause-sends g c = λ told messages lawful can stands.
     sending_all g.D.Disk.told (row_of c.args.pump.now) messages c.loop-number.pump c.args.cutter.now c.loop-number.cutter c.next.new.self _ _ _ c.loop-number.number _ _ _ sending kept.taken.1 e.takes.1 e.gives
 
 pub returns-in-Err-send-clause-sends : goal.returns-in-Err-send-clause-sends
-returns-in-Err-send-clause-sends g c = λ told messages lawful can stands line.
+returns-in-Err-send-clause-sends g c = λ told messages lawful can stands.
     let m = g.D.Disk.told in
     let row = row_of c.args.pump.now in
     let kept = c.loop-number.invariant in
     let sending = kept.sending told messages lawful can stands in
     let e = c.in-Message.ensures in
-    let same : c.in-Err-send.stop ≡ stops.Line = cc line in
     let first : c.counts-first.result.0 ≡ length messages =
     ap (λ (x : ℕ × ℕ × ℕ). x.0) (c.counts-first.ensures.stands (first_past row (all_taken messages)) stands) ∙ ap length (append-nil messages) in
     let pauses : c.pause-pause.result ≡ pause row = c.pause-pause.ensures.value ∙ ap pause c.row.ensures in
     let small : pause row < 2 ^ 32 = (let short = c.pause-pause.ensures.short in omega (arith, short, pauses)) in
     let few : c.loop-number.number ≤ 2 ^ 24 = (let test = c.loop-number-test.true in omega (arith, test)) in
     let fits : length c.next.new.into ≤ row.message = (let short = e.fits refl in let size = kept.message in omega (arith, short, size)) in
-    sends_go m row messages c.loop-number.pump c.send.new.pump c.args.cutter.now c.loop-number.cutter c.next.new.self (g.I.Source.left c.args.file.now) (g.I.Source.left c.loop-number.file) (g.I.Source.left c.next.new.file) c.loop-number.number _ sending
-    (moment_of c.loop-number.number _ _ _ _ _ sending.count first pauses) few small c.next.new.into fits c.in-Err-send.stop kept.row told c.in-Err-send.ensures.goes same
+    let cut = one_passed sending.more (sending.more ++ c.next.new.into ∷ []) c.next.new.into c.args.cutter.now c.loop-number.cutter c.next.new.self (g.I.Source.left c.args.file.now) (g.I.Source.left c.loop-number.file) (g.I.Source.left c.next.new.file)
+    kept.taken.0 kept.taken.1 sending.cut e.gives refl in
+    let all = Consumes-trans _ _ _ _ _ kept.taken.1 e.takes.1 in (
+      sending.more ++ c.next.new.into ∷ [],
+      are_first (sending.more ++ c.next.new.into ∷ []) c.args.cutter.now c.next.new.self (g.I.Source.left c.args.file.now) (g.I.Source.left c.next.new.file) _ all cut,
+      sends_go m row messages c.loop-number.pump c.send.new.pump c.args.cutter.now c.loop-number.cutter c.next.new.self (g.I.Source.left c.args.file.now) (g.I.Source.left c.loop-number.file) (g.I.Source.left c.next.new.file) c.loop-number.number _ sending
+          (moment_of c.loop-number.number _ _ _ _ _ sending.count first pauses) few small c.next.new.into fits c.in-Err-send.stop kept.row told c.in-Err-send.ensures.goes,
+    )
 
 pub loop-number-preserved : goal.loop-number-preserved
 loop-number-preserved g c =
@@ -71,7 +141,10 @@ loop-number-preserved g c =
       may = e.may refl;
       message = e.same ∙ kept.message;
       from = (let from = kept.from in omega (arith, from));
-      taken = (_, Consumes-trans _ _ _ _ _ kept.taken.1 e.takes.1);
+      taken = takes_on c.args.cutter.now c.loop-number.cutter c.next.new.self _ _ _ kept.taken.0 e.takes.0 _ kept.taken.1 kept.taken.2 e.takes.1 e.takes.2 (λ e. cc);
+      same = one_counted c.args.cutter.now c.loop-number.cutter c.next.new.self _ _ _ kept.taken.0 kept.taken.1 kept.same e.counts;
+      reads = (let before = kept.reads in let after = e.later in omega (arith, before, after));
+      counts = λ role. (let one = kept.counts role in let other = s.goes.later role in omega (arith, one, other));
       sending = λ told messages lawful can stands.
           let sending = kept.sending told messages lawful can stands in
           let first : c.counts-first.result.0 ≡ length messages =
@@ -85,8 +158,8 @@ loop-number-preserved g c =
     }
 
 pub returns-clause-sends : goal.returns-clause-sends
-returns-clause-sends g c = λ told messages lawful can stands same.
+returns-clause-sends g c = λ told messages lawful can stands.
     let kept = c.loop-number.invariant in
     let test = c.loop-number-test.false in
     let few = sending_few g.D.Disk.told (row_of c.args.pump.now) messages c.loop-number.pump c.args.cutter.now c.loop-number.cutter _ _ c.loop-number.number (kept.sending told messages lawful can stands) in
-    omega (arith, few, test)
+    absurd (omega (arith, few, test))

@@ -1,8 +1,10 @@
-use Rattle.std.proofs.Common.{◌≡◌, ℕ, ◌≤◌, List, false}
+use Rattle.std.proofs.Common.{◌≡◌, ℕ, ◌+◌, ◌≤◌, List, length, false}
+use Rattle.disk_model.specs.declared.name.Role.{Role}
 use Rattle.std.specs.Io.KnownBytes.{Consumes}
 use Rattle.pump_frame.specs.Rows.{IsLawfulRow}
 use Rattle.script_reader.specs.Openings.{CanOpen, first_past}
-use Rattle.two_worlds.specs.Pumps.{StandsFor, is_down, row_of}
+use Rattle.two_worlds.specs.Pumps.{StandsFor, disk_at, is_down, row_of}
+use Rattle.pump_wrapper.specs.Comparing.{SameBytes}
 use Rattle.pump_wrapper.specs.Cutting.{MayCut, cut_message}
 use Rattle.pump_wrapper.specs.Wraps.{all_taken}
 use Rattle.pump_wrapper.proofs.Sent.{Sending}
@@ -18,7 +20,10 @@ invariant-loop-number g l =
       may : MayCut l.cutter;
       message : cut_message l.cutter ≡ r.message;
       from : l.first ≤ l.number;
-      taken : (bytes : List ℕ) × Consumes (g.I.Source.left l.fn.file) (g.I.Source.left l.file) bytes;
+      taken : (bytes : List ℕ) × Consumes (g.I.Source.left l.fn.file) (g.I.Source.left l.file) bytes × (l.cutter.bytes ≡ l.fn.cutter.bytes + length bytes);
+      same : SameBytes l.fn.cutter l.cutter (g.I.Source.left l.fn.file) (g.I.Source.left l.file);
+      reads : g.I.Source.faults l.fn.file ≤ g.I.Source.faults l.file;
+      counts : (role : Role) → m.count (disk_at role l.fn.pump) ≤ m.count (disk_at role l.pump);
       sending : m.tells → (messages : List (List ℕ)) → IsLawfulRow r → CanOpen r (all_taken messages) → StandsFor m l.fn.pump (first_past r (all_taken messages))
           → Sending m l.pump r messages l.fn.cutter l.cutter (g.I.Source.left l.fn.file) (g.I.Source.left l.file) l.number;
     }

@@ -1,0 +1,33 @@
+use Rattle.std.proofs.Common.{inr, sym, ◌∙◌, subst}
+use Rattle.script_replay.proofs.Shelving.{rose_more}
+use Rattle.commands.specs.Wrapping.{IsSendStatus, send_status}
+use Rattle.commands.specs.declared.wrap.SendEnd.{SendEnd}
+use Rattle.commands.proofs.Formatted.{rises_so}
+use Rattle.commands.proofs.Wrapped.{device_rose, leaves, wrap_status}
+use Rattle.commands.proofs.wrap.wrap_disks.Goals as goal
+
+pub returns-clause-wraps : goal.returns-clause-wraps
+returns-clause-wraps g c = λ told tells.
+    let t = c.in-Ok.ensures in
+    let w = c.wrap-wrapped.ensures in
+    let d = c.in-Ok.disks in
+    inr (
+      c.wrap-wrapped.result.end,
+      c.end_of_wrap.ensures,
+      leaves g.S.Disk.Disk.told tells (g.S.Shelf.told.disk c.args.shelf.now) (g.S.Shelf.told.disk c.take_disks.new.shelf) (g.S.Shelf.told.disk c.put_disks_back.new.shelf) c.args.row.now
+          (record { low = d.low; high = d.high; recv = d.recv }) c.wrap-wrapped.result.disks c.take_disks.ensures.others c.put_disks_back.ensures.others (t.low told) (t.high told) (t.recv told)
+          (c.put_disks_back.ensures.back told) (g.I.Source.left c.args.file.now) c.wrap-wrapped.result.end (w.whole tells) (w.ends tells) (w.opened tells) w.refused,
+    )
+
+pub returns-clause-device : goal.returns-clause-device
+returns-clause-device g c = λ role is.
+    let t = c.in-Ok.ensures in
+    let b = c.put_disks_back.ensures in
+    let d = c.in-Ok.disks in
+    let n = c.wrap-wrapped.result.disks in
+    rose_more (g.S.Shelf.told.disk_faults c.args.shelf.now) (g.S.Shelf.told.disk_faults c.take_disks.new.shelf) (g.S.Shelf.told.disk_faults c.put_disks_back.new.shelf) c.take_disks.ensures.later
+    (rises_so g.S.Disk.Disk.told (g.S.Shelf.told.disk c.take_disks.new.shelf) c.args.row.now.id d (record { low = n.low; high = n.high; recv = n.recv }) _ _ t.low_out t.high_out t.recv_out b.low_rises b.high_rises b.recv_rises role
+    (device_rose g.S.Disk.Disk.told (record { low = d.low; high = d.high; recv = d.recv }) n c.wrap-wrapped.result.end role c.wrap-wrapped.ensures.cause (sym c.end_of_wrap.ensures ∙ is)))
+
+pub returns-clause-status : goal.returns-clause-status
+returns-clause-status g c = subst (λ (e : SendEnd). IsSendStatus (send_status e)) (sym c.end_of_wrap.ensures) (wrap_status c.wrap-wrapped.result.end)

@@ -1,0 +1,150 @@
+-- What sending a file over a session leaves and writes, by how it ends. `before` and `after` say where each disk is.
+use Rattle.std.specs.Prelude.{◌≡◌, ◌⊎◌, ℕ, ◌<◌, ◌≤◌, Bool, true, false, List, [], ◌∷◌, length, Option, Some, codes, decimal}
+use Rattle.std.specs.Io.KnownBytes.{Appends}
+use Rattle.disk_model.specs.declared.name.Role.{Role}
+use Rattle.pump_frame.specs.declared.payload.Payload.{Payload}
+use Rattle.pump_frame.specs.declared.row.SessionRow.{SessionRow}
+use Rattle.pump_link.specs.Causes.{AppendsFront}
+use Rattle.pump_wrapper.specs.Comparing.{Begins}
+use Rattle.pump_wrapper.specs.Wrapped.{wrapped}
+use Rattle.pump_wrapper.specs.WrapEnds.{BeginFile, EndsAt, IsNotOpened}
+use Rattle.pump_wrapper.specs.Wraps.{HoldAll}
+use Rattle.pump_wrapper.specs.declared.file_sender.WrapEnd.{WrapEnd}
+use Rattle.pump_wrapper.specs.declared.file_sender.WrapEnd.TheVariants as answers
+use Rattle.recovery.specs.Calls.{is_device}
+use Rattle.recovery.specs.declared.why.Why.TheVariants as whys
+use Rattle.script_reader.specs.Openings.{Found, accepted_in}
+use Rattle.script_reader.specs.Transcript.{line_with_end}
+use Rattle.script_replay.specs.Shelves.{Places, OfDisks, HasFound, IsRefusedFor, LeavesOtherSessions, ReadiesSession, ReadsAlike, reading_at}
+use Rattle.two_worlds.specs.declared.applied.Stop.{Stop}
+use Rattle.two_worlds.specs.declared.applied.Stop.TheVariants as stops
+use Rattle.commands.specs.CommandEnds.{end_line, end_status}
+use Rattle.commands.specs.Showing.{end_at}
+use Rattle.commands.specs.Tables.{HasRow, StopsAtTable}
+use Rattle.commands.specs.declared.command_end.CommandEnd.{CommandEnd}
+use Rattle.commands.specs.declared.command_end.CommandEnd.TheVariants.{Memory, Unread, BadLine, NoRow, Failed, Refused, Full, Unwritten}
+use Rattle.commands.specs.declared.wrap.SendEnd.{SendEnd}
+use Rattle.commands.specs.declared.wrap.SendEnd.TheVariants.{Sent, Differs, TooLong, Stopped}
+
+-- ---- ends ----
+
+abbrev pub send_status : SendEnd → ℕ
+send_status (Sent bytes messages) = 0
+send_status (Differs number) = 13
+send_status TooLong = 14
+send_status (Stopped end) = end_status end
+
+-- how the command ends where the pump's lines were stopped so
+abbrev pub end_of_stop : Stop → CommandEnd
+end_of_stop stops.Line = BadLine 0
+end_of_stop (stops.Device role faults) = Failed role
+end_of_stop (stops.Full end size_of_message size) = Full end size_of_message size
+end_of_stop (stops.Disk role why) = Refused role why
+
+-- .. where the sending ended so
+abbrev pub end_of_wrap : WrapEnd → SendEnd
+end_of_wrap (answers.Done bytes messages) = Sent bytes messages
+end_of_wrap answers.Memory = Stopped Memory
+end_of_wrap answers.Read = Stopped Unread
+end_of_wrap answers.TooLong = TooLong
+end_of_wrap (answers.Differs number) = Differs number
+end_of_wrap (answers.Refused role why) = Stopped (end_at role (Some why))
+end_of_wrap (answers.Stopped stop) = Stopped (end_of_stop stop)
+
+-- ---- what is written ----
+
+abbrev pub sent_line : ℕ → ℕ → ℕ → List ℕ
+sent_line session bytes messages = line_with_end (codes "wrapped" ∷ decimal session ∷ decimal bytes ∷ decimal messages ∷ [])
+
+abbrev pub differs_line : ℕ → ℕ → List ℕ
+differs_line session number = line_with_end (codes "fault" ∷ codes "wrapped" ∷ decimal session ∷ decimal number ∷ [])
+
+abbrev pub long_line : List ℕ
+long_line = line_with_end (codes "fault" ∷ codes "long" ∷ [])
+
+abbrev pub send_line : ℕ → SendEnd → List ℕ
+send_line session (Sent bytes messages) = sent_line session bytes messages
+send_line session (Differs number) = differs_line session number
+send_line session TooLong = long_line
+send_line session (Stopped end) = end_line session end
+
+-- ---- the disks of the session ----
+
+-- they held a session that had accepted these messages, and hold one now: no message is lost, and where one was added all are the
+-- first messages of the file. What the answer says of it holds
+pub record HoldsOn (after : Places) (row : SessionRow) (left : Option (List ℕ)) (accepted : List Payload) (answer : WrapEnd) : Type 0 where
+  pub now : Found
+  pub found : HasFound after row now
+  pub grows : Begins accepted (accepted_in now)
+  pub sent : (accepted_in now ≡ accepted) ⊎ BeginFile row left (accepted_in now)
+  pub ends : EndsAt row left accepted now answer
+
+-- an empty disk could not be formatted
+abbrev pub FailsAtFormat : Places → SessionRow → WrapEnd → Type 0
+FailsAtFormat before row answer =
+    (role : Role) × (faults : ℕ) × (answer ≡ answers.Refused role (whys.Device faults)) × (reading_at before row.id role ≡ [])
+
+-- the whole file is with the receiver, where its bytes are told
+abbrev pub HoldsFile : Places → SessionRow → Option (List ℕ) → WrapEnd → Type 0
+HoldsFile after row (Some file) (answers.Done bytes messages) =
+    (bytes ≡ length file) × (messages ≡ length (wrapped row.message file)) × OfDisks after row.id (HoldAll row (wrapped row.message file))
+HoldsFile after row left answer = Unit {0}
+
+-- they are refused, and each reads as it did, or is new where it was empty
+abbrev pub RefusesSession : Places → Places → SessionRow → WrapEnd → Type 0
+RefusesSession before after row (answers.Refused role why) =
+    is_device why ≡ false → IsRefusedFor before row role why × ReadiesSession before after row
+RefusesSession before after row answer = Unit {0}
+
+-- what a sending that ends with this answer leaves
+pub record Leaves (before after : Places) (row : SessionRow) (left : Option (List ℕ)) (answer : WrapEnd) : Type 0 where
+  pub others : LeavesOtherSessions before after row.id
+  pub opened : IsNotOpened answer ⊎ ((f : Found) × HasFound before row f)
+  pub holds : (f : Found) → HasFound before row f → FailsAtFormat before row answer ⊎ HoldsOn after row left (accepted_in f) answer
+  pub file : HoldsFile after row left answer
+  pub refused : RefusesSession before after row answer
+
+-- ---- the command ----
+
+-- a disk could not be taken off the shelf
+abbrev pub StopsAtShelf : CommandEnd → Type 0
+StopsAtShelf Memory = Unit {0}
+StopsAtShelf (Failed role) = Unit {0}
+StopsAtShelf end = ⊥
+
+-- over the disks of a row
+abbrev pub WrapsOn : Places → Places → SessionRow → Option (List ℕ) → SendEnd → Type 0
+WrapsOn before after row left end =
+    ((stop : CommandEnd) × StopsAtShelf stop × (end ≡ Stopped stop) × ReadsAlike before after)
+    ⊎ ((answer : WrapEnd) × (end ≡ end_of_wrap answer) × Leaves before after row left answer)
+
+-- the row's messages are too short for a length
+abbrev pub WrapsFrom : Places → Places → SessionRow → Option (List ℕ) → SendEnd → Type 0
+WrapsFrom before after row left end =
+    ((row.message < 9) × (end ≡ Stopped (NoRow 12 row.id)) × (after ≡ before))
+    ⊎ ((9 ≤ row.message) × WrapsOn before after row left end)
+
+-- with the row of the session, if the table has one; `file` is the table's, and `left` the bytes to send
+abbrev pub Wraps : Option (List ℕ) → Places → Places → ℕ → Option (List ℕ) → SendEnd → Type 0
+Wraps file before after session left end =
+    ((stop : CommandEnd) × StopsAtTable file session stop × (end ≡ Stopped stop) × (after ≡ before))
+    ⊎ ((row : SessionRow) × HasRow file session row × WrapsFrom before after row left end)
+
+-- it ends so, and its line was written; or a front of that was
+abbrev pub WritesSend : (SendEnd → Type 0) → ℕ → Option (List ℕ) → Option (List ℕ) → SendEnd → Type 0
+WritesSend Ends session old new (Stopped Unwritten) = (end : SendEnd) × Ends end × AppendsFront old new (send_line session end)
+WritesSend Ends session old new end = Ends end × Appends old new (send_line session end)
+
+-- .. with this status
+abbrev pub EndsWrap : Option (List ℕ) → Places → Places → ℕ → Option (List ℕ) → Option (List ℕ) → Option (List ℕ) → ℕ → Type 0
+EndsWrap file before after session left old new status =
+    (end : SendEnd) × (send_status end ≡ status) × WritesSend (Wraps file before after session left) session old new end
+
+-- the file is too long
+abbrev pub is_long : SendEnd → Bool
+is_long TooLong = true
+is_long end = false
+
+-- one of its statuses
+abbrev pub IsSendStatus : ℕ → Type 0
+IsSendStatus status = (status ≤ 8) ⊎ ((status ≡ 10) ⊎ ((status ≡ 13) ⊎ (status ≡ 14)))

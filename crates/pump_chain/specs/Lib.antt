@@ -1,6 +1,7 @@
 pub mod Chained
 pub mod Compared
 pub mod Comparing
+pub mod Ends
 pub mod Keeping
 pub mod Laws
 pub mod Opening

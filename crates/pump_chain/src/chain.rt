@@ -1,6 +1,7 @@
 //! Two pumps in a row.
 
 mod comparing;
+mod ending;
 mod lines;
 mod opening;
 mod reading;

@@ -1,0 +1,6 @@
+pub mod Ends
+pub mod Faults
+pub mod Opened
+pub mod Private
+pub mod Replays
+pub mod Scripts

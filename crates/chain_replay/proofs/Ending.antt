@@ -155,11 +155,11 @@ module _ {D : Type 0} {g : Ghosts D} (m : Meaning D) (chain : Chain D g) (o : Op
       disks = (refl, refl, refl, stands, are);
     }))
 
-    refused_fault : Fault
+    abbrev refused_fault : Fault
     refused_fault = fault_after (length h.0)
 
     refused : ChainRefuses d line → IsHalted (to_come reading before) left (length h.0) was now (BothPumps one two d) refused_fault
-    refused no = halted_line o all reading after before left (BothPumps one two d) events h line n (min (length h.0 + 1) (2 ^ 32 - 1)) was now no (let same = h.2 in omega (arith, same, n.4, few)) (omega arith)
+    refused denied = halted_line o all reading after before left (BothPumps one two d) events h line n (min (length h.0 + 1) (2 ^ 32 - 1)) was now denied (let same = h.2 in omega (arith, same, n.4, few)) (omega arith)
 
     module _ (mid then new : Option (List ℕ)) (w : Appends old mid (text events)) (are : AreOf one two d) where
       -- what it prints was written
@@ -173,8 +173,8 @@ module _ {D : Type 0} {g : Ghosts D} (m : Meaning D) (chain : Chain D g) (o : Op
 
       pub refuses_by : (printed : List Event) (number : ℕ) (result : Ended) (rose risen : ℕ) → ChainRefuses d line → printed ≡ [] → ChainStands m chain d → Appends mid then (text printed) → number ≡ after.number
           → Closes then new rose risen (fault_line (faults.Script number)) (ended.Stopped (faults.Script number)) result → EndsChain shelf all left old new was now result
-      refuses_by printed number result rose risen no none stands p is c =
-          let halted = halted_line o all reading after before left (BothPumps one two d) events h line n number was now no is (omega (arith, is, few)) in
+      refuses_by printed number result rose risen denied none stands p is c =
+          let halted = halted_line o all reading after before left (BothPumps one two d) events h line n number was now denied is (omega (arith, is, few)) in
           stops shelf all left old then new was now r_line (text (events ++ printed)) (both printed p) (faults.Script number) result rose risen (inl (record {
             halted = halted;
             output_is = ap (λ (l : List Event). text l ++ fault_line (faults.Script number)) (ap (λ l. events ++ l) none ∙ append-nil events);
@@ -196,10 +196,10 @@ module _ {D : Type 0} {g : Ghosts D} (m : Meaning D) (chain : Chain D g) (o : Op
         inl (sym (text-more events printed), inr (inr (line, to_come reading before, next_line reading after before left line n, near_next reading after before left line n)), (refl, refl, refl, or_fails m chain e stands, of_leads one two d are line e printed leads)),
         front_after old mid new (text events) (text printed) w p,
       )
-      unwritten_by printed outcomes.Refused (no, none, stands) p = (
+      unwritten_by printed outcomes.Refused (denied, none, stands) p = (
         r_line,
         text events ++ fault_line refused_fault,
-        inr (inr (refused_fault, inl (record { halted = refused no; output_is = refl; disks = (refl, refl, refl, or_fails m chain d stands, are) }))),
+        inr (inr (refused_fault, inl (record { halted = refused denied; output_is = refl; disks = (refl, refl, refl, or_fails m chain d stands, are) }))),
         front_after old mid new (text events) (fault_line refused_fault) w (front_more mid new [] (fault_line refused_fault) (subst (λ (l : List Event). AppendsFront mid new (text l)) none p)),
       )
       unwritten_by printed (outcomes.Stopped fault) (e, s, stands) p = (

@@ -137,7 +137,7 @@ module _ {D : Type 0} (m : Meaning D) (tells : m.tells) (before after : Places) 
   readies_left l = readies (λ role. (false, refl, left_at None l role))
 
   module _ (at : Role) (why : Why) (e : ComeBack m row old.low old.high old.recv (record { role = at; why = Some why; low = new.low; high = new.high; recv = new.recv })) where
-    failed_by : Role → Bool
+    abbrev failed_by : Role → Bool
     failed_by role = failed_at {D = D} role (record { role = at; why = Some why; low = new.low; high = new.high; recv = new.recv })
 
     come_at : (role : Role) → LeavesDisk m row role (disk_in role old) (disk_in role new) (failed_by role)

@@ -6,3 +6,4 @@ pub mod Reading
 pub mod Returning
 pub mod Taking
 pub mod Turning
+pub mod Whole

@@ -143,7 +143,7 @@ module _ (o : Openings) (all left : Option (List ℕ)) (reading : LineReading) (
     );
   }
 
-halted_since : (rest left : Option (List ℕ)) (number first was now : ℕ) (begun : Begun) (fault : Fault) → first ≤ was → IsHalted rest left number was now begun fault → IsHalted rest left number first now begun fault
+pub halted_since : (rest left : Option (List ℕ)) (number first was now : ℕ) (begun : Begun) (fault : Fault) → first ≤ was → IsHalted rest left number was now begun fault → IsHalted rest left number first now begun fault
 halted_since rest left number first was now begun faults.Read low h = (let rose = h.0 in omega (arith, rose, low), h.1)
 halted_since rest left number first was now begun (faults.Script line) low h = h
 halted_since rest left number first was now begun faults.Words low h = h

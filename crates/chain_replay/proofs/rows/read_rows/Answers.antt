@@ -6,7 +6,7 @@ use Rattle.chain_replay.proofs.rows.read_rows.Goals as goal
 pub returns-in-Err-next_row-clause-halted : goal.returns-in-Err-next_row-clause-halted
 returns-in-Err-next_row-clause-halted g c = λ o.
     let all = g.I.Source.left c.args.script.now in
-    let row = c.in-Ok.ensures.row o all NoPump tt (read_none o c.args.lines.now all c.requires) in
+    let row = c.in-Ok.ensures.row o all NoPump tt (read_none o c.args.lines.now all c.requires.fresh) in
     let read = row_begins o all (g.I.Source.left c.next_row.new.script) c.next_row.new.lines NoPump c.in-Ok.row row c.next_row.ensures.number (OnePump c.in-Ok.row) (c.in-Ok.ensures.lawful, refl, refl) in (
       OnePump c.in-Ok.row,
       tt,
@@ -17,7 +17,7 @@ returns-in-Err-next_row-clause-halted g c = λ o.
 pub returns-then-not-may_follow-clause-halted : goal.returns-then-not-may_follow-clause-halted
 returns-then-not-may_follow-clause-halted g c = λ o.
     let all = g.I.Source.left c.args.script.now in
-    let row = c.in-Ok.ensures.row o all NoPump tt (read_none o c.args.lines.now all c.requires) in
+    let row = c.in-Ok.ensures.row o all NoPump tt (read_none o c.args.lines.now all c.requires.fresh) in
     let read = row_begins o all (g.I.Source.left c.next_row.new.script) c.next_row.new.lines NoPump c.in-Ok.row row c.next_row.ensures.number (OnePump c.in-Ok.row) (c.in-Ok.ensures.lawful, refl, refl) in (
       OnePump c.in-Ok.row,
       tt,
@@ -28,6 +28,6 @@ returns-then-not-may_follow-clause-halted g c = λ o.
 pub returns-clause-rows : goal.returns-clause-rows
 returns-clause-rows g c = λ o.
     let all = g.I.Source.left c.args.script.now in
-    let row = c.in-Ok.ensures.row o all NoPump tt (read_none o c.args.lines.now all c.requires) in
+    let row = c.in-Ok.ensures.row o all NoPump tt (read_none o c.args.lines.now all c.requires.fresh) in
     let read = row_begins o all (g.I.Source.left c.next_row.new.script) c.next_row.new.lines NoPump c.in-Ok.row row c.next_row.ensures.number (OnePump c.in-Ok.row) (c.in-Ok.ensures.lawful, refl, refl) in
     c.in-Ok-next_row.ensures.row o all (OnePump c.in-Ok.row) tt read

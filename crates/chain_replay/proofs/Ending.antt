@@ -34,6 +34,7 @@ use Rattle.chain_replay.specs.Replays.{Replayed, IsKept, IsFinished, IsCutShort,
 use Rattle.chain_replay.specs.Scripts.{Begun, BothPumps, Leads}
 use Rattle.chain_replay.specs.declared.turn.Outcome.{Outcome}
 use Rattle.chain_replay.specs.declared.turn.Outcome.TheVariants as outcomes
+use Rattle.chain_replay.proofs.Parts.{their_own}
 use Rattle.chain_replay.proofs.Reading.{so_far_more, halted_line}
 
 -- ---- the sessions keep their numbers ----
@@ -129,6 +130,7 @@ module _ {D : Type 0} {g : Ghosts D} (m : Meaning D) (chain : Chain D g) (o : Op
         two = two;
         chain = d;
         begun_is = refl;
+        own = their_own o h.0 one two d events are h.1.leads;
         output_is = sym (text-more events (ends_of d));
         disks = (refl, refl, refl, stands, are);
       }) c

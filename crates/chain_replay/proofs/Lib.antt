@@ -1,6 +1,7 @@
 pub mod Ending
 pub mod Joining
 pub mod Mapped
+pub mod Parts
 pub mod Printed
 pub mod Reading
 pub mod Returning

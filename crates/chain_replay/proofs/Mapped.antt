@@ -21,7 +21,7 @@ module _ (k l : Shelved) (waits : k.waits → l.waits) (keeps : (o : Openings) (
 
   module _ (all left : Option (List ℕ)) (first was now : ℕ) (low : first ≤ was) (r : Replayed all) (output : List ℕ) where
     finished : IsFinished k r output → IsFinished l r output
-    finished h = record { ended = h.ended; one = h.one; two = h.two; chain = h.chain; begun_is = h.begun_is; output_is = h.output_is; disks = keeps r.openings h.one h.two h.chain h.disks }
+    finished h = record { ended = h.ended; one = h.one; two = h.two; chain = h.chain; begun_is = h.begun_is; own = h.own; output_is = h.output_is; disks = keeps r.openings h.one h.two h.chain h.disks }
 
     cut_short : (fault : Fault) → IsCutShort k left was now fault r output → IsCutShort l left first now fault r output
     cut_short fault h = record { halted = halted_since r.rest left (length r.lines) first was now r.begun fault low h.halted; output_is = h.output_is; disks = kept r.openings r.begun h.disks }

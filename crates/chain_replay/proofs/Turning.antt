@@ -37,9 +37,9 @@ module _ {D : Type 0} {g : Ghosts D} (m : Meaning D) (s t : Chain D g) (first : 
 
 up_by : (first : ℕ) (line : Line) (stop : Option Stop) → outcome_by first line stop ≡ outcomes.Applied → stops_at_disk stop ≡ false
 up_by first line None e = refl
-up_by first line (Some stops.Line) e = cc e
+up_by first line (Some stops.Line) e = refl
 up_by first line (Some (stops.Device role count)) e = cc e
-up_by first line (Some (stops.Full end length size)) e = cc e
+up_by first line (Some (stops.Full end length size)) e = refl
 up_by first line (Some (stops.Disk role why)) e = cc e
 
 -- a line that is applied stops at no disk

@@ -16,6 +16,7 @@ use Rattle.script_reader.specs.Transcript.{text, fault_line}
 use Rattle.script_replay.specs.Replays.{IsNear, IsNearLast}
 use Rattle.chain_replay.specs.Faults.{IsHalted, ChainStops}
 use Rattle.chain_replay.specs.Opened.{Shelved}
+use Rattle.chain_replay.specs.Owned.{AreTheirOwn}
 use Rattle.chain_replay.specs.Scripts.{Begun, NoPump, OnePump, BothPumps, MayFollow, LeadTo}
 
 -- these lines were read, all could be applied on disks that were found so, and they print these events; what is left of the
@@ -42,13 +43,15 @@ IsKept shelf o (BothPumps one two c) = shelf.keeps o one two c
 
 -- ---- the ends ----
 
--- the script is at its end, with both pumps: the output is its transcript
+-- the script is at its end, with both pumps: the output is its transcript, in which the lines of each session are those of
+-- the script that has its lines alone
 pub record IsFinished (shelf : Shelved) {all : Option (List ℕ)} (r : Replayed all) (output : List ℕ) : Type 0 where
   pub ended : IsAtEnd r.rest
   pub one : SessionRow
   pub two : SessionRow
   pub chain : Chained
   pub begun_is : r.begun ≡ BothPumps one two chain
+  pub own : AreTheirOwn r.openings one two r.lines chain r.events
   pub output_is : output ≡ text (r.events ++ ends_of chain)
   pub disks : shelf.keeps r.openings one two chain
 

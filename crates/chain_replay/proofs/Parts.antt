@@ -1,5 +1,5 @@
 -- A script as its two `session` lines and the lines of the chain.
-use Rattle.std.proofs.Common.{◌≡◌, ℕ, ◌==◌, Bool, true, false, List, [], ◌∷◌, ◌++◌, Option, Some, refl, sym, ap, ◌∙◌, subst}
+use Rattle.std.proofs.Common.{◌≡◌, ℕ, ◌==◌, Bool, true, false, List, [], ◌∷◌, ◌++◌, Option, None, Some, refl, sym, ap, ◌∙◌, subst}
 use Rattle.std.proofs.lemmas.Bool.{eq-eqb, ne_eqb}
 use Rattle.std.proofs.lemmas.List.Elements.{filter-append}
 use Rattle.std.specs.Prelude.{nat_lt, if◌then◌else◌}
@@ -13,9 +13,10 @@ use Rattle.script_reader.specs.declared.event.Event.{Event}
 use Rattle.script_reader.specs.declared.line.Line.{Line}
 use Rattle.script_reader.specs.declared.line.Line.TheVariants as lines
 use Rattle.script_reader.specs.Openings.{Openings}
-use Rattle.script_reader.specs.Scripts.{Whole}
+use Rattle.script_reader.specs.Scripts.{Whole, LeadTo as LeadsOne}
 use Rattle.script_reader.specs.Sessions.{lines_of, events_of, event_session, is_number, session_in}
 use Rattle.script_reader.proofs.Beside.{own_line, other_line}
+use Rattle.two_worlds.proofs.Timeline.Scripts.{script_runs}
 use Rattle.chain_replay.specs.Owned.{AreTheirOwn}
 use Rattle.chain_replay.specs.Private.{AreOf}
 use Rattle.chain_replay.specs.Scripts.{Begun, NoPump, OnePump, BothPumps, AreLinked, LeadTo}
@@ -138,6 +139,12 @@ module _ (o : Openings) (script : List Line) (one two : SessionRow) (d : Chained
   lines_one = h.named one.id ∙ own_line one.id (lines.Session one) (lines.Session two ∷ h.later) refl
       ∙ ap (λ (l : List Line). lines.Session one ∷ l) (other_line one.id (lines.Session two) h.later (ne_eqb two.id one.id (λ e. h.linked.can.apart (sym e))))
 
+  first_leads : LeadsOne o None (lines.Session one ∷ lines_of one.id h.later) (Some (Whole d.first)) (events_of one.id events)
+  first_leads = first_own o one two h.later d events h.linked.can h.leads both
+
+  second_leads : LeadsOne o None (lines.Session two ∷ lines_of two.id (looks_of (chain_of o one two) h.later d events h.leads)) (Some (Whole d.second)) (events_of two.id events)
+  second_leads = second_own o one two h.later d events h.linked.can h.leads both
+
   own : AreTheirOwn o one two script d events
   own = record {
     script = h.later;
@@ -147,7 +154,7 @@ module _ (o : Openings) (script : List Line) (one two : SessionRow) (d : Chained
       Some (Whole d.first),
       events_of one.id events,
       ended d.first ∷ [],
-      rw lines_one (first_own o one two h.later d events h.linked.can h.leads both),
+      rw lines_one first_leads,
       refl,
       with_ends one.id (ended d.first ∷ []) first_end,
     );
@@ -155,10 +162,12 @@ module _ (o : Openings) (script : List Line) (one two : SessionRow) (d : Chained
       Some (Whole d.second),
       events_of two.id events,
       ended d.second ∷ [],
-      second_own o one two h.later d events h.linked.can h.leads both,
+      second_leads,
       refl,
       with_ends two.id (ended d.second ∷ []) second_end,
     );
+    first_rests = (script_runs o None (lines.Session one ∷ lines_of one.id h.later) (Some (Whole d.first)) (events_of one.id events) first_leads tt).2.rest;
+    second_rests = (script_runs o None (lines.Session two ∷ lines_of two.id (looks_of (chain_of o one two) h.later d events h.leads)) (Some (Whole d.second)) (events_of two.id events) second_leads tt).2.rest;
   }
 
 pub their_own : (o : Openings) (script : List Line) (one two : SessionRow) (d : Chained) (events : List Event) → AreOf one two d → LeadTo o NoPump script (BothPumps one two d) events → AreTheirOwn o one two script d events

@@ -2,6 +2,7 @@ pub mod Chained
 pub mod Compared
 pub mod Comparing
 pub mod Ends
+pub mod Failing
 pub mod Keeping
 pub mod Laws
 pub mod Opening

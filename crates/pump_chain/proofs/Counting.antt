@@ -16,7 +16,7 @@ serves_rose m least old new (inl (same, none)) = absurd (cc)
 serves_rose m least old new (inr a) = a.rose refl
 
 module _ {D : Type 0} {g : _} (m : Meaning D) where
-  abbrev Goes : Pump D g → Pump D g → Option Stop → Type 0
+  abbrev pub Goes : Pump D g → Pump D g → Option Stop → Type 0
   Goes s t stop = DisksGo m (row_of s) (disk_at roles.Low s) (disk_at roles.High s) (disk_at roles.Recv s) (disk_at roles.Low t) (disk_at roles.High t) (disk_at roles.Recv t) stop
 
   rose_in : (s t : Pump D g) (role : Role) (faults : ℕ) → Goes s t (Some (Device role faults)) → RoseAt m role s t

@@ -5,6 +5,7 @@ pub mod Counted
 pub mod Counting
 pub mod Crashing
 pub mod Ending
+pub mod Failing
 pub mod Fronts
 pub mod Linking
 pub mod Moving

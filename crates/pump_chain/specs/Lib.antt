@@ -1,6 +1,8 @@
 pub mod Chained
 pub mod Compared
 pub mod Comparing
+pub mod Ends
+pub mod Failing
 pub mod Keeping
 pub mod Laws
 pub mod Opening

@@ -1,6 +1,7 @@
 //! Two pumps in a row.
 
 mod comparing;
+mod ending;
 mod lines;
 mod opening;
 mod reading;
@@ -33,6 +34,7 @@ ghost use Rattle.pump_chain.specs.Keeping.{Keeps};
 impl<D: Disk> Chain<D> {
     ghost use Rattle.std.specs.Prelude.{◌≡◌, false};
     ghost use Rattle.pump_chain.specs.Chained.{Chained};
+    ghost use Rattle.pump_chain.specs.Failing.{FailNoLess};
     ghost use Rattle.pump_chain.specs.Standing.{ChainStands, ChainApplies, LeavesFronts, IsCounted, chain_is_down};
     ghost use Rattle.script_reader.specs.Heads.{line_with, CanHoldLine};
     ghost use Rattle.script_reader.specs.Lawful.{IsLawfulLine};
@@ -50,6 +52,7 @@ impl<D: Disk> Chain<D> {
             → ChainApplies D.told self.old self.new line.now c result.events.items result.stop }
         ensures crashes { D.told.tells → (c : Chained) → ChainStands D.told self.old c → LeavesFronts D.told self.old self.new }
         ensures device { IsCounted D.told self.old self.new result.stop }
+        ensures later { FailNoLess D.told self.old self.new }
         ensures down { chain_is_down self.new ≡ stops_at_disk result.stop }
     {
         let mut heads = ArrayVec::new();
@@ -75,6 +78,7 @@ impl<D: Disk> Chain<D> {
             → ChainApplies D.told self.old self.new (line_with bytes.now line.now) c (lines_in events.new.items) result }
         ensures crashes { D.told.tells → (c : Chained) → ChainStands D.told self.old c → LeavesFronts D.told self.old self.new }
         ensures device { IsCounted D.told self.old self.new result }
+        ensures later { FailNoLess D.told self.old self.new }
         ensures down { chain_is_down self.new ≡ stops_at_disk result }
     {
         events.clear();

@@ -3,6 +3,7 @@
 ghost use Rattle.std.specs.Prelude.{◌≡◌, ◌^◌, ◌<◌, ◌≤◌, ℕ, List, max, false, [], length, is_none, IfOk, IfErr, OnOk, OnErr};
 ghost use Rattle.disk_model.specs.declared.name.Role.TheVariants as roles;
 ghost use Rattle.pump_chain.specs.Chained.{Chained, OfFirst, OfSecond, MakesFirst, MakesSecond, added, is_frame as adds_frame};
+ghost use Rattle.pump_chain.specs.Failing.{FailNoLess};
 ghost use Rattle.pump_chain.specs.Private.{order_by, is_look, AddsMessage};
 ghost use Rattle.pump_chain.specs.Standing.{ChainStands, AppliesBy, LeavesFronts, IsCounted, chain_is_down};
 ghost use Rattle.script_reader.specs.declared.line.Line.TheVariants as lines;
@@ -50,6 +51,7 @@ impl<D: Disk> Chain<D> {
         ensures crashes { D.told.tells → (c : Chained) → ChainStands D.told self.old c → LeavesFronts D.told self.old self.new }
         ensures down { chain_is_down self.new ≡ stops_at_disk result }
         ensures device { IsCounted D.told self.old self.new result }
+        ensures later { FailNoLess D.told self.old self.new }
     {
         if self.is_under_way || self.first.is_coarse() {
             return Some(Stop::Line);
@@ -65,6 +67,7 @@ impl<D: Disk> Chain<D> {
         ensures crashes { D.told.tells → (c : Chained) → ChainStands D.told self.old c → LeavesFronts D.told self.old self.new }
         ensures down { chain_is_down self.new ≡ stops_at_disk result }
         ensures device { IsCounted D.told self.old self.new result }
+        ensures later { FailNoLess D.told self.old self.new }
     {
         if self.is_under_way || self.second.is_coarse() {
             return Some(Stop::Line);
@@ -106,6 +109,7 @@ impl<D: Disk> Chain<D> {
         ensures crashes { D.told.tells → (c : Chained) → ChainStands D.told self.old c → LeavesFronts D.told self.old self.new }
         ensures down { chain_is_down self.new ≡ stops_at_disk result }
         ensures device { IsCounted D.told self.old self.new result }
+        ensures later { FailNoLess D.told self.old self.new }
     {
         if !self.is_in_order(line) {
             return Some(Stop::Line);
@@ -133,6 +137,7 @@ impl<D: Disk> Chain<D> {
         ensures crashes { D.told.tells → (c : Chained) → ChainStands D.told self.old c → LeavesFronts D.told self.old self.new }
         ensures down { chain_is_down self.new ≡ stops_at_disk result }
         ensures device { IsCounted D.told self.old self.new result }
+        ensures later { FailNoLess D.told self.old self.new }
     {
         if !self.is_in_order(line) {
             return Some(Stop::Line);
@@ -195,6 +200,7 @@ impl<D: Disk> Chain<D> {
         ensures crashes { D.told.tells → (c : Chained) → ChainStands D.told self.old c → LeavesFronts D.told self.old self.new }
         ensures down { chain_is_down self.new ≡ stops_at_disk result }
         ensures device { IsCounted D.told self.old self.new result }
+        ensures later { FailNoLess D.told self.old self.new }
     {
         if moment < self.moment() {
             return Some(Stop::Line);

@@ -6,6 +6,7 @@ use Rattle.pump_chain.proofs.Applying.{order_is, still_fronts, first_applies, fi
 use Rattle.pump_chain.proofs.Counting.{first_counts}
 use Rattle.pump_chain.proofs.Placing.{keeps_on}
 use Rattle.pump_chain.proofs.Printing.{none_printed}
+use Rattle.pump_chain.proofs.Failing.{goes_later, alone_later}
 use Rattle.pump_chain.proofs.chain.Chain.apply_first.Goals as goal
 
 pub returns-then-not-is_in_order-clause-applies : goal.returns-then-not-is_in_order-clause-applies
@@ -39,3 +40,6 @@ returns-clause-down g c = down_first _ _ _ c.apply_head-stop.result c.requires.u
 
 pub returns-clause-device : goal.returns-clause-device
 returns-clause-device g c = first_counts g.D.Disk.told c.args.self.now.first c.apply_head-stop.new.self c.args.self.now.second c.args.self.now.second c.apply_head-stop.result c.apply_head-stop.ensures.serve
+
+pub returns-clause-later : goal.returns-clause-later
+returns-clause-later g c = (goes_later g.D.Disk.told c.args.self.now.first c.apply_head-stop.new.self c.apply_head-stop.result c.apply_head-stop.ensures.serve, alone_later g.D.Disk.told c.args.self.now.second c.args.self.now.second refl)

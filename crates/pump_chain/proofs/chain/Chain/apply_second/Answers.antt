@@ -6,6 +6,7 @@ use Rattle.pump_chain.proofs.Counting.{second_counts}
 use Rattle.pump_chain.proofs.Crashing.{left_alone}
 use Rattle.pump_chain.proofs.Linking.{other_adds}
 use Rattle.pump_chain.proofs.Printing.{none_printed}
+use Rattle.pump_chain.proofs.Failing.{goes_later, alone_later}
 use Rattle.pump_chain.proofs.chain.Chain.apply_second.Goals as goal
 
 pub returns-then-not-is_in_order-clause-applies : goal.returns-then-not-is_in_order-clause-applies
@@ -39,3 +40,6 @@ returns-clause-crashes g c = λ told s stands.
 
 pub returns-clause-device : goal.returns-clause-device
 returns-clause-device g c = second_counts g.D.Disk.told c.args.self.now.first c.args.self.now.first c.args.self.now.second c.apply_head-stop.new.self c.apply_head-stop.result c.apply_head-stop.ensures.serve
+
+pub returns-clause-later : goal.returns-clause-later
+returns-clause-later g c = (alone_later g.D.Disk.told c.args.self.now.first c.args.self.now.first refl, goes_later g.D.Disk.told c.args.self.now.second c.apply_head-stop.new.self c.apply_head-stop.result c.apply_head-stop.ensures.serve)

@@ -1,5 +1,6 @@
 use Rattle.std.proofs.Common.{refl, sym, ◌∙◌}
 use Rattle.pump_chain.proofs.Applying.{still_fronts, second_coarse, same_fronts}
+use Rattle.pump_chain.proofs.Failing.{same_later, alone_later}
 use Rattle.pump_chain.proofs.chain.Chain.coarsen_second.Goals as goal
 
 pub returns-then-self-clause-crashes : goal.returns-then-self-clause-crashes
@@ -12,3 +13,6 @@ returns-clause-applies g c = λ told s stands.
 
 pub returns-clause-crashes : goal.returns-clause-crashes
 returns-clause-crashes g c = λ told s stands. same_fronts g.D.Disk.told c.args.self.now c.args.self.now.first c.make_coarse.new.self s stands (λ role. refl) (λ role. c.make_coarse.ensures.disks role)
+
+pub returns-clause-later : goal.returns-clause-later
+returns-clause-later g c = (alone_later g.D.Disk.told c.args.self.now.first c.args.self.now.first refl, same_later g.D.Disk.told c.args.self.now.second c.make_coarse.new.self c.make_coarse.ensures.disks)

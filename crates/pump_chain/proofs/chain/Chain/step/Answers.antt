@@ -1,4 +1,4 @@
-use Rattle.std.proofs.Common.{◌≡◌, ◌||◌, inl, refl, sym, ap, ◌∙◌, arith}
+use Rattle.std.proofs.Common.{◌≡◌, ◌||◌, true, false, inl, refl, sym, ap, ◌∙◌, subst, arith}
 use Rattle.std.proofs.lemmas.Bool.{or_parts, le-leb, lt-leb}
 use Rattle.script_reader.specs.declared.line.Arriving.{Arriving}
 use Rattle.script_reader.specs.declared.line.Line.TheVariants as lines
@@ -10,6 +10,8 @@ use Rattle.pump_chain.specs.Chained.{added, is_frame}
 use Rattle.pump_chain.proofs.Applying.{order_is, still_fronts, none_way}
 use Rattle.pump_chain.proofs.Printing.{none_printed}
 use Rattle.pump_chain.proofs.Stepping.{look_way, unread_applies, unread_fronts, read_stands, look_applies, look_fronts}
+use Rattle.pump_chain.specs.Failing.{FailsNoLess}
+use Rattle.pump_chain.proofs.Failing.{goes_later, reads_later, alone_later}
 use Rattle.pump_chain.proofs.chain.Chain.step.Goals as goal
 
 pub returns-then-moment-clause-applies : goal.returns-then-moment-clause-applies
@@ -68,3 +70,18 @@ returns-clause-crashes g c = λ told s stands.
     let id : c.row.result.now.id ≡ (row_of was.second).id = ap (λ (r : _). r.id) c.row.ensures ∙ ap (λ (x : Pump _ _). (row_of x).id) e.second in
     let same : lines.Look c.row.result.now.id c.args.moment c.args.word (arriving_with c.as_slice.result.now c.in-Ok.arrival) ≡ lines.Look (row_of was.second).id c.args.moment c.args.word (added s) = λ i. lines.Look (id i) c.args.moment c.args.word (arrives i) in
     look_fronts m was s stands u e.reads e.second e.sender e.under_way _ (row_of was.second).id c.args.moment c.args.word same (lines_in c.apply_head-stop.new.events.items) stop c.apply_head-stop.new.self (a.applies told s.second.past (read_stands m was s stands u e.reads e.second e.sender e.under_way).second) a.row
+
+pub returns-in-Err-clause-later : goal.returns-in-Err-clause-later
+returns-in-Err-clause-later g c =
+    let m = g.D.Disk.told in (
+      reads_later m c.args.self.now.first c.add.new.self.first true c.in-Err.ensures.fails.alone,
+      alone_later m c.args.self.now.second c.add.new.self.second c.in-Err.ensures.second,
+    )
+
+pub returns-clause-later : goal.returns-clause-later
+returns-clause-later g c =
+    let m = g.D.Disk.told in
+    let t = c.apply_head-stop.new.self in (
+      reads_later m c.args.self.now.first c.add.new.self.first false c.in-Ok.ensures.reads.alone,
+      subst (λ (x : Pump _ _). FailsNoLess m x t) c.in-Ok.ensures.second (goes_later m c.add.new.self.second t c.apply_head-stop.result c.apply_head-stop.ensures.serve),
+    )

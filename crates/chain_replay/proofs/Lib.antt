@@ -1,0 +1,10 @@
+pub mod Ending
+pub mod Joining
+pub mod Mapped
+pub mod Parts
+pub mod Printed
+pub mod Reading
+pub mod Returning
+pub mod Taking
+pub mod Turning
+pub mod Whole

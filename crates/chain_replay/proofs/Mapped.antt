@@ -1,0 +1,62 @@
+-- What is known of the disks while a chain runs says what is read of them at the return.
+use Rattle.std.proofs.Common.{◌≡◌, ◌≤◌, ℕ, List, inl, inr, length, Option}
+use Rattle.pump_chain.specs.Chained.{Chained}
+use Rattle.pump_frame.specs.declared.row.SessionRow.{SessionRow}
+use Rattle.script_reader.specs.declared.fault.Fault.{Fault}
+use Rattle.script_reader.specs.Openings.{Openings}
+use Rattle.script_replay.specs.declared.ended.Ended.{Ended}
+use Rattle.script_replay.specs.declared.ended.Ended.TheVariants as ended
+use Rattle.chain_replay.specs.Ends.{EndsChain}
+use Rattle.chain_replay.specs.Opened.{Shelved}
+use Rattle.chain_replay.specs.Replays.{Replayed, IsKept, IsFinished, IsCutShort, IsUnbegun, IsStopped, EndsWith, IsOutput}
+use Rattle.chain_replay.specs.Scripts.{Begun, NoPump, OnePump, BothPumps}
+use Rattle.chain_replay.proofs.Reading.{halted_since}
+
+module _ (k l : Shelved) (waits : k.waits → l.waits) (keeps : (o : Openings) (one two : SessionRow) (c : Chained) → k.keeps o one two c → l.keeps o one two c)
+    (refuses : (one two : SessionRow) (fault : Fault) → k.refuses one two fault → l.refuses one two fault) where
+  kept : (o : Openings) (b : Begun) → IsKept k o b → IsKept l o b
+  kept o NoPump h = waits h
+  kept o (OnePump one) h = waits h
+  kept o (BothPumps one two c) h = keeps o one two c h
+
+  module _ (all left : Option (List ℕ)) (first was now : ℕ) (low : first ≤ was) (r : Replayed all) (output : List ℕ) where
+    finished : IsFinished k r output → IsFinished l r output
+    finished h = record { ended = h.ended; one = h.one; two = h.two; chain = h.chain; begun_is = h.begun_is; own = h.own; output_is = h.output_is; disks = keeps r.openings h.one h.two h.chain h.disks }
+
+    cut_short : (fault : Fault) → IsCutShort k left was now fault r output → IsCutShort l left first now fault r output
+    cut_short fault h = record { halted = halted_since r.rest left (length r.lines) first was now r.begun fault low h.halted; output_is = h.output_is; disks = kept r.openings r.begun h.disks }
+
+    unbegun : (fault : Fault) → IsUnbegun k left fault r output → IsUnbegun l left fault r output
+    unbegun fault h = record { one = h.one; two = h.two; begun_is = h.begun_is; next = h.next; follows = h.follows; output_is = h.output_is; disks = refuses h.one h.two fault h.disks }
+
+    stopped : (fault : Fault) → IsStopped k left fault r output → IsStopped l left fault r output
+    stopped fault h = record {
+      one = h.one;
+      two = h.two;
+      chain = h.chain;
+      begun_is = h.begun_is;
+      line = h.line;
+      next = h.next;
+      led = h.led;
+      printed = h.printed;
+      stops = h.stops;
+      output_is = h.output_is;
+      disks = keeps r.openings h.one h.two h.led h.disks;
+    }
+
+    ends_with : (fault : Fault) → EndsWith k left was now fault r output → EndsWith l left first now fault r output
+    ends_with fault (inl h) = inl (cut_short fault h)
+    ends_with fault (inr (inl h)) = inr (inl (unbegun fault h))
+    ends_with fault (inr (inr h)) = inr (inr (stopped fault h))
+
+    is_output : IsOutput k left was now r output → IsOutput l left first now r output
+    is_output (inl (is, near, disks)) = inl (is, near, kept r.openings r.begun disks)
+    is_output (inr (inl h)) = inr (inl (finished h))
+    is_output (inr (inr (fault, h))) = inr (inr (fault, ends_with fault h))
+
+  -- .. also where reads are counted from earlier on
+  pub mapped : (all left old new : Option (List ℕ)) (first was now : ℕ) → first ≤ was → (result : Ended) → EndsChain k all left old new was now result → EndsChain l all left old new first now result
+  mapped all left old new first was now low ended.Done (r, output, e, w) = (r, output, finished all left first was now low r output e, w)
+  mapped all left old new first was now low ended.Memory h = tt
+  mapped all left old new first was now low ended.Write (r, output, e, w) = (r, output, is_output all left first was now low r output e, w)
+  mapped all left old new first was now low (ended.Stopped fault) (r, output, e, w) = (r, output, ends_with all left first was now low r output fault e, w)

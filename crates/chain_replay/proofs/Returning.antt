@@ -1,0 +1,66 @@
+-- The disks of a chain are back on the shelf.
+use Rattle.std.proofs.Common.{◌≡◌, ◌≤◌, ℕ, Bool, true, List, ◌&&◌, length, refl, sym, ap, ◌∙◌, subst, arith}
+use Rattle.disk_model.specs.Disk.{Meaning}
+use Rattle.disk_model.specs.declared.disk.Disk.{Ghosts}
+use Rattle.disk_model.specs.declared.name.Role.TheVariants as roles
+use Rattle.pump_chain.specs.Chained.{Chained}
+use Rattle.pump_chain.specs.Standing.{IsLinked, TellFronts, ChainStandsOrFails}
+use Rattle.pump_chain.specs.declared.chain.Chain.{Chain}
+use Rattle.pump_chain.proofs.Fronts.{front_then, kept_front, kept_most}
+use Rattle.pump_core.specs.Events.{with_kept}
+use Rattle.pump_core.specs.World.{World}
+use Rattle.pump_frame.specs.declared.row.SessionRow.{SessionRow}
+use Rattle.recovery.specs.declared.trio.Trio.{Trio}
+use Rattle.script_reader.specs.Openings.{Openings}
+use Rattle.script_reader.specs.Scripts.{Running}
+use Rattle.script_replay.specs.Shelves.{Places, reading_in, OfDisks, HasFound}
+use Rattle.two_worlds.specs.Disks.{StandForLeft}
+use Rattle.chain_replay.specs.Opened.{LeavesOthers, KeepsChain, shelved}
+use Rattle.chain_replay.specs.Private.{AreBackAt, AreLeftAt, AreOf, lent}
+
+-- what is read of the disks of one session
+pub left_so : {D : Type 0} (m : Meaning D) (after : Places) (id : ℕ) (t : Trio D) (row : SessionRow) (s : Running) → AreBackAt m after id t → row ≡ s.row
+    → StandForLeft row s.past.world (m.reading t.low) (m.reading t.high) (m.reading t.recv) → AreLeftAt after id s
+left_so m after id t row s back is h =
+    rw (ap reading_in (back roles.Low), ap reading_in (back roles.High), ap reading_in (back roles.Recv)) (subst (λ (r : SessionRow). StandForLeft r s.past.world (m.reading t.low) (m.reading t.high) (m.reading t.recv)) is h)
+
+-- .. and of both tells four lists of which each is a front of the next
+tell_fronts : (one two : SessionRow) (w v : World) (low high recv next_low next_high next_recv : List ℕ) → StandForLeft one w low high recv → StandForLeft two v next_low next_high next_recv → IsLinked w v
+    → TellFronts one two low recv next_low next_recv
+tell_fronts one two w v low high recv next_low next_high next_recv (a, b, c, s) (x, y, z, t) linked =
+    let below = s.lawful.bounded.within.below in
+    let next_below = t.lawful.bounded.within.below in
+    record {
+      accepted = with_kept a w.storing w.accepted;
+      received = with_kept (c && w.taking) w.packet w.received;
+      next_accepted = with_kept x v.storing v.accepted;
+      next_received = with_kept (z && v.taking) v.packet v.received;
+      tell = record { from = _; few = omega (arith, below); low_is = s.low_is; recv_is = s.recv_is };
+      next_tell = record { from = _; few = omega (arith, next_below); low_is = t.low_is; recv_is = t.recv_is };
+      next_taken = t.lawful.delivered.prefix;
+      sent_on = front_then _ (with_kept true v.storing v.accepted) _ (kept_most x v.storing v.accepted)
+          (front_then _ w.received _ linked (kept_front (c && w.taking) w.packet w.received));
+      taken = s.lawful.delivered.prefix;
+    }
+
+module _ {D : Type 0} {g : Ghosts D} (m : Meaning D) (chain : Chain D g) (before after : Places) (o : Openings) (one two : SessionRow) (first_found : HasFound before one (o one.id)) (second_found : HasFound before two (o two.id))
+    (left : (c : Chained) → ChainStandsOrFails m chain c → AreLeftAt after one.id c.first × AreLeftAt after two.id c.second) (others : LeavesOthers before after one.id two.id) where
+  keeps_chain : (c : Chained) → ChainStandsOrFails m chain c → AreOf one two c → KeepsChain before after o one two c
+  keeps_chain c stands are =
+      let l = left c stands in
+      let first = subst (λ (i : ℕ). OfDisks after i (StandForLeft c.first.row c.first.past.world)) (sym are.0) l.0 in
+      let second = subst (λ (i : ℕ). OfDisks after i (StandForLeft c.second.row c.second.past.world)) (sym are.1) l.1 in
+      record {
+        first_found = first_found;
+        second_found = second_found;
+        first_holds = first;
+        second_holds = second;
+        fronts = tell_fronts c.first.row c.second.row c.first.past.world c.second.past.world _ _ _ _ _ _ first second stands.linked;
+        others = others;
+      }
+
+  pub keeps_so : (p : Openings) (row other : SessionRow) (c : Chained) → (lent m chain o one two).keeps p row other c → (shelved before after).keeps p row other c
+  keeps_so p row other c (is, is_one, is_two, stands, are) =
+      subst (λ q. KeepsChain before after q row other c) (sym is)
+      (subst (λ r. KeepsChain before after o r other c) (sym is_one)
+      (subst (λ r. KeepsChain before after o one r c) (sym is_two) (keeps_chain c stands are)))

@@ -1,0 +1,57 @@
+-- What becomes of a line of a chain.
+use Rattle.std.proofs.Common.{◌≡◌, ℕ, Bool, true, false, List, Option, None, Some, refl, sym, ap, ◌∙◌, subst}
+use Rattle.std.specs.Io.KnownBytes.{Appends}
+use Rattle.disk_model.specs.Disk.{Meaning}
+use Rattle.disk_model.specs.declared.disk.Disk.{Ghosts}
+use Rattle.pump_chain.specs.Chained.{Chained}
+use Rattle.pump_chain.specs.Standing.{ChainApplies}
+use Rattle.pump_chain.specs.declared.chain.Chain.{Chain}
+use Rattle.script_reader.specs.declared.event.Event.{Event}
+use Rattle.script_reader.specs.declared.line.Line.{Line}
+use Rattle.script_reader.specs.Transcript.{text}
+use Rattle.two_worlds.specs.declared.applied.Stop.{Stop}
+use Rattle.two_worlds.specs.declared.applied.Stop.TheVariants as stops
+use Rattle.two_worlds.specs.LowPumps.{stops_at_disk}
+use Rattle.chain_replay.specs.Private.{outcome_by, TurnGoes, TurnDoes}
+use Rattle.chain_replay.specs.declared.turn.Outcome.{Outcome}
+use Rattle.chain_replay.specs.declared.turn.Outcome.TheVariants as outcomes
+
+module _ {D : Type 0} {g : Ghosts D} (m : Meaning D) (s t : Chain D g) (first : ℕ) (line : Line) (c : Chained) (printed : List Event) where
+  pub turn_goes : (stop : Option Stop) → ChainApplies m s t line c printed stop → TurnGoes m first c line t printed (outcome_by first line stop)
+  turn_goes None h = h
+  turn_goes (Some stops.Line) h = h
+  turn_goes (Some (stops.Device role count)) h = (h.0, (h.1, refl), h.2)
+  turn_goes (Some (stops.Full end length size)) h = (h.0, (h.1, refl), h.2)
+  turn_goes (Some (stops.Disk role why)) h = absurd h
+
+  turn_does_by : (old new : Option (List ℕ)) → Appends old new (text printed) → (stop : Option Stop) → ChainApplies m s t line c printed stop → TurnDoes m first c line t old new (outcome_by first line stop)
+  turn_does_by old new w None h = (printed, turn_goes None h, w)
+  turn_does_by old new w (Some stops.Line) h = (printed, turn_goes (Some stops.Line) h, w)
+  turn_does_by old new w (Some (stops.Device role count)) h = (printed, turn_goes (Some (stops.Device role count)) h, w)
+  turn_does_by old new w (Some (stops.Full end length size)) h = (printed, turn_goes (Some (stops.Full end length size)) h, w)
+  turn_does_by old new w (Some (stops.Disk role why)) h = absurd h
+
+  pub turn_does : (old new : Option (List ℕ)) → Appends old new (text printed) → (stop : Option Stop) → ChainApplies m s t line c printed stop → (outcome : Outcome) → outcome ≡ outcome_by first line stop
+      → TurnDoes m first c line t old new outcome
+  turn_does old new w stop h outcome is = subst (λ o. TurnDoes m first c line t old new o) (sym is) (turn_does_by old new w stop h)
+
+up_by : (first : ℕ) (line : Line) (stop : Option Stop) → outcome_by first line stop ≡ outcomes.Applied → stops_at_disk stop ≡ false
+up_by first line None e = refl
+up_by first line (Some stops.Line) e = refl
+up_by first line (Some (stops.Device role count)) e = cc e
+up_by first line (Some (stops.Full end length size)) e = refl
+up_by first line (Some (stops.Disk role why)) e = cc e
+
+-- a line that is applied stops at no disk
+pub still_up : (first : ℕ) (line : Line) (stop : Option Stop) (outcome : Outcome) (down : Bool) → outcome ≡ outcome_by first line stop → down ≡ stops_at_disk stop → outcome ≡ outcomes.Applied → down ≡ false
+still_up first line stop outcome down is at e = at ∙ up_by first line stop (sym is ∙ e)
+
+never_by : (first : ℕ) (line : Line) (stop : Option Stop) → outcome_by first line stop ≡ outcomes.Unwritten → ⊥
+never_by first line None e = cc e
+never_by first line (Some stops.Line) e = cc e
+never_by first line (Some (stops.Device role count)) e = cc e
+never_by first line (Some (stops.Full end length size)) e = cc e
+never_by first line (Some (stops.Disk role why)) e = cc e
+
+pub never_unwritten : (first : ℕ) (line : Line) (stop : Option Stop) (outcome : Outcome) → outcome ≡ outcome_by first line stop → outcome ≡ outcomes.Unwritten → ⊥
+never_unwritten first line stop outcome is e = never_by first line stop (sym is ∙ e)

@@ -1,0 +1,67 @@
+use Rattle.std.proofs.Common.{length, refl, subst}
+use Rattle.pump_chain.specs.Opening.{trio_of}
+use Rattle.pump_chain.specs.Scripted.{chain_of}
+use Rattle.script_reader.specs.Openings.{new_disks}
+use Rattle.script_reader.specs.Transcript.{fault_line}
+use Rattle.script_replay.specs.Runners.{Closes}
+use Rattle.script_replay.specs.declared.ended.Ended.TheVariants.{Stopped}
+use Rattle.script_replay.proofs.Stops.{closed_not}
+use Rattle.chain_replay.specs.Opened.{shelved}
+use Rattle.chain_replay.specs.Private.{lent}
+use Rattle.chain_replay.proofs.Joining.{all_back}
+use Rattle.chain_replay.proofs.Mapped.{mapped}
+use Rattle.chain_replay.proofs.Returning.{keeps_so}
+use Rattle.chain_replay.proofs.Taking.{are_out, others_more}
+use Rattle.chain_replay.proofs.Whole.{no_rows, no_pumps, both_begin, not_words, read_rose, stopped_same}
+use Rattle.chain_replay.proofs.replaying.replay_chain.Goals as goal
+
+pub returns-in-Err-clause-ends : goal.returns-in-Err-clause-ends
+returns-in-Err-clause-ends g c = λ told tells.
+    let h = c.in-Err.ensures.halted new_disks in
+    no_rows (shelved (g.S.Shelf.told.disk c.args.shelf.now) (g.S.Shelf.told.disk c.args.shelf.now)) new_disks _ _ _ _ (g.I.Source.faults c.args.script.now) (g.I.Source.faults c.read_rows.new.script) h.0 c.in-Err.fault c.stop.result _ _ h.1 (λ name. refl) h.2 c.stop.ensures
+
+pub returns-in-Err-clause-words : goal.returns-in-Err-clause-words
+returns-in-Err-clause-words g c =
+    let h = c.in-Err.ensures.halted new_disks in
+    closed_not _ _ _ _ _ _ _ c.stop.result c.stop.ensures (not_words h.2.rest (g.I.Source.left c.read_rows.new.script) (length h.2.lines) (g.I.Source.faults c.args.script.now) (g.I.Source.faults c.read_rows.new.script) h.0 c.in-Err.fault h.2.halted)
+
+pub returns-in-Err-clause-read : goal.returns-in-Err-clause-read
+returns-in-Err-clause-read g c = λ e.
+    let h = c.in-Err.ensures.halted new_disks in
+    read_rose h.2.rest (g.I.Source.left c.read_rows.new.script) (length h.2.lines) (g.I.Source.faults c.args.script.now) (g.I.Source.faults c.read_rows.new.script) h.0 c.in-Err.fault h.2.halted
+    (stopped_same _ _ _ _ _ c.in-Err.fault _ c.stop.result c.stop.ensures e)
+
+pub returns-in-Err-Some-clause-ends : goal.returns-in-Err-Some-clause-ends
+returns-in-Err-Some-clause-ends g c = λ told tells.
+    let closes = subst (λ fault. Closes (g.O.Sink.written c.args.out.now) (g.O.Sink.written c.stop-in-Err-Some.new.out) (g.O.Sink.faults c.args.out.now) (g.O.Sink.faults c.stop-in-Err-Some.new.out) (fault_line fault) (Stopped fault) c.stop-in-Err-Some.result)
+    c.in-Err-Some.fault-is c.stop-in-Err-Some.ensures in
+    no_pumps (shelved (g.S.Shelf.told.disk c.args.shelf.now) (g.S.Shelf.told.disk c.open.new.shelf)) new_disks (g.I.Source.left c.args.script.now) (g.I.Source.left c.read_rows.new.script) _ _
+    (g.I.Source.faults c.args.script.now) (g.I.Source.faults c.read_rows.new.script) c.read_rows.new.lines c.in-Ok.rows.0 c.in-Ok.rows.1 c.in-Err-Some.fault c.stop-in-Err-Some.result _ _
+    c.in-Ok.ensures.follows (c.in-Err-Some.ensures.not told tells c.in-Err-Some.fault c.in-Err-Some.field-0-is) (c.in-Ok.ensures.rows new_disks) c.read_rows.ensures.number closes
+
+pub leave-requires-clause-first : goal.leave-requires-clause-first
+leave-requires-clause-first g c = are_out g.S.Disk.Disk.told (g.S.Shelf.told.disk c.open.new.shelf) c.in-Ok.rows.0.id (trio_of c.in-Ok-open.chain.first) c.in-Ok-open.ensures.first_out
+
+pub leave-requires-clause-second : goal.leave-requires-clause-second
+leave-requires-clause-second g c = are_out g.S.Disk.Disk.told (g.S.Shelf.told.disk c.open.new.shelf) c.in-Ok.rows.1.id (trio_of c.in-Ok-open.chain.second) c.in-Ok-open.ensures.second_out
+
+pub returns-clause-ends : goal.returns-clause-ends
+returns-clause-ends g c = λ told tells.
+    let before = g.S.Shelf.told.disk c.args.shelf.now in
+    let after = g.S.Shelf.told.disk c.leave.new.shelf in
+    let all = g.I.Source.left c.args.script.now in
+    let one = c.in-Ok.rows.0 in
+    let two = c.in-Ok.rows.1 in
+    let j = c.in-Ok-open.ensures.joins told tells in
+    let read = both_begin j.openings all (g.I.Source.left c.read_rows.new.script) c.read_rows.new.lines one two c.in-Ok.ensures.follows j.linked (c.in-Ok.ensures.rows j.openings) c.read_rows.ensures.number in
+    let others = others_more before (g.S.Shelf.told.disk c.open.new.shelf) after one.id two.id c.open.ensures.others c.leave.ensures.others in
+    mapped (lent g.S.Disk.Disk.told c.run-ended.new.chain j.openings one two) (shelved before after) (λ h. absurd h)
+    (keeps_so g.S.Disk.Disk.told c.run-ended.new.chain before after j.openings one two j.first_found j.second_found (c.leave.ensures.left told tells) others) (λ row other fault h. absurd h)
+    all (g.I.Source.left c.run-ended.new.script) (g.O.Sink.written c.args.out.now) (g.O.Sink.written c.run-ended.new.out) (g.I.Source.faults c.args.script.now) (g.I.Source.faults c.read_rows.new.script) (g.I.Source.faults c.run-ended.new.script)
+    c.read_rows.ensures.later c.run-ended.result (c.run-ended.ensures.ends tells j.openings all one two (chain_of j.openings one two) refl j.stands (refl, refl) read)
+
+pub returns-clause-back : goal.returns-clause-back
+returns-clause-back g c = λ told.
+    let home = c.leave.ensures.home told in
+    all_back (g.S.Shelf.told.disk c.args.shelf.now) (g.S.Shelf.told.disk c.leave.new.shelf) c.in-Ok.rows.0.id c.in-Ok.rows.1.id
+    (others_more (g.S.Shelf.told.disk c.args.shelf.now) (g.S.Shelf.told.disk c.open.new.shelf) (g.S.Shelf.told.disk c.leave.new.shelf) _ _ c.open.ensures.others c.leave.ensures.others) home.0 home.1

@@ -1,0 +1,153 @@
+-- Words of private clauses.
+use Rattle.std.specs.Prelude.{◌≡◌, ◌⊎◌, ℕ, ◌+◌, ◌^◌, ◌<◌, ◌≤◌, true, List, [], ◌∷◌, length, Option, None, Some}
+use Rattle.std.specs.Io.KnownBytes.{Appends}
+use Rattle.disk_model.specs.Disk.{Meaning}
+use Rattle.disk_model.specs.Shelf.{OnShelf, IsOut}
+use Rattle.disk_model.specs.declared.name.Role.{Role}
+use Rattle.pump_chain.specs.Chained.{Chained, ChainLeads, ChainRefuses}
+use Rattle.pump_chain.specs.Opening.{disk_in}
+use Rattle.pump_chain.specs.Scripted.{chain_of}
+use Rattle.pump_chain.specs.Standing.{ChainStands, ChainStandsOrFails}
+use Rattle.pump_chain.specs.declared.chain.Chain.{Chain}
+use Rattle.pump_frame.specs.Rows.{IsLawfulRow}
+use Rattle.pump_frame.specs.declared.row.SessionRow.{SessionRow}
+use Rattle.pump_link.specs.Causes.{AppendsFront}
+use Rattle.recovery.specs.declared.trio.Trio.{Trio}
+use Rattle.script_reader.specs.declared.event.Event.{Event}
+use Rattle.script_reader.specs.declared.fault.Fault.{Fault}
+use Rattle.script_reader.specs.declared.fault.Fault.TheVariants as faults
+use Rattle.script_reader.specs.declared.line.Line.{Line}
+use Rattle.script_reader.specs.declared.line.Line.TheVariants.{Skip, Session}
+use Rattle.script_reader.specs.Lines.{LineReading, AreLines, to_come}
+use Rattle.script_reader.specs.Openings.{Openings}
+use Rattle.script_reader.specs.Transcript.{text}
+use Rattle.script_replay.specs.Lending.{ReadAt, IsOutAt}
+use Rattle.script_replay.specs.Replays.{IsNear}
+use Rattle.script_reader.specs.Scripts.{Running}
+use Rattle.script_replay.specs.Runners.{IsLineFault}
+use Rattle.script_replay.specs.Shelves.{Places, disk_name, OfDisks, HasFound}
+use Rattle.two_worlds.specs.Disks.{StandForLeft}
+use Rattle.chain_replay.specs.Faults.{IsHalted, ChainStops, session_or, broken_in, refusal_of}
+use Rattle.chain_replay.specs.Opened.{Shelved}
+use Rattle.chain_replay.specs.Replays.{IsSoFar}
+use Rattle.chain_replay.specs.Scripts.{Begun, OnePump, Refuses, LacksPump, AreLinked}
+use Rattle.chain_replay.specs.declared.rows.Opens.{Opens}
+use Rattle.chain_replay.specs.declared.rows.Opens.TheVariants as opens
+use Rattle.two_worlds.specs.declared.applied.Stop.{Stop}
+use Rattle.two_worlds.specs.declared.applied.Stop.TheVariants as stops
+use Rattle.chain_replay.specs.declared.turn.Outcome.{Outcome}
+use Rattle.chain_replay.specs.declared.turn.Outcome.TheVariants as outcomes
+
+-- ---- the two session lines ----
+
+-- what a line is to a script that is to begin a pump
+abbrev pub IsOpens : Line → Opens → Type 0
+IsOpens line opens.Nothing = line ≡ Skip
+IsOpens line (opens.Pump row) = (line ≡ Session row) × IsLawfulRow row
+IsOpens line opens.Wrongly = (begun : Begun) → LacksPump begun → Refuses begun line
+
+-- so many lines were read, and begin so much
+abbrev pub HasRead : Openings → Option (List ℕ) → Option (List ℕ) → ℕ → Begun → List Event → Type 0
+HasRead o all rest number begun events = (lines : List Line) × IsSoFar o all rest lines begun events × (length lines ≡ number)
+
+-- .. and the next one is a `session` line of this row
+pub record ReadsRow (o : Openings) (all left : Option (List ℕ)) (reading : LineReading) (begun : Begun) (row : SessionRow) : Type 0 where
+  pub lines : List Line
+  pub rest : Option (List ℕ)
+  pub so_far : IsSoFar o all rest lines begun []
+  pub spelled : AreLines rest (Session row ∷ []) (to_come reading left)
+  pub number : length lines + 1 ≡ reading.number
+  pub near : IsNear rest left
+
+-- .. and it is not read on, with this fault
+pub record ReadsNoFurther (o : Openings) (all left : Option (List ℕ)) (was now : ℕ) (begun : Begun) (fault : Fault) : Type 0 where
+  pub lines : List Line
+  pub rest : Option (List ℕ)
+  pub so_far : IsSoFar o all rest lines begun []
+  pub halted : IsHalted rest left (length lines) was now begun fault
+
+-- ---- the disks ----
+
+-- the three disks of a session were read so, where they are to be taken; they are off the shelf; they are back on it
+abbrev pub AreReadAt : {D : Type 0} → Meaning D → Places → ℕ → Trio D → Type 0
+AreReadAt m places session t = (role : Role) → ReadAt places session role (m.reading (disk_in role t))
+
+abbrev pub AreOutAt : {D : Type 0} → Meaning D → Places → ℕ → Trio D → Type 0
+AreOutAt m places session t = (role : Role) → IsOutAt places session role (m.count (disk_in role t))
+
+abbrev pub AreBackAt : {D : Type 0} → Meaning D → Places → ℕ → Trio D → Type 0
+AreBackAt m places session t = (role : Role) → places (disk_name session role) ≡ OnShelf (m.reading (disk_in role t))
+
+abbrev pub AreOut : Places → ℕ → Type 0
+AreOut places session = (role : Role) → IsOut (places (disk_name session role))
+
+-- no disk of the session is off the shelf
+abbrev pub AreHome : Places → ℕ → Type 0
+AreHome places session = (role : Role) → IsOut (places (disk_name session role)) → ⊥
+
+-- its disks are on the shelf, and hold the world that it came to, in which each call that is unfinished was kept or lost
+abbrev pub AreLeftAt : Places → ℕ → Running → Type 0
+AreLeftAt places session s = OfDisks places session (StandForLeft s.row s.past.world)
+
+-- a disk of a session failed, or memory was wanting; so of two sessions
+abbrev pub IsUntakenAt : ℕ → Option Fault → Type 0
+IsUntakenAt session None = Unit {0}
+IsUntakenAt session (Some fault) = (role : Role) × (fault ≡ faults.Device session role)
+
+abbrev pub IsUntaken : ℕ → ℕ → Option Fault → Type 0
+IsUntaken one two None = Unit {0}
+IsUntaken one two (Some fault) = (role : Role) × ((fault ≡ faults.Device one role) ⊎ (fault ≡ faults.Device two role))
+
+-- the chain of two rows begins on what is read of their disks
+pub record Joins {D : Type 0} {g : _} (m : Meaning D) (before : Places) (one two : SessionRow) (chain : Chain D g) : Type 0 where
+  pub openings : Openings
+  pub first_found : HasFound before one (openings one.id)
+  pub second_found : HasFound before two (openings two.id)
+  pub linked : AreLinked openings one two
+  pub stands : ChainStands m chain (chain_of openings one two)
+
+-- ---- a line of the chain ----
+
+-- the sessions of the chain have the numbers of these rows
+abbrev pub AreOf : SessionRow → SessionRow → Chained → Type 0
+AreOf one two c = (c.first.row.id ≡ one.id) × (c.second.row.id ≡ two.id)
+
+-- what becomes of a line by why it stops the chain, if it does
+abbrev pub outcome_by : ℕ → Line → Option Stop → Outcome
+outcome_by first line None = outcomes.Applied
+outcome_by first line (Some stops.Line) = outcomes.Refused
+outcome_by first line (Some (stops.Device role count)) = outcomes.Stopped (faults.Device (broken_in first line role) role)
+outcome_by first line (Some (stops.Full end length size)) = outcomes.Stopped (faults.Full (session_or first line) end length size)
+outcome_by first line (Some (stops.Disk role why)) = outcomes.Stopped (refusal_of (session_or first line) role why)
+
+-- only with the fault of a disk, or of a message that does not fit, is a chain stopped, or none begun
+abbrev pub IsOfLine : Option Fault → Type 0
+IsOfLine None = Unit {0}
+IsOfLine (Some fault) = IsLineFault fault
+
+abbrev pub IsByLine : Outcome → Type 0
+IsByLine (outcomes.Stopped fault) = IsLineFault fault
+IsByLine outcome = Unit {0}
+
+-- a line that prints this leads on, can't be applied, or stops the chain
+abbrev pub TurnGoes : {D : Type 0} {g : _} → Meaning D → ℕ → Chained → Line → Chain D g → List Event → Outcome → Type 0
+TurnGoes m first c line t printed outcomes.Applied = (d : Chained) × ChainLeads c line d printed × ChainStands m t d
+TurnGoes m first c line t printed outcomes.Refused = ChainRefuses c line × (printed ≡ []) × ChainStands m t c
+TurnGoes m first c line t printed (outcomes.Stopped fault) = (d : Chained) × ChainStops first c line d printed fault × ChainStandsOrFails m t d
+TurnGoes m first c line t printed outcomes.Unwritten = ⊥
+
+-- so, and what it prints was written, or a front of it was
+abbrev pub TurnDoes : {D : Type 0} {g : _} → Meaning D → ℕ → Chained → Line → Chain D g → Option (List ℕ) → Option (List ℕ) → Outcome → Type 0
+TurnDoes m first c line t old new outcomes.Unwritten =
+    (printed : List Event) × (outcome : Outcome) × TurnGoes m first c line t printed outcome × AppendsFront old new (text printed)
+TurnDoes m first c line t old new outcome = (printed : List Event) × TurnGoes m first c line t printed outcome × Appends old new (text printed)
+
+-- ---- while the chain runs ----
+
+-- the chain of these rows has come to this, also where a disk failed in its last line
+abbrev pub lent : {D : Type 0} {g : _} → Meaning D → Chain D g → Openings → SessionRow → SessionRow → Shelved
+lent m chain o one two = record {
+  waits = ⊥;
+  keeps = λ p row other c. (p ≡ o) × (row ≡ one) × (other ≡ two) × ChainStandsOrFails m chain c × AreOf one two c;
+  refuses = λ row other fault. ⊥;
+}

@@ -1,0 +1,15 @@
+//! The replay of a script over two pumps in a row: it reads the script line by line, joins the two
+//! sessions that it begins, writes the transcript, and answers how it ended.
+#![tactic(auto)]
+
+mod disks;
+mod opening;
+mod printing;
+mod replaying;
+mod rows;
+mod running;
+#[cfg(test)]
+mod tests;
+mod turn;
+
+pub use replaying::replay_chain;

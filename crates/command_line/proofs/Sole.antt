@@ -7,7 +7,7 @@ use Rattle.std.specs.Str.{bytes_eq}
 use Rattle.command_line.specs.Commands.{IsCommand, IsLooking, AreWordsOf, words_of}
 use Rattle.command_line.proofs.Commas.{one_list}
 use Rattle.command_line.specs.declared.command.Command.{Command}
-use Rattle.command_line.specs.declared.command.Command.TheVariants.{Replay, Format, Show, Exercise, Race, Serve, Receive, Send, Migrate, Unwrap, Audit, Compare}
+use Rattle.command_line.specs.declared.command.Command.TheVariants.{Replay, Format, Show, Exercise, Race, Serve, Receive, Send, Migrate, Wrap, Unwrap, Audit, Compare}
 use Rattle.command_line.specs.declared.command.WordsFault.{WordsFault}
 use Rattle.command_line.specs.declared.command.WordsFault.TheVariants.{NoCommand, Memory}
 
@@ -30,6 +30,7 @@ name_of (Serve t n k) = codes "serve"
 name_of (Receive t n k) = codes "receive"
 name_of (Send t n k) = codes "send"
 name_of (Migrate t n u m) = codes "migrate"
+name_of (Wrap t n) = codes "wrap"
 name_of (Unwrap t n) = codes "unwrap"
 name_of Audit = codes "audit"
 name_of Compare = codes "compare"
@@ -75,6 +76,8 @@ one_command (Migrate t n v i) (Migrate u m w j) h k e =
     let new_sessions = same_number i j (omega (arith, h.1.1)) (omega (arith, k.1.1)) (ap (λ l. get_or l 4 []) e) in
     λ p. Migrate (tables p) (sessions p) (new_tables p) (new_sessions p)
 one_command (Migrate t n v i) d h k e = absurd (apart (codes "migrate") (name_of d) _ _ refl e)
+one_command (Wrap t n) (Wrap u m) h k e = same_session Wrap t u n m h.1 k.1 (codes "wrap") e
+one_command (Wrap t n) d h k e = absurd (apart (codes "wrap") (name_of d) _ _ refl e)
 one_command (Unwrap t n) (Unwrap u m) h k e = same_session Unwrap t u n m h.1 k.1 (codes "unwrap") e
 one_command (Unwrap t n) d h k e = absurd (apart (codes "unwrap") (name_of d) _ _ refl e)
 one_command Audit Audit h k e = refl

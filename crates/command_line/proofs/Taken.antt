@@ -12,7 +12,7 @@ use Rattle.command_line.specs.Commands.{IsSession, IsLooking, AreWordsOf}
 use Rattle.command_line.specs.Found.{GivesSession, GivesLooks, GivesNewSession, GivesIn}
 use Rattle.command_line.specs.Program.{bare, leaf_four, program, value_rule}
 use Rattle.command_line.specs.declared.command.Command.{Command}
-use Rattle.command_line.specs.declared.command.Command.TheVariants.{Replay, Format, Show, Exercise, Race, Serve, Receive, Send, Migrate, Unwrap, Audit, Compare}
+use Rattle.command_line.specs.declared.command.Command.TheVariants.{Replay, Format, Show, Exercise, Race, Serve, Receive, Send, Migrate, Wrap, Unwrap, Audit, Compare}
 use Rattle.command_line.proofs.PlainWalks.{behind, walks_on, passes_on, passed}
 use Rattle.command_line.proofs.Plain.{plain_decimal, plain_table, plain_times}
 
@@ -72,6 +72,14 @@ show_met t s = refl
 show_taken : (x y : ℕ) (xs ys : Text) → (x == 45) ≡ false → (y == 45) ≡ false → takes program (codes "show" ∷ (x ∷ xs) ∷ (y ∷ ys) ∷ []) ≡ true
 unfolding clap_on_literals
 show_taken x y xs ys h k = simp (h, k)
+
+wrap_met : (t s : Text) → subcommand_of program (codes "wrap" ∷ t ∷ s ∷ []) ≡ Some (codes "wrap", rows_after table_rules [] (t ∷ s ∷ []))
+unfolding clap_on_literals
+wrap_met t s = refl
+
+wrap_taken : (x y : ℕ) (xs ys : Text) → (x == 45) ≡ false → (y == 45) ≡ false → takes program (codes "wrap" ∷ (x ∷ xs) ∷ (y ∷ ys) ∷ []) ≡ true
+unfolding clap_on_literals
+wrap_taken x y xs ys h k = simp (h, k)
 
 unwrap_met : (t s : Text) → subcommand_of program (codes "unwrap" ∷ t ∷ s ∷ []) ≡ Some (codes "unwrap", rows_after table_rules [] (t ∷ s ∷ []))
 unfolding clap_on_literals
@@ -260,6 +268,7 @@ words_taken words (Migrate t n u m) h =
     let s = plain_decimal m (omega (arith, h.0.1.1)) in
     rw (h.1, p.whole, q.whole, r.whole, s.whole)
     (migrate_taken p.first q.first r.first s.first p.rest q.rest r.rest s.rest p.undashed q.undashed r.undashed s.undashed)
+words_taken words (Wrap t n) h = rw h.1 (session_taken (codes "wrap") t n h.0 wrap_taken)
 words_taken words (Unwrap t n) h = rw h.1 (session_taken (codes "unwrap") t n h.0 unwrap_taken)
 words_taken words Audit h = rw h.1 audit_taken
 words_taken words Compare h = rw h.1 compare_taken
@@ -286,6 +295,7 @@ values_found words (Send t n k) h = rw (h.1, send_met) (refl, looks_given t n k 
 values_found words (Migrate t n u m) h =
     let given = migrate_given t u n m h.0.0 h.0.1 _ refl in
     rw (h.1, migrate_met) (refl, given.0, given.1)
+values_found words (Wrap t n) h = rw (h.1, wrap_met) (refl, session_given t n h.0)
 values_found words (Unwrap t n) h = rw (h.1, unwrap_met) (refl, session_given t n h.0)
 values_found words Audit h = rw (h.1, audit_met) refl
 values_found words Compare h = rw (h.1, compare_met) refl

@@ -5,7 +5,7 @@ use Rattle.clap.specs.Simple.{subcommand_rows_of}
 use Rattle.clap.specs.declared.parser.matches.ArgMatches.{ArgMatches}
 use Rattle.command_line.specs.TimeLists.{times_word}
 use Rattle.command_line.specs.declared.command.Command.{Command}
-use Rattle.command_line.specs.declared.command.Command.TheVariants.{Replay, Format, Show, Exercise, Race, Serve, Receive, Send, Migrate, Unwrap, Audit, Compare}
+use Rattle.command_line.specs.declared.command.Command.TheVariants.{Replay, Format, Show, Exercise, Race, Serve, Receive, Send, Migrate, Wrap, Unwrap, Audit, Compare}
 
 -- the values that were found are this session of the table
 abbrev pub GivesSession : List ℕ → ℕ → List Row → Type 0
@@ -31,6 +31,7 @@ Gives (Serve table session looks) name rows = (name ≡ codes "serve") × GivesL
 Gives (Receive table session looks) name rows = (name ≡ codes "receive") × GivesLooks table session looks rows
 Gives (Send table session looks) name rows = (name ≡ codes "send") × GivesLooks table session looks rows
 Gives (Migrate table session new_table new_session) name rows = (name ≡ codes "migrate") × GivesSession table session rows × GivesNewSession new_table new_session rows
+Gives (Wrap table session) name rows = (name ≡ codes "wrap") × GivesSession table session rows
 Gives (Unwrap table session) name rows = (name ≡ codes "unwrap") × GivesSession table session rows
 Gives Audit name rows = name ≡ codes "audit"
 Gives Compare name rows = name ≡ codes "compare"

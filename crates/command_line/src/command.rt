@@ -75,6 +75,13 @@ pub enum Command {
         /// The id of its row there.
         new_session: u32,
     },
+    /// Sends a file over the pump of a session of the table.
+    Wrap {
+        /// The file with the table.
+        table: TableName,
+        /// The id of its row.
+        session: u32,
+    },
     /// Writes the file that the messages with the receiver of a session of the table are.
     Unwrap {
         /// The file with the table.

@@ -102,6 +102,7 @@ pub(crate) fn program<'a>(alloc: Global) -> Result<Program<'a>, AllocError>
         all,
         with_four(alloc, "migrate", "TABLE", "S", "NEWTABLE", "T")?,
     )?;
+    let all = with(all, with_two(alloc, "wrap", "TABLE", "S")?)?;
     let all = with(all, with_two(alloc, "unwrap", "TABLE", "S")?)?;
     let all = with(all, plain(alloc, "audit"))?;
     with(all, plain(alloc, "compare"))

@@ -133,6 +133,7 @@ pub(crate) fn is_spelled(command: &Command, words: &[String]) -> bool
         Command::Compare => is_one(words, "compare"),
         Command::Format { table, session } => name_session(words, "format", table, *session),
         Command::Show { table, session } => name_session(words, "show", table, *session),
+        Command::Wrap { table, session } => name_session(words, "wrap", table, *session),
         Command::Unwrap { table, session } => name_session(words, "unwrap", table, *session),
         Command::Serve {
             table,

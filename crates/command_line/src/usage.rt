@@ -9,6 +9,7 @@ pub const USAGE: &str = "type one of these after the program's name:
   receive TABLE S LOOKS       takes the messages of session S from its relay, and prints a line for each; it ends after LOOKS looks at the link
   send TABLE S LOOKS          sends the messages on standard input, a line of hexadecimal digits each, to the relay of session S, and prints a line for each that is stored; it waits LOOKS looks at most for an answer
   migrate TABLE S NEWTABLE T  writes what session S has on the three empty disks of session T, which has a row in the file NEWTABLE, and changes none of its own
+  wrap TABLE S                sends the file on standard input over the pump of session S until its receiver has all of it, as in: netpump wrap TABLE S < FILE
   unwrap TABLE S              writes the file that the messages with the receiver of session S are, and nothing else
   audit                       checks the record on standard input, and prints that it is clean, or the first line that is wrong and its cause, as in: netpump audit < RECORD
   compare                     compares Low's side of two records on standard input, with a line '# compare' between them, and prints that they agree, or the first item that differs

@@ -163,6 +163,7 @@ pub(crate) fn with_values(name: &str, matches: &ArgMatches) -> Option<Command>
             looks,
         }),
         "migrate" => migrate_in(matches),
+        "wrap" => session_in(matches).map(|(table, session)| Command::Wrap { table, session }),
         "unwrap" => session_in(matches).map(|(table, session)| Command::Unwrap { table, session }),
         _ => None,
     }

@@ -15,6 +15,7 @@ returns c =
     let receive = c.in_ok-all-7.ensures ∙ ap₂ (λ (a s : App). with_subcommand a s.top) serve c.in_ok-with_three-3.ensures.app in
     let send = c.in_ok-all-8.ensures ∙ ap₂ (λ (a s : App). with_subcommand a s.top) receive c.in_ok-with_three-4.ensures.app in
     let migrate = c.in_ok-all-9.ensures ∙ ap₂ (λ (a s : App). with_subcommand a s.top) send c.in_ok-with_four.ensures.app in
-    let unwrap = c.in_ok-all-10.ensures ∙ ap₂ (λ (a s : App). with_subcommand a s.top) migrate c.in_ok-with_two-4.ensures.app in
-    let audit = c.in_ok-all-11.ensures ∙ ap₂ (λ (a s : App). with_subcommand a s.top) unwrap c.plain-2.ensures.app in
-    IfOk-weaker c.with-12.result _ _ (λ p h. h ∙ ap₂ (λ (a s : App). with_subcommand a s.top) audit c.plain-3.ensures.app) c.with-12.ensures
+    let wrap = c.in_ok-all-10.ensures ∙ ap₂ (λ (a s : App). with_subcommand a s.top) migrate c.in_ok-with_two-4.ensures.app in
+    let unwrap = c.in_ok-all-11.ensures ∙ ap₂ (λ (a s : App). with_subcommand a s.top) wrap c.in_ok-with_two-5.ensures.app in
+    let audit = c.in_ok-all-12.ensures ∙ ap₂ (λ (a s : App). with_subcommand a s.top) unwrap c.plain-2.ensures.app in
+    IfOk-weaker c.with-13.result _ _ (λ p h. h ∙ ap₂ (λ (a s : App). with_subcommand a s.top) audit c.plain-3.ensures.app) c.with-13.ensures

@@ -7,7 +7,7 @@ use Rattle.std.specs.Str.{bytes_eq}
 use Rattle.command_line.specs.Commands.{IsCommand, IsLooking, AreWordsOf, words_of}
 use Rattle.command_line.proofs.Commas.{one_list}
 use Rattle.command_line.specs.declared.command.Command.{Command}
-use Rattle.command_line.specs.declared.command.Command.TheVariants.{Replay, Format, Show, Exercise, Race, Serve, Receive, Send, Migrate, Wrap, Unwrap, Audit, Compare}
+use Rattle.command_line.specs.declared.command.Command.TheVariants.{Replay, Format, Show, Exercise, Race, Serve, Receive, Send, Migrate, Wrap, Unwrap, Audit, Compare, Chain}
 use Rattle.command_line.specs.declared.command.WordsFault.{WordsFault}
 use Rattle.command_line.specs.declared.command.WordsFault.TheVariants.{NoCommand, Memory}
 
@@ -34,6 +34,7 @@ name_of (Wrap t n) = codes "wrap"
 name_of (Unwrap t n) = codes "unwrap"
 name_of Audit = codes "audit"
 name_of Compare = codes "compare"
+name_of Chain = codes "chain"
 
 same_session : (make : List ℕ → ℕ → Command) (t u : List ℕ) (n m : ℕ) → n < 2 ^ 32 → m < 2 ^ 32 → (name : List ℕ) → name ∷ t ∷ decimal n ∷ [] ≡ name ∷ u ∷ decimal m ∷ [] → make t n ≡ make u m
 same_session make t u n m h k name e = ap₂ make (ap (λ l. get_or l 1 []) e) (same_number n m (omega (arith, h)) (omega (arith, k)) (ap (λ l. get_or l 2 []) e))
@@ -84,6 +85,8 @@ one_command Audit Audit h k e = refl
 one_command Audit d h k e = absurd (apart (codes "audit") (name_of d) _ _ refl e)
 one_command Compare Compare h k e = refl
 one_command Compare d h k e = absurd (apart (codes "compare") (name_of d) _ _ refl e)
+one_command Chain Chain h k e = refl
+one_command Chain d h k e = absurd (apart (codes "chain") (name_of d) _ _ refl e)
 
 pub words_of_one : (words : List (List ℕ)) (c d : Command) → AreWordsOf words c → AreWordsOf words d → c ≡ d
 words_of_one words c d h k = one_command c d h.0 k.0 (sym h.1 ∙ k.1)

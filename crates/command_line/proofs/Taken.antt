@@ -12,7 +12,7 @@ use Rattle.command_line.specs.Commands.{IsSession, IsLooking, AreWordsOf}
 use Rattle.command_line.specs.Found.{GivesSession, GivesLooks, GivesNewSession, GivesIn}
 use Rattle.command_line.specs.Program.{bare, leaf_four, program, value_rule}
 use Rattle.command_line.specs.declared.command.Command.{Command}
-use Rattle.command_line.specs.declared.command.Command.TheVariants.{Replay, Format, Show, Exercise, Race, Serve, Receive, Send, Migrate, Wrap, Unwrap, Audit, Compare}
+use Rattle.command_line.specs.declared.command.Command.TheVariants.{Replay, Format, Show, Exercise, Race, Serve, Receive, Send, Migrate, Wrap, Unwrap, Audit, Compare, Chain}
 use Rattle.command_line.proofs.PlainWalks.{behind, walks_on, passes_on, passed}
 use Rattle.command_line.proofs.Plain.{plain_decimal, plain_table, plain_times}
 
@@ -106,6 +106,14 @@ compare_taken = refl
 compare_met : subcommand_of program (codes "compare" ∷ []) ≡ Some (codes "compare", [])
 unfolding clap_on_literals
 compare_met = refl
+
+chain_taken : takes program (codes "chain" ∷ []) ≡ true
+unfolding clap_on_literals
+chain_taken = refl
+
+chain_met : subcommand_of program (codes "chain" ∷ []) ≡ Some (codes "chain", [])
+unfolding clap_on_literals
+chain_met = refl
 
 -- a seed and a count
 
@@ -272,6 +280,7 @@ words_taken words (Wrap t n) h = rw h.1 (session_taken (codes "wrap") t n h.0 wr
 words_taken words (Unwrap t n) h = rw h.1 (session_taken (codes "unwrap") t n h.0 unwrap_taken)
 words_taken words Audit h = rw h.1 audit_taken
 words_taken words Compare h = rw h.1 compare_taken
+words_taken words Chain h = rw h.1 chain_taken
 
 -- and finds its values
 pub values_found : (words : List Text) (c : Command) → AreWordsOf words c → GivesIn c (subcommand_of program words)
@@ -299,3 +308,4 @@ values_found words (Wrap t n) h = rw (h.1, wrap_met) (refl, session_given t n h.
 values_found words (Unwrap t n) h = rw (h.1, unwrap_met) (refl, session_given t n h.0)
 values_found words Audit h = rw (h.1, audit_met) refl
 values_found words Compare h = rw (h.1, compare_met) refl
+values_found words Chain h = rw (h.1, chain_met) refl

@@ -3,7 +3,7 @@ use Rattle.std.specs.Prelude.{◌≡◌, ℕ, ◌≤◌, ◌<◌, ◌^◌, true,
 use Rattle.command_line.specs.TableNames.{is_table_name}
 use Rattle.command_line.specs.TimeLists.{AreTimes, times_word}
 use Rattle.command_line.specs.declared.command.Command.{Command}
-use Rattle.command_line.specs.declared.command.Command.TheVariants.{Replay, Format, Show, Exercise, Race, Serve, Receive, Send, Migrate, Wrap, Unwrap, Audit, Compare}
+use Rattle.command_line.specs.declared.command.Command.TheVariants.{Replay, Format, Show, Exercise, Race, Serve, Receive, Send, Migrate, Wrap, Unwrap, Audit, Compare, Chain}
 
 -- a session of a table
 abbrev pub IsSession : List ℕ → ℕ → Type 0
@@ -28,6 +28,7 @@ IsCommand (Wrap table session) = IsSession table session
 IsCommand (Unwrap table session) = IsSession table session
 IsCommand Audit = Unit {0}
 IsCommand Compare = Unit {0}
+IsCommand Chain = Unit {0}
 
 -- its words, each as its bytes
 abbrev pub words_of : Command → List (List ℕ)
@@ -44,6 +45,7 @@ words_of (Wrap table session) = codes "wrap" ∷ table ∷ decimal session ∷ [
 words_of (Unwrap table session) = codes "unwrap" ∷ table ∷ decimal session ∷ []
 words_of Audit = codes "audit" ∷ []
 words_of Compare = codes "compare" ∷ []
+words_of Chain = codes "chain" ∷ []
 
 -- the words are this command
 abbrev pub AreWordsOf : List (List ℕ) → Command → Type 0

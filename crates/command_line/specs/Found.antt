@@ -5,7 +5,7 @@ use Rattle.clap.specs.Simple.{subcommand_rows_of}
 use Rattle.clap.specs.declared.parser.matches.ArgMatches.{ArgMatches}
 use Rattle.command_line.specs.TimeLists.{times_word}
 use Rattle.command_line.specs.declared.command.Command.{Command}
-use Rattle.command_line.specs.declared.command.Command.TheVariants.{Replay, Format, Show, Exercise, Race, Serve, Receive, Send, Migrate, Wrap, Unwrap, Audit, Compare}
+use Rattle.command_line.specs.declared.command.Command.TheVariants.{Replay, Format, Show, Exercise, Race, Serve, Receive, Send, Migrate, Wrap, Unwrap, Audit, Compare, Chain}
 
 -- the values that were found are this session of the table
 abbrev pub GivesSession : List ℕ → ℕ → List Row → Type 0
@@ -35,6 +35,7 @@ Gives (Wrap table session) name rows = (name ≡ codes "wrap") × GivesSession t
 Gives (Unwrap table session) name rows = (name ≡ codes "unwrap") × GivesSession table session rows
 Gives Audit name rows = name ≡ codes "audit"
 Gives Compare name rows = name ≡ codes "compare"
+Gives Chain name rows = name ≡ codes "chain"
 
 abbrev pub GivesIn : Command → Option (List ℕ × List Row) → Type 0
 GivesIn command None = ⊥

@@ -26,7 +26,7 @@ bare = let a = new_app (codes "netpump") in record a { top = record a.top { no_b
 
 abbrev pub program : App
 program =
-    with_subcommand (with_subcommand (with_subcommand (with_subcommand (with_subcommand (with_subcommand (with_subcommand (with_subcommand (with_subcommand (with_subcommand (with_subcommand (with_subcommand (with_subcommand bare
+    with_subcommand (with_subcommand (with_subcommand (with_subcommand (with_subcommand (with_subcommand (with_subcommand (with_subcommand (with_subcommand (with_subcommand (with_subcommand (with_subcommand (with_subcommand (with_subcommand bare
     (leaf_none (codes "replay")).top)
     (leaf_two (codes "format") (codes "TABLE") (codes "S")).top)
     (leaf_two (codes "show") (codes "TABLE") (codes "S")).top)
@@ -39,4 +39,5 @@ program =
     (leaf_two (codes "wrap") (codes "TABLE") (codes "S")).top)
     (leaf_two (codes "unwrap") (codes "TABLE") (codes "S")).top)
     (leaf_none (codes "audit")).top)
-    (leaf_none (codes "compare")).top
+    (leaf_none (codes "compare")).top)
+    (leaf_none (codes "chain")).top

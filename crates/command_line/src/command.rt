@@ -93,6 +93,8 @@ pub enum Command {
     Audit,
     /// Compares Low's side of two records.
     Compare,
+    /// Replays the script of two pumps in a row.
+    Chain,
 }
 
 /// Why the words give no command.

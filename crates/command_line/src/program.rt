@@ -105,5 +105,6 @@ pub(crate) fn program<'a>(alloc: Global) -> Result<Program<'a>, AllocError>
     let all = with(all, with_two(alloc, "wrap", "TABLE", "S")?)?;
     let all = with(all, with_two(alloc, "unwrap", "TABLE", "S")?)?;
     let all = with(all, plain(alloc, "audit"))?;
-    with(all, plain(alloc, "compare"))
+    let all = with(all, plain(alloc, "compare"))?;
+    with(all, plain(alloc, "chain"))
 }

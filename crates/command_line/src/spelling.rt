@@ -130,6 +130,7 @@ pub(crate) fn is_spelled(command: &Command, words: &[String]) -> bool
     match command {
         Command::Replay => is_one(words, "replay"),
         Command::Audit => is_one(words, "audit"),
+        Command::Chain => is_one(words, "chain"),
         Command::Compare => is_one(words, "compare"),
         Command::Format { table, session } => name_session(words, "format", table, *session),
         Command::Show { table, session } => name_session(words, "show", table, *session),

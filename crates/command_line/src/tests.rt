@@ -25,6 +25,7 @@ fn answer(rt: &HostRuntime, line: &str) -> Result<&'static str, AllocError> {
         Ok(Command::Unwrap { .. }) => Ok("unwrap"),
         Ok(Command::Audit) => Ok("audit"),
         Ok(Command::Compare) => Ok("compare"),
+        Ok(Command::Chain) => Ok("chain"),
         Err(WordsFault::NoCommand) => Ok("none"),
         Err(WordsFault::Memory) => Ok("memory"),
     }
@@ -92,6 +93,8 @@ fn command_lines(rt: HostRuntime) -> Result<(), Fail> {
         ("audit", "audit"),
         ("audit record", "none"),
         ("compare", "compare"),
+        ("chain", "chain"),
+        ("chain t.toml 1", "none"),
         ("help", "none"),
         ("help replay", "none"),
         ("--help", "none"),

@@ -142,6 +142,7 @@ pub(crate) fn with_values(name: &str, matches: &ArgMatches) -> Option<Command>
     match name {
         "replay" => Some(Command::Replay),
         "audit" => Some(Command::Audit),
+        "chain" => Some(Command::Chain),
         "compare" => Some(Command::Compare),
         "format" => session_in(matches).map(|(table, session)| Command::Format { table, session }),
         "show" => session_in(matches).map(|(table, session)| Command::Show { table, session }),

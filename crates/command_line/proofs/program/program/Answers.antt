@@ -18,4 +18,5 @@ returns c =
     let wrap = c.in_ok-all-10.ensures ∙ ap₂ (λ (a s : App). with_subcommand a s.top) migrate c.in_ok-with_two-4.ensures.app in
     let unwrap = c.in_ok-all-11.ensures ∙ ap₂ (λ (a s : App). with_subcommand a s.top) wrap c.in_ok-with_two-5.ensures.app in
     let audit = c.in_ok-all-12.ensures ∙ ap₂ (λ (a s : App). with_subcommand a s.top) unwrap c.plain-2.ensures.app in
-    IfOk-weaker c.with-13.result _ _ (λ p h. h ∙ ap₂ (λ (a s : App). with_subcommand a s.top) audit c.plain-3.ensures.app) c.with-13.ensures
+    let compare = c.in_ok-all-13.ensures ∙ ap₂ (λ (a s : App). with_subcommand a s.top) audit c.plain-3.ensures.app in
+    IfOk-weaker c.with-14.result _ _ (λ p h. h ∙ ap₂ (λ (a s : App). with_subcommand a s.top) compare c.plain-4.ensures.app) c.with-14.ensures

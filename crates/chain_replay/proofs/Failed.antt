@@ -5,9 +5,8 @@ use Rattle.disk_model.specs.Disk.{Meaning}
 use Rattle.disk_model.specs.declared.disk.Disk.{Ghosts}
 use Rattle.disk_model.specs.declared.name.Role.{Role}
 use Rattle.disk_model.specs.declared.name.Role.TheVariants as roles
-use Rattle.disk_model.specs.Shelf.{Out}
 use Rattle.pump_chain.specs.Failing.{FailNoLess}
-use Rattle.pump_chain.specs.Opening.{disk_in, trio_of, AreLeft, HandBoth, IsUnopened, IsApart, ComeBackFor}
+use Rattle.pump_chain.specs.Opening.{disk_in, trio_of, AreLeft, IsUnopened, IsApart, ComeBackFor}
 use Rattle.pump_chain.specs.Standing.{RoseAt, IsCounted}
 use Rattle.pump_chain.specs.declared.chain.Chain.{Chain}
 use Rattle.pump_chain.specs.declared.not_chained.ChainWhy.{ChainWhy}
@@ -22,7 +21,6 @@ use Rattle.recovery.specs.declared.why.Why.TheVariants as whys
 use Rattle.script_reader.specs.declared.fault.Fault.{Fault}
 use Rattle.script_reader.specs.declared.fault.Fault.TheVariants as faults
 use Rattle.script_reader.specs.declared.line.Line.{Line}
-use Rattle.script_replay.specs.Lending.{IsOutAt, RisesAt}
 use Rattle.script_replay.specs.Runners.{Closes, fault_of}
 use Rattle.script_replay.specs.Shelves.{Places, disk_name, LeavesOtherSessions}
 use Rattle.script_replay.specs.declared.ended.Ended.{Ended}

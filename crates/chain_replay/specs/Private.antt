@@ -1,5 +1,5 @@
 -- Words of private clauses.
-use Rattle.std.specs.Prelude.{◌≡◌, ◌⊎◌, ℕ, ◌+◌, ◌^◌, ◌<◌, ◌≤◌, true, List, [], ◌∷◌, length, Option, None, Some}
+use Rattle.std.specs.Prelude.{◌≡◌, ◌⊎◌, ℕ, ◌+◌, List, [], ◌∷◌, length, Option, None, Some}
 use Rattle.std.specs.Io.KnownBytes.{Appends}
 use Rattle.disk_model.specs.Disk.{Meaning}
 use Rattle.disk_model.specs.Shelf.{OnShelf, IsOut}
@@ -31,7 +31,7 @@ use Rattle.two_worlds.specs.Disks.{StandForLeft}
 use Rattle.chain_replay.specs.Faults.{IsHalted, ChainStops, session_or, broken_in, refusal_of}
 use Rattle.chain_replay.specs.Opened.{Shelved}
 use Rattle.chain_replay.specs.Replays.{IsSoFar}
-use Rattle.chain_replay.specs.Scripts.{Begun, OnePump, Refuses, LacksPump, AreLinked}
+use Rattle.chain_replay.specs.Scripts.{Begun, Refuses, LacksPump, AreLinked}
 use Rattle.chain_replay.specs.declared.rows.Opens.{Opens}
 use Rattle.chain_replay.specs.declared.rows.Opens.TheVariants as opens
 use Rattle.script_replay.specs.declared.ended.Ended.{Ended}

@@ -1,5 +1,5 @@
 use Rattle.std.proofs.Common.{inl, inr, sym, ◌∙◌}
-use Rattle.chain_replay.proofs.Joining.{joins, not_chained, not_taken, all_back, out_left, of_line}
+use Rattle.chain_replay.proofs.Joining.{joins, not_chained, all_back, out_left, of_line}
 use Rattle.chain_replay.proofs.Taking.{are_out, home_by, others_more}
 use Rattle.chain_replay.proofs.Failed.{device_rose, rose_back}
 use Rattle.chain_replay.proofs.opening.open.Goals as goal

@@ -1,4 +1,4 @@
-use Rattle.std.proofs.Common.{◌++◌, refl, sym, ◌∙◌, [], arith}
+use Rattle.std.proofs.Common.{◌++◌, refl, [], arith}
 use Rattle.pump_link.proofs.Known.{Appends-none, Appends-then}
 use Rattle.script_reader.specs.Heads.{line_with}
 use Rattle.script_reader.specs.Lines.{to_come}

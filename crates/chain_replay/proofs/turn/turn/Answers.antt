@@ -1,4 +1,4 @@
-use Rattle.std.proofs.Common.{List, ℕ, ap, subst}
+use Rattle.std.proofs.Common.{List, ℕ, subst}
 use Rattle.pump_chain.specs.Standing.{ChainApplies}
 use Rattle.script_reader.specs.Heads.{line_with}
 use Rattle.script_reader.specs.Transcript.{text}

@@ -1,5 +1,5 @@
 -- The lines of a chain, and how they end.
-use Rattle.std.proofs.Common.{◌≡◌, ℕ, ◌+◌, ◌-◌, ◌^◌, ◌<◌, ◌≤◌, inl, inr, min, List, [], ◌∷◌, ◌++◌, Option, length, refl, sym, ap, ◌∙◌, subst, append_assoc, append-nil, arith}
+use Rattle.std.proofs.Common.{◌≡◌, ℕ, ◌+◌, ◌-◌, ◌^◌, ◌<◌, inl, inr, min, List, [], ◌∷◌, ◌++◌, Option, length, refl, sym, ap, ◌∙◌, subst, append_assoc, append-nil, arith}
 use Rattle.std.specs.Io.KnownBytes.{Appends, IsAtEnd}
 use Rattle.disk_model.specs.Disk.{Meaning}
 use Rattle.disk_model.specs.declared.disk.Disk.{Ghosts}
@@ -7,7 +7,6 @@ use Rattle.pump_chain.specs.Chained.{Chained, Share, Skipped, OfFirst, OfSecond,
 use Rattle.pump_chain.specs.Ends.{ends_of}
 use Rattle.pump_chain.specs.Standing.{ChainStands, ChainStandsOrFails, ChainBreaks, ChainOverfills}
 use Rattle.pump_chain.specs.declared.chain.Chain.{Chain}
-use Rattle.pump_frame.specs.Counts.{Rose}
 use Rattle.pump_frame.specs.declared.row.SessionRow.{SessionRow}
 use Rattle.pump_link.specs.Causes.{AppendsFront}
 use Rattle.pump_link.proofs.Known.{Appends-then}
@@ -20,7 +19,7 @@ use Rattle.script_reader.specs.declared.lines.Lined.TheVariants as lined
 use Rattle.script_reader.specs.Lines.{LineReading, to_come, IsNextLine}
 use Rattle.script_reader.specs.Openings.{Openings}
 use Rattle.script_reader.specs.Transcript.{text, fault_line}
-use Rattle.script_replay.specs.Replays.{IsWithinLine, fault_after}
+use Rattle.script_replay.specs.Replays.{fault_after}
 use Rattle.script_replay.specs.Runners.{Closes}
 use Rattle.script_replay.specs.declared.ended.Ended.{Ended}
 use Rattle.script_replay.specs.declared.ended.Ended.TheVariants as ended
@@ -30,8 +29,8 @@ use Rattle.chain_replay.specs.Ends.{EndsChain}
 use Rattle.chain_replay.specs.Faults.{IsHalted, ChainStops}
 use Rattle.chain_replay.specs.Opened.{Shelved}
 use Rattle.chain_replay.specs.Private.{AreOf, HasRead, TurnGoes, lent}
-use Rattle.chain_replay.specs.Replays.{Replayed, IsKept, IsFinished, IsCutShort, IsNext, IsStopped, EndsWith, IsOutput}
-use Rattle.chain_replay.specs.Scripts.{Begun, BothPumps, Leads}
+use Rattle.chain_replay.specs.Replays.{Replayed, IsFinished, EndsWith}
+use Rattle.chain_replay.specs.Scripts.{BothPumps}
 use Rattle.chain_replay.specs.declared.turn.Outcome.{Outcome}
 use Rattle.chain_replay.specs.declared.turn.Outcome.TheVariants as outcomes
 use Rattle.chain_replay.proofs.Parts.{their_own}

@@ -7,7 +7,7 @@ use Rattle.disk_model.specs.declared.disk.Disk.{Ghosts}
 use Rattle.disk_model.specs.declared.name.Role.{Role}
 use Rattle.disk_model.specs.declared.name.Role.TheVariants as roles
 use Rattle.disk_model.specs.Shelf.{IsOut}
-use Rattle.pump_chain.specs.Opening.{disk_in, first_chained, StandFor, HandsBack, HandBoth, IsUnopened as IsNotOpened, IsUnread, IsApart, ComeBackFor, AreLeft, is_failed, is_by_device}
+use Rattle.pump_chain.specs.Opening.{disk_in, first_chained, StandFor, HandsBack, HandBoth, IsUnopened as IsNotOpened, IsApart, ComeBackFor, AreLeft, is_failed, is_by_device}
 use Rattle.pump_chain.specs.Standing.{ChainStands}
 use Rattle.pump_chain.specs.declared.chain.Chain.{Chain}
 use Rattle.pump_chain.specs.declared.not_chained.ChainWhy.{ChainWhy}
@@ -32,7 +32,7 @@ use Rattle.two_worlds.specs.Rooms.{is_role}
 use Rattle.chain_replay.specs.Faults.{chain_fault}
 use Rattle.chain_replay.specs.Opened.{LeavesOthers, IsUnopened, IsBarred, IsUnchained, NotChained}
 use Rattle.chain_replay.specs.Private.{AreReadAt, AreOutAt, AreBackAt, AreHome, IsUntaken, IsOfLine, Joins}
-use Rattle.chain_replay.specs.Scripts.{MayFollow, AreLinked}
+use Rattle.chain_replay.specs.Scripts.{MayFollow}
 use Rattle.chain_replay.proofs.Taking.{by_role}
 
 -- ---- they begin ----

@@ -1,4 +1,5 @@
 pub mod Ending
+pub mod Failed
 pub mod Joining
 pub mod Mapped
 pub mod Parts

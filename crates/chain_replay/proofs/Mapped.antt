@@ -1,5 +1,5 @@
 -- What is known of the disks while a chain runs says what is read of them at the return.
-use Rattle.std.proofs.Common.{◌≡◌, ◌≤◌, ℕ, List, inl, inr, length, Option}
+use Rattle.std.proofs.Common.{◌≤◌, ℕ, List, inl, inr, length, Option}
 use Rattle.pump_chain.specs.Chained.{Chained}
 use Rattle.pump_frame.specs.declared.row.SessionRow.{SessionRow}
 use Rattle.script_reader.specs.declared.fault.Fault.{Fault}

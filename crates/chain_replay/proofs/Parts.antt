@@ -1,5 +1,5 @@
 -- A script as its two `session` lines and the lines of the chain.
-use Rattle.std.proofs.Common.{◌≡◌, ℕ, ◌==◌, Bool, true, false, List, [], ◌∷◌, ◌++◌, Option, None, Some, refl, sym, ap, ◌∙◌, subst}
+use Rattle.std.proofs.Common.{◌≡◌, ℕ, ◌==◌, Bool, true, false, List, [], ◌∷◌, ◌++◌, None, Some, refl, sym, ap, ◌∙◌, subst}
 use Rattle.std.proofs.lemmas.Bool.{eq-eqb, ne_eqb}
 use Rattle.std.proofs.lemmas.List.Elements.{filter-append}
 use Rattle.std.specs.Prelude.{nat_lt, if◌then◌else◌}
@@ -19,7 +19,7 @@ use Rattle.script_reader.proofs.Beside.{own_line, other_line}
 use Rattle.two_worlds.proofs.Timeline.Scripts.{script_runs}
 use Rattle.chain_replay.specs.Owned.{AreTheirOwn}
 use Rattle.chain_replay.specs.Private.{AreOf}
-use Rattle.chain_replay.specs.Scripts.{Begun, NoPump, OnePump, BothPumps, AreLinked, LeadTo}
+use Rattle.chain_replay.specs.Scripts.{NoPump, OnePump, BothPumps, AreLinked, LeadTo}
 
 -- ---- behind both session lines ----
 

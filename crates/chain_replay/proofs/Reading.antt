@@ -1,7 +1,6 @@
 -- The lines of a script, one after another.
 use Rattle.std.proofs.Common.{◌≡◌, ℕ, ◌+◌, ◌-◌, ◌^◌, ◌<◌, ◌≤◌, inl, inr, min, List, [], ◌∷◌, ◌++◌, Option, None, Some, length, refl, sym, ap, ◌∙◌, subst, append_assoc, append-nil, arith, length-append}
 use Rattle.std.specs.Io.KnownBytes.{Consumes, Keeps}
-use Rattle.pump_frame.specs.Rows.{IsLawfulRow}
 use Rattle.pump_frame.specs.declared.row.SessionRow.{SessionRow}
 use Rattle.script_reader.specs.declared.event.Event.{Event}
 use Rattle.script_reader.specs.declared.fault.Fault.{Fault}
@@ -13,9 +12,8 @@ use Rattle.script_reader.specs.Grammar.{IsLine}
 use Rattle.script_reader.specs.Lines.{LineReading, to_come, AreLines, IsUnended, IsNextLine}
 use Rattle.script_reader.specs.Openings.{Openings}
 use Rattle.script_reader.proofs.LineEnds.{Keeps-then}
-use Rattle.script_replay.specs.Replays.{fault_after, IsNear}
-use Rattle.script_replay.proofs.SoFar.{Keeps-same, Keeps-fresh, next_line, near_now, near_next, near_bad, within_failed, line_number, bad_number, one_left, counted_more}
-use Rattle.chain_replay.specs.Faults.{IsFaultyAt, IsHalted}
+use Rattle.script_replay.proofs.SoFar.{Keeps-same, Keeps-fresh, next_line, near_now, near_next, near_bad, line_number, bad_number, counted_more}
+use Rattle.chain_replay.specs.Faults.{IsHalted}
 use Rattle.chain_replay.specs.Private.{HasRead, ReadsRow, ReadsNoFurther}
 use Rattle.chain_replay.specs.Replays.{IsSoFar}
 use Rattle.chain_replay.specs.Scripts.{Begun, NoPump, OnePump, BothPumps, LacksPump, Leads, Refuses, LeadTo}

@@ -6,7 +6,7 @@ use Rattle.disk_model.specs.declared.name.Role.TheVariants as roles
 use Rattle.disk_model.specs.Shelf.{Whereabouts, OnShelf, IsOut}
 use Rattle.pump_chain.specs.Opening.{disk_in}
 use Rattle.recovery.specs.declared.trio.Trio.{Trio}
-use Rattle.script_replay.specs.Lending.{ReadAt, IsOutAt, AreOnShelf}
+use Rattle.script_replay.specs.Lending.{ReadAt, AreOnShelf}
 use Rattle.script_replay.specs.Shelves.{Places, disk_name, LeavesOtherSessions}
 use Rattle.script_replay.proofs.Shelving.{is_out}
 use Rattle.chain_replay.specs.Opened.{LeavesOthers}

@@ -1,9 +1,7 @@
 -- A whole script, by what became of its first lines.
-use Rattle.std.proofs.Common.{◌≡◌, ℕ, ◌+◌, ◌^◌, ◌<◌, List, [], Option, inl, inr, length, refl, sym, ◌∙◌, subst, arith}
-use Rattle.std.specs.Io.KnownBytes.{Appends}
+use Rattle.std.proofs.Common.{◌≡◌, ℕ, ◌^◌, ◌<◌, List, [], Option, inl, inr, refl, sym, ◌∙◌, subst, arith}
 use Rattle.pump_chain.specs.Scripted.{chain_of}
 use Rattle.pump_frame.specs.Counts.{Rose}
-use Rattle.pump_frame.specs.Rows.{IsLawfulRow}
 use Rattle.pump_frame.specs.declared.row.SessionRow.{SessionRow}
 use Rattle.pump_link.proofs.Known.{Appends-none}
 use Rattle.script_reader.specs.declared.fault.Fault.{Fault}
@@ -11,7 +9,7 @@ use Rattle.script_reader.specs.declared.fault.Fault.TheVariants as faults
 use Rattle.script_reader.specs.Lines.{LineReading, to_come}
 use Rattle.script_reader.specs.Openings.{Openings}
 use Rattle.script_reader.specs.Transcript.{fault_line}
-use Rattle.script_replay.specs.Runners.{Closes, IsLineFault}
+use Rattle.script_replay.specs.Runners.{Closes}
 use Rattle.script_replay.specs.declared.ended.Ended.{Ended}
 use Rattle.script_replay.specs.declared.ended.Ended.TheVariants as ended
 use Rattle.chain_replay.specs.Ends.{EndsChain}

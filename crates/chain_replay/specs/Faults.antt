@@ -1,5 +1,5 @@
 -- Why a script of two pumps in a row stops.
-use Rattle.std.specs.Prelude.{◌≡◌, ◌⊎◌, ℕ, ◌+◌, ◌-◌, ◌^◌, ◌<◌, List, [], ◌∷◌, Option, None, Some, IfSome}
+use Rattle.std.specs.Prelude.{◌≡◌, ◌⊎◌, ℕ, ◌-◌, ◌^◌, List, Option, None, Some, IfSome}
 use Rattle.std.specs.Io.KnownBytes.{IsAtEnd}
 use Rattle.disk_model.specs.declared.name.Role.{Role}
 use Rattle.disk_model.specs.declared.name.Role.TheVariants as roles
@@ -8,7 +8,6 @@ use Rattle.pump_chain.specs.Standing.{ChainBreaks, ChainOverfills}
 use Rattle.pump_chain.specs.declared.not_chained.ChainWhy.{ChainWhy}
 use Rattle.pump_chain.specs.declared.not_chained.ChainWhy.TheVariants as reasons
 use Rattle.pump_frame.specs.Counts.{Rose}
-use Rattle.pump_frame.specs.declared.row.SessionRow.{SessionRow}
 use Rattle.recovery.specs.Faults.{why_number, why_values}
 use Rattle.recovery.specs.declared.why.Why.{Why}
 use Rattle.script_reader.specs.declared.event.Event.{Event}
@@ -17,11 +16,11 @@ use Rattle.script_reader.specs.declared.fault.Fault.TheVariants as faults
 use Rattle.script_reader.specs.declared.line.Line.{Line}
 use Rattle.script_reader.specs.declared.line.Line.TheVariants as lines
 use Rattle.script_reader.specs.Faults.{IsFaultyBy}
-use Rattle.script_reader.specs.Lines.{AreLines, IsSome}
+use Rattle.script_reader.specs.Lines.{IsSome}
 use Rattle.script_reader.specs.Sessions.{session_in}
 use Rattle.script_replay.specs.Replays.{fault_after, IsNear, IsWithinLine}
 use Rattle.script_replay.specs.Runners.{fault_of}
-use Rattle.chain_replay.specs.Scripts.{Begun, BothPumps, Refuses, LacksPump}
+use Rattle.chain_replay.specs.Scripts.{Begun, Refuses, LacksPump}
 
 -- ---- what is no line of a script ----
 

@@ -1,14 +1,15 @@
 -- Words of private clauses.
-use Rattle.std.specs.Prelude.{◌≡◌, ◌⊎◌, ℕ, ◌+◌, ◌^◌, ◌<◌, ◌≤◌, true, List, [], ◌∷◌, length, Option, None, Some}
+use Rattle.std.specs.Prelude.{◌≡◌, ◌⊎◌, ℕ, ◌+◌, List, [], ◌∷◌, length, Option, None, Some}
 use Rattle.std.specs.Io.KnownBytes.{Appends}
 use Rattle.disk_model.specs.Disk.{Meaning}
 use Rattle.disk_model.specs.Shelf.{OnShelf, IsOut}
 use Rattle.disk_model.specs.declared.name.Role.{Role}
 use Rattle.pump_chain.specs.Chained.{Chained, ChainLeads, ChainRefuses}
-use Rattle.pump_chain.specs.Opening.{disk_in}
+use Rattle.pump_chain.specs.Opening.{disk_in, trio_of}
 use Rattle.pump_chain.specs.Scripted.{chain_of}
 use Rattle.pump_chain.specs.Standing.{ChainStands, ChainStandsOrFails}
 use Rattle.pump_chain.specs.declared.chain.Chain.{Chain}
+use Rattle.pump_frame.specs.Counts.{Rose}
 use Rattle.pump_frame.specs.Rows.{IsLawfulRow}
 use Rattle.pump_frame.specs.declared.row.SessionRow.{SessionRow}
 use Rattle.pump_link.specs.Causes.{AppendsFront}
@@ -21,7 +22,7 @@ use Rattle.script_reader.specs.declared.line.Line.TheVariants.{Skip, Session}
 use Rattle.script_reader.specs.Lines.{LineReading, AreLines, to_come}
 use Rattle.script_reader.specs.Openings.{Openings}
 use Rattle.script_reader.specs.Transcript.{text}
-use Rattle.script_replay.specs.Lending.{ReadAt, IsOutAt}
+use Rattle.script_replay.specs.Lending.{ReadAt, IsOutAt, RisesAt}
 use Rattle.script_replay.specs.Replays.{IsNear}
 use Rattle.script_reader.specs.Scripts.{Running}
 use Rattle.script_replay.specs.Runners.{IsLineFault}
@@ -30,9 +31,11 @@ use Rattle.two_worlds.specs.Disks.{StandForLeft}
 use Rattle.chain_replay.specs.Faults.{IsHalted, ChainStops, session_or, broken_in, refusal_of}
 use Rattle.chain_replay.specs.Opened.{Shelved}
 use Rattle.chain_replay.specs.Replays.{IsSoFar}
-use Rattle.chain_replay.specs.Scripts.{Begun, OnePump, Refuses, LacksPump, AreLinked}
+use Rattle.chain_replay.specs.Scripts.{Begun, Refuses, LacksPump, AreLinked}
 use Rattle.chain_replay.specs.declared.rows.Opens.{Opens}
 use Rattle.chain_replay.specs.declared.rows.Opens.TheVariants as opens
+use Rattle.script_replay.specs.declared.ended.Ended.{Ended}
+use Rattle.script_replay.specs.declared.ended.Ended.TheVariants as ended
 use Rattle.two_worlds.specs.declared.applied.Stop.{Stop}
 use Rattle.two_worlds.specs.declared.applied.Stop.TheVariants as stops
 use Rattle.chain_replay.specs.declared.turn.Outcome.{Outcome}
@@ -81,6 +84,18 @@ AreBackAt m places session t = (role : Role) → places (disk_name session role)
 abbrev pub AreOut : Places → ℕ → Type 0
 AreOut places session = (role : Role) → IsOut (places (disk_name session role))
 
+-- where the count of a disk of a session that is off the shelf rose since it was given, the shelf's rises when it comes back
+abbrev pub AllRiseAt : {D : Type 0} → Meaning D → Places → ℕ → Trio D → ℕ → ℕ → Type 0
+AllRiseAt m places session t before now = (role : Role) → RisesAt places session role (m.count (disk_in role t)) before now
+
+-- a call of one of three disks failed since they were these
+abbrev pub HasFailedAt : {D : Type 0} → Meaning D → Trio D → Trio D → Type 0
+HasFailedAt m old new = (role : Role) × Rose (m.count (disk_in role old)) (m.count (disk_in role new))
+
+-- .. of a disk of a chain
+abbrev pub HasFailed : {D : Type 0} {g : _} → Meaning D → Chain D g → Chain D g → Type 0
+HasFailed m s t = HasFailedAt m (trio_of s.first) (trio_of t.first) ⊎ HasFailedAt m (trio_of s.second) (trio_of t.second)
+
 -- no disk of the session is off the shelf
 abbrev pub AreHome : Places → ℕ → Type 0
 AreHome places session = (role : Role) → IsOut (places (disk_name session role)) → ⊥
@@ -124,6 +139,15 @@ outcome_by first line (Some (stops.Disk role why)) = outcomes.Stopped (refusal_o
 abbrev pub IsOfLine : Option Fault → Type 0
 IsOfLine None = Unit {0}
 IsOfLine (Some fault) = IsLineFault fault
+
+-- a call of a disk failed
+abbrev pub IsDevice : Fault → Type 0
+IsDevice (faults.Device session role) = Unit {0}
+IsDevice fault = ⊥
+
+abbrev pub IsDeviceEnd : Ended → Type 0
+IsDeviceEnd (ended.Stopped fault) = IsDevice fault
+IsDeviceEnd end = ⊥
 
 abbrev pub IsByLine : Outcome → Type 0
 IsByLine (outcomes.Stopped fault) = IsLineFault fault

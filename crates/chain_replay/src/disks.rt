@@ -2,7 +2,7 @@
 
 ghost use Rattle.std.specs.Prelude.{◌≡◌, ◌≤◌, IfOk, IfErr, Some};
 ghost use Rattle.chain_replay.specs.Opened.{LeavesOthers};
-ghost use Rattle.chain_replay.specs.Private.{AreReadAt, AreOutAt, AreBackAt, AreOut, IsUntaken, IsUntakenAt};
+ghost use Rattle.chain_replay.specs.Private.{AreReadAt, AreOutAt, AreBackAt, AreOut, AllRiseAt, IsUntaken, IsUntakenAt};
 ghost use Rattle.pump_frame.specs.Counts.{Rose};
 ghost use Rattle.script_replay.specs.Shelves.{AllAreBack, LeavesOtherSessions, Spares};
 
@@ -48,11 +48,11 @@ fn take_trio<S: Shelf>(shelf: &mut S, session: u32) -> Result<Trio<S::Disk>, Opt
 fn put_trio_back<S: Shelf>(shelf: &mut S, session: u32, disks: Trio<S::Disk>)
     requires { AreOut (S.told.disk shelf.old) session }
     ensures back { S.told.tells → AreBackAt S.Disk.told (S.told.disk shelf.new) session disks }
+    ensures rises { AllRiseAt S.Disk.told (S.told.disk shelf.old) session disks (S.told.disk_faults shelf.old) (S.told.disk_faults shelf.new) }
     ensures others { LeavesOtherSessions (S.told.disk shelf.old) (S.told.disk shelf.new) session }
     ensures later { S.told.disk_faults shelf.old ≤ S.told.disk_faults shelf.new }
 {
-    let Trio { low, high, recv } = disks;
-    put_disks_back(shelf, session, low, high, recv);
+    put_disks_back(shelf, session, disks.low, disks.high, disks.recv);
 }
 
 /// Takes the disks of two sessions off the shelf, the first one's first. Where one can't be taken, those
@@ -89,10 +89,11 @@ pub fn put_six_back<S: Shelf>(shelf: &mut S, one: u32, two: u32, disks: Six<S::D
     requires second { AreOut (S.told.disk shelf.old) two }
     ensures first { S.told.tells → AreBackAt S.Disk.told (S.told.disk shelf.new) one disks.first }
     ensures second { S.told.tells → AreBackAt S.Disk.told (S.told.disk shelf.new) two disks.second }
+    ensures first_rises { AllRiseAt S.Disk.told (S.told.disk shelf.old) one disks.first (S.told.disk_faults shelf.old) (S.told.disk_faults shelf.new) }
+    ensures second_rises { AllRiseAt S.Disk.told (S.told.disk shelf.old) two disks.second (S.told.disk_faults shelf.old) (S.told.disk_faults shelf.new) }
     ensures others { LeavesOthers (S.told.disk shelf.old) (S.told.disk shelf.new) one two }
     ensures later { S.told.disk_faults shelf.old ≤ S.told.disk_faults shelf.new }
 {
-    let Six { first, second } = disks;
-    put_trio_back(shelf, one, first);
-    put_trio_back(shelf, two, second);
+    put_trio_back(shelf, one, disks.first);
+    put_trio_back(shelf, two, disks.second);
 }

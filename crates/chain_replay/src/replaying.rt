@@ -1,11 +1,13 @@
 //! A whole script.
 
-ghost use Rattle.std.specs.Prelude.{◌≡◌, ◌≤◌, []};
+ghost use Rattle.std.specs.Prelude.{◌≡◌, ◌≤◌, ℕ, []};
 ghost use Rattle.std.specs.Io.KnownBytes.{Appends};
 ghost use Rattle.chain_replay.specs.Ends.{EndsChain};
 ghost use Rattle.chain_replay.specs.Opened.{LeavesOthers, shelved};
-ghost use Rattle.chain_replay.specs.Private.{AreOut, AreHome, AreLeftAt};
+ghost use Rattle.chain_replay.specs.Private.{AreOut, AllRiseAt, AreHome, AreLeftAt};
+ghost use Rattle.disk_model.specs.declared.name.Role.{Role};
 ghost use Rattle.pump_chain.specs.Chained.{Chained};
+ghost use Rattle.pump_chain.specs.Opening.{trio_of};
 ghost use Rattle.pump_chain.specs.Standing.{ChainStandsOrFails};
 ghost use Rattle.pump_frame.specs.Counts.{Rose};
 ghost use Rattle.script_replay.specs.Shelves.{AllAreBack};
@@ -29,6 +31,8 @@ fn leave<S: Shelf>(chain: Chain<S::Disk>, one: u32, two: u32, shelf: &mut S)
     requires second { AreOut (S.told.disk shelf.old) two }
     ensures left { S.told.tells → S.Disk.told.tells → (c : Chained) → ChainStandsOrFails S.Disk.told chain c
         → AreLeftAt (S.told.disk shelf.new) one c.first × AreLeftAt (S.told.disk shelf.new) two c.second }
+    ensures first_rises { AllRiseAt S.Disk.told (S.told.disk shelf.old) one (trio_of chain.first) (S.told.disk_faults shelf.old) (S.told.disk_faults shelf.new) }
+    ensures second_rises { AllRiseAt S.Disk.told (S.told.disk shelf.old) two (trio_of chain.second) (S.told.disk_faults shelf.old) (S.told.disk_faults shelf.new) }
     ensures home { S.told.tells → AreHome (S.told.disk shelf.new) one × AreHome (S.told.disk shelf.new) two }
     ensures others { LeavesOthers (S.told.disk shelf.old) (S.told.disk shelf.new) one two }
     ensures later { S.told.disk_faults shelf.old ≤ S.told.disk_faults shelf.new }
@@ -61,7 +65,8 @@ pub fn replay_chain<S: Shelf, I: Source, O: Sink>(
     ensures memory { result ≡ Ended.Memory → Appends (O.written out.old) (O.written out.new) [] }
     ensures words { result ≡ Ended.Stopped Fault.Words → ⊥ }
     ensures back { S.told.tells → AllAreBack (S.told.disk shelf.old) (S.told.disk shelf.new) }
-    // A read and a write fail only where the count of the source or the sink rose.
+    // A disk, a read and a write fail only where the count of the shelf, the source or the sink rose.
+    ensures device { (session : ℕ) (role : Role) → result ≡ Ended.Stopped (Fault.Device session role) → Rose (S.told.disk_faults shelf.old) (S.told.disk_faults shelf.new) }
     ensures read { result ≡ Ended.Stopped Fault.Read → Rose (I.faults script.old) (I.faults script.new) }
     ensures write { result ≡ Ended.Write → Rose (O.faults out.old) (O.faults out.new) }
 {

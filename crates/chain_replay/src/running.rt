@@ -2,7 +2,7 @@
 
 ghost use Rattle.std.specs.Prelude.{◌≡◌, ◌^◌, ◌<◌, ℕ, List, [], false, Option};
 ghost use Rattle.chain_replay.specs.Ends.{EndsChain};
-ghost use Rattle.chain_replay.specs.Private.{AreOf, HasRead, lent};
+ghost use Rattle.chain_replay.specs.Private.{AreOf, HasFailed, HasRead, IsDeviceEnd, lent};
 ghost use Rattle.chain_replay.specs.Scripts.{BothPumps};
 ghost use Rattle.pump_chain.specs.Chained.{Chained};
 ghost use Rattle.pump_chain.specs.Ends.{ends_of};
@@ -60,6 +60,7 @@ pub fn run<D: Disk, I: Source, O: Sink>(
         → HasRead o all (to_come lines.old (I.left script.old)) lines.old.number (BothPumps one two c) []
         → EndsChain (lent D.told chain.new o one two) all (I.left script.new) (O.written out.old) (O.written out.new) (I.faults script.old) (I.faults script.new) result }
     ensures memory { result ≡ Ended.Memory → ⊥ }
+    ensures device { IsDeviceEnd result → HasFailed D.told chain.old chain.new }
     ensures words { result ≡ Ended.Stopped Fault.Words → ⊥ }
     ensures read { result ≡ Ended.Stopped Fault.Read → Rose (I.faults script.old) (I.faults script.new) }
     ensures write { result ≡ Ended.Write → Rose (O.faults out.old) (O.faults out.new) }

@@ -2,8 +2,9 @@
 
 ghost use Rattle.std.specs.Prelude.{◌≡◌, ◌≤◌, ℕ, List, false};
 ghost use Rattle.chain_replay.specs.Faults.{session_or, broken_in};
-ghost use Rattle.chain_replay.specs.Private.{outcome_by, IsByLine, TurnDoes};
+ghost use Rattle.chain_replay.specs.Private.{outcome_by, HasFailed, IsByLine, IsDevice, TurnDoes};
 ghost use Rattle.pump_chain.specs.Chained.{Chained};
+ghost use Rattle.pump_chain.specs.Failing.{FailNoLess};
 ghost use Rattle.pump_chain.specs.Standing.{ChainStands, chain_is_down};
 ghost use Rattle.pump_frame.specs.Counts.{Rose};
 ghost use Rattle.script_reader.specs.Heads.{line_with, CanHoldLine};
@@ -88,6 +89,8 @@ pub fn turn<D: Disk, O: Sink>(
     ensures does { D.told.tells → (c : Chained) → ChainStands D.told chain.old c
         → TurnDoes D.told first c (line_with body.now line.now) chain.new (O.written out.old) (O.written out.new) result }
     ensures line { IsByLine result }
+    ensures device { (fault : Fault) → result ≡ Outcome.Stopped fault → IsDevice fault → HasFailed D.told chain.old chain.new }
+    ensures counts { FailNoLess D.told chain.old chain.new }
     ensures up { result ≡ Outcome.Applied → chain_is_down chain.new ≡ false }
     ensures later { O.faults out.old ≤ O.faults out.new }
     ensures cause { result ≡ Outcome.Unwritten → Rose (O.faults out.old) (O.faults out.new) }

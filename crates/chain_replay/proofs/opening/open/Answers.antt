@@ -1,6 +1,7 @@
-use Rattle.std.proofs.Common.{None, sym, ◌∙◌}
-use Rattle.chain_replay.proofs.Joining.{joins, not_chained, not_taken, all_back, out_left, of_line}
+use Rattle.std.proofs.Common.{inl, inr, sym, ◌∙◌}
+use Rattle.chain_replay.proofs.Joining.{joins, not_chained, all_back, out_left, of_line}
 use Rattle.chain_replay.proofs.Taking.{are_out, home_by, others_more}
+use Rattle.chain_replay.proofs.Failed.{device_rose, rose_back}
 use Rattle.chain_replay.proofs.opening.open.Goals as goal
 
 pub put_six_back-requires-clause-first : goal.put_six_back-requires-clause-first
@@ -38,3 +39,15 @@ returns-in-Err-open-clause-not g c = λ told tells fault is.
 
 pub returns-in-Err-clause-line : goal.returns-in-Err-clause-line
 returns-in-Err-clause-line g c = of_line c.args.one.now.id c.args.two.now.id c.in-Err.fault c.in-Err.ensures.of
+
+pub returns-in-Err-open-clause-device : goal.returns-in-Err-open-clause-device
+returns-in-Err-open-clause-device g c = λ fault is device.
+    let m = g.S.Disk.Disk.told in
+    let taken = g.S.Shelf.told.disk c.take_six.new.shelf in
+    let first = g.S.Shelf.told.disk_faults c.args.shelf.now in
+    let mid = g.S.Shelf.told.disk_faults c.take_six.new.shelf in
+    let last = g.S.Shelf.told.disk_faults c.put_six_back.new.shelf in
+    elim (device_rose m c.args.one.now c.args.two.now c.in-Ok.disks c.in-Err-open.refused.disks fault device c.in-Err-open.refused.why c.in-Err-open.ensures.back (sym c.chain_fault.ensures.is ∙ is)) [
+      | inl failed ↦ rose_back m taken c.args.one.now.id c.in-Ok.disks.first c.in-Err-open.refused.disks.first first mid last c.take_six.ensures.later c.in-Ok.ensures.first_out c.put_six_back.ensures.first_rises failed
+      | inr failed ↦ rose_back m taken c.args.two.now.id c.in-Ok.disks.second c.in-Err-open.refused.disks.second first mid last c.take_six.ensures.later c.in-Ok.ensures.second_out c.put_six_back.ensures.second_rises failed
+    ]

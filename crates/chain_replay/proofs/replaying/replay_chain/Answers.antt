@@ -1,4 +1,4 @@
-use Rattle.std.proofs.Common.{length, refl, subst}
+use Rattle.std.proofs.Common.{inl, inr, length, refl, sym, subst}
 use Rattle.pump_chain.specs.Opening.{trio_of}
 use Rattle.pump_chain.specs.Scripted.{chain_of}
 use Rattle.script_reader.specs.Openings.{new_disks}
@@ -7,12 +7,13 @@ use Rattle.script_replay.specs.Runners.{Closes}
 use Rattle.script_replay.specs.declared.ended.Ended.TheVariants.{Stopped}
 use Rattle.script_replay.proofs.Stops.{closed_not}
 use Rattle.chain_replay.specs.Opened.{shelved}
-use Rattle.chain_replay.specs.Private.{lent}
+use Rattle.chain_replay.specs.Private.{IsDevice, IsDeviceEnd, lent}
 use Rattle.chain_replay.proofs.Joining.{all_back}
 use Rattle.chain_replay.proofs.Mapped.{mapped}
 use Rattle.chain_replay.proofs.Returning.{keeps_so}
 use Rattle.chain_replay.proofs.Taking.{are_out, others_more}
 use Rattle.chain_replay.proofs.Whole.{no_rows, no_pumps, both_begin, not_words, read_rose, stopped_same}
+use Rattle.chain_replay.proofs.Failed.{rose_back, not_device}
 use Rattle.chain_replay.proofs.replaying.replay_chain.Goals as goal
 
 pub returns-in-Err-clause-ends : goal.returns-in-Err-clause-ends
@@ -65,3 +66,29 @@ returns-clause-back g c = λ told.
     let home = c.leave.ensures.home told in
     all_back (g.S.Shelf.told.disk c.args.shelf.now) (g.S.Shelf.told.disk c.leave.new.shelf) c.in-Ok.rows.0.id c.in-Ok.rows.1.id
     (others_more (g.S.Shelf.told.disk c.args.shelf.now) (g.S.Shelf.told.disk c.open.new.shelf) (g.S.Shelf.told.disk c.leave.new.shelf) _ _ c.open.ensures.others c.leave.ensures.others) home.0 home.1
+
+pub returns-in-Err-clause-device : goal.returns-in-Err-clause-device
+returns-in-Err-clause-device g c = λ session role e.
+    let h = c.in-Err.ensures.halted new_disks in
+    absurd (not_device h.2.rest (g.I.Source.left c.read_rows.new.script) (length h.2.lines) (g.I.Source.faults c.args.script.now) (g.I.Source.faults c.read_rows.new.script) h.0 c.in-Err.fault h.2.halted
+    (subst IsDevice (sym (stopped_same _ _ _ _ _ c.in-Err.fault _ c.stop.result c.stop.ensures e)) tt))
+
+pub returns-in-Err-Some-clause-device : goal.returns-in-Err-Some-clause-device
+returns-in-Err-Some-clause-device g c = λ session role e.
+    let closes = subst (λ fault. Closes (g.O.Sink.written c.args.out.now) (g.O.Sink.written c.stop-in-Err-Some.new.out) (g.O.Sink.faults c.args.out.now) (g.O.Sink.faults c.stop-in-Err-Some.new.out) (fault_line fault) (Stopped fault) c.stop-in-Err-Some.result)
+    c.in-Err-Some.fault-is c.stop-in-Err-Some.ensures in
+    c.in-Err-Some.ensures.device c.in-Err-Some.fault c.in-Err-Some.field-0-is (subst IsDevice (sym (stopped_same _ _ _ _ _ c.in-Err-Some.fault _ c.stop-in-Err-Some.result closes e)) tt)
+
+pub returns-clause-device : goal.returns-clause-device
+returns-clause-device g c = λ session role e.
+    let m = g.S.Disk.Disk.told in
+    let out = g.S.Shelf.told.disk c.open.new.shelf in
+    let first = g.S.Shelf.told.disk_faults c.args.shelf.now in
+    let mid = g.S.Shelf.told.disk_faults c.open.new.shelf in
+    let last = g.S.Shelf.told.disk_faults c.leave.new.shelf in
+    let opened = c.in-Ok-open.chain in
+    let ran = c.run-ended.new.chain in
+    elim (c.run-ended.ensures.device (subst IsDeviceEnd (sym e) tt)) [
+      | inl failed ↦ rose_back m out c.in-Ok.rows.0.id (trio_of opened.first) (trio_of ran.first) first mid last c.open.ensures.later c.in-Ok-open.ensures.first_out c.leave.ensures.first_rises failed
+      | inr failed ↦ rose_back m out c.in-Ok.rows.1.id (trio_of opened.second) (trio_of ran.second) first mid last c.open.ensures.later c.in-Ok-open.ensures.second_out c.leave.ensures.second_rises failed
+    ]

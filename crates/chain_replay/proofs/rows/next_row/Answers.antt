@@ -1,5 +1,4 @@
 use Rattle.std.proofs.Common.{◌+◌, ◌-◌, ◌^◌, min, [], refl, ap, arith, ◌∙◌}
-use Rattle.script_reader.specs.Heads.{line_with}
 use Rattle.script_reader.specs.Lines.{to_come}
 use Rattle.script_replay.proofs.SoFar.{within_failed}
 use Rattle.chain_replay.proofs.Reading.{so_far_kept, halted_line, halted_bad, halted_end, read_skip, read_row}

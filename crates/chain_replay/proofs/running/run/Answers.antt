@@ -1,4 +1,4 @@
-use Rattle.std.proofs.Common.{◌++◌, refl, sym, ◌∙◌, [], arith}
+use Rattle.std.proofs.Common.{◌++◌, refl, [], arith}
 use Rattle.pump_link.proofs.Known.{Appends-none, Appends-then}
 use Rattle.script_reader.specs.Heads.{line_with}
 use Rattle.script_reader.specs.Lines.{to_come}
@@ -10,10 +10,11 @@ use Rattle.script_replay.proofs.Stops.{closed_not, line_fault}
 use Rattle.chain_replay.specs.Scripts.{BothPumps}
 use Rattle.chain_replay.proofs.Ending.{of_leads, or_fails, halts, ends, stops_by, refuses_by, unwritten_by, closed_memory}
 use Rattle.chain_replay.proofs.Reading.{read_more, so_far_kept, halted_bad}
+use Rattle.chain_replay.proofs.Failed.{none_failed, no_less, failed_since, closed_device, device_end}
 use Rattle.chain_replay.proofs.running.run.Goals as goal
 
 pub turns-init : goal.turns-init
-turns-init g c = (λ tells o all one two s is stands are h. (s, [], h, stands, are, Appends-none _), c.requires.up, c.requires.few, omega arith, omega arith)
+turns-init g c = (λ tells o all one two s is stands are h. (s, [], h, stands, are, Appends-none _), c.requires.up, c.requires.few, omega arith, omega arith, none_failed g.D.Disk.told c.args.chain.now)
 
 pub turn-requires-clause-lawful : goal.turn-requires-clause-lawful
 turn-requires-clause-lawful g c = let n = c.in-Line.ensures.next in lawful_line (line_with c.next_head.new.body c.in-Line.line) n.0 n.2
@@ -38,6 +39,7 @@ turns-preserved g c =
       few,
       omega (arith, c.next_head.ensures.later, i.3),
       omega (arith, c.turn.ensures.later, i.4),
+      no_less g.D.Disk.told c.args.chain.now c.turns.chain c.turn.new.chain i.5 c.turn.ensures.counts,
     )
 
 pub returns-in-Refused-clause-ends : goal.returns-in-Refused-clause-ends
@@ -154,3 +156,19 @@ returns-in-Failed-clause-write g c = closed _ _ _ _ _ _ _ _ (omega (arith, c.tur
 
 pub returns-in-End-clause-write : goal.returns-in-End-clause-write
 returns-in-End-clause-write g c = λ e. omega (arith, c.turns.invariant.4, c.finish.ensures.cause e)
+
+pub returns-in-Refused-clause-device : goal.returns-in-Refused-clause-device
+returns-in-Refused-clause-device g c = λ h. absurd (closed_device _ _ _ _ _ _ c.refuse.result c.refuse.ensures h)
+
+pub returns-in-Stopped-clause-device : goal.returns-in-Stopped-clause-device
+returns-in-Stopped-clause-device g c = λ h.
+    failed_since g.D.Disk.told c.args.chain.now c.turns.chain c.turn.new.chain c.turns.invariant.5 (c.in-Stopped.ensures.device c.in-Stopped.fault refl (closed_device _ _ _ _ _ _ c.stop.result c.stop.ensures h))
+
+pub returns-in-Bad-clause-device : goal.returns-in-Bad-clause-device
+returns-in-Bad-clause-device g c = λ h. absurd (closed_device _ _ _ _ _ _ c.refuse-in-Bad.result c.refuse-in-Bad.ensures h)
+
+pub returns-in-Failed-clause-device : goal.returns-in-Failed-clause-device
+returns-in-Failed-clause-device g c = λ h. absurd (closed_device _ _ _ _ _ _ c.stop-in-Failed.result c.stop-in-Failed.ensures h)
+
+pub returns-in-End-clause-device : goal.returns-in-End-clause-device
+returns-in-End-clause-device g c = λ h. let e = device_end c.finish.result h in absurd (c.finish.ensures.stops e.0 e.1)

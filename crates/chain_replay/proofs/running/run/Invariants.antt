@@ -3,6 +3,7 @@ use Rattle.std.specs.Io.KnownBytes.{Appends}
 use Rattle.chain_replay.specs.Private.{AreOf, HasRead}
 use Rattle.chain_replay.specs.Scripts.{BothPumps}
 use Rattle.pump_chain.specs.Chained.{Chained}
+use Rattle.pump_chain.specs.Failing.{FailNoLess}
 use Rattle.pump_chain.specs.Standing.{ChainStands, chain_is_down}
 use Rattle.pump_frame.specs.declared.row.SessionRow.{SessionRow}
 use Rattle.script_reader.specs.declared.event.Event.{Event}
@@ -21,6 +22,7 @@ invariant-turns g l =
     × (l.lines.number < 2 ^ 32)
     × (g.I.Source.faults l.fn.script ≤ g.I.Source.faults l.script)
     × (g.O.Sink.faults l.fn.out ≤ g.O.Sink.faults l.out)
+    × FailNoLess g.D.Disk.told l.fn.chain l.chain
 
 abbrev pub decreases-turns : goal.decreases-turns
 decreases-turns g l = 2 ^ 32 - l.lines.number

@@ -1,4 +1,4 @@
-use Rattle.std.proofs.Common.{List, ℕ, ap, subst}
+use Rattle.std.proofs.Common.{List, ℕ, subst}
 use Rattle.pump_chain.specs.Standing.{ChainApplies}
 use Rattle.script_reader.specs.Heads.{line_with}
 use Rattle.script_reader.specs.Transcript.{text}
@@ -7,6 +7,7 @@ use Rattle.pump_link.specs.Causes.{AppendsFront}
 use Rattle.two_worlds.specs.Printing.{lines_in}
 use Rattle.chain_replay.specs.Private.{outcome_by}
 use Rattle.chain_replay.proofs.Turning.{turn_goes, turn_does, still_up, never_unwritten}
+use Rattle.chain_replay.proofs.Failed.{line_failed}
 use Rattle.chain_replay.proofs.turn.turn.Goals as goal
 
 pub returns-in-Ok-clause-does : goal.returns-in-Ok-clause-does
@@ -32,3 +33,7 @@ returns-in-Err-clause-does g c = λ tells s stands.
       turn_goes g.D.Disk.told c.args.chain.now c.apply_head-stop.new.self c.args.first line s (lines_in c.apply_head-stop.new.events.items) c.apply_head-stop.result a,
       subst (λ heads. AppendsFront (g.O.Sink.written c.args.out.now) (g.O.Sink.written c.print_all.new.out) (text (lines_in heads))) c.as_slice-2.ensures.value c.in-Err.ensures.err,
     )
+
+pub returns-in-Ok-clause-device : goal.returns-in-Ok-clause-device
+returns-in-Ok-clause-device g c =
+    line_failed g.D.Disk.told c.args.chain.now c.apply_head-stop.new.self c.args.first (line_with c.args.body.now c.args.line.now) c.apply_head-stop.result c.outcome_of.result (c.outcome_of.ensures.is c.args.body.now) c.apply_head-stop.ensures.device

@@ -1,0 +1,188 @@
+-- A disk is told to fail only where its count rose.
+use Rattle.std.proofs.Common.{◌≡◌, ◌≤◌, ℕ, Bool, true, List, Option, None, Some, inl, inr, refl, sym, ap, ◌∙◌, subst, arith}
+use Rattle.std.specs.Prelude.{◌⊎◌, ◌&&◌}
+use Rattle.disk_model.specs.Disk.{Meaning}
+use Rattle.disk_model.specs.declared.disk.Disk.{Ghosts}
+use Rattle.disk_model.specs.declared.name.Role.{Role}
+use Rattle.disk_model.specs.declared.name.Role.TheVariants as roles
+use Rattle.pump_chain.specs.Failing.{FailNoLess}
+use Rattle.pump_chain.specs.Opening.{disk_in, trio_of, AreLeft, IsUnopened, IsApart, ComeBackFor}
+use Rattle.pump_chain.specs.Standing.{RoseAt, IsCounted}
+use Rattle.pump_chain.specs.declared.chain.Chain.{Chain}
+use Rattle.pump_chain.specs.declared.not_chained.ChainWhy.{ChainWhy}
+use Rattle.pump_chain.specs.declared.not_chained.ChainWhy.TheVariants as reasons
+use Rattle.pump_chain.specs.declared.six.Six.{Six}
+use Rattle.pump_frame.specs.Counts.{Rose}
+use Rattle.pump_frame.specs.declared.row.SessionRow.{SessionRow}
+use Rattle.recovery.specs.Calls.{is_device}
+use Rattle.recovery.specs.declared.trio.Trio.{Trio}
+use Rattle.recovery.specs.declared.why.Why.{Why}
+use Rattle.recovery.specs.declared.why.Why.TheVariants as whys
+use Rattle.script_reader.specs.declared.fault.Fault.{Fault}
+use Rattle.script_reader.specs.declared.fault.Fault.TheVariants as faults
+use Rattle.script_reader.specs.declared.line.Line.{Line}
+use Rattle.script_replay.specs.Runners.{Closes, fault_of}
+use Rattle.script_replay.specs.Shelves.{Places, disk_name, LeavesOtherSessions}
+use Rattle.script_replay.specs.declared.ended.Ended.{Ended}
+use Rattle.script_replay.specs.declared.ended.Ended.TheVariants as ended
+use Rattle.script_replay.proofs.Shelving.{rises_more, rose_more}
+use Rattle.two_worlds.specs.declared.applied.Stop.{Stop}
+use Rattle.two_worlds.specs.declared.applied.Stop.TheVariants as stops
+use Rattle.two_worlds.specs.declared.pump.Pump.{Pump}
+use Rattle.two_worlds.specs.Openings.{LeavesDisk, ComeBack}
+use Rattle.two_worlds.specs.Pumps.{disk_at}
+use Rattle.chain_replay.specs.Faults.{chain_fault, IsHalted}
+use Rattle.chain_replay.specs.Private.{outcome_by, AllRiseAt, AreOutAt, HasFailedAt, HasFailed, IsDevice, IsDeviceEnd}
+use Rattle.chain_replay.specs.Scripts.{Begun}
+use Rattle.chain_replay.specs.declared.turn.Outcome.{Outcome}
+use Rattle.chain_replay.specs.declared.turn.Outcome.TheVariants as outcomes
+
+-- ---- the disks come back ----
+
+-- the disks of the first session, behind which others came back
+pub rise_then : {D : Type 0} (m : Meaning D) (places : Places) (session : ℕ) (t : Trio D) (first mid last : ℕ) → mid ≤ last → AllRiseAt m places session t first mid → AllRiseAt m places session t first last
+rise_then m places session t first mid last low rises role given out rose = (let r = rises role given out rose in omega (arith, r, low))
+
+-- .. and those of the second one
+pub rise_there : {D : Type 0} (m : Meaning D) (before now : Places) (one two : ℕ) (apart : one ≡ two → ⊥) (t : Trio D) (first mid last : ℕ) → LeavesOtherSessions before now one → first ≤ mid → AllRiseAt m now two t mid last
+    → AllRiseAt m before two t first last
+rise_there m before now one two apart t first mid last others low rises role given out rose =
+    (let r = rises role given (others (disk_name two role) (λ e. apart (sym e)) ∙ out) rose in omega (arith, r, low))
+
+-- one failed since it was off the shelf
+pub rose_back : {D : Type 0} (m : Meaning D) (places : Places) (session : ℕ) (old new : Trio D) (first mid last : ℕ) → first ≤ mid → AreOutAt m places session old → AllRiseAt m places session new mid last → HasFailedAt m old new → Rose first last
+rose_back m places session old new first mid last low out rises (role, rose) =
+    let h = out role in
+    let r = rises role h.0 h.1 (rose_more h.0 (m.count (disk_in role old)) (m.count (disk_in role new)) h.2 rose) in
+    omega (arith, r, low)
+
+-- ---- no chain is opened ----
+
+module _ {D : Type 0} (m : Meaning D) (row : SessionRow) (old new : Trio D) where
+  rose_at : (role : Role) (failed : Bool) → failed ≡ true → LeavesDisk m row role (disk_in role old) (disk_in role new) failed → HasFailedAt m old new
+  rose_at role failed e l = (role, rises_more m _ _ _ failed e l.serves)
+
+  left_failed : (role : Role) → AreLeft m row old new (Some role) → HasFailedAt m old new
+  left_failed roles.Low l = rose_at roles.Low true refl l.low
+  left_failed roles.High l = rose_at roles.High true refl l.high
+  left_failed roles.Recv l = rose_at roles.Recv true refl l.recv
+
+  come_failed : (at : Role) (why : Why) → ComeBack m row old.low old.high old.recv (record { role = at; why = Some why; low = new.low; high = new.high; recv = new.recv }) → is_device why ≡ true → HasFailedAt m old new
+  come_failed roles.Low why e d = rose_at roles.Low (is_device why && true) (ap (λ (b : Bool). b && true) d) e.low_disk
+  come_failed roles.High why e d = rose_at roles.High (is_device why && true) (ap (λ (b : Bool). b && true) d) e.high_disk
+  come_failed roles.Recv why e d = rose_at roles.Recv (is_device why && true) (ap (λ (b : Bool). b && true) d) e.recv_disk
+
+is_device_of : (session : ℕ) (role : Role) (why : Why) → IsDevice (fault_of session role why) → is_device why ≡ true
+is_device_of session role (whys.Device n) h = refl
+is_device_of session role (whys.NotABuffer size bytes) h = absurd h
+is_device_of session role (whys.WrongShape field found wanted) h = absurd h
+is_device_of session role (whys.BadRegister first second) h = absurd h
+is_device_of session role (whys.Mismatch removed accepted) h = absurd h
+is_device_of session role (whys.BadSlot number length) h = absurd h
+is_device_of session role (whys.Apart count bound) h = absurd h
+is_device_of session role (whys.Differs number) h = absurd h
+is_device_of session role (whys.NotEmpty size) h = absurd h
+is_device_of session role (whys.Small held capacity) h = absurd h
+is_device_of session role (whys.TooLong number size) h = absurd h
+
+some_is : (x y : Fault) → Some x ≡ Some y → y ≡ x
+some_is x y e = cc e
+
+module _ {D : Type 0} (m : Meaning D) (one two : SessionRow) (old new : Six D) (fault : Fault) (device : IsDevice fault) where
+  abbrev Failed : Type 0
+  Failed = HasFailedAt m old.first new.first ⊎ HasFailedAt m old.second new.second
+
+  of_why : (x : Fault) → Some x ≡ Some fault → IsDevice x
+  of_why x is = subst IsDevice (some_is x fault is) device
+
+  by_first : (why : ChainWhy) → IsUnopened m one old.first new.first why → chain_fault two.id why ≡ Some fault → Failed
+  by_first reasons.Memory h is = absurd (cc is)
+  by_first (reasons.Link count bound) h is = absurd h
+  by_first (reasons.Unlike number) h is = absurd h
+  by_first (reasons.Pump session role why) (id, e) is = inl (come_failed m one old.first new.first role why e (is_device_of session role why (of_why _ is)))
+
+  by_second : (why : ChainWhy) → IsUnopened m two old.second new.second why → chain_fault two.id why ≡ Some fault → Failed
+  by_second reasons.Memory h is = absurd (cc is)
+  by_second (reasons.Link count bound) h is = absurd h
+  by_second (reasons.Unlike number) h is = absurd h
+  by_second (reasons.Pump session role why) (id, e) is = inr (come_failed m two old.second new.second role why e (is_device_of session role why (of_why _ is)))
+
+  by_apart : (why : ChainWhy) → IsApart m one two old new why → chain_fault two.id why ≡ Some fault → Failed
+  by_apart reasons.Memory h is = absurd h
+  by_apart (reasons.Pump session role why) (inl (id, at, h, failed)) is = inl (left_failed m one old.first new.first role h.0.left)
+  by_apart (reasons.Pump session role why) (inr (id, at, h, failed)) is = inr (left_failed m two old.second new.second role h.1.left)
+  by_apart (reasons.Link count bound) h is = absurd (of_why (faults.Disk two.id roles.Low 12 count bound) is)
+  by_apart (reasons.Unlike number) h is = absurd (of_why (faults.Disk two.id roles.Low 13 number 0) is)
+
+  pub device_rose : (why : ChainWhy) → ComeBackFor m one two old new why → chain_fault two.id why ≡ Some fault → Failed
+  device_rose why (inl h) is = by_first why h.0 is
+  device_rose why (inr (inl h)) is = by_second why h.1 is
+  device_rose why (inr (inr h)) is = by_apart why h is
+
+-- ---- a line stops the chain ----
+
+stopped_is : (x y : Fault) → outcomes.Stopped x ≡ outcomes.Stopped y → y ≡ x
+stopped_is x y e = cc e
+
+since : {D : Type 0} (m : Meaning D) (s t u : Trio D) → ((role : Role) → m.count (disk_in role s) ≤ m.count (disk_in role t)) → HasFailedAt m t u → HasFailedAt m s u
+since m s t u low (role, rose) = (role, (let least = low role in omega (arith, least, rose)))
+
+module _ {D : Type 0} {g : Ghosts D} (m : Meaning D) where
+  trio_failed : (p q : Pump D g) (role : Role) → RoseAt m role p q → HasFailedAt m (trio_of p) (trio_of q)
+  trio_failed p q roles.Low rose = (roles.Low, rose)
+  trio_failed p q roles.High rose = (roles.High, rose)
+  trio_failed p q roles.Recv rose = (roles.Recv, rose)
+
+  counted : (s t : Chain D g) (role : Role) → RoseAt m role s.first t.first ⊎ RoseAt m role s.second t.second → HasFailed m s t
+  counted s t role (inl rose) = inl (trio_failed s.first t.first role rose)
+  counted s t role (inr rose) = inr (trio_failed s.second t.second role rose)
+
+  by_stop : (s t : Chain D g) (first : ℕ) (line : Line) (stop : Option Stop) (fault : Fault) → IsCounted m s t stop → outcome_by first line stop ≡ outcomes.Stopped fault → IsDevice fault → HasFailed m s t
+  by_stop s t first line None fault counts is device = absurd (cc is)
+  by_stop s t first line (Some stops.Line) fault counts is device = absurd (cc is)
+  by_stop s t first line (Some (stops.Device role n)) fault counts is device = counted s t role counts
+  by_stop s t first line (Some (stops.Full end length size)) fault counts is device = absurd (subst IsDevice (stopped_is _ fault is) device)
+  by_stop s t first line (Some (stops.Disk role why)) fault counts is device = absurd (subst IsDevice (stopped_is _ fault is) device)
+
+  pub line_failed : (s t : Chain D g) (first : ℕ) (line : Line) (stop : Option Stop) (outcome : Outcome) → outcome ≡ outcome_by first line stop → IsCounted m s t stop → (fault : Fault) → outcome ≡ outcomes.Stopped fault → IsDevice fault → HasFailed m s t
+  line_failed s t first line stop outcome is counts fault e device = by_stop s t first line stop fault counts (sym is ∙ e) device
+
+  by_trio : (p q : Pump D g) → ((role : Role) → m.count (disk_at role p) ≤ m.count (disk_at role q)) → (role : Role) → m.count (disk_in role (trio_of p)) ≤ m.count (disk_in role (trio_of q))
+  by_trio p q low roles.Low = low roles.Low
+  by_trio p q low roles.High = low roles.High
+  by_trio p q low roles.Recv = low roles.Recv
+
+  pub none_failed : (s : Chain D g) → FailNoLess m s s
+  none_failed s = (λ role. omega arith, λ role. omega arith)
+
+  pub no_less : (s t u : Chain D g) → FailNoLess m s t → FailNoLess m t u → FailNoLess m s u
+  no_less s t u a b = ((λ role. let x = a.0 role in let y = b.0 role in omega (arith, x, y)), (λ role. let x = a.1 role in let y = b.1 role in omega (arith, x, y)))
+
+  -- .. since earlier on
+  pub failed_since : (s t u : Chain D g) → FailNoLess m s t → HasFailed m t u → HasFailed m s u
+  failed_since s t u low (inl h) = inl (since m (trio_of s.first) (trio_of t.first) (trio_of u.first) (by_trio s.first t.first low.0) h)
+  failed_since s t u low (inr h) = inr (since m (trio_of s.second) (trio_of t.second) (trio_of u.second) (by_trio s.second t.second low.1) h)
+
+-- ---- the ends ----
+
+-- such an end has such a fault
+pub closed_device : (old new : Option (List ℕ)) (before now : ℕ) (bytes : List ℕ) (fault : Fault) (result : Ended) → Closes old new before now bytes (ended.Stopped fault) result → IsDeviceEnd result → IsDevice fault
+closed_device old new before now bytes fault result c h = elim c [
+  | inl is ↦ subst IsDeviceEnd is.0 h
+  | inr is ↦ absurd (subst IsDeviceEnd is.0 h)
+]
+
+pub device_end : (result : Ended) → IsDeviceEnd result → (fault : Fault) × (result ≡ ended.Stopped fault)
+device_end ended.Done h = absurd h
+device_end ended.Memory h = absurd h
+device_end ended.Write h = absurd h
+device_end (ended.Stopped fault) h = (fault, refl)
+
+-- the first lines have none
+pub not_device : (rest left : Option (List ℕ)) (number was now : ℕ) (begun : Begun) (fault : Fault) → IsHalted rest left number was now begun fault → IsDevice fault → ⊥
+not_device rest left number was now begun faults.Words h d = d
+not_device rest left number was now begun faults.Read h d = d
+not_device rest left number was now begun (faults.Script line) h d = d
+not_device rest left number was now begun (faults.Device session role) h d = h
+not_device rest left number was now begun (faults.Disk session role n x y) h d = d
+not_device rest left number was now begun (faults.Full session end n size) h d = d

@@ -1,20 +1,26 @@
 -- The disks of a chain are back on the shelf.
-use Rattle.std.proofs.Common.{◌≡◌, ℕ, true, List, ◌&&◌, sym, ap, subst, arith}
+use Rattle.std.proofs.Common.{◌≡◌, inl, inr, ℕ, true, List, ◌&&◌, sym, ap, subst, arith}
 use Rattle.disk_model.specs.Disk.{Meaning}
 use Rattle.disk_model.specs.declared.disk.Disk.{Ghosts}
 use Rattle.disk_model.specs.declared.name.Role.TheVariants as roles
 use Rattle.pump_chain.specs.Chained.{Chained}
 use Rattle.pump_chain.specs.Standing.{IsLinked, TellFronts, ChainStandsOrFails}
 use Rattle.pump_chain.specs.declared.chain.Chain.{Chain}
+use Rattle.pump_chain.proofs.Crashing.{pump_lawful}
 use Rattle.pump_chain.proofs.Fronts.{front_then, kept_front, kept_most}
 use Rattle.pump_core.specs.Events.{with_kept}
+use Rattle.pump_core.specs.Lawful.{IsLawful}
 use Rattle.pump_core.specs.World.{World}
 use Rattle.pump_frame.specs.declared.row.SessionRow.{SessionRow}
 use Rattle.recovery.specs.declared.trio.Trio.{Trio}
 use Rattle.script_reader.specs.Openings.{Openings}
+use Rattle.script_reader.specs.Past.{Past}
 use Rattle.script_reader.specs.Scripts.{Running}
 use Rattle.script_replay.specs.Shelves.{Places, reading_in, OfDisks, HasFound}
 use Rattle.two_worlds.specs.Disks.{StandForLeft}
+use Rattle.two_worlds.specs.Pumps.{StandsOrFails}
+use Rattle.two_worlds.specs.declared.pump.Pump.{Pump}
+use Rattle.two_worlds.proofs.Runs.Outliving.{keeps_messages}
 use Rattle.chain_replay.specs.Opened.{LeavesOthers, KeepsChain, shelved}
 use Rattle.chain_replay.specs.Private.{AreBackAt, AreLeftAt, AreOf, lent}
 
@@ -43,6 +49,11 @@ tell_fronts one two w v low high recv next_low next_high next_recv (a, b, c, s) 
       taken = s.lawful.delivered.prefix;
     }
 
+-- what a pump has come to is lawful
+came_lawfully : {D : Type 0} {g : Ghosts D} (m : Meaning D) (p : Pump D g) (q : Past) → StandsOrFails m p q → IsLawful q.world
+came_lawfully m p q (inl stands) = pump_lawful m p q stands
+came_lawfully m p q (inr (role, faults, failed)) = failed.1.lawful
+
 module _ {D : Type 0} {g : Ghosts D} (m : Meaning D) (chain : Chain D g) (before after : Places) (o : Openings) (one two : SessionRow) (first_found : HasFound before one (o one.id)) (second_found : HasFound before two (o two.id))
     (left : (c : Chained) → ChainStandsOrFails m chain c → AreLeftAt after one.id c.first × AreLeftAt after two.id c.second) (others : LeavesOthers before after one.id two.id) where
   keeps_chain : (c : Chained) → ChainStandsOrFails m chain c → AreOf one two c → KeepsChain before after o one two c
@@ -55,6 +66,8 @@ module _ {D : Type 0} {g : Ghosts D} (m : Meaning D) (chain : Chain D g) (before
         second_found = second_found;
         first_holds = first;
         second_holds = second;
+        first_keeps = keeps_messages c.first.row c.first.past.world _ _ _ (came_lawfully m chain.first c.first.past stands.first) first;
+        second_keeps = keeps_messages c.second.row c.second.past.world _ _ _ (came_lawfully m chain.second c.second.past stands.second) second;
         fronts = tell_fronts c.first.row c.second.row c.first.past.world c.second.past.world _ _ _ _ _ _ first second stands.linked;
         others = others;
       }

@@ -13,7 +13,8 @@ use Rattle.pump_frame.specs.declared.row.SessionRow.{SessionRow}
 use Rattle.script_reader.specs.declared.fault.Fault.{Fault}
 use Rattle.script_reader.specs.declared.fault.Fault.TheVariants as faults
 use Rattle.script_reader.specs.Openings.{Found, Openings, accepted_in}
-use Rattle.script_replay.specs.Shelves.{Places, reading_at, HasFound, HoldsLeft, IsRefusedFor, SparesSession, ReadiesSession}
+use Rattle.script_replay.specs.Shelves.{Places, reading_at, OfDisks, HasFound, HoldsLeft, IsRefusedFor, SparesSession, ReadiesSession}
+use Rattle.two_worlds.specs.Laws.{KeepMessages}
 use Rattle.chain_replay.specs.Faults.{chain_fault}
 
 -- every disk of another session than these two is where it was
@@ -63,13 +64,16 @@ abbrev pub ReadFronts : Places → SessionRow → SessionRow → Type 0
 ReadFronts after one two = TellFronts one two (reading_at after one.id roles.Low) (reading_at after one.id roles.Recv)
     (reading_at after two.id roles.Low) (reading_at after two.id roles.Recv)
 
--- the six disks were found to hold what the chain began on, and hold what it has come to, in which each call that is
--- unfinished was kept or lost; and no other disk is touched
+-- The six disks were found to hold what the chain began on, and hold what it has come to, in which each call that is
+-- unfinished was kept or lost. In each session every message that was accepted or acknowledged outlives, and the receiver
+-- has a front of them. No other disk is touched
 pub record KeepsChain (before after : Places) (o : Openings) (one two : SessionRow) (c : Chained) : Type 0 where
   pub first_found : HasFound before one (o one.id)
   pub second_found : HasFound before two (o two.id)
   pub first_holds : HoldsLeft after c.first.row c.first.past.world
   pub second_holds : HoldsLeft after c.second.row c.second.past.world
+  pub first_keeps : OfDisks after c.first.row.id (KeepMessages c.first.row c.first.past.world)
+  pub second_keeps : OfDisks after c.second.row.id (KeepMessages c.second.row c.second.past.world)
   pub fronts : ReadFronts after c.first.row c.second.row
   pub others : LeavesOthers before after one.id two.id
 

@@ -1,5 +1,5 @@
 -- What is read of the disks of a shelf when two pumps are joined over them, and afterwards.
-use Rattle.std.specs.Prelude.{◌≡◌, ◌⊎◌, ℕ, false, Some}
+use Rattle.std.specs.Prelude.{◌≡◌, ◌⊎◌, ℕ, false, List, Some}
 use Rattle.disk_model.specs.declared.name.DiskName.{DiskName}
 use Rattle.disk_model.specs.declared.name.Role.{Role}
 use Rattle.disk_model.specs.declared.name.Role.TheVariants as roles
@@ -10,10 +10,13 @@ use Rattle.pump_chain.specs.Standing.{TellFronts}
 use Rattle.pump_chain.specs.declared.not_chained.ChainWhy.{ChainWhy}
 use Rattle.pump_chain.specs.declared.not_chained.ChainWhy.TheVariants as reasons
 use Rattle.pump_frame.specs.declared.row.SessionRow.{SessionRow}
+use Rattle.script_reader.specs.declared.event.Event.{Event}
 use Rattle.script_reader.specs.declared.fault.Fault.{Fault}
 use Rattle.script_reader.specs.declared.fault.Fault.TheVariants as faults
 use Rattle.script_reader.specs.Openings.{Found, Openings, accepted_in}
-use Rattle.script_replay.specs.Shelves.{Places, reading_at, OfDisks, HasFound, HoldsLeft, IsRefusedFor, SparesSession, ReadiesSession}
+use Rattle.script_reader.specs.Scripts.{Whole}
+use Rattle.script_reader.specs.Sessions.{events_of}
+use Rattle.script_replay.specs.Shelves.{AcknowledgedOutlive, Places, reading_at, OfDisks, HasFound, HoldsLeft, IsRefusedFor, SparesSession, ReadiesSession}
 use Rattle.two_worlds.specs.Laws.{KeepMessages}
 use Rattle.chain_replay.specs.Faults.{chain_fault}
 
@@ -77,6 +80,11 @@ pub record KeepsChain (before after : Places) (o : Openings) (one two : SessionR
   pub fronts : ReadFronts after c.first.row c.second.row
   pub others : LeavesOthers before after one.id two.id
 
+-- in each session every message whose acknowledgement was printed outlives
+abbrev pub AcknowledgedOutliveBoth : Places → Chained → List Event → Type 0
+AcknowledgedOutliveBoth after c printed = AcknowledgedOutlive after (Some (Whole c.first)) (events_of c.first.row.id printed)
+    × AcknowledgedOutlive after (Some (Whole c.second)) (events_of c.second.row.id printed)
+
 -- ---- all that is said of the disks, by how a replay ends ----
 
 pub record Shelved : Type 1 where
@@ -84,8 +92,10 @@ pub record Shelved : Type 1 where
   pub waits : Type 0
   -- the chain of these two has come to this
   pub keeps : Openings → SessionRow → SessionRow → Chained → Type 0
+  -- .. and has printed this, by lines that could all be applied
+  pub outlives : SessionRow → SessionRow → Chained → List Event → Type 0
   -- the two make no chain, with this fault
   pub refuses : SessionRow → SessionRow → Fault → Type 0
 
 abbrev pub shelved : Places → Places → Shelved
-shelved before after = record { waits = LeavesAll before after; keeps = KeepsChain before after; refuses = NotChained before after }
+shelved before after = record { waits = LeavesAll before after; keeps = KeepsChain before after; outlives = λ one two. AcknowledgedOutliveBoth after; refuses = NotChained before after }

@@ -29,11 +29,11 @@ use Rattle.chain_replay.specs.Ends.{EndsChain}
 use Rattle.chain_replay.specs.Faults.{IsHalted, ChainStops}
 use Rattle.chain_replay.specs.Opened.{Shelved}
 use Rattle.chain_replay.specs.Private.{AreOf, HasRead, TurnGoes, lent}
-use Rattle.chain_replay.specs.Replays.{Replayed, IsFinished, EndsWith}
-use Rattle.chain_replay.specs.Scripts.{BothPumps}
+use Rattle.chain_replay.specs.Replays.{IsKept, Replayed, IsFinished, EndsWith}
+use Rattle.chain_replay.specs.Scripts.{NoPump, LeadTo, BothPumps}
 use Rattle.chain_replay.specs.declared.turn.Outcome.{Outcome}
 use Rattle.chain_replay.specs.declared.turn.Outcome.TheVariants as outcomes
-use Rattle.chain_replay.proofs.Parts.{their_own}
+use Rattle.chain_replay.proofs.Parts.{their_own, are_sound}
 use Rattle.chain_replay.proofs.Reading.{so_far_more, halted_line}
 
 -- ---- the sessions keep their numbers ----
@@ -109,13 +109,17 @@ module _ {D : Type 0} {g : Ghosts D} (m : Meaning D) (chain : Chain D g) (o : Op
   abbrev shelf : Shelved
   shelf = lent m chain o one two
 
+  -- what is known of the disks after lines that could all be applied
+  kept : (c : Chained) (script : List Line) (events : List Event) → ChainStandsOrFails m chain c → AreOf one two c → LeadTo o NoPump script (BothPumps one two c) events → IsKept shelf o (BothPumps one two c) events
+  kept c script events stands are leads = ((refl, refl, refl, stands, are), (refl, refl, stands, are, are_sound o script one two c events are leads))
+
   module _ (d : Chained) (events : List Event) (rest : Option (List ℕ)) (number : ℕ) (h : HasRead o all rest number (BothPumps one two d) events) where
     abbrev r : Replayed all
     r = record { openings = o; lines = h.0; events = events; begun = BothPumps one two d; rest = rest; so_far = h.1 }
 
     -- it is not read on
     cut_short : (fault : Fault) → ChainStandsOrFails m chain d → AreOf one two d → IsHalted rest left (length h.0) was now (BothPumps one two d) fault → EndsWith shelf left was now fault r (text events ++ fault_line fault)
-    cut_short fault stands are halted = inl (record { halted = halted; output_is = refl; disks = (refl, refl, refl, stands, are) })
+    cut_short fault stands are halted = inl (record { halted = halted; output_is = refl; disks = kept d h.0 events stands are h.1.leads })
 
     module _ (mid new : Option (List ℕ)) (w : Appends old mid (text events)) (result : Ended) (rose risen : ℕ) where
       pub halts : (fault : Fault) → ChainStandsOrFails m chain d → AreOf one two d → IsHalted rest left (length h.0) was now (BothPumps one two d) fault
@@ -132,6 +136,7 @@ module _ {D : Type 0} {g : Ghosts D} (m : Meaning D) (chain : Chain D g) (o : Op
         own = their_own o h.0 one two d events are h.1.leads;
         output_is = sym (text-more events (ends_of d));
         disks = (refl, refl, refl, stands, are);
+        outlives = (refl, refl, stands, are, are_sound o h.0 one two d events are h.1.leads);
       }) c
 
   -- ---- a line ----
@@ -179,28 +184,29 @@ module _ {D : Type 0} {g : Ghosts D} (m : Meaning D) (chain : Chain D g) (o : Op
           stops shelf all left old then new was now r_line (text (events ++ printed)) (both printed p) (faults.Script number) result rose risen (inl (record {
             halted = halted;
             output_is = ap (λ (l : List Event). text l ++ fault_line (faults.Script number)) (ap (λ l. events ++ l) none ∙ append-nil events);
-            disks = (refl, refl, refl, or_fails m chain d stands, are);
+            disks = kept d h.0 events (or_fails m chain d stands) are h.1.leads;
           })) c
 
       -- .. or could not be
       pub unwritten_by : (printed : List Event) (outcome : Outcome) → TurnGoes m first d line chain printed outcome → AppendsFront mid new (text printed) → EndsChain shelf all left old new was now ended.Write
       unwritten_by printed outcomes.Applied (e, leads, stands) p = (
-        record {
-          openings = o;
-          lines = h.0 ++ line ∷ [];
-          events = events ++ printed;
-          begun = BothPumps one two e;
-          rest = to_come after left;
-          so_far = so_far_more o all reading after before left (BothPumps one two d) events h line n few (BothPumps one two e) printed (e, leads, refl);
-        },
-        text events ++ text printed,
-        inl (sym (text-more events printed), inr (inr (line, to_come reading before, next_line reading after before left line n, near_next reading after before left line n)), (refl, refl, refl, or_fails m chain e stands, of_leads one two d are line e printed leads)),
-        front_after old mid new (text events) (text printed) w p,
-      )
+          let so_far = so_far_more o all reading after before left (BothPumps one two d) events h line n few (BothPumps one two e) printed (e, leads, refl) in (
+            record {
+              openings = o;
+              lines = h.0 ++ line ∷ [];
+              events = events ++ printed;
+              begun = BothPumps one two e;
+              rest = to_come after left;
+              so_far = so_far;
+            },
+            text events ++ text printed,
+            inl (sym (text-more events printed), inr (inr (line, to_come reading before, next_line reading after before left line n, near_next reading after before left line n)), kept e (h.0 ++ line ∷ []) (events ++ printed) (or_fails m chain e stands) (of_leads one two d are line e printed leads) so_far.leads),
+            front_after old mid new (text events) (text printed) w p,
+          ))
       unwritten_by printed outcomes.Refused (denied, none, stands) p = (
         r_line,
         text events ++ fault_line refused_fault,
-        inr (inr (refused_fault, inl (record { halted = refused denied; output_is = refl; disks = (refl, refl, refl, or_fails m chain d stands, are) }))),
+        inr (inr (refused_fault, inl (record { halted = refused denied; output_is = refl; disks = kept d h.0 events (or_fails m chain d stands) are h.1.leads }))),
         front_after old mid new (text events) (fault_line refused_fault) w (front_more mid new [] (fault_line refused_fault) (subst (λ (l : List Event). AppendsFront mid new (text l)) none p)),
       )
       unwritten_by printed (outcomes.Stopped fault) (e, s, stands) p = (

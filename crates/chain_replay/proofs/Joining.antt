@@ -39,7 +39,11 @@ use Rattle.chain_replay.proofs.Taking.{by_role}
 
 module _ {D : Type 0} (m : Meaning D) (before : Places) (row : SessionRow) (t : Trio D) (read : AreReadAt m before row.id t) where
   pub has_found : (f : Found) → StandFor m row t f → HasFound before row f
-  has_found f s = rw (read_in _ _ (read roles.Low), read_in _ _ (read roles.High), read_in _ _ (read roles.Recv)) s
+  has_found f s = rw (
+    read_in (before (disk_name row.id roles.Low)) (m.reading t.low) (read roles.Low),
+    read_in (before (disk_name row.id roles.High)) (m.reading t.high) (read roles.High),
+    read_in (before (disk_name row.id roles.Recv)) (m.reading t.recv) (read roles.Recv),
+  ) s
 
 -- what each of two sessions was found to hold
 abbrev found_both : ℕ → Found → Found → Openings

@@ -2,6 +2,7 @@
 use Rattle.std.proofs.Common.{◌≤◌, ℕ, List, inl, inr, length, Option}
 use Rattle.pump_chain.specs.Chained.{Chained}
 use Rattle.pump_frame.specs.declared.row.SessionRow.{SessionRow}
+use Rattle.script_reader.specs.declared.event.Event.{Event}
 use Rattle.script_reader.specs.declared.fault.Fault.{Fault}
 use Rattle.script_reader.specs.Openings.{Openings}
 use Rattle.script_replay.specs.declared.ended.Ended.{Ended}
@@ -13,18 +14,18 @@ use Rattle.chain_replay.specs.Scripts.{Begun, NoPump, OnePump, BothPumps}
 use Rattle.chain_replay.proofs.Reading.{halted_since}
 
 module _ (k l : Shelved) (waits : k.waits → l.waits) (keeps : (o : Openings) (one two : SessionRow) (c : Chained) → k.keeps o one two c → l.keeps o one two c)
-    (refuses : (one two : SessionRow) (fault : Fault) → k.refuses one two fault → l.refuses one two fault) where
-  kept : (o : Openings) (b : Begun) → IsKept k o b → IsKept l o b
-  kept o NoPump h = waits h
-  kept o (OnePump one) h = waits h
-  kept o (BothPumps one two c) h = keeps o one two c h
+    (outlives : (one two : SessionRow) (c : Chained) (printed : List Event) → k.outlives one two c printed → l.outlives one two c printed) (refuses : (one two : SessionRow) (fault : Fault) → k.refuses one two fault → l.refuses one two fault) where
+  kept : (o : Openings) (b : Begun) (printed : List Event) → IsKept k o b printed → IsKept l o b printed
+  kept o NoPump printed h = waits h
+  kept o (OnePump one) printed h = waits h
+  kept o (BothPumps one two c) printed h = (keeps o one two c h.0, outlives one two c printed h.1)
 
   module _ (all left : Option (List ℕ)) (first was now : ℕ) (low : first ≤ was) (r : Replayed all) (output : List ℕ) where
     finished : IsFinished k r output → IsFinished l r output
-    finished h = record { ended = h.ended; one = h.one; two = h.two; chain = h.chain; begun_is = h.begun_is; own = h.own; output_is = h.output_is; disks = keeps r.openings h.one h.two h.chain h.disks }
+    finished h = record { ended = h.ended; one = h.one; two = h.two; chain = h.chain; begun_is = h.begun_is; own = h.own; output_is = h.output_is; disks = keeps r.openings h.one h.two h.chain h.disks; outlives = outlives h.one h.two h.chain r.events h.outlives }
 
     cut_short : (fault : Fault) → IsCutShort k left was now fault r output → IsCutShort l left first now fault r output
-    cut_short fault h = record { halted = halted_since r.rest left (length r.lines) first was now r.begun fault low h.halted; output_is = h.output_is; disks = kept r.openings r.begun h.disks }
+    cut_short fault h = record { halted = halted_since r.rest left (length r.lines) first was now r.begun fault low h.halted; output_is = h.output_is; disks = kept r.openings r.begun r.events h.disks }
 
     unbegun : (fault : Fault) → IsUnbegun k left fault r output → IsUnbegun l left fault r output
     unbegun fault h = record { one = h.one; two = h.two; begun_is = h.begun_is; next = h.next; follows = h.follows; output_is = h.output_is; disks = refuses h.one h.two fault h.disks }
@@ -50,7 +51,7 @@ module _ (k l : Shelved) (waits : k.waits → l.waits) (keeps : (o : Openings) (
     ends_with fault (inr (inr h)) = inr (inr (stopped fault h))
 
     is_output : IsOutput k left was now r output → IsOutput l left first now r output
-    is_output (inl (is, near, disks)) = inl (is, near, kept r.openings r.begun disks)
+    is_output (inl (is, near, disks)) = inl (is, near, kept r.openings r.begun r.events disks)
     is_output (inr (inl h)) = inr (inl (finished h))
     is_output (inr (inr (fault, h))) = inr (inr (fault, ends_with fault h))
 

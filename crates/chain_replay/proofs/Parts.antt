@@ -1,5 +1,5 @@
 -- A script as its two `session` lines and the lines of the chain.
-use Rattle.std.proofs.Common.{◌≡◌, ℕ, ◌==◌, Bool, true, false, List, [], ◌∷◌, ◌++◌, None, Some, refl, sym, ap, ◌∙◌, subst}
+use Rattle.std.proofs.Common.{◌≡◌, inl, ℕ, ◌==◌, Bool, true, false, List, [], ◌∷◌, ◌++◌, None, Some, refl, sym, ap, ◌∙◌, subst}
 use Rattle.std.proofs.lemmas.Bool.{eq-eqb, ne_eqb}
 use Rattle.std.proofs.lemmas.List.Elements.{filter-append}
 use Rattle.std.specs.Prelude.{nat_lt, if◌then◌else◌}
@@ -16,9 +16,10 @@ use Rattle.script_reader.specs.Openings.{Openings}
 use Rattle.script_reader.specs.Scripts.{Whole, LeadTo as LeadsOne}
 use Rattle.script_reader.specs.Sessions.{lines_of, events_of, event_session, is_number, session_in}
 use Rattle.script_reader.proofs.Beside.{own_line, other_line}
+use Rattle.script_reader.proofs.Soundness.{sound_so}
 use Rattle.two_worlds.proofs.Timeline.Scripts.{script_runs}
 use Rattle.chain_replay.specs.Owned.{AreTheirOwn}
-use Rattle.chain_replay.specs.Private.{AreOf}
+use Rattle.chain_replay.specs.Private.{AreOf, IsSoundTimed, AreSoundTimed}
 use Rattle.chain_replay.specs.Scripts.{NoPump, OnePump, BothPumps, AreLinked, LeadTo}
 
 -- ---- behind both session lines ----
@@ -145,6 +146,18 @@ module _ (o : Openings) (script : List Line) (one two : SessionRow) (d : Chained
   second_leads : LeadsOne o None (lines.Session two ∷ lines_of two.id (looks_of (chain_of o one two) h.later d events h.leads)) (Some (Whole d.second)) (events_of two.id events)
   second_leads = second_own o one two h.later d events h.linked.can h.leads both
 
+  sound : AreSoundTimed d events
+  sound = (
+    subst (λ (number : ℕ). IsSoundTimed d.first (events_of number events)) (sym are.0) (
+      script_runs o None (lines.Session one ∷ lines_of one.id h.later) (Some (Whole d.first)) (events_of one.id events) first_leads tt,
+      sound_so o (lines.Session one ∷ lines_of one.id h.later) (Some (Whole d.first)) (events_of one.id events) (inl first_leads),
+    ),
+    subst (λ (number : ℕ). IsSoundTimed d.second (events_of number events)) (sym are.1) (
+      script_runs o None (lines.Session two ∷ lines_of two.id (looks_of (chain_of o one two) h.later d events h.leads)) (Some (Whole d.second)) (events_of two.id events) second_leads tt,
+      sound_so o (lines.Session two ∷ lines_of two.id (looks_of (chain_of o one two) h.later d events h.leads)) (Some (Whole d.second)) (events_of two.id events) (inl second_leads),
+    ),
+  )
+
   own : AreTheirOwn o one two script d events
   own = record {
     script = h.later;
@@ -172,3 +185,6 @@ module _ (o : Openings) (script : List Line) (one two : SessionRow) (d : Chained
 
 pub their_own : (o : Openings) (script : List Line) (one two : SessionRow) (d : Chained) (events : List Event) → AreOf one two d → LeadTo o NoPump script (BothPumps one two d) events → AreTheirOwn o one two script d events
 their_own o script one two d events are leads = own o script one two d events are (none_part o script one two d events leads)
+
+pub are_sound : (o : Openings) (script : List Line) (one two : SessionRow) (d : Chained) (events : List Event) → AreOf one two d → LeadTo o NoPump script (BothPumps one two d) events → AreSoundTimed d events
+are_sound o script one two d events are leads = sound o script one two d events are (none_part o script one two d events leads)

@@ -4,6 +4,7 @@ use Rattle.pump_chain.specs.Scripted.{chain_of}
 use Rattle.pump_frame.specs.Counts.{Rose}
 use Rattle.pump_frame.specs.declared.row.SessionRow.{SessionRow}
 use Rattle.pump_link.proofs.Known.{Appends-none}
+use Rattle.script_reader.specs.declared.event.Event.{Event}
 use Rattle.script_reader.specs.declared.fault.Fault.{Fault}
 use Rattle.script_reader.specs.declared.fault.Fault.TheVariants as faults
 use Rattle.script_reader.specs.Lines.{LineReading, to_come}
@@ -21,17 +22,17 @@ use Rattle.chain_replay.specs.Scripts.{Begun, NoPump, OnePump, BothPumps, MayFol
 use Rattle.chain_replay.proofs.Ending.{stops}
 use Rattle.chain_replay.proofs.Reading.{row_begins}
 
-no_chain : (shelf : Shelved) (o : Openings) (begun : Begun) → LacksPump begun → shelf.waits → IsKept shelf o begun
-no_chain shelf o NoPump lacks h = h
-no_chain shelf o (OnePump one) lacks h = h
-no_chain shelf o (BothPumps one two c) lacks h = absurd lacks
+no_chain : (shelf : Shelved) (o : Openings) (begun : Begun) → (printed : List Event) → LacksPump begun → shelf.waits → IsKept shelf o begun printed
+no_chain shelf o NoPump printed lacks h = h
+no_chain shelf o (OnePump one) printed lacks h = h
+no_chain shelf o (BothPumps one two c) printed lacks h = absurd lacks
 
 -- there are not two rows
 pub no_rows : (shelf : Shelved) (o : Openings) (all left old new : Option (List ℕ)) (was now : ℕ) (begun : Begun) (fault : Fault) (result : Ended) (rose risen : ℕ) → LacksPump begun → shelf.waits → ReadsNoFurther o all left was now begun fault
     → Closes old new rose risen (fault_line fault) (ended.Stopped fault) result → EndsChain shelf all left old new was now result
 no_rows shelf o all left old new was now begun fault result rose risen lacks waits r c =
     stops shelf all left old old new was now (record { openings = o; lines = r.lines; events = []; begun = begun; rest = r.rest; so_far = r.so_far }) [] (Appends-none old) fault result rose risen
-    (inl (record { halted = r.halted; output_is = refl; disks = no_chain shelf o begun lacks waits })) c
+    (inl (record { halted = r.halted; output_is = refl; disks = no_chain shelf o begun [] lacks waits })) c
 
 -- .. and the two make no chain
 pub no_pumps : (shelf : Shelved) (o : Openings) (all left old new : Option (List ℕ)) (was now : ℕ) (reading : LineReading) (one two : SessionRow) (fault : Fault) (result : Ended) (rose risen : ℕ) → MayFollow one two

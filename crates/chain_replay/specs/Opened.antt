@@ -1,5 +1,5 @@
 -- What is read of the disks of a shelf when two pumps are joined over them, and afterwards.
-use Rattle.std.specs.Prelude.{◌≡◌, ◌⊎◌, ℕ, false, Some}
+use Rattle.std.specs.Prelude.{◌≡◌, ◌⊎◌, ℕ, false, List, Some}
 use Rattle.disk_model.specs.declared.name.DiskName.{DiskName}
 use Rattle.disk_model.specs.declared.name.Role.{Role}
 use Rattle.disk_model.specs.declared.name.Role.TheVariants as roles
@@ -10,10 +10,14 @@ use Rattle.pump_chain.specs.Standing.{TellFronts}
 use Rattle.pump_chain.specs.declared.not_chained.ChainWhy.{ChainWhy}
 use Rattle.pump_chain.specs.declared.not_chained.ChainWhy.TheVariants as reasons
 use Rattle.pump_frame.specs.declared.row.SessionRow.{SessionRow}
+use Rattle.script_reader.specs.declared.event.Event.{Event}
 use Rattle.script_reader.specs.declared.fault.Fault.{Fault}
 use Rattle.script_reader.specs.declared.fault.Fault.TheVariants as faults
 use Rattle.script_reader.specs.Openings.{Found, Openings, accepted_in}
-use Rattle.script_replay.specs.Shelves.{Places, reading_at, HasFound, HoldsLeft, IsRefusedFor, SparesSession, ReadiesSession}
+use Rattle.script_reader.specs.Scripts.{Whole}
+use Rattle.script_reader.specs.Sessions.{events_of}
+use Rattle.script_replay.specs.Shelves.{AcknowledgedOutlive, Places, reading_at, OfDisks, HasFound, HoldsLeft, IsRefusedFor, SparesSession, ReadiesSession}
+use Rattle.two_worlds.specs.Laws.{KeepMessages}
 use Rattle.chain_replay.specs.Faults.{chain_fault}
 
 -- every disk of another session than these two is where it was
@@ -63,15 +67,23 @@ abbrev pub ReadFronts : Places → SessionRow → SessionRow → Type 0
 ReadFronts after one two = TellFronts one two (reading_at after one.id roles.Low) (reading_at after one.id roles.Recv)
     (reading_at after two.id roles.Low) (reading_at after two.id roles.Recv)
 
--- the six disks were found to hold what the chain began on, and hold what it has come to, in which each call that is
--- unfinished was kept or lost; and no other disk is touched
+-- The six disks were found to hold what the chain began on, and hold what it has come to, in which each call that is
+-- unfinished was kept or lost. In each session every message that was accepted or acknowledged outlives, and the receiver
+-- has a front of them. No other disk is touched
 pub record KeepsChain (before after : Places) (o : Openings) (one two : SessionRow) (c : Chained) : Type 0 where
   pub first_found : HasFound before one (o one.id)
   pub second_found : HasFound before two (o two.id)
   pub first_holds : HoldsLeft after c.first.row c.first.past.world
   pub second_holds : HoldsLeft after c.second.row c.second.past.world
+  pub first_keeps : OfDisks after c.first.row.id (KeepMessages c.first.row c.first.past.world)
+  pub second_keeps : OfDisks after c.second.row.id (KeepMessages c.second.row c.second.past.world)
   pub fronts : ReadFronts after c.first.row c.second.row
   pub others : LeavesOthers before after one.id two.id
+
+-- in each session every message whose acknowledgement was printed outlives
+abbrev pub AcknowledgedOutliveBoth : Places → Chained → List Event → Type 0
+AcknowledgedOutliveBoth after c printed = AcknowledgedOutlive after (Some (Whole c.first)) (events_of c.first.row.id printed)
+    × AcknowledgedOutlive after (Some (Whole c.second)) (events_of c.second.row.id printed)
 
 -- ---- all that is said of the disks, by how a replay ends ----
 
@@ -80,8 +92,10 @@ pub record Shelved : Type 1 where
   pub waits : Type 0
   -- the chain of these two has come to this
   pub keeps : Openings → SessionRow → SessionRow → Chained → Type 0
+  -- .. and has printed this, by lines that could all be applied
+  pub outlives : SessionRow → SessionRow → Chained → List Event → Type 0
   -- the two make no chain, with this fault
   pub refuses : SessionRow → SessionRow → Fault → Type 0
 
 abbrev pub shelved : Places → Places → Shelved
-shelved before after = record { waits = LeavesAll before after; keeps = KeepsChain before after; refuses = NotChained before after }
+shelved before after = record { waits = LeavesAll before after; keeps = KeepsChain before after; outlives = λ one two. AcknowledgedOutliveBoth after; refuses = NotChained before after }

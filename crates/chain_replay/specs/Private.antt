@@ -23,8 +23,10 @@ use Rattle.script_reader.specs.Lines.{LineReading, AreLines, to_come}
 use Rattle.script_reader.specs.Openings.{Openings}
 use Rattle.script_reader.specs.Transcript.{text}
 use Rattle.script_replay.specs.Lending.{ReadAt, IsOutAt, RisesAt}
-use Rattle.script_replay.specs.Replays.{IsNear}
-use Rattle.script_reader.specs.Scripts.{Running}
+use Rattle.script_replay.specs.Replays.{IsNear, IsTimed}
+use Rattle.script_reader.specs.Readouts.{Sound}
+use Rattle.script_reader.specs.Scripts.{Running, Whole}
+use Rattle.script_reader.specs.Sessions.{events_of}
 use Rattle.script_replay.specs.Runners.{IsLineFault}
 use Rattle.script_replay.specs.Shelves.{Places, disk_name, OfDisks, HasFound}
 use Rattle.two_worlds.specs.Disks.{StandForLeft}
@@ -168,10 +170,18 @@ TurnDoes m first c line t old new outcome = (printed : List Event) × TurnGoes m
 
 -- ---- while the chain runs ----
 
+-- what a session has been through is a timed run, and what was printed of it are its replies
+abbrev pub IsSoundTimed : Running → List Event → Type 0
+IsSoundTimed s printed = IsTimed (Some (Whole s)) × Sound (Some (Whole s)) printed
+
+abbrev pub AreSoundTimed : Chained → List Event → Type 0
+AreSoundTimed c printed = IsSoundTimed c.first (events_of c.first.row.id printed) × IsSoundTimed c.second (events_of c.second.row.id printed)
+
 -- the chain of these rows has come to this, also where a disk failed in its last line
 abbrev pub lent : {D : Type 0} {g : _} → Meaning D → Chain D g → Openings → SessionRow → SessionRow → Shelved
 lent m chain o one two = record {
   waits = ⊥;
   keeps = λ p row other c. (p ≡ o) × (row ≡ one) × (other ≡ two) × ChainStandsOrFails m chain c × AreOf one two c;
+  outlives = λ row other c printed. (row ≡ one) × (other ≡ two) × ChainStandsOrFails m chain c × AreOf one two c × AreSoundTimed c printed;
   refuses = λ row other fault. ⊥;
 }

@@ -36,10 +36,10 @@ pub record Replayed (all : Option (List ℕ)) : Type 0 where
   pub so_far : IsSoFar openings all rest lines begun events
 
 -- what is said of the disks then
-abbrev pub IsKept : Shelved → Openings → Begun → Type 0
-IsKept shelf o NoPump = shelf.waits
-IsKept shelf o (OnePump one) = shelf.waits
-IsKept shelf o (BothPumps one two c) = shelf.keeps o one two c
+abbrev pub IsKept : Shelved → Openings → Begun → List Event → Type 0
+IsKept shelf o NoPump printed = shelf.waits
+IsKept shelf o (OnePump one) printed = shelf.waits
+IsKept shelf o (BothPumps one two c) printed = shelf.keeps o one two c × shelf.outlives one two c printed
 
 -- ---- the ends ----
 
@@ -54,12 +54,13 @@ pub record IsFinished (shelf : Shelved) {all : Option (List ℕ)} (r : Replayed 
   pub own : AreTheirOwn r.openings one two r.lines chain r.events
   pub output_is : output ≡ text (r.events ++ ends_of chain)
   pub disks : shelf.keeps r.openings one two chain
+  pub outlives : shelf.outlives one two chain r.events
 
 -- it is not read on: the output is what the lines print, and the fault
 pub record IsCutShort (shelf : Shelved) {all : Option (List ℕ)} (left : Option (List ℕ)) (was now : ℕ) (fault : Fault) (r : Replayed all) (output : List ℕ) : Type 0 where
   pub halted : IsHalted r.rest left (length r.lines) was now r.begun fault
   pub output_is : output ≡ text r.events ++ fault_line fault
-  pub disks : IsKept shelf r.openings r.begun
+  pub disks : IsKept shelf r.openings r.begun r.events
 
 -- the next line, whose number is below 2^32, and from which at most 4,096 bytes on were taken
 pub record IsNext {all : Option (List ℕ)} (left : Option (List ℕ)) (r : Replayed all) (line : Line) : Type 0 where
@@ -112,6 +113,6 @@ WroteFront all old new End = (r : Replayed all) × (output : List ℕ) × End r 
 -- them on; or it is all that a replay writes that ends so
 abbrev pub IsOutput : Shelved → {all : Option (List ℕ)} → Option (List ℕ) → ℕ → ℕ → Replayed all → List ℕ → Type 0
 IsOutput shelf left was now r output =
-    ((output ≡ text r.events) × IsNearLast r.rest left × IsKept shelf r.openings r.begun)
+    ((output ≡ text r.events) × IsNearLast r.rest left × IsKept shelf r.openings r.begun r.events)
     ⊎ (IsFinished shelf r output
     ⊎ ((fault : Fault) × EndsWith shelf left was now fault r output))

@@ -1,6 +1,6 @@
 //! Two pumps are joined over the disks of a shelf.
 
-ghost use Rattle.std.specs.Prelude.{◌≡◌, ◌≤◌, ℕ, false, None, Some, IfOk, IfErr};
+ghost use Rattle.std.specs.Prelude.{◌≡◌, ◌≤◌, false, None, Some, IfOk, IfErr};
 ghost use Rattle.chain_replay.specs.Faults.{chain_fault, refusal_of};
 ghost use Rattle.chain_replay.specs.Opened.{LeavesOthers, NotChained};
 ghost use Rattle.chain_replay.specs.Private.{AreOutAt, IsDevice, IsOfLine, Joins};

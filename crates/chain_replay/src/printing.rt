@@ -1,6 +1,6 @@
 //! What is printed is written at once.
 
-ghost use Rattle.std.specs.Prelude.{◌≡◌, OnOk, OnErr};
+ghost use Rattle.std.specs.Prelude.{OnOk, OnErr};
 ghost use Rattle.std.specs.Io.KnownBytes.{Appends};
 ghost use Rattle.pump_link.specs.Causes.{HasCause, AppendsFront};
 ghost use Rattle.script_reader.specs.EventHeads.{event_of};

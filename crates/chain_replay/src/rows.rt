@@ -1,9 +1,8 @@
 //! The two `session` lines with which a script begins.
 
-ghost use Rattle.std.specs.Prelude.{◌≡◌, ◌^◌, ◌<◌, ◌≤◌, ℕ, List, [], length, Option, IfOk, IfErr, true, false};
+ghost use Rattle.std.specs.Prelude.{◌≡◌, ◌^◌, ◌<◌, ◌≤◌, ℕ, List, [], Option, IfOk, IfErr, true, false};
 ghost use Rattle.chain_replay.specs.Private.{IsOpens, HasRead, ReadsRow, ReadsNoFurther};
 ghost use Rattle.chain_replay.specs.Scripts.{Begun, OnePump, MayFollow, LacksPump};
-ghost use Rattle.pump_frame.specs.Counts.{Rose};
 ghost use Rattle.pump_frame.specs.Rows.{IsLawfulRow};
 ghost use Rattle.script_reader.specs.Heads.{line_with};
 ghost use Rattle.script_reader.specs.Lines.{to_come};
@@ -52,7 +51,6 @@ fn next_row<I: Source>(
         → HasRead o all (to_come lines.old (I.left script.old)) lines.old.number begun []
         → ReadsNoFurther o all (I.left script.new) (I.faults script.old) (I.faults script.new) begun fault) }
     ensures number { lines.new.number < 2 ^ 32 }
-    ensures held { IfOk result (λ row. length lines.new.held ≤ 4096) }
     ensures later { I.faults script.old ≤ I.faults script.new }
 {
     'turns: loop {
@@ -98,7 +96,6 @@ pub fn read_rows<I: Source>(
     ensures halted { IfErr result (λ fault. (o : Openings) → (begun : Begun) × LacksPump begun
         × ReadsNoFurther o (I.left script.old) (I.left script.new) (I.faults script.old) (I.faults script.new) begun fault) }
     ensures number { lines.new.number < 2 ^ 32 }
-    ensures held { IfOk result (λ rows. length lines.new.held ≤ 4096) }
     ensures later { I.faults script.old ≤ I.faults script.new }
 {
     let one = match next_row(lines, body, script) {

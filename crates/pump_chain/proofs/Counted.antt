@@ -15,7 +15,7 @@ use Rattle.script_reader.specs.declared.line.Line.TheVariants as lines
 use Rattle.script_reader.specs.Lows.{IsLook}
 use Rattle.script_reader.specs.Past.{Past}
 use Rattle.script_reader.specs.Steps.{joined, lost, LineStep}
-use Rattle.script_reader.proofs.LowAlike.{Half, half}
+use Rattle.script_reader.proofs.LowAlike.{Half}
 use Rattle.script_reader.proofs.LowAside.{step_aside}
 use Rattle.two_worlds.proofs.Low.Grows.{look_grows, payloads}
 use Rattle.pump_chain.proofs.Linking.{CountsAccepted}

@@ -10,7 +10,7 @@ use Rattle.chain_replay.specs.Opened.{shelved}
 use Rattle.chain_replay.specs.Private.{IsDevice, IsDeviceEnd, lent}
 use Rattle.chain_replay.proofs.Joining.{all_back}
 use Rattle.chain_replay.proofs.Mapped.{mapped}
-use Rattle.chain_replay.proofs.Returning.{keeps_so}
+use Rattle.chain_replay.proofs.Returning.{keeps_so, outlives_so}
 use Rattle.chain_replay.proofs.Taking.{are_out, others_more}
 use Rattle.chain_replay.proofs.Whole.{no_rows, no_pumps, both_begin, not_words, read_rose, stopped_same}
 use Rattle.chain_replay.proofs.Failed.{rose_back, not_device}
@@ -57,7 +57,8 @@ returns-clause-ends g c = λ told tells.
     let read = both_begin j.openings all (g.I.Source.left c.read_rows.new.script) c.read_rows.new.lines one two c.in-Ok.ensures.follows j.linked (c.in-Ok.ensures.rows j.openings) c.read_rows.ensures.number in
     let others = others_more before (g.S.Shelf.told.disk c.open.new.shelf) after one.id two.id c.open.ensures.others c.leave.ensures.others in
     mapped (lent g.S.Disk.Disk.told c.run-ended.new.chain j.openings one two) (shelved before after) (λ h. absurd h)
-    (keeps_so g.S.Disk.Disk.told c.run-ended.new.chain before after j.openings one two j.first_found j.second_found (c.leave.ensures.left told tells) others) (λ row other fault h. absurd h)
+    (keeps_so g.S.Disk.Disk.told c.run-ended.new.chain before after j.openings one two j.first_found j.second_found (c.leave.ensures.left told tells) others)
+    (outlives_so g.S.Disk.Disk.told c.run-ended.new.chain before after j.openings one two j.first_found j.second_found (c.leave.ensures.left told tells) others) (λ row other fault h. absurd h)
     all (g.I.Source.left c.run-ended.new.script) (g.O.Sink.written c.args.out.now) (g.O.Sink.written c.run-ended.new.out) (g.I.Source.faults c.args.script.now) (g.I.Source.faults c.read_rows.new.script) (g.I.Source.faults c.run-ended.new.script)
     c.read_rows.ensures.later c.run-ended.result (c.run-ended.ensures.ends tells j.openings all one two (chain_of j.openings one two) refl j.stands (refl, refl) read)
 

@@ -3,7 +3,7 @@ use Rattle.std.specs.Prelude.{◌≡◌, ◌⊎◌, ℕ, Bool, true, false, List
 use Rattle.std.specs.Io.KnownBytes.{Appends}
 use Rattle.command_line.specs.Commands.{AreWordsOf}
 use Rattle.command_line.specs.declared.command.Command.{Command}
-use Rattle.command_line.specs.declared.command.Command.TheVariants.{Race, Serve, Receive, Send}
+use Rattle.command_line.specs.declared.command.Command.TheVariants.{Race, Serve, Receive, Send, Wrap}
 use Rattle.pump_link.specs.Causes.{AppendsFront}
 use Rattle.script_reader.specs.Transcript.{fault_line}
 use Rattle.script_reader.specs.declared.fault.Fault.TheVariants as faults
@@ -19,9 +19,17 @@ IsAudit words = words ≡ codes "audit" ∷ []
 abbrev pub IsCompare : List (List ℕ) → Type 0
 IsCompare words = words ≡ codes "compare" ∷ []
 
+-- .. "chain"
+abbrev pub IsChain : List (List ℕ) → Type 0
+IsChain words = words ≡ codes "chain" ∷ []
+
 -- the words are those of a command that reads the script
 abbrev pub ReadsScript : List (List ℕ) → Type 0
-ReadsScript words = IsReplay words ⊎ (IsAudit words ⊎ IsCompare words)
+ReadsScript words = IsReplay words ⊎ (IsChain words ⊎ (IsAudit words ⊎ IsCompare words))
+
+-- .. of the command that reads a file in its place
+abbrev pub IsWrap : List (List ℕ) → Type 0
+IsWrap words = (table : List ℕ) × (session : ℕ) × AreWordsOf words (Wrap table session)
 
 -- a command with threads or over a socket is for `live`, every other one for `batch`
 abbrev pub is_live : Command → Bool

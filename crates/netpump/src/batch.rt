@@ -8,18 +8,22 @@ ghost use Rattle.script_replay.specs.Ends.{EndsReplay};
 ghost use Rattle.script_replay.specs.Replays.{IsFailed, Wrote};
 ghost use Rattle.script_replay.specs.Shelves.{AllAreBack, shelved};
 ghost use Rattle.commands.specs.CommandEnds.{EndsWithStatus};
-ghost use Rattle.netpump.specs.Commands.{is_live, IsNoCommand, IsReplay, IsAudit, IsCompare, ReadsScript, TellsWords, RefusesWords};
+ghost use Rattle.netpump.specs.Commands.{is_live, IsNoCommand, IsReplay, IsChain, IsWrap, IsAudit, IsCompare, ReadsScript, TellsWords, RefusesWords};
 ghost use Rattle.commands.specs.Auditing.{EndsAudit, EndsComparison};
 ghost use Rattle.exercises.specs.Exercises.{EndsExercise};
 ghost use Rattle.commands.specs.Formatting.{Formats};
 ghost use Rattle.commands.specs.Migrating.{Migrates};
 ghost use Rattle.commands.specs.Showing.{Shows};
 ghost use Rattle.commands.specs.Unwrapping.{EndsUnwrap};
+ghost use Rattle.commands.specs.Wrapping.{EndsWrap};
+ghost use Rattle.netpump.specs.Chains.{EndsChainWith};
 
 use arrayvec::ArrayVec;
+use chain_replay::replay_chain;
 use command_line::{Command, WordsFault, command_of};
 use commands::{
     audit_script, compare_script, format_session, migrate_session, show_session, unwrap_session,
+    wrap_session,
 };
 use disk_model::Shelf;
 use exercises::exercise;
@@ -101,8 +105,8 @@ pub fn batch<S: Shelf, I: Source, O: Sink>(
     ensures untouched { IsNoCommand (map string_bytes words.now.items) → (script.new ≡ script.old) × (shelf.new ≡ shelf.old) }
     ensures words { IsNoCommand (map string_bytes words.now.items) → RefusesWords (O.written out.old) (O.written out.new) result }
     ensures known { (c : Asked) → is_live c ≡ false → AreWordsOf (map string_bytes words.now.items) c → (result ≡ 2 → ⊥) }
-    // Only a replay and the commands over records read the script.
-    ensures unasked { (ReadsScript (map string_bytes words.now.items) → ⊥) → script.new ≡ script.old }
+    // Only a replay, of one pump's script or of two, the commands over records and the sending of a file read the script.
+    ensures unasked { (ReadsScript (map string_bytes words.now.items) → ⊥) → (IsWrap (map string_bytes words.now.items) → ⊥) → script.new ≡ script.old }
     // Whatever the status is, every disk is back on the shelf.
     ensures back { S.told.tells → AllAreBack (S.told.disk shelf.old) (S.told.disk shelf.new) }
     // A disk fails only where the shelf's count rose, or a line tells so.
@@ -110,14 +114,17 @@ pub fn batch<S: Shelf, I: Source, O: Sink>(
         ⊎ (S.told.tells → S.Disk.told.tells → Wrote (I.left script.old) (O.written out.old) (O.written out.new) (IsFailed (shelved (S.told.disk shelf.old) (S.told.disk shelf.new)) (I.left script.new))) }
     ensures disk { (IsReplay (map string_bytes words.now.items) → ⊥) → result ≡ 7 → Rose (S.told.disk_faults shelf.old) (S.told.disk_faults shelf.new) }
     // A read fails, and a write, only where the source's, the shelf's or the sink's count rose.
-    ensures file { (ReadsScript (map string_bytes words.now.items) → ⊥) → result ≡ 3 → Rose (S.told.faults shelf.old) (S.told.faults shelf.new) }
+    ensures file { (ReadsScript (map string_bytes words.now.items) → ⊥) → (IsWrap (map string_bytes words.now.items) → ⊥) → result ≡ 3 → Rose (S.told.faults shelf.old) (S.told.faults shelf.new) }
     ensures read { ReadsScript (map string_bytes words.now.items) → result ≡ 3 → Rose (I.faults script.old) (I.faults script.new) }
+    ensures either { IsWrap (map string_bytes words.now.items) → result ≡ 3 → Rose (S.told.faults shelf.old) (S.told.faults shelf.new) ⊎ Rose (I.faults script.old) (I.faults script.new) }
     ensures unwritten { result ≡ 4 → Rose (O.faults out.old) (O.faults out.new) }
     // A command that reads the script has written nothing where memory was wanting; of how a replay ends with another status see `EndsReplay`.
     ensures memory { ReadsScript (map string_bytes words.now.items) → result ≡ 1 → Appends (O.written out.old) (O.written out.new) [] }
     ensures replay { IsReplay (map string_bytes words.now.items) → S.told.tells → S.Disk.told.tells → EndsReplay result (S.told.disk shelf.old) (S.told.disk shelf.new)
         (I.left script.old) (I.left script.new) (O.written out.old) (O.written out.new) (I.faults script.old) (I.faults script.new) }
-    // How formatting, showing, moving, writing a file and an exercise end.
+    ensures chain { IsChain (map string_bytes words.now.items) → S.told.tells → S.Disk.told.tells → EndsChainWith result (S.told.disk shelf.old) (S.told.disk shelf.new)
+        (I.left script.old) (I.left script.new) (O.written out.old) (O.written out.new) (I.faults script.old) (I.faults script.new) }
+    // How formatting, showing, moving, sending and writing a file and an exercise end.
     ensures format { (table : List ℕ) (session : ℕ) → AreWordsOf (map string_bytes words.now.items) (commands.Format table session) → S.told.tells → S.Disk.told.tells
         → EndsWithStatus (Formats (S.told.file shelf.old table) (S.told.disk shelf.old) (S.told.disk shelf.new) session) (O.written out.old) (O.written out.new) result }
     ensures show { (table : List ℕ) (session : ℕ) → AreWordsOf (map string_bytes words.now.items) (commands.Show table session) → S.told.tells → S.Disk.told.tells
@@ -125,6 +132,8 @@ pub fn batch<S: Shelf, I: Source, O: Sink>(
     ensures migrate { (table : List ℕ) (session : ℕ) (new_table : List ℕ) (new_session : ℕ) → AreWordsOf (map string_bytes words.now.items) (commands.Migrate table session new_table new_session)
         → S.told.tells → S.Disk.told.tells → EndsWithStatus (Migrates (S.told.file shelf.old table) (S.told.file shelf.old new_table) (S.told.disk shelf.old) (S.told.disk shelf.new) session new_session)
         (O.written out.old) (O.written out.new) result }
+    ensures wrap { (table : List ℕ) (session : ℕ) → AreWordsOf (map string_bytes words.now.items) (commands.Wrap table session) → S.told.tells → S.Disk.told.tells
+        → EndsWrap (S.told.file shelf.old table) (S.told.disk shelf.old) (S.told.disk shelf.new) session (I.left script.old) (O.written out.old) (O.written out.new) result }
     ensures unwrap { (table : List ℕ) (session : ℕ) → AreWordsOf (map string_bytes words.now.items) (commands.Unwrap table session) → S.told.tells → S.Disk.told.tells
         → EndsUnwrap (S.told.file shelf.old table) (S.told.disk shelf.old) (S.told.disk shelf.new) session (O.written out.old) (O.written out.new) result }
     ensures exercise { (seed : ℕ) (count : ℕ) → AreWordsOf (map string_bytes words.now.items) (commands.Exercise seed count)
@@ -168,6 +177,10 @@ pub fn batch<S: Shelf, I: Source, O: Sink>(
         Command::Unwrap { table, session } => {
             return unwrap_session(alloc, table, *session, shelf, out).status();
         }
+        Command::Wrap { table, session } => {
+            return wrap_session(alloc, table, *session, shelf, script, out).status();
+        }
+        Command::Chain => return replay_chain(alloc, shelf, script, out).status(),
         Command::Exercise { seed, count } => return run_exercise(alloc, *seed, *count, out),
         Command::Audit => return audit_script(alloc, script, out),
         Command::Compare => return compare_script(alloc, script, out),

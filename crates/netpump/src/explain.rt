@@ -2,6 +2,7 @@ mod auditing;
 mod link;
 mod moving;
 mod unwrapping;
+mod wrapping;
 
 use auditing::{explain_audit, explain_difference, explain_unpaired};
 use command_line::USAGE;
@@ -10,6 +11,7 @@ use moving::{explain_filled, explain_long, explain_same, explain_small, table_na
 use session_table::{Table, TableFault};
 use std::{fs, io, str};
 use unwrapping::explain_unwrap;
+use wrapping::explain_wrap;
 
 /// What the shelf knows of the file that stopped a command with status 3 or 7.
 #[derive(Clone, Copy)]
@@ -107,6 +109,12 @@ fn explain_disk(rt: &HostRuntime, words: &[String], line: &str) -> io::Result<()
         "9" => explain_filled(rt, words, line),
         "10" => explain_small(rt, line),
         "11" => explain_long(rt, line),
+        "12" => eprintln!(rt;
+            "netpump: the second pump has accepted {first} messages in {session}.low, and the receiver of the first one has {second} alone, so the files of the two sessions are not of one time"
+        ),
+        "13" => eprintln!(rt;
+            "netpump: message {first} in {session}.low is another one than the receiver of the first pump has, so the files of the two sessions are not of one chain"
+        ),
         _ => eprintln!(rt;
             "netpump: the files of session {session} are not of one time: message {first} is another one in {session}.low than in {session}.recv"
         ),
@@ -149,6 +157,9 @@ fn explain_unread(rt: &HostRuntime, words: &[String], trouble: Trouble) -> io::R
         ),
         (_, Some("serve")) => eprintln!(rt;
             "netpump: the 32 bytes of the relay's key could not be read from /dev/urandom; see that this machine has it and that it is yours to read, and try again"
+        ),
+        (_, Some("wrap")) => eprintln!(rt;
+            "netpump: the file on standard input could not be read to its end; see that it is a file or a pipe, and not a folder, and wrap it again: what was sent of it is passed over"
         ),
         _ => eprintln!(rt;
             "netpump: standard input could not be read to its end; see that it is a file or a pipe, and not a folder. What it said until then is answered above"
@@ -210,6 +221,7 @@ pub fn explain(
         ),
         5 if word(words, 0) == Some("send") => explain_message(rt, last),
         5 if word(words, 0) == Some("compare") => explain_unpaired(rt, last),
+        10 | 13 | 14 if word(words, 0) == Some("wrap") => explain_wrap(rt, words, status, last),
         6 | 7 | 8 | 13 | 14 if word(words, 0) == Some("unwrap") => {
             explain_unwrap(rt, words, status, trouble)
         }

@@ -14,19 +14,22 @@ mod session_tests;
 #[cfg(test)]
 mod unwrap_tests;
 
-use adapters::{FileShelf, KeySource, RealClock, StdSink, StdSource, TcpPorts, Traffic, now};
+use adapters::{
+    FileShelf, KeySource, RealClock, ShownSource, StdSink, StdSource, TcpPorts, Traffic, now,
+};
 use batch::batch;
 use disk_model::Shelf;
 use explain::{Trouble, explain};
 use live::live;
 use pump_link::{Clock, Sink, Source, StepClock};
 use std::alloc::Global;
+use std::env;
 use std::fs::{File, Files};
+use std::io::{self, IsTerminal};
 use std::net::{Net, TcpListener, TcpStream};
 use std::process::ExitCode;
 use std::sync::Wait;
 use std::thread::Threads;
-use std::{env, io};
 
 /// The words after the program's name.
 fn words(rt: &HostRuntime) -> io::Result<Vec<String>> {
@@ -114,7 +117,9 @@ fn main(rt: HostRuntime) -> ExitCode {
         Err(_) => Vec::new(rt.alloc()),
     };
     let mut shelf = FileShelf::new(&rt);
-    let mut script = StdSource::new(rt.stdin());
+    // A file that is sent takes its time, so a terminal is shown how far it is.
+    let is_shown = begin_with(words.as_slice(), "wrap") && rt.stderr().is_terminal();
+    let mut script = ShownSource::new(StdSource::new(rt.stdin()), rt.stderr(), is_shown);
     let mut out = StdSink::new(rt.stdout());
     let (low, high) = (Traffic::new(), Traffic::new());
     let status = if begin_with(words.as_slice(), "race") {
@@ -151,6 +156,7 @@ fn main(rt: HostRuntime) -> ExitCode {
     } else {
         batch(rt.alloc(), &words, &mut shelf, &mut script, &mut out)
     };
+    script.end();
     let trouble = trouble_of(&shelf);
     // The status tells it too, where standard error can't be written.
     let _ = explain(&rt, words.as_slice(), status, out.last(), trouble);

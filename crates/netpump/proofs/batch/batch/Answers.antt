@@ -1,6 +1,6 @@
 use Rattle.std.proofs.Common.{rules, refl, sym, ◌∙◌}
 use Rattle.command_line.specs.declared.command.Command.TheVariants as commands
-use Rattle.netpump.proofs.Asked.{read_words, not_command, same_command, formats_asked, formats_nothing, shows_asked, shows_nothing, migrates_asked, migrates_nothing, unwraps_asked, unwraps_nothing, exercise_asked}
+use Rattle.netpump.proofs.Asked.{read_words, not_command, same_command, formats_asked, formats_nothing, shows_asked, shows_nothing, migrates_asked, migrates_nothing, wraps_asked, wraps_nothing, unwraps_asked, unwraps_nothing, exercise_asked}
 use Rattle.netpump.proofs.batch.batch.Goals as goal
 
 pub returns-in-Format-clause-format : goal.returns-in-Format-clause-format
@@ -81,3 +81,22 @@ returns-in-Err-NoCommand-clause-audit g c = λ audit.
 pub returns-in-Err-NoCommand-clause-compare : goal.returns-in-Err-NoCommand-clause-compare
 returns-in-Err-NoCommand-clause-compare g c = λ compare.
     absurd (not_command commands.Compare ((rw c.in-Err-NoCommand.field-0-is at c.in-Err-NoCommand.ensures.command) commands.Compare (read_words _ _ commands.Compare c.as_slice.ensures.value (tt, compare))))
+
+pub returns-in-Wrap-clause-wrap : goal.returns-in-Wrap-clause-wrap
+returns-in-Wrap-clause-wrap g c = λ table session words told tells.
+    let asked = c.in-Ok.ensures.command (commands.Wrap table session) (read_words _ _ (commands.Wrap table session) c.as_slice.ensures.value words) in
+    wraps_asked (g.S.Shelf.told.file c.args.shelf.now) (g.S.Shelf.told.disk c.args.shelf.now) (g.S.Shelf.told.disk c.wrap_session.new.shelf) (g.I.Source.left c.args.script.now)
+    (g.O.Sink.written c.args.out.now) (g.O.Sink.written c.wrap_session.new.out)
+    _ table _ session c.wrap_session.result c.status-in-Wrap.result (c.wrap_session.ensures.ends told tells) c.status-in-Wrap.ensures
+    c.in-Ok.asked c.in-Wrap.is (same_command c.in-Ok.asked (commands.Wrap table session) asked)
+
+pub returns-in-Err-NoCommand-clause-wrap : goal.returns-in-Err-NoCommand-clause-wrap
+returns-in-Err-NoCommand-clause-wrap g c = λ table session words.
+    absurd (not_command (commands.Wrap table session) ((rw c.in-Err-NoCommand.field-0-is at c.in-Err-NoCommand.ensures.command) (commands.Wrap table session) (read_words _ _ (commands.Wrap table session) c.as_slice.ensures.value words)))
+
+pub returns-in-Err-Memory-clause-wrap : goal.returns-in-Err-Memory-clause-wrap
+returns-in-Err-Memory-clause-wrap g c = λ table session words told tells. wraps_nothing (g.S.Shelf.told.file c.args.shelf.now table) (g.S.Shelf.told.disk c.args.shelf.now) _ _ _ session (search rules)
+
+pub returns-in-Err-NoCommand-clause-chain : goal.returns-in-Err-NoCommand-clause-chain
+returns-in-Err-NoCommand-clause-chain g c = λ chain.
+    absurd (not_command commands.Chain ((rw c.in-Err-NoCommand.field-0-is at c.in-Err-NoCommand.ensures.command) commands.Chain (read_words _ _ commands.Chain c.as_slice.ensures.value (tt, chain))))

@@ -164,6 +164,33 @@ fn lines_that_are_not_of_a_chain_are_refused(rt: HostRuntime) -> Result<(), Fail
     Ok(())
 }
 
+#[test]
+fn ends_come_by_rising_number(rt: HostRuntime) -> Result<(), Fail> {
+    let alloc = rt.alloc();
+    let mut shelf = new_shelf(alloc)?;
+    assert!(rt; ends(alloc, &mut shelf, &[Q, P], 0, "end 1 0 0 0\nend 2 0 0 0\n")?);
+    // Either session may be made coarse, before all that is done with them.
+    assert!(rt;
+        ends(
+            alloc,
+            &mut shelf,
+            &[P, Q, "coarse 2\ncoarse 1\n"],
+            0,
+            "end 1 0 0 0\nend 2 0 0 0\n"
+        )?
+    );
+    assert!(rt;
+        ends(
+            alloc,
+            &mut shelf,
+            &[P, Q, "step 2 5 00000000\ncoarse 1\n"],
+            5,
+            "low 2 5 welcome 0\nfault script 4\n"
+        )?
+    );
+    Ok(())
+}
+
 /// The lines by which the first receiver comes to have two messages.
 const TWO: &str = "look 1 10 00000000 hello weather watch
 look 1 100 00000000 data 0 61

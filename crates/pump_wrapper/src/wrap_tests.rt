@@ -1,17 +1,18 @@
 ghost use Rattle.std.specs.Prelude.{◌≡◌, ◌≤◌, IfSome, IsTrue};
 ghost use Rattle.pump_frame.specs.Rows.{IsLawfulRow};
 
-use crate::{WrapEnd, Wrapped, wrap};
+use crate::{Gathered, WrapEnd, Wrapped, gather, wrap};
 use disk_model::{MemDisk, Role};
 use pump_frame::{Name, SessionRow};
-use pump_link::MemSource;
+use pump_link::{MemSink, MemSource};
 use recovery::{Trio, open_receiver};
 use std::alloc::{AllocError, Global};
 use std::test::Fail;
 use two_worlds::Stop;
 
 // A file that is sent, over new disks or those that the row before left, with the calls of a new
-// receiver's disk that fail; what must come of it, and the receiver's count and end after it.
+// receiver's disk that fail; what must come of it, the receiver's count and end after it, and what is
+// gathered of its messages then.
 #[derive(Clone, Copy)]
 struct WrapRow<'a> {
     fails: Option<&'a [u64]>,
@@ -19,6 +20,8 @@ struct WrapRow<'a> {
     end: WrapEnd,
     count: u64,
     log_end: u64,
+    gathered: Gathered,
+    written: &'a [u8],
 }
 
 // Session 1 of message size 12.
@@ -72,10 +75,14 @@ fn sent(
     let mut file = MemSource::new(bytes, 5, Vec::new(alloc));
     let Wrapped { end, disks } = wrap(alloc, row, disks, &mut file);
     let Trio { low, high, recv } = disks;
-    let Ok(receiver) = open_receiver(recv, row, 256) else {
+    let Ok(mut receiver) = open_receiver(recv, row, 256) else {
         return Ok(None);
     };
     if end != case.end || receiver.count() != case.count || receiver.end() != case.log_end {
+        return Ok(None);
+    }
+    let mut out = MemSink::new(vec![in alloc; 0; 64]?, 5, Vec::new(alloc));
+    if gather(&mut receiver, &mut out, 12) != Ok(case.gathered) || out.written() != case.written {
         return Ok(None);
     }
     Ok(Some(Trio {
@@ -100,6 +107,11 @@ fn files_are_sent(rt: HostRuntime) -> Result<(), Fail> {
         },
         count: 3,
         log_end: 109,
+        gathered: Gathered {
+            bytes: 12,
+            whole: true,
+        },
+        written: b"hello, world",
     };
     let rows = [
         WrapRow {
@@ -121,6 +133,11 @@ fn files_are_sent(rt: HostRuntime) -> Result<(), Fail> {
             },
             count: 1,
             log_end: 91,
+            gathered: Gathered {
+                bytes: 0,
+                whole: true,
+            },
+            written: b"",
         },
         // The receiver's disk fails in the second taking.
         WrapRow {
@@ -131,6 +148,11 @@ fn files_are_sent(rt: HostRuntime) -> Result<(), Fail> {
             }),
             count: 1,
             log_end: 94,
+            gathered: Gathered {
+                bytes: 11,
+                whole: false,
+            },
+            written: b"hello, worl",
             ..whole
         },
         whole,

@@ -167,7 +167,11 @@ fn a_file_is_sent_and_written(rt: HostRuntime) -> Result<(), Fail> {
         (("unwrap", "w.toml", 1), 0, "hello, world"),
         sent,
         shown,
-        (("wrap hello, there", "w.toml", 1), 13, "fault wrapped 1 0\n"),
+        (
+            ("wrap hello, there", "w.toml", 1),
+            13,
+            "fault wrapped 1 0\n",
+        ),
         shown,
     ];
     assert!(rt; all_end(rt.alloc(), &[], commands.as_slice())?);

@@ -137,23 +137,7 @@ exercise_asked old new a b n m status ends c one other =
 pub exercise_nothing : (old new : Option (List ℕ)) (seed count : ℕ) → Appends old new [] → EndsExercise seed count old new 1
 exercise_nothing old new seed count a = inr (inl (refl, a))
 
-race_wrapped_table_is : (t u : List ℕ) (n m : ℕ) → Wrap t n ≡ Wrap u m → t ≡ u
-wrapped_table_is t u n m e = cc
-
-wrapped_session_is : (t u : List ℕ) (n m : ℕ) → Wrap t n ≡ Wrap u m → n ≡ m
-wrapped_session_is t u n m e = cc
-
-pub wraps_asked : (file : List ℕ → Option (List ℕ)) (before after : Places) (left old new : Option (List ℕ)) (t u : List ℕ) (n m : ℕ) (end : SendEnd) (status : ℕ)
-    → WritesSend (Wraps (file t) before after n left) n old new end → status ≡ send_status end → (b : Command) → b ≡ Wrap t n → b ≡ Wrap u m
-    → EndsWrap (file u) before after m left old new status
-wraps_asked file before after left old new t u n m end status ends is b one other =
-    let same = sym one ∙ other in
-    (end, sym is, subst (λ (p : List ℕ × ℕ). WritesSend (Wraps (file p.0) before after p.1 left) p.1 old new end) (λ i. (wrapped_table_is t u n m same i, wrapped_session_is t u n m same i)) ends)
-
-pub wraps_nothing : (file : Option (List ℕ)) (places : Places) (left old new : Option (List ℕ)) (session : ℕ) → Appends old new [] → EndsWrap file places places session left old new 1
-wraps_nothing file places left old new session a = (SentStop ends.Memory, refl, (inl (ends.Memory, tt, refl, refl), a))
-
-seed_is : (a b n m : ℕ) (ts us : ArrayVec ℕ) → Race a n ts ≡ Race b m us → a ≡ b
+race_seed_is : (a b n m : ℕ) (ts us : ArrayVec ℕ) → Race a n ts ≡ Race b m us → a ≡ b
 race_seed_is a b n m ts us e = cc
 
 race_count_is : (a b n m : ℕ) (ts us : ArrayVec ℕ) → Race a n ts ≡ Race b m us → n ≡ m

@@ -110,10 +110,10 @@ fn explain_disk(rt: &HostRuntime, words: &[String], line: &str) -> io::Result<()
         "10" => explain_small(rt, line),
         "11" => explain_long(rt, line),
         "12" => eprintln!(rt;
-            "netpump: the second pump has accepted {first} messages in {session}.low, and the receiver of the first one has {second} alone, so the files of the two sessions are not of one time"
+            "netpump: the second pump has accepted {first} messages in {session}.low, and the receiver of the first one has {second} alone, so the six files are not of one time; put back those that belong together, or replay the chain in an empty folder"
         ),
         "13" => eprintln!(rt;
-            "netpump: message {first} in {session}.low is another one than the receiver of the first pump has, so the files of the two sessions are not of one chain"
+            "netpump: message {first} in {session}.low is another one than the receiver of the first pump has, so the six files are not of one chain; put back those that belong together, or replay the chain in an empty folder"
         ),
         _ => eprintln!(rt;
             "netpump: the files of session {session} are not of one time: message {first} is another one in {session}.low than in {session}.recv"
@@ -141,7 +141,7 @@ fn explain_refusal(rt: &HostRuntime, words: &[String], last: &[u8]) -> io::Resul
     }
     explain_disk(rt, words, line)?;
     // Those sentences say what to do.
-    if number == "9" || number == "10" || number == "11" {
+    if matches!(number, "9" | "10" | "11" | "12" | "13") {
         return Ok(());
     }
     eprintln!(rt;

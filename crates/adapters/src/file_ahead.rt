@@ -1,5 +1,6 @@
 ghost use Rattle.std.specs.Prelude.{◌≡◌, IfSome, length as count_of};
 
+use std::alloc::{AllocError, Global};
 use std::fs::File;
 use std::io;
 use std::os::unix::fs::FileExt;
@@ -11,7 +12,7 @@ const ROOM: usize = 8192;
 /// before it ended, as in a walk along a log: a read elsewhere asks for its own bytes alone.
 #[derive(Drop)]
 pub struct FileAhead {
-    bytes: [u8; ROOM],
+    bytes: Vec<u8>,
     /// Where in the file the bytes begin, and how many there are.
     start: u64,
     count: usize,
@@ -20,14 +21,14 @@ pub struct FileAhead {
 }
 
 impl FileAhead {
-    /// No bytes.
-    pub fn new() -> FileAhead {
-        FileAhead {
-            bytes: [0; ROOM],
+    /// No bytes. An error is want of memory.
+    pub fn new(alloc: Global) -> Result<FileAhead, AllocError> {
+        Ok(FileAhead {
+            bytes: vec![in alloc; 0; ROOM]?,
             start: 0,
             count: 0,
             next: None,
-        }
+        })
     }
 
     /// No bytes any more. The file is to be written.
@@ -42,13 +43,13 @@ impl FileAhead {
     {
         let from = usize::try_from(at.checked_sub(self.start)?).ok()?;
         let end = from.checked_add(length)?;
-        self.bytes.get(..self.count)?.get(from..end)
+        self.bytes.as_slice().get(..self.count)?.get(from..end)
     }
 
     // Takes in the file's bytes from this offset on. A failure is met again by the read that follows.
     fn fill(&mut self, file: &File, at: u64) {
         self.start = at;
-        self.count = file.read_at(&mut self.bytes, at).unwrap_or(0);
+        self.count = file.read_at(self.bytes.as_mut_slice(), at).unwrap_or(0);
     }
 
     /// The file's bytes from an offset on. A read past the file's end fails.

@@ -21,13 +21,13 @@ pub struct FileDisk {
 
 impl FileDisk {
     /// A disk over a file that is open to read and to write and has this size in bytes.
-    pub fn new(file: File, size: u64) -> FileDisk
+    pub fn new(file: File, size: u64, ahead: FileAhead) -> FileDisk
         ensures { result.faults ≡ 0 }
     {
         FileDisk {
             file,
             size: Some(size),
-            ahead: FileAhead::new(),
+            ahead,
             faults: 0,
         }
     }
@@ -109,7 +109,7 @@ mod tests {
             .create_new(true)
             .open(&rt, path.as_str())?;
         fs::remove_file(&rt, path.as_str())?;
-        let mut disk = FileDisk::new(file, 0);
+        let mut disk = FileDisk::new(file, 0, FileAhead::new(rt.alloc())?);
         for (at, bytes, size) in [(0, b"relay", 5), (3, b"pumps", 8), (1, b"elpum", 8)] {
             assert_eq!(rt; disk.write_at(at, bytes), Ok(()));
             assert_eq!(rt; disk.sync(), Ok(()));

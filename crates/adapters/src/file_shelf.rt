@@ -1,10 +1,12 @@
 ghost use Rattle.std.specs.Prelude.{◌≡◌, IfOk};
 ghost use Rattle.adapters.specs.Files.{counts_alone};
 
+use crate::file_ahead::FileAhead;
 use crate::file_disk::FileDisk;
 use arrayvec::ArrayString;
 use disk_model::{Disk, DiskName, Role, Shelf, ShelfFault};
 use pump_frame::raised;
+use std::alloc::Global;
 use std::fmt::Write;
 use std::fs::{File, Files, OpenOptions};
 use std::io::{self, ErrorKind};
@@ -13,9 +15,10 @@ use std::os::unix::fs::{FileExt, OpenOptionsExt};
 /// The current folder as a shelf. The disks of session S are its files `S.low`, `S.high` and
 /// `S.recv`. One that isn't there is made, for its user alone to read and write. A disk that is off
 /// the shelf is locked: until it is kept or this process ends, neither this process nor another can
-/// take it. No call takes memory.
+/// take it. A disk takes the memory in which it reads ahead; no other call takes any.
 #[derive(Drop)]
 pub struct FileShelf<R> {
+    alloc: Global,
     files: R,
     faults: u64,
     disk_faults: u64,
@@ -36,9 +39,10 @@ fn file_name(name: DiskName) -> ArrayString<15> {
 
 // A file without bytes may be new. Its folder is synced before it is handed out, so that a file that
 // has bytes outlives a crash.
-fn open_disk<R: Files<File = File>>(files: &R, name: &str) -> io::Result<FileDisk>
+fn open_disk<R: Files<File = File>>(alloc: Global, files: &R, name: &str) -> io::Result<FileDisk>
     ensures { IfOk result (λ disk. disk.faults ≡ 0) }
 {
+    let ahead = FileAhead::new(alloc)?;
     let file = OpenOptions::new()
         .read(true)
         .write(true)
@@ -50,7 +54,7 @@ fn open_disk<R: Files<File = File>>(files: &R, name: &str) -> io::Result<FileDis
     if size == 0 {
         File::open(files, ".")?.sync_all()?;
     }
-    Ok(FileDisk::new(file, size))
+    Ok(FileDisk::new(file, size, ahead))
 }
 
 fn read_whole<R: Files<File = File>>(files: &R, name: &str, into: &mut [u8]) -> io::Result<u64> {
@@ -62,8 +66,9 @@ fn read_whole<R: Files<File = File>>(files: &R, name: &str, into: &mut [u8]) -> 
 }
 
 impl<R: Files<File = File>> FileShelf<R> {
-    pub fn new(files: R) -> FileShelf<R> {
+    pub fn new(alloc: Global, files: R) -> FileShelf<R> {
         FileShelf {
+            alloc,
             files,
             faults: 0,
             disk_faults: 0,
@@ -96,8 +101,9 @@ impl<R: Files<File = File>> Shelf for FileShelf<R> {
     }
 
     fn disk(&mut self, name: DiskName) -> Result<FileDisk, ShelfFault> {
-        match open_disk(&self.files, file_name(name).as_str()) {
+        match open_disk(self.alloc, &self.files, file_name(name).as_str()) {
             Ok(disk) => Ok(disk),
+            Err(error) if error.kind() == ErrorKind::OutOfMemory => Err(ShelfFault::Memory),
             Err(error) => {
                 self.is_in_use = error.kind() == ErrorKind::WouldBlock;
                 self.disk_faults = raised(self.disk_faults);
@@ -154,9 +160,9 @@ mod tests {
         let folder = format!(in rt.alloc(); "/tmp/netpump_shelf_{}", process::id(rt.process()))?;
         fs::create_dir(&rt, folder.as_str())?;
         env::set_current_dir(&rt, folder.as_str())?;
-        let mut shelf = FileShelf::new(&rt);
+        let mut shelf = FileShelf::new(rt.alloc(), &rt);
         // The lock is that of one opening, so a second shelf stands for a second process.
-        let mut second = FileShelf::new(&rt);
+        let mut second = FileShelf::new(rt.alloc(), &rt);
         match shelf.disk(LOW) {
             Ok(mut disk) => {
                 assert_eq!(rt; size_of(&mut second, LOW), None);

@@ -116,7 +116,7 @@ fn main(rt: HostRuntime) -> ExitCode {
         // Words that can't be told are no command.
         Err(_) => Vec::new(rt.alloc()),
     };
-    let mut shelf = FileShelf::new(&rt);
+    let mut shelf = FileShelf::new(rt.alloc(), &rt);
     // A file that is sent takes its time, so a terminal is shown how far it is.
     let is_shown = begin_with(words.as_slice(), "wrap") && rt.stderr().is_terminal();
     let mut script = ShownSource::new(StdSource::new(rt.stdin()), rt.stderr(), is_shown);

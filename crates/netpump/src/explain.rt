@@ -184,6 +184,9 @@ fn explain_table(rt: &HostRuntime, words: &[String], last: &[u8]) -> io::Result<
         "11" => eprintln!(rt;
             "netpump: no row of the table {table} has id = {session}; name a session that has one, or add it"
         ),
+        "12" => eprintln!(rt;
+            "netpump: the messages of session {session} have fewer than 9 bytes in the table {table}, and a file needs as many; name a session that has longer ones"
+        ),
         "13" => explain_same(rt, words, session),
         _ => match fault_of_table(rt, table) {
             Some(fault) => eprintln!(rt; "netpump: in the file {table}: {fault}"),

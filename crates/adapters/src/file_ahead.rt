@@ -6,18 +6,29 @@ use std::io;
 use std::os::unix::fs::FileExt;
 
 /// How many bytes are read ahead at most.
-const ROOM: usize = 8192;
+const ROOM: usize = 32768;
 
-/// Bytes of a file that were read ahead. Nothing is read ahead but where one read begins where the one
-/// before it ended, as in a walk along a log: a read elsewhere asks for its own bytes alone.
+/// How far behind the end of a read the next one may begin to go on from it. A walk along a log reads
+/// the length of each record alone, and steps over the rest.
+const STEP: u64 = 4096;
+
+/// Bytes of a file that were read ahead. Nothing is read ahead but where one read goes on from the one
+/// before it, as in a walk along a log: a read elsewhere asks for its own bytes alone.
 #[derive(Drop)]
 pub struct FileAhead {
     bytes: Vec<u8>,
     /// Where in the file the bytes begin, and how many there are.
     start: u64,
     count: usize,
-    /// Where the last read ended, if the file was not written since.
-    next: Option<u64>,
+    /// The last read, if the file was not written since.
+    last: Option<Span>,
+}
+
+/// A part of a file, from one offset up to another.
+#[derive(Clone, Copy)]
+struct Span {
+    start: u64,
+    end: u64,
 }
 
 impl FileAhead {
@@ -27,14 +38,23 @@ impl FileAhead {
             bytes: vec![in alloc; 0; ROOM]?,
             start: 0,
             count: 0,
-            next: None,
+            last: None,
         })
     }
 
     /// No bytes any more. The file is to be written.
     pub fn clear(&mut self) {
         self.count = 0;
-        self.next = None;
+        self.last = None;
+    }
+
+    // A read at this offset goes on from the last one: it begins there again, or a step behind its end
+    // at most.
+    fn goes_on(&self, at: u64) -> bool {
+        match self.last {
+            Some(last) => last.start <= at && at <= last.end.saturating_add(STEP),
+            None => false,
+        }
     }
 
     // The bytes from an offset of the file on, where all of them are there.
@@ -54,11 +74,13 @@ impl FileAhead {
 
     /// The file's bytes from an offset on. A read past the file's end fails.
     pub fn read(&mut self, file: &File, at: u64, into: &mut [u8]) -> io::Result<()> {
-        let is_next = self.next == Some(at);
-        self.next = at.checked_add(into.len() as u64);
-        if is_next && self.held(at, into.len()).is_none() {
+        if self.goes_on(at) && self.held(at, into.len()).is_none() {
             self.fill(file, at);
         }
+        self.last = Some(Span {
+            start: at,
+            end: at.saturating_add(into.len() as u64),
+        });
         match self.held(at, into.len()) {
             Some(bytes) => {
                 into.copy_from_slice(bytes);

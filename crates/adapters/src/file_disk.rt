@@ -97,19 +97,59 @@ impl Disk for FileDisk {
 mod tests {
     use super::*;
     use std::fs::OpenOptions;
+    use std::process::Abort;
     use std::test::Fail;
     use std::{fs, process};
 
-    #[test]
-    fn a_file_is_a_disk(rt: HostRuntime) -> Result<(), Fail> {
-        let path = format!(in rt.alloc(); "/tmp/netpump_disk_{}", process::id(rt.process()))?;
+    // A disk over a new file that nobody else can open.
+    fn new_disk(rt: &HostRuntime, name: &str) -> Result<FileDisk, Fail> {
+        let path = format!(in rt.alloc(); "/tmp/netpump_{}_{}", name, process::id(rt.process()))?;
         let file = OpenOptions::new()
             .read(true)
             .write(true)
             .create_new(true)
-            .open(&rt, path.as_str())?;
-        fs::remove_file(&rt, path.as_str())?;
-        let mut disk = FileDisk::new(file, 0, FileAhead::new(rt.alloc())?);
+            .open(rt, path.as_str())?;
+        fs::remove_file(rt, path.as_str())?;
+        Ok(FileDisk::new(file, 0, FileAhead::new(rt.alloc())?))
+    }
+
+    fn byte_at(at: usize) -> u8 {
+        (at % 251) as u8
+    }
+
+    // The file has its bytes there.
+    fn expect_bytes(rt: &impl Abort, disk: &mut FileDisk, at: usize, into: &mut [u8]) {
+        assert_eq!(rt; disk.read(at as u64, into), Ok(()));
+        for (i, &byte) in into.iter().enumerate() {
+            assert_eq!(rt; byte, byte_at(at.wrapping_add(i)));
+        }
+    }
+
+    // A walk over the lengths of records, then over the records, each behind its length, and elsewhere.
+    #[test]
+    fn what_is_read_ahead_is_what_the_file_has(rt: HostRuntime) -> Result<(), Fail> {
+        let mut bytes = [0; 40_000];
+        for (at, byte) in bytes.iter_mut().enumerate() {
+            *byte = byte_at(at);
+        }
+        let mut disk = new_disk(&rt, "ahead")?;
+        assert_eq!(rt; disk.write_at(0, &bytes), Ok(()));
+        let (mut length, mut record) = ([0; 2], [0; 1026]);
+        for at in [80, 1106, 2132, 31_900, 33_000] {
+            expect_bytes(&rt, &mut disk, at, &mut length);
+        }
+        for at in [80, 1106, 32_700, 33_726, 38_974, 7] {
+            expect_bytes(&rt, &mut disk, at, &mut length);
+            expect_bytes(&rt, &mut disk, at, &mut record);
+        }
+        expect_bytes(&rt, &mut disk, 39_998, &mut length);
+        assert_eq!(rt; disk.read(39_999, &mut length), Err(DiskFault));
+        Ok(())
+    }
+
+    #[test]
+    fn a_file_is_a_disk(rt: HostRuntime) -> Result<(), Fail> {
+        let mut disk = new_disk(&rt, "disk")?;
         for (at, bytes, size) in [(0, b"relay", 5), (3, b"pumps", 8), (1, b"elpum", 8)] {
             assert_eq!(rt; disk.write_at(at, bytes), Ok(()));
             assert_eq!(rt; disk.sync(), Ok(()));

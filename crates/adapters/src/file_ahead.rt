@@ -6,7 +6,7 @@ use std::io;
 use std::os::unix::fs::FileExt;
 
 /// How many bytes are read ahead at most.
-const ROOM: usize = 32768;
+const ROOM: usize = 65536;
 
 /// How far behind the end of a read the next one may begin to go on from it. A walk along a log reads
 /// the length of each record alone, and steps over the rest.

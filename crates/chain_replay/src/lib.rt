@@ -8,8 +8,6 @@ mod printing;
 mod replaying;
 mod rows;
 mod running;
-#[cfg(test)]
-mod tests;
 mod turn;
 
 pub use replaying::replay_chain;

@@ -17,6 +17,3 @@ pub use find::command_of;
 pub use laws::words_are_one_command;
 pub use table_name::TableName;
 pub use usage::USAGE;
-
-#[cfg(test)]
-mod tests;

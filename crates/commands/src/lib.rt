@@ -21,6 +21,3 @@ pub use show::{end_at, show_session};
 pub use table_row::row_in_file;
 pub use unwrap::{UnwrapEnd, unwrap_session};
 pub use wrap::{SendEnd, wrap_session};
-
-#[cfg(test)]
-mod tests;

@@ -2,6 +2,7 @@ use crate::{
     Disk, DiskFault, DiskName, MemDisk, MemShelf, Outcome, PlainDisk, Role, Shelf, ShelfFault,
 };
 use std::alloc::Global;
+use std::process::Abort;
 use std::test::Fail;
 
 #[test]
@@ -73,6 +74,46 @@ fn visit<S: Shelf>(shelf: &mut S, name: DiskName, failing: u64) -> Result<u64, S
     size.map_err(|_| ShelfFault::Failed)
 }
 
+// A file is read as far as it fits, and its length told; one that isn't there fails.
+fn files_are_read<S: Shelf>(rt: &impl Abort, shelf: &mut S) {
+    for (name, result, front) in [
+        ("table", Ok(4), *b"row"),
+        ("chair", Err(ShelfFault::Failed), *b"___"),
+    ] {
+        let mut into = *b"___";
+        assert_eq!(rt; shelf.whole(name, &mut into), result);
+        assert_eq!(rt; into, front);
+    }
+    assert_eq!(rt; shelf.faults(), 1);
+}
+
+// The call with the number 5 fails.
+fn disks_are_taken<S: Shelf>(rt: &impl Abort, shelf: &mut S) {
+    let recv = DiskName {
+        session: 7,
+        role: Role::Recv,
+    };
+    for (name, failing, result, faults) in [
+        (LOW, 0, Ok(5), 0),
+        (LOW, 2, Ok(5), 1),
+        (HIGH, 0, Ok(0), 1),
+        (HIGH, 0, Err(ShelfFault::Failed), 2),
+        (recv, 0, Err(ShelfFault::Failed), 3),
+        (LOW, 0, Ok(5), 3),
+    ] {
+        assert_eq!(rt; visit(shelf, name, failing), result);
+        assert_eq!(rt; shelf.disk_faults(), faults);
+    }
+}
+
+// A disk that is out is not at home, and can't be taken again.
+fn a_disk_is_out(rt: &impl Abort, shelf: &mut MemShelf<PlainDisk>) {
+    assert_eq!(rt; shelf.disk(LOW).is_ok(), true);
+    assert_eq!(rt; shelf.home(LOW).is_some(), false);
+    assert_eq!(rt; shelf.home(HIGH).is_some(), true);
+    assert_eq!(rt; shelf.disk(LOW).is_err(), true);
+}
+
 #[test]
 fn a_shelf_gives_what_it_holds(rt: HostRuntime) -> Result<(), Fail> {
     let alloc = rt.alloc();
@@ -86,40 +127,9 @@ fn a_shelf_gives_what_it_holds(rt: HostRuntime) -> Result<(), Fail> {
     ]?;
     let disks = vec![in alloc; (HIGH, PlainDisk::new(alloc, 8)?), (LOW, low)]?;
     let mut shelf = MemShelf::new(disks, files, vec![in alloc; 5]?);
-    for (name, result, front) in [
-        ("table", Ok(4), *b"row"),
-        ("chair", Err(ShelfFault::Failed), *b"___"),
-    ] {
-        let mut into = *b"___";
-        assert_eq!(rt; shelf.whole(name, &mut into), result);
-        assert_eq!(rt; into, front);
-    }
-    let recv = DiskName {
-        session: 7,
-        role: Role::Recv,
-    };
-    // The call with the number 5 fails.
-    for (name, failing, result, faults) in [
-        (LOW, 0, Ok(5), 0),
-        (LOW, 2, Ok(5), 1),
-        (HIGH, 0, Ok(0), 1),
-        (HIGH, 0, Err(ShelfFault::Failed), 2),
-        (recv, 0, Err(ShelfFault::Failed), 3),
-        (LOW, 0, Ok(5), 3),
-    ] {
-        assert_eq!(rt; visit(&mut shelf, name, failing), result);
-        assert_eq!(rt; shelf.disk_faults(), faults);
-    }
-    let out = shelf.disk(LOW);
-    assert_eq!(rt;
-        (
-            out.is_ok(),
-            shelf.home(LOW).is_some(),
-            shelf.home(HIGH).is_some()
-        ),
-        (true, false, true)
-    );
-    assert_eq!(rt; shelf.disk(LOW).is_err(), true);
+    files_are_read(&rt, &mut shelf);
+    disks_are_taken(&rt, &mut shelf);
+    a_disk_is_out(&rt, &mut shelf);
     assert_eq!(rt; shelf.faults(), 1);
     Ok(())
 }

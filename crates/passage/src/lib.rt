@@ -18,6 +18,3 @@ pub use plain::PlainEnds;
 pub use queue_ends::{QueueHigh, QueueLow};
 pub use queue_passage::{Joined, QueuePassage};
 pub use waiting::{Calm, WaitHighEnd, WaitLowEnd};
-
-#[cfg(test)]
-mod tests;

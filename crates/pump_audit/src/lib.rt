@@ -28,6 +28,3 @@ pub use laws::{
     pairs_are_one, records_are_their_sides, records_that_agree_reply_alike, verdicts_are_one,
 };
 pub use verdict::{AuditFault, Verdict};
-
-#[cfg(test)]
-mod tests;

@@ -19,8 +19,3 @@ pub use compare::{CompareFault, skip_received};
 pub use cutter::{Cut, Cutter};
 pub use file_sender::{WrapEnd, Wrapped, wrap};
 pub use gathered::{GatherFault, Gathered, gather};
-
-#[cfg(test)]
-mod tests;
-#[cfg(test)]
-mod wrap_tests;

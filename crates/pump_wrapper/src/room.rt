@@ -11,7 +11,7 @@ use pump_link::{Sink, WriteFault, write_all};
 /// Bytes that are to be written.
 #[derive(Drop)]
 pub struct Room {
-    held: ArrayVec<u8, 8192>,
+    held: ArrayVec<u8, 65536>,
 }
 
 impl Room {

@@ -29,8 +29,3 @@ pub use pump::{NotOpened, Opened, open_pump, open_pump_waiting};
 pub use receiver::open_receiver;
 pub use trio::{Migrated, MoveFault, Trio};
 pub use why::Why;
-
-#[cfg(test)]
-mod move_tests;
-#[cfg(test)]
-mod tests;

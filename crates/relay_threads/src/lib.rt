@@ -28,10 +28,3 @@ pub use pair::{Work, run_pair, try_run_pair};
 pub use record::{LookMade, append_look, append_opening, is_recorded};
 pub use rounds_end::RoundsEnd;
 pub use tape::write_opening;
-
-#[cfg(test)]
-mod high_tests;
-#[cfg(test)]
-mod low_tests;
-#[cfg(test)]
-mod tests;

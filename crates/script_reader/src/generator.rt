@@ -323,6 +323,3 @@ impl Generator {
         self.progress.next(body)
     }
 }
-
-#[cfg(test)]
-mod tests;

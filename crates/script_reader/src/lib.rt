@@ -34,6 +34,3 @@ pub use lines::{Lined, Lines};
 pub use naming::{begins_session, moment_of, session_of, stands_first};
 pub use printing::{append_fault, append_head, print_event, print_fault, print_head};
 pub use reading::{read_head, read_line};
-
-#[cfg(test)]
-mod tests;

@@ -250,6 +250,3 @@ pub fn print_line(line: &Line, into: &mut ArrayVec<u8, 2400>)
     into.clear();
     append_line(&line.head(), line.bytes(), into);
 }
-
-#[cfg(test)]
-mod tests;

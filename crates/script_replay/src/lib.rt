@@ -2,19 +2,13 @@
 //! transcript, and answers how it ended.
 #![tactic(auto)]
 
-#[cfg(test)]
-mod coarse_tests;
 mod disks;
 mod ended;
-#[cfg(test)]
-mod failing_tests;
 mod outcome;
 mod output;
 mod replaying;
 mod session;
 mod sessions;
-#[cfg(test)]
-mod tests;
 mod turn;
 
 pub use disks::{NotTaken, TakenDisks, put_disk_back, put_disks_back, take_disk, take_disks};

@@ -12,6 +12,3 @@ mod value;
 
 pub use fault::TableFault;
 pub use table::Table;
-
-#[cfg(test)]
-mod tests;

@@ -12,9 +12,6 @@ use script_reader::ArrivingHead;
 use std::alloc::Global;
 use std::marker::Model;
 
-#[cfg(test)]
-mod tests;
-
 /// An arrival that waits.
 #[derive(Clone, Copy)]
 enum Waiting {

@@ -12,8 +12,6 @@ use script_reader::{EventHead, Line, LineHead};
 use std::alloc::Global;
 
 mod parts;
-#[cfg(test)]
-mod tests;
 
 use parts::LowParts;
 

@@ -12,11 +12,7 @@ mod readied;
 mod reopen;
 mod restart;
 mod state;
-#[cfg(test)]
-mod stop_tests;
 mod surveying;
-#[cfg(test)]
-mod tests;
 
 use crate::applied::{Applied, Stop};
 use crate::not_open::NotOpen;

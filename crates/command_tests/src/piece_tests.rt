@@ -1,0 +1,312 @@
+ghost use Rattle.std.specs.Prelude.{◌≡◌, ◌≤◌, [], IsTrue, IfSome, IfOk};
+ghost use Rattle.pump_frame.specs.Rows.{IsLawfulRow};
+ghost use Rattle.high_receiver.specs.Receiving.{IsRecvReady, recv_row};
+
+use disk_model::{Disk, PlainDisk, Role};
+use high_receiver::Receiver;
+use pump_frame::{Name, Payload, SessionRow};
+use pump_link::{MemSink, MemSource};
+use pump_wrapper::{CompareFault, Cut, Cutter, GatherFault, Gathered, gather, skip_received};
+use stable_buffer::{Register, format};
+use std::alloc::{AllocError, Global};
+use std::test::Fail;
+
+// The length of a file of no byte, and of one of 12 bytes.
+const NONE: &[u8] = b"\x01\0\0\0\0\0\0\0\0";
+
+const TWELVE: &[u8] = b"\x01\0\0\0\0\0\0\0\x0c";
+
+// A file that is cut into messages of at most 12 bytes, with the most that a read gives and the reads
+// that fail, and what must come of it.
+#[derive(Clone, Copy)]
+struct CutRow<'a> {
+    file: &'a [u8],
+    piece: usize,
+    fails: &'a [u64],
+    messages: &'a [&'a [u8]],
+    end: Cut,
+}
+
+fn copied<T: Copy>(alloc: Global, items: &[T]) -> Result<Vec<T>, AllocError> {
+    items.iter().copied().collect(alloc)
+}
+
+fn is_cut(alloc: Global, case: &CutRow) -> Result<bool, AllocError>
+    requires { 1 ≤ case.now.piece }
+{
+    let mut source = MemSource::new(
+        copied(alloc, case.file)?,
+        case.piece,
+        copied(alloc, case.fails)?,
+    );
+    let mut cutter = Cutter::new(12);
+    let mut payload = Payload::default();
+    for message in case.messages {
+        if cutter.next(&mut source, &mut payload) != Cut::Message
+            || payload.as_slice() != *message
+        {
+            return Ok(false);
+        }
+    }
+    Ok(cutter.next(&mut source, &mut payload) == case.end)
+}
+
+#[test]
+fn a_file_is_cut_into_messages(rt: HostRuntime) -> Result<(), Fail> {
+    let rows = [
+        CutRow {
+            file: b"",
+            piece: 1,
+            fails: &[],
+            messages: &[NONE],
+            end: Cut::Done,
+        },
+        CutRow {
+            file: b"hello, world",
+            piece: 5,
+            fails: &[],
+            messages: &[b"\0hello, worl", b"\0d", TWELVE],
+            end: Cut::Done,
+        },
+        CutRow {
+            file: b"hello, worl",
+            piece: 100,
+            fails: &[],
+            messages: &[b"\0hello, worl", b"\x01\0\0\0\0\0\0\0\x0b"],
+            end: Cut::Done,
+        },
+        CutRow {
+            file: b"hello, world",
+            piece: 5,
+            fails: &[3],
+            messages: &[b"\0hello, worl"],
+            end: Cut::Failed,
+        },
+    ];
+    for case in &rows {
+        assert!(rt; case.piece >= 1 && is_cut(rt.alloc(), case)?);
+    }
+    Ok(())
+}
+
+// Session 1 of message size 16.
+fn row() -> Option<SessionRow>
+    ensures lawful { IfSome result (λ row. IsLawfulRow row) }
+    ensures short { IfSome result (λ row. row.message ≡ 16) }
+{
+    Some(SessionRow {
+        id: 1,
+        low: Name::from_slice(b"weather")?,
+        high: Name::from_slice(b"watch")?,
+        capacity: 3,
+        message: 16,
+        window: 2,
+        start: 20000,
+        longest: 100_000,
+        resend: 500_000,
+        low_port: 7001,
+        high_port: 7002,
+        coarse: false,
+    })
+}
+
+// A receiver without messages.
+fn fresh<D: Disk>(mut disk: D, row: &SessionRow) -> Result<Receiver<D>, D>
+    requires empty { D.told.tells → D.told.reading disk ≡ [] }
+    requires lawful { IsLawfulRow row.now }
+    ensures ready { IfOk result (λ receiver. IsRecvReady D.told receiver) }
+    ensures row { IfOk result (λ receiver. recv_row receiver ≡ row.now) }
+{
+    if format(&mut disk, row, Role::Recv, 0).is_err() {
+        return Err(disk);
+    }
+    match Register::open(disk) {
+        Ok(register) => {
+            if register.value() != (0, 80) {
+                return Err(register.into_disk());
+            }
+            Ok(Receiver::over(register, row, 160))
+        }
+        Err((disk, _)) => Err(disk),
+    }
+}
+
+// Messages that are gathered, of at most 12 bytes, with the writes that fail, and what must come of it.
+#[derive(Clone, Copy)]
+struct GatherRow<'a> {
+    messages: &'a [&'a [u8]],
+    fails: &'a [u64],
+    result: Result<Gathered, GatherFault>,
+    written: &'a [u8],
+}
+
+fn takes<D: Disk>(receiver: &mut Receiver<D>, messages: &[&[u8]]) -> bool
+    requires ready { IsRecvReady D.told receiver.old }
+    requires short { (recv_row receiver.old).message ≡ 16 }
+    ensures { IsTrue result → IsRecvReady D.told receiver.new }
+{
+    let mut number = 0;
+    for message in messages {
+        let Some(payload) = Payload::from_slice(message) else {
+            return false;
+        };
+        if payload.len() > 16 || number > 8 || receiver.take(number, &payload).is_err() {
+            return false;
+        }
+        number += 1;
+    }
+    true
+}
+
+fn is_gathered(alloc: Global, row: &SessionRow, case: &GatherRow) -> Result<bool, AllocError>
+    requires lawful { IsLawfulRow row.now }
+    requires short { row.now.message ≡ 16 }
+{
+    let Ok(disk) = PlainDisk::new(alloc, 160) else {
+        return Err(AllocError);
+    };
+    let Ok(mut receiver) = fresh(disk, row) else {
+        return Ok(false);
+    };
+    if !takes(&mut receiver, case.messages) {
+        return Ok(false);
+    }
+    let mut out = MemSink::new(vec![in alloc; 0; 64]?, 5, copied(alloc, case.fails)?);
+    let result = gather(&mut receiver, &mut out, 12);
+    Ok(result == case.result && out.written() == case.written)
+}
+
+#[test]
+fn messages_are_gathered(rt: HostRuntime) -> Result<(), Fail> {
+    let Some(row) = row() else {
+        return Err(Fail::new("no row"));
+    };
+    let rows = [
+        GatherRow {
+            messages: &[],
+            fails: &[],
+            result: Ok(Gathered {
+                bytes: 0,
+                whole: false,
+            }),
+            written: b"",
+        },
+        GatherRow {
+            messages: &[NONE],
+            fails: &[],
+            result: Ok(Gathered {
+                bytes: 0,
+                whole: true,
+            }),
+            written: b"",
+        },
+        GatherRow {
+            messages: &[b"\0hello, worl", b"\0d", TWELVE],
+            fails: &[],
+            result: Ok(Gathered {
+                bytes: 12,
+                whole: true,
+            }),
+            written: b"hello, world",
+        },
+        GatherRow {
+            messages: &[b"\0hello, worl"],
+            fails: &[],
+            result: Ok(Gathered {
+                bytes: 11,
+                whole: false,
+            }),
+            written: b"hello, worl",
+        },
+        GatherRow {
+            messages: &[b"\0hello", b"\0d"],
+            fails: &[],
+            result: Err(GatherFault::NotWrapped { number: 1 }),
+            written: b"hello",
+        },
+        GatherRow {
+            messages: &[b"\0"],
+            fails: &[],
+            result: Err(GatherFault::NotWrapped { number: 0 }),
+            written: b"",
+        },
+        GatherRow {
+            messages: &[b"\0hello, world"],
+            fails: &[],
+            result: Err(GatherFault::NotWrapped { number: 0 }),
+            written: b"",
+        },
+        GatherRow {
+            messages: &[b"\0hello, worl", TWELVE],
+            fails: &[],
+            result: Err(GatherFault::NotWrapped { number: 1 }),
+            written: b"hello, worl",
+        },
+        GatherRow {
+            messages: &[NONE, NONE],
+            fails: &[],
+            result: Err(GatherFault::NotWrapped { number: 1 }),
+            written: b"",
+        },
+        GatherRow {
+            messages: &[b"\x02", b""],
+            fails: &[],
+            result: Err(GatherFault::NotWrapped { number: 0 }),
+            written: b"",
+        },
+        GatherRow {
+            messages: &[b"\0hello, worl"],
+            fails: &[1],
+            result: Err(GatherFault::Write),
+            written: b"hello",
+        },
+    ];
+    for case in &rows {
+        assert!(rt; is_gathered(rt.alloc(), &row, case)?);
+    }
+    Ok(())
+}
+
+// A receiver with the first piece of a file of 12 bytes, beside this file.
+fn is_compared(
+    alloc: Global,
+    row: &SessionRow,
+    file: &[u8],
+    wanted: Result<(), CompareFault>,
+) -> Result<bool, AllocError>
+    requires lawful { IsLawfulRow row.now }
+    requires short { row.now.message ≡ 16 }
+{
+    let Ok(disk) = PlainDisk::new(alloc, 160) else {
+        return Err(AllocError);
+    };
+    let Ok(mut receiver) = fresh(disk, row) else {
+        return Ok(false);
+    };
+    if !takes(&mut receiver, &[b"\0hello, worl"]) {
+        return Ok(false);
+    }
+    let mut source = MemSource::new(copied(alloc, file)?, 5, Vec::new(alloc));
+    let mut cutter = Cutter::new(12);
+    let compared = skip_received(&mut receiver, &mut cutter, &mut source);
+    if compared.is_err() {
+        return Ok(compared == wanted);
+    }
+    let mut payload = Payload::default();
+    Ok(
+        compared == wanted
+            && cutter.next(&mut source, &mut payload) == Cut::Message
+            && payload.as_slice() == b"\0d".as_slice(),
+    )
+}
+
+#[test]
+fn a_cutter_goes_on_behind_a_receiver(rt: HostRuntime) -> Result<(), Fail> {
+    let Some(row) = row() else {
+        return Err(Fail::new("no row"));
+    };
+    let differs = Err(CompareFault::Differs { number: 0 });
+    assert!(rt; is_compared(rt.alloc(), &row, b"hello, world", Ok(()))?);
+    assert!(rt; is_compared(rt.alloc(), &row, b"hello, there", differs)?);
+    Ok(())
+}

@@ -1,4 +1,0 @@
-use Rattle.passage.proofs.tests.make.Given as goal
-
-abbrev pub invariant-loop-call : goal.invariant-loop-call
-invariant-loop-call g l = g.B.Bench.ready l.bench

@@ -1,0 +1,305 @@
+ghost use Rattle.std.specs.Prelude.{◌≡◌, ◌<◌, ◌≤◌, [], false, IfSome, IfOk};
+ghost use Rattle.pump_frame.specs.Rows.{IsLawfulRow};
+ghost use Rattle.two_worlds.specs.LowPumps.{stops_at_disk};
+ghost use Rattle.two_worlds.specs.Pumps.{is_down};
+
+use arrayvec::ArrayVec;
+use disk_model::{Disk, MemDisk, Outcome, PlainDisk, Role};
+use pump_frame::{Name, SessionRow};
+use script_reader::{print_event, read_line};
+use stable_buffer::Register;
+use std::alloc::Global;
+use std::test::Fail;
+use two_worlds::{Pump, Stop};
+
+const HELLO: &str = "look 1 10 00000000 hello weather watch";
+
+// Session 1: capacity 3, message size 8, window 2, start 20000, longest delay 100000.
+pub fn row() -> Option<SessionRow>
+    ensures lawful { IfSome result (λ row. IsLawfulRow row) }
+{
+    Some(SessionRow {
+        id: 1,
+        low: Name::from_slice(b"weather")?,
+        high: Name::from_slice(b"watch")?,
+        capacity: 3,
+        message: 8,
+        window: 2,
+        start: 20000,
+        longest: 100_000,
+        resend: 500_000,
+        low_port: 0,
+        high_port: 0,
+        coarse: false,
+    })
+}
+
+// A new pump whose disks have room.
+fn new_pump(alloc: Global) -> Result<Pump<PlainDisk>, Fail>
+    ensures up { IfOk result (λ pump. is_down pump ≡ false) }
+{
+    let Some(row) = row() else {
+        return Err(Fail::new("no row"));
+    };
+    let low = PlainDisk::new(alloc, 4096)?;
+    let high = PlainDisk::new(alloc, 80)?;
+    let recv = PlainDisk::new(alloc, 4096)?;
+    match Pump::open(alloc, &row, low, high, recv) {
+        Ok(pump) => Ok(pump),
+        Err(_) => Err(Fail::new("not open")),
+    }
+}
+
+// Adds what the lines print, until one stops.
+pub fn play<D: Disk>(
+    pump: &mut Pump<D>,
+    script: &[&str],
+    output: &mut Vec<u8>,
+) -> Result<Option<Stop>, Fail>
+    requires up { is_down pump.old ≡ false }
+    ensures down { IfOk result (λ stop. is_down pump.new ≡ stops_at_disk stop) }
+{
+    let mut text = ArrayVec::new();
+    for line in script {
+        let Some(line) = read_line(line.as_bytes()) else {
+            return Err(Fail::new("no line"));
+        };
+        let applied = pump.apply(&line);
+        for event in applied.events.as_slice() {
+            print_event(event, &mut text);
+            output.extend_from_slice(text.as_slice())?;
+        }
+        if applied.stop.is_some() {
+            return Ok(applied.stop);
+        }
+    }
+    Ok(None)
+}
+
+#[test]
+fn packets_are_lost_or_come_again(rt: HostRuntime) -> Result<(), Fail> {
+    let alloc = rt.alloc();
+    // A TAKEN comes back twice; the second one finds nothing to remove.
+    let again: &[&str] = &[
+        HELLO,
+        "look 1 100 00000000 data 0 61",
+        "look 1 100 00000000",
+        "high 1 110",
+        "carry 1 0",
+        "carry 1 0",
+        "return 1 160 1",
+        "return 1 170 0",
+        "look 1 178 00000000",
+    ];
+    // Room is made before the second look for it.
+    let room: &[&str] = &[
+        HELLO,
+        "look 1 100 00000000 data 0 61",
+        "look 1 100 00000000",
+        "look 1 177 00000000",
+        "look 1 178 00000000",
+        "look 1 200 00000000 data 1 62",
+        "look 1 210 00000000",
+        "high 1 215",
+        "look 1 220 00000000",
+        "look 1 240 00000000",
+        "look 1 298 00000000",
+        "look 1 318 00000000",
+    ];
+    // No packet was sent that could be carried.
+    let early: &[&str] = &[
+        HELLO,
+        "look 1 100 00000000 data 0 61",
+        "look 1 100 00000000",
+        "carry 1 0",
+        "look 1 178 00000000",
+    ];
+    // The receiver is opened again: its ATTACH brings back the TAKEN that was lost.
+    let taken: &[&str] = &[
+        HELLO,
+        "look 1 100 00000000 data 0 61",
+        "look 1 100 00000000",
+        "high 1 110",
+        "carry 1 0",
+        "receiver-restart 1 160",
+    ];
+    // It has nothing, so what is in the hand is sent again; a moment that is over is refused.
+    let lost: &[&str] = &[
+        HELLO,
+        "look 1 100 00000000 data 0 61",
+        "look 1 100 00000000",
+        "high 1 110",
+        "receiver-restart 1 160",
+        "receiver-restart 1 159",
+    ];
+    for (script, wanted, stop, counts) in [
+        (
+            taken,
+            "low 1 10 welcome 0\nstored 1 100 0\npassed 1 100 0 20000\nsent 1 110 0\ntook 1 0\nattach 1 160 1\nremoved 1 160 0 50\n",
+            None,
+            (1, 1, 1),
+        ),
+        (
+            lost,
+            "low 1 10 welcome 0\nstored 1 100 0\npassed 1 100 0 20000\nsent 1 110 0\nattach 1 160 0\nsent 1 160 0\n",
+            Some(Stop::Line),
+            (1, 0, 0),
+        ),
+        (
+            again,
+            "low 1 10 welcome 0\nstored 1 100 0\npassed 1 100 0 20000\nsent 1 110 0\ntook 1 0\nagain 1 0\nremoved 1 160 0 50\nlow 1 178 ack 0\n",
+            None,
+            (1, 1, 1),
+        ),
+        (
+            room,
+            "low 1 10 welcome 0\nstored 1 100 0\npassed 1 100 0 20000\nlow 1 178 ack 0\nstored 1 200 1\nfull 1 210\nsent 1 215 0\npassed 1 220 0 20000\nlow 1 298 ack 1\n",
+            None,
+            (2, 0, 0),
+        ),
+        (
+            early,
+            "low 1 10 welcome 0\nstored 1 100 0\npassed 1 100 0 20000\n",
+            Some(Stop::Line),
+            (1, 0, 0),
+        ),
+    ] {
+        let mut pump = new_pump(alloc)?;
+        let mut output = Vec::new(alloc);
+        assert_eq!(rt; play(&mut pump, script, &mut output)?, stop);
+        assert_eq!(rt; output.as_slice(), wanted.as_bytes());
+        assert_eq!(rt; pump.counts(), counts);
+    }
+    Ok(())
+}
+
+// In a coarse session the start comes down as 32768, and the time 100 as 128.
+#[test]
+fn averages_come_down_as_levels(rt: HostRuntime) -> Result<(), Fail> {
+    let alloc = rt.alloc();
+    let start: &[&str] = &[
+        HELLO,
+        "look 1 100 00000000 data 0 61",
+        "look 1 100 00000000",
+        "look 1 227 00000000",
+        "look 1 228 00000000",
+    ];
+    let time: &[&str] = &[
+        HELLO,
+        "look 1 10 00000000 data 0 61",
+        "look 1 10 00000000",
+        "look 1 138 00000000",
+        "done 1 200 100",
+        "look 1 400 00000000 data 1 62",
+        "look 1 400 00000000",
+        "look 1 400 00000000",
+    ];
+    for (script, wanted, counts) in [
+        (
+            start,
+            "low 1 10 welcome 0\nstored 1 100 0\npassed 1 100 0 32768\nlow 1 228 ack 0\n",
+            (1, 0, 0),
+        ),
+        (
+            time,
+            "low 1 10 welcome 0\nstored 1 10 0\npassed 1 10 0 32768\nlow 1 138 ack 0\nsent 1 200 0\ntook 1 0\nremoved 1 300 0 100\nstored 1 400 1\npassed 1 400 1 128\nlow 1 400 ack 1\n",
+            (2, 1, 1),
+        ),
+    ] {
+        let mut pump = new_pump(alloc)?;
+        pump.make_coarse();
+        let mut output = Vec::new(alloc);
+        assert_eq!(rt; play(&mut pump, script, &mut output)?, None);
+        assert_eq!(rt; output.as_slice(), wanted.as_bytes());
+        assert_eq!(rt; pump.counts(), counts);
+    }
+    Ok(())
+}
+
+// A new pump over disks in memory; this call of low's disk fails.
+fn failing_pump(alloc: Global, fails: u64) -> Result<Option<Pump<MemDisk>>, Fail>
+    ensures up { IfOk result (λ made. IfSome made (λ pump. is_down pump ≡ false)) }
+{
+    let Some(row) = row() else {
+        return Err(Fail::new("no row"));
+    };
+    let low = MemDisk::new(alloc, 4096, 64, vec![in alloc; fails]?)?;
+    let high = MemDisk::new(alloc, 80, 64, Vec::new(alloc))?;
+    let recv = MemDisk::new(alloc, 4096, 64, Vec::new(alloc))?;
+    Ok(Pump::open(alloc, &row, low, high, recv).ok())
+}
+
+// The number of calls of low's disk in an opening.
+fn opening_calls(alloc: Global) -> Result<u64, Fail>
+    ensures { IfOk result (λ n. n < 64) }
+{
+    for n in 0..64 {
+        if failing_pump(alloc, n)?.is_some() {
+            return Ok(n);
+        }
+    }
+    Err(Fail::new("never open"))
+}
+
+// A message is stored while this call of low's disk fails: whether it stops, and the disk. The output
+// gets what is printed.
+fn store_while_failing(
+    alloc: Global,
+    fails: u64,
+    output: &mut Vec<u8>,
+) -> Result<(Option<Stop>, MemDisk), Fail> {
+    let Some(mut pump) = failing_pump(alloc, fails)? else {
+        return Err(Fail::new("not open"));
+    };
+    let store = [HELLO, "look 1 100 00000000 data 0 61"];
+    let stop = play(&mut pump, &store, output)?;
+    let (low, _, _) = pump.close();
+    Ok((stop, low))
+}
+
+// So, and how many messages a crash then leaves.
+fn store_and_crash(
+    alloc: Global,
+    fails: u64,
+    outcome: Outcome,
+    output: &mut Vec<u8>,
+) -> Result<(Option<Stop>, u64), Fail> {
+    let (stop, mut low) = store_while_failing(alloc, fails, output)?;
+    low.crash(outcome);
+    match Register::open(low) {
+        Ok(register) => Ok((stop, register.value().0)),
+        Err(_) => Err(Fail::new("no register")),
+    }
+}
+
+const STORED: &str = "low 1 10 welcome 0\nstored 1 100 0\n";
+
+// A store makes five calls: the slot, the register's cell and its sync, and the selection and its sync.
+#[test]
+fn a_store_that_fails_is_refused(rt: HostRuntime) -> Result<(), Fail> {
+    let alloc = rt.alloc();
+    let opening = opening_calls(alloc)?;
+    let refused = "low 1 10 welcome 0\nlow 1 100 refuse 5 0\n";
+    let failed = Some(Stop::Device {
+        role: Role::Low,
+        faults: 1,
+    });
+    for (call, wanted, stop, old, new) in [
+        (1, refused, failed, 0, 0),
+        (4, refused, failed, 0, 1),
+        (40, STORED, None, 1, 1),
+    ] {
+        for (outcome, count) in [(Outcome::Old, old), (Outcome::New, new)] {
+            let mut output = Vec::new(alloc);
+            let ended = store_and_crash(alloc, opening + call, outcome, &mut output)?;
+            assert_eq!(rt; ended, (stop, count), "at {call}");
+            assert_eq!(rt; output.as_slice(), wanted.as_bytes());
+        }
+    }
+    // A sixth call is not made.
+    let mut output = Vec::new(alloc);
+    let (stop, _) = store_while_failing(alloc, opening + 5, &mut output)?;
+    assert_eq!(rt; stop, None);
+    assert_eq!(rt; output.as_slice(), STORED.as_bytes());
+    Ok(())
+}

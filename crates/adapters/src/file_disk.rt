@@ -128,22 +128,22 @@ mod tests {
     // A walk over the lengths of records, then over the records, each behind its length, and elsewhere.
     #[test]
     fn what_is_read_ahead_is_what_the_file_has(rt: HostRuntime) -> Result<(), Fail> {
-        let mut bytes = [0; 40_000];
+        let mut bytes = [0; 100_000];
         for (at, byte) in bytes.iter_mut().enumerate() {
             *byte = byte_at(at);
         }
         let mut disk = new_disk(&rt, "ahead")?;
         assert_eq!(rt; disk.write_at(0, &bytes), Ok(()));
         let (mut length, mut record) = ([0; 2], [0; 1026]);
-        for at in [80, 1106, 2132, 31_900, 33_000] {
+        for at in [80, 1106, 2132, 65_900, 67_000] {
             expect_bytes(&rt, &mut disk, at, &mut length);
         }
-        for at in [80, 1106, 32_700, 33_726, 38_974, 7] {
+        for at in [80, 1106, 65_100, 66_126, 67_152, 98_974, 7] {
             expect_bytes(&rt, &mut disk, at, &mut length);
             expect_bytes(&rt, &mut disk, at, &mut record);
         }
-        expect_bytes(&rt, &mut disk, 39_998, &mut length);
-        assert_eq!(rt; disk.read(39_999, &mut length), Err(DiskFault));
+        expect_bytes(&rt, &mut disk, 99_998, &mut length);
+        assert_eq!(rt; disk.read(99_999, &mut length), Err(DiskFault));
         Ok(())
     }
 

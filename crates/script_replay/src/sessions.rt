@@ -14,7 +14,6 @@ use disk_model::Disk;
 use script_reader::{EventHead, LineHead, begins_session, moment_of, stands_first};
 use std::alloc::{AllocError, Global};
 
-
 /// The most sessions that a script may have.
 pub const MOST_SESSIONS: usize = 16;
 

@@ -15,6 +15,7 @@ pub mod Halting
 pub mod Holding
 pub mod Leaving
 pub mod Moving
+pub mod Parted
 pub mod Rooms
 pub mod Sent
 pub mod Takings

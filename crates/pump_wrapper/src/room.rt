@@ -36,19 +36,22 @@ impl Room {
         Ok(())
     }
 
-    /// Holds a piece, of 1,024 bytes at most. What is held is written first where the piece does not fit
-    /// behind it.
+    /// Holds a piece, of 1,024 bytes at most. Where it does not fit, the room is filled and written, and
+    /// the rest is held: whole pages are written faster.
     pub fn put<O: Sink>(&mut self, piece: &[u8], out: &mut O) -> Result<(), WriteFault>
         requires short { length piece.now ≤ 1024 }
         ensures ok { OnOk result ((before : Option (List ℕ)) (bytes : List ℕ) → Held before (O.written out.old) (held_in self.old) bytes
             → Held before (O.written out.new) (held_in self.new) (bytes ++ piece.now)) }
-        ensures err { OnErr result (AppendsFront (O.written out.old) (O.written out.new) (held_in self.old)) }
+        ensures err { OnErr result (AppendsFront (O.written out.old) (O.written out.new) (held_in self.old ++ piece.now)) }
         ensures cause { HasCause (O.faults out.old) (O.faults out.new) result }
     {
-        if self.held.remaining_capacity() < piece.len() {
+        let fitting = self.held.remaining_capacity().min(piece.len());
+        let (front, rest) = piece.split_at(fitting);
+        self.held.try_extend_from_slice(front).unwrap();
+        if !rest.is_empty() {
             self.flush(out)?;
+            self.held.try_extend_from_slice(rest).unwrap();
         }
-        self.held.try_extend_from_slice(piece).unwrap();
         Ok(())
     }
 }

@@ -1,6 +1,6 @@
-//! Tests of scripts, from their lines to the replay over disks: what no clause says, and each public
-//! call once. They use the public calls of the crates below alone, and stand here so that a change of a
-//! test makes no crate be proved again.
+//! Tests of replays over disks: what no clause says, and each public call once. They use the public
+//! calls of the crates below alone, and stand here so that a change of a test makes no crate be proved
+//! again.
 #![tactic(auto)]
 
 #[cfg(test)]
@@ -10,22 +10,6 @@ mod coarse_tests;
 #[cfg(test)]
 mod failing_tests;
 #[cfg(test)]
-mod generator_tests;
-#[cfg(test)]
-mod line_tests;
-#[cfg(test)]
-mod low_pump_tests;
-#[cfg(test)]
-mod move_tests;
-#[cfg(test)]
-mod opening_tests;
-#[cfg(test)]
-mod printing_tests;
-#[cfg(test)]
-mod pump_tests;
-#[cfg(test)]
 mod session_tests;
 #[cfg(test)]
 mod sessions_tests;
-#[cfg(test)]
-mod stop_tests;

@@ -702,14 +702,16 @@ const FRAMES: &str =
 #[test]
 fn replays_raw_bytes(rt: HostRuntime) -> Result<(), Fail> {
     let alloc = rt.alloc();
-    // Behind bad bytes nothing is offered until the connection is lost.
+    // Behind bad bytes nothing is offered until the connection is lost, nor is a whole frame.
     assert!(rt;
         replays(
             alloc,
             &[
                 P,
                 "look 1 5 00000000 raw 4e51\nlook 1 6 00000000 hello weather watch\n",
-                "gone 1 7\nlook 1 8 00000000 hello weather watch\n",
+                "look 1 6 00000000 raw ",
+                FRAME,
+                "\ngone 1 7\nlook 1 8 00000000 hello weather watch\n",
             ],
             0,
             &["low 1 5 refuse 2 0\nlow 1 8 welcome 0\nend 1 0 0 0\n"],

@@ -1,4 +1,4 @@
-use Rattle.std.proofs.Common.{◌≡◌, ℕ, ◌+◌, ◌<◌, List, length, take, sym, ◌∙◌, ap, subst, arith, length-append}
+use Rattle.std.proofs.Common.{◌≡◌, ℕ, ◌+◌, ◌<◌, List, [], ◌∷◌, ◌++◌, length, take, sym, ◌∙◌, ap, subst, arith, length-append, append_assoc}
 use Rattle.std.proofs.lemmas.List.{take_all}
 use Rattle.disk_model.specs.Disk.{Same}
 use Rattle.stable_buffer.specs.Log.{RecvStands}
@@ -37,14 +37,21 @@ returns-in-Err-put-clause-gathers g c = λ told messages stands.
     let m = g.D.Disk.told in
     let kept = c.loop-number.invariant in
     let n = c.loop-number.number in
+    let asl = c.as_slice.result.now in
+    let piece = c.in-Some.piece.now in
+    let step = c.in-Some.ensures.taken in
     let on = stands_on m c.args.receiver.now c.loop-number.receiver messages kept.row kept.moves told stands in
     let lt : n < length messages = omega (arith, c.loop-number-test.true, c.count-number-end.ensures, kept.count, count_is m c.loop-number.receiver messages kept.ready told on) in
-    let held = kept.wrote told messages stands in (
-      n,
+    let more = next_message messages n c.at.new.into asl lt (c.in-Ok.ensures.message told messages on) c.as_slice.ensures.value in
+    let has = one_taken c.args.message (take n messages) asl c.loop-number.gathering c.take.new.self (kept.taken told messages stands) step.0 in
+    let held = kept.wrote told messages stands in
+    let bytes : held.0 ++ (held_in c.loop-number.room ++ piece) ≡ unwrapped (take (n + 1) messages) =
+    sym (append_assoc held.0 (held_in c.loop-number.room) piece) ∙ ap (λ (bs : List ℕ). bs ++ piece) (sym held.2) ∙ next_bytes messages n asl piece more step.1 in (
+      n + 1,
       omega (arith, lt),
-      begins c.args.message (take n messages) c.loop-number.gathering (kept.taken told messages stands),
-      subst (λ (bs : List ℕ). AppendsFront (g.O.Sink.written c.args.out.now) (g.O.Sink.written c.put.new.out) bs) (sym held.2)
-          (front_behind _ _ _ held.0 (held_in c.loop-number.room) held.1 c.in-Err-put.ensures.err),
+      subst (λ (ms : List (List ℕ)). BeginsFile c.args.message ms) more (begins c.args.message (take n messages ++ asl ∷ []) c.take.new.self has),
+      subst (λ (bs : List ℕ). AppendsFront (g.O.Sink.written c.args.out.now) (g.O.Sink.written c.put.new.out) bs) bytes
+          (front_behind _ _ _ held.0 (held_in c.loop-number.room ++ piece) held.1 c.in-Err-put.ensures.err),
     )
 
 pub put-requires : goal.put-requires

@@ -3,7 +3,7 @@
 ghost use Rattle.std.specs.Prelude.{◌≡◌, ◌<◌, false, IfOk};
 ghost use Rattle.two_worlds.specs.Pumps.{is_down};
 
-use crate::pump_tests::{play, row};
+use crate::playing_tests::{play, row};
 use disk_model::{MemDisk, Outcome, Role};
 use recovery::Why;
 use stable_buffer::format;

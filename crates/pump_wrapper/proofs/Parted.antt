@@ -6,7 +6,7 @@ use Rattle.std.proofs.KnownBytes.{Appends-trans}
 use Rattle.pump_link.specs.Causes.{AppendsFront}
 use Rattle.pump_wrapper.specs.HeldBack.{Held}
 
--- its parts
+-- the two parts of a piece are the piece
 pub parted : (n : ℕ) (front rest piece : List ℕ) → front ≡ take n piece → rest ≡ drop n piece → front ++ rest ≡ piece
 parted n front rest piece first second = ap (λ (bs : List ℕ). bs ++ rest) first ∙ ap (λ (bs : List ℕ). take n piece ++ bs) second ∙ take-append-drop n piece
 

@@ -702,7 +702,7 @@ const FRAMES: &str =
 #[test]
 fn replays_raw_bytes(rt: HostRuntime) -> Result<(), Fail> {
     let alloc = rt.alloc();
-    // Behind bad bytes nothing is offered until the connection is lost, nor is a whole frame.
+    // Behind bad bytes nothing is offered, no whole frame either, until the connection is lost.
     assert!(rt;
         replays(
             alloc,

@@ -1,4 +1,5 @@
 pub mod Appends
+pub mod Blocks
 pub mod Calls
 pub mod Coarse
 pub mod Places

@@ -1,3 +1,4 @@
+pub mod LogReading
 pub mod Receiving
 pub mod Records
 pub mod Steps

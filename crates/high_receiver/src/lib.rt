@@ -2,10 +2,12 @@
 //! moment. The bytes are those of `docs/formats.md`, "Disks".
 #![tactic(auto)]
 
+mod log_reader;
 mod reading;
 mod receiver;
 mod values;
 
+pub use log_reader::LogReader;
 pub use receiver::Receiver;
 pub use values::{TakeFault, Taken};
 

@@ -1,10 +1,10 @@
-ghost use Rattle.std.specs.Prelude.{◌≡◌, ◌+◌, ◌^◌, ◌<◌, ◌≤◌, ℕ, List, None, true, false, ⊤, [], length, slice_index_or, IfSome, IfOk, OnOk, OnErr, IfErr};
+ghost use Rattle.std.specs.Prelude.{◌≡◌, ◌+◌, ◌^◌, ◌<◌, ◌≤◌, ℕ, List, None, true, false, ⊤, [], length, take, drop, slice_index_or, IfSome, IfOk, OnOk, OnErr, IfErr};
 ghost use Rattle.disk_model.specs.Disk.{Moves, Same, Settled, Leaves, Answers};
 ghost use Rattle.pump_frame.specs.Rows.{IsLawfulRow};
 ghost use Rattle.stable_buffer.specs.Log.{RecvStands};
 
 use crate::reading::{read_message, read_record};
-use crate::{TakeFault, Taken};
+use crate::{LogReader, TakeFault, Taken};
 use disk_model::Disk;
 use pump_frame::{Payload, SessionRow};
 use stable_buffer::{Device, Register};
@@ -22,6 +22,7 @@ pub struct Receiver<D> {
 impl<D: Disk> Receiver<D> {
     ghost use Rattle.stable_buffer.specs.Register.{IsReady, register_disk, register_value};
     ghost use Rattle.high_receiver.specs.Steps.{MayTake, TakesMessage, StandsOrTakes};
+    ghost use Rattle.high_receiver.specs.LogReading.{IsReading, given_count};
     ghost use Rattle.high_receiver.specs.Receiving.{IsRecordAt, IsRecvReady, StandsForSome, Stores, answer_at_once, is_device, recv_disk, recv_count, recv_end, recv_row, recv_size, recv_made_coarse, recv_is_open};
 
     /// A receiver over a register, whose disk stands for a list of at most 2^48 messages, and has
@@ -251,6 +252,43 @@ impl<D: Disk> Receiver<D> {
     {
         match read_record(&mut self.register, at, self.row.message, into) {
             Ok(next) => Ok(next),
+            Err(device) => {
+                self.is_open = false;
+                Err(device)
+            }
+        }
+    }
+
+    /// A reader of its messages, from the first on.
+    pub fn reader(&self) -> LogReader
+        requires ready { IsRecvReady D.told self.now }
+        ensures reading { IsReading D.told self.now result }
+        ensures given { given_count result ≡ 0 }
+    {
+        LogReader::new()
+    }
+
+    // The bytes of the log from an offset on.
+    pub(crate) fn read_log(&mut self, at: u64, into: &mut [u8]) -> Result<(), Device>
+        requires ready { IsRecvReady D.told self.old }
+        requires within { at + length into.old ≤ recv_end self.old }
+
+        ensures bytes { OnOk result (D.told.tells → into.new
+            ≡ take (length into.old) (drop at (D.told.reading (recv_disk self.old)))) }
+        ensures length { length into.new ≡ length into.old }
+        ensures ready { OnOk result (IsRecvReady D.told self.new) }
+        ensures count { recv_count self.new ≡ recv_count self.old }
+        ensures end { recv_end self.new ≡ recv_end self.old }
+        ensures row { recv_row self.new ≡ recv_row self.old }
+        ensures size { recv_size self.new ≡ recv_size self.old }
+        ensures moves { Moves D.told Same (recv_disk self.old) (recv_disk self.new) }
+
+        ensures closed { OnErr result (recv_is_open self.new ≡ false) }
+        ensures answers { Answers D.told ⊤ (recv_disk self.old) (recv_disk self.new) result }
+        ensures device { IfErr result (λ e. e.faults ≡ D.told.count (recv_disk self.new)) }
+    {
+        match self.register.read_beside(at, into) {
+            Ok(()) => Ok(()),
             Err(device) => {
                 self.is_open = false;
                 Err(device)

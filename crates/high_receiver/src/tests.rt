@@ -112,5 +112,10 @@ fn a_taken_message_is_given_back(rt: HostRuntime) -> Result<(), Fail> {
     let mut placed = Payload::default();
     assert!(rt; receiver.at(0, 80, &mut placed) == Ok(90));
     assert_eq!(rt; placed.as_slice(), b"12345678".as_slice());
+
+    // And by a reader of the log.
+    let mut log = receiver.reader();
+    assert!(rt; log.advance(&mut receiver).is_ok());
+    assert_eq!(rt; log.message(), b"12345678".as_slice());
     Ok(())
 }

@@ -1,0 +1,165 @@
+ghost use Rattle.std.specs.Prelude.{◌≡◌, ◌+◌, ◌≤◌, ◌<◌, ◌^◌, ℕ, List, None, true, false, ⊤, [], length, slice_index_or, IfSome, OnOk, OnErr, IfErr};
+ghost use Rattle.disk_model.specs.Disk.{Moves, Same, Answers};
+ghost use Rattle.pump_frame.specs.Counts.{Rose};
+ghost use Rattle.stable_buffer.specs.Log.{RecvStands};
+ghost use Rattle.stable_buffer.specs.Numbers.{length_at};
+ghost use Rattle.high_receiver.specs.Receiving.{IsRecvReady, recv_count, recv_disk, recv_end, recv_is_open, recv_row, recv_size};
+ghost use Rattle.high_receiver.specs.LogReading.{IsInBlock, IsReading, IsNew, HasFilled, HasStepped, given_count, given_message};
+
+use crate::Receiver;
+use byteorder::{BigEndian, ByteOrder};
+use disk_model::Disk;
+use stable_buffer::Device;
+
+/// How many bytes of a log are read at once. The longest record has 1,026.
+const BLOCK: usize = 65536;
+
+/// Gives the messages of a receiver in order; [`Receiver::reader`] makes it. It reads the log by blocks
+/// of 64 KB, and gives a message where it stands in its block.
+#[derive(Drop)]
+pub struct LogReader {
+    block: [u8; BLOCK],
+    // Where the block begins on the disk, and how many bytes of it are there.
+    start: u64,
+    filled: usize,
+    // The part of the block that is the message given last. The next record stands behind it.
+    from: usize,
+    until: usize,
+    // How many messages were given.
+    count: u64,
+}
+
+impl LogReader {
+    // A reader that has given no message, and holds nothing of the log.
+    pub(crate) fn new() -> LogReader
+        ensures { IsNew result }
+    {
+        LogReader {
+            block: [0; BLOCK],
+            start: 80,
+            filled: 0,
+            from: 0,
+            until: 0,
+            count: 0,
+        }
+    }
+
+    /// The message that the last `advance` went on to.
+    pub fn message(&self) -> &[u8]
+        requires block { IsInBlock self.now }
+        ensures message { result.now ≡ given_message self.now }
+        ensures short { length result.now ≤ 1024 }
+    {
+        &self.block[self.from..self.until]
+    }
+
+    // The length of the next message, where its whole record is in the block.
+    #[tactic(auto, unfolding(stable_buffer::specs::Numbers::length_at))]
+    fn next_length(&self) -> Option<usize>
+        requires block { IsInBlock self.now }
+        ensures some { IfSome result (λ l. (l ≡ length_at self.now.block self.now.until) × (l ≤ 1024)
+            × (self.now.until + (2 + l) ≤ self.now.filled)) }
+        ensures none { result ≡ None → length_at self.now.block self.now.until ≤ 1024
+            → self.now.until + (2 + length_at self.now.block self.now.until) ≤ self.now.filled → ⊥ }
+    {
+        let held = self.filled - self.until;
+        if held < 2 {
+            return None;
+        }
+        let length = BigEndian::read_u16(&self.block[self.until..]) as usize;
+        if length > 1024 || held - 2 < length {
+            return None;
+        }
+        Some(length)
+    }
+
+    // Reads the log from the next record on.
+    fn fill<D: Disk>(&mut self, receiver: &mut Receiver<D>) -> Result<(), Device>
+        requires ready { IsRecvReady D.told receiver.old }
+        requires reading { IsReading D.told receiver.old self.old }
+
+        ensures reading { OnOk result (IsReading D.told receiver.new self.new) }
+        ensures filled { OnOk result (HasFilled receiver.old self.old self.new) }
+        ensures ready { OnOk result (IsRecvReady D.told receiver.new) }
+        ensures count { recv_count receiver.new ≡ recv_count receiver.old }
+        ensures end { recv_end receiver.new ≡ recv_end receiver.old }
+        ensures row { recv_row receiver.new ≡ recv_row receiver.old }
+        ensures size { recv_size receiver.new ≡ recv_size receiver.old }
+        ensures moves { Moves D.told Same (recv_disk receiver.old) (recv_disk receiver.new) }
+
+        ensures closed { OnErr result (recv_is_open receiver.new ≡ false) }
+        ensures answers { Answers D.told ⊤ (recv_disk receiver.old) (recv_disk receiver.new) result }
+        ensures device { IfErr result (λ e. e.faults ≡ D.told.count (recv_disk receiver.new)) }
+    {
+        let start = self.start + self.until as u64;
+        let filled = (receiver.end() - start).min(BLOCK as u64) as usize;
+        receiver.read_log(start, &mut self.block[..filled])?;
+        self.start = start;
+        self.filled = filled;
+        self.from = 0;
+        self.until = 0;
+        Ok(())
+    }
+
+    // Goes on to the next message in the block. Where its record is not whole there, the message is
+    // empty.
+    fn step(&mut self)
+        requires block { IsInBlock self.old }
+        requires few { given_count self.old < 2 ^ 48 }
+        ensures block { IsInBlock self.new }
+        ensures steps { HasStepped self.old self.new }
+    {
+        match self.next_length() {
+            Some(length) => {
+                self.from = self.until + 2;
+                self.until = self.from + length;
+            }
+            None => {
+                self.from = self.filled;
+                self.until = self.filled;
+            }
+        }
+        self.count += 1;
+    }
+
+    /// Goes on to the receiver's next message. On a disk that tells nothing a record may be longer than
+    /// any message, or end past the log; then the message is empty. `Device` comes only where a call of
+    /// the disk failed, after which the receiver must be opened again.
+    pub fn advance<D: Disk>(&mut self, receiver: &mut Receiver<D>) -> Result<(), Device>
+        requires ready { IsRecvReady D.told receiver.old }
+        requires reading { IsReading D.told receiver.old self.old }
+        requires more { given_count self.old < recv_count receiver.old }
+
+        ensures message { OnOk result (D.told.tells → (messages : List (List ℕ))
+            → RecvStands (recv_row receiver.old) messages (D.told.reading (recv_disk receiver.old))
+            → given_message self.new ≡ slice_index_or messages (given_count self.old) []) }
+        ensures given { OnOk result (given_count self.new ≡ given_count self.old + 1) }
+        ensures reading { OnOk result (IsReading D.told receiver.new self.new) }
+        ensures ready { OnOk result (IsRecvReady D.told receiver.new) }
+        ensures count { recv_count receiver.new ≡ recv_count receiver.old }
+        ensures end { recv_end receiver.new ≡ recv_end receiver.old }
+        ensures row { recv_row receiver.new ≡ recv_row receiver.old }
+        ensures size { recv_size receiver.new ≡ recv_size receiver.old }
+        ensures moves { Moves D.told Same (recv_disk receiver.old) (recv_disk receiver.new) }
+
+        ensures closed { OnErr result (recv_is_open receiver.new ≡ false) }
+        ensures counts { D.told.count (recv_disk receiver.old) ≤ D.told.count (recv_disk receiver.new) }
+        ensures rose { OnErr result (Rose (D.told.count (recv_disk receiver.old))
+            (D.told.count (recv_disk receiver.new))) }
+        ensures never { OnErr result (D.told.tells_plan
+            → D.told.armed (recv_disk receiver.old) ≡ false → ⊥) }
+        ensures room { D.told.tells_plan → D.told.room (recv_disk receiver.new)
+            ≡ D.told.room (recv_disk receiver.old) }
+        ensures armed { OnOk result (D.told.tells_plan → D.told.armed (recv_disk receiver.new)
+            ≡ D.told.armed (recv_disk receiver.old)) }
+        ensures disarmed { OnErr result (D.told.tells_plan
+            → D.told.armed (recv_disk receiver.new) ≡ false) }
+        ensures device { IfErr result (λ e. e.faults ≡ D.told.count (recv_disk receiver.new)) }
+    {
+        if self.next_length().is_none() {
+            self.fill(receiver)?;
+        }
+        self.step();
+        Ok(())
+    }
+}

@@ -13,7 +13,8 @@ const ROOM: usize = 65536;
 const STEP: u64 = 4096;
 
 /// Bytes of a file that were read ahead. Nothing is read ahead but where one read goes on from the one
-/// before it, as in a walk along a log: a read elsewhere asks for its own bytes alone.
+/// before it, as in a walk along a log: a read elsewhere asks for its own bytes alone. So does one as
+/// long as all that would be read ahead, whose bytes are then copied once.
 #[derive(Drop)]
 pub struct FileAhead {
     bytes: Vec<u8>,
@@ -74,7 +75,7 @@ impl FileAhead {
 
     /// The file's bytes from an offset on. A read past the file's end fails.
     pub fn read(&mut self, file: &File, at: u64, into: &mut [u8]) -> io::Result<()> {
-        if self.goes_on(at) && self.held(at, into.len()).is_none() {
+        if into.len() < ROOM && self.goes_on(at) && self.held(at, into.len()).is_none() {
             self.fill(file, at);
         }
         self.last = Some(Span {

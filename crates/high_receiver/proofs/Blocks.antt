@@ -4,7 +4,7 @@ use Rattle.std.specs.Prelude.{is_some}
 use Rattle.std.proofs.lemmas.List.{drop-drop, drop-take, take-take}
 use Rattle.disk_model.specs.Disk.{Meaning, Moves, Same}
 use Rattle.stable_buffer.specs.Log.{RecvStands}
-use Rattle.stable_buffer.specs.Numbers.{length_at, message_at}
+use Rattle.stable_buffer.specs.Numbers.{length_at}
 use Rattle.high_receiver.specs.Receiving.{IsRecvReady, record_at}
 use Rattle.high_receiver.specs.LogReading.{IsInBlock, IsReading, HasFilled, HasStepped, given_message}
 use Rattle.high_receiver.specs.declared.log_reader.LogReader.{LogReader}

@@ -10,7 +10,6 @@ use crate::gathering::Gathering;
 use crate::room::Room;
 use disk_model::Disk;
 use high_receiver::Receiver;
-use pump_frame::Payload;
 use pump_link::Sink;
 
 /// What was gathered of a receiver's messages.
@@ -70,18 +69,17 @@ fn gather_held<D: Disk, O: Sink>(
         ≤ D.told.count (recv_disk receiver.new) }
 {
     let mut gathering = Gathering::new(message);
-    let mut payload = Payload::default();
-    let mut at = 80;
+    let mut log = receiver.reader();
     for number in 0..receiver.count() {
-        at = match receiver.at(number, at, &mut payload) {
-            Ok(next) => next,
+        match log.advance(receiver) {
+            Ok(()) => {}
             Err(device) => {
                 return Err(GatherFault::Device {
                     faults: device.faults,
                 });
             }
-        };
-        let Some(piece) = gathering.take(payload.as_slice()) else {
+        }
+        let Some(piece) = gathering.take(log.message()) else {
             return Err(GatherFault::NotWrapped { number });
         };
         match room.put(piece, out) {

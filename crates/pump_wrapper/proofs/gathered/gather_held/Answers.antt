@@ -1,9 +1,12 @@
-use Rattle.std.proofs.Common.{◌≡◌, ℕ, ◌+◌, ◌<◌, List, [], ◌∷◌, ◌++◌, length, take, sym, ◌∙◌, ap, subst, arith, length-append, append_assoc}
+use Rattle.std.proofs.Common.{◌≡◌, ℕ, ◌+◌, ◌<◌, List, [], ◌∷◌, ◌++◌, length, take, slice_index_or, refl, sym, ◌∙◌, ap, subst, arith, length-append, append_assoc}
 use Rattle.std.proofs.lemmas.List.{take_all}
 use Rattle.disk_model.specs.Disk.{Same}
 use Rattle.stable_buffer.specs.Log.{RecvStands}
-use Rattle.disk_model.proofs.Run.{goes_on_same}
+use Rattle.disk_model.proofs.Run.{goes_on_same, started}
+use Rattle.std.proofs.KnownBytes.{Appends-nil}
+use Rattle.high_receiver.specs.Receiving.{recv_disk}
 use Rattle.pump_link.specs.Causes.{AppendsFront}
+use Rattle.high_receiver.specs.LogReading.{given_message}
 use Rattle.pump_wrapper.specs.HeldBack.{Held, held_in}
 use Rattle.pump_wrapper.specs.Wrapped.{unwrapped, BeginsFile}
 use Rattle.pump_wrapper.specs.Gathering.{HasTaken}
@@ -27,9 +30,9 @@ returns-in_default-clause-gathers g c = λ told messages stands.
     let n = c.loop-number.number in
     let on = stands_on m c.args.receiver.now c.loop-number.receiver messages kept.row kept.moves told stands in
     let lt : n < length messages = omega (arith, c.loop-number-test.true, c.count-number-end.ensures, kept.count, count_is m c.loop-number.receiver messages kept.ready told on) in
-    let more = next_message messages n c.at.new.into c.as_slice.result.now lt (c.in-Ok.ensures.message told messages on) c.as_slice.ensures.value in
+    let more = next_message messages n (given_message c.advance.new.self) c.message.result.now lt (c.in-Ok.ensures.message told messages on ∙ ap (λ k. slice_index_or messages k []) kept.given) c.message.ensures.message in
     let has = kept.taken told messages stands in
-    let never = begins_no c.args.message (take n messages) c.as_slice.result.now c.loop-number.gathering has c.in_default.ensures.taken in
+    let never = begins_no c.args.message (take n messages) c.message.result.now c.loop-number.gathering has c.in_default.ensures.taken in
     (lt, begins c.args.message (take n messages) c.loop-number.gathering has, subst (λ (ms : List (List ℕ)). BeginsFile c.args.message ms → ⊥) more never, kept.wrote told messages stands)
 
 pub returns-in-Err-put-clause-gathers : goal.returns-in-Err-put-clause-gathers
@@ -37,12 +40,12 @@ returns-in-Err-put-clause-gathers g c = λ told messages stands.
     let m = g.D.Disk.told in
     let kept = c.loop-number.invariant in
     let n = c.loop-number.number in
-    let asl = c.as_slice.result.now in
+    let asl = c.message.result.now in
     let piece = c.in-Some.piece.now in
     let step = c.in-Some.ensures.taken in
     let on = stands_on m c.args.receiver.now c.loop-number.receiver messages kept.row kept.moves told stands in
     let lt : n < length messages = omega (arith, c.loop-number-test.true, c.count-number-end.ensures, kept.count, count_is m c.loop-number.receiver messages kept.ready told on) in
-    let more = next_message messages n c.at.new.into asl lt (c.in-Ok.ensures.message told messages on) c.as_slice.ensures.value in
+    let more = next_message messages n (given_message c.advance.new.self) asl lt (c.in-Ok.ensures.message told messages on ∙ ap (λ k. slice_index_or messages k []) kept.given) c.message.ensures.message in
     let has = one_taken c.args.message (take n messages) asl c.loop-number.gathering c.take.new.self (kept.taken told messages stands) step.0 in
     let held = kept.wrote told messages stands in
     let bytes : held.0 ++ (held_in c.loop-number.room ++ piece) ≡ unwrapped (take (n + 1) messages) =
@@ -56,8 +59,31 @@ returns-in-Err-put-clause-gathers g c = λ told messages stands.
 
 pub put-requires : goal.put-requires
 put-requires g c =
-    let asl = c.as_slice.result.now in
-    omega (arith, c.as_slice.ensures.short, length_of_piece asl, ap length c.in-Some.ensures.taken.1)
+    let asl = c.message.result.now in
+    omega (arith, c.message.ensures.short, length_of_piece asl, ap length c.in-Some.ensures.taken.1)
+
+pub loop-number-init : goal.loop-number-init
+loop-number-init g c =
+    let m = g.D.Disk.told in
+    let log = c.reader-log.ensures in
+    let new = c.new-gathering.ensures in
+    record {
+      ready = c.requires.ready;
+      count = refl;
+      end = refl;
+      row = refl;
+      size = refl;
+      reading = log.reading;
+      given = log.given;
+      moves = started m Same (λ bytes. refl) (recv_disk c.args.receiver.now);
+      counts = omega arith;
+      later = omega arith;
+      piece = new.size;
+      few = omega (arith, new.bytes);
+      taken = λ told messages stands. new.taken;
+      bytes = λ told messages stands. new.bytes;
+      wrote = λ told messages stands. ([], Appends-nil (g.O.Sink.written c.args.out.now), sym c.requires.empty);
+    }
 
 pub loop-number-preserved : goal.loop-number-preserved
 loop-number-preserved g c =
@@ -67,11 +93,11 @@ loop-number-preserved g c =
     let message = c.args.message in
     let e = c.in-Ok.ensures in
     let step = c.in-Some.ensures.taken in
-    let asl = c.as_slice.result.now in
+    let asl = c.message.result.now in
     let piece = c.in-Some.piece.now in
     let on = λ (told : m.tells) (messages : List (List ℕ)) (stands : RecvStands c.args.receiver.now.row messages (m.reading c.args.receiver.now.register.disk)). stands_on m c.args.receiver.now c.loop-number.receiver messages kept.row kept.moves told stands in
     let more = λ (told : m.tells) (messages : List (List ℕ)) (stands : RecvStands c.args.receiver.now.row messages (m.reading c.args.receiver.now.register.disk)).
-    next_message messages n c.at.new.into asl (omega (arith, c.loop-number-test.true, c.count-number-end.ensures, kept.count, count_is m c.loop-number.receiver messages kept.ready told (on told messages stands))) (e.message told messages (on told messages stands)) c.as_slice.ensures.value in
+    next_message messages n (given_message c.advance.new.self) asl (omega (arith, c.loop-number-test.true, c.count-number-end.ensures, kept.count, count_is m c.loop-number.receiver messages kept.ready told (on told messages stands))) (e.message told messages (on told messages stands) ∙ ap (λ k. slice_index_or messages k []) kept.given) c.message.ensures.message in
     let bytes = λ (told : m.tells) (messages : List (List ℕ)) (stands : RecvStands c.args.receiver.now.row messages (m.reading c.args.receiver.now.register.disk)). next_bytes messages n asl piece (more told messages stands) step.1 in
     record {
       ready = e.ready;
@@ -79,12 +105,13 @@ loop-number-preserved g c =
       end = e.end ∙ kept.end;
       row = e.row ∙ kept.row;
       size = e.size ∙ kept.size;
-      place = e.next;
+      reading = e.reading;
+      given = e.given ∙ ap (λ k. k + 1) kept.given;
       moves = goes_on_same m Same _ _ _ kept.moves e.moves;
-      counts = omega (arith, kept.counts, e.answers.counts);
+      counts = omega (arith, kept.counts, e.counts);
       later = omega (arith, kept.later, c.put.ensures.cause.later);
       piece = c.take.ensures.size ∙ kept.piece;
-      few = omega (arith, kept.few, c.in-Some.ensures.bytes, c.as_slice.ensures.short, length_of_piece asl, ap length step.1);
+      few = omega (arith, kept.few, c.in-Some.ensures.bytes, c.message.ensures.short, length_of_piece asl, ap length step.1);
       taken = λ told messages stands. subst (λ (ms : List (List ℕ)). HasTaken message ms c.take.new.self) (more told messages stands) (one_taken message (take n messages) asl c.loop-number.gathering c.take.new.self (kept.taken told messages stands) step.0);
       bytes = λ told messages stands. c.in-Some.ensures.bytes ∙ ap (λ k. k + length piece) (kept.bytes told messages stands) ∙ sym (length-append (unwrapped (take n messages)) piece) ∙ ap length (bytes told messages stands);
       wrote = λ told messages stands. subst (Held _ _ _) (bytes told messages stands) (c.in-Ok-put.ensures.ok _ (unwrapped (take n messages)) (kept.wrote told messages stands));

@@ -1,7 +1,8 @@
 use Rattle.std.proofs.Common.{◌≡◌, ℕ, ◌-◌, ◌*◌, ◌≤◌, List, length, take}
 use Rattle.disk_model.specs.Disk.{Moves, Same}
 use Rattle.stable_buffer.specs.Log.{RecvStands}
-use Rattle.high_receiver.specs.Receiving.{IsRecvReady, IsRecordAt, recv_count, recv_disk, recv_end, recv_row, recv_size}
+use Rattle.high_receiver.specs.Receiving.{IsRecvReady, recv_count, recv_disk, recv_end, recv_row, recv_size}
+use Rattle.high_receiver.specs.LogReading.{IsReading, given_count}
 use Rattle.pump_wrapper.specs.HeldBack.{Held, held_in}
 use Rattle.pump_wrapper.specs.Wrapped.{unwrapped}
 use Rattle.pump_wrapper.specs.Gathering.{HasTaken}
@@ -17,7 +18,8 @@ invariant-loop-number g l =
       end : recv_end l.receiver ≡ recv_end r;
       row : recv_row l.receiver ≡ recv_row r;
       size : recv_size l.receiver ≡ recv_size r;
-      place : IsRecordAt m l.receiver l.number l.at;
+      reading : IsReading m l.receiver l.log;
+      given : given_count l.log ≡ l.number;
       moves : Moves m Same (recv_disk r) (recv_disk l.receiver);
       counts : m.count (recv_disk r) ≤ m.count (recv_disk l.receiver);
       later : g.O.Sink.faults l.fn.out ≤ g.O.Sink.faults l.out;

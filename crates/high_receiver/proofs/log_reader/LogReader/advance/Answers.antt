@@ -1,4 +1,4 @@
-use Rattle.std.proofs.Common.{◌≡◌, sym, subst}
+use Rattle.std.proofs.Common.{sym, subst}
 use Rattle.high_receiver.proofs.Blocks.{Holds, held, refilled, message_given, reading_on}
 use Rattle.high_receiver.proofs.log_reader.LogReader.advance.Goals.{then-is_none+in_ok-fill, else-is_none}
 use Rattle.high_receiver.proofs.log_reader.LogReader.advance.Goals as goal

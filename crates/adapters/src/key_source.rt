@@ -60,19 +60,3 @@ impl<R: Files<File = File>> Source for KeySource<R> {
         self.faults
     }
 }
-
-#[cfg(test)]
-mod tests {
-    use super::*;
-
-    #[test]
-    fn keys_are_random_bytes(rt: HostRuntime) {
-        let mut keys = KeySource::new(&rt);
-        let mut key = [[0; 32]; 2];
-        for part in &mut key {
-            assert_eq!(rt; keys.read(part), Ok(32));
-        }
-        assert!(rt; key[0] != key[1]);
-        assert_eq!(rt; keys.faults(), 0);
-    }
-}

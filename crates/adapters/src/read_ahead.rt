@@ -62,19 +62,3 @@ impl ReadAhead {
         Ok(count)
     }
 }
-
-#[cfg(test)]
-mod tests {
-    use super::*;
-    use std::test::Fail;
-
-    #[test]
-    fn bytes_come_in_order(rt: HostRuntime) -> Result<(), Fail> {
-        let mut reader = b"ab".as_slice();
-        let mut ahead = ReadAhead::new();
-        assert_eq!(rt; ahead.fill(&mut reader)?, 2);
-        let bytes = [ahead.next(), ahead.next(), ahead.next()];
-        assert_eq!(rt; bytes, [Some(b'a'), Some(b'b'), None]);
-        Ok(())
-    }
-}

@@ -1,4 +1,4 @@
-ghost use Rattle.std.specs.Prelude.{◌≡◌, ℕ, min, ◌^◌};
+ghost use Rattle.std.specs.Prelude.{◌≡◌, ◌≤◌, ◌/◌, ℕ, min, ◌^◌};
 
 use crate::traffic::Traffic;
 use pump_frame::raised;
@@ -53,7 +53,11 @@ pub fn now<R: time::Clock>(machine: &R) -> Duration {
 }
 
 /// How many microseconds a reading lies after the one before, where so many have been waited.
-fn gap(waited: u64) -> u64 {
+fn gap(waited: u64) -> u64
+    ensures short { waited ≤ 80 → result ≡ 20 }
+    ensures quarter { 80 ≤ waited → waited ≤ 3600 → result ≡ waited / 4 }
+    ensures long { 3600 ≤ waited → result ≡ 900 }
+{
     (waited / 4).clamp(SHORTEST, LONGEST)
 }
 
@@ -152,46 +156,5 @@ impl<R: time::Clock> Clock for RealClock<'_, R> {
 
     fn readings(&self) -> u64 {
         self.readings
-    }
-}
-
-#[cfg(test)]
-mod tests {
-    use super::*;
-    use std::thread;
-
-    #[test]
-    fn moments_are_microseconds_of_the_machine(rt: HostRuntime) {
-        let start = now(&rt);
-        let traffic = Traffic::new();
-        let mut clock = RealClock::new(&rt, start, &traffic);
-        let first = clock.moment();
-        thread::sleep(&rt, Duration::from_millis(2));
-        let second = clock.moment();
-        assert!(rt; second >= first.saturating_add(2000));
-        assert_eq!(rt; clock.readings(), 2);
-        let mut late = RealClock::new(&rt, Duration::MAX, &traffic);
-        assert_eq!(rt; late.moment(), 0);
-    }
-
-    #[test]
-    fn readings_come_apart_where_nothing_comes(rt: HostRuntime) {
-        let gaps = [(0, 20), (80, 20), (2000, 500), (3600, 900), (u64::MAX, 900)];
-        for (waited, apart) in gaps {
-            assert_eq!(rt; gap(waited), apart);
-        }
-        let traffic = Traffic::new();
-        let mut clock = RealClock::new(&rt, now(&rt), &traffic);
-        clock.moment();
-        assert!(rt; !traffic.is_quiet());
-        for _ in 0..100 {
-            clock.moment();
-        }
-        assert!(rt; traffic.is_quiet());
-        let first = clock.moment();
-        assert!(rt; clock.moment() >= first.saturating_add(LONGEST));
-        traffic.note();
-        clock.moment();
-        assert!(rt; !traffic.is_quiet());
     }
 }

@@ -73,30 +73,3 @@ impl<I: Source, W: Write> Source for ShownSource<I, W> {
         self.inner.faults()
     }
 }
-
-#[cfg(test)]
-mod tests {
-    use super::*;
-    use crate::StdSource;
-    use std::test::Fail;
-
-    #[test]
-    fn a_source_is_shown(rt: HostRuntime) -> Result<(), Fail> {
-        for (is_shown, line) in [
-            (
-                true,
-                b"\r4 bytes, 1 messages\r6 bytes, 2 messages\n".as_slice(),
-            ),
-            (false, b""),
-        ] {
-            let inner = StdSource::new(b"abcdef".as_slice());
-            let mut source = ShownSource::new(inner, Vec::new(rt.alloc()), is_shown);
-            let mut into = [0; 4];
-            assert_eq!(rt; source.read(&mut into).ok(), Some(4));
-            assert_eq!(rt; source.read(&mut into).ok(), Some(2));
-            source.end();
-            assert_eq!(rt; source.terminal.as_slice(), line);
-        }
-        Ok(())
-    }
-}

@@ -98,31 +98,3 @@ impl<W: Write> Sink for StdSink<W> {
         self.faults
     }
 }
-
-#[cfg(test)]
-mod tests {
-    use super::*;
-    use std::test::Fail;
-
-    #[test]
-    fn a_reader_is_a_source(rt: HostRuntime) -> Result<(), Fail> {
-        let mut source = StdSource::new(b"abc".as_slice());
-        let mut into = [0; 2];
-        assert_eq!(rt; source.read(&mut into).ok(), Some(2));
-        assert_eq!(rt; into.as_slice(), b"ab".as_slice());
-        assert_eq!(rt; source.read(&mut into).ok(), Some(1));
-        assert_eq!(rt; source.read(&mut into).ok(), Some(0));
-        assert_eq!(rt; source.faults(), 0);
-        Ok(())
-    }
-
-    #[test]
-    fn a_writer_is_a_sink(rt: HostRuntime) -> Result<(), Fail> {
-        let mut sink = StdSink::new(Vec::new(rt.alloc()));
-        assert_eq!(rt; sink.write(b"abc").ok(), Some(3));
-        assert_eq!(rt; sink.write(b"de").ok(), Some(2));
-        assert_eq!(rt; sink.last().ends_with(b"\0abcde"), true);
-        assert_eq!(rt; sink.faults(), 0);
-        Ok(())
-    }
-}

@@ -102,6 +102,3 @@ impl<'a, R: Net<Listener = TcpListener, Stream = TcpStream>> Ports for TcpPorts<
         self.faults
     }
 }
-
-#[cfg(test)]
-mod tests;

@@ -17,7 +17,7 @@ use Rattle.script_reader.specs.Scripts.{Whole, LeadTo as LeadsOne}
 use Rattle.script_reader.specs.Sessions.{lines_of, events_of, event_session, is_number, session_in}
 use Rattle.script_reader.proofs.Beside.{own_line, other_line}
 use Rattle.script_reader.proofs.Soundness.{sound_so}
-use Rattle.two_worlds.proofs.Timeline.Scripts.{script_runs}
+use Rattle.world_laws.proofs.Timeline.Scripts.{script_runs}
 use Rattle.chain_replay.specs.Owned.{AreTheirOwn}
 use Rattle.chain_replay.specs.Private.{AreOf, IsSoundTimed, AreSoundTimed}
 use Rattle.chain_replay.specs.Scripts.{NoPump, OnePump, BothPumps, AreLinked, LeadTo}

@@ -22,11 +22,11 @@ use Rattle.script_reader.specs.Readouts.{low_lines}
 use Rattle.script_reader.specs.Scripts.{Running, Whole}
 use Rattle.script_reader.specs.Sessions.{events_of}
 use Rattle.script_replay.specs.Shelves.{Places, reading_in, reading_at, OfDisks, HasFound, AcknowledgedOutlive}
-use Rattle.two_worlds.specs.Disks.{StandForLeft}
-use Rattle.two_worlds.specs.Laws.{KeepMessages, AckOutlives}
+use Rattle.world_laws.specs.Disks.{StandForLeft}
+use Rattle.world_laws.specs.Laws.{KeepMessages, AckOutlives}
 use Rattle.two_worlds.specs.Pumps.{StandsOrFails}
 use Rattle.two_worlds.specs.declared.pump.Pump.{Pump}
-use Rattle.two_worlds.proofs.Runs.Outliving.{keeps_messages, run_keeps}
+use Rattle.world_laws.proofs.Runs.Outliving.{keeps_messages, run_keeps}
 use Rattle.chain_replay.specs.Opened.{LeavesOthers, KeepsChain, shelved}
 use Rattle.chain_replay.specs.Private.{AreBackAt, AreLeftAt, AreOf, IsSoundTimed, lent}
 

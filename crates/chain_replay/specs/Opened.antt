@@ -17,7 +17,7 @@ use Rattle.script_reader.specs.Openings.{Found, Openings, accepted_in}
 use Rattle.script_reader.specs.Scripts.{Whole}
 use Rattle.script_reader.specs.Sessions.{events_of}
 use Rattle.script_replay.specs.Shelves.{AcknowledgedOutlive, Places, reading_at, OfDisks, HasFound, HoldsLeft, IsRefusedFor, SparesSession, ReadiesSession}
-use Rattle.two_worlds.specs.Laws.{KeepMessages}
+use Rattle.world_laws.specs.Laws.{KeepMessages}
 use Rattle.chain_replay.specs.Faults.{chain_fault}
 
 -- every disk of another session than these two is where it was

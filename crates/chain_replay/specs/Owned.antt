@@ -10,7 +10,7 @@ use Rattle.script_reader.specs.declared.line.Line.TheVariants.{Session}
 use Rattle.script_reader.specs.Openings.{Openings}
 use Rattle.script_reader.specs.Scripts.{IsTranscript}
 use Rattle.script_reader.specs.Sessions.{lines_of, events_of}
-use Rattle.two_worlds.specs.Timelines.{IsAtRest}
+use Rattle.world_laws.specs.Timelines.{IsAtRest}
 
 -- behind the two `session` lines these lines lead the chain of the two rows, from what their disks were found to hold, to
 -- what it has come to; and what is printed of either session, its end with it, is the transcript of a script that has its

@@ -29,7 +29,7 @@ use Rattle.script_reader.specs.Scripts.{Running, Whole}
 use Rattle.script_reader.specs.Sessions.{events_of}
 use Rattle.script_replay.specs.Runners.{IsLineFault}
 use Rattle.script_replay.specs.Shelves.{Places, disk_name, OfDisks, HasFound}
-use Rattle.two_worlds.specs.Disks.{StandForLeft}
+use Rattle.world_laws.specs.Disks.{StandForLeft}
 use Rattle.chain_replay.specs.Faults.{IsHalted, ChainStops, session_or, broken_in, refusal_of}
 use Rattle.chain_replay.specs.Opened.{Shelved}
 use Rattle.chain_replay.specs.Replays.{IsSoFar}

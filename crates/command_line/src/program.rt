@@ -2,7 +2,7 @@ ghost use Rattle.std.specs.Prelude.{◌≡◌, IfOk, false};
 ghost use Rattle.clap.specs.Words.{app_of};
 ghost use Rattle.clap.specs.Walk.{rule_of};
 ghost use Rattle.clap.specs.declared.builder.command.Command.TheViews.{out-Command};
-ghost use Rattle.clap.specs.Simple.{with_subcommand};
+ghost use Rattle.clap.specs.Simple.{App, with_subcommand};
 ghost use Rattle.command_line.specs.Program.{value_rule, leaf_none, leaf_two, leaf_three, leaf_four, bare, program};
 
 use clap::{Arg, Command as Program};
@@ -79,32 +79,38 @@ fn bare<'a>(alloc: Global) -> Program<'a>
         .disable_help_subcommand(true)
 }
 
-fn with<'a>(above: Program<'a>, command: Program<'a>) -> Result<Program<'a>, AllocError>
-    requires { (out-Command command).has_globals ≡ false }
-    ensures { IfOk result (λ c. app_of c ≡ with_subcommand (app_of above.entry) (app_of command.entry).top) }
+/// The program with one more command. What is handed in as it is made, so that it is let go in one place
+/// where there is no memory for it.
+fn with<'a>(
+    above: Program<'a>,
+    command: Result<Program<'a>, AllocError>,
+) -> Result<Program<'a>, AllocError>
+    requires { IfOk command (λ c. (out-Command c).has_globals ≡ false) }
+    ensures { (leaf : App) → IfOk command.entry (λ c. app_of c ≡ leaf)
+        → IfOk result (λ all. app_of all ≡ with_subcommand (app_of above.entry) leaf.top) }
 {
-    above.subcommand(command)
+    above.subcommand(command?)
 }
 
 /// The commands as clap is told of them. An error is want of memory.
 pub(crate) fn program<'a>(alloc: Global) -> Result<Program<'a>, AllocError>
     ensures { IfOk result (λ c. app_of c ≡ program) }
 {
-    let all = with(bare(alloc), plain(alloc, "replay"))?;
-    let all = with(all, with_two(alloc, "format", "TABLE", "S")?)?;
-    let all = with(all, with_two(alloc, "show", "TABLE", "S")?)?;
-    let all = with(all, with_two(alloc, "exercise", "SEED", "COUNT")?)?;
-    let all = with(all, with_three(alloc, "race", "SEED", "COUNT", "TIMES")?)?;
-    let all = with(all, with_three(alloc, "serve", "TABLE", "S", "LOOKS")?)?;
-    let all = with(all, with_three(alloc, "receive", "TABLE", "S", "LOOKS")?)?;
-    let all = with(all, with_three(alloc, "send", "TABLE", "S", "LOOKS")?)?;
+    let all = with(bare(alloc), Ok(plain(alloc, "replay")))?;
+    let all = with(all, with_two(alloc, "format", "TABLE", "S"))?;
+    let all = with(all, with_two(alloc, "show", "TABLE", "S"))?;
+    let all = with(all, with_two(alloc, "exercise", "SEED", "COUNT"))?;
+    let all = with(all, with_three(alloc, "race", "SEED", "COUNT", "TIMES"))?;
+    let all = with(all, with_three(alloc, "serve", "TABLE", "S", "LOOKS"))?;
+    let all = with(all, with_three(alloc, "receive", "TABLE", "S", "LOOKS"))?;
+    let all = with(all, with_three(alloc, "send", "TABLE", "S", "LOOKS"))?;
     let all = with(
         all,
-        with_four(alloc, "migrate", "TABLE", "S", "NEWTABLE", "T")?,
+        with_four(alloc, "migrate", "TABLE", "S", "NEWTABLE", "T"),
     )?;
-    let all = with(all, with_two(alloc, "wrap", "TABLE", "S")?)?;
-    let all = with(all, with_two(alloc, "unwrap", "TABLE", "S")?)?;
-    let all = with(all, plain(alloc, "audit"))?;
-    let all = with(all, plain(alloc, "compare"))?;
-    with(all, plain(alloc, "chain"))
+    let all = with(all, with_two(alloc, "wrap", "TABLE", "S"))?;
+    let all = with(all, with_two(alloc, "unwrap", "TABLE", "S"))?;
+    let all = with(all, Ok(plain(alloc, "audit")))?;
+    let all = with(all, Ok(plain(alloc, "compare")))?;
+    with(all, Ok(plain(alloc, "chain")))
 }

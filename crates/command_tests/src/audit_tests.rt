@@ -1,3 +1,5 @@
+//! The verdicts on a record, and where two records differ.
+
 use pump_audit::{AuditFault, Compared, Verdict, What, audit, compare};
 use pump_link::MemSource;
 use std::alloc::Global;

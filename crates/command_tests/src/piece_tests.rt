@@ -1,3 +1,5 @@
+//! Files that are cut into messages, and messages that are gathered to a file again.
+
 ghost use Rattle.std.specs.Prelude.{◌≡◌, ◌≤◌, [], IsTrue, IfSome, IfOk};
 ghost use Rattle.pump_frame.specs.Rows.{IsLawfulRow};
 ghost use Rattle.high_receiver.specs.Receiving.{IsRecvReady, recv_row};
@@ -5,7 +7,7 @@ ghost use Rattle.high_receiver.specs.Receiving.{IsRecvReady, recv_row};
 use disk_model::{Disk, PlainDisk, Role};
 use high_receiver::Receiver;
 use pump_frame::{Name, Payload, SessionRow};
-use pump_link::{MemSink, MemSource};
+use pump_link::{MemSink, MemSource, Sink, Source};
 use pump_wrapper::{CompareFault, Cut, Cutter, GatherFault, Gathered, gather, skip_received};
 use stable_buffer::{Register, format};
 use std::alloc::{AllocError, Global};
@@ -31,24 +33,24 @@ fn copied<T: Copy>(alloc: Global, items: &[T]) -> Result<Vec<T>, AllocError> {
     items.iter().copied().collect(alloc)
 }
 
-fn is_cut(alloc: Global, case: &CutRow) -> Result<bool, AllocError>
-    requires { 1 ≤ case.now.piece }
-{
-    let mut source = MemSource::new(
-        copied(alloc, case.file)?,
-        case.piece,
-        copied(alloc, case.fails)?,
-    );
+fn cuts<S: Source>(source: &mut S, case: &CutRow) -> bool {
     let mut cutter = Cutter::new(12);
     let mut payload = Payload::default();
     for message in case.messages {
-        if cutter.next(&mut source, &mut payload) != Cut::Message
-            || payload.as_slice() != *message
-        {
-            return Ok(false);
+        if cutter.next(source, &mut payload) != Cut::Message || payload.as_slice() != *message {
+            return false;
         }
     }
-    Ok(cutter.next(&mut source, &mut payload) == case.end)
+    cutter.next(source, &mut payload) == case.end
+}
+
+fn is_cut(alloc: Global, case: &CutRow) -> Result<bool, AllocError>
+    requires { 1 ≤ case.now.piece }
+{
+    let file = copied(alloc, case.file)?;
+    let fails = copied(alloc, case.fails)?;
+    let mut source = MemSource::new(file, case.piece, fails);
+    Ok(cuts(&mut source, case))
 }
 
 #[test]
@@ -158,22 +160,37 @@ fn takes<D: Disk>(receiver: &mut Receiver<D>, messages: &[&[u8]]) -> bool
     true
 }
 
+// What is gathered of the messages, where a receiver over this disk takes them.
+fn gathered<D: Disk + Drop, O: Sink>(
+    disk: D,
+    row: &SessionRow,
+    messages: &[&[u8]],
+    out: &mut O,
+) -> Option<Result<Gathered, GatherFault>>
+    requires empty { D.told.tells → D.told.reading disk ≡ [] }
+    requires lawful { IsLawfulRow row.now }
+    requires short { row.now.message ≡ 16 }
+{
+    let Ok(mut receiver) = fresh(disk, row) else {
+        return None;
+    };
+    if !takes(&mut receiver, messages) {
+        return None;
+    }
+    Some(gather(&mut receiver, out, 12))
+}
+
 fn is_gathered(alloc: Global, row: &SessionRow, case: &GatherRow) -> Result<bool, AllocError>
     requires lawful { IsLawfulRow row.now }
     requires short { row.now.message ≡ 16 }
 {
+    let fails = copied(alloc, case.fails)?;
+    let mut out = MemSink::new(vec![in alloc; 0; 64]?, 5, fails);
     let Ok(disk) = PlainDisk::new(alloc, 160) else {
         return Err(AllocError);
     };
-    let Ok(mut receiver) = fresh(disk, row) else {
-        return Ok(false);
-    };
-    if !takes(&mut receiver, case.messages) {
-        return Ok(false);
-    }
-    let mut out = MemSink::new(vec![in alloc; 0; 64]?, 5, copied(alloc, case.fails)?);
-    let result = gather(&mut receiver, &mut out, 12);
-    Ok(result == case.result && out.written() == case.written)
+    let result = gathered(disk, row, case.messages, &mut out);
+    Ok(result == Some(case.result) && out.written() == case.written)
 }
 
 #[test]
@@ -267,7 +284,38 @@ fn messages_are_gathered(rt: HostRuntime) -> Result<(), Fail> {
     Ok(())
 }
 
-// A receiver with the first piece of a file of 12 bytes, beside this file.
+// Compares a file with a receiver over this disk that has the first piece of a file of 12 bytes; after
+// it the cutter goes on with the other piece.
+fn compared<D: Disk + Drop, S: Source>(
+    disk: D,
+    row: &SessionRow,
+    source: &mut S,
+) -> Option<Result<(), CompareFault>>
+    requires empty { D.told.tells → D.told.reading disk ≡ [] }
+    requires lawful { IsLawfulRow row.now }
+    requires short { row.now.message ≡ 16 }
+{
+    let Ok(mut receiver) = fresh(disk, row) else {
+        return None;
+    };
+    if !takes(&mut receiver, &[b"\0hello, worl"]) {
+        return None;
+    }
+    let mut cutter = Cutter::new(12);
+    let compared = skip_received(&mut receiver, &mut cutter, source);
+    if compared.is_err() {
+        return Some(compared);
+    }
+    let mut payload = Payload::default();
+    let next = cutter.next(source, &mut payload);
+    if next == Cut::Message && payload.as_slice() == b"\0d".as_slice() {
+        Some(compared)
+    } else {
+        None
+    }
+}
+
+// Whether a file is compared so.
 fn is_compared(
     alloc: Global,
     row: &SessionRow,
@@ -277,27 +325,11 @@ fn is_compared(
     requires lawful { IsLawfulRow row.now }
     requires short { row.now.message ≡ 16 }
 {
+    let mut source = MemSource::new(copied(alloc, file)?, 5, Vec::new(alloc));
     let Ok(disk) = PlainDisk::new(alloc, 160) else {
         return Err(AllocError);
     };
-    let Ok(mut receiver) = fresh(disk, row) else {
-        return Ok(false);
-    };
-    if !takes(&mut receiver, &[b"\0hello, worl"]) {
-        return Ok(false);
-    }
-    let mut source = MemSource::new(copied(alloc, file)?, 5, Vec::new(alloc));
-    let mut cutter = Cutter::new(12);
-    let compared = skip_received(&mut receiver, &mut cutter, &mut source);
-    if compared.is_err() {
-        return Ok(compared == wanted);
-    }
-    let mut payload = Payload::default();
-    Ok(
-        compared == wanted
-            && cutter.next(&mut source, &mut payload) == Cut::Message
-            && payload.as_slice() == b"\0d".as_slice(),
-    )
+    Ok(compared(disk, row, &mut source) == Some(wanted))
 }
 
 #[test]

@@ -1,7 +1,10 @@
+//! The commands over a session of a table, one after another on one shelf: their statuses, and what they
+//! write.
+
 use command_line::TableName;
 use commands::{format_session, migrate_session, show_session, unwrap_session, wrap_session};
-use disk_model::{DiskName, MemShelf, PlainDisk, Role};
-use pump_link::{MemSink, MemSource};
+use disk_model::{DiskName, MemShelf, PlainDisk, Role, Shelf};
+use pump_link::{MemSink, MemSource, Sink};
 use std::alloc::{AllocError, Global};
 use std::test::Fail;
 
@@ -16,8 +19,8 @@ fn joined(alloc: Global, parts: &[&str]) -> Result<Vec<u8>, AllocError> {
     Ok(bytes)
 }
 
-/// A shelf with empty disks for the sessions 1 and 2 and three tables, on which these calls fail.
-fn new_shelf(alloc: Global, fails: &[u64]) -> Result<MemShelf<PlainDisk>, Fail> {
+/// Empty disks for the sessions 1 and 2.
+fn new_disks(alloc: Global) -> Result<Vec<(DiskName, PlainDisk)>, Fail> {
     let mut disks = Vec::new(alloc);
     for session in [1, 2] {
         for (role, room) in [
@@ -28,6 +31,11 @@ fn new_shelf(alloc: Global, fails: &[u64]) -> Result<MemShelf<PlainDisk>, Fail> 
             disks.push((DiskName { session, role }, PlainDisk::new(alloc, room)?))?;
         }
     }
+    Ok(disks)
+}
+
+/// Three tables.
+fn tables(alloc: Global) -> Result<Vec<(String, Vec<u8>)>, AllocError> {
     let mut files = Vec::new(alloc);
     for (name, first) in [
         ("t.toml", "[[session]]\nid = 1\nmessage = 8\n"),
@@ -39,52 +47,79 @@ fn new_shelf(alloc: Global, fails: &[u64]) -> Result<MemShelf<PlainDisk>, Fail> 
             joined(alloc, &[first, ROW])?,
         ))?;
     }
-    Ok(MemShelf::new(disks, files, Vec::from_slice(alloc, fails)?))
+    Ok(files)
 }
 
-/// The status and the output of a command over a session of a table. `migrate` moves it to session 2.
-/// Behind `wrap` stands the file.
-fn run(
+/// A shelf with the disks and the tables, on which these calls fail.
+fn new_shelf(alloc: Global, fails: &[u64]) -> Result<MemShelf<PlainDisk>, Fail> {
+    let fails = Vec::from_slice(alloc, fails)?;
+    let files = tables(alloc)?;
+    Ok(MemShelf::new(new_disks(alloc)?, files, fails))
+}
+
+/// The status of a command over a session of a table. `migrate` moves it to session 2. Behind `wrap`
+/// stands the file.
+fn status_of<S: Shelf, O: Sink>(
     alloc: Global,
-    shelf: &mut MemShelf<PlainDisk>,
+    shelf: &mut S,
     (command, table, session): (&str, &str, u32),
-) -> Result<(u8, Vec<u8>), AllocError> {
-    let mut sink = MemSink::new(vec![in alloc; 0; 256]?, 5, Vec::new(alloc));
+    out: &mut O,
+) -> Result<u8, AllocError> {
     let (Some(table), Some(other)) = (TableName::from_text(table), TableName::from_text("u.toml"))
     else {
-        return Ok((2, Vec::new(alloc)));
+        return Ok(2);
     };
     if let Some(file) = command.strip_prefix("wrap ") {
         let bytes = Vec::from_slice(alloc, file.as_bytes())?;
         let mut source = MemSource::new(bytes, 5, Vec::new(alloc));
-        let end = wrap_session(alloc, &table, session, shelf, &mut source, &mut sink);
-        return Ok((end.status(), Vec::from_slice(alloc, sink.written())?));
+        return Ok(wrap_session(alloc, &table, session, shelf, &mut source, out).status());
     }
-    let status = match command {
-        "format" => format_session(alloc, &table, session, shelf, &mut sink).status(),
-        "show" => show_session(alloc, &table, session, shelf, &mut sink).status(),
-        "migrate" => {
-            migrate_session(alloc, &table, session, &other, 2, shelf, &mut sink).status()
-        }
-        _ => unwrap_session(alloc, &table, session, shelf, &mut sink).status(),
-    };
-    Ok((status, Vec::from_slice(alloc, sink.written())?))
+    Ok(match command {
+        "format" => format_session(alloc, &table, session, shelf, out).status(),
+        "show" => show_session(alloc, &table, session, shelf, out).status(),
+        "migrate" => migrate_session(alloc, &table, session, &other, 2, shelf, out).status(),
+        _ => unwrap_session(alloc, &table, session, shelf, out).status(),
+    })
 }
 
-/// Whether the commands end so one after another, on one shelf.
+/// The status of a command, and what it writes.
+fn run<S: Shelf>(
+    alloc: Global,
+    shelf: &mut S,
+    command: (&str, &str, u32),
+) -> Result<(u8, Vec<u8>), AllocError> {
+    let mut sink = MemSink::new(vec![in alloc; 0; 256]?, 5, Vec::new(alloc));
+    let status = status_of(alloc, shelf, command, &mut sink);
+    let written = Vec::from_slice(alloc, sink.written());
+    drop(sink);
+    Ok((status?, written?))
+}
+
+/// Whether the commands end so one after another.
+fn each_ends<S: Shelf>(
+    alloc: Global,
+    shelf: &mut S,
+    commands: &[((&str, &str, u32), u8, &str)],
+) -> Result<bool, AllocError> {
+    for (command, status, output) in commands {
+        let (ended, written) = run(alloc, shelf, *command)?;
+        if ended != *status || written.as_slice() != output.as_bytes() {
+            return Ok(false);
+        }
+    }
+    Ok(true)
+}
+
+/// Whether they end so on a shelf of which these calls fail.
 fn all_end(
     alloc: Global,
     fails: &[u64],
     commands: &[((&str, &str, u32), u8, &str)],
 ) -> Result<bool, Fail> {
     let mut shelf = new_shelf(alloc, fails)?;
-    for (command, status, output) in commands {
-        let (ended, written) = run(alloc, &mut shelf, *command)?;
-        if ended != *status || written.as_slice() != output.as_bytes() {
-            return Ok(false);
-        }
-    }
-    Ok(true)
+    let ended = each_ends(alloc, &mut shelf, commands);
+    drop(shelf);
+    Ok(ended?)
 }
 
 const FORMAT: (&str, &str, u32) = ("format", "t.toml", 1);

@@ -1,3 +1,5 @@
+//! Session tables: the documents that are read, and why one is refused.
+
 use pump_frame::RowKey::{
     Capacity, Coarse, High, HighPort, Id, Longest, Low, LowPort, Message, Resend, Session, Start,
     Window,

@@ -1,3 +1,5 @@
+//! The words of a command line, and the command that they are.
+
 use command_line::{Command, WordsFault, command_of};
 use std::alloc::AllocError;
 use std::test::Fail;

@@ -1,7 +1,11 @@
+//! Files that are sent over disks in memory, one after another, and what is gathered of them.
+
 ghost use Rattle.std.specs.Prelude.{◌≡◌, ◌≤◌, IfSome, IsTrue};
 ghost use Rattle.pump_frame.specs.Rows.{IsLawfulRow};
+ghost use Rattle.high_receiver.specs.Receiving.{IsRecvReady};
 
-use disk_model::{MemDisk, Role};
+use disk_model::{Disk, MemDisk, Role};
+use high_receiver::Receiver;
 use pump_frame::{Name, SessionRow};
 use pump_link::{MemSink, MemSource};
 use pump_wrapper::{Gathered, WrapEnd, Wrapped, gather, wrap};
@@ -10,12 +14,10 @@ use std::alloc::{AllocError, Global};
 use std::test::Fail;
 use two_worlds::Stop;
 
-// A file that is sent, over new disks or those that the row before left, with the calls of a new
-// receiver's disk that fail; what must come of it, the receiver's count and end after it, and what is
-// gathered of its messages then.
+// A file that is sent; what must come of it, the receiver's count and end after it, and what is gathered
+// of its messages then.
 #[derive(Clone, Copy)]
 struct WrapRow<'a> {
-    fails: Option<&'a [u64]>,
     file: &'a [u8],
     end: WrapEnd,
     count: u64,
@@ -53,36 +55,46 @@ fn new_disk(alloc: Global, fails: &[u64]) -> Result<MemDisk, AllocError> {
     }
 }
 
-fn new_disks(alloc: Global, fails: &[u64]) -> Result<Trio<MemDisk>, AllocError> {
-    Ok(Trio {
-        low: new_disk(alloc, &[])?,
-        high: new_disk(alloc, &[])?,
-        recv: new_disk(alloc, fails)?,
-    })
+// The three disks, where there was memory for each.
+fn trio<D: Drop>(
+    low: Result<D, AllocError>,
+    high: Result<D, AllocError>,
+    recv: Result<D, AllocError>,
+) -> Result<Trio<D>, AllocError> {
+    let (low, high, recv) = (low?, high?, recv?);
+    Ok(Trio { low, high, recv })
+}
+
+// Whether the receiver is as the row says, and what is gathered of its messages.
+fn is_received<D: Disk>(receiver: &mut Receiver<D>, case: &WrapRow, out: &mut MemSink) -> bool
+    requires { IsRecvReady D.told receiver.old }
+{
+    receiver.count() == case.count
+        && receiver.end() == case.log_end
+        && gather(receiver, out, 12) == Ok(case.gathered)
+        && out.written() == case.written
 }
 
 // The disks after the row; none where something else came of it.
-fn sent(
+fn sent<D: Disk + Drop>(
     alloc: Global,
     row: &SessionRow,
-    disks: Trio<MemDisk>,
+    disks: Trio<D>,
     case: &WrapRow,
-) -> Result<Option<Trio<MemDisk>>, AllocError>
+) -> Result<Option<Trio<D>>, AllocError>
     requires lawful { IsLawfulRow row.now }
     requires size { row.now.message ≡ 12 }
 {
     let bytes = case.file.iter().copied().collect(alloc)?;
+    let room = vec![in alloc; 0; 64]?;
     let mut file = MemSource::new(bytes, 5, Vec::new(alloc));
+    let mut out = MemSink::new(room, 5, Vec::new(alloc));
     let Wrapped { end, disks } = wrap(alloc, row, disks, &mut file);
     let Trio { low, high, recv } = disks;
     let Ok(mut receiver) = open_receiver(recv, row, 256) else {
         return Ok(None);
     };
-    if end != case.end || receiver.count() != case.count || receiver.end() != case.log_end {
-        return Ok(None);
-    }
-    let mut out = MemSink::new(vec![in alloc; 0; 64]?, 5, Vec::new(alloc));
-    if gather(&mut receiver, &mut out, 12) != Ok(case.gathered) || out.written() != case.written {
+    if end != case.end || !is_received(&mut receiver, case, &mut out) {
         return Ok(None);
     }
     Ok(Some(Trio {
@@ -92,6 +104,44 @@ fn sent(
     }))
 }
 
+// Whether the rows come so over the disks, each over those that the one before left.
+fn are_sent<D: Disk + Drop>(
+    alloc: Global,
+    row: &SessionRow,
+    mut disks: Trio<D>,
+    cases: &[WrapRow],
+) -> Result<bool, AllocError>
+    requires lawful { IsLawfulRow row.now }
+    requires size { row.now.message ≡ 12 }
+{
+    for case in cases {
+        match sent(alloc, row, disks, case)? {
+            Some(left) => disks = left,
+            None => return Ok(false),
+        }
+    }
+    Ok(true)
+}
+
+// Whether they come so over new disks, where these calls of the receiver's fail.
+fn are_sent_anew(
+    alloc: Global,
+    row: &SessionRow,
+    fails: &[u64],
+    cases: &[WrapRow],
+) -> Result<bool, AllocError>
+    requires lawful { IsLawfulRow row.now }
+    requires size { row.now.message ≡ 12 }
+{
+    let low = new_disk(alloc, &[]);
+    let high = new_disk(alloc, &[]);
+    let recv = new_disk(alloc, fails);
+    match trio(low, high, recv) {
+        Ok(disks) => are_sent(alloc, row, disks, cases),
+        Err(fail) => Err(fail),
+    }
+}
+
 #[test]
 fn files_are_sent(rt: HostRuntime) -> Result<(), Fail> {
     let alloc = rt.alloc();
@@ -99,7 +149,6 @@ fn files_are_sent(rt: HostRuntime) -> Result<(), Fail> {
         return Err(Fail::new("no row"));
     };
     let whole = WrapRow {
-        fails: None,
         file: b"hello, world",
         end: WrapEnd::Done {
             bytes: 12,
@@ -113,59 +162,42 @@ fn files_are_sent(rt: HostRuntime) -> Result<(), Fail> {
         },
         written: b"hello, world",
     };
-    let rows = [
-        WrapRow {
-            fails: Some(&[]),
-            ..whole
+    let other = WrapRow {
+        file: b"hello, there",
+        end: WrapEnd::Differs { number: 0 },
+        ..whole
+    };
+    let empty = WrapRow {
+        file: b"",
+        end: WrapEnd::Done {
+            bytes: 0,
+            messages: 1,
         },
-        whole,
-        WrapRow {
-            file: b"hello, there",
-            end: WrapEnd::Differs { number: 0 },
-            ..whole
+        count: 1,
+        log_end: 91,
+        gathered: Gathered {
+            bytes: 0,
+            whole: true,
         },
-        WrapRow {
-            fails: Some(&[]),
-            file: b"",
-            end: WrapEnd::Done {
-                bytes: 0,
-                messages: 1,
-            },
-            count: 1,
-            log_end: 91,
-            gathered: Gathered {
-                bytes: 0,
-                whole: true,
-            },
-            written: b"",
+        written: b"",
+    };
+    // The receiver's disk fails in the second taking.
+    let stopped = WrapRow {
+        end: WrapEnd::Stopped(Stop::Device {
+            role: Role::Recv,
+            faults: 1,
+        }),
+        count: 1,
+        log_end: 94,
+        gathered: Gathered {
+            bytes: 11,
+            whole: false,
         },
-        // The receiver's disk fails in the second taking.
-        WrapRow {
-            fails: Some(&[20]),
-            end: WrapEnd::Stopped(Stop::Device {
-                role: Role::Recv,
-                faults: 1,
-            }),
-            count: 1,
-            log_end: 94,
-            gathered: Gathered {
-                bytes: 11,
-                whole: false,
-            },
-            written: b"hello, worl",
-            ..whole
-        },
-        whole,
-    ];
-    let mut disks = new_disks(alloc, &[])?;
-    for case in &rows {
-        if let Some(fails) = case.fails {
-            disks = new_disks(alloc, fails)?;
-        }
-        match sent(alloc, &row, disks, case)? {
-            Some(left) => disks = left,
-            None => return Err(Fail::new("another end")),
-        }
-    }
+        written: b"hello, worl",
+        ..whole
+    };
+    assert!(rt; are_sent_anew(alloc, &row, &[], &[whole, whole, other])?);
+    assert!(rt; are_sent_anew(alloc, &row, &[], &[empty])?);
+    assert!(rt; are_sent_anew(alloc, &row, &[20], &[stopped, whole])?);
     Ok(())
 }

@@ -1,4 +1,4 @@
-ghost use Rattle.std.specs.Prelude.{◌≡◌, ℕ, ◌+◌, ◌*◌, ◌^◌, ◌≤◌, List, length, map, sum};
+ghost use Rattle.std.specs.Prelude.{◌≡◌, ℕ, ◌+◌, ◌*◌, ◌^◌, ◌≤◌, List, map, sum};
 ghost use Rattle.pump_frame.specs.Delays.{delay_of, quantile, class_of};
 ghost use Rattle.delay_table.specs.Delays.{IsOfEachClass, AreUncut};
 
@@ -33,19 +33,3 @@ pub fn delays_sum(average: u32)
     ensures most { (words : List ℕ) (longest : ℕ) → IsOfEachClass words → AreUncut average longest words → sum (map (λ word. delay_of average word longest) words) ≤ 256 * average }
     ensures least { (words : List ℕ) (longest : ℕ) → IsOfEachClass words → AreUncut average longest words → 512 * 256 * average ≤ 512 * sum (map (λ word. delay_of average word longest) words) + average + 512 * 256 }
 {}
-
-#[cfg(test)]
-mod tests {
-    use super::*;
-
-    #[test]
-    fn delays_of_the_first_and_last_classes(rt: HostRuntime) {
-        assert_eq!(rt; TABLE[0], 65536);
-        assert_eq!(rt; TABLE[1], 131329);
-        assert_eq!(rt; TABLE[2], 197381);
-        assert_eq!(rt; delay(20000, 0, 100000), 78);
-        assert_eq!(rt; delay(20000, 0x0100_0000, 100000), 156);
-        assert_eq!(rt; delay(20000, 0xFFFF_FFFF, 100000), 100000);
-        assert_eq!(rt; delay(20000, 0x3C6E_F35F, 100000), 5431);
-    }
-}

@@ -1,4 +1,4 @@
-ghost use Rattle.std.specs.Prelude.{◌≡◌, ℕ, ◌+◌, ◌%◌, ◌^◌, ◌<◌, List, [], ◌∷◌};
+ghost use Rattle.std.specs.Prelude.{◌≡◌, ◌+◌, ◌%◌, ◌^◌, ◌<◌, [], ◌∷◌};
 ghost use Rattle.rand_chacha.specs.ChaCha.{ChaCha, word_at, key_of};
 ghost use Rattle.pump_link.specs.Tells.{Draws};
 ghost use Rattle.delay_table.specs.Streams.{AreWords};
@@ -44,34 +44,5 @@ impl Words for StreamWords {
         ensures next { self.new ≡ record self.old { word_pos = (self.old.word_pos + 1) % 2 ^ 68 } }
     {
         self.generator.next_word()
-    }
-}
-
-#[cfg(test)]
-mod tests {
-    use super::*;
-
-    const KEY: [u8; 32] = [
-        0, 1, 2, 3, 4, 5, 6, 7, 8, 9, 10, 11, 12, 13, 14, 15, 16, 17, 18, 19, 20, 21, 22, 23, 24,
-        25, 26, 27, 28, 29, 30, 31,
-    ];
-
-    fn first<W: Words>(words: &mut W) -> [u32; 4] {
-        [words.word(), words.word(), words.word(), words.word()]
-    }
-
-    // From OpenSSL's ChaCha20, with the stream in the nonce.
-    #[test]
-    fn first_words_of_two_streams(rt: HostRuntime) {
-        let mut words = StreamWords::new(KEY, 0);
-        assert_eq!(rt;
-            first(&mut words),
-            [0x7d2b_fd39, 0x6a19_c5d9, 0x7703_bd8d, 0x494a_dcb8]
-        );
-        let mut words = StreamWords::new(KEY, 1);
-        assert_eq!(rt;
-            first(&mut words),
-            [0x02f1_a42f, 0x898e_8050, 0xe531_52a2, 0xe06e_df0f]
-        );
     }
 }

@@ -1,5 +1,5 @@
 -- Names of disks are told apart by `same_name`.
-use Rattle.std.proofs.Common.{◌≡◌, refl, ap, sym, ◌∙◌, Bool, true, false, arith}
+use Rattle.std.proofs.Common.{◌≡◌, refl, Bool, true, false, arith}
 use Rattle.std.proofs.lemmas.Bool.Decides.{nat_tests}
 use Rattle.disk_model.specs.DiskNames.{same_role, same_name}
 use Rattle.disk_model.specs.declared.name.DiskName.{DiskName}
@@ -38,10 +38,3 @@ not_same_name a b apart = go (same_name a b) refl
     go : (t : Bool) → same_name a b ≡ t → same_name a b ≡ false
     go true h = absurd (apart (same_name_is a b h))
     go false h = h
-
--- the disks of two roles have two names
-pub roles_apart : (a b : DiskName) → same_role a.role b.role ≡ false → a ≡ b → ⊥
-roles_apart a b differ same =
-    let one : same_role a.role b.role ≡ true = ap (λ n. same_role a.role n.role) (sym same) ∙ same_role_refl a.role in
-    let bad : true ≡ false = sym one ∙ differ in
-    cc

@@ -5,9 +5,9 @@ use Rattle.disk_model.specs.Disk.{Moves, Same, Torn, IsWritten}
 use Rattle.disk_model.specs.Mem.{Memory, mem_meaning, mem_reading}
 use Rattle.disk_model.specs.Record.{replay, IsImage, WasImage}
 use Rattle.disk_model.specs.RecordLaws.{replay_image}
-use Rattle.disk_model.specs.Ranges.{written_torn, written_holds, torn_same}
+use Rattle.disk_model.specs.Ranges.{written_torn, written_holds}
 use Rattle.disk_model.specs.declared.record.Entry.{Entry}
-use Rattle.disk_model.specs.declared.record.Entry.TheVariants.{Write, Missed, Sync}
+use Rattle.disk_model.specs.declared.record.Entry.TheVariants.{Write, Sync}
 
 module _ (old new : Memory) (e : Entry) (start : new.start ≡ old.start) (pushed : new.log ≡ e ∷ old.log) where
   pub reading_pushed : mem_reading new ≡ replay old.start (e ∷ old.log)
@@ -38,13 +38,6 @@ moves_written old new at bytes start pushed =
     moves_pushed old new (Write at bytes) start pushed (Torn at (length bytes))
     (subst (λ (l : List ℕ). Torn at (length bytes) (mem_reading old) l) (sym (reading_pushed old new (Write at bytes) start pushed))
     (written_torn old.start.room (mem_reading old) at bytes))
-    (λ c is. is)
-
--- a write that failed is kept
-pub moves_missed : (old new : Memory) (at : ℕ) (bytes : List ℕ) → new.start ≡ old.start → new.log ≡ Missed at bytes ∷ old.log → Moves mem_meaning (Torn at (length bytes)) old new
-moves_missed old new at bytes start pushed =
-    moves_pushed old new (Missed at bytes) start pushed (Torn at (length bytes))
-    (subst (λ (l : List ℕ). Torn at (length bytes) (mem_reading old) l) (sym (reading_pushed old new (Missed at bytes) start pushed)) (torn_same at (length bytes) (mem_reading old)))
     (λ c is. is)
 
 pub holds_written : (old new : Memory) (at : ℕ) (bytes : List ℕ) → new.start ≡ old.start → new.log ≡ Write at bytes ∷ old.log → at ≤ length (mem_reading old) → at + length bytes ≤ old.start.room

@@ -8,5 +8,6 @@ pub mod Ranges
 pub mod Record
 pub mod RecordLaws
 pub mod Shelf
+pub mod ShelfCalls
 pub mod Spare
 pub mod Written

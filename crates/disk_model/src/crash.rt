@@ -1,6 +1,5 @@
 // What a crash makes of a disk in memory.
 ghost use Rattle.std.specs.Prelude.{◌≡◌};
-ghost use Rattle.disk_model.specs.Contents.{Held};
 ghost use Rattle.disk_model.specs.Record.{replay, put_as, crashed};
 
 use crate::contents::Contents;

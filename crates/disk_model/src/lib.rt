@@ -23,6 +23,3 @@ pub use name::{DiskName, Role};
 pub use plain::PlainDisk;
 pub use record::Outcome;
 pub use shelf::{Shelf, ShelfFault};
-
-#[cfg(test)]
-mod tests;

@@ -1,4 +1,4 @@
-ghost use Rattle.std.specs.Prelude.{◌≡◌, ◌+◌, ◌-◌, ◌<◌, ◌≤◌, ◌↔◌, true, false, [], ◌∷◌, length, ⊤, take, drop, Contains, IsTrue, IfOk, IsOk, IsErr, OnOk, OnErr, is_ok, if◌then◌else◌};
+ghost use Rattle.std.specs.Prelude.{◌≡◌, ◌+◌, ◌-◌, ◌<◌, ◌≤◌, ◌↔◌, true, false, [], ◌∷◌, length, ⊤, take, drop, Contains, IsTrue, IfOk, IsOk, IsErr, OnOk, OnErr, is_ok};
 ghost use Rattle.pump_frame.specs.Counts.{raised};
 ghost use Rattle.disk_model.specs.Disk.{Moves, Same, Torn, IsWritten, Settled, KeepsImages, Answers, FailsPast};
 ghost use Rattle.disk_model.specs.Mem.{Memory, mem_meaning, mem_reading, takes, Called, Logs, LogsNothing};

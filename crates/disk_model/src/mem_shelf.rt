@@ -1,6 +1,7 @@
-ghost use Rattle.std.specs.Prelude.{◌≡◌, ℕ, ◌+◌, ◌≤◌, ◌<◌, ◌↔◌, ◌⊎◌, ◌++◌, ◌∷◌, [], take, drop, length, Contains, None, Some, Err, IfOk, OnOk, OnErr, IfSome, IsErr, IsTrue, find, position, option_copied, vec_capacity, vec_len};
+ghost use Rattle.std.specs.Prelude.{◌≡◌, ◌+◌, ◌≤◌, ◌↔◌, ◌⊎◌, ◌++◌, [], take, drop, length, Contains, None, Some, Err, IfOk, OnOk, OnErr, IfSome, IsTrue, find, position, option_copied, vec_capacity, vec_len};
 ghost use Rattle.pump_frame.specs.Counts.{raised};
-ghost use Rattle.disk_model.specs.Shelf.{Holdings, Out, OnShelf, IsOut, FailsBy, LeavesOthers, ReadsFile, reading_given, count_when_back};
+ghost use Rattle.disk_model.specs.Shelf.{Out, OnShelf, IsOut, FailsBy, LeavesOthers, ReadsFile, reading_given, count_when_back};
+ghost use Rattle.disk_model.specs.ShelfCalls.{ReadsWhole, TakesDisk};
 ghost use Rattle.disk_model.specs.declared.shelf.ShelfFault.TheVariants.{Failed, Memory};
 ghost use Rattle.disk_model.specs.MemShelf.{MemoryShelf, mem_holdings, has_name, under, without, without_first, file_of, home_of, with_call_made, with_disk_out, with_disk_home};
 
@@ -165,6 +166,46 @@ impl<D: Disk> MemShelf<D> {
         let (_, bytes) = self.files.iter().find(|file| file.0.as_str() == name)?;
         Some(bytes)
     }
+
+    // The work of `whole`, whose clauses all follow from how this call ends.
+    fn read(&mut self, name: &str, into: &mut [u8]) -> Result<u64, ShelfFault>
+        ensures { ReadsWhole name.now self.old self.new into.old into.new result }
+    {
+        if self.is_failing() {
+            self.faults = raised(self.faults);
+            return Err(ShelfFault::Failed);
+        }
+        match self.file(name) {
+            Some(bytes) => {
+                put_front(into, bytes);
+                Ok(bytes.len() as u64)
+            }
+            None => {
+                self.faults = raised(self.faults);
+                Err(ShelfFault::Failed)
+            }
+        }
+    }
+
+    // The work of `disk`, whose clauses all follow from how this call ends.
+    fn take(&mut self, name: DiskName) -> Result<D, ShelfFault>
+        ensures { TakesDisk D.told name self.old self.new result }
+    {
+        if self.is_failing() {
+            return Err(self.disk_fault());
+        }
+        let Some(disk) = self.home(name) else {
+            return Err(self.disk_fault());
+        };
+        let given = disk.faults();
+        if self.outs.push((name, given)).is_err() {
+            return Err(ShelfFault::Memory);
+        }
+        match take_first(&mut self.disks, name) {
+            Some(disk) => Ok(disk),
+            None => unreachable!(),
+        }
+    }
 }
 
 impl<D: Disk> Shelf for MemShelf<D> {
@@ -187,20 +228,7 @@ impl<D: Disk> Shelf for MemShelf<D> {
             { faults = raised self.old.faults }) }
         ensures stays { OnErr result (into.new ≡ into.old) }
     {
-        if self.is_failing() {
-            self.faults = raised(self.faults);
-            return Err(ShelfFault::Failed);
-        }
-        match self.file(name) {
-            Some(bytes) => {
-                put_front(into, bytes);
-                Ok(bytes.len() as u64)
-            }
-            None => {
-                self.faults = raised(self.faults);
-                Err(ShelfFault::Failed)
-            }
-        }
+        self.read(name, into)
     }
 
     fn disk(&mut self, name: DiskName) -> Result<D, ShelfFault>
@@ -223,20 +251,7 @@ impl<D: Disk> Shelf for MemShelf<D> {
             { disk_faults = raised self.old.disk_faults } }
         ensures memory { result ≡ Err Memory → self.new ≡ with_call_made self.old }
     {
-        if self.is_failing() {
-            return Err(self.disk_fault());
-        }
-        let Some(disk) = self.home(name) else {
-            return Err(self.disk_fault());
-        };
-        let given = disk.faults();
-        if self.outs.push((name, given)).is_err() {
-            return Err(ShelfFault::Memory);
-        }
-        match take_first(&mut self.disks, name) {
-            Some(disk) => Ok(disk),
-            None => unreachable!(),
-        }
+        self.take(name)
     }
 
     fn keep(&mut self, name: DiskName, disk: D)

@@ -230,6 +230,3 @@ pub fn exercise<O: Sink>(alloc: Global, seed: u32, count: u32, out: &mut O) -> E
         Err(_) => Ended::Write,
     }
 }
-
-#[cfg(test)]
-mod tests;

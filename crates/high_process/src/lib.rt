@@ -12,6 +12,3 @@ mod values;
 
 pub use process::HighProcess;
 pub use values::{HighAsk, HighFault, HighLook};
-
-#[cfg(test)]
-mod tests;

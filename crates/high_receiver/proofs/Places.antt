@@ -2,7 +2,7 @@
 use Rattle.std.proofs.Common.{◌≡◌, ℕ, zero, suc, ◌+◌, ◌<◌, ◌≤◌, List, [], ◌∷◌, length, slice_index_or, take, drop, sum_by, sym, subst, arith}
 use Rattle.std.proofs.Math.Seq.{drop-cons}
 use Rattle.std.proofs.lemmas.List.Sums.{sum_by-cons, sum_by_more}
-use Rattle.disk_model.specs.Disk.{Meaning, Moves, Same}
+use Rattle.disk_model.specs.Disk.{Meaning}
 use Rattle.stable_buffer.specs.Log.{RecvStands}
 use Rattle.stable_buffer.specs.Register.{IsReady}
 use Rattle.stable_buffer.proofs.Cells.{value-selects}
@@ -15,15 +15,6 @@ use Rattle.high_receiver.proofs.Walk.{first}
 -- record 0 stands at 80
 pub first_record : {D : Type 0} (m : Meaning D) (receiver : Receiver D) → IsRecvReady m receiver → IsRecordAt m receiver 0 80
 first_record m receiver ready = record { within = ready.from; place = λ told messages stands. omega arith }
-
--- a call that moves nothing leaves each record where it stood
-pub same_place : {D : Type 0} (m : Meaning D) (old new : Receiver D) (n at : ℕ) → new.row ≡ old.row → new.register.second ≡ old.register.second
-    → Moves m Same old.register.disk new.register.disk → IsRecordAt m old n at → IsRecordAt m new n at
-same_place m old new n at row end moves was = record {
-  within = omega (arith, end, was.within);
-  place = λ told messages stands. was.place told messages
-      (subst (λ r. RecvStands r messages (m.reading old.register.disk)) row (subst (λ d. RecvStands new.row messages d) (moves.reads told) stands));
-}
 
 -- the records behind the first n
 records_after : (most : ℕ) (messages : List (List ℕ)) (n at end : ℕ) (disk : List ℕ) → n ≤ length messages → RecordsFrom most messages at end disk

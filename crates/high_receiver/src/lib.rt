@@ -10,6 +10,3 @@ mod values;
 pub use log_reader::LogReader;
 pub use receiver::Receiver;
 pub use values::{TakeFault, Taken};
-
-#[cfg(test)]
-mod tests;

@@ -1,4 +1,4 @@
-ghost use Rattle.std.specs.Prelude.{◌≡◌, ◌+◌, ◌≤◌, ◌<◌, ◌^◌, ℕ, List, None, true, false, ⊤, [], length, slice_index_or, IfSome, OnOk, OnErr, IfErr};
+ghost use Rattle.std.specs.Prelude.{◌≡◌, ◌+◌, ◌≤◌, ◌<◌, ◌^◌, ℕ, List, None, false, ⊤, [], length, slice_index_or, IfSome, OnOk, OnErr, IfErr};
 ghost use Rattle.disk_model.specs.Disk.{Moves, Same, Answers};
 ghost use Rattle.pump_frame.specs.Counts.{Rose};
 ghost use Rattle.stable_buffer.specs.Log.{RecvStands};

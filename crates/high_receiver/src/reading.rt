@@ -1,5 +1,5 @@
 // How the records of a receiver's disk are read.
-ghost use Rattle.std.specs.Prelude.{◌≡◌, ◌≤◌, ◌<◌, ◌+◌, ◌^◌, ℕ, List, [], ◌∷◌, true, false, length, take, drop, slice_index_or, IsOk, IsErr, IfOk, OnOk, OnErr, IfErr};
+ghost use Rattle.std.specs.Prelude.{◌≡◌, ◌≤◌, ◌+◌, ℕ, List, [], ◌∷◌, false, length, drop, slice_index_or, IfOk, OnOk, OnErr, IfErr};
 ghost use Rattle.pump_frame.specs.Counts.{Rose};
 ghost use Rattle.disk_model.specs.Disk.{Moves, Same, Answers};
 ghost use Rattle.stable_buffer.specs.Register.{IsReady, register_disk, register_value};

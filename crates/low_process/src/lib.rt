@@ -13,6 +13,3 @@ mod values;
 
 pub use process::LowProcess;
 pub use values::{Answer, Arrival, Ask, AskHead, LookHead, LowLook};
-
-#[cfg(test)]
-mod tests;

@@ -1,7 +1,7 @@
 //! The moving average of High's acknowledgement times.
 #![tactic(auto)]
 
-ghost use Rattle.std.specs.Prelude.{◌≡◌, ℕ, ◌+◌, ◌-◌, ◌*◌, ◌^◌, ◌<◌, ◌≤◌, List, [], ◌∷◌, ◌++◌, length, min, IfOk};
+ghost use Rattle.std.specs.Prelude.{◌≡◌, ℕ, ◌+◌, ◌-◌, ◌^◌, ◌<◌, ◌≤◌, List, [], ◌∷◌, ◌++◌, length, min, IfOk};
 ghost use Rattle.std.specs.List.{All};
 
 mod levels;
@@ -140,48 +140,5 @@ impl Window {
         self.ring.clear();
         self.sum = 0;
         self.count = 0;
-    }
-}
-
-#[cfg(test)]
-mod tests {
-    use super::*;
-
-    #[test]
-    fn averages_the_last_two_times(rt: HostRuntime) -> Result<(), OutOfMemory> {
-        let mut window = Window::new(rt.alloc(), 2, 20000)?;
-        assert_eq!(rt; window.average(), 20000);
-        window.push(100);
-        assert_eq!(rt; window.average(), 100);
-        window.push(300);
-        assert_eq!(rt; window.average(), 200);
-        window.push(500);
-        assert_eq!(rt; window.average(), 400);
-        assert_eq!(rt; window.count(), 3);
-        window.clear();
-        assert_eq!(rt; window.average(), 20000);
-        window.make_coarse();
-        assert_eq!(rt; window.average(), 32768);
-        window.push(100);
-        assert_eq!(rt; window.average(), 128);
-        window.clear();
-        assert_eq!(rt; window.average(), 32768);
-        assert_eq!(rt; window.count(), 0);
-        Ok(())
-    }
-
-    #[test]
-    fn levels_are_powers_of_two_and_the_greatest_average(rt: HostRuntime) {
-        for (average, found) in [
-            (0, 1),
-            (1, 1),
-            (3, 4),
-            (4, 4),
-            (536_870_912, 536_870_912),
-            (536_870_913, 1_000_000_000),
-            (1_000_000_000, 1_000_000_000),
-        ] {
-            assert_eq!(rt; level(average), found);
-        }
     }
 }

@@ -1,26 +1,14 @@
 //! A verified one-way relay from a low party to a high party.
 #![tactic(auto)]
 
-mod batch;
-#[cfg(test)]
-mod command_tests;
 mod explain;
-mod live;
-mod receive;
-mod send;
-mod serve;
-#[cfg(test)]
-mod session_tests;
-#[cfg(test)]
-mod unwrap_tests;
 
 use adapters::{
     FileShelf, KeySource, RealClock, ShownSource, StdSink, StdSource, TcpPorts, Traffic, now,
 };
-use batch::batch;
 use disk_model::Shelf;
+use dispatch::{batch, live};
 use explain::{Trouble, explain};
-use live::live;
 use pump_link::{Clock, Sink, Source, StepClock};
 use std::alloc::Global;
 use std::env;

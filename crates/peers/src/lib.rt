@@ -13,6 +13,3 @@ mod send;
 pub use laws::{receptions_are_one, sendings_are_one};
 pub use receive::{ReceiveEnd, receive_with};
 pub use send::{SendEnd, send_with};
-
-#[cfg(test)]
-mod tests;

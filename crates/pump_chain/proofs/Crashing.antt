@@ -23,7 +23,7 @@ use Rattle.two_worlds.specs.declared.applied.Stop.TheVariants.{Line, Device, Ful
 use Rattle.two_worlds.specs.declared.pump.Pump.{Pump}
 use Rattle.two_worlds.specs.declared.pump.state.PumpState.{PumpState}
 use Rattle.two_worlds.specs.declared.pump.state.PumpState.TheVariants.{Open, Shut}
-use Rattle.two_worlds.specs.Disks.{LowFits, RecvFits, DisksFit}
+use Rattle.world_laws.specs.Disks.{LowFits, RecvFits, DisksFit}
 use Rattle.two_worlds.specs.Doing.{LeavesFit}
 use Rattle.two_worlds.specs.Pumps.{StandsFor, FailsAt, disks_of, row_of, disk_at, Applies}
 use Rattle.two_worlds.specs.Reads.{ReadsAlone}

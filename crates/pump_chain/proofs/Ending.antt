@@ -16,7 +16,7 @@ use Rattle.script_reader.specs.Openings.{Found, accepted_in}
 use Rattle.stable_buffer.specs.Stands.{low_size}
 use Rattle.two_worlds.specs.declared.not_open.NotOpen.{NotOpen}
 use Rattle.two_worlds.specs.declared.pump.Pump.{Pump}
-use Rattle.two_worlds.specs.Disks.{CrashesOpen}
+use Rattle.world_laws.specs.Disks.{CrashesOpen}
 use Rattle.two_worlds.specs.Openings.{ComeBack}
 use Rattle.two_worlds.specs.Pumps.{disk_at, row_of}
 use Rattle.two_worlds.specs.Reads.{ReadsAlone, ReadsOn, FailsReading}

@@ -10,7 +10,7 @@ use Rattle.recovery.specs.declared.why.Why.{Why}
 use Rattle.recovery.specs.declared.why.Why.TheVariants.{Device}
 use Rattle.script_reader.specs.Openings.{Found, accepted_in, first_past}
 use Rattle.two_worlds.specs.declared.pump.Pump.{Pump}
-use Rattle.two_worlds.specs.Disks.{CrashesOpen}
+use Rattle.world_laws.specs.Disks.{CrashesOpen}
 use Rattle.two_worlds.specs.Openings.{DisksStandFor, LeavesDisk, ComeBack}
 use Rattle.two_worlds.specs.Pumps.{disk_at}
 use Rattle.two_worlds.specs.Rooms.{HasRoom, is_role}

@@ -1,6 +1,6 @@
 -- Lemmas for the code of a step.
-use Rattle.std.proofs.Common.{◌≡◌, ℕ, ◌≤◌, true, false, refl, Some, length}
-use Rattle.std.proofs.lemmas.Bool.{cond-false, le-ltb, eq-eqb, ne_eqb}
+use Rattle.std.proofs.Common.{◌≡◌, ℕ, ◌≤◌, true, refl, Some, length}
+use Rattle.std.proofs.lemmas.Bool.{cond-false, le-ltb, eq-eqb}
 use Rattle.std.specs.Prelude.{nat_lt}
 use Rattle.pump_frame.specs.declared.frame.Item.{Item}
 use Rattle.pump_core.specs.World.{World}
@@ -14,10 +14,3 @@ carried_here w d le =
 pub answered_due : (w : World) (n : ℕ) → n ≡ w.removed → holds w.high_hand n ≡ true
     → answered w n ≡ record w { due = true }
 answered_due w n same held = rw (eq-eqb n w.removed same, held) refl
-
-pub answered_elsewhere : (w : World) (n : ℕ) → (n ≡ w.removed → ⊥) → answered w n ≡ w
-answered_elsewhere w n apart = rw (ne_eqb n w.removed apart) refl
-
-pub answered_idle : (w : World) (n : ℕ) → n ≡ w.removed → holds w.high_hand n ≡ false
-    → answered w n ≡ w
-answered_idle w n same held = rw (eq-eqb n w.removed same, held) refl

@@ -57,7 +57,3 @@ pub record SendingPart (resend : ℕ) (attaches : Bool) (p : HighPast) (m : ℕ)
   pub sent : IsSent is_sent taken q.world
   pub times : q.times ≡ p.times
   pub sends : q.sends ≡ (if is_sent then sending_of m taken.high_hand ++ p.sends else p.sends)
-
--- a whole look at m; `back` is the place of the TAKEN that comes back
-abbrev pub WholeLook : ℕ → Bool → HighPast → ℕ → Option ℕ → HighPast → Type 0
-WholeLook resend attaches p m back q = (mid : HighPast) × RemovalPart p m back mid × SendingPart resend attaches mid m q

@@ -17,6 +17,3 @@ pub use histories::{
 };
 pub use reply::{Refusal, Reply};
 pub use world::World;
-
-#[cfg(test)]
-mod tests;

@@ -1,6 +1,6 @@
 //! A world that steps.
 
-ghost use Rattle.std.specs.Prelude.{◌≡◌, ◌≤◌, length, slice_get, IfOk, OnOk, OnErr, Some};
+ghost use Rattle.std.specs.Prelude.{◌≡◌, ◌≤◌, slice_get, IfOk, OnOk, OnErr, Some};
 ghost use Rattle.pump_core.specs.Events.{holds};
 
 use crate::event::Event;

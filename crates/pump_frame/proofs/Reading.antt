@@ -207,7 +207,7 @@ seven_bytes k (b ∷ w) r =
                 (b, 0, 0, 0, 0, 0, 0, s.0, ap (λ (x : List ℕ). b ∷ x) s.1, Zero (eqb-true b 0 t) (refl, refl, refl, refl, refl, refl), s.2))
             | inr z ↦ (
                 let s = six_bytes k w (rw z at e) in
-                (b, s.0, s.1, s.2, s.3, s.4, s.5, s.6, ap (λ (x : List ℕ). b ∷ x) s.7, Below (eqb-true b 0 t) z, s.8))
+                (b, s.0, s.1, s.2, s.3, s.4, s.5, s.6, ap (λ (x : List ℕ). b ∷ x) {y = s.0 ∷ s.1 ∷ s.2 ∷ s.3 ∷ s.4 ∷ s.5 ∷ s.6} s.7, Below (eqb-true b 0 t) z, s.8))
           ])
       | inr t ↦ (
           let e : option_and_then (λ next. run w next) (goes (b == 1 && is_up_to k) (NumberRest k 6 true)) ≡ Some End = rw t at r in
@@ -413,6 +413,11 @@ module _ (k : Kind) (s0 s1 s2 s3 b c d e g h i l0 l1 : ℕ) (p : List ℕ) where
   unfolding whole
   whole_parts w r s t u m n o q = m ∙ ap (λ (x : List ℕ). 78 ∷ 80 ∷ 1 ∷ kind_byte k ∷ x) (n ∙ ap (λ (x : List ℕ). s0 ∷ s1 ∷ s2 ∷ s3 ∷ x) (o ∙ ap (λ (x : List ℕ). 0 ∷ b ∷ c ∷ d ∷ e ∷ g ∷ h ∷ i ∷ x) q))
 
+  read_whole : (w : List ℕ) → w ≡ whole → AreBytes w → NumberForm k b c d e g h i → IsPayload k p → l0 * 256 + l1 ≡ length p → IsWhole w
+  read_whole w is bytes form payload size =
+      let P : List ℕ → Type 0 = λ x. AreBytes x → IsWhole x in
+      subst P (sym is) (λ all. reads_whole all form payload size) bytes
+
 pub read_frame : (w : List ℕ) → AreBytes w → run w FirstMark ≡ Some End → IsWhole w
 read_frame w bytes r =
     let (k, after_kind, e0, r0) = read_mark w r in
@@ -420,5 +425,4 @@ read_frame w bytes r =
     let (b, c, d, e, g, h, i, after_number, e2, form, r2) = eight_bytes k after_session r1 in
     let (l0, l1, p, e3, payload, size) = read_length k after_number r2 in
     let is = whole_parts k s0 s1 s2 s3 b c d e g h i l0 l1 p w after_kind after_session after_number [] e0 e1 e2 e3 in
-    let P : List ℕ → Type 0 = λ x. AreBytes x → IsWhole x in
-    subst P (sym is) (λ all. reads_whole k s0 s1 s2 s3 b c d e g h i l0 l1 p all form payload size) bytes
+    read_whole k s0 s1 s2 s3 b c d e g h i l0 l1 p w is bytes form payload size

@@ -26,6 +26,3 @@ pub use payload::Payload;
 pub use reader::{Fed, Reader};
 pub use row::{GREATEST_CAPACITY, LEAST_CAPACITY, RowKey, SessionRow};
 pub use spelling::encode;
-
-#[cfg(test)]
-mod tests;

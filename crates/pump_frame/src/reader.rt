@@ -2,7 +2,7 @@ ghost use Rattle.std.specs.Prelude.{◌≡◌, ◌↔◌, [], IsTrue};
 ghost use Rattle.pump_frame.specs.Frames.{IsLawful};
 ghost use Rattle.pump_frame.specs.Spellings.{spelling};
 ghost use Rattle.pump_frame.specs.Places.{IsWhole};
-ghost use Rattle.pump_frame.specs.Readings.{Reading, Within, Stopped, HasBegun, is_stopped};
+ghost use Rattle.pump_frame.specs.Readings.{Reading, Within, HasBegun, is_stopped};
 ghost use Rattle.pump_frame.specs.Streams.{Feeds};
 
 use crate::frame::Frame;

@@ -28,9 +28,6 @@ Draws-then p q r xs ys f g = record { told = λ rest t. subst p (sym (append_ass
 pub Draws-kept : {A : Type 0} (p q r : List A → Type 0) (xs : List A) → Draws p q xs → Draws q r [] → Draws p r xs
 Draws-kept p q r xs f g = subst (Draws p r) (append-nil xs) (Draws-then p q r xs [] f g)
 
-pub Draws-after : {A : Type 0} (p q r : List A → Type 0) (xs : List A) → Draws p q [] → Draws q r xs → Draws p r xs
-Draws-after p q r xs f g = Draws-then p q r [] xs f g
-
 -- what was drawn from is told to give this, where the rest is told to give nothing, as it always is
 pub Draws-all : {A : Type 0} (p q : List A → Type 0) (xs : List A) → q [] → Draws p q xs → p xs
 Draws-all p q xs none f = subst p (append-nil xs) (f.told [] none)

@@ -1,7 +1,7 @@
 -- Laws of bytes that are known to be written.
-use Rattle.std.proofs.Common.{◌≡◌, ℕ, ◌+◌, ◌≤◌, List, [], ◌++◌, Option, Some, None, length, take, drop, sym, ap, ◌∙◌, append_assoc, append-nil, arith}
+use Rattle.std.proofs.Common.{◌≡◌, ℕ, ◌+◌, ◌≤◌, List, [], ◌++◌, Option, Some, None, length, take, drop, sym, ap, ◌∙◌, append_assoc, append-nil}
 use Rattle.std.proofs.lemmas.List.{drop-drop, take-append-drop, take_at, length-take-le}
-use Rattle.std.proofs.Math.Seq.{take-add, take-length}
+use Rattle.std.proofs.Math.Seq.{take-add}
 use Rattle.std.specs.Io.KnownBytes.{Appends, Keeps}
 use Rattle.pump_link.specs.Causes.{AppendsFront}
 
@@ -26,11 +26,6 @@ AppendsFront-stops a b c bs at p q = (take at bs, drop at bs, sym (take-append-d
 
 pub Appends-piece : (a b c : Option (List ℕ)) (bs : List ℕ) (at n : ℕ) → Appends a b (take at bs) → Appends b c (take n (drop at bs)) → Appends a c (take (at + n) bs)
 Appends-piece a b c bs at n p q = rw (take-add at n bs) (Appends-then a b c _ _ p q)
-
-pub Appends-all : (a b : Option (List ℕ)) (bs : List ℕ) (at : ℕ) → at ≤ length bs → length bs ≤ at → Appends a b (take at bs) → Appends a b bs
-Appends-all a b bs at low high p =
-    let e : at ≡ length bs = omega arith in
-    rw (e, take-length bs) at p
 
 -- what a read of n bytes copied, and what is left after it, are what was left
 pub front_and_rest : (n at : ℕ) (bytes into copied : List ℕ) → n ≤ length (drop at bytes) → copied ≡ take n (drop at bytes) → drop at bytes ≡ take n (copied ++ drop n into) ++ drop (at + n) bytes

@@ -46,20 +46,3 @@ impl Words for ListWords {
         }
     }
 }
-
-#[cfg(test)]
-mod tests {
-    use super::*;
-    use std::alloc::AllocError;
-
-    fn three<W: Words>(words: &mut W) -> [u32; 3] {
-        [words.word(), words.word(), words.word()]
-    }
-
-    #[test]
-    fn words_in_order_then_zero(rt: HostRuntime) -> Result<(), AllocError> {
-        let mut words = ListWords::new(vec![in rt.alloc(); 7, 9]?);
-        assert_eq!(rt; three(&mut words), [7, 9, 0]);
-        Ok(())
-    }
-}

@@ -1,4 +1,4 @@
-ghost use Rattle.std.specs.Prelude.{◌≡◌, ◌≢◌, ℕ, List, [], ◌∷◌, None, Some};
+ghost use Rattle.std.specs.Prelude.{◌≡◌, ◌≢◌, ℕ, [], ◌∷◌, None, Some};
 ghost use Rattle.pump_link.specs.Doors.{MemoryDoor, BackLink, ComesFrom, DidSteps, accepted, answered};
 ghost use Rattle.pump_link.specs.Running.{MemoryLink};
 ghost use Rattle.pump_link.specs.Tells.{Draws, Grows};

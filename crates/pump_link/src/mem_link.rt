@@ -1,4 +1,4 @@
-ghost use Rattle.std.specs.Prelude.{◌≡◌, ℕ, ◌-◌, ◌≤◌, ◌<◌, ◌↔◌, ◌⊎◌, min, List, [], ◌∷◌, ◌++◌, length, take, drop, Contains, IsErr, IsTrue, OnOk, OnErr};
+ghost use Rattle.std.specs.Prelude.{◌≡◌, ◌-◌, ◌≤◌, ◌<◌, ◌↔◌, ◌⊎◌, [], ◌∷◌, length, take, drop, Contains, IsErr, IsTrue, OnOk, OnErr};
 ghost use Rattle.pump_frame.specs.Counts.{Rose};
 ghost use Rattle.pump_link.specs.Causes.{HasCause};
 ghost use Rattle.pump_link.specs.Running.{MemoryLink, LooksFrom, first_look, after_look, with_sent, after_send, FailsToSend};
@@ -113,40 +113,5 @@ impl Link for MemLink {
 
     fn faults(&self) -> u64 {
         self.faults
-    }
-}
-
-#[cfg(test)]
-mod tests {
-    use super::*;
-    use std::alloc::AllocError;
-
-    fn looks<L: Link>(link: &mut L) -> [Looked; 4] {
-        [link.look(), link.look(), link.look(), link.look()]
-    }
-
-    fn sends<L: Link>(link: &mut L) -> [Result<(), SendFault>; 3] {
-        [link.send(b"ab"), link.send(b"c"), link.send(b"cd")]
-    }
-
-    #[test]
-    fn looks_and_sends(rt: HostRuntime) -> Result<(), AllocError> {
-        let alloc = rt.alloc();
-        let arrivals = vec![in alloc; Looked::NotYet, Looked::Byte(65), Looked::Failed]?;
-        let mut link = MemLink::new(arrivals, vec![in alloc; 0; 3]?, vec![in alloc; 1]?);
-        let looks = looks(&mut link);
-        assert_eq!(rt;
-            looks,
-            [
-                Looked::NotYet,
-                Looked::Byte(65),
-                Looked::Failed,
-                Looked::Ended
-            ]
-        );
-        let sends = sends(&mut link);
-        assert_eq!(rt; sends, [Ok(()), Err(SendFault), Err(SendFault)]);
-        assert_eq!(rt; (link.sent(), link.faults()), (b"abc".as_slice(), 3));
-        Ok(())
     }
 }

@@ -1,8 +1,7 @@
-ghost use Rattle.std.specs.Prelude.{◌≡◌, ℕ, ◌-◌, ◌≤◌, ◌↔◌, ◌⊎◌, List, [], ◌∷◌, take, drop, length, Contains, None, Some, IsErr, IfOk, OnOk, OnErr, IsTrue, if◌then◌else◌, vec_capacity, vec_len};
-ghost use Rattle.pump_frame.specs.Counts.{raised};
+ghost use Rattle.std.specs.Prelude.{◌≡◌, ◌-◌, ◌≤◌, ◌↔◌, ◌⊎◌, [], ◌∷◌, take, drop, length, Contains, None, Some, IsErr, IfOk, OnOk, OnErr, IsTrue, if◌then◌else◌, vec_capacity, vec_len};
 ghost use Rattle.pump_link.specs.Causes.{HasCause};
-ghost use Rattle.pump_link.specs.Doors.{MemoryDoor, DidSteps};
-ghost use Rattle.pump_link.specs.Ports.{PortsStep, MemoryPorts, BackToPorts, ShutDoor, listened, connected, first_of, keep, with_next_out, with_back, with_call, with_fault, GivesPorts, DidPorts};
+ghost use Rattle.pump_link.specs.Doors.{DidSteps};
+ghost use Rattle.pump_link.specs.Ports.{MemoryPorts, BackToPorts, ShutDoor, listened, connected, first_of, with_next_out, with_back, with_call, with_fault, GivesPorts, DidPorts};
 ghost use Rattle.pump_link.specs.Running.{MemoryLink};
 ghost use Rattle.pump_link.specs.Tells.{Draws, Grows};
 
@@ -181,58 +180,5 @@ impl Ports for MemPorts {
 
     fn faults(&self) -> u64 {
         self.faults
-    }
-}
-
-#[cfg(test)]
-mod tests {
-    use super::*;
-    use crate::door::{Accepted, Door};
-    use crate::link::{Link, Looked};
-    use std::alloc::{AllocError, Global};
-
-    fn link_of(alloc: Global, byte: u8) -> Result<MemLink, AllocError> {
-        let arrivals = vec![in alloc; Looked::Byte(byte)]?;
-        Ok(MemLink::new(arrivals, Vec::new(alloc), Vec::new(alloc)))
-    }
-
-    // Takes the door's link, looks at it, and gives it back.
-    fn greet<D: Door>(door: &mut D) -> Looked {
-        match door.accept() {
-            Accepted::Came(mut link) => {
-                let look = link.look();
-                door.back(link);
-                look
-            }
-            Accepted::NotYet => Looked::NotYet,
-            Accepted::Failed => Looked::Failed,
-        }
-    }
-
-    fn serve<P: Ports>(ports: &mut P, port: u16) -> Option<[Looked; 2]> {
-        let mut door = ports.listen(port).ok()?;
-        let looks = [greet(&mut door), greet(&mut door)];
-        ports.shut(door);
-        Some(looks)
-    }
-
-    fn call<P: Ports>(ports: &mut P, port: u16) -> Option<Looked> {
-        let mut link = ports.connect(port).ok()?;
-        let look = link.look();
-        ports.back(link);
-        Some(look)
-    }
-
-    #[test]
-    fn links_come_and_go(rt: HostRuntime) -> Result<(), AllocError> {
-        let alloc = rt.alloc();
-        let links = vec![in alloc; link_of(alloc, 1)?, link_of(alloc, 2)?]?;
-        let mut ports = MemPorts::new(links, vec![in alloc; 1]?);
-        let served = [serve(&mut ports, 9), serve(&mut ports, 9)];
-        assert_eq!(rt; served, [Some([Looked::Byte(1), Looked::NotYet]), None]);
-        let called = [call(&mut ports, 9), call(&mut ports, 9)];
-        assert_eq!(rt; called, [Some(Looked::Byte(2)), None]);
-        assert_eq!(rt; (ports.given_back().len(), ports.faults()), (2, 2));
-        Ok(())
     }
 }

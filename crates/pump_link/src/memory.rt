@@ -1,4 +1,4 @@
-ghost use Rattle.std.specs.Prelude.{◌≡◌, ℕ, ◌+◌, ◌-◌, ◌^◌, ◌<◌, ◌≤◌, ◌↔◌, ◌⊎◌, List, [], ◌++◌, length, take, drop, min, Contains, Some, IfOk, OnErr, OnOk, IsErr};
+ghost use Rattle.std.specs.Prelude.{◌≡◌, ◌-◌, ◌<◌, ◌≤◌, ◌↔◌, ◌⊎◌, [], ◌++◌, length, take, drop, min, Contains, Some, IfOk, OnErr, IsErr};
 ghost use Rattle.std.specs.Io.{ReadsAtMost};
 ghost use Rattle.std.specs.Io.KnownBytes.{ReadConsumes, WriteAppends};
 ghost use Rattle.pump_frame.specs.Counts.{raised};
@@ -157,40 +157,5 @@ impl Sink for MemSink {
 
     fn faults(&self) -> u64 {
         self.faults
-    }
-}
-
-#[cfg(test)]
-mod tests {
-    use super::*;
-    use crate::stream::write_all;
-    use std::alloc::AllocError;
-
-    fn take<S: Source>(source: &mut S) -> (Result<usize, ReadFault>, [u8; 4]) {
-        let mut into = [0; 4];
-        (source.read(&mut into), into)
-    }
-
-    fn put<S: Sink>(sink: &mut S) -> Result<(), WriteFault> {
-        write_all(sink, b"pump")
-    }
-
-    #[test]
-    fn pieces_and_faults(rt: HostRuntime) -> Result<(), AllocError> {
-        let alloc = rt.alloc();
-        let mut source = MemSource::new(vec![in alloc; 7, 8, 9]?, 2, vec![in alloc; 1]?);
-        let taken = [take(&mut source), take(&mut source), take(&mut source)];
-        assert_eq!(rt;
-            taken,
-            [
-                (Ok(2), [7, 8, 0, 0]),
-                (Err(ReadFault), [0; 4]),
-                (Ok(1), [9, 0, 0, 0])
-            ]
-        );
-        let mut sink = MemSink::new(vec![in alloc; 0; 8]?, 3, vec![in alloc; 3]?);
-        assert_eq!(rt; [put(&mut sink), put(&mut sink)], [Ok(()), Err(WriteFault)]);
-        assert_eq!(rt; (sink.written(), sink.faults()), (b"pumppum".as_slice(), 1));
-        Ok(())
     }
 }

@@ -1,4 +1,4 @@
-ghost use Rattle.std.specs.Prelude.{◌≡◌, ℕ, ◌+◌, ◌≤◌, ◌^◌, min, List, [], ◌∷◌};
+ghost use Rattle.std.specs.Prelude.{◌≡◌, ◌+◌, ◌≤◌, ◌^◌, min, [], ◌∷◌};
 ghost use Rattle.pump_frame.specs.Counts.{raised};
 ghost use Rattle.pump_link.specs.Running.{MemoryClock, StepsFrom};
 ghost use Rattle.pump_link.specs.Tells.{Draws};
@@ -63,23 +63,5 @@ impl Clock for StepClock {
 
     fn readings(&self) -> u64 {
         self.readings
-    }
-}
-
-#[cfg(test)]
-mod tests {
-    use super::*;
-
-    fn three<C: Clock>(clock: &mut C) -> [u64; 3] {
-        [clock.moment(), clock.moment(), clock.moment()]
-    }
-
-    #[test]
-    fn readings_rise_in_steps(rt: HostRuntime) {
-        let mut clock = StepClock::new(5, 1000);
-        assert_eq!(rt; three(&mut clock), [5, 1005, 2005]);
-        assert_eq!(rt; clock.readings(), 3);
-        let mut late = StepClock::new((1 << 62) - 1, 3);
-        assert_eq!(rt; three(&mut late), [(1 << 62) - 1, 1 << 62, 1 << 62]);
     }
 }

@@ -1,3 +1,5 @@
+//! The lines that a generator makes from a number.
+
 use arrayvec::ArrayVec;
 use script_reader::{Generator, print_line};
 

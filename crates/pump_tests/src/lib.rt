@@ -6,6 +6,8 @@
 #[cfg(test)]
 mod generator_tests;
 #[cfg(test)]
+mod held;
+#[cfg(test)]
 mod line_tests;
 #[cfg(test)]
 mod low_pump_tests;

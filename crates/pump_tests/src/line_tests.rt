@@ -1,3 +1,5 @@
+//! The lines of a script and of a transcript: which are read, and how each is spelled.
+
 use arrayvec::ArrayVec;
 use disk_model::Role;
 use pump_core::{Refusal, Reply, Seen};

@@ -1,3 +1,5 @@
+//! The low side of a session alone: what it prints, and where it stops.
+
 ghost use Rattle.std.specs.Prelude.{◌≡◌, false, IfOk};
 ghost use Rattle.two_worlds.specs.LowPumps.{low_is_down};
 
@@ -38,14 +40,10 @@ fn print_all(events: &[Event], printed: &mut Vec<u8>) -> Result<(), AllocError> 
     Ok(())
 }
 
-// What the lines after the first print, and why they stop.
-fn run(
-    alloc: Global,
-    first: &str,
-    lines: &[&str],
-    printed: &mut Vec<u8>,
-) -> Result<Option<Stop>, Fail> {
-    let mut pump = begin(alloc, first)?;
+// Adds what the lines print, until one stops.
+fn play(pump: &mut LowPump, lines: &[&str], printed: &mut Vec<u8>) -> Result<Option<Stop>, Fail>
+    requires { low_is_down pump.old ≡ false }
+{
     for text in lines {
         let Some(line) = read_line(text.as_bytes()) else {
             return Err(Fail::new("no line"));
@@ -60,13 +58,30 @@ fn run(
             return Ok(applied.stop);
         }
     }
-    let end = Event::End {
-        session: 1,
-        accepted: pump.next(),
-        high: None,
-    };
-    print_all(&[end], printed)?;
     Ok(None)
+}
+
+// What the lines after the first print, and why they stop.
+fn run(
+    alloc: Global,
+    first: &str,
+    lines: &[&str],
+    printed: &mut Vec<u8>,
+) -> Result<Option<Stop>, Fail> {
+    let mut pump = begin(alloc, first)?;
+    let played = play(&mut pump, lines, printed);
+    let accepted = pump.next();
+    drop(pump);
+    let stop = played?;
+    if stop.is_none() {
+        let end = Event::End {
+            session: 1,
+            accepted,
+            high: None,
+        };
+        print_all(&[end], printed)?;
+    }
+    Ok(stop)
 }
 
 // Whether the lines after the first print this, and stop so.

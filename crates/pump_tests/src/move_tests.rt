@@ -1,6 +1,9 @@
+//! The moving of a session to new disks: what is refused, what is moved, and what a crash leaves.
+
 ghost use Rattle.std.specs.Prelude.{◌≡◌, IfOk};
 ghost use Rattle.pump_frame.specs.Rows.{IsLawfulRow};
 
+use crate::held::Held;
 use crate::opening_tests::{front, high, low, receiver, row};
 use disk_model::{Disk, MemDisk, Outcome, PlainDisk, Role};
 use passage::PlainEnds;
@@ -28,12 +31,23 @@ fn row_of(capacity: u32, message: u32) -> Result<SessionRow, Fail>
     Ok(row)
 }
 
-fn plain(alloc: Global, bytes: &[u8]) -> Result<PlainDisk, Fail> {
-    let mut disk = PlainDisk::new(alloc, 256)?;
-    match disk.write_at(0, bytes) {
+fn plain(alloc: Global, bytes: &[u8]) -> Result<Held<PlainDisk>, Fail> {
+    let mut disk = Held(PlainDisk::new(alloc, 256)?);
+    match disk.0.write_at(0, bytes) {
         Ok(()) => Ok(disk),
         Err(_) => Err(Fail::new("no room")),
     }
+}
+
+fn plain_disks(alloc: Global, bytes: (&[u8], &[u8], &[u8])) -> Result<Held<Trio<PlainDisk>>, Fail> {
+    let low = plain(alloc, bytes.0)?;
+    let high = plain(alloc, bytes.1)?;
+    let recv = plain(alloc, bytes.2)?;
+    Ok(Held(Trio {
+        low: low.taken(),
+        high: high.taken(),
+        recv: recv.taken(),
+    }))
 }
 
 // How a move ends from a row of a capacity, whose disks have these bytes, where the receiver's new
@@ -48,18 +62,31 @@ fn moved(
     requires { IsLawfulRow to.now }
 {
     let from = row_of(capacity, 8)?;
-    let old = Trio {
-        low: plain(alloc, old.0)?,
-        high: plain(alloc, old.1)?,
-        recv: plain(alloc, old.2)?,
-    };
+    let old = plain_disks(alloc, old)?;
     let bytes = [0; 4];
-    let new = Trio {
-        low: plain(alloc, &[])?,
-        high: plain(alloc, &[])?,
-        recv: plain(alloc, &bytes[..full.min(4)])?,
-    };
-    Ok(migrate(&from, to, old, new, 128))
+    let new = plain_disks(alloc, (&[], &[], &bytes[..full.min(4)]))?;
+    Ok(migrate(&from, to, old.taken(), new.taken(), 128))
+}
+
+// Whether a move ends so.
+fn ends_so(
+    alloc: Global,
+    capacity: u32,
+    old: (&[u8], &[u8], &[u8]),
+    to: &SessionRow,
+    full: usize,
+    end: &Result<(u64, u64, u64), MoveFault>,
+) -> Result<bool, Fail>
+    requires { IsLawfulRow to.now }
+{
+    match moved(alloc, capacity, old, to, full) {
+        Ok(done) => {
+            let is_so = done.end == *end;
+            drop(done);
+            Ok(is_so)
+        }
+        Err(fail) => Err(fail),
+    }
 }
 
 // Low's disk of a row of capacity 4, with four messages.
@@ -159,72 +186,109 @@ fn a_move_is_refused_in_order(rt: HostRuntime) -> Result<(), Fail> {
         if to.first_bad().is_some() {
             return Err(Fail::new("no lawful row"));
         }
-        assert_eq!(rt; moved(alloc, *capacity, *old, to, *size)?.end, *end);
+        assert!(rt; ends_so(alloc, *capacity, *old, to, *size, end)?);
     }
     Ok(())
+}
+
+// What is dealt out of the new disks: how many messages are accepted and removed, and the number and
+// the length of the one in the high hand.
+fn dealt_after_move(alloc: Global) -> Result<((u64, u64), Option<(u64, u32)>), Fail> {
+    let to = row_of(4, 3)?;
+    let mut ends = PlainEnds::new(alloc, &to)?;
+    let done = match moved(alloc, 3, (&low(3), &high(1), &receiver()), &to, 0) {
+        Ok(done) => done,
+        Err(fail) => return Err(fail),
+    };
+    let Migrated { old, new, .. } = done;
+    drop(old);
+    let Trio { low, high, recv } = new;
+    drop(recv);
+    match open_pump(low, high, &to, &mut ends) {
+        Ok(opened) => {
+            let counts = (opened.next, opened.removed);
+            let first = opened
+                .high_hand
+                .map(|item| (item.number, item.payload.len()));
+            drop(opened);
+            Ok((counts, first))
+        }
+        Err(refused) => {
+            drop(refused);
+            Err(Fail::new("not opened"))
+        }
+    }
 }
 
 #[test]
 fn what_was_moved_opens(rt: HostRuntime) -> Result<(), Fail> {
-    let alloc = rt.alloc();
-    let to = row_of(4, 3)?;
-    let done = moved(alloc, 3, (&low(3), &high(1), &receiver()), &to, 0)?;
-    let mut ends = PlainEnds::new(alloc, &to)?;
-    let new = done.new;
-    match open_pump(new.low, new.high, &to, &mut ends) {
-        Ok(opened) => {
-            assert_eq!(rt; (opened.next, opened.removed), (3, 1));
-            let first = opened
-                .high_hand
-                .map(|item| (item.number, item.payload.len()));
-            assert_eq!(rt; first, Some((1, 1)));
-        }
-        Err(_) => return Err(Fail::new("not opened")),
-    }
+    let (counts, first) = dealt_after_move(rt.alloc())?;
+    assert_eq!(rt; counts, (3, 1));
+    assert_eq!(rt; first, Some((1, 1)));
     Ok(())
 }
 
 // An empty disk that fails at a call, where that is told of it.
-fn failing(alloc: Global, call: Option<u64>) -> Result<MemDisk, Fail> {
+fn failing(alloc: Global, call: Option<u64>) -> Result<Held<MemDisk>, Fail> {
     let mut fails = Vec::new(alloc);
     if let Some(call) = call {
         fails.push(call)?;
     }
-    Ok(MemDisk::new(alloc, 128, 40, fails)?)
+    Ok(Held(MemDisk::new(alloc, 128, 40, fails)?))
 }
 
-fn memory(alloc: Global, bytes: &[u8]) -> Result<MemDisk, Fail> {
+fn memory(alloc: Global, bytes: &[u8]) -> Result<Held<MemDisk>, Fail> {
     let mut disk = failing(alloc, None)?;
-    match disk.write_at(0, bytes) {
+    match disk.0.write_at(0, bytes) {
         Ok(()) => Ok(disk),
         Err(_) => Err(Fail::new("no room")),
     }
 }
 
-// Whether a disk, after a crash, is no buffer or opens with these two numbers.
-fn is_none_or(mut disk: MemDisk, outcome: Outcome, value: (u64, u64)) -> bool {
-    disk.crash(outcome);
+// Whether the disk has the size and the mark of a buffer; `None` where its size can't be read.
+fn is_buffer(disk: &mut MemDisk) -> Option<bool> {
     let mut mark = [0; 4];
-    let Ok(size) = disk.size() else {
-        return false;
-    };
-    if size < 80 || disk.read(0, &mut mark).is_err() || mark != *b"NPD1" {
-        return size < 80 || mark != *b"NPD1";
-    }
-    match Register::open(disk) {
-        Ok(register) => register.value() == value,
-        Err(_) => false,
+    let size = disk.size().ok()?;
+    Some(size >= 80 && disk.read(0, &mut mark).is_ok() && mark == *b"NPD1")
+}
+
+// Whether a disk, after a crash, is no buffer or opens with these two numbers.
+fn is_none_or(mut disk: Held<MemDisk>, outcome: Outcome, value: (u64, u64)) -> bool {
+    disk.0.crash(outcome);
+    match is_buffer(&mut disk.0) {
+        None => false,
+        Some(false) => true,
+        Some(true) => numbers(disk) == Some(value),
     }
 }
 
-fn memory_disks(alloc: Global) -> Result<Trio<MemDisk>, Fail> {
-    let lows = memory(alloc, &low(3))?;
-    let highs = memory(alloc, &high(1))?;
+// The two numbers of a disk that is a buffer.
+pub fn numbers(disk: Held<MemDisk>) -> Option<(u64, u64)> {
+    match Register::open(disk.taken()) {
+        Ok(register) => {
+            let value = register.value();
+            drop(register);
+            Some(value)
+        }
+        Err(refused) => {
+            drop(refused);
+            None
+        }
+    }
+}
+
+fn memory_disks(alloc: Global) -> Result<Held<Trio<MemDisk>>, Fail> {
+    let low = memory(alloc, &low(3))?;
+    let high = memory(alloc, &high(1))?;
     let recv = memory(alloc, &receiver())?;
-    Ok(Trio {
-        low: lows,
-        high: highs,
-        recv,
+    Ok(trio(low, high, recv))
+}
+
+fn trio(low: Held<MemDisk>, high: Held<MemDisk>, recv: Held<MemDisk>) -> Held<Trio<MemDisk>> {
+    Held(Trio {
+        low: low.taken(),
+        high: high.taken(),
+        recv: recv.taken(),
     })
 }
 
@@ -234,18 +298,19 @@ fn call_of(role: Role, other: Role, call: u64) -> Option<u64> {
 }
 
 // Empty disks of which that of a role fails at a call.
-fn failing_disks(alloc: Global, role: Role, call: u64) -> Result<Trio<MemDisk>, Fail> {
+fn failing_disks(alloc: Global, role: Role, call: u64) -> Result<Held<Trio<MemDisk>>, Fail> {
     let low = failing(alloc, call_of(role, Role::Low, call))?;
     let high = failing(alloc, call_of(role, Role::High, call))?;
     let recv = failing(alloc, call_of(role, Role::Recv, call))?;
-    Ok(Trio { low, high, recv })
+    Ok(trio(low, high, recv))
 }
 
 // Whether each disk, after a crash, is no buffer or opens with the numbers of the old one.
 fn are_none_or(new: Trio<MemDisk>, outcome: Outcome) -> bool {
-    let lows = is_none_or(new.low, outcome, (3, 0));
-    let highs = is_none_or(new.high, outcome, (1, 0));
-    let received = is_none_or(new.recv, outcome, (2, 86));
+    let Trio { low, high, recv } = new;
+    let lows = is_none_or(Held(low), outcome, (3, 0));
+    let highs = is_none_or(Held(high), outcome, (1, 0));
+    let received = is_none_or(Held(recv), outcome, (2, 86));
     lows && highs && received
 }
 
@@ -262,10 +327,9 @@ fn survives(alloc: Global, role: Role, call: u64, outcome: Outcome) -> Result<bo
     let (from, to) = (row_of(3, 8)?, row_of(4, 3)?);
     let old = memory_disks(alloc)?;
     let new = failing_disks(alloc, role, call)?;
-    let done = migrate(&from, &to, old, new, 128);
-    let ended = has_failed(&done.end, role);
-    let survived = are_none_or(done.new, outcome);
-    Ok(ended && survived)
+    let Migrated { old, new, end } = migrate(&from, &to, old.taken(), new.taken(), 128);
+    drop(old);
+    Ok(are_none_or(new, outcome) && has_failed(&end, role))
 }
 
 #[test]

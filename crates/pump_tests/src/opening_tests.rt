@@ -1,11 +1,15 @@
+//! The opening of disks: what is refused, and for which cause, and what is dealt out.
+
 ghost use Rattle.std.specs.Prelude.{◌≡◌, IfSome};
 ghost use Rattle.pump_frame.specs.Rows.{IsLawfulRow};
 
+use crate::held::Held;
 use disk_model::{Disk, PlainDisk, Role};
 use passage::{Calm, PlainEnds};
 use pump_frame::{Item, Name, SessionRow};
 use recovery::{Why, agree, open_pump, open_pump_waiting, open_receiver};
 use std::alloc::Global;
+use std::sync::Wait;
 use std::test::Fail;
 
 // Session 1 of capacity 3 and message size 8.
@@ -70,24 +74,42 @@ fn first(bytes: &[u8], n: usize) -> &[u8] {
     if n <= bytes.len() { &bytes[..n] } else { bytes }
 }
 
-fn disk(alloc: Global, bytes: &[u8]) -> Result<PlainDisk, Fail> {
-    let mut disk = PlainDisk::new(alloc, 128)?;
-    match disk.write_at(0, bytes) {
+fn disk(alloc: Global, bytes: &[u8]) -> Result<Held<PlainDisk>, Fail> {
+    let mut disk = Held(PlainDisk::new(alloc, 128)?);
+    match disk.0.write_at(0, bytes) {
         Ok(()) => Ok(disk),
         Err(_) => Err(Fail::new("no room")),
     }
 }
 
-// Why low's disk and high's are refused, and whose fault it is.
-fn refusal(alloc: Global, low: &[u8], high: &[u8]) -> Result<Option<(Role, Why)>, Fail> {
+// Why two disks are refused, and whose fault it is.
+fn refused_for(
+    alloc: Global,
+    low: Held<PlainDisk>,
+    high: Held<PlainDisk>,
+) -> Result<Option<(Role, Why)>, Fail> {
     let Some(row) = row() else {
         return Err(Fail::new("no row"));
     };
     let mut ends = PlainEnds::new(alloc, &row)?;
-    match open_pump(disk(alloc, low)?, disk(alloc, high)?, &row, &mut ends) {
-        Ok(_) => Ok(None),
-        Err(refused) => Ok(Some((refused.role, refused.why))),
+    match open_pump(low.taken(), high.taken(), &row, &mut ends) {
+        Ok(opened) => {
+            drop(opened);
+            Ok(None)
+        }
+        Err(refused) => {
+            let cause = (refused.role, refused.why);
+            drop(refused);
+            Ok(Some(cause))
+        }
     }
+}
+
+// So, of disks with these bytes.
+fn refusal(alloc: Global, low: &[u8], high: &[u8]) -> Result<Option<(Role, Why)>, Fail> {
+    let low = disk(alloc, low)?;
+    let high = disk(alloc, high)?;
+    refused_for(alloc, low, high)
 }
 
 fn shape(field: u32, found: u64, wanted: u64) -> Why {
@@ -148,23 +170,24 @@ fn sizes_and_counts_refuse_in_order(rt: HostRuntime) -> Result<(), Fail> {
     let alloc = rt.alloc();
     let whole = low(3);
     let small = |size, bytes| Some((Role::Low, Why::NotABuffer { size, bytes }));
-    assert_eq!(rt; refusal(alloc, first(&whole, 3), &high(0))?, small(3, 0));
-    assert_eq!(rt;
-        refusal(alloc, first(&whole, 79), &high(0))?,
-        small(79, 0x4E50_4431)
-    );
-    assert_eq!(rt;
-        refusal(alloc, first(&whole, 109), &high(0))?,
-        Some((Role::Low, shape(6, 109, 110)))
-    );
-    assert_eq!(rt;
-        refusal(alloc, &whole, &whole)?,
-        Some((Role::High, shape(1, 76, 72)))
-    );
     let pair = |removed, accepted| Some((Role::High, Why::Mismatch { removed, accepted }));
-    assert_eq!(rt; refusal(alloc, &low(1), &high(3))?, pair(3, 1));
-    assert_eq!(rt; refusal(alloc, &low(4), &high(0))?, pair(0, 4));
-    assert_eq!(rt; refusal(alloc, &whole, &high(3))?, None);
+    let (few, many) = (low(1), low(4));
+    for (low, high, wanted) in [
+        (first(&whole, 3), &high(0)[..], small(3, 0)),
+        (first(&whole, 79), &high(0), small(79, 0x4E50_4431)),
+        (
+            first(&whole, 109),
+            &high(0),
+            Some((Role::Low, shape(6, 109, 110))),
+        ),
+        (&whole, &whole, Some((Role::High, shape(1, 76, 72)))),
+        (&few, &high(3), pair(3, 1)),
+        (&many, &high(0), pair(0, 4)),
+        (&whole, &high(3), None),
+    ] {
+        let found = refusal(alloc, low, high)?;
+        assert_eq!(rt; found, wanted);
+    }
     Ok(())
 }
 
@@ -172,26 +195,59 @@ fn number(hand: &Option<Item>) -> Option<u64> {
     hand.map(|item| item.number)
 }
 
-#[test]
-fn full_disks_are_dealt_out_and_agree(rt: HostRuntime) -> Result<(), Fail> {
+// What is dealt out of full disks: how many messages are accepted and removed, which stand in the hands
+// and how many in the passage, and what a receiver's disk says to it.
+#[derive(Clone, Copy)]
+struct Dealt {
+    counts: (u64, u64),
+    hands: (Option<u64>, Option<u64>),
+    passing: u32,
+    agreed: Option<Result<(), Why>>,
+}
+
+fn deal_out(rt: &impl Wait, alloc: Global) -> Result<Dealt, Fail> {
     let Some(row) = row() else {
         return Err(Fail::new("no row"));
     };
-    let mut ends = Calm(PlainEnds::new(rt.alloc(), &row)?);
-    let disks = (disk(rt.alloc(), &low(3))?, disk(rt.alloc(), &high(0))?);
-    let Ok(mut opened) = open_pump_waiting(&rt, disks.0, disks.1, &row, &mut ends) else {
-        return Err(Fail::new("not opened"));
+    let low = disk(alloc, &low(3))?;
+    let high = disk(alloc, &high(0))?;
+    let received = disk(alloc, &receiver())?;
+    let mut ends = Calm(PlainEnds::new(alloc, &row)?);
+    let mut opened = match open_pump_waiting(rt, low.taken(), high.taken(), &row, &mut ends) {
+        Ok(opened) => opened,
+        Err(refused) => {
+            drop(refused);
+            return Err(Fail::new("not opened"));
+        }
     };
-    assert_eq!(rt; (opened.next, opened.removed), (3, 0));
-    assert_eq!(rt;
-        (number(&opened.high_hand), number(&opened.low_hand)),
-        (Some(0), Some(2))
-    );
-    assert_eq!(rt; ends.0.held(), 1);
-    let Ok(mut taker) = open_receiver(disk(rt.alloc(), &receiver())?, &row, 86) else {
-        return Err(Fail::new("no receiver"));
+    let agreed = match open_receiver(received.taken(), &row, 86) {
+        Ok(mut taker) => {
+            let agreed = agree(&mut opened.low, opened.removed, &mut taker);
+            drop(taker);
+            Some(agreed)
+        }
+        Err(refused) => {
+            drop(refused);
+            None
+        }
     };
-    assert_eq!(rt; agree(&mut opened.low, opened.removed, &mut taker), Ok(()));
+    let dealt = Dealt {
+        counts: (opened.next, opened.removed),
+        hands: (number(&opened.high_hand), number(&opened.low_hand)),
+        passing: ends.0.held(),
+        agreed,
+    };
+    drop(opened);
+    Ok(dealt)
+}
+
+#[test]
+fn full_disks_are_dealt_out_and_agree(rt: HostRuntime) -> Result<(), Fail> {
+    let dealt = deal_out(&rt, rt.alloc())?;
+    assert_eq!(rt; dealt.counts, (3, 0));
+    assert_eq!(rt; dealt.hands, (Some(0), Some(2)));
+    assert_eq!(rt; dealt.passing, 1);
+    assert_eq!(rt; dealt.agreed, Some(Ok(())));
     Ok(())
 }
 
@@ -200,15 +256,30 @@ fn comparison(alloc: Global, removed: u8, received: &[u8]) -> Result<Result<(), 
     let Some(row) = row() else {
         return Err(Fail::new("no row"));
     };
+    let low = disk(alloc, &low(3))?;
+    let high = disk(alloc, &high(removed))?;
+    let received = disk(alloc, received)?;
     let mut ends = PlainEnds::new(alloc, &row)?;
-    let disks = (disk(alloc, &low(3))?, disk(alloc, &high(removed))?);
-    let Ok(mut opened) = open_pump(disks.0, disks.1, &row, &mut ends) else {
-        return Err(Fail::new("not opened"));
+    let mut opened = match open_pump(low.taken(), high.taken(), &row, &mut ends) {
+        Ok(opened) => opened,
+        Err(refused) => {
+            drop(refused);
+            return Err(Fail::new("not opened"));
+        }
     };
-    match open_receiver(disk(alloc, received)?, &row, 100) {
-        Ok(mut taker) => Ok(agree(&mut opened.low, opened.removed, &mut taker)),
-        Err((_, why)) => Ok(Err(why)),
-    }
+    let agreed = match open_receiver(received.taken(), &row, 100) {
+        Ok(mut taker) => {
+            let agreed = agree(&mut opened.low, opened.removed, &mut taker);
+            drop(taker);
+            agreed
+        }
+        Err((disk, why)) => {
+            drop(disk);
+            Err(why)
+        }
+    };
+    drop(opened);
+    Ok(agreed)
 }
 
 #[test]
@@ -222,14 +293,16 @@ fn a_receiver_goes_with_its_relay_alone(rt: HostRuntime) -> Result<(), Fail> {
         second: 86,
     };
     let apart = Why::Apart { count: 2, bound: 3 };
-    assert_eq!(rt; comparison(alloc, 1, &whole)?, Ok(()));
-    assert_eq!(rt;
-        comparison(alloc, 1, &other)?,
-        Err(Why::Differs { number: 1 })
-    );
-    assert_eq!(rt; comparison(alloc, 2, &other)?, Ok(()));
-    assert_eq!(rt; comparison(alloc, 3, &whole)?, Err(apart));
-    assert_eq!(rt; comparison(alloc, 1, first(&whole, 85))?, Err(log));
+    for (removed, received, wanted) in [
+        (1, &whole[..], Ok(())),
+        (1, &other, Err(Why::Differs { number: 1 })),
+        (2, &other, Ok(())),
+        (3, &whole, Err(apart)),
+        (1, first(&whole, 85), Err(log)),
+    ] {
+        let found = comparison(alloc, removed, received)?;
+        assert_eq!(rt; found, wanted);
+    }
     Ok(())
 }
 
@@ -248,9 +321,16 @@ fn version_refusal(alloc: Global, version: u8, capacity: u8) -> Result<Option<Wh
     let mut bytes = receiver();
     bytes[5] = version;
     bytes[15] = capacity;
-    match open_receiver(disk(alloc, &bytes)?, &row, 86) {
-        Ok(_) => Ok(None),
-        Err((_, why)) => Ok(Some(why)),
+    let received = disk(alloc, &bytes)?;
+    match open_receiver(received.taken(), &row, 86) {
+        Ok(receiver) => {
+            drop(receiver);
+            Ok(None)
+        }
+        Err((disk, why)) => {
+            drop(disk);
+            Ok(Some(why))
+        }
     }
 }
 
@@ -273,37 +353,21 @@ fn a_disk_of_version_one_has_a_capacity_of_at_most_64(rt: HostRuntime) -> Result
 
 #[test]
 fn a_disk_that_fails_says_so_and_nothing_else(rt: HostRuntime) -> Result<(), Fail> {
-    let Some(row) = row() else {
-        return Err(Fail::new("no row"));
-    };
-    let mut ends = PlainEnds::new(rt.alloc(), &row)?;
-    let (low, mut high) = (disk(rt.alloc(), &low(3))?, disk(rt.alloc(), &high(9))?);
-    high.fail_next();
-    match open_pump(low, high, &row, &mut ends) {
-        Ok(_) => Err(Fail::new("opened")),
-        Err(refused) => {
-            assert_eq!(rt;
-                (refused.role, refused.why),
-                (Role::High, Why::Device { faults: 1 })
-            );
-            Ok(())
-        }
-    }
+    let low = disk(rt.alloc(), &low(3))?;
+    let mut high = disk(rt.alloc(), &high(9))?;
+    high.0.fail_next();
+    let found = refused_for(rt.alloc(), low, high)?;
+    assert_eq!(rt; found, Some((Role::High, Why::Device { faults: 1 })));
+    Ok(())
 }
 
 #[test]
-fn a_refusal_says_what_was_found(rt: HostRuntime) -> Result<(), Fail> {
+fn refusals_have_their_numbers_and_values(rt: HostRuntime) {
     let why = shape(4, 5, 3);
-    let text = format!(in rt.alloc(); "{why}")?;
-    assert_eq!(rt;
-        text.as_str(),
-        "the disk was made with the capacity 5, and the row wants 3; use the row that it was made with, or empty it and format it for this one"
-    );
     assert_eq!(rt; (why.number(), why.values()), (3, (5, 3)));
     let long = Why::TooLong {
         number: 4,
         length: 9,
     };
     assert_eq!(rt; (long.number(), long.values()), (11, (4, 9)));
-    Ok(())
 }

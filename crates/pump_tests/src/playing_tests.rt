@@ -1,13 +1,16 @@
+//! The pump that plays the lines of a script, over disks with room and over one that fails.
+
 ghost use Rattle.std.specs.Prelude.{◌≡◌, ◌<◌, ◌≤◌, [], false, IfSome, IfOk};
 ghost use Rattle.pump_frame.specs.Rows.{IsLawfulRow};
 ghost use Rattle.two_worlds.specs.LowPumps.{stops_at_disk};
 ghost use Rattle.two_worlds.specs.Pumps.{is_down};
 
+use crate::held::Held;
+use crate::move_tests::numbers;
 use arrayvec::ArrayVec;
 use disk_model::{Disk, MemDisk, Outcome, PlainDisk, Role};
 use pump_frame::{Name, SessionRow};
 use script_reader::{print_event, read_line};
-use stable_buffer::Register;
 use std::alloc::Global;
 use std::test::Fail;
 use two_worlds::{Pump, Stop};
@@ -41,12 +44,15 @@ fn new_pump(alloc: Global) -> Result<Pump<PlainDisk>, Fail>
     let Some(row) = row() else {
         return Err(Fail::new("no row"));
     };
-    let low = PlainDisk::new(alloc, 4096)?;
-    let high = PlainDisk::new(alloc, 80)?;
-    let recv = PlainDisk::new(alloc, 4096)?;
-    match Pump::open(alloc, &row, low, high, recv) {
+    let low = Held(PlainDisk::new(alloc, 4096)?);
+    let high = Held(PlainDisk::new(alloc, 80)?);
+    let recv = Held(PlainDisk::new(alloc, 4096)?);
+    match Pump::open(alloc, &row, low.taken(), high.taken(), recv.taken()) {
         Ok(pump) => Ok(pump),
-        Err(_) => Err(Fail::new("not open")),
+        Err(refused) => {
+            drop(refused);
+            Err(Fail::new("not open"))
+        }
     }
 }
 
@@ -74,6 +80,33 @@ pub fn play<D: Disk>(
         }
     }
     Ok(None)
+}
+
+// What a new pump did with the lines: why they stopped, what is printed, and its counts.
+#[derive(Drop)]
+struct Played {
+    stop: Option<Stop>,
+    output: Vec<u8>,
+    counts: (u64, u64, u64),
+}
+
+fn play_new(alloc: Global, script: &[&str], is_coarse: bool) -> Result<Played, Fail> {
+    let mut output = Vec::new(alloc);
+    let mut pump = match new_pump(alloc) {
+        Ok(pump) => pump,
+        Err(fail) => return Err(fail),
+    };
+    if is_coarse {
+        pump.make_coarse();
+    }
+    let ended = play(&mut pump, script, &mut output);
+    let counts = pump.counts();
+    drop(pump);
+    Ok(Played {
+        stop: ended?,
+        output,
+        counts,
+    })
 }
 
 #[test]
@@ -164,11 +197,10 @@ fn packets_are_lost_or_come_again(rt: HostRuntime) -> Result<(), Fail> {
             (1, 0, 0),
         ),
     ] {
-        let mut pump = new_pump(alloc)?;
-        let mut output = Vec::new(alloc);
-        assert_eq!(rt; play(&mut pump, script, &mut output)?, stop);
-        assert_eq!(rt; output.as_slice(), wanted.as_bytes());
-        assert_eq!(rt; pump.counts(), counts);
+        let played = play_new(alloc, script, false)?;
+        assert_eq!(rt; played.stop, stop);
+        assert_eq!(rt; played.output.as_slice(), wanted.as_bytes());
+        assert_eq!(rt; played.counts, counts);
     }
     Ok(())
 }
@@ -206,12 +238,10 @@ fn averages_come_down_as_levels(rt: HostRuntime) -> Result<(), Fail> {
             (2, 1, 1),
         ),
     ] {
-        let mut pump = new_pump(alloc)?;
-        pump.make_coarse();
-        let mut output = Vec::new(alloc);
-        assert_eq!(rt; play(&mut pump, script, &mut output)?, None);
-        assert_eq!(rt; output.as_slice(), wanted.as_bytes());
-        assert_eq!(rt; pump.counts(), counts);
+        let played = play_new(alloc, script, true)?;
+        assert_eq!(rt; played.stop, None);
+        assert_eq!(rt; played.output.as_slice(), wanted.as_bytes());
+        assert_eq!(rt; played.counts, counts);
     }
     Ok(())
 }
@@ -223,10 +253,28 @@ fn failing_pump(alloc: Global, fails: u64) -> Result<Option<Pump<MemDisk>>, Fail
     let Some(row) = row() else {
         return Err(Fail::new("no row"));
     };
-    let low = MemDisk::new(alloc, 4096, 64, vec![in alloc; fails]?)?;
-    let high = MemDisk::new(alloc, 80, 64, Vec::new(alloc))?;
-    let recv = MemDisk::new(alloc, 4096, 64, Vec::new(alloc))?;
-    Ok(Pump::open(alloc, &row, low, high, recv).ok())
+    let low = Held(MemDisk::new(alloc, 4096, 64, vec![in alloc; fails]?)?);
+    let high = Held(MemDisk::new(alloc, 80, 64, Vec::new(alloc))?);
+    let recv = Held(MemDisk::new(alloc, 4096, 64, Vec::new(alloc))?);
+    match Pump::open(alloc, &row, low.taken(), high.taken(), recv.taken()) {
+        Ok(pump) => Ok(Some(pump)),
+        Err(refused) => {
+            drop(refused);
+            Ok(None)
+        }
+    }
+}
+
+// Whether a pump is opened where this call of low's disk fails.
+fn opens(alloc: Global, fails: u64) -> Result<bool, Fail> {
+    match failing_pump(alloc, fails) {
+        Ok(Some(pump)) => {
+            drop(pump);
+            Ok(true)
+        }
+        Ok(None) => Ok(false),
+        Err(fail) => Err(fail),
+    }
 }
 
 // The number of calls of low's disk in an opening.
@@ -234,7 +282,7 @@ fn opening_calls(alloc: Global) -> Result<u64, Fail>
     ensures { IfOk result (λ n. n < 64) }
 {
     for n in 0..64 {
-        if failing_pump(alloc, n)?.is_some() {
+        if opens(alloc, n)? {
             return Ok(n);
         }
     }
@@ -247,14 +295,19 @@ fn store_while_failing(
     alloc: Global,
     fails: u64,
     output: &mut Vec<u8>,
-) -> Result<(Option<Stop>, MemDisk), Fail> {
-    let Some(mut pump) = failing_pump(alloc, fails)? else {
-        return Err(Fail::new("not open"));
+) -> Result<(Option<Stop>, Held<MemDisk>), Fail> {
+    let mut pump = match failing_pump(alloc, fails) {
+        Ok(Some(pump)) => pump,
+        Ok(None) => return Err(Fail::new("not open")),
+        Err(fail) => return Err(fail),
     };
     let store = [HELLO, "look 1 100 00000000 data 0 61"];
-    let stop = play(&mut pump, &store, output)?;
-    let (low, _, _) = pump.close();
-    Ok((stop, low))
+    let ended = play(&mut pump, &store, output);
+    let (low, high, recv) = pump.close();
+    drop(high);
+    drop(recv);
+    let low = Held(low);
+    Ok((ended?, low))
 }
 
 // So, and how many messages a crash then leaves.
@@ -265,10 +318,10 @@ fn store_and_crash(
     output: &mut Vec<u8>,
 ) -> Result<(Option<Stop>, u64), Fail> {
     let (stop, mut low) = store_while_failing(alloc, fails, output)?;
-    low.crash(outcome);
-    match Register::open(low) {
-        Ok(register) => Ok((stop, register.value().0)),
-        Err(_) => Err(Fail::new("no register")),
+    low.0.crash(outcome);
+    match numbers(low) {
+        Some((accepted, _)) => Ok((stop, accepted)),
+        None => Err(Fail::new("no register")),
     }
 }
 

@@ -1,3 +1,5 @@
+//! Lines that are printed as they are read.
+
 use arrayvec::ArrayVec;
 use script_reader::{print_line, read_line};
 

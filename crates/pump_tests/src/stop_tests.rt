@@ -3,6 +3,7 @@
 ghost use Rattle.std.specs.Prelude.{◌≡◌, ◌<◌, false, IfOk};
 ghost use Rattle.two_worlds.specs.Pumps.{is_down};
 
+use crate::held::Held;
 use crate::playing_tests::{play, row};
 use disk_model::{MemDisk, Outcome, Role};
 use recovery::Why;
@@ -36,9 +37,17 @@ const OUTCOMES: [Outcome; 5] = [
 
 #[derive(Drop)]
 struct Disks {
-    low: MemDisk,
-    high: MemDisk,
-    recv: MemDisk,
+    low: Held<MemDisk>,
+    high: Held<MemDisk>,
+    recv: Held<MemDisk>,
+}
+
+fn held(low: MemDisk, high: MemDisk, recv: MemDisk) -> Disks {
+    Disks {
+        low: Held(low),
+        high: Held(high),
+        recv: Held(recv),
+    }
 }
 
 // How many messages were accepted, removed and taken.
@@ -46,12 +55,12 @@ type Counts = (u64, u64, u64);
 
 // A formatted disk of the session, of which this call fails, counted from the first one of the
 // formatting; `None` where that is one of these.
-fn formatted(alloc: Global, role: Role, fails: Vec<u64>) -> Result<Option<MemDisk>, Fail> {
+fn formatted(alloc: Global, role: Role, fails: Vec<u64>) -> Result<Option<Held<MemDisk>>, Fail> {
     let Some(row) = row() else {
         return Err(Fail::new("no row"));
     };
-    let mut disk = MemDisk::new(alloc, 128, 64, fails)?;
-    if format(&mut disk, &row, role, 0).is_err() {
+    let mut disk = Held(MemDisk::new(alloc, 128, 64, fails)?);
+    if format(&mut disk.0, &row, role, 0).is_err() {
         return Ok(None);
     }
     Ok(Some(disk))
@@ -89,7 +98,7 @@ fn open(alloc: Global, disks: Disks) -> Result<Result<Pump<MemDisk>, NotOpen<Mem
         return Err(Fail::new("no row"));
     };
     let Disks { low, high, recv } = disks;
-    Ok(Pump::open(alloc, &row, low, high, recv))
+    Ok(Pump::open(alloc, &row, low.taken(), high.taken(), recv.taken()))
 }
 
 // The disks of a session that is not open, where a call of one failed.
@@ -102,7 +111,7 @@ fn after_failed_opening(refused: NotOpen<MemDisk>) -> Result<(Role, Disks), Fail
         recv,
     } = refused;
     match why {
-        Some(Why::Device { .. }) => Ok((role, Disks { low, high, recv })),
+        Some(Why::Device { .. }) => Ok((role, held(low, high, recv))),
         _ => Err(Fail::new("refused")),
     }
 }
@@ -120,9 +129,10 @@ fn stopped_by(stop: Option<Stop>) -> Result<Option<Role>, Fail> {
 fn run(alloc: Global, disks: Disks, output: &mut Vec<u8>) -> Result<(Option<Role>, Disks), Fail> {
     match open(alloc, disks)? {
         Ok(mut pump) => {
-            let stop = play(&mut pump, &SCRIPT, output)?;
+            let ended = play(&mut pump, &SCRIPT, output);
             let (low, high, recv) = pump.close();
-            Ok((stopped_by(stop)?, Disks { low, high, recv }))
+            let disks = held(low, high, recv);
+            Ok((stopped_by(ended?)?, disks))
         }
         Err(refused) => {
             let (role, disks) = after_failed_opening(refused)?;
@@ -134,18 +144,30 @@ fn run(alloc: Global, disks: Disks, output: &mut Vec<u8>) -> Result<(Option<Role
 // What the disks count after a crash. Where no call failed before, the opening meets it, and is tried
 // again.
 fn open_again(alloc: Global, mut disks: Disks, outcome: Outcome) -> Result<Counts, Fail> {
-    disks.low.crash(outcome);
-    disks.high.crash(outcome);
-    disks.recv.crash(outcome);
-    let refused = match open(alloc, disks)? {
-        Ok(pump) => return Ok(pump.counts()),
-        Err(refused) => refused,
+    disks.low.0.crash(outcome);
+    disks.high.0.crash(outcome);
+    disks.recv.0.crash(outcome);
+    let refused = match open(alloc, disks) {
+        Ok(Ok(pump)) => return Ok(last_counts(pump)),
+        Ok(Err(refused)) => refused,
+        Err(fail) => return Err(fail),
     };
     let (_, disks) = after_failed_opening(refused)?;
-    match open(alloc, disks)? {
-        Ok(pump) => Ok(pump.counts()),
-        Err(_) => Err(Fail::new("refused twice")),
+    match open(alloc, disks) {
+        Ok(Ok(pump)) => Ok(last_counts(pump)),
+        Ok(Err(refused)) => {
+            drop(refused);
+            Err(Fail::new("refused twice"))
+        }
+        Err(fail) => Err(fail),
     }
+}
+
+// What a pump counts at its end.
+fn last_counts(pump: Pump<MemDisk>) -> Counts {
+    let counts = pump.counts();
+    drop(pump);
+    counts
 }
 
 // What was printed, in its parts.

@@ -17,7 +17,7 @@ use Rattle.script_reader.specs.Past.{Past}
 use Rattle.two_worlds.specs.declared.applied.Stop.{Stop}
 use Rattle.two_worlds.specs.declared.applied.Stop.TheVariants as stops
 use Rattle.two_worlds.specs.declared.pump.Pump.{Pump}
-use Rattle.two_worlds.specs.Disks.{LeaveWorld}
+use Rattle.world_laws.specs.Disks.{LeaveWorld}
 use Rattle.two_worlds.specs.Pumps.{StandsFor, StandsOrFails, disk_at}
 use Rattle.pump_wrapper.specs.Comparing.{Begins}
 use Rattle.pump_wrapper.specs.Cutting.{Gave, to_come}

@@ -17,7 +17,7 @@ use Rattle.stable_buffer.specs.Stands.{LowStands, HighStands}
 use Rattle.two_worlds.specs.declared.pump.Pump.{Pump}
 use Rattle.two_worlds.specs.declared.pump.state.PumpState.{PumpState}
 use Rattle.two_worlds.specs.declared.pump.state.PumpState.TheVariants.{Open, Shut}
-use Rattle.two_worlds.specs.Disks.{crashed, StandFor, StandForLeft, LeaveWorld}
+use Rattle.world_laws.specs.Disks.{crashed, StandFor, StandForLeft, LeaveWorld}
 use Rattle.two_worlds.specs.Openings.{DisksStandFor, readied}
 use Rattle.disk_model.specs.declared.name.Role.{Role}
 use Rattle.disk_model.specs.declared.name.Role.TheVariants as roles

@@ -16,9 +16,9 @@ use Rattle.script_reader.specs.Highs.{log_end}
 use Rattle.script_reader.specs.Openings.{Found, accepted_in}
 use Rattle.stable_buffer.specs.Log.{RecvStands, Records, log_of}
 use Rattle.stable_buffer.specs.Stands.{LowStands, HighStands, InSlot}
-use Rattle.two_worlds.specs.Disks.{crashed, StandFor, StandForLeft, LeaveWorld}
+use Rattle.world_laws.specs.Disks.{crashed, StandFor, StandForLeft, LeaveWorld}
 use Rattle.two_worlds.specs.Openings.{StandForFound, readied}
-use Rattle.two_worlds.specs.Timelines.{IsAtRest}
+use Rattle.world_laws.specs.Timelines.{IsAtRest}
 use Rattle.pump_wrapper.specs.Comparing.{Begins}
 use Rattle.pump_wrapper.specs.Halting.{found_of, HasNoRoom}
 use Rattle.pump_wrapper.specs.WrapEnds.{LeavesFront}

@@ -20,6 +20,7 @@ pub mod Rooms
 pub mod Sent
 pub mod Takings
 pub mod Unopened
+pub mod Unseen
 pub mod Wholes
 pub mod Wrapping
 pub mod Wrappings

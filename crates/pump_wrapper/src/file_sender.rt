@@ -10,7 +10,7 @@ ghost use Rattle.recovery.specs.Moves.{disk_of};
 ghost use Rattle.script_reader.specs.Openings.{Found, accepted_in, first_past};
 ghost use Rattle.script_reader.specs.Past.{Past};
 ghost use Rattle.stable_buffer.specs.Log.{RecvStands};
-ghost use Rattle.two_worlds.specs.Disks.{LeaveWorld};
+ghost use Rattle.world_laws.specs.Disks.{LeaveWorld};
 ghost use Rattle.two_worlds.specs.Pumps.{StandsFor, StandsOrFails, disk_at, is_down, row_of};
 ghost use Rattle.pump_wrapper.specs.Comparing.{Begins, Compares, SameBytes};
 ghost use Rattle.pump_wrapper.specs.Cutting.{Gave, MayCut, cut_bytes, cut_message};

@@ -8,6 +8,7 @@ pub mod HighNumbers
 pub mod LowAsks
 pub mod LowGoes
 pub mod LowLooks
+pub mod LowReturns
 pub mod LowRuns
 pub mod LowStores
 pub mod NewDisks

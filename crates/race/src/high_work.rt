@@ -48,6 +48,3 @@ impl<H: WaitHighEnd, G: Gate> Work for HighWork<'_, '_, H, G> {
         unreachable!();
     }
 }
-
-#[cfg(test)]
-mod tests;

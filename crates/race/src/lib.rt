@@ -14,6 +14,3 @@ mod tape;
 
 pub use laws::{race_records_replay, works_and_ends_decide};
 pub use racing::{RaceEnd, race_with};
-
-#[cfg(test)]
-mod tests;

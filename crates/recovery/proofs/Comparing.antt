@@ -1,12 +1,17 @@
 -- Which disks a comparison calls.
-use Rattle.std.proofs.Common.{◌≡◌, inl, inr, ℕ, ◌<◌, ◌≤◌, Bool, true, false, not, Ok, Err, refl, sym, ◌∙◌, ap, subst, arith}
+use Rattle.std.proofs.Common.{◌≡◌, inl, inr, ℕ, List, ◌<◌, ◌≤◌, Bool, true, false, not, Ok, Err, refl, sym, ◌∙◌, ap, subst, arith}
 use Rattle.std.proofs.lemmas.Bool.{cases_lt, false≢true}
+use Rattle.pump_frame.specs.declared.row.SessionRow.{SessionRow}
 use Rattle.disk_model.specs.Disk.{Meaning, Answers}
 use Rattle.stable_buffer.specs.Low.{low_disk, low_row}
 use Rattle.stable_buffer.specs.declared.low.LowStore.{LowStore}
 use Rattle.high_receiver.specs.Receiving.{recv_disk, recv_is_open}
 use Rattle.high_receiver.specs.declared.receiver.Receiver.{Receiver}
 use Rattle.recovery.specs.Calls.{Calls, CallsReceiver, GivesSlot}
+
+-- what holds at a row and a reading holds at the same ones
+pub at_same : (P : SessionRow → List ℕ → Type 0) (old new : SessionRow) (before after : List ℕ) → new ≡ old → after ≡ before → P old before → P new after
+at_same P old new before after row reading has = subst (λ (d : List ℕ). P new d) (sym reading) (subst (λ (w : SessionRow). P w before) (sym row) has)
 
 module _ {D : Type 0} (m : Meaning D) where
   pub calls_ok : {T E : Type 0} (fits : Type 0) (old new : D) (value : T) → Answers {T = T} {E = E} m fits old new (Ok value) → (f : Bool) → f ≡ false → Calls m old new f
@@ -19,14 +24,25 @@ module _ {D : Type 0} (m : Meaning D) where
     disarmed = a.disarmed;
   }
 
-  pub calls_err : {T E : Type 0} (fits : Type 0) (old new : D) (fault : E) → Answers {T = T} {E = E} m fits old new (Err fault) → fits → (f : Bool) → f ≡ true → Calls m old new f
+  pub calls_err : {T E : Type 0} (fits : Type 0) (old new : D) (fault : E) → Answers {T = T} {E = E} m fits old new (Err fault) → (m.tells_plan → fits) → (f : Bool) → f ≡ true → Calls m old new f
   calls_err fits old new fault a whole f bad = record {
     counts = a.counts;
     rose = λ is. a.rose refl;
-    never = λ plan off. absurd (false≢true (a.never plan off whole));
+    never = λ plan off. absurd (false≢true (a.never plan off (whole plan)));
     always = λ plan on. bad;
     room = a.room;
     disarmed = a.disarmed;
+  }
+
+  -- no call
+  pub calls_none : (d : D) → (m.tells_plan → m.armed d ≡ false) → Calls m d d false
+  calls_none d calm = record {
+    counts = omega arith;
+    rose = λ is. absurd (false≢true is);
+    never = λ plan off. refl;
+    always = λ plan on. sym (calm plan) ∙ on;
+    room = λ plan. refl;
+    disarmed = calm;
   }
 
   -- two calls, of which the first didn't fail

@@ -6,6 +6,7 @@ pub mod Fillings
 pub mod Image
 pub mod Moved
 pub mod Moves
+pub mod Openings
 pub mod Readings
 pub mod Refill
 pub mod Rows
@@ -14,6 +15,7 @@ pub mod Slots
 pub mod Surveys
 pub mod Triples
 pub mod Unfit
+pub mod Unwritten
 pub mod Walk
 pub mod Wholes
 pub mod Words

@@ -36,11 +36,6 @@ abbrev pub failed : {T : Type 0} → Result T Why → Bool
 failed (Ok value) = false
 failed (Err why) = is_device why
 
--- .. where the disk comes back with the cause
-abbrev pub failed_back : {T D : Type 0} → Result T (D × Why) → Bool
-failed_back (Ok value) = false
-failed_back (Err refused) = is_device refused.1
-
 abbrev pub is_low : Role → Bool
 is_low Low = true
 is_low High = false

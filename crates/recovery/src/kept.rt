@@ -9,7 +9,7 @@ ghost use Rattle.stable_buffer.specs.Register.{IsReady, register_value, register
 ghost use Rattle.stable_buffer.specs.Low.{IsLowReady, low_disk, low_row, low_count};
 ghost use Rattle.stable_buffer.specs.High.{IsHighReady, high_disk, high_count};
 ghost use Rattle.recovery.specs.Refusals.{refused_shape, refused_disk};
-ghost use Rattle.recovery.specs.Calls.{Calls, failed_back, is_device};
+ghost use Rattle.recovery.specs.Calls.{Calls, is_device};
 ghost use Rattle.recovery.specs.declared.why.Why.TheVariants.{Device};
 
 use crate::Why;

@@ -13,7 +13,6 @@ mod pass;
 mod pump;
 mod receiver;
 mod records;
-mod sentence;
 mod shape;
 mod survey;
 mod trio;

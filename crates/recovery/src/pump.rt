@@ -42,17 +42,6 @@ pub struct NotOpened<D> {
     pub high: D,
 }
 
-pub fn refused<D>(role: Role, why: Why, low: D, high: D) -> NotOpened<D>
-    ensures { result ≡ record { role = role; why = why; low = low; high = high } }
-{
-    NotOpened {
-        role,
-        why,
-        low,
-        high,
-    }
-}
-
 // Opens a pump, whose messages are offered to the end in this way.
 fn open_pump_by<D: Disk, L: LowSide, O: Offers<L>>(
     low: D,
@@ -97,19 +86,37 @@ fn open_pump_by<D: Disk, L: LowSide, O: Offers<L>>(
 {
     let mut low = match open_low(low, row) {
         Ok(low) => low,
-        Err((low, why)) => return Err(refused(Role::Low, why, low, high)),
+        Err((low, why)) => {
+            return Err(NotOpened {
+                role: Role::Low,
+                why,
+                low,
+                high,
+            });
+        }
     };
     let high = match open_high(high, row) {
         Ok(high) => high,
-        Err((high, why)) => return Err(refused(Role::High, why, low.into_disk(), high)),
+        Err((high, why)) => {
+            return Err(NotOpened {
+                role: Role::High,
+                why,
+                low: low.into_disk(),
+                high,
+            });
+        }
     };
     let (next, removed) = (low.accepted(), high.removed());
     if removed > next || next - removed > row.capacity as u64 {
-        let why = Why::Mismatch {
-            removed,
-            accepted: next,
-        };
-        return Err(refused(Role::High, why, low.into_disk(), high.into_disk()));
+        return Err(NotOpened {
+            role: Role::High,
+            why: Why::Mismatch {
+                removed,
+                accepted: next,
+            },
+            low: low.into_disk(),
+            high: high.into_disk(),
+        });
     }
     match deal(&mut low, removed, row, how, ends) {
         Ok(hands) => Ok(Opened {
@@ -120,10 +127,12 @@ fn open_pump_by<D: Disk, L: LowSide, O: Offers<L>>(
             high_hand: hands.high,
             low_hand: hands.low,
         }),
-        Err(why) => {
-            let disks = (low.into_disk(), high.into_disk());
-            Err(refused(Role::Low, why, disks.0, disks.1))
-        }
+        Err(why) => Err(NotOpened {
+            role: Role::Low,
+            why,
+            low: low.into_disk(),
+            high: high.into_disk(),
+        }),
     }
 }
 

@@ -18,7 +18,7 @@ ghost use Rattle.recovery.specs.declared.why.Why.TheVariants.{Device};
 
 use crate::hands::read_live;
 use crate::kept::{open_high, open_low};
-use crate::pump::{NotOpened, refused};
+use crate::pump::NotOpened;
 use crate::receiver::open_receiver;
 use crate::{MoveFault, Trio, Why, agree};
 use disk_model::{Disk, Role};
@@ -148,15 +148,34 @@ fn open_pair<D: Disk>(low: D, high: D, row: &SessionRow) -> Result<Pair<D>, NotO
 {
     let mut low = match open_low(low, row) {
         Ok(low) => low,
-        Err((low, why)) => return Err(refused(Role::Low, why, low, high)),
+        Err((low, why)) => {
+            return Err(NotOpened {
+                role: Role::Low,
+                why,
+                low,
+                high,
+            });
+        }
     };
     let high = match open_high(high, row) {
         Ok(high) => high,
-        Err((high, why)) => return Err(refused(Role::High, why, low.into_disk(), high)),
+        Err((high, why)) => {
+            return Err(NotOpened {
+                role: Role::High,
+                why,
+                low: low.into_disk(),
+                high,
+            });
+        }
     };
     match check_pair(&mut low, high.removed(), row) {
         Ok(()) => Ok(Pair { low, high }),
-        Err((role, why)) => Err(refused(role, why, low.into_disk(), high.into_disk())),
+        Err((role, why)) => Err(NotOpened {
+            role,
+            why,
+            low: low.into_disk(),
+            high: high.into_disk(),
+        }),
     }
 }
 

@@ -2,7 +2,7 @@ ghost use Rattle.std.specs.Prelude.{◌≡◌};
 ghost use Rattle.recovery.specs.Faults.{why_number, why_values};
 
 /// Why the disks of a session are refused: the first cause in the order of `docs/formats.md`,
-/// "Disks". `Display` says in a sentence what was found, and what to do.
+/// "Disks".
 #[derive(Clone, Copy, PartialEq, Eq, Debug)]
 pub enum Why {
     /// A call of a disk failed: the disk's count after that call. This alone says nothing of what

@@ -9,6 +9,3 @@ mod slots;
 
 pub use ends::{RingHigh, RingLow};
 pub use ring_passage::RingPassage;
-
-#[cfg(test)]
-mod tests;

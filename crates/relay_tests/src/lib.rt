@@ -1,12 +1,27 @@
-//! Tests of the passages and of the workers that serve, some in two threads. They use the public calls
-//! of the crates below alone, and stand here so that a change of a test makes no crate be proved again.
+//! Tests of the passages, of the two processes, of the workers that serve and race, and of the parties at
+//! the ports. They use the public calls of the crates below alone, and stand here so that a change of a
+//! test makes no crate be proved again.
 #![tactic(auto)]
 
 #[cfg(test)]
-mod high_tests;
+mod fixtures;
 #[cfg(test)]
-mod low_tests;
+mod high_bench;
+#[cfg(test)]
+mod high_process_tests;
+#[cfg(test)]
+mod high_worker_tests;
+#[cfg(test)]
+mod low_bench;
+#[cfg(test)]
+mod low_process_tests;
+#[cfg(test)]
+mod low_worker_tests;
 #[cfg(test)]
 mod passage_tests;
+#[cfg(test)]
+mod peer_tests;
+#[cfg(test)]
+mod race_tests;
 #[cfg(test)]
 mod worker_tests;

@@ -1,11 +1,13 @@
-ghost use Rattle.std.specs.Prelude.{◌≡◌, ◌-◌, ◌^◌, ◌<◌, ◌≤◌, true, IfSome};
-ghost use Rattle.pump_frame.specs.Rows.{IsLawfulRow};
+// The ends of each passage, which fill and empty alike: on one thread, and of a queue and of a ring.
+ghost use Rattle.std.specs.Prelude.{◌≡◌, ◌-◌, ◌^◌, ◌<◌, ◌≤◌, true};
 
+use crate::fixtures::{item, row};
 use passage::{
-    Forwarded, HighEnd, Joined, LowEnd, Next, PlainEnds, QueuePassage, WaitHighEnd, WaitLowEnd,
+    Calm, Forwarded, HighEnd, Joined, LowEnd, Next, PlainEnds, QueuePassage, WaitHighEnd,
+    WaitLowEnd,
 };
 use pump_core::Seen;
-use pump_frame::{Item, Name, Payload, SessionRow};
+use relay_ring::RingPassage;
 use std::process::Abort;
 use std::sync::Wait;
 use std::test::Fail;
@@ -67,19 +69,6 @@ impl Counts {
         }
     }
 
-    /// The next item.
-    fn item(&self) -> Option<Item>
-        ensures { IfSome result (λ item. (item.number ≡ self.now.next) × (item.number < 2 ^ 48)) }
-    {
-        if self.next >= 1 << 48 {
-            return None;
-        }
-        Some(Item {
-            number: self.next,
-            payload: Payload::from_slice(b"a")?,
-        })
-    }
-
     /// Whether a time of so many microseconds may be published.
     fn may_publish(&self, micros: u32) -> bool
         ensures { result ≡ true → (micros ≤ 10 ^ 9) × (self.now.published < 2 ^ 32 - 1) }
@@ -95,7 +84,7 @@ impl Bench for Plain {
     ghost ready = { λ b. Ready (StandsFor b.ends) b.counts.next b.counts.removed b.counts.published };
 
     fn offer<R: Wait>(&mut self, _rt: &R) -> bool {
-        let Some(item) = self.counts.item() else {
+        let Some(item) = item(self.counts.next) else {
             return false;
         };
         match self.ends.forward(item) {
@@ -139,7 +128,7 @@ impl<L: WaitLowEnd, H: WaitHighEnd> Bench for Apart<L, H> {
     ghost ready = { λ b. LowReady (L.stands b.low) b.counts.next × HighReady (H.stands b.high) b.counts.removed b.counts.published × (L.place b.low ≡ H.place b.high) };
 
     fn offer<R: Wait>(&mut self, rt: &R) -> bool {
-        let Some(item) = self.counts.item() else {
+        let Some(item) = item(self.counts.next) else {
             return false;
         };
         match self.low.forward(rt, item) {
@@ -199,7 +188,7 @@ fn make<B: Bench, R: Abort + Wait>(rt: &R, bench: &mut B, calls: &[Call])
     }
 }
 
-const CALLS: [Call; 8] = [
+const CALLS: [Call; 10] = [
     Call::Ask(None),
     Call::Offer(true),
     Call::Offer(false),
@@ -214,27 +203,9 @@ const CALLS: [Call; 8] = [
         count: 1,
         average: 100,
     }),
+    Call::Ask(Some(1)),
+    Call::Ask(None),
 ];
-
-fn row() -> Option<SessionRow>
-    ensures { IfSome result (λ row. IsLawfulRow row) }
-{
-    let name = Name::from_slice(b"weather")?;
-    Some(SessionRow {
-        id: 1,
-        low: name,
-        high: name,
-        capacity: 3,
-        message: 8,
-        window: 2,
-        start: 20000,
-        longest: 100000,
-        resend: 500000,
-        low_port: 0,
-        high_port: 0,
-        coarse: false,
-    })
-}
 
 #[test]
 fn the_ends_on_one_thread_fill_and_empty(rt: HostRuntime) -> Result<(), Fail> {
@@ -245,15 +216,20 @@ fn the_ends_on_one_thread_fill_and_empty(rt: HostRuntime) -> Result<(), Fail> {
         ends: PlainEnds::new(rt.alloc(), &row)?,
         counts: Counts::new(),
     };
-    make(&rt, &mut bench, &CALLS);
+    make(&rt, &mut bench, &CALLS[..8]);
     assert_eq!(rt; bench.ends.held(), 1);
     bench.ends.clear();
     assert_eq!(rt; bench.ends.held(), 0);
     Ok(())
 }
 
+const EMPTIED: Joined = Joined {
+    forwarded: 2,
+    taken: 2,
+};
+
 #[test]
-fn the_ends_between_threads_fill_and_empty(rt: HostRuntime) -> Result<(), Fail> {
+fn the_ends_of_a_queue_fill_and_empty(rt: HostRuntime) -> Result<(), Fail> {
     let Some(row) = row() else {
         return Err(Fail::new("no row"));
     };
@@ -265,15 +241,25 @@ fn the_ends_between_threads_fill_and_empty(rt: HostRuntime) -> Result<(), Fail> 
         counts: Counts::new(),
     };
     make(&rt, &mut bench, &CALLS);
-    let Apart {
-        low,
-        high,
-        counts: _,
-    } = bench;
-    let wanted = Joined {
-        forwarded: 2,
-        taken: 1,
+    let Apart { low, high, .. } = bench;
+    assert_eq!(rt; QueuePassage::rejoin(&rt, low, high), EMPTIED);
+    Ok(())
+}
+
+#[test]
+fn the_ends_of_a_ring_fill_and_empty(rt: HostRuntime) -> Result<(), Fail> {
+    let Some(row) = row() else {
+        return Err(Fail::new("no row"));
     };
-    assert_eq!(rt; QueuePassage::rejoin(&rt, low, high), wanted);
+    let mut passage = RingPassage::new(rt.alloc(), &row)?;
+    let (low, high) = passage.ends();
+    let mut bench = Apart {
+        low: Calm(low),
+        high: Calm(high),
+        counts: Counts::new(),
+    };
+    make(&rt, &mut bench, &CALLS);
+    let Apart { low, high, .. } = bench;
+    assert_eq!(rt; RingPassage::rejoin(low.0, high.0), EMPTIED);
     Ok(())
 }

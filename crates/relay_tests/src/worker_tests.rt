@@ -1,16 +1,17 @@
+// Two workers in two threads, over each passage, and the lines of a record.
 ghost use Rattle.std.specs.Prelude.{◌≡◌, ◌+◌, ◌<◌, true, IfOk, IfSome};
-ghost use Rattle.pump_frame.specs.Rows.{IsLawfulRow};
 ghost use Rattle.pump_core.specs.Passage.{Low, High};
 ghost use Rattle.passage.specs.Ready.{LowReady, HighReady};
 ghost use Rattle.low_process.specs.Looks.{arrival_of};
 ghost use Rattle.pump_core.specs.ReplyFrames.{IsLawfulReply};
 ghost use Rattle.relay_threads.specs.RecordLines.{HasLawfulFrame};
 
+use crate::fixtures::{Few, data, row};
 use arrayvec::ArrayVec;
 use low_process::{Arrival, LookHead};
 use passage::{Calm, Forwarded, Joined, Next, QueuePassage, WaitHighEnd, WaitLowEnd};
 use pump_core::{Feedback, Refusal, Reply, Seen};
-use pump_frame::{Frame, Item, Kind, Name, OutOfMemory, Payload, SessionRow};
+use pump_frame::{Frame, Item, OutOfMemory, Payload, SessionRow};
 use relay_ring::RingPassage;
 use relay_threads::{
     Gate, LookMade, Open, Work, append_look, append_opening, is_recorded, run_pair, try_run_pair,
@@ -51,31 +52,6 @@ impl Work for Meets<'_> {
         self.runs += 1;
         self.here.store(true, Ordering::SeqCst);
         self.has_met = comes(self.there);
-    }
-}
-
-/// Lets so many looks pass, and then none.
-#[derive(Drop)]
-struct Few {
-    looks: u64,
-    stops: u64,
-}
-
-impl Gate for Few {
-    ghost asked = { λ gate asks. ⊥ };
-
-    ghost stops = { λ gate. gate.stops };
-
-    fn pass<R: Wait>(&mut self, _rt: &R, looks: u64, _done: u64) -> bool {
-        if looks < self.looks {
-            return true;
-        }
-        self.stops = self.stops.saturating_add(1);
-        false
-    }
-
-    fn stops(&self) -> u64 {
-        self.stops
     }
 }
 
@@ -120,7 +96,7 @@ impl<L: WaitLowEnd> Work for Forwards<L> {
     ghost ran = { λ v w. LowReady (L.stands w.end) w.next × (L.place w.end ≡ L.place v.end) };
 
     fn run<R: Wait>(&mut self, rt: &R) {
-        for _ in 0..1_000_000 {
+        for _ in rt.forever() {
             if self.next == self.most {
                 return;
             }
@@ -169,7 +145,7 @@ impl<H: WaitHighEnd> Work for TakesUp<H> {
     ghost ran = { λ v w. HighReady (H.stands w.end) w.removed 0 × (H.place w.end ≡ H.place v.end) };
 
     fn run<R: Wait>(&mut self, rt: &R) {
-        for _ in 0..1_000_000 {
+        for _ in rt.forever() {
             if self.removed == self.most {
                 return;
             }
@@ -178,25 +154,6 @@ impl<H: WaitHighEnd> Work for TakesUp<H> {
             }
         }
     }
-}
-
-fn row() -> Option<SessionRow>
-    ensures { IfSome result (λ row. IsLawfulRow row) }
-{
-    Some(SessionRow {
-        id: 1,
-        low: Name::from_slice(b"weather")?,
-        high: Name::from_slice(b"watch")?,
-        capacity: 4,
-        message: 8,
-        window: 2,
-        start: 20000,
-        longest: 100_000,
-        resend: 500_000,
-        low_port: 0,
-        high_port: 0,
-        coarse: false,
-    })
 }
 
 #[test]
@@ -291,16 +248,6 @@ fn hello(row: &SessionRow) -> Frame {
     Frame::hello(row.id, &row.low, &row.high)
 }
 
-// Message 0, `a`.
-fn data() -> Option<Frame> {
-    Some(Frame {
-        kind: Kind::Data,
-        session: 1,
-        number: 0,
-        payload: Payload::from_slice(b"a")?,
-    })
-}
-
 // What a look did that took this arrival or not.
 fn done(taken: bool, reply: Option<Reply>, feedback: Feedback) -> LookHead {
     LookHead {
@@ -353,7 +300,7 @@ fn is_told(row: &SessionRow, look: &LookMade, text: &[u8]) -> bool {
 
 #[test]
 fn looks_are_told(rt: HostRuntime) -> Result<(), Fail> {
-    let (Some(row), Some(data)) = (row(), data()) else {
+    let (Some(row), Some(data)) = (row(), data(0)) else {
         return Err(Fail::new("no row"));
     };
     let hello = hello(&row);
@@ -454,7 +401,7 @@ fn a_record_begins_with_what_was_found(rt: HostRuntime) -> Result<(), Fail> {
     };
     let mut into: ArrayVec<u8, 2700> = ArrayVec::new();
     append_opening(&row, 3, true, &mut into);
-    let text = b"low-session 1 4 8 2 20000 100000 500000 weather watch 3 1\n";
+    let text = b"low-session 1 3 8 2 20000 100000 500000 weather watch 3 1\n";
     assert_eq!(rt; into.as_slice(), text.as_slice());
     Ok(())
 }

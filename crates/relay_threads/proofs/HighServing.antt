@@ -23,7 +23,7 @@ use Rattle.relay_threads.specs.declared.high_round.Plan.TheVariants.{End, Look}
 use Rattle.relay_threads.specs.Hearings.{Ending, AtFrame, AtBad, AtNotYet, AtEnded, AtFailed, AtMost, IsHearing, Leaves, heard_as, held_by, held_in}
 use Rattle.relay_threads.specs.Workers.{SendsFront}
 use Rattle.relay_threads.specs.HighRounds.{Made, Round, MakesLook, IsRound, GoOn, plan_of, frame_heard, cause, cause_by, cause_made, cause_look, why_of, is_frame, past_after, served, looks_of_rounds, looks_in_round, moments, data_sent, data_made, removes, removals, asks_before, asks_of, held_after, is_attached}
-use Rattle.relay_threads.specs.HighServes.{IsData, RoundMade, Serves, EndsBy}
+use Rattle.relay_threads.specs.HighServes.{IsData, RoundMade, Serves, EndsBy, CountsFault, CountsFaultIn}
 use Rattle.pump_link.proofs.Grown.{Draws-nil, Draws-then, Grows-nil, Grows-then}
 
 -- what all of the outside told, exactly, while no round has ended the call
@@ -127,10 +127,11 @@ sends_at p q a b w made e s = subst (λ (r : SessionRow). SendsFront a b w (spel
 whole_sends : (p q : List ℕ → Type 0) (bytes : List ℕ) → SendsFront p q true bytes → Grows p q bytes
 whole_sends p q bytes (front, rest, e, whole, g) = subst (Grows p q) (sym (e ∙ ap (λ t. front ++ t) (whole refl) ∙ append-nil front)) g
 
-module _ (gave g1 g2 : List Looked → Type 0) (s s1 s2 k k1 k2 : List ℕ → Type 0) (a a1 : List (ℕ × ℕ) → Type 0) (session : ℕ) (rounds : List Round) (was : Told gave g1 s s1 k k1 a a1 session rounds) where
-  pub exact_sends : (b : Bool) → SendsFront s s1 b (spellings (data_sent session rounds))
-  exact_sends b = (spellings (data_sent session rounds), [], sym (append-nil (spellings (data_sent session rounds))), (λ e. refl), was.bytes)
+-- all that was sent is a front of itself
+pub sent_all : (p q : List ℕ → Type 0) (b : Bool) (bytes : List ℕ) → Grows p q bytes → SendsFront p q b bytes
+sent_all p q b bytes grew = (bytes, [], sym (append-nil bytes), (λ e. refl), grew)
 
+module _ (gave g1 g2 : List Looked → Type 0) (s s1 s2 k k1 k2 : List ℕ → Type 0) (a a1 : List (ℕ × ℕ) → Type 0) (session : ℕ) (rounds : List Round) (was : Told gave g1 s s1 k k1 a a1 session rounds) where
   module _ (r : Round) (looks : Draws g1 g2 (looks_in_round r)) (sends : SendsFront s1 s2 r.is_sent (spellings (data_made session r.made))) (moment : Draws k1 k2 (r.moment ∷ [])) where
     pub looks_more : Draws gave g2 (looks_of_rounds (r ∷ rounds))
     looks_more = Draws-then gave g1 g2 _ _ was.looks looks
@@ -222,3 +223,23 @@ asks_ended old new b r rounds why e asks =
       by_cases (Behind n m) c = refl
       by_cases Looks c = refl
       by_cases Stopped c = absurd (cc)
+
+-- no round ends the call as the gate does
+pub no_stop : (b : Bool) (r : Round) (why : HighWhy) → cause b r ≡ Some why → why ≡ Stopped → ⊥
+no_stop b r why e stopped =
+    let c : is_cause (Some Stopped) ≡ true = ap (λ w. is_cause (Some w)) (sym stopped) ∙ ap is_cause (sym e) ∙ ending_cause b r.moment r.heard.bytes r.heard.ending r.made r.is_sent in
+    cc
+
+-- a fault of the disk in the newest round counts from the start of the call, too
+pub fault_since : (turn : Option HighWhy) (why : HighWhy) (start before now : ℕ) → turn ≡ Some why → start ≤ before → CountsFaultIn turn before now → CountsFault why start now
+fault_since turn why start before now is le counted = by_cases why (subst (λ t. CountsFaultIn t before now) is counted) where
+  by_cases : (why : HighWhy) → CountsFault why before now → CountsFault why start now
+  by_cases Gone counted = tt
+  by_cases Bad counted = tt
+  by_cases NotAttach counted = tt
+  by_cases LinkFailed counted = tt
+  by_cases (Device n) counted = (counted.0, omega (arith, le, counted.1))
+  by_cases (Ahead n m) counted = tt
+  by_cases (Behind n m) counted = tt
+  by_cases Looks counted = tt
+  by_cases Stopped counted = tt

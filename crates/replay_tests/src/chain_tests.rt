@@ -1,7 +1,7 @@
-use chain_replay::replay_chain;
-use disk_model::{Disk, DiskName, MemDisk, MemShelf, PlainDisk, Role};
-use pump_link::{MemSink, MemSource};
-use script_replay::replay;
+//! Replays of two sessions as a chain: the second one's sender reads what the first one's receiver has.
+
+use crate::stage::{Play, Stage};
+use disk_model::{DiskName, MemDisk, PlainDisk, Role};
 use std::alloc::Global;
 use std::test::Fail;
 
@@ -9,58 +9,32 @@ const P: &str = "session 1 3 8 2 20000 100000 500000 weather watch\n";
 
 const Q: &str = "session 2 3 8 2 20000 100000 500000 watch vault\n";
 
-/// A shelf with new disks for both sessions.
-fn new_shelf(alloc: Global) -> Result<MemShelf<PlainDisk>, Fail> {
+/// A stage with new disks for both sessions.
+fn new_stage(alloc: Global) -> Result<Stage<PlainDisk>, Fail> {
     let mut disks = Vec::new(alloc);
     for session in [1, 2] {
         for (role, room) in [(Role::Low, 4096), (Role::High, 80), (Role::Recv, 4096)] {
             disks.push((DiskName { session, role }, PlainDisk::new(alloc, room)?))?;
         }
     }
-    Ok(MemShelf::new(disks, Vec::new(alloc), Vec::new(alloc)))
+    Ok(Stage::new(disks, Vec::new(alloc)))
 }
 
-fn source(alloc: Global, parts: &[&str]) -> Result<MemSource, Fail> {
-    let mut bytes = Vec::new(alloc);
-    for part in parts {
-        bytes.extend_from_slice(part.as_bytes())?;
-    }
-    Ok(MemSource::new(bytes, 7, Vec::new(alloc)))
-}
-
-fn sink(alloc: Global) -> Result<MemSink, Fail> {
-    Ok(MemSink::new(vec![in alloc; 0; 2048]?, 2048, Vec::new(alloc)))
-}
-
-/// The status and the output of a script over the disks of the shelf.
-fn run<D: Disk>(
-    alloc: Global,
-    shelf: &mut MemShelf<D>,
-    parts: &[&str],
-) -> Result<(u8, Vec<u8>), Fail> {
-    let mut script = source(alloc, parts)?;
-    let mut out = sink(alloc)?;
-    let status = replay_chain(alloc, shelf, &mut script, &mut out).status();
-    Ok((status, Vec::from_slice(alloc, out.written())?))
-}
-
-/// Whether the script ends with this status over the disks of the shelf, and writes this.
+/// Whether the chain ends with this status over the disks of the stage, and writes this.
 fn ends(
     alloc: Global,
-    shelf: &mut MemShelf<PlainDisk>,
+    stage: &mut Stage<PlainDisk>,
     parts: &[&str],
     status: u8,
     output: &str,
 ) -> Result<bool, Fail> {
-    let (ended, written) = run(alloc, shelf, parts)?;
-    Ok(ended == status && written.as_slice() == output.as_bytes())
+    Ok(stage.ends(alloc, Play::Chain, parts, status, &[output])?)
 }
 
-/// A script of one session goes over the disks of the shelf.
-fn goes(alloc: Global, shelf: &mut MemShelf<PlainDisk>, parts: &[&str]) -> Result<bool, Fail> {
-    let mut script = source(alloc, parts)?;
-    let mut out = sink(alloc)?;
-    Ok(replay(alloc, shelf, &mut script, &mut out).status() == 0)
+/// A script of one session, or of two apart, goes over the disks of the stage.
+fn goes(alloc: Global, stage: &mut Stage<PlainDisk>, parts: &[&str]) -> Result<bool, Fail> {
+    let (status, _) = stage.play(alloc, Play::Sessions, parts)?;
+    Ok(status == 0)
 }
 
 const SENT_ON: &str = "look 1 10 00000000 hello weather watch
@@ -97,13 +71,13 @@ end 2 1 1 1
 #[test]
 fn a_message_goes_through_both_pumps(rt: HostRuntime) -> Result<(), Fail> {
     let alloc = rt.alloc();
-    let mut shelf = new_shelf(alloc)?;
-    assert!(rt; ends(alloc, &mut shelf, &[P, Q, SENT_ON], 0, PRINTED)?);
+    let mut stage = new_stage(alloc)?;
+    assert!(rt; ends(alloc, &mut stage, &[P, Q, SENT_ON], 0, PRINTED)?);
     // The disks are back on the shelf, and the pumps go on over them.
     assert!(rt;
         ends(
             alloc,
-            &mut shelf,
+            &mut stage,
             &["# again\n", P, "\n", Q],
             0,
             "end 1 1 1 1\nend 2 1 1 1\n"
@@ -117,22 +91,22 @@ const STORED: &str = "look 2 10 00000000 hello watch vault\nlook 2 100 00000000 
 #[test]
 fn disks_that_are_not_linked_are_refused(rt: HostRuntime) -> Result<(), Fail> {
     let alloc = rt.alloc();
-    let mut shelf = new_shelf(alloc)?;
-    assert!(rt; goes(alloc, &mut shelf, &[Q, STORED])?);
-    assert!(rt; ends(alloc, &mut shelf, &[P, Q], 8, "fault disk 2 low 12 1 0\n")?);
+    let mut stage = new_stage(alloc)?;
+    assert!(rt; goes(alloc, &mut stage, &[Q, STORED])?);
+    assert!(rt; ends(alloc, &mut stage, &[P, Q], 8, "fault disk 2 low 12 1 0\n")?);
     let taken =
         "look 1 10 00000000 hello weather watch\nlook 1 100 00000000 data 0 61\nlook 1 100 00000000\ndone 1 120 50\n";
-    assert!(rt; goes(alloc, &mut shelf, &[P, taken])?);
-    assert!(rt; ends(alloc, &mut shelf, &[P, Q], 8, "fault disk 2 low 13 0 0\n")?);
+    assert!(rt; goes(alloc, &mut stage, &[P, taken])?);
+    assert!(rt; ends(alloc, &mut stage, &[P, Q], 8, "fault disk 2 low 13 0 0\n")?);
     // The two sessions are apart again, each with its own disks.
-    assert!(rt; goes(alloc, &mut shelf, &[P, Q])?);
+    assert!(rt; goes(alloc, &mut stage, &[P, Q])?);
     Ok(())
 }
 
 #[test]
 fn lines_that_are_not_of_a_chain_are_refused(rt: HostRuntime) -> Result<(), Fail> {
     let alloc = rt.alloc();
-    let mut shelf = new_shelf(alloc)?;
+    let mut stage = new_stage(alloc)?;
     for (script, output) in [
         (&[P][..], "fault script 2\n"),
         (&[], "fault script 1\n"),
@@ -159,7 +133,7 @@ fn lines_that_are_not_of_a_chain_are_refused(rt: HostRuntime) -> Result<(), Fail
         (&[P, Q, "look 2 10 00000000\n"], "fault script 3\n"),
         (&[P, Q, "step 2 10\n"], "fault script 3\n"),
     ] {
-        assert!(rt; ends(alloc, &mut shelf, script, 5, output)?);
+        assert!(rt; ends(alloc, &mut stage, script, 5, output)?);
     }
     Ok(())
 }
@@ -167,13 +141,13 @@ fn lines_that_are_not_of_a_chain_are_refused(rt: HostRuntime) -> Result<(), Fail
 #[test]
 fn ends_come_by_rising_number(rt: HostRuntime) -> Result<(), Fail> {
     let alloc = rt.alloc();
-    let mut shelf = new_shelf(alloc)?;
-    assert!(rt; ends(alloc, &mut shelf, &[Q, P], 0, "end 1 0 0 0\nend 2 0 0 0\n")?);
+    let mut stage = new_stage(alloc)?;
+    assert!(rt; ends(alloc, &mut stage, &[Q, P], 0, "end 1 0 0 0\nend 2 0 0 0\n")?);
     // Either session may be made coarse, before all that is done with them.
     assert!(rt;
         ends(
             alloc,
-            &mut shelf,
+            &mut stage,
             &[P, Q, "coarse 2\ncoarse 1\n"],
             0,
             "end 1 0 0 0\nend 2 0 0 0\n"
@@ -182,7 +156,7 @@ fn ends_come_by_rising_number(rt: HostRuntime) -> Result<(), Fail> {
     assert!(rt;
         ends(
             alloc,
-            &mut shelf,
+            &mut stage,
             &[P, Q, "step 2 5 00000000\ncoarse 1\n"],
             5,
             "low 2 5 welcome 0\nfault script 4\n"
@@ -266,7 +240,8 @@ end 2 2 0 0
 fn one_frame_is_under_way(rt: HostRuntime) -> Result<(), Fail> {
     let alloc = rt.alloc();
     for (script, printed) in [(AFTER, AFTER_PRINTED), (GONE, GONE_PRINTED)] {
-        let (status, written) = run(alloc, &mut new_shelf(alloc)?, &[P, Q, TWO, script])?;
+        let mut stage = new_stage(alloc)?;
+        let (status, written) = stage.play(alloc, Play::Chain, &[P, Q, TWO, script])?;
         assert_eq!(rt; status, 0);
         assert!(rt;
             written.as_slice().strip_prefix(TWO_PRINTED.as_bytes()) == Some(printed.as_bytes())
@@ -278,21 +253,21 @@ fn one_frame_is_under_way(rt: HostRuntime) -> Result<(), Fail> {
 #[test]
 fn a_pump_is_refused_for_its_own_cause(rt: HostRuntime) -> Result<(), Fail> {
     let alloc = rt.alloc();
-    let mut shelf = new_shelf(alloc)?;
+    let mut stage = new_stage(alloc)?;
     assert!(rt;
         goes(
             alloc,
-            &mut shelf,
+            &mut stage,
             &["session 1 4 8 2 20000 100000 500000 weather watch\n"]
         )?
     );
-    assert!(rt; ends(alloc, &mut shelf, &[P, Q], 8, "fault disk 1 low 3 4 3\n")?);
+    assert!(rt; ends(alloc, &mut stage, &[P, Q], 8, "fault disk 1 low 3 4 3\n")?);
     Ok(())
 }
 
-/// A shelf with new disks for both sessions, where this call of the first receiver's disk fails, counted
+/// A stage with new disks for both sessions, where this call of the first receiver's disk fails, counted
 /// from 0.
-fn failing_shelf(alloc: Global, call: u64) -> Result<MemShelf<MemDisk>, Fail> {
+fn failing_stage(alloc: Global, call: u64) -> Result<Stage<MemDisk>, Fail> {
     let mut disks = Vec::new(alloc);
     for session in [1, 2] {
         for role in [Role::Low, Role::High, Role::Recv] {
@@ -304,7 +279,7 @@ fn failing_shelf(alloc: Global, call: u64) -> Result<MemShelf<MemDisk>, Fail> {
             disks.push((DiskName { session, role }, disk))?;
         }
     }
-    Ok(MemShelf::new(disks, Vec::new(alloc), Vec::new(alloc)))
+    Ok(Stage::new(disks, Vec::new(alloc)))
 }
 
 /// What is printed before the message is read that is to be sent on.
@@ -323,7 +298,8 @@ fn a_message_that_is_not_read_is_not_sent_on(rt: HostRuntime) -> Result<(), Fail
     let alloc = rt.alloc();
     let mut unread = 0u32;
     for call in 0..64 {
-        let (status, written) = run(alloc, &mut failing_shelf(alloc, call)?, &[P, Q, SENT_ON])?;
+        let mut stage = failing_stage(alloc, call)?;
+        let (status, written) = stage.play(alloc, Play::Chain, &[P, Q, SENT_ON])?;
         let front = written
             .as_slice()
             .strip_suffix(b"fault device 1 recv\n".as_slice());

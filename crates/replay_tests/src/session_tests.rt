@@ -1,8 +1,9 @@
+//! Replays of one session: what each line prints, where a script stops, and which disks are refused.
+
 ghost use Rattle.std.specs.Prelude.{◌<◌, ◌≤◌};
 
-use disk_model::{Disk, DiskName, MemDisk, MemShelf, PlainDisk, Role};
-use pump_link::{MemSink, MemSource};
-use script_replay::replay;
+use crate::stage::{Play, Stage, are_parts, joined};
+use disk_model::{Disk, DiskName, MemDisk, PlainDisk, Role};
 use std::alloc::{AllocError, Global};
 use std::test::Fail;
 
@@ -20,16 +21,8 @@ const ACK: &str = "look 1 177 00000000\nlook 1 178 00000000\n";
 
 const ACKED: &str = "low 1 178 ack 0\n";
 
-pub fn joined(alloc: Global, parts: &[&str]) -> Result<Vec<u8>, AllocError> {
-    let mut bytes = Vec::new(alloc);
-    for part in parts {
-        bytes.extend_from_slice(part.as_bytes())?;
-    }
-    Ok(bytes)
-}
-
-/// A shelf with new disks for session 1, on which these calls fail.
-fn new_shelf(alloc: Global, fails: &[u64]) -> Result<MemShelf<PlainDisk>, Fail> {
+/// A stage with new disks for session 1, where these calls of the shelf fail.
+fn new_stage(alloc: Global, fails: &[u64]) -> Result<Stage<PlainDisk>, Fail> {
     let mut disks = Vec::new(alloc);
     for (role, room) in [
         (Role::Low, 65_744),
@@ -38,23 +31,10 @@ fn new_shelf(alloc: Global, fails: &[u64]) -> Result<MemShelf<PlainDisk>, Fail> 
     ] {
         disks.push((DiskName { session: 1, role }, PlainDisk::new(alloc, room)?))?;
     }
-    let fails = Vec::from_slice(alloc, fails)?;
-    Ok(MemShelf::new(disks, Vec::new(alloc), fails))
+    Ok(Stage::new(disks, Vec::from_slice(alloc, fails)?))
 }
 
-/// The status and the output of a replay that goes on with the disks of a shelf.
-fn run_on<D: Disk>(
-    alloc: Global,
-    shelf: &mut MemShelf<D>,
-    parts: &[&str],
-) -> Result<(u8, Vec<u8>), AllocError> {
-    let mut source = MemSource::new(joined(alloc, parts)?, 7, Vec::new(alloc));
-    let mut sink = MemSink::new(vec![in alloc; 0; 4096]?, 4096, Vec::new(alloc));
-    let status = replay(alloc, shelf, &mut source, &mut sink).status();
-    Ok((status, Vec::from_slice(alloc, sink.written())?))
-}
-
-/// The status and the output of a replay of a script that comes in pieces, and new disks.
+/// The status and the output of a replay of a script that comes in pieces, over new disks.
 pub fn run(
     alloc: Global,
     script: Vec<u8>,
@@ -64,19 +44,16 @@ pub fn run(
 ) -> Result<(u8, Vec<u8>), Fail>
     requires { 0 < piece }
 {
-    let mut shelf = new_shelf(alloc, &[])?;
-    let mut source = MemSource::new(script, piece, Vec::from_slice(alloc, read_fails)?);
-    let room = vec![in alloc; 0; 4096]?;
-    let mut sink = MemSink::new(room, 4096, Vec::from_slice(alloc, write_fails)?);
-    let status = replay(alloc, &mut shelf, &mut source, &mut sink).status();
-    Ok((status, Vec::from_slice(alloc, sink.written())?))
+    let read_fails = Vec::from_slice(alloc, read_fails)?;
+    let write_fails = Vec::from_slice(alloc, write_fails)?;
+    let mut stage = new_stage(alloc, &[])?;
+    Ok(stage.run(Play::Sessions, script, piece, read_fails, write_fails)?)
 }
 
-/// Whether the replay of the parts ends with this status and writes this.
+/// Whether the replay of the parts over new disks ends with this status and writes this.
 pub fn replays(alloc: Global, parts: &[&str], status: u8, output: &[&str]) -> Result<bool, Fail> {
-    let wanted = joined(alloc, output)?;
-    let (ended, written) = run(alloc, joined(alloc, parts)?, 7, &[], &[])?;
-    Ok(ended == status && written.as_slice() == wanted.as_slice())
+    let mut stage = new_stage(alloc, &[])?;
+    Ok(stage.ends(alloc, Play::Sessions, parts, status, output)?)
 }
 
 #[test]
@@ -399,43 +376,55 @@ fn replays_restarts(rt: HostRuntime) -> Result<(), Fail> {
     Ok(())
 }
 
-/// Whether the three disks of session 1 are on the shelf.
-fn are_back<D: Disk>(shelf: &MemShelf<D>) -> bool {
-    [Role::Low, Role::High, Role::Recv].iter().all(|role| shelf
-        .home(DiskName {
-            session: 1,
-            role: *role,
-        })
-        .is_some())
-}
-
 #[test]
 fn goes_on_with_the_disks_of_the_last_replay(rt: HostRuntime) -> Result<(), Fail> {
     let alloc = rt.alloc();
-    let mut shelf = new_shelf(alloc, &[])?;
+    let mut stage = new_stage(alloc, &[])?;
     let first = [P, H, STORE, SENT, "carry 1 0\nhigh 1 5\n"];
-    let (status, written) = run_on(alloc, &mut shelf, &first)?;
+    let (status, written) = stage.play(alloc, Play::Sessions, &first)?;
     assert_eq!(rt; status, 5);
     assert!(rt; written.as_slice().ends_with(b"took 1 0\nfault script 7\n"));
-    assert!(rt; are_back(&shelf));
-    let second = [
+    assert!(rt; stage.are_back());
+    let second: &[&str] = &[
         P,
         "look 1 1 00000000 hello weather watch\nreceiver-restart 1 9\n",
     ];
-    let (status, written) = run_on(alloc, &mut shelf, &second)?;
-    assert_eq!(rt; status, 0);
-    assert_eq!(rt;
-        written.as_slice(),
-        b"low 1 1 welcome 1\nattach 1 9 1\nremoved 1 9 0 -\nend 1 1 1 1\n".as_slice()
-    );
-    assert!(rt; are_back(&shelf));
     // Another row's disks are refused, and stay as they are.
-    let other = "session 1 4 8 2 20000 100000 500000 weather watch\n";
-    let (status, written) = run_on(alloc, &mut shelf, &[other])?;
-    assert_eq!(rt; status, 8);
-    assert_eq!(rt; written.as_slice(), b"fault disk 1 low 3 3 4\n".as_slice());
-    assert!(rt; are_back(&shelf));
+    let other: &[&str] = &["session 1 4 8 2 20000 100000 500000 weather watch\n"];
+    for (script, status, output) in [
+        (
+            second,
+            0,
+            "low 1 1 welcome 1\nattach 1 9 1\nremoved 1 9 0 -\nend 1 1 1 1\n",
+        ),
+        (other, 8, "fault disk 1 low 3 3 4\n"),
+    ] {
+        assert!(rt; stage.ends(alloc, Play::Sessions, script, status, &[output])?);
+        assert!(rt; stage.are_back());
+    }
     Ok(())
+}
+
+/// Whether the replay of the greeting ends with this status and writes this, and the disks are on the
+/// shelf again.
+fn greeting_ends<D: Disk + Drop>(
+    alloc: Global,
+    mut stage: Stage<D>,
+    status: u8,
+    output: &str,
+) -> Result<bool, Fail> {
+    let ended = stage.ends(alloc, Play::Sessions, &[P, H], status, &[output])?;
+    Ok(ended && stage.are_back())
+}
+
+/// A stage with these disks for session 1, and an empty one for its receiver.
+fn stage_of(alloc: Global, low: PlainDisk, high: PlainDisk) -> Result<Stage<PlainDisk>, Fail> {
+    let mut disks = Vec::new(alloc);
+    let recv = PlainDisk::new(alloc, 4096)?;
+    for (role, disk) in [(Role::Low, low), (Role::High, high), (Role::Recv, recv)] {
+        disks.push((DiskName { session: 1, role }, disk))?;
+    }
+    Ok(Stage::new(disks, Vec::new(alloc)))
 }
 
 #[test]
@@ -449,18 +438,8 @@ fn refuses_the_disks_of_another_session(rt: HostRuntime) -> Result<(), Fail> {
         ((81, 9), 0, "fault disk 1 low 6 0 9\n"),
         ((0, 0x4e), 1, "fault disk 1 recv 7 0 1\n"),
     ] {
-        let mut disks = Vec::new(alloc);
-        let low = old_disk(alloc, b'L', 1, 110, change)?;
-        let high = old_disk(alloc, b'H', removed, 110, (0, 0x4e))?;
-        let recv = PlainDisk::new(alloc, 4096)?;
-        for (role, disk) in [(Role::Low, low), (Role::High, high), (Role::Recv, recv)] {
-            disks.push((DiskName { session: 1, role }, disk))?;
-        }
-        let mut shelf = MemShelf::new(disks, Vec::new(alloc), Vec::new(alloc));
-        let (status, written) = run_on(alloc, &mut shelf, &[P, H])?;
-        assert_eq!(rt; status, 8);
-        assert_eq!(rt; written.as_slice(), line.as_bytes());
-        assert!(rt; are_back(&shelf));
+        let stage = old_stage(alloc, removed, change)?;
+        assert!(rt; greeting_ends(alloc, stage, 8, line)?, "{line}");
     }
     Ok(())
 }
@@ -473,17 +452,14 @@ fn stops_where_a_disk_is_not_there(rt: HostRuntime) -> Result<(), Fail> {
         (1, "fault device 1 high\n"),
         (2, "fault device 1 recv\n"),
     ] {
-        let mut shelf = new_shelf(alloc, &[call])?;
-        let (status, written) = run_on(alloc, &mut shelf, &[P, H])?;
-        assert_eq!(rt; status, 7);
-        assert_eq!(rt; written.as_slice(), line.as_bytes());
-        assert!(rt; are_back(&shelf));
+        let stage = new_stage(alloc, &[call])?;
+        assert!(rt; greeting_ends(alloc, stage, 7, line)?, "{line}");
     }
     Ok(())
 }
 
-/// The shelf with a low disk that fails in this call, counted from the first.
-fn failing_shelf(alloc: Global, call: u64) -> Result<MemShelf<MemDisk>, Fail> {
+/// The stage with a low disk that fails in this call, counted from the first.
+fn failing_stage(alloc: Global, call: u64) -> Result<Stage<MemDisk>, Fail> {
     let mut disks = Vec::new(alloc);
     for (role, room) in [(Role::Low, 110), (Role::High, 80), (Role::Recv, 4096)] {
         let fails = match role {
@@ -493,7 +469,7 @@ fn failing_shelf(alloc: Global, call: u64) -> Result<MemShelf<MemDisk>, Fail> {
         let disk = MemDisk::new(alloc, room, 64, fails)?;
         disks.push((DiskName { session: 1, role }, disk))?;
     }
-    Ok(MemShelf::new(disks, Vec::new(alloc), Vec::new(alloc)))
+    Ok(Stage::new(disks, Vec::new(alloc)))
 }
 
 #[test]
@@ -504,16 +480,16 @@ fn stops_where_a_call_of_a_disk_fails(rt: HostRuntime) -> Result<(), Fail> {
     let store = b"low 1 10 welcome 0\nlow 1 100 refuse 5 0\nfault device 1 low\n".as_slice();
     let mut stores = 0u32;
     for call in 0..40 {
-        let mut shelf = failing_shelf(alloc, call)?;
-        let (status, written) = run_on(alloc, &mut shelf, &[P, H, STORE])?;
+        let mut stage = failing_stage(alloc, call)?;
+        let (status, written) = stage.play(alloc, Play::Sessions, &[P, H, STORE])?;
         let is_store = written.as_slice() == store;
         let is_fault = is_store || written.as_slice() == opening;
         assert_eq!(rt; status, if is_fault { 7 } else { 0 });
-        assert!(rt; are_back(&shelf));
+        assert!(rt; stage.are_back());
         if is_store {
             stores = stores.saturating_add(1);
             // What the disks hold opens again.
-            let (status, _) = run_on(alloc, &mut shelf, &[P])?;
+            let (status, _) = stage.play(alloc, Play::Sessions, &[P])?;
             assert_eq!(rt; status, 0);
         }
     }
@@ -547,6 +523,13 @@ fn old_disk(
         Ok(()) => Ok(disk),
         Err(_) => Err(Fail::new("no room")),
     }
+}
+
+/// A stage with such disks; of the low one a byte is changed.
+fn old_stage(alloc: Global, removed: u8, change: (usize, u8)) -> Result<Stage<PlainDisk>, Fail> {
+    let low = old_disk(alloc, b'L', 1, 110, change)?;
+    let high = old_disk(alloc, b'H', removed, 110, (0, 0x4e))?;
+    stage_of(alloc, low, high)
 }
 
 /// A low side alone, but for how much it has stored.
@@ -639,7 +622,7 @@ fn ends(
 {
     let script = joined(alloc, parts)?;
     let (status, written) = run(alloc, script, piece, read_fails, write_fails)?;
-    Ok(status == wanted.0 && written.as_slice() == wanted.1.as_bytes())
+    Ok(status == wanted.0 && are_parts(written.as_slice(), &[wanted.1]))
 }
 
 #[test]

@@ -1,14 +1,15 @@
+//! Replays of several sessions, one beside the other: each has its own lines, disks and end.
+
 ghost use Rattle.std.specs.Prelude.{◌≤◌};
 
-use disk_model::{DiskName, MemShelf, PlainDisk, Role};
-use pump_link::{MemSink, MemSource};
-use script_replay::replay;
+use crate::stage::{Play, Stage};
+use disk_model::{DiskName, PlainDisk, Role};
 use std::alloc::Global;
 use std::fmt::Write;
 use std::test::Fail;
 
-/// A shelf with new disks for these sessions.
-fn new_shelf(alloc: Global, sessions: &[u32]) -> Result<MemShelf<PlainDisk>, Fail> {
+/// A stage with new disks for these sessions.
+fn new_stage(alloc: Global, sessions: &[u32]) -> Result<Stage<PlainDisk>, Fail> {
     let mut disks = Vec::new(alloc);
     for session in sessions {
         for (role, room) in [
@@ -23,20 +24,7 @@ fn new_shelf(alloc: Global, sessions: &[u32]) -> Result<MemShelf<PlainDisk>, Fai
             disks.push((name, PlainDisk::new(alloc, room)?))?;
         }
     }
-    Ok(MemShelf::new(disks, Vec::new(alloc), Vec::new(alloc)))
-}
-
-/// The status and the output of a replay over the disks of a shelf.
-fn run_on(
-    alloc: Global,
-    shelf: &mut MemShelf<PlainDisk>,
-    script: &str,
-) -> Result<(u8, Vec<u8>), Fail> {
-    let bytes = Vec::from_slice(alloc, script.as_bytes())?;
-    let mut source = MemSource::new(bytes, 64, Vec::new(alloc));
-    let mut sink = MemSink::new(vec![in alloc; 0; 32_768]?, 32_768, Vec::new(alloc));
-    let status = replay(alloc, shelf, &mut source, &mut sink).status();
-    Ok((status, Vec::from_slice(alloc, sink.written())?))
+    Ok(Stage::new(disks, Vec::new(alloc)))
 }
 
 const TWO: &str =
@@ -49,17 +37,8 @@ const GREETED: &str = "low 1 10 welcome 0\nlow 2 10 welcome 0\n";
 
 /// Whether the replay of these lines on new disks of the sessions 1, 2 and 3 ends so.
 fn ends(alloc: Global, lines: &[&str], wanted: (u8, &[&str])) -> Result<bool, Fail> {
-    let mut shelf = new_shelf(alloc, &[1, 2, 3])?;
-    let mut script = String::new(alloc);
-    for line in lines {
-        script.push_str(line)?;
-    }
-    let mut output = String::new(alloc);
-    for line in wanted.1 {
-        output.push_str(line)?;
-    }
-    let (status, written) = run_on(alloc, &mut shelf, script.as_str())?;
-    Ok(status == wanted.0 && written.as_slice() == output.as_bytes())
+    let mut stage = new_stage(alloc, &[1, 2, 3])?;
+    Ok(stage.ends(alloc, Play::Sessions, lines, wanted.0, wanted.1)?)
 }
 
 #[test]
@@ -191,39 +170,26 @@ fn refuses_a_seventeenth_session(rt: HostRuntime) -> Result<(), Fail> {
             return Err(Fail::new("no memory"));
         };
     }
-    let mut shelf = new_shelf(alloc, &[])?;
-    let (status, written) = run_on(alloc, &mut shelf, script.as_str())?;
-    assert_eq!(rt; status, 5);
-    assert_eq!(rt; written.as_slice(), b"fault script 17\n".as_slice());
+    assert!(rt; ends(alloc, &[script.as_str()], (5, &["fault script 17\n"]))?);
     Ok(())
 }
 
 #[test]
 fn keeps_the_disks_of_the_sessions_before_a_refused_one(rt: HostRuntime) -> Result<(), Fail> {
     let alloc = rt.alloc();
-    let mut shelf = new_shelf(alloc, &[1, 2])?;
-    let one = "session 1 3 8 2 20000 100000 500000 weather watch\n";
+    let mut stage = new_stage(alloc, &[1, 2])?;
     let first = "look 1 10 00000000 hello weather watch\nlook 1 20 00000000 data 0 61\n";
-    let mut script = String::new(alloc);
-    for line in [TWO, first] {
-        script.push_str(line)?;
-    }
-    let (status, _) = run_on(alloc, &mut shelf, script.as_str())?;
+    let (status, _) = stage.play(alloc, Play::Sessions, &[TWO, first])?;
     assert_eq!(rt; status, 0);
     // The disks of session 2 are another row's.
-    let mut script = String::new(alloc);
-    for line in [one, "session 2 4 8 2 20000 100000 500000 weather watch\n"] {
-        script.push_str(line)?;
+    let one = "session 1 3 8 2 20000 100000 500000 weather watch\n";
+    let other = "session 2 4 8 2 20000 100000 500000 weather watch\n";
+    for (script, status, output) in [
+        (&[one, other][..], 8, "fault disk 2 low 3 3 4\n"),
+        (&[TWO], 0, "end 1 1 0 0\nend 2 0 0 0\n"),
+    ] {
+        assert!(rt; stage.ends(alloc, Play::Sessions, script, status, &[output])?);
     }
-    let (status, written) = run_on(alloc, &mut shelf, script.as_str())?;
-    assert_eq!(rt; status, 8);
-    assert_eq!(rt; written.as_slice(), b"fault disk 2 low 3 3 4\n".as_slice());
-    let (status, written) = run_on(alloc, &mut shelf, TWO)?;
-    assert_eq!(rt; status, 0);
-    assert_eq!(rt;
-        written.as_slice(),
-        b"end 1 1 0 0\nend 2 0 0 0\n".as_slice()
-    );
     Ok(())
 }
 
@@ -321,12 +287,9 @@ fn replays_forty_weather_reports(rt: HostRuntime) -> Result<(), Fail> {
     let alloc = rt.alloc();
     let mut outputs = Vec::new(alloc);
     for (one, two) in [(true, true), (true, false), (false, true)] {
-        let mut shelf = new_shelf(alloc, &[1, 2])?;
-        let (status, written) = run_on(
-            alloc,
-            &mut shelf,
-            forty_reports(alloc, one, two)?.as_str(),
-        )?;
+        let script = forty_reports(alloc, one, two)?;
+        let mut stage = new_stage(alloc, &[1, 2])?;
+        let (status, written) = stage.play(alloc, Play::Sessions, &[script.as_str()])?;
         assert_eq!(rt; status, 0);
         outputs.push(written)?;
     }

@@ -1,5 +1,6 @@
 pub mod Accepting
 pub mod Apart
+pub mod Behind
 pub mod Beside
 pub mod BesideStop
 pub mod Bounds

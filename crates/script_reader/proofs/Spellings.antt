@@ -1,7 +1,6 @@
 -- What is printed of a lawful line is this line of the grammar.
-use Rattle.std.proofs.Common.{◌≡◌, ℕ, ◌+◌, ◌^◌, ◌<◌, ◌≤◌, zero, suc, inl, inr, Bool, false, List, [], ◌∷◌, ◌++◌, length, slice_index, codes, decimal, refl, sym, ap, ◌∙◌, append_assoc, arith}
-use Rattle.std.proofs.lemmas.Grind.{flat_map-append}
-use Rattle.std.proofs.lemmas.List.{append-nil, length-append}
+use Rattle.std.proofs.Common.{◌≡◌, ℕ, ◌+◌, ◌^◌, ◌<◌, ◌≤◌, zero, suc, inl, inr, false, List, [], ◌∷◌, ◌++◌, length, slice_index, codes, refl, sym, ap, ◌∙◌, append_assoc, arith}
+use Rattle.std.proofs.lemmas.List.{length-append}
 use Rattle.std.specs.Int.{to_be_bytes, w32}
 use Rattle.hex.specs.Hex.{encode_lower}
 use Rattle.hex.proofs.HexLemmas.{decode_of-encode_lower}
@@ -12,14 +11,11 @@ use Rattle.script_reader.specs.declared.line.Arriving.{Arriving}
 use Rattle.script_reader.specs.declared.line.Arriving.TheVariants.{Nothing, Hello, Data, Raw}
 use Rattle.script_reader.specs.declared.line.ToldFeedback.{ToldFeedback}
 use Rattle.script_reader.specs.declared.line.ToldFeedback.TheVariants.{Quiet, Full, Pair}
-use Rattle.script_reader.specs.Grammar.{spaced, outcome_field, IsWord, IsHex, IsRow, IsArriving, IsFeedback, IsSpelled, IsLine}
+use Rattle.script_reader.specs.Grammar.{spaced, IsWord, IsHex, IsRow, IsArriving, IsFeedback, IsSpelled, IsLine}
 use Rattle.script_reader.specs.Lawful.{IsLawfulArriving, IsLawfulFeedback, IsLawfulLine}
 use Rattle.script_reader.specs.Spelling.{word_field, hex_field, arriving_fields, feedback_field, line_fields, line_spelling}
-use Rattle.script_reader.specs.Typed.{behind, IsPrinted, IsTypedRow, IsTypedArriving, IsTypedFeedback, IsTypedLine}
-
-pub spaced_behind : (first : List ℕ) (fields : List (List ℕ)) → spaced (first ∷ fields) ≡ first ++ behind fields
-spaced_behind first [] = sym (append-nil first)
-spaced_behind first (field ∷ fields) = ap (λ r. first ++ 32 ∷ r) (spaced_behind field fields)
+use Rattle.script_reader.specs.Typed.{behind, IsBehind, IsPrinted, IsTypedRow, IsTypedArriving, IsTypedFeedback, IsTypedLine, IsPutLine}
+use Rattle.script_reader.proofs.Behind.{spaced_behind}
 
 word_bytes : (n i : ℕ) → slice_index (to_be_bytes w32 n) i < 256
 word_bytes n zero = omega arith
@@ -101,27 +97,8 @@ printed_fields (ReceiverRestart session moment) l t = inr (line_fields (Receiver
 pub printed_line : (line : Line) → IsTypedLine line → length (line_spelling line) ≤ 2400 → IsLawfulLine line → IsLine line (line_spelling line)
 printed_line line t short l = (short, printed_fields line l t)
 
--- nine pieces, one behind another
-pub nine_joined : (o a b c d e f g h i : List ℕ)
-    → ((((((((o ++ a) ++ b) ++ c) ++ d) ++ e) ++ f) ++ g) ++ h) ++ i ≡ o ++ (a ++ (b ++ (c ++ (d ++ (e ++ (f ++ (g ++ (h ++ (i ++ [])))))))))
-nine_joined o a b c d e f g h i = simp (append_assoc, append-nil)
-
-told_pieces : (old word session moment w outcome told arrival : List ℕ)
-    → (((((old ++ word) ++ (session ++ (moment ++ []))) ++ w) ++ outcome) ++ told) ++ arrival ≡ old ++ (word ++ (session ++ (moment ++ (w ++ (outcome ++ (told ++ arrival))))))
-told_pieces old word session moment w outcome told arrival = simp (append_assoc, append-nil)
-
-pub told_joined : (old : List ℕ) (session moment w : ℕ) (fault : Bool) (told : ToldFeedback) (arrival : Arriving)
-    → (((((old ++ codes "told") ++ behind (decimal session ∷ decimal moment ∷ [])) ++ 32 ∷ word_field w) ++ 32 ∷ outcome_field fault) ++ 32 ∷ feedback_field told) ++ behind (arriving_fields arrival)
-    ≡ old ++ line_spelling (Told session moment w fault told arrival)
-told_joined old session moment w fault told arrival =
-    rw (spaced_behind (feedback_field told) (arriving_fields arrival))
-    (told_pieces old (codes "told") (32 ∷ decimal session) (32 ∷ decimal moment) (32 ∷ word_field w) (32 ∷ outcome_field fault) (32 ∷ feedback_field told) (behind (arriving_fields arrival)))
-
--- a word and fields, and two fields more
-pub two_more : (old word : List ℕ) (fields : List (List ℕ)) (a b : List ℕ) → (((old ++ word) ++ behind fields) ++ 32 ∷ a) ++ 32 ∷ b ≡ old ++ spaced (word ∷ (fields ++ a ∷ b ∷ []))
-two_more old word fields a b =
-    append_assoc ((old ++ word) ++ behind fields) (32 ∷ a) (32 ∷ b)
-    ∙ append_assoc (old ++ word) (behind fields) ((32 ∷ a) ++ (32 ∷ b))
-    ∙ append_assoc old word (behind fields ++ ((32 ∷ a) ++ (32 ∷ b)))
-    ∙ ap (λ z. old ++ (word ++ z)) (ap (λ z. behind fields ++ ((32 ∷ a) ++ z)) (sym (append-nil (32 ∷ b))) ∙ sym (flat_map-append (λ field. 32 ∷ field) fields (a ∷ b ∷ [])))
-    ∙ ap (λ z. old ++ z) (sym (spaced_behind word (fields ++ a ∷ b ∷ [])))
+-- a word and fields are the line of these fields
+pub line_put : (line : Line) (old new word : List ℕ) (fields : List (List ℕ)) → line_fields line ≡ word ∷ fields → IsBehind old new word fields
+    → length new < length old + 2400 → IsTypedLine line → IsPutLine old new line
+line_put line old new word fields shape put len typed =
+    record { items = put.items ∙ append_assoc old word (behind fields) ∙ ap (λ z. old ++ z) (sym (spaced_behind word fields) ∙ ap spaced (sym shape)); len = len; typed = typed }

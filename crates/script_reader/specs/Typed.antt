@@ -1,6 +1,6 @@
 -- What the types of a line's parts say of it, and fields behind a first one. It serves private clauses and
 -- proofs alone.
-use Rattle.std.specs.Prelude.{◌≡◌, ℕ, ◌^◌, ◌<◌, ◌≤◌, List, ◌∷◌, length, Ok}
+use Rattle.std.specs.Prelude.{◌≡◌, ℕ, ◌+◌, ◌^◌, ◌<◌, ◌≤◌, List, ◌∷◌, ◌++◌, length, Ok}
 use Rattle.std.specs.List.{flat_map}
 use Rattle.hex.specs.Hex.{decode_of, encode_lower}
 use Rattle.pump_frame.specs.Names.{IsName}
@@ -12,11 +12,15 @@ use Rattle.script_reader.specs.declared.line.ToldFeedback.TheVariants.{Quiet, Fu
 use Rattle.script_reader.specs.declared.line.Arriving.{Arriving}
 use Rattle.script_reader.specs.declared.line.Arriving.TheVariants.{Nothing, Hello, Data, Raw}
 use Rattle.script_reader.specs.Grammar.{IsWord}
-use Rattle.script_reader.specs.Spelling.{word_field}
+use Rattle.script_reader.specs.Spelling.{word_field, line_spelling}
 
 -- each of these fields with a space before it
 abbrev pub behind : List (List ℕ) → List ℕ
 behind fields = flat_map (λ field. 32 ∷ field) fields
+
+-- a word and these fields were put behind what stood there
+pub record IsBehind (old new word : List ℕ) (fields : List (List ℕ)) : Type 0 where
+  pub items : new ≡ old ++ word ++ behind fields
 
 -- digits give the bytes back
 abbrev pub IsPrinted : List ℕ → Type 0
@@ -60,3 +64,9 @@ IsTypedLine (Return session moment back) = (session < 2 ^ 32) × (back < 2 ^ 64)
 IsTypedLine (Done session moment time) = session < 2 ^ 32
 IsTypedLine (Restart session moment) = session < 2 ^ 32
 IsTypedLine (ReceiverRestart session moment) = session < 2 ^ 32
+
+-- this line, without its line end, was put behind what stood there
+pub record IsPutLine (old new : List ℕ) (line : Line) : Type 0 where
+  pub items : new ≡ old ++ line_spelling line
+  pub len : length new < length old + 2400
+  pub typed : IsTypedLine line

@@ -1,15 +1,15 @@
-ghost use Rattle.std.specs.Prelude.{◌≡◌, ℕ, ◌+◌, ◌*◌, ◌≤◌, ◌<◌, ◌^◌, [], ◌∷◌, ◌++◌, length, decimal};
+ghost use Rattle.std.specs.Prelude.{◌≡◌, ℕ, ◌+◌, ◌*◌, ◌≤◌, ◌<◌, ◌^◌, [], ◌∷◌, ◌++◌, length, codes, decimal};
 ghost use Rattle.arrayvec.specs.ArrayVec.{array_vec_len};
 ghost use Rattle.pump_frame.specs.Names.{IsName};
 ghost use Rattle.script_reader.specs.Grammar.{IsWord, IsLine, row_fields, outcome_field, held_field};
 ghost use Rattle.script_reader.specs.Lawful.{IsLawfulLine};
 ghost use Rattle.script_reader.specs.Heads.{arriving_with, line_with, CanHold, CanHoldLine};
 ghost use Rattle.script_reader.specs.Spelling.{word_field, hex_field, arriving_fields, feedback_field, line_spelling, line_text};
-ghost use Rattle.script_reader.specs.Typed.{behind, IsPrinted, IsTypedRow, IsTypedArriving, IsTypedFeedback, IsTypedLine};
+ghost use Rattle.script_reader.specs.Typed.{behind, IsBehind, IsPrinted, IsTypedRow, IsTypedArriving, IsTypedFeedback, IsPutLine};
 
 use crate::head::{ArrivingHead, LineHead};
 use crate::line::{Line, ToldFeedback};
-use crate::printing::{put, put_field, put_hex, put_number};
+use crate::printing::{put, put_field, put_front, put_held, put_hex, put_number};
 use arrayvec::ArrayVec;
 use pump_frame::{Name, SessionRow};
 
@@ -40,13 +40,15 @@ fn put_word<const N: usize>(into: &mut ArrayVec<u8, N>, word: u32)
     put(into, &digits);
 }
 
-/// The nine fields of a row.
-fn put_row<const N: usize>(into: &mut ArrayVec<u8, N>, row: &SessionRow)
-    requires { array_vec_len into.old + 353 ≤ N }
-    ensures items { into.new.items ≡ into.old.items ++ behind (row_fields row.now) }
-    ensures len { array_vec_len into.new ≤ array_vec_len into.old + 353 }
+/// A word and the nine fields of a row.
+fn put_row<const N: usize>(into: &mut ArrayVec<u8, N>, word: &[u8], row: &SessionRow)
+    requires room { array_vec_len into.old + 400 ≤ N }
+    requires short { length word.now ≤ 16 }
+    ensures fields { IsBehind into.old.items into.new.items word.now (row_fields row.now) }
+    ensures len { array_vec_len into.new ≤ array_vec_len into.old + 369 }
     ensures typed { IsTypedRow row.now }
 {
+    put(into, word);
     put_field(into, u64::from(row.id));
     put_field(into, u64::from(row.capacity));
     put_field(into, u64::from(row.message));
@@ -98,17 +100,16 @@ fn put_outcome<const N: usize>(into: &mut ArrayVec<u8, N>, fault: bool)
     }
 }
 
-/// A space and whether the last message is in the low hand.
-fn put_held<const N: usize>(into: &mut ArrayVec<u8, N>, held: bool)
-    requires { array_vec_len into.old + 2 ≤ N }
-    ensures items { into.new.items ≡ into.old.items ++ 32 ∷ held_field held }
-    ensures len { array_vec_len into.new ≤ array_vec_len into.old + 2 }
+/// A space, and a count and an average with a slash between.
+fn put_average<const N: usize>(into: &mut ArrayVec<u8, N>, count: u32, average: u32)
+    requires { array_vec_len into.old + 82 ≤ N }
+    ensures items { into.new.items ≡ into.old.items ++ 32 ∷ feedback_field (ToldFeedback.Pair count average) }
+    ensures len { array_vec_len into.new ≤ array_vec_len into.old + 82 }
+    ensures count { count < 2 ^ 32 }
 {
-    if held {
-        put(into, b" 1");
-    } else {
-        put(into, b" 0");
-    }
+    put_field(into, u64::from(count));
+    put(into, b"/");
+    put_number(into, u64::from(average));
 }
 
 /// A space and what is told of the passage.
@@ -121,58 +122,92 @@ fn put_feedback<const N: usize>(into: &mut ArrayVec<u8, N>, feedback: ToldFeedba
     match feedback {
         ToldFeedback::Quiet => put(into, b" -"),
         ToldFeedback::Full => put(into, b" full"),
-        ToldFeedback::Pair { count, average } => {
-            put_field(into, u64::from(count));
-            put(into, b"/");
-            put_number(into, u64::from(average));
-        }
+        ToldFeedback::Pair { count, average } => put_average(into, count, average),
     }
 }
 
-/// A word and two numbers.
-fn put_pair<const N: usize>(into: &mut ArrayVec<u8, N>, word: &[u8], first: u64, second: u64)
-    requires room { array_vec_len into.old + 100 ≤ N }
+/// A word, a session, a moment and a number.
+fn put_triple<const N: usize>(
+    into: &mut ArrayVec<u8, N>,
+    word: &[u8],
+    session: u32,
+    moment: u64,
+    number: u64,
+)
+    requires room { array_vec_len into.old + 200 ≤ N }
     requires short { length word.now ≤ 16 }
-    ensures items { into.new.items ≡ into.old.items ++ word.now ++ behind (decimal first ∷ decimal second ∷ []) }
-    ensures len { array_vec_len into.new ≤ array_vec_len into.old + 98 }
+    ensures fields { IsBehind into.old.items into.new.items word.now (decimal session ∷ decimal moment ∷ decimal number ∷ []) }
+    ensures len { array_vec_len into.new ≤ array_vec_len into.old + 139 }
+    ensures session { session < 2 ^ 32 }
+    ensures number { number < 2 ^ 64 }
 {
-    put(into, word);
-    put_field(into, first);
-    put_field(into, second);
+    put_front(into, word, session, moment);
+    put_field(into, number);
+}
+
+/// A word, a session, a moment and eight digits.
+fn put_step<const N: usize>(
+    into: &mut ArrayVec<u8, N>,
+    name: &[u8],
+    session: u32,
+    moment: u64,
+    word: u32,
+)
+    requires room { array_vec_len into.old + 200 ≤ N }
+    requires short { length name.now ≤ 16 }
+    ensures fields { IsBehind into.old.items into.new.items name.now (decimal session ∷ decimal moment ∷ word_field word ∷ []) }
+    ensures len { array_vec_len into.new ≤ array_vec_len into.old + 107 }
+    ensures session { session < 2 ^ 32 }
+    ensures word { IsWord word (word_field word) }
+{
+    put_front(into, name, session, moment);
+    put_word(into, word);
+}
+
+/// A line of a session alone.
+fn put_coarse<const N: usize>(into: &mut ArrayVec<u8, N>, session: u32)
+    requires { array_vec_len into.old + 100 ≤ N }
+    ensures fields { IsBehind into.old.items into.new.items (codes "coarse") (decimal session ∷ []) }
+    ensures len { array_vec_len into.new ≤ array_vec_len into.old + 47 }
+    ensures session { session < 2 ^ 32 }
+{
+    put(into, b"coarse");
+    put_field(into, u64::from(session));
+}
+
+/// A row, the number of stored messages, and whether the last of them is in the low hand.
+fn put_low_session<const N: usize>(
+    into: &mut ArrayVec<u8, N>,
+    row: &SessionRow,
+    next: u64,
+    held: bool,
+)
+    requires { array_vec_len into.old + 500 ≤ N }
+    ensures { IsPutLine into.old.items into.new.items (Line.LowSession row.now next held) }
+{
+    put_row(into, b"low-session", row);
+    put_field(into, next);
+    put_held(into, held);
 }
 
 /// The line without its line end.
 fn put_line<const N: usize>(into: &mut ArrayVec<u8, N>, head: &LineHead, body: &[u8])
     requires room { array_vec_len into.old + 2400 ≤ N }
     requires body { CanHoldLine head.now body.now }
-    ensures items { into.new.items ≡ into.old.items ++ line_spelling (line_with body.now head.now) }
-    ensures len { array_vec_len into.new < array_vec_len into.old + 2400 }
-    ensures typed { IsTypedLine (line_with body.now head.now) }
+    ensures { IsPutLine into.old.items into.new.items (line_with body.now head.now) }
 {
     match head {
         LineHead::Skip => {}
-        LineHead::Session(row) => {
-            put(into, b"session");
-            put_row(into, row);
-        }
-        LineHead::LowSession { row, next, held } => {
-            put(into, b"low-session");
-            put_row(into, row);
-            put_field(into, *next);
-            put_held(into, *held);
-        }
-        LineHead::Coarse { session } => {
-            put(into, b"coarse");
-            put_field(into, u64::from(*session));
-        }
+        LineHead::Session(row) => put_row(into, b"session", row),
+        LineHead::LowSession { row, next, held } => put_low_session(into, row, *next, *held),
+        LineHead::Coarse { session } => put_coarse(into, *session),
         LineHead::Look {
             session,
             moment,
             word,
             arrival,
         } => {
-            put_pair(into, b"look", u64::from(*session), *moment);
-            put_word(into, *word);
+            put_step(into, b"look", *session, *moment, *word);
             put_arriving(into, arrival, body);
         }
         LineHead::Told {
@@ -183,8 +218,7 @@ fn put_line<const N: usize>(into: &mut ArrayVec<u8, N>, head: &LineHead, body: &
             feedback,
             arrival,
         } => {
-            put_pair(into, b"told", u64::from(*session), *moment);
-            put_word(into, *word);
+            put_step(into, b"told", *session, *moment, *word);
             put_outcome(into, *fault);
             put_feedback(into, *feedback);
             put_arriving(into, arrival, body);
@@ -193,34 +227,23 @@ fn put_line<const N: usize>(into: &mut ArrayVec<u8, N>, head: &LineHead, body: &
             session,
             moment,
             word,
-        } => {
-            put_pair(into, b"step", u64::from(*session), *moment);
-            put_word(into, *word);
-        }
-        LineHead::Gone { session, moment } => put_pair(into, b"gone", u64::from(*session), *moment),
-        LineHead::High { session, moment } => put_pair(into, b"high", u64::from(*session), *moment),
-        LineHead::Carry { session, back } => put_pair(into, b"carry", u64::from(*session), *back),
+        } => put_step(into, b"step", *session, *moment, *word),
+        LineHead::Gone { session, moment } => put_front(into, b"gone", *session, *moment),
+        LineHead::High { session, moment } => put_front(into, b"high", *session, *moment),
+        LineHead::Carry { session, back } => put_front(into, b"carry", *session, *back),
         LineHead::Return {
             session,
             moment,
             back,
-        } => {
-            put_pair(into, b"return", u64::from(*session), *moment);
-            put_field(into, *back);
-        }
+        } => put_triple(into, b"return", *session, *moment, *back),
         LineHead::Done {
             session,
             moment,
             time,
-        } => {
-            put_pair(into, b"done", u64::from(*session), *moment);
-            put_field(into, u64::from(*time));
-        }
-        LineHead::Restart { session, moment } => {
-            put_pair(into, b"restart", u64::from(*session), *moment)
-        }
+        } => put_triple(into, b"done", *session, *moment, u64::from(*time)),
+        LineHead::Restart { session, moment } => put_front(into, b"restart", *session, *moment),
         LineHead::ReceiverRestart { session, moment } => {
-            put_pair(into, b"receiver-restart", u64::from(*session), *moment)
+            put_front(into, b"receiver-restart", *session, *moment)
         }
     }
 }

@@ -1,11 +1,11 @@
-ghost use Rattle.std.specs.Prelude.{◌≡◌, ℕ, ◌+◌, ◌*◌, ◌≤◌, List, [], ◌∷◌, ◌++◌, None, Some, length, codes, decimal, slice_index};
+ghost use Rattle.std.specs.Prelude.{◌≡◌, ℕ, ◌+◌, ◌*◌, ◌^◌, ◌<◌, ◌≤◌, List, [], ◌∷◌, ◌++◌, None, Some, length, codes, decimal, slice_index};
 ghost use Rattle.arrayvec.specs.ArrayVec.{array_vec_len};
 ghost use Rattle.script_reader.specs.EventHeads.{event_of};
 ghost use Rattle.script_reader.specs.Transcript.{role_field, reply_fields, high_fields, time_field, event_line, fault_line, line_with_end};
 ghost use Rattle.script_reader.specs.Grammar.{held_field};
 ghost use Rattle.hex.specs.Hex.{encode_lower};
 ghost use Rattle.script_reader.specs.HexFields.{hex_field};
-ghost use Rattle.script_reader.specs.Typed.{IsPrinted};
+ghost use Rattle.script_reader.specs.Typed.{IsBehind, IsPrinted};
 
 use crate::event::{Event, EventHead};
 use crate::fault::Fault;
@@ -80,79 +80,80 @@ pub(crate) fn put_hex<const N: usize>(into: &mut ArrayVec<u8, N>, bytes: &[u8])
     }
 }
 
-/// A line of a word and one number.
-fn put_one<const N: usize>(into: &mut ArrayVec<u8, N>, word: &[u8], first: u64)
-    requires room { array_vec_len into.old + 256 ≤ N }
-    requires short { length word.now ≤ 40 }
-    ensures { into.new.items ≡ into.old.items ++ line_with_end (word.now ∷ decimal first ∷ []) }
-{
-    put(into, word);
-    put_field(into, first);
-    put(into, b"\n");
-}
-
-/// A line of a word and two numbers.
-fn put_two<const N: usize>(into: &mut ArrayVec<u8, N>, word: &[u8], first: u64, second: u64)
-    requires room { array_vec_len into.old + 256 ≤ N }
-    requires short { length word.now ≤ 40 }
-    ensures { into.new.items ≡ into.old.items ++ line_with_end (word.now ∷ decimal first ∷ decimal second ∷ []) }
-{
-    put(into, word);
-    put_field(into, first);
-    put_field(into, second);
-    put(into, b"\n");
-}
-
-/// A line of a word and three numbers.
-fn put_three<const N: usize>(
+/// A word, a session and a number: the front of most lines.
+pub(crate) fn put_front<const N: usize>(
     into: &mut ArrayVec<u8, N>,
     word: &[u8],
-    first: u64,
-    second: u64,
-    third: u64,
+    session: u32,
+    number: u64,
 )
-    requires room { array_vec_len into.old + 256 ≤ N }
+    requires room { array_vec_len into.old + 122 ≤ N }
     requires short { length word.now ≤ 40 }
-    ensures { into.new.items ≡ into.old.items ++ line_with_end (word.now ∷ decimal first ∷ decimal second ∷ decimal third ∷ []) }
-{
-    put(into, word);
-    put_field(into, first);
-    put_field(into, second);
-    put_field(into, third);
-    put(into, b"\n");
-}
-
-/// A line of a word and four numbers.
-fn put_four<const N: usize>(
-    into: &mut ArrayVec<u8, N>,
-    word: &[u8],
-    first: u64,
-    second: u64,
-    third: u64,
-    fourth: u64,
-)
-    requires room { array_vec_len into.old + 256 ≤ N }
-    requires short { length word.now ≤ 40 }
-    ensures { into.new.items ≡ into.old.items ++ line_with_end (word.now ∷ decimal first ∷ decimal second ∷ decimal third ∷ decimal fourth ∷ []) }
-{
-    put(into, word);
-    put_field(into, first);
-    put_field(into, second);
-    put_field(into, third);
-    put_field(into, fourth);
-    put(into, b"\n");
-}
-
-/// A word, a session and a moment: the front of most lines.
-fn put_front<const N: usize>(into: &mut ArrayVec<u8, N>, word: &[u8], session: u32, moment: u64)
-    requires room { array_vec_len into.old + 256 ≤ N }
-    requires short { length word.now ≤ 40 }
-    ensures items { into.new.items ≡ into.old.items ++ word.now ++ 32 ∷ decimal session ++ 32 ∷ decimal moment }
-    ensures len { array_vec_len into.new ≤ array_vec_len into.old + 122 }
+    ensures fields { IsBehind into.old.items into.new.items word.now (decimal session ∷ decimal number ∷ []) }
+    ensures len { array_vec_len into.new ≤ array_vec_len into.old + length word.now + 82 }
+    ensures session { session < 2 ^ 32 }
+    ensures number { number < 2 ^ 64 }
 {
     put(into, word);
     put_field(into, u64::from(session));
-    put_field(into, moment);
+    put_field(into, number);
+}
+
+/// A line of a word and one number.
+fn put_one<const N: usize>(into: &mut ArrayVec<u8, N>, word: &[u8], number: u64)
+    requires room { array_vec_len into.old + 256 ≤ N }
+    requires short { length word.now ≤ 40 }
+    ensures { into.new.items ≡ into.old.items ++ line_with_end (word.now ∷ decimal number ∷ []) }
+{
+    put(into, word);
+    put_field(into, number);
+    put(into, b"\n");
+}
+
+/// A line of a word, a session and a number.
+fn put_two<const N: usize>(into: &mut ArrayVec<u8, N>, word: &[u8], session: u32, number: u64)
+    requires room { array_vec_len into.old + 256 ≤ N }
+    requires short { length word.now ≤ 40 }
+    ensures { into.new.items ≡ into.old.items ++ line_with_end (word.now ∷ decimal session ∷ decimal number ∷ []) }
+{
+    put_front(into, word, session, number);
+    put(into, b"\n");
+}
+
+/// A line of a word, a session and two numbers.
+fn put_three<const N: usize>(
+    into: &mut ArrayVec<u8, N>,
+    word: &[u8],
+    session: u32,
+    first: u64,
+    second: u64,
+)
+    requires room { array_vec_len into.old + 256 ≤ N }
+    requires short { length word.now ≤ 40 }
+    ensures { into.new.items ≡ into.old.items ++ line_with_end (word.now ∷ decimal session ∷ decimal first ∷ decimal second ∷ []) }
+{
+    put_front(into, word, session, first);
+    put_field(into, second);
+    put(into, b"\n");
+}
+
+/// A line of a word, a session and three numbers.
+fn put_four<const N: usize>(
+    into: &mut ArrayVec<u8, N>,
+    word: &[u8],
+    session: u32,
+    first: u64,
+    second: u64,
+    third: u64,
+)
+    requires room { array_vec_len into.old + 256 ≤ N }
+    requires short { length word.now ≤ 40 }
+    ensures { into.new.items ≡ into.old.items ++ line_with_end (word.now ∷ decimal session ∷ decimal first ∷ decimal second ∷ decimal third ∷ []) }
+{
+    put_front(into, word, session, first);
+    put_field(into, second);
+    put_field(into, third);
+    put(into, b"\n");
 }
 
 /// A reply of a word and the session's count or the message's number.
@@ -201,14 +202,6 @@ fn code_of(reply: &Frame) -> u8
     }
 }
 
-fn put_other<const N: usize>(into: &mut ArrayVec<u8, N>, session: u32, moment: u64)
-    requires { array_vec_len into.old + 256 ≤ N }
-    ensures { into.new.items ≡ into.old.items ++ line_with_end (codes "low" ∷ decimal session ∷ decimal moment ∷ []) }
-{
-    put_front(into, b"low", session, moment);
-    put(into, b"\n");
-}
-
 fn put_reply<const N: usize>(into: &mut ArrayVec<u8, N>, session: u32, moment: u64, reply: &Frame)
     requires { array_vec_len into.old + 256 ≤ N }
     ensures { into.new.items ≡ into.old.items ++ line_with_end (codes "low" ∷ decimal session ∷ decimal moment ∷ reply_fields reply.now.kind reply.now.number reply.now.payload) }
@@ -217,7 +210,21 @@ fn put_reply<const N: usize>(into: &mut ArrayVec<u8, N>, session: u32, moment: u
         Kind::Welcome => put_numbered(into, session, moment, b"welcome", reply.number),
         Kind::Ack => put_numbered(into, session, moment, b"ack", reply.number),
         Kind::Refuse => put_refusal(into, session, moment, code_of(reply), reply.number),
-        Kind::Hello | Kind::Data | Kind::Attach | Kind::Taken => put_other(into, session, moment),
+        Kind::Hello | Kind::Data | Kind::Attach | Kind::Taken => {
+            put_two(into, b"low", session, moment)
+        }
+    }
+}
+
+/// A space and a time, or a dash where none was published.
+fn put_time<const N: usize>(into: &mut ArrayVec<u8, N>, time: Option<u32>)
+    requires { array_vec_len into.old + 41 ≤ N }
+    ensures items { into.new.items ≡ into.old.items ++ 32 ∷ time_field time }
+    ensures len { array_vec_len into.new ≤ array_vec_len into.old + 41 }
+{
+    match time {
+        Some(time) => put_field(into, u64::from(time)),
+        None => put(into, b" -"),
     }
 }
 
@@ -233,11 +240,21 @@ fn put_removed<const N: usize>(
 {
     put_front(into, b"removed", session, moment);
     put_field(into, number);
-    match time {
-        Some(time) => put_field(into, u64::from(time)),
-        None => put(into, b" -"),
-    }
+    put_time(into, time);
     put(into, b"\n");
+}
+
+/// A space and whether the last message is in the low hand.
+pub(crate) fn put_held<const N: usize>(into: &mut ArrayVec<u8, N>, held: bool)
+    requires { array_vec_len into.old + 2 ≤ N }
+    ensures items { into.new.items ≡ into.old.items ++ 32 ∷ held_field held }
+    ensures len { array_vec_len into.new ≤ array_vec_len into.old + 2 }
+{
+    if held {
+        put(into, b" 1");
+    } else {
+        put(into, b" 0");
+    }
 }
 
 fn put_restart<const N: usize>(
@@ -254,7 +271,8 @@ fn put_restart<const N: usize>(
     put_front(into, b"restart", session, moment);
     put_field(into, accepted);
     put_field(into, removed);
-    put(into, if held { b" 1\n" } else { b" 0\n" });
+    put_held(into, held);
+    put(into, b"\n");
 }
 
 fn put_end<const N: usize>(
@@ -267,17 +285,13 @@ fn put_end<const N: usize>(
     ensures { into.new.items ≡ into.old.items ++ line_with_end (codes "end" ∷ decimal session ∷ decimal accepted ∷ high_fields high) }
 {
     match high {
-        Some((removed, received)) => put_four(
-            into,
-            b"end",
-            u64::from(session),
-            accepted,
-            removed,
-            received,
-        ),
+        Some((removed, received)) => {
+            put_four(into, b"end", session, accepted, removed, received)
+        }
         None => {
             put_front(into, b"end", session, accepted);
-            put(into, b" - -\n");
+            put(into, b" - -");
+            put(into, b"\n");
         }
     }
 }
@@ -297,7 +311,7 @@ fn put_seen<const N: usize>(
     put_four(
         into,
         word,
-        u64::from(session),
+        session,
         moment,
         u64::from(seen.count),
         u64::from(seen.average),
@@ -341,26 +355,24 @@ pub fn append_head<const N: usize>(event: &EventHead, into: &mut ArrayVec<u8, N>
             session,
             moment,
             number,
-        } => put_three(into, b"stored", u64::from(session), moment, number),
-        EventHead::Full { session, moment } => put_two(into, b"full", u64::from(session), moment),
+        } => put_three(into, b"stored", session, moment, number),
+        EventHead::Full { session, moment } => put_two(into, b"full", session, moment),
         EventHead::Passed {
             session,
             moment,
-            seen,
-        } => put_seen(into, b"passed", session, moment, &seen),
-        EventHead::Released { session, moment } => {
-            put_two(into, b"released", u64::from(session), moment)
-        }
+            ref seen,
+        } => put_seen(into, b"passed", session, moment, seen),
+        EventHead::Released { session, moment } => put_two(into, b"released", session, moment),
         EventHead::Repeat {
             session,
             moment,
-            seen,
-        } => put_seen(into, b"repeat", session, moment, &seen),
+            ref seen,
+        } => put_seen(into, b"repeat", session, moment, seen),
         EventHead::Low {
             session,
             moment,
-            reply,
-        } => put_answer(into, session, moment, &reply),
+            ref reply,
+        } => put_answer(into, session, moment, reply),
         EventHead::Removed {
             session,
             moment,
@@ -371,14 +383,14 @@ pub fn append_head<const N: usize>(event: &EventHead, into: &mut ArrayVec<u8, N>
             session,
             moment,
             number,
-        } => put_three(into, b"sent", u64::from(session), moment, number),
-        EventHead::Took { session, number } => put_two(into, b"took", u64::from(session), number),
-        EventHead::Again { session, number } => put_two(into, b"again", u64::from(session), number),
+        } => put_three(into, b"sent", session, moment, number),
+        EventHead::Took { session, number } => put_two(into, b"took", session, number),
+        EventHead::Again { session, number } => put_two(into, b"again", session, number),
         EventHead::Attach {
             session,
             moment,
             count,
-        } => put_three(into, b"attach", u64::from(session), moment, count),
+        } => put_three(into, b"attach", session, moment, count),
         EventHead::Restart {
             session,
             moment,
@@ -420,14 +432,7 @@ pub fn print_event(event: &Event, into: &mut ArrayVec<u8, 2400>)
             accepted,
             removed,
             received,
-        } => put_four(
-            into,
-            b"show",
-            u64::from(*session),
-            *accepted,
-            *removed,
-            *received,
-        ),
+        } => put_four(into, b"show", *session, *accepted, *removed, *received),
         Event::Live {
             session,
             number,
@@ -454,7 +459,7 @@ fn put_role<const N: usize>(into: &mut ArrayVec<u8, N>, role: Role)
 fn put_disk_front<const N: usize>(into: &mut ArrayVec<u8, N>, word: &[u8], session: u32, role: Role)
     requires room { array_vec_len into.old + 256 ≤ N }
     requires short { length word.now ≤ 40 }
-    ensures items { into.new.items ≡ into.old.items ++ word.now ++ 32 ∷ decimal session ++ 32 ∷ role_field role }
+    ensures fields { IsBehind into.old.items into.new.items word.now (decimal session ∷ role_field role ∷ []) }
     ensures len { array_vec_len into.new ≤ array_vec_len into.old + 86 }
 {
     put(into, word);
@@ -513,7 +518,7 @@ pub fn append_fault<const N: usize>(fault: &Fault, into: &mut ArrayVec<u8, N>)
         } => put_four(
             into,
             b"fault full",
-            u64::from(*session),
+            *session,
             *end,
             u64::from(*length),
             *size,

@@ -27,8 +27,8 @@ use Rattle.script_reader.specs.Scripts.{Running, Begun, Whole, Alone}
 use Rattle.script_reader.specs.Sessions.{event_session, events_of}
 use Rattle.script_reader.proofs.Accepting.{Leaves, returns_leave, removes_leave, takes_up_leave, sends_leave, carries_leave, takes_leave}
 use Rattle.script_reader.proofs.Replying.{low-append}
-use Rattle.two_worlds.specs.Laws.{KeepMessages, IsAckBelow, AcksBelow, AckOutlives}
-use Rattle.two_worlds.proofs.Runs.Acknowledged.{run_acks}
+use Rattle.world_laws.specs.Laws.{KeepMessages, IsAckBelow, AcksBelow, AckOutlives}
+use Rattle.world_laws.proofs.Runs.Acknowledged.{run_acks}
 use Rattle.script_replay.specs.Replays.{IsTimed}
 use Rattle.script_replay.specs.Shelves.{Places, reading_at, OfDisks, AcknowledgedOutlive}
 use Rattle.script_replay.proofs.Broken.{carry_is_silent}

@@ -17,7 +17,7 @@ use Rattle.script_reader.specs.Openings.{Openings, new_disks}
 use Rattle.script_reader.specs.Past.{Past}
 use Rattle.script_reader.specs.Steps.{is_timely, Overfills}
 use Rattle.script_reader.specs.Scripts.{Running, Begun, Whole, Alone, Stops}
-use Rattle.two_worlds.proofs.Timeline.Scripts.{HasRun, script_runs}
+use Rattle.world_laws.proofs.Timeline.Scripts.{HasRun, script_runs}
 use Rattle.script_reader.specs.Sessions.{Sessions as Script, session_in, session_at, events_of, StopsOne}
 use Rattle.script_replay.specs.Shelves.{Places, disk_name, reading_in, reading_at, Shelved, shelved, LeavesSession, SparesSession, ReadiesSession, AreKept, AreOthersKept, AllAreBack}
 use Rattle.script_replay.specs.Sessions.{id_of, found_at, HasComeTo, HasFailed}

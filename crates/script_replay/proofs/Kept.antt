@@ -16,8 +16,8 @@ use Rattle.script_reader.proofs.OneWhole.{script_parts}
 use Rattle.script_reader.proofs.LowFunction.{same_told_so_far, same_full_so_far}
 use Rattle.script_reader.proofs.Replying.{low-append}
 use Rattle.script_reader.proofs.Soundness.{sound_so}
-use Rattle.two_worlds.proofs.Timeline.Alone.{script_events}
-use Rattle.two_worlds.proofs.Timeline.Scripts.{script_runs}
+use Rattle.world_laws.proofs.Timeline.Alone.{script_events}
+use Rattle.world_laws.proofs.Timeline.Scripts.{script_runs}
 use Rattle.script_replay.specs.Replays.{IsEachSound, AreSound, IsTimed, KeepLaws}
 
 -- ---- each session of a script ----

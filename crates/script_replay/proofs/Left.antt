@@ -23,17 +23,17 @@ use Rattle.script_reader.specs.Openings.{Openings}
 use Rattle.script_reader.specs.declared.event.Event.{Event}
 use Rattle.script_reader.specs.Readouts.{low_lines, Sound}
 use Rattle.script_reader.specs.Scripts.{Running, Begun, Whole, Alone}
-use Rattle.two_worlds.specs.Disks.{StandFor, StandForLeft}
-use Rattle.two_worlds.specs.Laws.{KeepMessages, AckOutlives}
+use Rattle.world_laws.specs.Disks.{StandFor, StandForLeft}
+use Rattle.world_laws.specs.Laws.{KeepMessages, AckOutlives}
 use Rattle.two_worlds.specs.Pumps as pump
-use Rattle.two_worlds.specs.Timelines.{IsAtRest}
+use Rattle.world_laws.specs.Timelines.{IsAtRest}
 use Rattle.two_worlds.specs.declared.pump.Pump.{Pump}
 use Rattle.two_worlds.specs.States.{StandsIn}
 use Rattle.two_worlds.specs.declared.pump.state.PumpState.{PumpState}
 use Rattle.two_worlds.specs.declared.pump.state.PumpState.TheVariants.{Open, Shut}
-use Rattle.two_worlds.proofs.Runs.Outliving.{keeps_messages, run_keeps}
-use Rattle.two_worlds.proofs.Runs.Worlds.{leads_lawfully}
-use Rattle.two_worlds.proofs.Timeline.Scripts.{HasRun}
+use Rattle.world_laws.proofs.Runs.Outliving.{keeps_messages, run_keeps}
+use Rattle.world_laws.proofs.Runs.Worlds.{leads_lawfully}
+use Rattle.world_laws.proofs.Timeline.Scripts.{HasRun}
 use Rattle.script_replay.specs.Lending.{RisesAt, AreOnShelf}
 use Rattle.script_replay.specs.Shelves.{Places, disk_name, reading_in, reading_at, OfDisks, LeavesSession, LeavesOtherSessions, KeepsSession, BreaksSession, IsKept}
 use Rattle.script_replay.specs.Sessions.{id_of, found_at, Rise, HasComeTo, HasFailed}

@@ -14,10 +14,12 @@ pub mod Listed
 pub mod Numbered
 pub mod OneStatus
 pub mod Opened
+pub mod OtherEnds
 pub mod Quiet
 pub mod Shelving
 pub mod SoFar
 pub mod Stopping
 pub mod Stops
+pub mod Taken
 pub mod Turns
 pub mod Widened

@@ -29,8 +29,8 @@ use Rattle.script_reader.specs.Scripts.{Running, Begun, Whole, Alone}
 use Rattle.script_reader.specs.Sessions.{Sessions, no_sessions, session_in, session_at, lines_of, events_of, led_to, is_in_turn, ScriptLeadsTo, ScriptStops, ScriptComesTo, IsScriptTranscript}
 use Rattle.script_reader.specs.Sides.{low_side_of, told_to_low, full_moments, averages, restarts_in, HaveOwnMoments, OpenAlike}
 use Rattle.script_reader.specs.Transcript.{text, fault_line}
-use Rattle.two_worlds.specs.Timelines.{IsTimeline}
-use Rattle.two_worlds.specs.TimelinesAlone.{IsTimelineAlone}
+use Rattle.world_laws.specs.Timelines.{IsTimeline}
+use Rattle.world_laws.specs.TimelinesAlone.{IsTimelineAlone}
 use Rattle.script_replay.specs.Shelves.{Places, Shelved, AcknowledgedOutlive, ReceiverHasFront}
 
 -- ---- what the laws say ----

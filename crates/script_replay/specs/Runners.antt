@@ -23,7 +23,7 @@ use Rattle.script_reader.specs.Sessions.{Sessions as Script, session_in, stands_
 use Rattle.script_reader.specs.Transcript.{text}
 use Rattle.two_worlds.specs.declared.applied.Stop.{Stop}
 use Rattle.two_worlds.specs.declared.applied.Stop.TheVariants as stops
-use Rattle.two_worlds.specs.Disks.{StandForLeft}
+use Rattle.world_laws.specs.Disks.{StandForLeft}
 use Rattle.two_worlds.specs.Pumps as pump
 use Rattle.script_replay.specs.Sessions.{id_of, IsUp, StandsFor, HasComeTo, SessionApplies, Lends, found_at, EachStandsFor, AllHaveComeTo, AllLend}
 use Rattle.script_replay.specs.Shelves.{Places, disk_name, Shelved, HasFound, IsRefusedFor, LeavesSession, SparesSession, ReadiesSession, OfDisks}

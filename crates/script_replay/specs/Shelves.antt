@@ -18,8 +18,8 @@ use Rattle.script_reader.specs.Openings.{Found, Openings}
 use Rattle.script_reader.specs.Readouts.{low_lines}
 use Rattle.script_reader.specs.Scripts.{Running, Begun, Whole, Alone}
 use Rattle.script_reader.specs.Sessions.{session_at, events_of}
-use Rattle.two_worlds.specs.Disks.{StandFor, StandForLeft}
-use Rattle.two_worlds.specs.Laws.{KeepMessages, AckOutlives}
+use Rattle.world_laws.specs.Disks.{StandFor, StandForLeft}
+use Rattle.world_laws.specs.Laws.{KeepMessages, AckOutlives}
 use Rattle.two_worlds.specs.Openings.{readied, StandForFound, IsRefused}
 
 -- ---- the disks of a shelf ----

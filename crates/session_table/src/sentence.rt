@@ -48,64 +48,82 @@ impl fmt::Display for Wanted {
     }
 }
 
+impl TableFault {
+    /// The sentence, where it names no row and no number.
+    fn plain_sentence(&self) -> Option<&'static str> {
+        match self {
+            TableFault::NotToml => Some(
+                "the table is no TOML document; mend how it is written, and give no key twice",
+            ),
+            TableFault::MissingKey { row: 0, .. } => {
+                Some("the table has no session; begin each with a line [[session]]")
+            }
+            TableFault::UnknownKey { row: 0 } => Some(
+                "the table has a key at its top level that is not session; take it out or mend its name",
+            ),
+            TableFault::OutOfRange { row: 0, .. } => Some(
+                "session is no array of tables; begin each session of the table with a line [[session]]",
+            ),
+            TableFault::Memory => Some(
+                "there is not enough memory for the table; end other programs and try again",
+            ),
+            _ => None,
+        }
+    }
+}
+
+/// What is wrong with a value, and what its key wants.
+fn write_value<W: fmt::Write>(
+    f: &mut fmt::Formatter<W>,
+    key: RowKey,
+    value: Option<i64>,
+) -> fmt::Result {
+    let name = key_name(key);
+    match value {
+        Some(value) => write!(f, "{name} = {value}"),
+        None => write!(f, "no {} as its {name}", kind(key)),
+    }
+}
+
+/// What a row has that it is not to have, or has not.
+fn write_of_row<W: fmt::Write>(f: &mut fmt::Formatter<W>, fault: &TableFault) -> fmt::Result {
+    match fault {
+        TableFault::MissingKey { key, .. } => write!(f, "no {}", key_name(*key)),
+        TableFault::OutOfRange { key, value, .. } => write_value(f, *key, *value),
+        TableFault::Name { key, .. } => write!(f, "no name as its {}", key_name(*key)),
+        TableFault::TwiceId { id, .. } => write!(
+            f,
+            "id = {id}, as an earlier row has; give it an id of its own"
+        ),
+        TableFault::TwicePort { port, .. } => write!(
+            f,
+            "the port {port}, which it or an earlier row has already; give it ports of its own"
+        ),
+        TableFault::UnknownKey { .. } => f.write_str(
+            "a key that is none of id, low, high, capacity, message, window, start, longest, resend, low_port, high_port and coarse; take it out or mend its name",
+        ),
+        _ => Ok(()),
+    }
+}
+
 impl fmt::Display for TableFault {
     fn fmt<W: fmt::Write>(&self, f: &mut fmt::Formatter<W>) -> fmt::Result {
-        match self {
-            TableFault::NotToml => write!(
-                f,
-                "the table is no TOML document; mend how it is written, and give no key twice"
-            ),
-            TableFault::MissingKey { row: 0, .. } => write!(
-                f,
-                "the table has no session; begin each with a line [[session]]"
-            ),
-            TableFault::MissingKey { row, key } => {
-                let (name, wanted) = (key_name(*key), Wanted(*key));
-                write!(f, "row {row} of the table has no {name}; give it {wanted}")
-            }
-            TableFault::UnknownKey { row: 0 } => write!(
-                f,
-                "the table has a key at its top level that is not session; take it out or mend its name"
-            ),
-            TableFault::UnknownKey { row } => write!(
-                f,
-                "row {row} of the table has a key that is none of id, low, high, capacity, message, window, start, longest, resend, low_port, high_port and coarse; take it out or mend its name"
-            ),
-            TableFault::OutOfRange { row: 0, .. } => write!(
-                f,
-                "session is no array of tables; begin each session of the table with a line [[session]]"
-            ),
-            TableFault::OutOfRange { row, key, value } => {
-                let (name, wanted) = (key_name(*key), Wanted(*key));
-                write!(f, "row {row} of the table has ")?;
-                match value {
-                    Some(value) => write!(f, "{name} = {value}; give it {wanted}"),
-                    None => write!(f, "no {} as its {name}; give it {wanted}", kind(*key)),
-                }
-            }
-            TableFault::Name { row, key } => {
-                let (name, wanted) = (key_name(*key), Wanted(*key));
-                write!(
-                    f,
-                    "row {row} of the table has no name as its {name}; give it {wanted}"
-                )
-            }
-            TableFault::TwiceId { row, id } => write!(
-                f,
-                "row {row} of the table has id = {id}, as an earlier row has; give it an id of its own"
-            ),
-            TableFault::TwicePort { row, port } => write!(
-                f,
-                "row {row} of the table has the port {port}, which it or an earlier row has already; give it ports of its own"
-            ),
-            TableFault::TooMany { rows } => write!(
+        if let Some(sentence) = self.plain_sentence() {
+            return f.write_str(sentence);
+        }
+        if let TableFault::TooMany { rows } = self {
+            return write!(
                 f,
                 "the table has {rows} rows, and 16 are the most; take the others out"
-            ),
-            TableFault::Memory => write!(
-                f,
-                "there is not enough memory for the table; end other programs and try again"
-            ),
+            );
+        }
+        write!(f, "row {} of the table has ", self.row())?;
+        write_of_row(f, self)?;
+        match self {
+            TableFault::MissingKey { key, .. }
+            | TableFault::OutOfRange { key, .. }
+            | TableFault::Name { key, .. } => write!(f, "; give it {}", Wanted(*key)),
+            _ => Ok(()),
         }
     }
 }

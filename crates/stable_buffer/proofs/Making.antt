@@ -1,8 +1,8 @@
 -- A new disk that is no buffer until it is whole.
 use Rattle.std.proofs.Common.{◌≡◌, ⊎_elim, ℕ, ◌+◌, ◌<◌, ◌≤◌, List, [], ◌∷◌, ◌++◌, length, take, drop, replicate, sym, ◌∙◌, ap, subst, arith}
 use Rattle.std.proofs.lemmas.List.{take-take, take-append-drop}
-use Rattle.disk_model.specs.Disk.{Meaning, Moves, Same, Torn, IsWritten, Settled, Each, Leaves}
-use Rattle.disk_model.proofs.Run.{goes_on, each_settled, leaves}
+use Rattle.disk_model.specs.Disk.{Meaning, Moves, Same, Torn, IsWritten, Settled, Each}
+use Rattle.disk_model.proofs.Run.{goes_on, each_settled}
 use Rattle.pump_frame.specs.declared.row.SessionRow.{SessionRow}
 use Rattle.stable_buffer.specs.Format.{header_of}
 use Rattle.stable_buffer.specs.Making.{mark_bytes, marked, HasZeros, IsNone, IsNoneOr, KeepsFirst, LeavesFrom}

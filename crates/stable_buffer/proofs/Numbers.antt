@@ -46,11 +46,3 @@ pub length_at-read : (disk : List ℕ) (at : ℕ) (head : List ℕ) → head ≡
 length_at-read disk at head is = length_at-agree head 0 disk at
     (λ i lt. let e : i ≡ 0 + i = omega arith in
     subst (λ j. get_or head j 0 ≡ get_or disk (at + i) 0) e (ap (λ (l : List ℕ). get_or l i 0) is ∙ get_or-take 2 (drop at disk) i 0 lt ∙ get_or-drop at disk i 0))
-
-length_at-back : (n : ℕ) → n < 2 ^ 16 → length_at (big_bytes 2 n) 0 ≡ n
-unfolding length_at
-length_at-back n fits = big_number-back 2 n (omega arith)
-
-pub length_at-written : (c : List ℕ) (p n : ℕ) → n < 2 ^ 16 → ((i : ℕ) → i < 2 → get_or c (p + i) 0 ≡ get_or (big_bytes 2 n) i 0) → length_at c p ≡ n
-length_at-written c p n fits same =
-    length_at-agree c p (big_bytes 2 n) 0 (λ i lt. let e : i ≡ 0 + i = omega arith in subst (λ j. get_or c (p + i) 0 ≡ get_or (big_bytes 2 n) j 0) e (same i lt)) ∙ length_at-back n fits

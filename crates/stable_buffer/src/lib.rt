@@ -15,6 +15,3 @@ pub use high::HighStore;
 pub use low::LowStore;
 pub use new_disk::{RECEIVER_SIZE, VERSION, allows_version, begin, disk_size, finish, format};
 pub use register::Register;
-
-#[cfg(test)]
-mod tests;

@@ -1,5 +1,5 @@
 // A new disk.
-ghost use Rattle.std.specs.Prelude.{◌≡◌, ℕ, List, ◌<◌, ◌+◌, ◌-◌, ◌^◌, ◌≤◌, false, [], ◌∷◌, ◌++◌, length, replicate, OnOk, IfErr};
+ghost use Rattle.std.specs.Prelude.{◌≡◌, ℕ, List, ◌<◌, ◌-◌, ◌^◌, ◌≤◌, false, [], ◌++◌, length, replicate, OnOk, IfErr};
 ghost use Rattle.disk_model.specs.Disk.{Moves, Settled, Each, Answers};
 ghost use Rattle.disk_model.specs.declared.name.Role.TheVariants.{Recv};
 ghost use Rattle.byteorder.specs.Endian.{big_bytes};

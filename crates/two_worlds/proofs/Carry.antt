@@ -2,6 +2,5 @@
 pub mod Answered
 pub mod Carried
 pub mod Carries
-pub mod Packets
 pub mod Serves
 pub mod Works

@@ -37,7 +37,7 @@ use Rattle.two_worlds.specs.declared.low_pump.parts.LowParts.{LowParts}
 use Rattle.two_worlds.specs.declared.pump.parts.Parts.{Parts}
 use Rattle.two_worlds.specs.declared.pump.state.BareDisks.{BareDisks}
 use Rattle.two_worlds.specs.declared.pump.state.PumpState.{PumpState}
-use Rattle.two_worlds.specs.Disks.{LowFits, HighFits, RecvFits, DisksFit, Hold}
+use Rattle.world_laws.specs.Disks.{LowFits, HighFits, RecvFits, DisksFit, Hold}
 use Rattle.two_worlds.specs.Keeping.{Keeps}
 use Rattle.two_worlds.specs.Rooms.{HasRoom}
 use Rattle.two_worlds.specs.Standing.{Stands, HoldsWorld, IsAccepted, LowIsReady, HighIsReady, RecvIsReady, EndsAreReady, kept_of, bare_disk}

@@ -1,4 +1,3 @@
-pub mod Answered
 pub mod Arriving
 pub mod Carry
 pub mod Coarse
@@ -9,6 +8,4 @@ pub mod Low
 pub mod Opening
 pub mod Reading
 pub mod Reopening
-pub mod Runs
-pub mod Timeline
 pub mod Told

@@ -6,7 +6,6 @@ pub mod Leads
 pub mod Looked
 pub mod Lost
 pub mod Passes
-pub mod Replied
 pub mod Serves
 pub mod Sorts
 pub mod Stepping

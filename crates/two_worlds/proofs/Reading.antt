@@ -29,7 +29,7 @@ use Rattle.script_reader.specs.Past.{Past}
 use Rattle.two_worlds.specs.declared.pump.parts.Parts.{Parts}
 use Rattle.two_worlds.specs.declared.pump.state.PumpState.{PumpState}
 use Rattle.two_worlds.specs.declared.pump.state.PumpState.TheVariants.{Open, Shut}
-use Rattle.two_worlds.specs.Disks.{LowFits, RecvFits, DisksFit, live_messages}
+use Rattle.world_laws.specs.Disks.{LowFits, RecvFits, DisksFit, live_messages}
 use Rattle.two_worlds.specs.Doing.{Fails}
 use Rattle.two_worlds.specs.Keeping.{Keeps}
 use Rattle.two_worlds.specs.Reads.{ReadsAlone, ReadsIn, FailsToRead}

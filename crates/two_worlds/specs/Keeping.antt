@@ -3,7 +3,7 @@ use Rattle.std.specs.Prelude.{◌≡◌, false}
 use Rattle.disk_model.specs.Disk.{Meaning}
 use Rattle.pump_frame.specs.Rows.{IsLawfulRow}
 use Rattle.two_worlds.specs.declared.pump.state.PumpState.{PumpState}
-use Rattle.two_worlds.specs.Disks.{Hold}
+use Rattle.world_laws.specs.Disks.{Hold}
 use Rattle.two_worlds.specs.States.{disks_in, is_down_in, IsOpenWith}
 use Rattle.two_worlds.specs.Working.{IsAble}
 

@@ -1,13 +1,6 @@
-pub mod Agreement
-pub mod Answered
-pub mod Classes
-pub mod CoarseScripts
 pub mod Connections
-pub mod Disks
 pub mod Doing
 pub mod Keeping
-pub mod Laws
-pub mod ListedAverages
 pub mod LowParts
 pub mod LowPumps
 pub mod Openings
@@ -19,7 +12,5 @@ pub mod Rooms
 pub mod Standing
 pub mod States
 pub mod Surveys
-pub mod Timelines
-pub mod TimelinesAlone
 pub mod Timely
 pub mod Working

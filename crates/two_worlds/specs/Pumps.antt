@@ -16,7 +16,7 @@ use Rattle.two_worlds.specs.declared.pump.state.BareDisks.{BareDisks}
 use Rattle.two_worlds.specs.Standing.{bare_disk}
 use Rattle.two_worlds.specs.States.{disks_in, counts_in, is_down_in, kept_moment_in, IsOpenWith, StandsIn}
 use Rattle.two_worlds.specs.Doing.{Fails, LeavesFit}
-use Rattle.two_worlds.specs.Timelines.{IsTimeline, RunGoesOn}
+use Rattle.world_laws.specs.Timelines.{IsTimeline, RunGoesOn}
 use Rattle.two_worlds.specs.Timely as timely
 use Rattle.two_worlds.specs.Working as working
 use Rattle.pump_core.specs.Timed.{Step as TimedStep, Point}

@@ -9,7 +9,7 @@ use Rattle.low_process.specs.Storing.{outcome}
 use Rattle.script_reader.specs.Highs.{receiver_size}
 use Rattle.two_worlds.specs.declared.applied.Stop.{Stop}
 use Rattle.two_worlds.specs.declared.applied.Stop.TheVariants.{Line, Device, Full, Disk}
-use Rattle.two_worlds.specs.Disks.{RemovesBehind}
+use Rattle.world_laws.specs.Disks.{RemovesBehind}
 
 -- the disk is not armed, and may grow to this size
 pub record IsFree {D : Type 0} (m : Meaning D) (size : ℕ) (disk : D) : Type 0 where

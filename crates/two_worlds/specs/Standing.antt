@@ -27,10 +27,10 @@ use Rattle.high_process.specs.Ends as high_ends
 pub use Rattle.recovery.specs.Deals.{number_of}
 use Rattle.script_reader.specs.Past.{Past}
 use Rattle.script_reader.specs.Highs.{log_end, receiver_size}
-use Rattle.two_worlds.specs.Answered.{HasAnswered}
+use Rattle.world_laws.specs.Answered.{HasAnswered}
 use Rattle.two_worlds.specs.Connections.{waits_of, is_broken_of, reading_of}
-use Rattle.two_worlds.specs.Disks.{DisksFit}
-use Rattle.two_worlds.specs.Timelines.{IsAtRest}
+use Rattle.world_laws.specs.Disks.{DisksFit}
+use Rattle.world_laws.specs.Timelines.{IsAtRest}
 use Rattle.two_worlds.specs.declared.pump.parts.Parts.{Parts}
 use Rattle.two_worlds.specs.declared.pump.state.BareDisks.{BareDisks}
 

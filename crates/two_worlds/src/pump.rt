@@ -49,7 +49,7 @@ impl<D: Disk> Pump<D> {
     ghost use Rattle.two_worlds.specs.Printing.{lines_in};
     ghost use Rattle.script_reader.specs.Past.{Past};
     ghost use Rattle.script_reader.specs.Openings.{Found, first_past, nothing_found};
-    ghost use Rattle.two_worlds.specs.Disks.{Opens, CrashesOpen, LeaveWorld, OpenAgain};
+    ghost use Rattle.world_laws.specs.Disks.{Opens, CrashesOpen, LeaveWorld, OpenAgain};
     ghost use Rattle.recovery.specs.Calls.{is_device};
     ghost use Rattle.two_worlds.specs.LowPumps.{stops_at_disk};
     ghost use Rattle.two_worlds.specs.Pumps.{row_of, StandsFor, StandsOrFails, counts_of, is_down, kept_moment, disk_at, Applies, AppliesOn};

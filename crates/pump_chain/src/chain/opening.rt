@@ -10,7 +10,7 @@ ghost use Rattle.pump_core.specs.Lawful.{IsPrefixOf};
 ghost use Rattle.pump_frame.specs.Rows.{IsLawfulRow};
 ghost use Rattle.script_reader.specs.Openings.{Found, accepted_in, first_past};
 ghost use Rattle.script_reader.specs.Past.{Past};
-ghost use Rattle.two_worlds.specs.Disks.{CrashesOpen, LeaveWorld, OpenAgain};
+ghost use Rattle.world_laws.specs.Disks.{CrashesOpen, LeaveWorld, OpenAgain};
 ghost use Rattle.two_worlds.specs.Pumps.{StandsFor, StandsOrFails, row_of, is_down};
 
 use crate::chain::Chain;

@@ -19,8 +19,8 @@ use Rattle.pump_core.specs.HighLooks.{Perhaps}
 use Rattle.script_reader.specs.Highs.{place, overfills, receiver_size, log_end}
 use Rattle.two_worlds.specs.declared.pump.parts.Parts.{Parts}
 use Rattle.two_worlds.specs.Standing.{kept_of, HoldsWorld, Stands}
-use Rattle.two_worlds.specs.Timelines.{IsAtRest}
-use Rattle.two_worlds.proofs.Carry.Packets.{at_back, in_whole, keep_last_push}
+use Rattle.world_laws.specs.Timelines.{IsAtRest}
+use Rattle.world_laws.proofs.Packets.{at_back, in_whole, keep_last_push}
 
 -- where the records end after one more message
 pub log_end_push : (messages : List Payload) (p : Payload) → log_end (messages ++ p ∷ []) ≡ log_end messages + 2 + length p

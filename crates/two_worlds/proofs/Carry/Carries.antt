@@ -31,17 +31,17 @@ use Rattle.script_reader.specs.Highs.{place, overfills, receiver_size, printed_c
 use Rattle.script_reader.specs.Breaks.{IsUntaken}
 use Rattle.two_worlds.specs.declared.pump.parts.Parts.{Parts}
 use Rattle.two_worlds.specs.Private.Carrying.{printed_taken}
-use Rattle.two_worlds.specs.Disks.{DisksFit, LowFits, HighFits, RecvFits}
+use Rattle.world_laws.specs.Disks.{DisksFit, LowFits, HighFits, RecvFits}
 use Rattle.two_worlds.specs.Doing.{PartsFail, PartsLeaveFit}
 use Rattle.two_worlds.specs.Standing.{kept_of, HoldsWorld, Stands, is_down, disk_at}
-use Rattle.two_worlds.specs.Timelines.{IsAtRest}
+use Rattle.world_laws.specs.Timelines.{IsAtRest}
 use Rattle.two_worlds.proofs.Disks.Images.{low_alone, high_alone, all_alone}
 use Rattle.two_worlds.proofs.Disks.LeavesWorld.{fits_row}
 use Rattle.two_worlds.proofs.Carry.Answered.{AnsweredWith, in_store, full, took as took_by, repeated}
 use Rattle.two_worlds.proofs.Carry.Carried as led
 use Rattle.two_worlds.proofs.Opening.Ready.{recv_reading}
-use Rattle.two_worlds.specs.Answered.{HasAnswered}
-use Rattle.two_worlds.proofs.Answered.{twice, event_goes, perhaps_goes}
+use Rattle.world_laws.specs.Answered.{HasAnswered}
+use Rattle.world_laws.proofs.Answered.{twice, event_goes, perhaps_goes}
 
 -- the numbers that are kept, and one more
 abbrev pub Returns : Buffer ℕ → ℕ → Buffer ℕ → Type 0

@@ -12,7 +12,7 @@ use Rattle.pump_core.specs.World.{World}
 use Rattle.pump_core.specs.Events.{with_kept, pump_crashed, receiver_crashed}
 use Rattle.pump_core.specs.Lawful.{IsLawful}
 use Rattle.pump_core.proofs.Laws.{stays_lawful}
-use Rattle.two_worlds.specs.Disks.{LowFits, HighFits, RecvFits, Hold, Opens, CrashesOpen}
+use Rattle.world_laws.specs.Disks.{LowFits, HighFits, RecvFits, Hold, Opens, CrashesOpen}
 
 -- the oldest message may be left out
 without_oldest : (row : SessionRow) (E b : ℕ) (messages : List (List ℕ)) (disk : List ℕ) → 0 < length messages → LowStands row E b messages disk → LowStands row E (b + 1) (drop 1 messages) disk

@@ -24,7 +24,7 @@ use Rattle.high_process.specs.States as high
 use Rattle.high_process.specs.Storing.{LeavesCounted}
 use Rattle.script_reader.specs.Past.{Past}
 use Rattle.two_worlds.specs.declared.pump.parts.Parts.{Parts}
-use Rattle.two_worlds.specs.Disks.{live_messages, LowFits, HighFits, RecvFits}
+use Rattle.world_laws.specs.Disks.{live_messages, LowFits, HighFits, RecvFits}
 use Rattle.two_worlds.specs.Doing.{PartsLeaveFit, PartsFail}
 use Rattle.two_worlds.specs.Standing.{Stands, disk_at, number_of}
 use Rattle.two_worlds.proofs.Low.Disks.{live_push}

@@ -16,7 +16,7 @@ use Rattle.recovery.proofs.Triples.{each_world}
 use Rattle.script_reader.specs.Past.{Past}
 use Rattle.script_reader.specs.Highs.{log_end}
 use Rattle.two_worlds.specs.declared.pump.parts.Parts.{Parts}
-use Rattle.two_worlds.specs.Disks.{LowFits, HighFits, RecvFits, DisksFit, FitsRow, crashed, StandFor, StandForLeft, AreFound, OpenAgain, LeaveWorld}
+use Rattle.world_laws.specs.Disks.{LowFits, HighFits, RecvFits, DisksFit, FitsRow, crashed, StandFor, StandForLeft, AreFound, OpenAgain, LeaveWorld}
 use Rattle.two_worlds.specs.declared.pump.Pump.{Pump}
 use Rattle.two_worlds.specs.declared.pump.state.PumpState.{PumpState}
 use Rattle.two_worlds.specs.declared.pump.state.PumpState.TheVariants.{Open, Shut}

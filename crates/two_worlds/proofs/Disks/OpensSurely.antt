@@ -15,7 +15,7 @@ use Rattle.high_receiver.proofs.Appends.{records_push, length_front}
 use Rattle.pump_core.specs.World.{opened, Agree}
 use Rattle.pump_core.specs.Events.{Opened}
 use Rattle.pump_core.proofs.Laws.{begins_lawful}
-use Rattle.two_worlds.specs.Disks.{Opens, Hold, CrashesOpen}
+use Rattle.world_laws.specs.Disks.{Opens, Hold, CrashesOpen}
 use Rattle.two_worlds.proofs.Disks.Crashes.{crashes_open, readings_open}
 use Rattle.two_worlds.proofs.Opening.Headers.{low_stands_is, high_stands_is}
 use Rattle.two_worlds.proofs.Opening.Ready.{disk_stands}

@@ -16,7 +16,7 @@ use Rattle.two_worlds.specs.declared.applied.Stop.{Stop}
 use Rattle.two_worlds.specs.declared.applied.Stop.TheVariants.{Line}
 use Rattle.two_worlds.specs.declared.pump.parts.Parts.{Parts}
 use Rattle.two_worlds.specs.Connections.{Connected}
-use Rattle.two_worlds.specs.Disks.{HighFits, RecvFits, RemovesBehind}
+use Rattle.world_laws.specs.Disks.{HighFits, RecvFits, RemovesBehind}
 use Rattle.two_worlds.specs.Doing.{LeavesAlone}
 use Rattle.two_worlds.specs.Private.Serving.{DisksServe}
 use Rattle.two_worlds.specs.Rooms.{Serves, stops_at}

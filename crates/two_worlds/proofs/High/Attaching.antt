@@ -10,11 +10,11 @@ use Rattle.script_reader.specs.declared.event.Event.{Event}
 use Rattle.script_reader.specs.declared.event.Event.TheVariants.{Attach as AttachLine}
 use Rattle.script_reader.specs.Past.{Past}
 use Rattle.script_reader.specs.Highs.{IsAttach}
-use Rattle.two_worlds.specs.Answered.{HasAnswered}
+use Rattle.world_laws.specs.Answered.{HasAnswered}
 use Rattle.two_worlds.specs.Private.HighLooks.{IsOfLast, ComesBack, LeadsWith, BreaksWith, Attaches, BreaksAttaching}
 use Rattle.two_worlds.specs.Standing.{Stands}
 use Rattle.two_worlds.specs.declared.pump.parts.Parts.{Parts}
-use Rattle.two_worlds.proofs.Answered.{answered_at}
+use Rattle.world_laws.proofs.Answered.{answered_at}
 use Rattle.two_worlds.proofs.High.Returning.{numbered}
 
 -- where the TAKEN of the last of so many messages stands

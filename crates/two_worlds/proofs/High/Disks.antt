@@ -18,12 +18,12 @@ use Rattle.high_process.specs.Storing.{Removing, GivenBack, StandsOrRemoved, Lea
 use Rattle.high_process.specs.declared.values.HighFault.{HighFault}
 use Rattle.high_process.specs.declared.values.HighLook.{HighLook}
 use Rattle.script_reader.specs.Past.{Past}
-use Rattle.two_worlds.specs.Disks.{LowFits, HighFits, RecvFits, DisksFit, RemovesBehind, live_messages}
+use Rattle.world_laws.specs.Disks.{LowFits, HighFits, RecvFits, DisksFit, RemovesBehind, live_messages}
 use Rattle.two_worlds.specs.Standing.{Stands, number_of}
 use Rattle.two_worlds.specs.Private.HighLooks.{ComesBack}
 use Rattle.two_worlds.specs.declared.pump.parts.Parts.{Parts}
 use Rattle.two_worlds.proofs.High.Removals.{TakesHand, with_begun, without_first}
-use Rattle.two_worlds.proofs.Carry.Packets.{drop_one}
+use Rattle.world_laws.proofs.Packets.{drop_one}
 use Rattle.two_worlds.proofs.Opening.Ready.{high_reading, recv_reading}
 
 -- the two answers of a look

@@ -23,7 +23,7 @@ use Rattle.high_process.specs.declared.values.Task.TheVariants.{Refuse, Remove, 
 use Rattle.script_reader.specs.Past.{Past}
 use Rattle.script_reader.specs.Highs.{IsReturnBy}
 use Rattle.two_worlds.specs.Standing.{Stands}
-use Rattle.two_worlds.specs.Disks.{LowFits, HighFits, RecvFits}
+use Rattle.world_laws.specs.Disks.{LowFits, HighFits, RecvFits}
 use Rattle.two_worlds.specs.Doing.{PartsFail, PartsLeaveFit}
 use Rattle.two_worlds.specs.Private.HighLooks.{ComesBack, LeadsWith, BreaksWith}
 use Rattle.two_worlds.specs.declared.pump.parts.Parts.{Parts}

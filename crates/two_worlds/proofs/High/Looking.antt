@@ -30,9 +30,9 @@ use Rattle.script_reader.specs.Past.{Past}
 use Rattle.script_reader.specs.Highs.{IsWholeLook, IsReturnBy, is_ahead}
 use Rattle.two_worlds.specs.Standing.{HoldsWorld, Stands, kept_of, high_past_of}
 use Rattle.two_worlds.specs.Working.{Works}
-use Rattle.two_worlds.specs.Timelines.{IsAtRest}
+use Rattle.world_laws.specs.Timelines.{IsAtRest}
 use Rattle.stable_buffer.specs.Stands.{HighStands}
-use Rattle.two_worlds.specs.Disks.{LowFits, HighFits, RecvFits, DisksFit}
+use Rattle.world_laws.specs.Disks.{LowFits, HighFits, RecvFits, DisksFit}
 use Rattle.two_worlds.specs.Doing.{PartsLeaveFit}
 use Rattle.two_worlds.specs.Private.HighLooks.{ComesBack, LeadsWith, most_lines, removed_line, sent_line, printed_look}
 use Rattle.two_worlds.specs.declared.pump.parts.Parts.{Parts}

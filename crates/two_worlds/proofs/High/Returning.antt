@@ -12,7 +12,7 @@ use Rattle.two_worlds.specs.Private.HighLooks.{ComesBack}
 use Rattle.two_worlds.specs.Standing.{Stands}
 use Rattle.two_worlds.specs.Working.{Works, IsAble}
 use Rattle.two_worlds.specs.declared.pump.parts.Parts.{Parts}
-use Rattle.two_worlds.proofs.Carry.Packets.{in_whole, get_drop}
+use Rattle.world_laws.proofs.Packets.{in_whole, get_drop}
 
 -- the number that is found so many places before the last one stands there in the whole list
 pub number_comes : {D : Type 0} (m : Meaning D) (c : Parts D) (p : Past) → Stands m c p → (back n : ℕ) → back < length c.returned.items

@@ -20,9 +20,9 @@ use Rattle.script_reader.specs.declared.event.Event.TheVariants.{Sent}
 use Rattle.script_reader.specs.Past.{Past}
 use Rattle.script_reader.specs.Highs.{IsSending}
 use Rattle.two_worlds.specs.Standing.{Kept, HoldsWorld, IsAccepted, IsAcceptedHand, number_of}
-use Rattle.two_worlds.specs.Timelines.{IsAtRest}
+use Rattle.world_laws.specs.Timelines.{IsAtRest}
 use Rattle.two_worlds.specs.Private.HighLooks.{sent_line, packets_after}
-use Rattle.two_worlds.proofs.Carry.Packets.{keep_last_push}
+use Rattle.world_laws.proofs.Packets.{keep_last_push}
 
 -- ---- what the passage gave ----
 

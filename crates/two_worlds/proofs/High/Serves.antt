@@ -17,7 +17,7 @@ use Rattle.std.proofs.Common.{Bool, Ok, Option, ap, arith, false, inl, inr, le_t
 use Rattle.std.proofs.Math.Logic.{∥∥₁_elim}
 use Rattle.std.specs.Coded.{le_prop}
 use Rattle.two_worlds.proofs.High.Disks.{behind, failed, went}
-use Rattle.two_worlds.specs.Disks.{RemovesBehind}
+use Rattle.world_laws.specs.Disks.{RemovesBehind}
 use Rattle.two_worlds.specs.Private.Serving.{DisksServe}
 use Rattle.two_worlds.specs.Rooms.{Serves}
 use Rattle.two_worlds.specs.Private.HighLooks.{ComesBack}

@@ -21,10 +21,10 @@ use Rattle.high_process.specs.declared.process.HighProcess.{HighProcess}
 use Rattle.script_reader.specs.declared.event.Event.{Event}
 use Rattle.script_reader.specs.Past.{Past}
 use Rattle.script_reader.specs.Highs.{IsSending}
-use Rattle.two_worlds.specs.Answered.{HasAnswered}
+use Rattle.world_laws.specs.Answered.{HasAnswered}
 use Rattle.two_worlds.specs.Standing.{Kept, HoldsWorld, Stands, kept_of, number_of}
-use Rattle.two_worlds.specs.Timelines.{IsAtRest}
-use Rattle.two_worlds.specs.Disks.{DisksFit}
+use Rattle.world_laws.specs.Timelines.{IsAtRest}
+use Rattle.world_laws.specs.Disks.{DisksFit}
 use Rattle.two_worlds.specs.Private.HighLooks.{sent_line, packets_after}
 use Rattle.two_worlds.specs.declared.pump.parts.Parts.{Parts}
 use Rattle.two_worlds.proofs.High.Fetching.{FetchedBy}

@@ -15,7 +15,7 @@ use Rattle.two_worlds.specs.declared.pump.parts.Parts.{Parts}
 use Rattle.two_worlds.specs.declared.pump.Pump.{Pump}
 use Rattle.two_worlds.specs.declared.pump.state.PumpState.{PumpState}
 use Rattle.two_worlds.specs.declared.pump.state.PumpState.TheVariants.{Open, Shut}
-use Rattle.two_worlds.specs.Disks.{Hold}
+use Rattle.world_laws.specs.Disks.{Hold}
 use Rattle.two_worlds.specs.Keeping.{Keeps}
 use Rattle.two_worlds.specs.LowPumps.{stops_at_disk}
 use Rattle.two_worlds.specs.Private.StateSteps.{StateApplies, StateAppliesOn}
@@ -24,7 +24,7 @@ use Rattle.two_worlds.specs.Standing.{Stands, is_down}
 use Rattle.two_worlds.specs.States.{disks_in, is_down_in, IsOpenWith, StandsIn}
 use Rattle.two_worlds.specs.Working.{Works, IsAble, IsTooLong}
 use Rattle.two_worlds.proofs.Opening.Working.{works_of}
-use Rattle.two_worlds.proofs.Timeline.Scripts.{line_goes}
+use Rattle.world_laws.proofs.Timeline.Scripts.{line_goes}
 
 -- ---- states ----
 

@@ -12,7 +12,7 @@ use Rattle.stable_buffer.specs.Low.{low_disk, low_row}
 use Rattle.stable_buffer.specs.declared.low.LowStore.{LowStore}
 use Rattle.low_process.specs.Storing.{StoreStep}
 use Rattle.pump_core.specs.World.{World}
-use Rattle.two_worlds.specs.Disks.{live_messages, LowFits, HighFits, RecvFits}
+use Rattle.world_laws.specs.Disks.{live_messages, LowFits, HighFits, RecvFits}
 use Rattle.two_worlds.proofs.Opening.Ready.{low_reading}
 use Rattle.two_worlds.proofs.Low.Grows.{Grows}
 

@@ -33,7 +33,7 @@ use Rattle.script_reader.specs.Past.{Past, pair}
 use Rattle.script_reader.specs.Lows.{is_bad, comes_again, feedback, offers, stored_events, acks_of, printed_store, printed_feedback, printed_replies, IsLook}
 use Rattle.two_worlds.specs.Connections.{waits_of, is_broken_of}
 use Rattle.two_worlds.specs.declared.pump.parts.Parts.{Parts}
-use Rattle.two_worlds.specs.Disks.{LowFits, DisksFit}
+use Rattle.world_laws.specs.Disks.{LowFits, DisksFit}
 use Rattle.two_worlds.specs.Doing.{PartsLeaveFit}
 use Rattle.two_worlds.specs.Printing.{printed_reply, look_prints}
 use Rattle.two_worlds.specs.Standing.{kept_of, HoldsWorld, number_of, Stands}
@@ -49,7 +49,7 @@ use Rattle.script_reader.proofs.Hearing.{is_passing, owed_is}
 use Rattle.two_worlds.proofs.Low.Told.{LookHead, moves, told_by, told_in, passing_is, hears_room, feedback_is}
 use Rattle.two_worlds.proofs.Low.Wants.{taking, hand_is_empty, is_short, stored_is}
 use Rattle.two_worlds.proofs.Low.Worlds.{Led, led_by, hand_by, held_by, passed_is, empty_hand, room_is, full_number}
-use Rattle.two_worlds.proofs.Answered.{run_goes}
+use Rattle.world_laws.proofs.Answered.{run_goes}
 
 prints_reply : (session m w : ℕ) (a : Arrival) (f : Feedback) (r : Option Frame) → printed_reply session m r ≡ printed_replies session (sent (look_of m w a false f) r)
 prints_reply session m w a f None = refl

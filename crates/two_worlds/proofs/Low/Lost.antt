@@ -29,7 +29,7 @@ use Rattle.script_reader.specs.Past.{Past}
 use Rattle.script_reader.specs.Lows.{printed_store, printed_feedback}
 use Rattle.script_reader.specs.Breaks.{IsLostLook}
 use Rattle.two_worlds.specs.declared.pump.parts.Parts.{Parts}
-use Rattle.two_worlds.specs.Disks.{LowFits}
+use Rattle.world_laws.specs.Disks.{LowFits}
 use Rattle.two_worlds.specs.Doing.{PartsFail, PartsLeaveFit}
 use Rattle.two_worlds.specs.Printing.{printed_reply, look_prints}
 use Rattle.two_worlds.specs.Standing.{number_of, Stands}

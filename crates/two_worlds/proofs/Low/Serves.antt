@@ -21,7 +21,7 @@ use Rattle.low_process.specs.Storing.{StoreStep, message_in}
 use Rattle.two_worlds.specs.declared.applied.Stop.{Stop}
 use Rattle.two_worlds.specs.declared.applied.Stop.TheVariants.{Device}
 use Rattle.two_worlds.specs.declared.pump.parts.Parts.{Parts}
-use Rattle.two_worlds.specs.Disks.{RemovesBehind}
+use Rattle.world_laws.specs.Disks.{RemovesBehind}
 use Rattle.two_worlds.specs.Private.Serving.{DisksServe}
 use Rattle.two_worlds.specs.Rooms.{Serves, stops_at}
 use Rattle.two_worlds.specs.Private.LowLooks.{stop_of}

@@ -24,7 +24,7 @@ use Rattle.pump_core.proofs.Lists.{slice_get-append, slice_get-past, length-push
 use Rattle.script_reader.specs.Lows.{offers, stored_events, acks_of}
 use Rattle.pump_frame.specs.declared.payload.Payload.{Payload}
 use Rattle.low_process.specs.Looks.{hand_stored, hand_passed}
-use Rattle.two_worlds.specs.Timelines.{IsAtRest}
+use Rattle.world_laws.specs.Timelines.{IsAtRest}
 use Rattle.two_worlds.specs.Standing.{Kept, HoldsWorld, IsAccepted, IsAcceptedHand, number_of}
 use Rattle.script_reader.proofs.Hearing.{is_passing}
 use Rattle.two_worlds.proofs.Low.Told.{moves}

@@ -24,7 +24,7 @@ use Rattle.two_worlds.specs.declared.pump.parts.Parts.{Parts}
 use Rattle.two_worlds.specs.Openings.{StandForFound}
 use Rattle.two_worlds.specs.Standing.{Stands}
 use Rattle.two_worlds.specs.Private.Opened.{AreOpened}
-use Rattle.two_worlds.proofs.Answered.{last_answered}
+use Rattle.world_laws.proofs.Answered.{last_answered}
 use Rattle.two_worlds.proofs.Opening.Opened.{OpensIn, stand}
 use Rattle.two_worlds.proofs.Opening.Ready.{low_reading, high_reading, recv_reading}
 

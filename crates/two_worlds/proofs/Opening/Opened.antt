@@ -42,9 +42,9 @@ use Rattle.script_reader.proofs.Opened.{row_capacity}
 use Rattle.script_reader.specs.Past.{Past}
 use Rattle.script_reader.specs.Highs.{log_end}
 use Rattle.two_worlds.specs.declared.pump.parts.Parts.{Parts}
-use Rattle.two_worlds.specs.Answered.{HasAnswered}
+use Rattle.world_laws.specs.Answered.{HasAnswered}
 use Rattle.two_worlds.specs.Connections.{Connected, waits_of, is_broken_of, reading_of}
-use Rattle.two_worlds.specs.Disks.{LowFits, HighFits, RecvFits, live_messages}
+use Rattle.world_laws.specs.Disks.{LowFits, HighFits, RecvFits, live_messages}
 use Rattle.two_worlds.specs.Standing.{Stands, HoldsWorld, EndsAreReady, IsAccepted, IsAcceptedHand, kept_of}
 use Rattle.two_worlds.specs.Working.{Works, IsShort, IsShortHand, IsPacket}
 use Rattle.two_worlds.specs.Private.Opened.{AreOpened}

@@ -16,7 +16,7 @@ use Rattle.low_process.specs.Whole.{IsStoreOf}
 use Rattle.high_process.specs.States as high
 use Rattle.std.specs.Prelude.{is_some}
 use Rattle.pump_core.specs.World.{World}
-use Rattle.two_worlds.specs.Disks.{LowFits, HighFits, RecvFits, live_messages}
+use Rattle.world_laws.specs.Disks.{LowFits, HighFits, RecvFits, live_messages}
 use Rattle.two_worlds.specs.declared.pump.parts.Parts.{Parts}
 use Rattle.two_worlds.specs.Working.{IsAble}
 use Rattle.two_worlds.proofs.Opening.Headers.{header_is, high_stands_is}

@@ -30,7 +30,7 @@ use Rattle.two_worlds.specs.declared.applied.Stop.TheVariants.{Device, Disk}
 use Rattle.two_worlds.specs.declared.pump.parts.Parts.{Parts}
 use Rattle.two_worlds.specs.declared.pump.state.BareDisks.{BareDisks}
 use Rattle.two_worlds.specs.declared.pump.state.PumpState.TheVariants.{Shut}
-use Rattle.two_worlds.specs.Disks.{LowFits, HighFits, RecvFits, RemovesBehind}
+use Rattle.world_laws.specs.Disks.{LowFits, HighFits, RecvFits, RemovesBehind}
 use Rattle.two_worlds.specs.Doing.{Fails, LeavesFit}
 use Rattle.two_worlds.specs.Private.Restarting.{stop_for, RestartsFrom, RestartsOn, DisksRestart}
 use Rattle.two_worlds.specs.Rooms.{Serves, stops_at}

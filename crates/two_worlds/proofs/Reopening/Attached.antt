@@ -27,7 +27,7 @@ use Rattle.two_worlds.specs.Private.StateSteps.{StateApplies, StateAppliesOn}
 use Rattle.two_worlds.specs.Rooms.{DisksGo}
 use Rattle.two_worlds.specs.Standing.{Stands, bare_of}
 use Rattle.two_worlds.specs.States.{disks_in, IsOpenWith, StandsIn}
-use Rattle.two_worlds.specs.Timelines.{IsAtRest}
+use Rattle.world_laws.specs.Timelines.{IsAtRest}
 use Rattle.two_worlds.specs.Working.{IsAble}
 use Rattle.two_worlds.proofs.Disks.Together.{serve_then}
 

@@ -14,7 +14,7 @@ use Rattle.script_reader.specs.Past.{Past}
 use Rattle.script_reader.specs.Highs.{receiver_size}
 use Rattle.two_worlds.specs.declared.pump.parts.Parts.{Parts}
 use Rattle.two_worlds.specs.declared.pump.state.PumpState.TheVariants.{Open}
-use Rattle.two_worlds.specs.Disks.{LowFits, HighFits, RecvFits}
+use Rattle.world_laws.specs.Disks.{LowFits, HighFits, RecvFits}
 use Rattle.two_worlds.specs.Doing.{LeavesFit}
 use Rattle.two_worlds.specs.Private.Reopening.{Reopens}
 use Rattle.two_worlds.specs.Rooms.{Serves}

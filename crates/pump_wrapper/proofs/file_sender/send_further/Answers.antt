@@ -2,7 +2,7 @@ use Rattle.std.proofs.Common.{◌∙◌, Bool, sym, ap, subst}
 use Rattle.pump_frame.specs.Rows.{IsLawfulRow}
 use Rattle.pump_frame.specs.declared.row.SessionRow.{SessionRow}
 use Rattle.script_reader.specs.Openings.{CanOpen, first_past}
-use Rattle.two_worlds.specs.Disks.{LeaveWorld}
+use Rattle.world_laws.specs.Disks.{LeaveWorld}
 use Rattle.two_worlds.specs.Pumps.{StandsFor}
 use Rattle.pump_wrapper.specs.Cutting.{Gave, cut_bytes}
 use Rattle.pump_wrapper.specs.Wraps.{HasAll, Sends, all_taken, is_too_long}

@@ -1,4 +1,5 @@
 use Rattle.std.proofs.Common.{◌≡◌, ℕ, Bool, true, false, true≢false, List, [], ◌++◌, refl, sym, ap, ◌∙◌, subst, append-nil, arith}
+use Rattle.std.proofs.lemmas.Result.{IfOk-from_err}
 use Rattle.std.specs.Prelude.{◌||◌}
 use Rattle.disk_model.specs.Plain.{Plain}
 use Rattle.pump_frame.specs.declared.row.SessionRow.{SessionRow}
@@ -137,3 +138,27 @@ returns-clause-asked_high g c =
     let r = c.in_ok-raced.ensures in
     let H = g.H.Gate in
     subst (λ (z : ℕ × Plain). AsksHigh z.0 c.in_ok-raced.raced.high_stopped (H.asked c.args.high_gate.now) (H.asked c.run_halves.new.high_gate) z.1.bytes) (λ i. (r.high_count i, sym c.into_disk-3.ensures i)) r.high_asks
+
+pub returns-in_err-raced-clause-record : goal.returns-in_err-raced-clause-record
+returns-in_err-raced-clause-record g c = IfOk-from_err c.from_residual.result _ c.from_residual.ensures.0
+
+pub returns-in_err-raced-clause-cut_short : goal.returns-in_err-raced-clause-cut_short
+returns-in_err-raced-clause-cut_short g c = IfOk-from_err c.from_residual.result _ c.from_residual.ensures.0
+
+pub returns-in_err-raced-clause-disks : goal.returns-in_err-raced-clause-disks
+returns-in_err-raced-clause-disks g c = IfOk-from_err c.from_residual.result _ c.from_residual.ensures.0
+
+pub returns-in_err-raced-clause-low_stopped : goal.returns-in_err-raced-clause-low_stopped
+returns-in_err-raced-clause-low_stopped g c = IfOk-from_err c.from_residual.result _ c.from_residual.ensures.0
+
+pub returns-in_err-raced-clause-high_stopped : goal.returns-in_err-raced-clause-high_stopped
+returns-in_err-raced-clause-high_stopped g c = IfOk-from_err c.from_residual.result _ c.from_residual.ensures.0
+
+pub returns-in_err-raced-clause-asked_high : goal.returns-in_err-raced-clause-asked_high
+returns-in_err-raced-clause-asked_high g c = IfOk-from_err c.from_residual.result _ c.from_residual.ensures.0
+
+pub returns-clause-low_stopped : goal.returns-clause-low_stopped
+returns-clause-low_stopped g c = c.in_ok-raced.ensures.low_stopped
+
+pub returns-clause-high_stopped : goal.returns-clause-high_stopped
+returns-clause-high_stopped g c = c.in_ok-raced.ensures.high_stopped

@@ -1,17 +1,129 @@
-use Rattle.std.proofs.Common.{ℕ, List, subst}
+use Rattle.std.proofs.Common.{ℕ, List, ap, ◌∙◌, subst}
+use Rattle.std.proofs.lemmas.Result.{IfOk-from_err}
 use Rattle.pump_frame.specs.Counts.{Rose}
-use Rattle.pump_core.specs.Passage.{new_low, new_high}
+use Rattle.pump_core.specs.Passage.{new_low, new_high, shape_of_row}
+use Rattle.race.specs.Messages.{messages_in}
 use Rattle.race.specs.Race.{IsRaceRecord, IsStoppedRecord, AreRaceDisks}
 use Rattle.race.specs.Turns.{AsksHigh}
 use Rattle.race.proofs.Tapes.{failed_of}
 use Rattle.race.proofs.Unstarted.{of_end, of_both}
 use Rattle.race.proofs.racing.race_with.Goals as goal
 
-pub start-low-requires-clause-stands : goal.start-low-requires-clause-stands
-start-low-requires-clause-stands g c = c.ends-low_end.ensures.low new_high
+pub returns-in_err-low_store-clause-record : goal.returns-in_err-low_store-clause-record
+returns-in_err-low_store-clause-record g c = IfOk-from_err c.from_residual.result _ c.from_residual.ensures.0
 
-pub start-high-requires-clause-stands : goal.start-high-requires-clause-stands
-start-high-requires-clause-stands g c = c.ends-low_end.ensures.high new_low
+pub returns-in_err-low_store-clause-cut_short : goal.returns-in_err-low_store-clause-cut_short
+returns-in_err-low_store-clause-cut_short g c = IfOk-from_err c.from_residual.result _ c.from_residual.ensures.0
+
+pub returns-in_err-low_store-clause-disks : goal.returns-in_err-low_store-clause-disks
+returns-in_err-low_store-clause-disks g c = IfOk-from_err c.from_residual.result _ c.from_residual.ensures.0
+
+pub returns-in_err-low_store-clause-failed : goal.returns-in_err-low_store-clause-failed
+returns-in_err-low_store-clause-failed g c = IfOk-from_err c.from_residual.result _ c.from_residual.ensures.0
+
+pub returns-in_err-low_store-clause-low_stopped : goal.returns-in_err-low_store-clause-low_stopped
+returns-in_err-low_store-clause-low_stopped g c = IfOk-from_err c.from_residual.result _ c.from_residual.ensures.0
+
+pub returns-in_err-low_store-clause-high_stopped : goal.returns-in_err-low_store-clause-high_stopped
+returns-in_err-low_store-clause-high_stopped g c = IfOk-from_err c.from_residual.result _ c.from_residual.ensures.0
+
+pub returns-in_err-low_store-clause-asked_high : goal.returns-in_err-low_store-clause-asked_high
+returns-in_err-low_store-clause-asked_high g c = IfOk-from_err c.from_residual.result _ c.from_residual.ensures.0
+
+pub returns-in_err-high_store-clause-record : goal.returns-in_err-high_store-clause-record
+returns-in_err-high_store-clause-record g c = IfOk-from_err c.from_residual-in_err-high_store.result _ c.from_residual-in_err-high_store.ensures.0
+
+pub returns-in_err-high_store-clause-cut_short : goal.returns-in_err-high_store-clause-cut_short
+returns-in_err-high_store-clause-cut_short g c = IfOk-from_err c.from_residual-in_err-high_store.result _ c.from_residual-in_err-high_store.ensures.0
+
+pub returns-in_err-high_store-clause-disks : goal.returns-in_err-high_store-clause-disks
+returns-in_err-high_store-clause-disks g c = IfOk-from_err c.from_residual-in_err-high_store.result _ c.from_residual-in_err-high_store.ensures.0
+
+pub returns-in_err-high_store-clause-failed : goal.returns-in_err-high_store-clause-failed
+returns-in_err-high_store-clause-failed g c = IfOk-from_err c.from_residual-in_err-high_store.result _ c.from_residual-in_err-high_store.ensures.0
+
+pub returns-in_err-high_store-clause-low_stopped : goal.returns-in_err-high_store-clause-low_stopped
+returns-in_err-high_store-clause-low_stopped g c = IfOk-from_err c.from_residual-in_err-high_store.result _ c.from_residual-in_err-high_store.ensures.0
+
+pub returns-in_err-high_store-clause-high_stopped : goal.returns-in_err-high_store-clause-high_stopped
+returns-in_err-high_store-clause-high_stopped g c = IfOk-from_err c.from_residual-in_err-high_store.result _ c.from_residual-in_err-high_store.ensures.0
+
+pub returns-in_err-high_store-clause-asked_high : goal.returns-in_err-high_store-clause-asked_high
+returns-in_err-high_store-clause-asked_high g c = IfOk-from_err c.from_residual-in_err-high_store.result _ c.from_residual-in_err-high_store.ensures.0
+
+pub returns-in_err-receiver-clause-record : goal.returns-in_err-receiver-clause-record
+returns-in_err-receiver-clause-record g c = IfOk-from_err c.from_residual-in_err-receiver.result _ c.from_residual-in_err-receiver.ensures.0
+
+pub returns-in_err-receiver-clause-cut_short : goal.returns-in_err-receiver-clause-cut_short
+returns-in_err-receiver-clause-cut_short g c = IfOk-from_err c.from_residual-in_err-receiver.result _ c.from_residual-in_err-receiver.ensures.0
+
+pub returns-in_err-receiver-clause-disks : goal.returns-in_err-receiver-clause-disks
+returns-in_err-receiver-clause-disks g c = IfOk-from_err c.from_residual-in_err-receiver.result _ c.from_residual-in_err-receiver.ensures.0
+
+pub returns-in_err-receiver-clause-failed : goal.returns-in_err-receiver-clause-failed
+returns-in_err-receiver-clause-failed g c = IfOk-from_err c.from_residual-in_err-receiver.result _ c.from_residual-in_err-receiver.ensures.0
+
+pub returns-in_err-receiver-clause-low_stopped : goal.returns-in_err-receiver-clause-low_stopped
+returns-in_err-receiver-clause-low_stopped g c = IfOk-from_err c.from_residual-in_err-receiver.result _ c.from_residual-in_err-receiver.ensures.0
+
+pub returns-in_err-receiver-clause-high_stopped : goal.returns-in_err-receiver-clause-high_stopped
+returns-in_err-receiver-clause-high_stopped g c = IfOk-from_err c.from_residual-in_err-receiver.result _ c.from_residual-in_err-receiver.ensures.0
+
+pub returns-in_err-receiver-clause-asked_high : goal.returns-in_err-receiver-clause-asked_high
+returns-in_err-receiver-clause-asked_high g c = IfOk-from_err c.from_residual-in_err-receiver.result _ c.from_residual-in_err-receiver.ensures.0
+
+pub returns-in_err-passage-clause-record : goal.returns-in_err-passage-clause-record
+returns-in_err-passage-clause-record g c = IfOk-from_err c.from_residual-in_err-passage.result _ c.from_residual-in_err-passage.ensures.0
+
+pub returns-in_err-passage-clause-cut_short : goal.returns-in_err-passage-clause-cut_short
+returns-in_err-passage-clause-cut_short g c = IfOk-from_err c.from_residual-in_err-passage.result _ c.from_residual-in_err-passage.ensures.0
+
+pub returns-in_err-passage-clause-disks : goal.returns-in_err-passage-clause-disks
+returns-in_err-passage-clause-disks g c = IfOk-from_err c.from_residual-in_err-passage.result _ c.from_residual-in_err-passage.ensures.0
+
+pub returns-in_err-passage-clause-failed : goal.returns-in_err-passage-clause-failed
+returns-in_err-passage-clause-failed g c = IfOk-from_err c.from_residual-in_err-passage.result _ c.from_residual-in_err-passage.ensures.0
+
+pub returns-in_err-passage-clause-low_stopped : goal.returns-in_err-passage-clause-low_stopped
+returns-in_err-passage-clause-low_stopped g c = IfOk-from_err c.from_residual-in_err-passage.result _ c.from_residual-in_err-passage.ensures.0
+
+pub returns-in_err-passage-clause-high_stopped : goal.returns-in_err-passage-clause-high_stopped
+returns-in_err-passage-clause-high_stopped g c = IfOk-from_err c.from_residual-in_err-passage.result _ c.from_residual-in_err-passage.ensures.0
+
+pub returns-in_err-passage-clause-asked_high : goal.returns-in_err-passage-clause-asked_high
+returns-in_err-passage-clause-asked_high g c = IfOk-from_err c.from_residual-in_err-passage.result _ c.from_residual-in_err-passage.ensures.0
+
+pub start-low-requires : goal.start-low-requires
+start-low-requires g c =
+    let store = c.in_ok-low_store.ensures in
+    record {
+      row = c.generated_row-row.ensures;
+      stands = c.ends-low_end.ensures.low new_high;
+      shape = c.ends-low_end.ensures.low_shape ∙ c.in_ok-passage.ensures.shape ∙ ap shape_of_row c.generated_row-row.ensures;
+      ready = store.ready;
+      zero = store.count;
+      of = store.row;
+      calm = store.calm;
+      room = store.room;
+      script = ap messages_in c.new-script.ensures;
+      some = c.requires.some;
+      few = c.requires.turn.few;
+    }
+
+pub start-high-requires : goal.start-high-requires
+start-high-requires g c =
+    let store = c.in_ok-high_store.ensures in
+    record {
+      row = c.generated_row-row.ensures;
+      stands = c.ends-low_end.ensures.high new_low;
+      ready = store.ready;
+      zero = store.count;
+      disk = store.stands;
+      calm = store.calm;
+      room = store.room;
+      receiver = c.in_ok-receiver.ensures;
+      turn = c.requires.turn;
+    }
 
 pub returns-clause-record : goal.returns-clause-record
 returns-clause-record g c = of_end c.race_halves.result c.race_halves.ensures.record (λ end is low_on high_on.
@@ -38,3 +150,12 @@ pub returns-clause-asked_high : goal.returns-clause-asked_high
 returns-clause-asked_high g c = of_end c.race_halves.result c.race_halves.ensures.asked_high (λ end asked.
     let H = g.H.Gate in
     subst (λ (n : ℕ). AsksHigh n end.high_stopped (H.asked c.args.high_gate.now) (H.asked c.race_halves.new.high_gate) end.recv.bytes) c.start-high.ensures.count asked)
+
+pub returns-clause-low_stopped : goal.returns-clause-low_stopped
+returns-clause-low_stopped g c = c.race_halves.ensures.low_stopped
+
+pub returns-clause-high_stopped : goal.returns-clause-high_stopped
+returns-clause-high_stopped g c = c.race_halves.ensures.high_stopped
+
+pub returns-clause-nothing : goal.returns-clause-nothing
+returns-clause-nothing g c = c.race_halves.ensures.nothing

@@ -1,34 +1,129 @@
-use Rattle.std.proofs.Common.{◌≡◌, inl, inr, ◌∙◌, ℕ, List, [], false, not, get_or, sym, ap, subst, arith}
-use Rattle.std.proofs.lemmas.Bool.{cases_lt}
+use Rattle.std.proofs.Common.{◌≡◌, inl, inr, ◌∙◌, ℕ, List, [], false, not, get_or, refl, sym, ap, subst, arith}
+use Rattle.std.proofs.lemmas.Bool.{cases_lt, false≢true}
 use Rattle.disk_model.specs.Disk.{Same}
-use Rattle.disk_model.proofs.Run.{goes_on_same}
+use Rattle.disk_model.proofs.Run.{started, goes_on_same}
 use Rattle.pump_frame.specs.declared.row.SessionRow.{SessionRow}
 use Rattle.stable_buffer.specs.Stands.{InSlot}
 use Rattle.stable_buffer.specs.Log.{RecvStands}
 use Rattle.recovery.specs.Calls.{Calls}
-use Rattle.recovery.proofs.Comparing.{low_called, goes_on, receiver_called}
+use Rattle.recovery.proofs.Comparing.{low_called, goes_on, receiver_called, at_same}
 use Rattle.recovery.proofs.compare.agree.Goals as goal
 
-pub returns-in-Ok-false-clause-calls_receiver : goal.returns-in-Ok-false-clause-calls_receiver
-returns-in-Ok-false-clause-calls_receiver g c = λ less within.
+pub returns-then-taken-removed : goal.returns-then-taken-removed
+returns-then-taken-removed g c =
+    let same = started g.D.Disk.told Same (λ d. refl) in
+    record {
+      fine = tt;
+      exact = λ nd told ms s. (c.count-taken.ensures, inl (omega (arith, c.count-taken.ensures, c.if-taken-removed.true), refl));
+      device_low = λ is. elim (false≢true is) [ ];
+      device_receiver = λ is. elim (false≢true is) [ ];
+      shut = λ is. elim (false≢true is) [ ];
+      one = λ _. c.requires.receiver.is_open;
+      idle = λ _. (refl, refl);
+      calls_low = λ less within. let no : ⊥ = omega (arith, c.count-taken.ensures, c.if-taken-removed.true, less, within) in elim no [ ];
+      calls_receiver = λ less within. let no : ⊥ = omega (arith, c.count-taken.ensures, c.if-taken-removed.true, less, within) in elim no [ ];
+      ready_low = λ _. c.requires.low;
+      ready_receiver = λ _. c.requires.receiver;
+      «open» = tt;
+      open_err = λ _. (c.requires.low.ready.is_open, c.requires.receiver.is_open);
+      low = (refl, refl);
+      receiver = (refl, refl, refl, refl);
+      moves_low = same _;
+      moves_receiver = same _;
+    }
+
+pub returns-then-taken-next : goal.returns-then-taken-next
+returns-then-taken-next g c =
+    let same = started g.D.Disk.told Same (λ d. refl) in
+    record {
+      fine = tt;
+      exact = λ nd told ms s. (c.count-taken.ensures, inr (omega (arith, c.count-taken.ensures, c.if-taken-removed.false), omega (arith, c.count-taken.ensures, c.accepted-next.ensures, c.if-taken-next.true), c.accepted-next.ensures));
+      device_low = λ is. elim (false≢true is) [ ];
+      device_receiver = λ is. elim (false≢true is) [ ];
+      shut = λ is. elim (false≢true is) [ ];
+      one = λ _. c.requires.receiver.is_open;
+      idle = λ _. (refl, refl);
+      calls_low = λ less within. let no : ⊥ = omega (arith, c.count-taken.ensures, c.accepted-next.ensures, c.if-taken-next.true, less, within) in elim no [ ];
+      calls_receiver = λ less within. let no : ⊥ = omega (arith, c.count-taken.ensures, c.accepted-next.ensures, c.if-taken-next.true, less, within) in elim no [ ];
+      ready_low = λ _. c.requires.low;
+      ready_receiver = λ _. c.requires.receiver;
+      «open» = tt;
+      open_err = λ _. (c.requires.low.ready.is_open, c.requires.receiver.is_open);
+      low = (refl, refl);
+      receiver = (refl, refl, refl, refl);
+      moves_low = same _;
+      moves_receiver = same _;
+    }
+
+pub returns-in-Ok-false : goal.returns-in-Ok-false
+returns-in-Ok-false g c =
+    let m = g.D.Disk.told in
     let i = c.loop-n.invariant in
-    receiver_called g.D.Disk.told c.args.removed c.loop-n.n c.args.low.now c.loop-n.low c.args.receiver.now c.loop-n.receiver i.from i.first c.is_same.new.receiver i.calls_receiver i.ready_receiver.is_open c.is_same.ensures.calls_receiver
+    let e = c.is_same.ensures in
+    let low = c.args.low.now in
+    let receiver = c.args.receiver.now in
+    record {
+      fine = tt;
+      exact = λ nd told ms s.
+          let now = at_same (λ w d. RecvStands w ms d) _ _ _ _ i.receiver_is.2 (i.moves_receiver.reads told) s in (
+            omega (arith, i.from, c.count-taken.ensures, c.loop-n-test.true),
+            omega (arith, c.count-taken.ensures, c.accepted-next.ensures, c.if-taken-next.false),
+            i.from,
+            omega (arith, c.count-taken.ensures, c.loop-n-test.true),
+            i.same told ms s,
+            (λ has. c.in-Ok-false.ensures.other c.in-Ok-false.field-0-test told ms now (at_same (λ w d. InSlot w c.loop-n.n (get_or ms c.loop-n.n []) d) _ _ _ _ i.low_is.1 (i.moves_low.reads told) has)),
+          );
+      device_low = λ is. elim (false≢true is) [ ];
+      device_receiver = λ is. elim (false≢true is) [ ];
+      shut = λ is. elim (false≢true is) [ ];
+      one = λ _. c.in-Ok-false.ensures.open.1;
+      idle = λ none. absurd (elim none [
+        | inl few ↦ omega (arith, few, i.from, c.count-taken.ensures, c.loop-n-test.true)
+        | inr many ↦ omega (arith, many, c.count-taken.ensures, c.accepted-next.ensures, c.if-taken-next.false)
+      ]);
+      calls_low = λ less within. low_called m c.args.removed c.loop-n.n low c.loop-n.low receiver c.loop-n.receiver i.from i.first c.is_same.new.low.register.disk (not c.is_same.new.low.register.is_open) i.calls_low e.calls_low;
+      calls_receiver = λ less within.
+          receiver_called m c.args.removed c.loop-n.n low c.loop-n.low receiver c.loop-n.receiver i.from i.first c.is_same.new.receiver i.calls_receiver i.ready_receiver.is_open e.calls_receiver;
+      ready_low = e.ready_low;
+      ready_receiver = e.ready_receiver;
+      «open» = tt;
+      open_err = λ _. c.in-Ok-false.ensures.open;
+      low = (e.low.0 ∙ i.low_is.0, e.low.1 ∙ i.low_is.1);
+      receiver = (e.receiver.0 ∙ i.receiver_is.0, e.receiver.1 ∙ i.receiver_is.1, e.receiver.2 ∙ i.receiver_is.2, e.receiver.3 ∙ i.receiver_is.3);
+      moves_low = goes_on_same m Same _ _ _ i.moves_low e.moves_low;
+      moves_receiver = goes_on_same m Same _ _ _ i.moves_receiver e.moves_receiver;
+    }
 
-pub returns-in-Err-clause-calls_receiver : goal.returns-in-Err-clause-calls_receiver
-returns-in-Err-clause-calls_receiver g c = λ less within.
+pub returns-in-Err : goal.returns-in-Err
+returns-in-Err g c =
+    let m = g.D.Disk.told in
     let i = c.loop-n.invariant in
-    receiver_called g.D.Disk.told c.args.removed c.loop-n.n c.args.low.now c.loop-n.low c.args.receiver.now c.loop-n.receiver i.from i.first c.is_same.new.receiver i.calls_receiver i.ready_receiver.is_open c.is_same.ensures.calls_receiver
-
-pub returns-in-Err-clause-calls_low : goal.returns-in-Err-clause-calls_low
-returns-in-Err-clause-calls_low g c = λ less within.
-    let i = c.loop-n.invariant in
-    low_called g.D.Disk.told c.args.removed c.loop-n.n c.args.low.now c.loop-n.low c.args.receiver.now c.loop-n.receiver i.from i.first c.is_same.new.low.register.disk (not c.is_same.new.low.register.is_open) i.calls_low c.is_same.ensures.calls_low
-
-pub returns-in-Err-clause-moves_low : goal.returns-in-Err-clause-moves_low
-returns-in-Err-clause-moves_low g c = goes_on_same g.D.Disk.told Same _ _ _ c.loop-n.invariant.moves_low c.is_same.ensures.moves_low
-
-pub returns-in-Err-clause-moves_receiver : goal.returns-in-Err-clause-moves_receiver
-returns-in-Err-clause-moves_receiver g c = goes_on_same g.D.Disk.told Same _ _ _ c.loop-n.invariant.moves_receiver c.is_same.ensures.moves_receiver
+    let e = c.is_same.ensures in
+    let low = c.args.low.now in
+    let receiver = c.args.receiver.now in
+    record {
+      fine = tt;
+      exact = λ nd. absurd (false≢true (sym nd ∙ c.in-Err.ensures.device));
+      device_low = λ _. c.in-Err.ensures.device_low;
+      device_receiver = λ _. c.in-Err.ensures.device_receiver;
+      shut = λ _. c.in-Err.ensures.shut;
+      one = c.in-Err.ensures.one;
+      idle = λ none. absurd (elim none [
+        | inl few ↦ omega (arith, few, i.from, c.count-taken.ensures, c.loop-n-test.true)
+        | inr many ↦ omega (arith, many, c.count-taken.ensures, c.accepted-next.ensures, c.if-taken-next.false)
+      ]);
+      calls_low = λ less within. low_called m c.args.removed c.loop-n.n low c.loop-n.low receiver c.loop-n.receiver i.from i.first c.is_same.new.low.register.disk (not c.is_same.new.low.register.is_open) i.calls_low e.calls_low;
+      calls_receiver = λ less within.
+          receiver_called m c.args.removed c.loop-n.n low c.loop-n.low receiver c.loop-n.receiver i.from i.first c.is_same.new.receiver i.calls_receiver i.ready_receiver.is_open e.calls_receiver;
+      ready_low = e.ready_low;
+      ready_receiver = e.ready_receiver;
+      «open» = tt;
+      open_err = λ nd. absurd (false≢true (sym nd ∙ c.in-Err.ensures.device));
+      low = (e.low.0 ∙ i.low_is.0, e.low.1 ∙ i.low_is.1);
+      receiver = (e.receiver.0 ∙ i.receiver_is.0, e.receiver.1 ∙ i.receiver_is.1, e.receiver.2 ∙ i.receiver_is.2, e.receiver.3 ∙ i.receiver_is.3);
+      moves_low = goes_on_same m Same _ _ _ i.moves_low e.moves_low;
+      moves_receiver = goes_on_same m Same _ _ _ i.moves_receiver e.moves_receiver;
+    }
 
 pub loop-n-preserved : goal.loop-n-preserved
 loop-n-preserved g c =
@@ -67,11 +162,36 @@ loop-n-preserved g c =
           goes_on m c.args.removed c.loop-n.n low c.loop-n.low receiver c.loop-n.receiver i.from i.first c.is_same.new.receiver.register.disk i.calls_receiver called.0 called.1;
     }
 
-pub returns-clause-fine : goal.returns-clause-fine
-returns-clause-fine g c =
+pub returns : goal.returns
+returns g c =
+    let m = g.D.Disk.told in
     let i = c.loop-n.invariant in
-    let count = c.count-taken.ensures in (
-      omega (arith, count, c.if-taken-removed.false),
-      omega (arith, count, c.accepted-next.ensures, c.if-taken-next.false),
-      (λ told ms s n from to. i.same told ms s n from (omega (arith, to, count, c.loop-n-test.false))),
-    )
+    let count = c.count-taken.ensures in
+    record {
+      fine = (
+        omega (arith, count, c.if-taken-removed.false),
+        omega (arith, count, c.accepted-next.ensures, c.if-taken-next.false),
+        (λ told ms s n from to. i.same told ms s n from (omega (arith, to, count, c.loop-n-test.false))),
+      );
+      exact = tt;
+      device_low = tt;
+      device_receiver = tt;
+      shut = tt;
+      one = tt;
+      idle = λ none. i.first (elim none [
+        | inl few ↦ omega (arith, few, count, i.from, i.to)
+        | inr many ↦ absurd (omega (arith, many, count, c.accepted-next.ensures, c.if-taken-next.false))
+      ]);
+      calls_low = λ less within. subst (λ f. Calls m c.args.low.now.register.disk c.loop-n.low.register.disk f) (sym (ap not i.ready_low.ready.is_open)) (i.calls_low (omega (arith, less, count, c.loop-n-test.false)));
+      calls_receiver = λ less within.
+          let called = i.calls_receiver (omega (arith, less, count, c.loop-n-test.false)) in
+          inl (subst (λ f. Calls m c.args.receiver.now.register.disk c.loop-n.receiver.register.disk f) (sym (ap not i.ready_receiver.is_open)) called.0, called.1);
+      ready_low = λ _. i.ready_low;
+      ready_receiver = λ _. i.ready_receiver;
+      «open» = (i.ready_low.ready.is_open, i.ready_receiver.is_open);
+      open_err = tt;
+      low = i.low_is;
+      receiver = i.receiver_is;
+      moves_low = i.moves_low;
+      moves_receiver = i.moves_receiver;
+    }

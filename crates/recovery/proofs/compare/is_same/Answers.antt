@@ -1,107 +1,143 @@
 use Rattle.std.proofs.Common.{◌≡◌, ◌∙◌, inl, inr, ℕ, List, ◌≤◌, false, not, length, refl, sym, ap, subst, arith}
 use Rattle.std.proofs.lemmas.Bool.{cases_lt, false≢true}
+use Rattle.disk_model.specs.Disk.{Same}
+use Rattle.disk_model.proofs.Run.{started}
 use Rattle.stable_buffer.specs.Stands.{InSlot}
+use Rattle.recovery.specs.declared.why.Why.TheVariants.{Device}
 use Rattle.recovery.proofs.Slots.{slot_length, slot_one}
 use Rattle.recovery.proofs.Comparing.{calls_ok, calls_err}
 use Rattle.recovery.proofs.Calls.{not_armed}
 use Rattle.recovery.proofs.compare.is_same.Goals as goal
 
-pub returns-then-length-len-clause-other : goal.returns-then-length-len-clause-other
-returns-then-length-len-clause-other g c = λ _ told ms s has.
+pub returns-then-length-len : goal.returns-then-length-len
+returns-then-length-len g c =
     let m = g.D.Disk.told in
     let row = c.args.low.now.row in
-    let e = c.in-Ok.ensures.length told ∙ slot_length row c.requires.low.ranges.short c.args.n _ (m.reading c.args.low.now.register.disk) has in
-    let short : c.in-Ok.length ≤ row.message = omega (arith, e, has.fits) in
-    omega (arith, c.in-Ok.ensures.fits short, c.len.ensures.value, c.if-length-len.true)
+    let s = c.in-Ok.ensures in
+    record {
+      same = λ is. elim (false≢true is) [ ];
+      other = λ _ told ms stand has.
+          let e = s.length told ∙ slot_length row c.requires.low.ranges.short c.args.n _ (m.reading c.args.low.now.register.disk) has in
+          let short : c.in-Ok.length ≤ row.message = omega (arith, e, has.fits) in
+          omega (arith, s.fits short, c.len.ensures.value, c.if-length-len.true);
+      device = tt;
+      device_low = tt;
+      device_receiver = tt;
+      shut = tt;
+      one = tt;
+      calls_low = calls_ok m _ _ _ _ s.answers _ (ap not s.ready.ready.is_open);
+      calls_receiver = inr (
+        refl,
+        (λ plan go.
+            let e = s.length (m.plan_tells plan) in
+            let short : c.in-Ok.length ≤ row.message = omega (arith, e, go.1) in
+            omega (arith, s.fits short, c.len.ensures.value, c.if-length-len.true)),
+      );
+      called = λ is. elim (false≢true is) [ ];
+      ready_low = λ _. s.ready;
+      ready_receiver = λ _. c.requires.receiver;
+      «open» = (s.ready.ready.is_open, c.requires.receiver.is_open);
+      low = (s.count, s.row);
+      receiver = (refl, refl, refl, refl);
+      moves_low = s.moves;
+      moves_receiver = started m Same (λ d. refl) c.args.receiver.now.register.disk;
+    }
 
-pub returns-then-length-len-clause-calls_receiver : goal.returns-then-length-len-clause-calls_receiver
-returns-then-length-len-clause-calls_receiver g c = inr (
-  refl,
-  (λ plan go.
-      let row = c.args.low.now.row in
-      let e = c.in-Ok.ensures.length (g.D.Disk.told.plan_tells plan) in
-      let short : c.in-Ok.length ≤ row.message = omega (arith, e, go.1) in
-      omega (arith, c.in-Ok.ensures.fits short, c.len.ensures.value, c.if-length-len.true)),
-)
+pub returns-in-Err : goal.returns-in-Err
+returns-in-Err g c =
+    let m = g.D.Disk.told in
+    let e = c.in-Err.ensures in
+    let holds = λ (plan : m.tells_plan). (c.requires.low.stands (m.plan_tells plan)).2.size in
+    record {
+      same = tt;
+      other = tt;
+      device = refl;
+      device_low = λ _. ap Device e.device;
+      device_receiver = λ shut. elim (false≢true (sym shut ∙ c.requires.receiver.is_open)) [ ];
+      shut = inl e.closed;
+      one = λ _. c.requires.receiver.is_open;
+      calls_low = calls_err m _ _ _ _ e.answers (λ plan. omega (arith, holds plan)) _ (ap not e.closed);
+      calls_receiver = inr (refl, (λ plan go. absurd (false≢true (e.answers.never plan go.0 (omega (arith, holds plan))))));
+      called = tt;
+      ready_low = λ is_open. elim (false≢true (sym e.closed ∙ is_open)) [ ];
+      ready_receiver = λ _. c.requires.receiver;
+      «open» = tt;
+      low = (e.count, e.row);
+      receiver = (refl, refl, refl, refl);
+      moves_low = e.moves;
+      moves_receiver = started m Same (λ d. refl) c.args.receiver.now.register.disk;
+    }
 
-pub returns-in-Err-clause-calls_receiver : goal.returns-in-Err-clause-calls_receiver
-returns-in-Err-clause-calls_receiver g c = inr (
-  refl,
-  (λ plan go.
-      let s = c.requires.low.stands (g.D.Disk.told.plan_tells plan) in
-      absurd (false≢true (c.in-Err.ensures.answers.never plan go.0 (omega (arith, s.2.size))))),
-)
-
-pub returns-in-Err-message-clause-calls_receiver : goal.returns-in-Err-message-clause-calls_receiver
-returns-in-Err-message-clause-calls_receiver g c =
+pub returns-in-Err-message : goal.returns-in-Err-message
+returns-in-Err-message g c =
     let m = g.D.Disk.told in
     let row = c.args.low.now.row in
     let l = c.in-Ok.length in
+    let s = c.in-Ok.ensures in
+    let e = c.in-Err-message.ensures in
     let short : l ≤ row.message = elim (cases_lt row.message l) [
-      | inl long ↦ absurd (omega (arith, ap length (c.in-Ok.ensures.left long ∙ c.default-stored.ensures), c.len.ensures.value, c.if-length-len.false, long))
+      | inl long ↦ absurd (omega (arith, ap length (s.left long ∙ c.default-stored.ensures), c.len.ensures.value, c.if-length-len.false, long))
       | inr le ↦ le
     ] in
-    inl (
-      calls_err m _ _ _ _ c.in-Err-message.ensures.answers tt _ (ap not c.in-Err-message.ensures.closed),
-      (λ plan. (
-        not_armed _ (c.in-Ok.ensures.answers.always plan),
-        (let e = c.in-Ok.ensures.length (m.plan_tells plan) in omega (arith, e, short)),
-      )),
-    )
+    record {
+      same = tt;
+      other = tt;
+      device = refl;
+      device_low = λ shut. elim (false≢true (sym shut ∙ s.ready.ready.is_open)) [ ];
+      device_receiver = λ _. ap Device e.device;
+      shut = inr e.closed;
+      one = λ shut. elim (false≢true (sym shut ∙ s.ready.ready.is_open)) [ ];
+      calls_low = calls_ok m _ _ _ _ s.answers _ (ap not s.ready.ready.is_open);
+      calls_receiver = inl (
+        calls_err m _ _ _ _ e.answers (λ _. tt) _ (ap not e.closed),
+        (λ plan. (not_armed _ (s.answers.always plan), (let k = s.length (m.plan_tells plan) in omega (arith, k, short)))),
+      );
+      called = tt;
+      ready_low = λ _. s.ready;
+      ready_receiver = λ is_open. elim (false≢true (sym e.closed ∙ is_open)) [ ];
+      «open» = tt;
+      low = (s.count, s.row);
+      receiver = (e.count, e.end, e.row, e.size);
+      moves_low = s.moves;
+      moves_receiver = e.moves;
+    }
 
-pub returns-clause-same : goal.returns-clause-same
-returns-clause-same g c = λ is told ms s.
+pub returns : goal.returns
+returns g c =
     let m = g.D.Disk.told in
     let row = c.args.low.now.row in
     let l = c.in-Ok.length in
+    let s = c.in-Ok.ensures in
+    let e = c.in_default.ensures in
     let short : l ≤ row.message = elim (cases_lt row.message l) [
-      | inl long ↦ absurd (omega (arith, ap length (c.in-Ok.ensures.left long ∙ c.default-stored.ensures), c.len.ensures.value, c.if-length-len.false, long))
+      | inl long ↦ absurd (omega (arith, ap length (s.left long ∙ c.default-stored.ensures), c.len.ensures.value, c.if-length-len.false, long))
       | inr le ↦ le
     ] in
-    subst (λ (x : List ℕ). InSlot row c.args.n x (m.reading c.args.low.now.register.disk)) (c.are_equal.ensures.equal is ∙ c.in_default.ensures.message told ms s) (c.in-Ok.ensures.stands short told)
-
-pub returns-clause-other : goal.returns-clause-other
-returns-clause-other g c = λ is told ms s has.
-    let m = g.D.Disk.told in
-    let row = c.args.low.now.row in
-    let l = c.in-Ok.length in
-    let short : l ≤ row.message = elim (cases_lt row.message l) [
-      | inl long ↦ absurd (omega (arith, ap length (c.in-Ok.ensures.left long ∙ c.default-stored.ensures), c.len.ensures.value, c.if-length-len.false, long))
-      | inr le ↦ le
-    ] in
-    let e : c.slot.new.into ≡ c.message.new.into =
-    slot_one row c.requires.low.ranges.short c.args.n _ _ (m.reading c.args.low.now.register.disk) (c.in-Ok.ensures.stands short told) has ∙ sym (c.in_default.ensures.message told ms s) in
-    c.are_equal.ensures.unequal is e
-
-pub returns-clause-calls_receiver : goal.returns-clause-calls_receiver
-returns-clause-calls_receiver g c =
-    let m = g.D.Disk.told in
-    let row = c.args.low.now.row in
-    let l = c.in-Ok.length in
-    let short : l ≤ row.message = elim (cases_lt row.message l) [
-      | inl long ↦ absurd (omega (arith, ap length (c.in-Ok.ensures.left long ∙ c.default-stored.ensures), c.len.ensures.value, c.if-length-len.false, long))
-      | inr le ↦ le
-    ] in
-    inl (
-      calls_ok m _ _ _ _ c.in_default.ensures.answers _ (ap not c.in_default.ensures.ready.is_open),
-      (λ plan. (
-        not_armed _ (c.in-Ok.ensures.answers.always plan),
-        (let e = c.in-Ok.ensures.length (m.plan_tells plan) in omega (arith, e, short)),
-      )),
-    )
-
-pub returns-clause-called : goal.returns-clause-called
-returns-clause-called g c = λ is.
-    let m = g.D.Disk.told in
-    let row = c.args.low.now.row in
-    let l = c.in-Ok.length in
-    let short : l ≤ row.message = elim (cases_lt row.message l) [
-      | inl long ↦ absurd (omega (arith, ap length (c.in-Ok.ensures.left long ∙ c.default-stored.ensures), c.len.ensures.value, c.if-length-len.false, long))
-      | inr le ↦ le
-    ] in (
-      calls_ok m _ _ _ _ c.in_default.ensures.answers false refl,
-      (λ plan. (
-        not_armed _ (c.in-Ok.ensures.answers.always plan),
-        (let e = c.in-Ok.ensures.length (m.plan_tells plan) in omega (arith, e, short)),
-      )),
-    )
+    record {
+      same = λ is told ms stand. subst (λ (x : List ℕ). InSlot row c.args.n x (m.reading c.args.low.now.register.disk)) (c.are_equal.ensures.equal is ∙ e.message told ms stand) (s.stands short told);
+      other = λ is told ms stand has.
+          let one : c.slot.new.into ≡ c.message.new.into =
+          slot_one row c.requires.low.ranges.short c.args.n _ _ (m.reading c.args.low.now.register.disk) (s.stands short told) has ∙ sym (e.message told ms stand) in
+          c.are_equal.ensures.unequal is one;
+      device = tt;
+      device_low = tt;
+      device_receiver = tt;
+      shut = tt;
+      one = tt;
+      calls_low = calls_ok m _ _ _ _ s.answers _ (ap not s.ready.ready.is_open);
+      calls_receiver = inl (
+        calls_ok m _ _ _ _ e.answers _ (ap not e.ready.is_open),
+        (λ plan. (not_armed _ (s.answers.always plan), (let k = s.length (m.plan_tells plan) in omega (arith, k, short)))),
+      );
+      called = λ is. (
+        calls_ok m _ _ _ _ e.answers false refl,
+        (λ plan. (not_armed _ (s.answers.always plan), (let k = s.length (m.plan_tells plan) in omega (arith, k, short)))),
+      );
+      ready_low = λ _. s.ready;
+      ready_receiver = λ _. e.ready;
+      «open» = (s.ready.ready.is_open, e.ready.is_open);
+      low = (s.count, s.row);
+      receiver = (e.count, e.end, e.row, e.size);
+      moves_low = s.moves;
+      moves_receiver = e.moves;
+    }

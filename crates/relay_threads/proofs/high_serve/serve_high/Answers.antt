@@ -1,6 +1,6 @@
-use Rattle.std.proofs.Common.{◌≤◌, [], ◌∷◌, length, refl, sym, ◌∙◌, subst, arith, rules}
-use Rattle.relay_threads.specs.HighServes.{IsData}
-use Rattle.relay_threads.proofs.HighServing.{within_of, data_at, so_far_none, so_far_more, serves_more, told_none, told_more, looks_more, moments_more, sends_more, sends_at, asks_more, asks_ended, counts_more, counts_few, ended_by}
+use Rattle.std.proofs.Common.{◌≡◌, ◌≤◌, [], ◌∷◌, length, Some, refl, sym, ap, ◌∙◌, subst, arith, rules}
+use Rattle.relay_threads.specs.HighServes.{IsData, device_in}
+use Rattle.relay_threads.proofs.HighServing.{within_of, data_at, so_far_none, so_far_more, serves_more, told_none, told_more, looks_more, moments_more, sends_more, sends_at, sent_all, asks_more, asks_ended, counts_more, counts_few, ended_by, no_stop, fault_since}
 use Rattle.relay_threads.proofs.high_serve.serve_high.Goals as goal
 
 pub loop-rounds-init : goal.loop-rounds-init
@@ -31,25 +31,96 @@ round-turn-requires-clause-open g c =
       message = data_at c.args.process.now c.loop-rounds.process c.loop-rounds.connection.message (sym was.so_far.serves.row) was.message;
     }
 
-pub returns-in-Some-clause-served : goal.returns-in-Some-clause-served
-returns-in-Some-clause-served g c =
+pub round-turn-requires-clause-ready : goal.round-turn-requires-clause-ready
+round-turn-requires-clause-ready g c = c.loop-rounds.invariant.ready
+
+pub round-turn-requires-clause-order : goal.round-turn-requires-clause-order
+round-turn-requires-clause-order g c = c.loop-rounds.invariant.order
+
+pub returns-then-not-pass : goal.returns-then-not-pass
+returns-then-not-pass g c =
     let was = c.loop-rounds.invariant in
     let f = was.so_far in
-    let t = c.round-turn.ensures.round in
+    let e = c.pass.ensures in
+    record {
+      served = (
+        was.rounds,
+        f.serves,
+        (f.long, (omega (arith, f.long, c.loop-rounds-test.true), f.go_on)),
+        was.told.looks,
+        sent_all _ _ _ _ was.told.bytes,
+        was.told.moments,
+        asks_more _ _ _ was.rounds c.loop-rounds.rounds c.loop-rounds.removed was.told.asks f.long was.removed e.asked,
+      );
+      ready = λ up. was.ready;
+      up = λ calm. was.ready.up;
+      order = was.order;
+      shape = was.shape;
+      place = was.place;
+      link = λ failed. absurd cc;
+      counts = was.counts;
+      device = tt;
+      stopped = λ stopped. omega (arith, was.gate, e.stopped c.if-not-pass.true);
+    }
+
+pub returns-in-Some : goal.returns-in-Some
+returns-in-Some g c =
+    let was = c.loop-rounds.invariant in
+    let f = was.so_far in
+    let e = c.round-turn.ensures in
+    let t = e.round in
     let r = t.0 in
     let rs = was.rounds in
     let sent = sends_at c.args.process.now c.loop-rounds.process _ _ r.is_sent r.made f.serves.row t.3 in
     let asks = asks_more _ _ _ rs c.loop-rounds.rounds c.loop-rounds.removed was.told.asks f.long was.removed c.pass.ensures.asked in
     let long : length (r ∷ rs) ≤ c.args.looks = omega (arith, f.long, c.loop-rounds-test.true) in
-    let is = sym t.5 ∙ c.in-Some.is in (
-      r ∷ rs,
-      serves_more c.args.process.now c.loop-rounds.process c.round-turn.new.process _ _ _ r rs _ was.ready.up f t.1,
-      (omega (arith, f.long), ended_by c.loop-rounds.connection.is_attached r rs c.args.looks c.in-Some.why f.is_attached long is),
-      looks_more _ _ _ _ _ _ _ _ _ _ _ _ rs was.told r t.2 sent t.4,
-      sends_more _ _ _ _ _ _ _ _ _ _ _ _ rs was.told r t.2 sent t.4,
-      moments_more _ _ _ _ _ _ _ _ _ _ _ _ rs was.told r t.2 sent t.4,
-      asks_ended _ _ c.loop-rounds.connection.is_attached r (r ∷ rs) c.in-Some.why is asks,
-    )
+    let is = sym t.5 ∙ c.in-Some.is in
+    record {
+      served = (
+        r ∷ rs,
+        serves_more c.args.process.now c.loop-rounds.process c.round-turn.new.process _ _ _ r rs _ was.ready.up f t.1,
+        (omega (arith, f.long), ended_by c.loop-rounds.connection.is_attached r rs c.args.looks c.in-Some.why f.is_attached long is),
+        looks_more _ _ _ _ _ _ _ _ _ _ _ _ rs was.told r t.2 sent t.4,
+        sends_more _ _ _ _ _ _ _ _ _ _ _ _ rs was.told r t.2 sent t.4,
+        moments_more _ _ _ _ _ _ _ _ _ _ _ _ rs was.told r t.2 sent t.4,
+        asks_ended _ _ c.loop-rounds.connection.is_attached r (r ∷ rs) c.in-Some.why is asks,
+      );
+      ready = e.ready;
+      up = λ calm. e.up (ap device_in c.in-Some.is ∙ calm);
+      order = e.order;
+      shape = e.shape ∙ was.shape;
+      place = e.place ∙ was.place;
+      link = λ failed. omega (arith, was.link, e.failed (c.in-Some.is ∙ ap Some failed));
+      counts = omega (arith, was.counts, e.counts);
+      device = fault_since c.round-turn.result.why c.in-Some.why _ _ _ c.in-Some.is was.counts e.device;
+      stopped = λ stopped. absurd (no_stop c.loop-rounds.connection.is_attached r c.in-Some.why is stopped);
+    }
+
+pub returns : goal.returns
+returns g c =
+    let was = c.loop-rounds.invariant in
+    let f = was.so_far in
+    let all : length was.rounds ≡ c.args.looks = omega (arith, f.long, was.most, c.loop-rounds-test.false) in
+    record {
+      served = (
+        was.rounds,
+        f.serves,
+        (f.long, (all, f.go_on)),
+        was.told.looks,
+        sent_all _ _ _ _ was.told.bytes,
+        was.told.moments,
+        was.told.asks,
+      );
+      ready = λ up. was.ready;
+      up = λ calm. was.ready.up;
+      order = was.order;
+      shape = was.shape;
+      place = was.place;
+      link = λ failed. absurd cc;
+      counts = was.counts;
+      device = tt;
+      stopped = λ stopped. absurd cc;
+    }
 
 pub loop-rounds-preserved : goal.loop-rounds-preserved
 loop-rounds-preserved g c =

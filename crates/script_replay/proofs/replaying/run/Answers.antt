@@ -7,6 +7,7 @@ use Rattle.script_reader.proofs.LineLaws.{lawful_line}
 use Rattle.script_replay.specs.Outputs.{held_of}
 use Rattle.script_replay.specs.Runners.{lent, AllAreUp}
 use Rattle.script_replay.specs.Sessions.{AllLend}
+use Rattle.script_replay.proofs.OtherEnds.{write_no_memory, write_no_fault, memory_no_write, memory_no_fault, closed_no_memory}
 use Rattle.script_replay.proofs.Quiet.{quiet_shown, quiet_turn, quiet_memory}
 use Rattle.script_replay.proofs.Stops.{keeps_so, stops, barred, cut_off, stop_device, closed_device, closed_not, line_fault}
 use Rattle.script_replay.proofs.Turns.{hands_of}
@@ -217,3 +218,126 @@ returns-in-Failed-clause-read g c = λ e. omega (arith, c.in-Failed.ensures.fail
 
 pub returns-in-End-clause-device : goal.returns-in-End-clause-device
 returns-in-End-clause-device g c = λ number failed. absurd (c.finish.ensures.other number failed)
+
+pub returns-in-Err-clause-rise : goal.returns-in-Err-clause-rise
+returns-in-Err-clause-rise g c = c.turns.invariant.7.rise
+
+pub returns-in-Err-clause-later : goal.returns-in-Err-clause-later
+returns-in-Err-clause-later g c = c.turns.invariant.6
+
+pub returns-in-Bad-clause-rise : goal.returns-in-Bad-clause-rise
+returns-in-Bad-clause-rise g c = c.turns.invariant.7.rise
+
+pub returns-in-Bad-clause-later : goal.returns-in-Bad-clause-later
+returns-in-Bad-clause-later g c = c.turns.invariant.6
+
+pub returns-in-Failed-clause-rise : goal.returns-in-Failed-clause-rise
+returns-in-Failed-clause-rise g c = c.turns.invariant.7.rise
+
+pub returns-in-Failed-clause-later : goal.returns-in-Failed-clause-later
+returns-in-Failed-clause-later g c = c.turns.invariant.6
+
+pub returns-in-End-clause-rise : goal.returns-in-End-clause-rise
+returns-in-End-clause-rise g c = c.turns.invariant.7.rise
+
+pub returns-in-End-clause-later : goal.returns-in-End-clause-later
+returns-in-End-clause-later g c = c.turns.invariant.6
+
+pub returns-in-Unwritten-clause-rise : goal.returns-in-Unwritten-clause-rise
+returns-in-Unwritten-clause-rise g c = c.turn.ensures.order.rise
+
+pub returns-in-Unwritten-clause-later : goal.returns-in-Unwritten-clause-later
+returns-in-Unwritten-clause-later g c = omega (arith, c.turns.invariant.6, c.turn.ensures.disks_later)
+
+pub returns-in-Refused-clause-rise : goal.returns-in-Refused-clause-rise
+returns-in-Refused-clause-rise g c = c.turn.ensures.order.rise
+
+pub returns-in-Refused-clause-later : goal.returns-in-Refused-clause-later
+returns-in-Refused-clause-later g c = omega (arith, c.turns.invariant.6, c.turn.ensures.disks_later)
+
+pub returns-in-Stopped-clause-rise : goal.returns-in-Stopped-clause-rise
+returns-in-Stopped-clause-rise g c = c.turn.ensures.order.rise
+
+pub returns-in-Stopped-clause-later : goal.returns-in-Stopped-clause-later
+returns-in-Stopped-clause-later g c = omega (arith, c.turns.invariant.6, c.turn.ensures.disks_later)
+
+pub returns-in-Memory-clause-rise : goal.returns-in-Memory-clause-rise
+returns-in-Memory-clause-rise g c = c.turn.ensures.order.rise
+
+pub returns-in-Memory-clause-later : goal.returns-in-Memory-clause-later
+returns-in-Memory-clause-later g c = omega (arith, c.turns.invariant.6, c.turn.ensures.disks_later)
+
+pub returns-in-Err-clause-device : goal.returns-in-Err-clause-device
+returns-in-Err-clause-device g c = λ number failed. absurd failed
+
+pub returns-in-Unwritten-clause-device : goal.returns-in-Unwritten-clause-device
+returns-in-Unwritten-clause-device g c = λ number failed. absurd failed
+
+pub returns-in-Memory-clause-device : goal.returns-in-Memory-clause-device
+returns-in-Memory-clause-device g c = λ number failed. absurd failed
+
+pub returns-in-Refused-clause-device : goal.returns-in-Refused-clause-device
+returns-in-Refused-clause-device g c = λ number failed. absurd (closed_device _ _ _ _ _ _ c.refuse.result number c.refuse.ensures failed)
+
+pub returns-in-Refused-clause-memory : goal.returns-in-Refused-clause-memory
+returns-in-Refused-clause-memory g c = λ e. absurd (closed_no_memory _ _ _ _ _ _ c.refuse.result c.refuse.ensures e)
+
+pub returns-in-Stopped-clause-memory : goal.returns-in-Stopped-clause-memory
+returns-in-Stopped-clause-memory g c = λ e. absurd (closed_no_memory _ _ _ _ _ _ c.stop.result c.stop.ensures e)
+
+pub returns-in-Bad-clause-device : goal.returns-in-Bad-clause-device
+returns-in-Bad-clause-device g c = λ number failed. absurd (closed_device _ _ _ _ _ _ c.refuse-in-Bad.result number c.refuse-in-Bad.ensures failed)
+
+pub returns-in-Bad-clause-memory : goal.returns-in-Bad-clause-memory
+returns-in-Bad-clause-memory g c = λ e. absurd (closed_no_memory _ _ _ _ _ _ c.refuse-in-Bad.result c.refuse-in-Bad.ensures e)
+
+pub returns-in-Failed-clause-device : goal.returns-in-Failed-clause-device
+returns-in-Failed-clause-device g c = λ number failed. absurd (closed_device _ _ _ _ _ _ c.stop-in-Failed.result number c.stop-in-Failed.ensures failed)
+
+pub returns-in-Failed-clause-memory : goal.returns-in-Failed-clause-memory
+returns-in-Failed-clause-memory g c = λ e. absurd (closed_no_memory _ _ _ _ _ _ c.stop-in-Failed.result c.stop-in-Failed.ensures e)
+
+pub returns-in-Err-clause-memory : goal.returns-in-Err-clause-memory
+returns-in-Err-clause-memory g c = λ e. absurd (write_no_memory e)
+
+pub returns-in-Err-clause-words : goal.returns-in-Err-clause-words
+returns-in-Err-clause-words g c = write_no_fault _
+
+pub returns-in-Err-clause-read : goal.returns-in-Err-clause-read
+returns-in-Err-clause-read g c = λ e. absurd (write_no_fault _ e)
+
+pub returns-in-Unwritten-clause-memory : goal.returns-in-Unwritten-clause-memory
+returns-in-Unwritten-clause-memory g c = λ e. absurd (write_no_memory e)
+
+pub returns-in-Unwritten-clause-words : goal.returns-in-Unwritten-clause-words
+returns-in-Unwritten-clause-words g c = write_no_fault _
+
+pub returns-in-Unwritten-clause-read : goal.returns-in-Unwritten-clause-read
+returns-in-Unwritten-clause-read g c = λ e. absurd (write_no_fault _ e)
+
+pub returns-in-Memory-clause-words : goal.returns-in-Memory-clause-words
+returns-in-Memory-clause-words g c = memory_no_fault _
+
+pub returns-in-Memory-clause-read : goal.returns-in-Memory-clause-read
+returns-in-Memory-clause-read g c = λ e. absurd (memory_no_fault _ e)
+
+pub returns-in-Memory-clause-write : goal.returns-in-Memory-clause-write
+returns-in-Memory-clause-write g c = λ e. absurd (memory_no_write e)
+
+pub returns-in-Err-clause-write : goal.returns-in-Err-clause-write
+returns-in-Err-clause-write g c = λ e. omega (arith, c.turns.invariant.5, c.in-Err.ensures.cause.failed)
+
+pub returns-in-Unwritten-clause-write : goal.returns-in-Unwritten-clause-write
+returns-in-Unwritten-clause-write g c = λ e. omega (arith, c.turns.invariant.5, c.show.ensures.cause.later, c.in-Unwritten.ensures.cause refl)
+
+pub returns-in-End-clause-write : goal.returns-in-End-clause-write
+returns-in-End-clause-write g c = λ e. omega (arith, c.turns.invariant.5, c.show.ensures.cause.later, c.finish.ensures.cause e)
+
+pub returns-in-End-clause-memory : goal.returns-in-End-clause-memory
+returns-in-End-clause-memory g c = λ e. absurd (c.finish.ensures.memory e)
+
+pub returns-in-End-clause-words : goal.returns-in-End-clause-words
+returns-in-End-clause-words g c = c.finish.ensures.words
+
+pub returns-in-End-clause-read : goal.returns-in-End-clause-read
+returns-in-End-clause-read g c = λ e. absurd (c.finish.ensures.read e)

@@ -1,5 +1,5 @@
 use Rattle.std.proofs.Common.{◌≡◌, ◌∙◌, ◌<◌, ◌∷◌, length, ap, vec_len, vec_capacity, arith}
-use Rattle.disk_model.specs.MemShelf.{without}
+use Rattle.disk_model.specs.MemShelf.{without, file_of}
 use Rattle.disk_model.proofs.Homes.{back, home_back, others_back, fewer_out}
 use Rattle.disk_model.proofs.mem_shelf.MemShelfShelf.keep.Goals as goal
 
@@ -35,3 +35,19 @@ returns-clause-home g c =
     let forgot : c.forget.new.outs.items ≡ without c.args.name s.outs = c.forget.ensures ∙ ap (λ s. without c.args.name s.outs) c.self.view_is in
     let put : c.insert.new.self.items ≡ (c.args.name, c.args.disk) ∷ s.disks = rw c.unwrap.ensures at c.insert.ensures.items ∙ ap (λ s. (c.args.name, c.args.disk) ∷ s.disks) c.self.view_is in
     home_back g.D.Disk.told s c.args.name c.forget.new.outs.items c.insert.new.self.items c.args.disk forgot put
+
+pub returns-clause-files : goal.returns-clause-files
+returns-clause-files g c = ap (λ s other. file_of other s.files) c.self.view_is
+
+pub returns-clause-later : goal.returns-clause-later
+returns-clause-later g c = omega (arith, c.count_when_back-self-inside.ensures.later, ap (λ s. s.disk_faults) c.self.view_is)
+
+pub returns-clause-faults : goal.returns-clause-faults
+returns-clause-faults g c = ap (λ s. s.faults) c.self.view_is
+
+pub returns-clause-after : goal.returns-clause-after
+returns-clause-after g c =
+    let s = c.args.self.now in
+    let forgot : c.forget.new.outs.items ≡ without c.args.name s.outs = c.forget.ensures ∙ ap (λ s. without c.args.name s.outs) c.self.view_is in
+    let put : c.insert.new.self.items ≡ (c.args.name, c.args.disk) ∷ s.disks = rw c.unwrap.ensures at c.insert.ensures.items ∙ ap (λ s. (c.args.name, c.args.disk) ∷ s.disks) c.self.view_is in
+    λ i. record (c.self.view_is i) { disks = put i; outs = forgot i; disk_faults = c.count_when_back-self-inside.result }

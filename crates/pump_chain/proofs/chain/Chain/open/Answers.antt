@@ -3,7 +3,7 @@ use Rattle.std.proofs.lemmas.List.Elements.{All-nil}
 use Rattle.recovery.specs.declared.trio.Trio.{Trio}
 use Rattle.script_reader.specs.Openings.{first_past}
 use Rattle.two_worlds.specs.declared.pump.Pump.{Pump}
-use Rattle.two_worlds.specs.Disks.{CrashesOpen}
+use Rattle.world_laws.specs.Disks.{CrashesOpen}
 use Rattle.two_worlds.specs.Pumps.{StandsFor, row_of}
 use Rattle.pump_chain.specs.Opening.{trio_of, HaveRoom, AreLeft, IsApart}
 use Rattle.pump_chain.specs.declared.six.Six.{Six}

@@ -7,7 +7,9 @@ zeros_past : (n len end : ℕ) (cells : List ℕ) → len ≤ end → drop len c
 zeros_past n len end cells past zeros =
     let split : len + (end - len) ≡ end = omega arith in
     let left : n - len - (end - len) ≡ n - end = omega arith in
-    ap (λ m. drop m cells) (sym split) ∙ sym (drop-drop (end - len) len cells) ∙ ap (drop (end - len)) zeros ∙ drop-replicate (end - len) (n - len) 0 ∙ ap (λ m. replicate m 0) left
+    let there : drop end cells ≡ drop (end - len) (drop len cells) = ap (λ m. drop m cells) (sym split) ∙ sym (drop-drop (end - len) len cells) in
+    let filled : drop (end - len) (drop len cells) ≡ replicate (n - len - (end - len)) 0 = ap (drop (end - len)) zeros ∙ drop-replicate (end - len) (n - len) 0 in
+    there ∙ filled ∙ ap (λ m. replicate m 0) left
 
 -- the new bytes, then what was filled up to the old end, then what lay past it
 after_writes : ℕ → ℕ → List ℕ → List ℕ → List ℕ

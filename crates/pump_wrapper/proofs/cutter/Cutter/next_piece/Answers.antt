@@ -1,7 +1,13 @@
-use Rattle.std.proofs.Common.{◌≡◌, ℕ, ◌+◌, ◌-◌, ◌^◌, min, ◌≤◌, List, ◌∷◌, length, take, replicate, sym, ◌∙◌, ap, arith}
+use Rattle.std.proofs.Common.{◌≡◌, ℕ, ◌+◌, ◌-◌, ◌^◌, min, ◌<◌, ◌≤◌, List, ◌∷◌, length, take, replicate, refl, sym, ◌∙◌, ap, arith}
 use Rattle.std.proofs.lemmas.List.{length-take-le, length-replicate}
 use Rattle.pump_wrapper.specs.Wrapped.{length_message}
+use Rattle.pump_wrapper.specs.declared.cutter.Cut.{Cut}
+use Rattle.pump_wrapper.specs.declared.cutter.Cut.TheVariants.{Message, Failed, TooLong}
+use Rattle.pump_wrapper.specs.declared.cutter.Cutter.{Cutter}
+use Rattle.pump_wrapper.specs.declared.cutter.Stage.{Stage}
+use Rattle.pump_wrapper.specs.declared.cutter.Stage.TheVariants.{Pieces, Length, Stopped}
 use Rattle.pump_wrapper.proofs.Cuts.{gives_length, gives_last, gives_full, counts_length, counts_last, counts_full}
+use Rattle.pump_wrapper.proofs.Unseen.{gives_unseen, counts_unseen}
 use Rattle.pump_wrapper.proofs.Rooms.{behind_zero}
 use Rattle.pump_wrapper.proofs.cutter.Cutter.next_piece.Goals as goal
 use Rattle.pump_wrapper.proofs.cutter.Cutter.next_piece.Goals.{then-count-most, else-count-most}
@@ -10,22 +16,88 @@ use Rattle.pump_wrapper.proofs.cutter.Cutter.next_piece.Goals.{then-count-most, 
 lent : (room zeros : List ℕ) (most : ℕ) → length room ≡ length (take (most + 1 - 1) zeros) → most ≤ length zeros → length room ≡ most
 lent room zeros most is le = is ∙ length-take-le (most + 1 - 1) zeros (omega (arith, le)) ∙ omega arith
 
-pub returns-then-count-eq0-clause-gives : goal.returns-then-count-eq0-clause-gives
-returns-then-count-eq0-clause-gives g c =
+-- the answers and the stages differ
+long_no_message : TooLong ≡ Message → ⊥
+long_no_message e = cc
+
+long_no_failure : TooLong ≡ Failed → ⊥
+long_no_failure e = cc
+
+message_not_long : (cut : Cut) → cut ≡ Message → cut ≡ TooLong → ⊥
+message_not_long cut is long = let no = sym is ∙ long in cc
+
+message_no_failure : (cut : Cut) → cut ≡ Message → cut ≡ Failed → ⊥
+message_no_failure cut is failed = let no = sym is ∙ failed in cc
+
+pieces_go_on : (stage : Stage) → stage ≡ Pieces → stage ≡ Stopped → ⊥
+pieces_go_on stage is stopped = let no = sym is ∙ stopped in cc
+
+length_goes_on : (stage : Stage) → stage ≡ Length → stage ≡ Stopped → ⊥
+length_goes_on stage is stopped = let no = sym is ∙ stopped in cc
+
+pub returns-then-self-eq-LIMIT : goal.returns-then-self-eq-LIMIT
+returns-then-self-eq-LIMIT g c =
     let old = c.args.self.now in
+    let count = c.in-Ok.count in
+    let piece = take count c.fill.new.room in
+    let size : length piece ≡ count = length-take-le count c.fill.new.room c.in-Ok.ensures.most in
+    let full = c.if-self-eq-LIMIT.true in
+    let now : Cutter = record old { bytes = old.bytes + count; stage = Stopped } in
+    record {
+      gives = gives_unseen old now (g.I.Source.left c.args.file.now) (g.I.Source.left c.fill.new.file) c.args.into.now TooLong (λ before after. tt);
+      counts = counts_unseen old now (g.I.Source.left c.args.file.now) (g.I.Source.left c.fill.new.file) TooLong (λ left rest. tt);
+      takes = (
+        piece,
+        c.in-Ok.ensures.bytes,
+        record {
+          long = λ is. omega (arith, size, full);
+          short = λ other. absurd (other refl);
+          counted = λ other. omega (arith, size);
+        },
+      );
+      fits = λ is. absurd (long_no_message is);
+      may = λ is. absurd (long_no_message is);
+      same = refl;
+      failed = λ is. absurd (long_no_failure is);
+      later = c.in-Ok.ensures.cause.later;
+    }
+
+pub returns-then-count-eq0 : goal.returns-then-count-eq0
+returns-then-count-eq0 g c =
+    let old = c.args.self.now in
+    let piece = take c.in-Ok.count c.fill.new.room in
     let most : c.min-most.result ≡ min old.size (2 ^ 48 - old.bytes) = c.min-most.ensures in
     let zeros : List ℕ = replicate 1023 0 in
     let room = lent c.fill.new.room zeros c.min-most.result c.fill.auto.room (omega (arith, most, c.requires.may.greatest, length-replicate {A = ℕ} 1023 0)) in
     let none = c.if-count-eq0.true in
     let left = c.in-Ok.ensures.bytes in
     let end = c.in-Ok.ensures.end (omega (arith, none, room, most, c.requires.may.few, c.requires.may.least)) in
-    gives_length old c.give_length.new.self _ _ (take c.in-Ok.count c.fill.new.room) c.give_length.new.into c.give_length.result c.requires.pieces left
-    (length-take-le c.in-Ok.count c.fill.new.room c.in-Ok.ensures.most ∙ none) end
-    (c.give_length.ensures.message ∙ ap length_message (omega (arith, none))) c.give_length.ensures.result c.give_length.ensures.none
+    let empty : length piece ≡ 0 = length-take-le c.in-Ok.count c.fill.new.room c.in-Ok.ensures.most ∙ none in
+    let last = c.give_length.ensures in
+    record {
+      gives = gives_length old c.give_length.new.self _ _ piece c.give_length.new.into c.give_length.result c.requires.pieces left empty end
+          (last.message ∙ ap length_message (omega (arith, none))) last.result last.none;
+      counts = counts_length old c.give_length.new.self _ _ piece c.give_length.result c.requires.pieces left empty end last.result (λ later. last.total later ∙ omega (arith, none));
+      takes = (
+        piece,
+        left,
+        record {
+          long = λ is. absurd (message_not_long _ last.result is);
+          short = λ other. omega (arith, empty, c.requires.may.few);
+          counted = λ other. omega (arith, last.bytes, empty, none);
+        },
+      );
+      fits = λ is. last.fits;
+      may = λ is. last.may;
+      same = last.same;
+      failed = λ is. absurd (message_no_failure _ last.result is);
+      later = c.in-Ok.ensures.cause.later;
+    }
 
-pub returns-clause-gives : goal.returns-clause-gives
-returns-clause-gives g c =
+pub returns : goal.returns
+returns g c =
     let old = c.args.self.now in
+    let now = c.if-count-most.self in
     let count = c.in-Ok.count in
     let piece = take count c.fill.new.room in
     let most : c.min-most.result ≡ min old.size (2 ^ 48 - old.bytes) = c.min-most.ensures in
@@ -35,39 +107,38 @@ returns-clause-gives g c =
     let message : c.set.new.self ≡ 0 ∷ piece = c.set.ensures.value ∙ behind_zero c.fill.new.room _ count c.in-Ok.ensures.most in
     let any = c.if-count-eq0.false in
     let few = c.if-self-eq-LIMIT.false in
-    elim c.if-count-most.branch [
-      | then-count-most w ↦
-          gives_last old c.if-count-most.self _ _ piece c.set.new.self c.requires.pieces (ap (λ s. s.stage) w.self-is) (ap (λ s. s.bytes) w.self-is ∙ ap (λ k. old.bytes + k) (sym size)) c.in-Ok.ensures.bytes
-          (c.in-Ok.ensures.end (omega (arith, room, w.if-count-most.true))) (omega (arith, size, any)) (omega (arith, size, room, most, c.in-Ok.ensures.most)) message
-      | else-count-most w ↦
-          gives_full old c.if-count-most.self _ _ piece c.set.new.self c.requires.pieces (ap (λ s. s.stage) w.self-is ∙ c.requires.pieces) (ap (λ s. s.size) w.self-is) (ap (λ s. s.bytes) w.self-is ∙ ap (λ k. old.bytes + k) (sym size)) c.in-Ok.ensures.bytes
-          (omega (arith, size, any)) (omega (arith, size, room, most, c.in-Ok.ensures.most, w.if-count-most.false, few, c.requires.may.few)) message
-    ]
-
-pub returns-then-count-eq0-clause-counts : goal.returns-then-count-eq0-clause-counts
-returns-then-count-eq0-clause-counts g c =
-    let old = c.args.self.now in
-    let most : c.min-most.result ≡ min old.size (2 ^ 48 - old.bytes) = c.min-most.ensures in
-    let zeros : List ℕ = replicate 1023 0 in
-    let room = lent c.fill.new.room zeros c.min-most.result c.fill.auto.room (omega (arith, most, c.requires.may.greatest, length-replicate {A = ℕ} 1023 0)) in
-    let none = c.if-count-eq0.true in
-    let end = c.in-Ok.ensures.end (omega (arith, none, room, most, c.requires.may.few, c.requires.may.least)) in
-    counts_length old c.give_length.new.self _ _ (take c.in-Ok.count c.fill.new.room) c.give_length.result c.requires.pieces c.in-Ok.ensures.bytes
-    (length-take-le c.in-Ok.count c.fill.new.room c.in-Ok.ensures.most ∙ none) end c.give_length.ensures.result (λ later. c.give_length.ensures.total later ∙ omega (arith, none))
-
-pub returns-clause-counts : goal.returns-clause-counts
-returns-clause-counts g c =
-    let old = c.args.self.now in
-    let count = c.in-Ok.count in
-    let piece = take count c.fill.new.room in
-    let most : c.min-most.result ≡ min old.size (2 ^ 48 - old.bytes) = c.min-most.ensures in
-    let zeros : List ℕ = replicate 1023 0 in
-    let room = lent c.fill.new.room zeros c.min-most.result c.fill.auto.room (omega (arith, most, c.requires.may.greatest, length-replicate {A = ℕ} 1023 0)) in
-    let size : length piece ≡ count = length-take-le count c.fill.new.room c.in-Ok.ensures.most in
-    elim c.if-count-most.branch [
-      | then-count-most w ↦
-          counts_last old c.if-count-most.self _ _ piece c.requires.pieces (ap (λ s. s.stage) w.self-is) (ap (λ s. s.bytes) w.self-is ∙ ap (λ k. old.bytes + k) (sym size)) c.in-Ok.ensures.bytes
-          (c.in-Ok.ensures.end (omega (arith, room, w.if-count-most.true)))
-      | else-count-most w ↦
-          counts_full old c.if-count-most.self _ _ piece c.requires.pieces (ap (λ s. s.stage) w.self-is ∙ c.requires.pieces) (ap (λ s. s.bytes) w.self-is ∙ ap (λ k. old.bytes + k) (sym size)) c.in-Ok.ensures.bytes
-    ]
+    let short : old.bytes + count < 2 ^ 48 = omega (arith, room, most, c.in-Ok.ensures.most, few, c.requires.may.few) in
+    let same : now.size ≡ old.size = elim c.if-count-most.branch [ then-count-most w ↦ ap (λ s. s.size) w.self-is | else-count-most w ↦ ap (λ s. s.size) w.self-is ] in
+    let bytes : now.bytes ≡ old.bytes + length piece = elim c.if-count-most.branch [
+      | then-count-most w ↦ ap (λ s. s.bytes) w.self-is ∙ ap (λ k. old.bytes + k) (sym size)
+      | else-count-most w ↦ ap (λ s. s.bytes) w.self-is ∙ ap (λ k. old.bytes + k) (sym size)
+    ] in
+    let goes_on : now.stage ≡ Stopped → ⊥ = elim c.if-count-most.branch [
+      | then-count-most w ↦ λ stopped. length_goes_on now.stage (ap (λ s. s.stage) w.self-is) stopped
+      | else-count-most w ↦ λ stopped. pieces_go_on now.stage (ap (λ s. s.stage) w.self-is ∙ c.requires.pieces) stopped
+    ] in
+    record {
+      gives = elim c.if-count-most.branch [
+        | then-count-most w ↦
+            gives_last old now _ _ piece c.set.new.self c.requires.pieces (ap (λ s. s.stage) w.self-is) bytes c.in-Ok.ensures.bytes (c.in-Ok.ensures.end (omega (arith, room, w.if-count-most.true)))
+            (omega (arith, size, any)) (omega (arith, size, room, most, c.in-Ok.ensures.most)) message
+        | else-count-most w ↦
+            gives_full old now _ _ piece c.set.new.self c.requires.pieces (ap (λ s. s.stage) w.self-is ∙ c.requires.pieces) same bytes c.in-Ok.ensures.bytes
+            (omega (arith, size, any)) (omega (arith, size, room, most, c.in-Ok.ensures.most, w.if-count-most.false, few, c.requires.may.few)) message
+      ];
+      counts = elim c.if-count-most.branch [
+        | then-count-most w ↦ counts_last old now _ _ piece c.requires.pieces (ap (λ s. s.stage) w.self-is) bytes c.in-Ok.ensures.bytes (c.in-Ok.ensures.end (omega (arith, room, w.if-count-most.true)))
+        | else-count-most w ↦ counts_full old now _ _ piece c.requires.pieces (ap (λ s. s.stage) w.self-is ∙ c.requires.pieces) bytes c.in-Ok.ensures.bytes
+      ];
+      takes = (piece, c.in-Ok.ensures.bytes, record { long = λ is. absurd (message_not_long _ refl is); short = λ other. omega (arith, size, short); counted = λ other. bytes });
+      fits = λ is. omega (arith, ap length message, size, room, most, c.in-Ok.ensures.most);
+      may = λ is. record {
+        may = goes_on;
+        least = omega (arith, same, c.requires.may.least);
+        greatest = omega (arith, same, c.requires.may.greatest);
+        few = omega (arith, bytes, size, short);
+      };
+      same = ap (λ k. k + 1) same;
+      failed = λ is. absurd (message_no_failure _ refl is);
+      later = c.in-Ok.ensures.cause.later;
+    }

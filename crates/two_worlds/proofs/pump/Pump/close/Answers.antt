@@ -4,7 +4,7 @@ use Rattle.std.proofs.Props.{props}
 use Rattle.disk_model.specs.declared.name.Role.TheVariants as roles
 use Rattle.pump_frame.specs.Rows.{first_bad}
 use Rattle.two_worlds.specs.declared.pump.state.BareDisks.{BareDisks}
-use Rattle.two_worlds.specs.Disks.{Opens, CrashesOpen, LeaveWorld, OpenAgain}
+use Rattle.world_laws.specs.Disks.{Opens, CrashesOpen, LeaveWorld, OpenAgain}
 use Rattle.two_worlds.specs.Pumps.{row_of, disk_at}
 use Rattle.two_worlds.proofs.Disks.LeavesWorld.{pump_leaves, opens_again}
 use Rattle.two_worlds.proofs.Disks.OpensSurely.{crashes_surely_open, readings_surely_open}

@@ -8,7 +8,7 @@ use Rattle.two_worlds.proofs.Carry.Carries.{leads_by, breaks, overfull, returned
 use Rattle.two_worlds.proofs.Carry.Serves.{serves_nothing, serves_ok, serves_device, serves_full}
 use Rattle.two_worlds.proofs.Opening.Ready.{recv_is_ready}
 use Rattle.two_worlds.proofs.Carry.Works.{small, short, answered_as, ahead_same, ahead_never, works_with, works_full}
-use Rattle.two_worlds.proofs.Carry.Packets.{keep_last_some}
+use Rattle.world_laws.proofs.Packets.{keep_last_some}
 use Rattle.two_worlds.specs.Printing.{lines_in}
 use Rattle.two_worlds.proofs.pump.parts.Parts.carry.Goals as goal
 

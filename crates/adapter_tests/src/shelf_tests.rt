@@ -1,0 +1,80 @@
+//! The current folder as a shelf.
+
+use crate::folders::enter;
+use adapters::{FileDisk, FileShelf};
+use disk_model::{Disk, DiskName, Role, Shelf, ShelfFault};
+use std::fs;
+use std::fs::{File, Files};
+use std::os::unix::fs::PermissionsExt;
+use std::process::Abort;
+use std::test::Fail;
+
+const LOW: DiskName = DiskName {
+    session: 7,
+    role: Role::Low,
+};
+
+const HIGH: DiskName = DiskName {
+    session: 7,
+    role: Role::High,
+};
+
+/// Writes and syncs five bytes, and reads past them.
+fn fill(disk: &mut FileDisk) -> bool {
+    disk.write_at(0, b"relay").is_ok() && disk.sync().is_ok() && disk.read(3, &mut [0; 3]).is_err()
+}
+
+fn size_of<R: Files<File = File>>(shelf: &mut FileShelf<R>, name: DiskName) -> Option<u64> {
+    match shelf.disk(name) {
+        Ok(mut disk) => disk.size().ok(),
+        Err(_) => None,
+    }
+}
+
+/// Takes a disk and fills it, and puts it back. The second shelf can't take it meanwhile: the lock is that
+/// of one opening, so it stands for a second process.
+fn is_taken_by_one<R: Files<File = File>>(
+    rt: &impl Abort,
+    shelf: &mut FileShelf<R>,
+    second: &mut FileShelf<R>,
+) {
+    match shelf.disk(LOW) {
+        Ok(mut disk) => {
+            assert!(rt; size_of(second, LOW).is_none());
+            assert!(rt; second.is_in_use());
+            assert!(rt; fill(&mut disk));
+            shelf.keep(LOW, disk);
+        }
+        Err(_) => assert!(rt; false),
+    }
+    assert_eq!(rt; (shelf.disk_faults(), second.disk_faults()), (1, 1));
+    assert_eq!(rt; size_of(second, LOW), Some(5));
+}
+
+fn reads_whole_files<R: Files<File = File>>(rt: &impl Abort, shelf: &mut FileShelf<R>) {
+    for (name, length, front) in [
+        ("7.low", Ok(5), *b"rel"),
+        ("table", Err(ShelfFault::Failed), *b"___"),
+    ] {
+        let mut into = *b"___";
+        assert!(rt; shelf.whole(name, &mut into) == length);
+        assert_eq!(rt; into, front);
+    }
+    assert_eq!(rt; shelf.faults(), 1);
+}
+
+#[test]
+fn the_current_folder_is_a_shelf(rt: HostRuntime) -> Result<(), Fail> {
+    let folder = enter(&rt, "shelf")?;
+    let mut shelf = FileShelf::new(rt.alloc(), &rt);
+    let mut second = FileShelf::new(rt.alloc(), &rt);
+    is_taken_by_one(&rt, &mut shelf, &mut second);
+    let mode = fs::metadata(&rt, "7.low")?.permissions().mode();
+    assert_eq!(rt; mode & 0o777, 0o600);
+    fs::create_dir(&rt, "7.high")?;
+    assert!(rt; size_of(&mut second, HIGH).is_none());
+    assert!(rt; !second.is_in_use());
+    reads_whole_files(&rt, &mut shelf);
+    fs::remove_dir_all(&rt, folder.as_str())?;
+    Ok(())
+}

@@ -1,0 +1,32 @@
+use Rattle.std.proofs.Common.{inl, refl, ap, ◌∙◌}
+use Rattle.disk_model.specs.declared.name.Role.TheVariants as roles
+use Rattle.pump_link.proofs.Grown.{Grows-nil}
+use Rattle.script_replay.specs.Shelves.{Places, reading_at}
+use Rattle.script_replay.proofs.Shelving.{is_out}
+use Rattle.commands.specs.declared.command_end.CommandEnd.TheVariants.{Failed}
+use Rattle.commands.proofs.LentDisks.{others_so, all_back, untaken_stops, rises_back}
+use Rattle.dispatch.proofs.Received.{receives_at}
+use Rattle.dispatch.proofs.receive.receive_row.Goals as goal
+
+pub returns-in-Err-clause-receives : goal.returns-in-Err-clause-receives
+returns-in-Err-clause-receives g c = λ told tells.
+    inl (untaken_stops _ c.args.row.now c.in-Err.not_taken.fault c.untaken.result c.untaken.ensures.memory (λ e. c.untaken.ensures.failed e ∙ ap Failed c.in-Err.ensures.role), ap (λ (places : Places). reading_at places c.args.row.now.id roles.Recv) c.in-Err.ensures.none, Grows-nil _, refl)
+
+pub put_disk_back-requires : goal.put_disk_back-requires
+put_disk_back-requires g c = is_out _ _ c.in-Ok.ensures.out
+
+pub returns-clause-receives : goal.returns-clause-receives
+returns-clause-receives g c = λ told tells.
+    receives_at _ _ _ _ _ _ (g.S.Shelf.told.disk c.args.shelf.now) (g.S.Shelf.told.disk c.put_disk_back.new.shelf) c.args.row.now _ _ c.receive_on-received.result.end _ _
+    (c.in-Ok.ensures.read told) (c.put_disk_back.ensures.back told) (c.receive_on-received.ensures.receives tells)
+
+pub returns-clause-others : goal.returns-clause-others
+returns-clause-others g c = others_so (g.S.Shelf.told.disk c.args.shelf.now) (g.S.Shelf.told.disk c.take_disk.new.shelf) (g.S.Shelf.told.disk c.put_disk_back.new.shelf) c.args.row.now.id roles.Recv c.take_disk.ensures.others c.put_disk_back.ensures.others
+
+pub returns-clause-back : goal.returns-clause-back
+returns-clause-back g c = λ told.
+    all_back (g.S.Shelf.told.disk c.args.shelf.now) (g.S.Shelf.told.disk c.take_disk.new.shelf) (g.S.Shelf.told.disk c.put_disk_back.new.shelf) c.args.row.now.id roles.Recv c.take_disk.ensures.others c.put_disk_back.ensures.others _ (c.put_disk_back.ensures.back told)
+
+pub returns-clause-device : goal.returns-clause-device
+returns-clause-device g c = λ role is.
+    rises_back (g.S.Shelf.told.disk c.take_disk.new.shelf) c.args.row.now.id roles.Recv _ _ _ _ _ c.in-Ok.ensures.out (c.receive_on-received.ensures.device role is) c.take_disk.ensures.later c.put_disk_back.ensures.rises

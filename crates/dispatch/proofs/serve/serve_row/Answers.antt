@@ -1,0 +1,103 @@
+use Rattle.std.proofs.Common.{◌≤◌, [], inl, inr, refl, sym, ap, ◌∙◌, subst, arith}
+use Rattle.std.specs.Io.KnownBytes.{Appends}
+use Rattle.std.proofs.KnownBytes.{Appends-nil}
+use Rattle.pump_link.specs.Tells.{Draws, Grows}
+use Rattle.pump_link.proofs.Grown.{Grows-nil, Draws-nil}
+use Rattle.script_replay.specs.Shelves.{reading_in}
+use Rattle.script_replay.proofs.Shelving.{read_in, is_out}
+use Rattle.serving.specs.Sessions.{RoseAt}
+use Rattle.serving.specs.declared.doors.WorkersEnd.{WorkersEnd}
+use Rattle.commands.proofs.LentDisks.{both_others, both_back}
+use Rattle.dispatch.proofs.Served.{session_device, session_memory, session_readable, session_link, session_unwritten, either_way, if_ended, pair_stops, pair_rises}
+use Rattle.dispatch.proofs.serve.serve_row.Goals as goal
+
+pub returns-in-Err-clause-serves : goal.returns-in-Err-clause-serves
+returns-in-Err-clause-serves g c = λ told tells.
+    inl (
+      pair_stops c.in-Err.not_taken.role c.in-Err.not_taken.fault c.untaken.result c.in-Err.ensures.role c.untaken.ensures.memory c.untaken.ensures.failed,
+      record { unopened = Grows-nil _; low_unread = Draws-nil _; high_unread = Draws-nil _; unwritten = refl; unchanged = c.in-Err.ensures.alike told },
+    )
+
+pub put_pair_back-requires-clause-low : goal.put_pair_back-requires-clause-low
+put_pair_back-requires-clause-low g c = is_out _ _ c.in-Ok.ensures.low_out
+
+pub put_pair_back-requires-clause-high : goal.put_pair_back-requires-clause-high
+put_pair_back-requires-clause-high g c = is_out _ _ c.in-Ok.ensures.high_out
+
+pub returns-clause-serves : goal.returns-clause-serves
+returns-clause-serves g c = λ told tells.
+    let t = c.in-Ok.ensures in
+    let s = c.serve_session-served in
+    let b = c.put_pair_back.ensures in
+    inr (
+      s.result.end,
+      c.end_of_session.ensures,
+      record {
+        low = c.in-Ok.disks.low;
+        now_low = s.result.low;
+        high = c.in-Ok.disks.high;
+        now_high = s.result.high;
+        low_found = sym (read_in _ _ (t.low told));
+        low_left = sym (ap reading_in (b.low_back told));
+        high_found = sym (read_in _ _ (t.high told));
+        high_left = sym (ap reading_in (b.high_back told));
+        opens = s.ensures.opens;
+        wanting = λ none. (s.ensures.wanting none).0;
+        unstarted = s.ensures.unstarted;
+        low_worker = s.ensures.low;
+        high_worker = s.ensures.high;
+        still = λ none.
+            let idle = s.ensures.idle none in
+            let still = s.ensures.still none tells in (
+              still.0,
+              still.1,
+              ap g.O.Sink.written idle.2,
+              subst (λ (k : g.row.K.Denot). Draws (g.K.Clock.reads c.args.low_clock.now) (g.K.Clock.reads k) []) (sym idle.0) (Draws-nil _),
+              subst (λ (k : g.row.K.Denot). Draws (g.K.Clock.reads c.args.high_clock.now) (g.K.Clock.reads k) []) (sym idle.1) (Draws-nil _),
+            );
+        closed = λ none. subst (λ (p : g.row.P.Denot). Grows (g.P.Ports.did c.args.ports.now) (g.P.Ports.did p) []) (sym (s.ensures.closed none)) (Grows-nil _);
+      },
+    )
+
+pub returns-clause-others : goal.returns-clause-others
+returns-clause-others g c = both_others (g.S.Shelf.told.disk c.args.shelf.now) (g.S.Shelf.told.disk c.take_pair.new.shelf) (g.S.Shelf.told.disk c.put_pair_back.new.shelf) c.args.row.now.id c.take_pair.ensures.others c.put_pair_back.ensures.others
+
+pub returns-clause-back : goal.returns-clause-back
+returns-clause-back g c = λ told.
+    both_back (g.S.Shelf.told.disk c.args.shelf.now) (g.S.Shelf.told.disk c.take_pair.new.shelf) (g.S.Shelf.told.disk c.put_pair_back.new.shelf) c.args.row.now.id c.take_pair.ensures.others c.put_pair_back.ensures.others _ _
+    (c.put_pair_back.ensures.low_back told) (c.put_pair_back.ensures.high_back told)
+
+pub returns-clause-readable : goal.returns-clause-readable
+returns-clause-readable g c = λ is. session_readable c.serve_session-served.result.end (sym c.end_of_session.ensures ∙ is)
+
+pub returns-clause-memory : goal.returns-clause-memory
+returns-clause-memory g c = λ is.
+    let s = c.serve_session-served in
+    let idle = s.ensures.idle (session_memory s.result.end (sym c.end_of_session.ensures ∙ is)) in
+    subst (λ (o : g.row.O.Denot). Appends (g.O.Sink.written c.args.out.now) (g.O.Sink.written o) []) (sym idle.2) (Appends-nil _)
+
+pub returns-clause-unwritten : goal.returns-clause-unwritten
+returns-clause-unwritten g c = λ is.
+    let s = c.serve_session-served in
+    session_unwritten s.result.end _ _ s.ensures.low (λ (ends : WorkersEnd) low unkept. low.tape.cause unkept) (sym c.end_of_session.ensures ∙ is)
+
+pub returns-clause-device : goal.returns-clause-device
+returns-clause-device g c = λ role is.
+    let t = c.in-Ok.ensures in
+    let s = c.serve_session-served in
+    let b = c.put_pair_back.ensures in
+    let d = g.S.Disk.Disk.told in
+    let id = c.args.row.now.id in
+    let rose : RoseAt d role c.in-Ok.disks.low c.in-Ok.disks.high s.result.low s.result.high =
+    session_device d c.in-Ok.disks.low c.in-Ok.disks.high s.result.low s.result.high c.args.row.now s.result.end role s.ensures.opens
+    (if_ended s.result.end _ _ s.ensures.low (λ (ends : WorkersEnd) low. low.device)) (if_ended s.result.end _ _ s.ensures.high (λ (ends : WorkersEnd) high. high.device)) (sym c.end_of_session.ensures ∙ is) in
+    pair_rises d (g.S.Shelf.told.disk c.take_pair.new.shelf) id c.in-Ok.disks.low c.in-Ok.disks.high s.result.low s.result.high _ _ _ t.low_out t.high_out c.take_pair.ensures.later b.low_rises b.high_rises role rose
+
+pub returns-clause-link : goal.returns-clause-link
+returns-clause-link g c = λ is. (c.serve_session-served.ensures.wanting (session_link c.serve_session-served.result.end (sym c.end_of_session.ensures ∙ is))).1
+
+pub returns-clause-later : goal.returns-clause-later
+returns-clause-later g c =
+    let s = c.serve_session-served in
+    either_way s.result.end _ _ s.ensures.low (λ (ends : WorkersEnd) low. low.tape.later)
+    (λ none. subst (λ (o : g.row.O.Denot). g.O.Sink.faults c.args.out.now ≤ g.O.Sink.faults o) (sym (s.ensures.idle none).2) (omega arith))

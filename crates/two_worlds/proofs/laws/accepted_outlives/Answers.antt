@@ -1,5 +1,0 @@
-use Rattle.two_worlds.proofs.Runs.Outliving.{keeps_messages}
-use Rattle.two_worlds.proofs.laws.accepted_outlives.Goals as goal
-
-pub returns : goal.returns
-returns c = λ row w low high recv lawful left. keeps_messages row w low high recv lawful left

@@ -1,5 +1,0 @@
-use Rattle.two_worlds.proofs.Runs.Acknowledged.{run_acks}
-use Rattle.two_worlds.proofs.laws.acknowledged_is_accepted.Goals as goal
-
-pub returns : goal.returns
-returns c = λ row steps t h replies run is. run_acks row steps t h replies run is

@@ -1,5 +1,0 @@
-use Rattle.two_worlds.proofs.Runs.Outliving.{run_keeps}
-use Rattle.two_worlds.proofs.laws.acknowledged_outlives.Goals as goal
-
-pub returns : goal.returns
-returns c = λ row steps t h replies low high recv run is left. run_keeps row steps t h replies low high recv run is left

@@ -1,5 +1,0 @@
-use Rattle.pump_core.proofs.Laws.{begins_lawful, runs_lawfully}
-use Rattle.two_worlds.proofs.laws.every_world_is_lawful.Goals as goal
-
-pub returns : goal.returns
-returns c = λ start end events begins run. runs_lawfully start events end (begins_lawful start begins) run

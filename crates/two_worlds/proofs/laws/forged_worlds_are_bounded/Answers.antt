@@ -1,5 +1,0 @@
-use Rattle.pump_core.proofs.Laws.{begins_bounded, runs_bounded}
-use Rattle.two_worlds.proofs.laws.forged_worlds_are_bounded.Goals as goal
-
-pub returns : goal.returns
-returns c = λ start end events begins run. runs_bounded start events end (begins_bounded start begins) run

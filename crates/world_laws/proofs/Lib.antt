@@ -1,0 +1,5 @@
+pub mod Answered
+pub mod Packets
+pub mod Replied
+pub mod Runs
+pub mod Timeline

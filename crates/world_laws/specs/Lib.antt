@@ -1,0 +1,9 @@
+pub mod Agreement
+pub mod Answered
+pub mod Classes
+pub mod CoarseScripts
+pub mod Disks
+pub mod Laws
+pub mod ListedAverages
+pub mod Timelines
+pub mod TimelinesAlone

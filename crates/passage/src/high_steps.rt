@@ -1,9 +1,10 @@
 // The steps on high's cell.
 ghost use Rattle.std.specs.Prelude.{◌≡◌, ℕ, ◌+◌, ◌≤◌, ◌++◌, ◌∷◌, [], true, false, length};
 ghost use Rattle.crossbeam_queue.specs.Passes.{view};
+ghost use Rattle.crossbeam_utils.specs.Register.{Turns};
 ghost use Rattle.crossbeam_utils.specs.Seq.{cell_view, IsSamePass};
 ghost use Rattle.pump_frame.specs.Averages.{average_of};
-ghost use Rattle.passage.specs.HighRule.{no_averaging, with_row, with_try, with_pair, PairsUpTo, with_taken, with_time, high_first};
+ghost use Rattle.passage.specs.HighRule.{HighKept, no_averaging, with_row, with_try, with_pair, PairsUpTo, with_taken, with_time, high_first};
 
 use crate::high_cell::{
     FindsPair, FindsTaken, HighCell, HighPass, HighWord, LowTry, RowTold, TellsRow, TellsTaken,
@@ -28,6 +29,13 @@ impl RowTold for Brand {
     ghost averaging = { no_averaging };
 }
 
+// A law without code: this step keeps the cell's rule.
+fn finding_taken<K: LowTry>(pass: &HighPass)
+    requires idle { (cell_view pass.now).writes ≡ false }
+    requires reads { (cell_view pass.now).reads ≡ true }
+    ensures { Turns HighKept pass.now.id (cell_view pass.now) (λ x. x) (λ v x y w. (y ≡ x) × (w ≡ with_try K.forwarded v x.taken) × (v.found ≤ x.taken)) }
+{}
+
 fn load_taken<K: LowTry, R: Wait>(
     rt: &R,
     cell: &HighCell,
@@ -41,6 +49,7 @@ fn load_taken<K: LowTry, R: Wait>(
     ensures rule { cell_view pass.new ≡ with_try forwarded (cell_view pass.old) result.taken }
     ensures up { (cell_view pass.old).found ≤ result.taken }
 {
+    finding_taken::<K>(pass);
     cell.load_as::<FindsTaken<K>, R>(rt, pass)
 }
 
@@ -55,6 +64,13 @@ pub fn find_taken<R: Wait>(rt: &R, cell: &HighCell, pass: &mut HighPass, forward
     load_taken::<Brand, R>(rt, cell, pass, forwarded)
 }
 
+// A law without code: this step keeps the cell's rule.
+fn finding_pair(pass: &HighPass)
+    requires idle { (cell_view pass.now).writes ≡ false }
+    requires reads { (cell_view pass.now).reads ≡ true }
+    ensures { Turns HighKept pass.now.id (cell_view pass.now) (λ x. x) (λ v x y w. (y ≡ x) × (w ≡ with_pair v x.count x.average) × PairsUpTo v x.count) }
+{}
+
 /// The low end's load for a pair.
 pub fn find_pair<R: Wait>(rt: &R, cell: &HighCell, pass: &mut HighPass) -> HighWord
     requires cell { pass.old.table_id ≡ cell.now.table.shared.table_id }
@@ -63,8 +79,19 @@ pub fn find_pair<R: Wait>(rt: &R, cell: &HighCell, pass: &mut HighPass) -> HighW
     ensures rule { cell_view pass.new ≡ with_pair (cell_view pass.old) result.count result.average }
     ensures up { PairsUpTo (cell_view pass.old) result.count }
 {
+    finding_pair(pass);
     cell.load_as::<FindsPair, R>(rt, pass)
 }
+
+// A law without code: this step keeps the cell's rule.
+fn telling_taken(pass: &HighPass, word: HighWord)
+    requires writes { (cell_view pass.now).writes ≡ true }
+    requires idle { (cell_view pass.now).reads ≡ false }
+    requires taken { word.taken ≡ (cell_view pass.now).taken + 1 }
+    requires count { word.count ≡ length (cell_view pass.now).times }
+    requires average { word.average ≡ average_of (cell_view pass.now).averaging (cell_view pass.now).times }
+    ensures { Turns HighKept pass.now.id (cell_view pass.now) (λ _. word) (λ v x y w. w ≡ with_taken v) }
+{}
 
 /// The high end's swap, after a pop: no number is told before so many were popped.
 pub fn tell_taken<R: Wait>(
@@ -83,8 +110,19 @@ pub fn tell_taken<R: Wait>(
     ensures cell { IsSamePass pass.old pass.new }
     ensures rule { cell_view pass.new ≡ with_taken (cell_view pass.old) }
 {
+    telling_taken(pass, word);
     cell.swap_as::<TellsTaken, R>(rt, pass, word);
 }
+
+// A law without code: this step keeps the cell's rule.
+fn telling_time<K: TimeTold>(pass: &HighPass, word: HighWord)
+    requires writes { (cell_view pass.now).writes ≡ true }
+    requires idle { (cell_view pass.now).reads ≡ false }
+    requires taken { word.taken ≡ (cell_view pass.now).taken }
+    requires count { word.count ≡ length ((cell_view pass.now).times ++ K.micros ∷ []) }
+    requires average { word.average ≡ average_of (cell_view pass.now).averaging ((cell_view pass.now).times ++ K.micros ∷ []) }
+    ensures { Turns HighKept pass.now.id (cell_view pass.now) (λ _. word) (λ v x y w. w ≡ with_time v K.micros) }
+{}
 
 fn swap_time<K: TimeTold, R: Wait>(
     rt: &R,
@@ -102,6 +140,7 @@ fn swap_time<K: TimeTold, R: Wait>(
     ensures cell { IsSamePass pass.old pass.new }
     ensures rule { cell_view pass.new ≡ with_time (cell_view pass.old) micros }
 {
+    telling_time::<K>(pass, word);
     cell.swap_as::<TellsTime<K>, R>(rt, pass, word);
 }
 
@@ -117,6 +156,15 @@ pub fn tell_time<R: Wait>(rt: &R, cell: &HighCell, pass: &mut HighPass, word: Hi
 {
     swap_time::<Brand, R>(rt, cell, pass, word, micros);
 }
+
+// A law without code: this step keeps the cell's rule.
+fn telling_row<K: RowTold>(pass: &HighPass, word: HighWord)
+    requires fresh { cell_view pass.now ≡ high_first }
+    requires count { word.count ≡ 0 }
+    requires average { word.average ≡ average_of K.averaging [] }
+    requires taken { word.taken ≡ 0 }
+    ensures { Turns HighKept pass.now.id (cell_view pass.now) (λ _. word) (λ v x y w. w ≡ with_row v K.places K.averaging) }
+{}
 
 fn swap_row<K: RowTold, R: Wait>(
     rt: &R,
@@ -134,6 +182,7 @@ fn swap_row<K: RowTold, R: Wait>(
     ensures cell { IsSamePass pass.old pass.new }
     ensures rule { cell_view pass.new ≡ with_row (cell_view pass.old) places averaging }
 {
+    telling_row::<K>(pass, word);
     cell.swap_as::<TellsRow<K>, R>(rt, pass, word);
 }
 

@@ -7,6 +7,7 @@ mod high_cell;
 mod high_steps;
 mod low_cell;
 mod low_steps;
+mod meetings;
 mod plain;
 mod queue;
 mod queue_ends;

@@ -5,10 +5,13 @@ ghost use Rattle.pump_core.specs.Passage.{Low, High, Fits, new_low, new_high, sh
 ghost use Rattle.passage.specs.QueueEnds.{LowEndStands, HighEndStands, low_shape, high_shape, low_place, high_place};
 ghost use Rattle.passage.specs.Parting.{IsUnparted, queue_shape};
 
-use crate::high_cell::{HighCell, HighLearns, HighMeets, HighParts, HighPass, HighWord};
+use crate::high_cell::{HighCell, HighParts, HighPass, HighWord};
 use crate::high_steps::tell_row;
-use crate::low_cell::{LowCell, LowLearns, LowMeets, LowParts, LowPass, LowWord};
-use crate::queue::{Queue, QueueLearns, QueueMeets, QueueParts, QueuePass};
+use crate::low_cell::{LowCell, LowParts, LowPass, LowWord};
+use crate::meetings::{
+    meet_in_high, meet_in_low, meet_in_queue, parting_high, parting_low, parting_queue,
+};
+use crate::queue::{Queue, QueueParts, QueuePass};
 use crate::queue_ends::{QueueHigh, QueueLow};
 use moving_avg::Window;
 use pump_frame::{Averaging, OutOfMemory, SessionRow};
@@ -110,8 +113,11 @@ impl QueuePassage {
             averaging,
             first,
         );
+        parting_queue(&sent);
         let popped = passage.queue.another::<QueueParts>(&mut sent);
+        parting_low(&told);
         let sought = passage.low_cell.split_pass::<LowParts>(&mut told);
+        parting_high(&high_told);
         let read = passage.high_cell.split_pass::<HighParts>(&mut high_told);
         let low = QueueLow {
             queue: &passage.queue,
@@ -169,14 +175,9 @@ impl QueuePassage {
             taken,
             window: _,
         } = high;
-        queue.absorb::<QueueMeets>(&mut sent, popped);
-        queue.learn_as::<QueueLearns>(&mut sent);
-        let reader = high_cell.split_pass::<HighParts>(&mut read);
-        high_cell.join_pass::<HighMeets>(&mut high_told, reader);
-        high_cell.load_as::<HighLearns, R>(rt, &mut high_told);
-        let seeker = low_cell.split_pass::<LowParts>(&mut sought);
-        low_cell.join_pass::<LowMeets>(&mut told, seeker);
-        low_cell.load_as::<LowLearns, R>(rt, &mut told);
+        meet_in_queue(queue, &mut sent, popped);
+        meet_in_high(rt, high_cell, &mut high_told, &mut read);
+        meet_in_low(rt, low_cell, &mut told, &mut sought);
         Joined { forwarded, taken }
     }
 }

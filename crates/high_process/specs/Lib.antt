@@ -6,3 +6,4 @@ pub mod States
 pub mod Steps
 pub mod Storing
 pub mod Tasks
+pub mod Whole

@@ -2,17 +2,18 @@ ghost use Rattle.std.specs.Prelude.{◌≡◌, ℕ, ◌^◌, ◌<◌, ◌≤◌,
 ghost use Rattle.stable_buffer.specs.High.{IsHighReady, high_count};
 ghost use Rattle.pump_core.specs.Passage.{Low, High};
 ghost use Rattle.high_process.specs.Tasks.{frame_of};
-ghost use Rattle.high_process.specs.Past.{ProcessPast};
 ghost use Rattle.high_process.specs.States.{row_of, removed_of, last_of, is_down, task_at, attaches_at, IsBetweenLooks};
 ghost use Rattle.high_process.specs.Storing.{Fares, IsAfter, LeavesCounted};
 ghost use Rattle.high_process.specs.Ends.{StandsFitting};
+ghost use Rattle.high_process.specs.Past.{ProcessPast};
 ghost use Rattle.high_process.specs.Looks.{StandsFor, LookBegins, Asked, Looked};
+ghost use Rattle.high_process.specs.Whole.{WholeLook};
 
 use crate::HighProcess;
-use crate::how::AtOnce;
+use crate::how::{Asks, AtOnce};
 use crate::values::{HighAsk, HighFault, HighLook};
 use disk_model::Disk;
-use passage::HighEnd;
+use passage::{HighEnd, HighSide};
 use pump_frame::Frame;
 use stable_buffer::HighStore;
 
@@ -56,12 +57,10 @@ impl HighProcess {
         self.step(moment, task, attaches, store)
     }
 
-    /// A whole look over the store and the high end of the passage: `begin`, what it asks of the
-    /// end, and `finish`; the time is published before the next message is taken up. As many times were published at the end as by this process since its
-    /// opening, and the last message that the end gave was asked for with fewer removed than now,
-    /// or with as many where the hand is full; afterwards this holds again.
-    pub fn look<D: Disk, H: HighEnd>(
+    // A look that makes the calls of the end in this way. Its clauses are the fields of `WholeLook`.
+    pub(crate) fn look_by<D: Disk, H: HighSide, A: Asks<H>>(
         &mut self,
+        how: &A,
         moment: u64,
         frame: Option<&Frame>,
         store: &mut HighStore<D>,
@@ -97,7 +96,34 @@ impl HighProcess {
         ensures place { H.place ends.new ≡ H.place ends.old }
     {
         let ask = self.begin(moment, frame, store)?;
-        self.take_up(&AtOnce, &ask, ends);
+        self.take_up(how, &ask, ends);
         Ok(self.send())
+    }
+
+    /// A whole look over the store and the high end of the passage: `begin`, what it asks of the
+    /// end, and `finish`; the time is published before the next message is taken up. As many times
+    /// were published at the end as by this process since its opening, and the last message that the
+    /// end gave was asked for with fewer removed than now, or with as many where the hand is full;
+    /// afterwards this holds again.
+    pub fn look<D: Disk, H: HighEnd>(
+        &mut self,
+        moment: u64,
+        frame: Option<&Frame>,
+        store: &mut HighStore<D>,
+        ends: &mut H,
+    ) -> Result<HighLook, HighFault>
+        requires between { IsBetweenLooks self.old }
+        requires up { is_down self.old ≡ false }
+        requires order { last_of self.old ≤ moment }
+        requires moment { moment ≤ 2 ^ 62 }
+        requires store { IsHighReady D.told store.old }
+        requires count { high_count store.old ≡ removed_of self.old }
+        requires ends { (l : Low) × (h : High) × StandsFitting (H.stands ends.old) self.old l h }
+
+        ensures { WholeLook D.told H.shape H.place H.on_one_thread H.stands
+            self.old self.new store.old store.new ends.old ends.new
+            moment (frame_of frame.entry) result }
+    {
+        self.look_by(&AtOnce, moment, frame, store, ends)
     }
 }

@@ -5,3 +5,4 @@ pub mod Greetings
 pub mod Keeping
 pub mod Looking
 pub mod Offering
+pub mod Wholes

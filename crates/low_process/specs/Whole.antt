@@ -13,7 +13,9 @@ use Rattle.low_process.specs.declared.process.LowProcess.{LowProcess}
 use Rattle.low_process.specs.declared.values.LowLook.{LowLook}
 use Rattle.low_process.specs.declared.values.Ask.{Ask}
 use Rattle.low_process.specs.declared.values.Ask.TheVariants.{Done, Forward, Average}
-use Rattle.low_process.specs.Looks.{row_of, next_of, is_down, look_of, StandsFor, LookBegins, Looks}
+use Rattle.pump_core.specs.Passage.{Shape, Low, High}
+use Rattle.low_process.specs.Looks.{row_of, next_of, last_of, is_down, look_of, hand_of, hand_after, StandsFor, LookBegins, Looks, IsInBounds}
+use Rattle.low_process.specs.Ends.{EndStep, StandsFitting}
 use Rattle.low_process.specs.Storing.{message_in, StoreStep, counted}
 
 -- the store is open, was made with the process's row, and has just the messages that the process
@@ -84,3 +86,30 @@ CountsBeyond n disk = (E : ℕ) × (value_of disk ≡ (E, 0)) × (n < E)
 abbrev pub KeepsAcknowledged : {D : Type 0} → Meaning D → SessionRow → Option Frame → D → Type 0
 KeepsAcknowledged m row reply disk =
     (n : ℕ) → reply ≡ Some (acknowledgement row n) → Each m (CountsBeyond n) disk
+
+-- ---- a whole look ----
+
+-- What a look does with the process (p, then q), its store and its end of the passage (e, then f). The end's
+-- type says its shape and place, and what it stands for. `lawful` is what is promised of the reply.
+pub record WholeLook {D L P : Type 0} (m : Meaning D) (shape_of : L → Shape) (place_of : L → P)
+    (on_one_thread : Bool) (stands : L → Low → High → Type 0) (p q : LowProcess) (old new : LowStore D) (e f : L)
+    (moment word : ℕ) (a : Arrival) (look : LowLook) (lawful_reply : Type 0) : Type 0 where
+  -- one look more of the history, in which the device failed or not
+  pub looks : (is_fault : Bool) × LookStep m p q old new moment word a is_fault look
+  pub bounds : IsInBounds look.feedback
+  -- the store is still the process's, and a crash at any moment leaves what it had, or this message too
+  pub store : HasStore m q new
+  pub images : LeavesStored m p old new a
+  -- a process that is down calls no disk and replies nothing
+  pub still : is_down p ≡ true → new ≡ old
+  pub silent : is_down p ≡ true → look.reply ≡ None
+  pub acknowledged : KeepsAcknowledged m (row_of p) look.reply (low_disk new)
+  pub lawful : lawful_reply
+  pub hand : hand_of q ≡ hand_after (hand_of p) a look
+  pub row : row_of q ≡ row_of p
+  pub last : last_of q ≡ moment
+  -- the end goes through what the feedback tells
+  pub shape : shape_of f ≡ shape_of e
+  pub place : place_of f ≡ place_of e
+  pub ends : (l : Low) (h : High) → StandsFitting (stands e) p l h
+      → EndStep (shape_of e) on_one_thread (StandsFitting (stands f) q) l h (hand_of p) look.feedback

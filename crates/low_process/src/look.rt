@@ -8,7 +8,7 @@ ghost use Rattle.low_process.specs.declared.values.Asking.TheVariants.{Forward a
 ghost use Rattle.low_process.specs.Looks.{IsAnswerTo, IsInBounds, IsBetweenLooks, AsksToForward, AsksFor, IsLawful, Looks, HandBegins, arrival_of, look_of, row_of, next_of, last_of, is_down, owes, hand_of, item_in_hand, hand_after, hand_passed};
 ghost use Rattle.low_process.specs.Heads.{look_with, ask_with};
 ghost use Rattle.low_process.specs.Ends.{OfferStep, EndStep, FitsEnd, StandsFitting};
-ghost use Rattle.low_process.specs.Whole.{HasStore, BeginStep, LookStep, KeepsAcknowledged, LeavesStored, reply_in};
+ghost use Rattle.low_process.specs.Whole.{HasStore, BeginStep, WholeLook, KeepsAcknowledged, LeavesStored, reply_in};
 
 use crate::LowProcess;
 use crate::how::{Asks, AtOnce};
@@ -171,27 +171,9 @@ impl LowProcess {
         requires store { HasStore D.told self.old store.old }
         requires ends { (l : Low) × (h : High) × StandsFitting (L.stands ends.old) self.old l h }
 
-        ensures looks { (is_fault : Bool) × LookStep D.told self.old self.new store.old store.new
-            moment word (arrival_of arrival.entry) is_fault (look_with (row_of self.old) head.new) }
-        ensures bounds { IsInBounds head.new.feedback }
-        ensures store { HasStore D.told self.new store.new }
-        ensures images { LeavesStored D.told self.old store.old store.new
-            (arrival_of arrival.entry) }
-        ensures still { is_down self.old ≡ true → store.new ≡ store.old }
-        ensures silent { is_down self.old ≡ true → (look_with (row_of self.old) head.new).reply ≡ None }
-        ensures acknowledged { KeepsAcknowledged D.told (row_of self.old) (look_with (row_of self.old) head.new).reply
-            (low_disk store.new) }
-        ensures lawful { IfSome head.new.reply IsLawfulReply }
-
-        ensures hand { hand_of self.new
-            ≡ hand_after (hand_of self.old) (arrival_of arrival.entry) (look_with (row_of self.old) head.new) }
-        ensures row { row_of self.new ≡ row_of self.old }
-        ensures last { last_of self.new ≡ moment }
-        ensures shape { L.shape ends.new ≡ L.shape ends.old }
-        ensures place { L.place ends.new ≡ L.place ends.old }
-        ensures ends { (l : Low) (h : High) → StandsFitting (L.stands ends.old) self.old l h
-            → EndStep (L.shape ends.old) L.on_one_thread (StandsFitting (L.stands ends.new) self.new) l h
-            (hand_of self.old) head.new.feedback }
+        ensures { WholeLook D.told L.shape L.place L.on_one_thread L.stands
+            self.old self.new store.old store.new ends.old ends.new
+            moment word (arrival_of arrival.entry) (look_with (row_of self.old) head.new) (IfSome head.new.reply IsLawfulReply) }
     {
         match self.begin_into(moment, word, arrival, store, head) {
             AskHead::Done => {}
@@ -217,27 +199,9 @@ impl LowProcess {
         requires store { HasStore D.told self.old store.old }
         requires ends { (l : Low) × (h : High) × StandsFitting (L.stands ends.old) self.old l h }
 
-        ensures looks { (is_fault : Bool) × LookStep D.told self.old self.new store.old store.new
-            moment word (arrival_of arrival.entry) is_fault (look_with (row_of self.old) head.new) }
-        ensures bounds { IsInBounds head.new.feedback }
-        ensures store { HasStore D.told self.new store.new }
-        ensures images { LeavesStored D.told self.old store.old store.new
-            (arrival_of arrival.entry) }
-        ensures still { is_down self.old ≡ true → store.new ≡ store.old }
-        ensures silent { is_down self.old ≡ true → (look_with (row_of self.old) head.new).reply ≡ None }
-        ensures acknowledged { KeepsAcknowledged D.told (row_of self.old) (look_with (row_of self.old) head.new).reply
-            (low_disk store.new) }
-        ensures lawful { IfSome head.new.reply IsLawfulReply }
-
-        ensures hand { hand_of self.new
-            ≡ hand_after (hand_of self.old) (arrival_of arrival.entry) (look_with (row_of self.old) head.new) }
-        ensures row { row_of self.new ≡ row_of self.old }
-        ensures last { last_of self.new ≡ moment }
-        ensures shape { L.shape ends.new ≡ L.shape ends.old }
-        ensures place { L.place ends.new ≡ L.place ends.old }
-        ensures ends { (l : Low) (h : High) → StandsFitting (L.stands ends.old) self.old l h
-            → EndStep (L.shape ends.old) L.on_one_thread (StandsFitting (L.stands ends.new) self.new) l h
-            (hand_of self.old) head.new.feedback }
+        ensures { WholeLook D.told L.shape L.place L.on_one_thread L.stands
+            self.old self.new store.old store.new ends.old ends.new
+            moment word (arrival_of arrival.entry) (look_with (row_of self.old) head.new) (IfSome head.new.reply IsLawfulReply) }
     {
         self.look_by(&AtOnce, moment, word, arrival, store, ends, head);
     }
@@ -261,27 +225,9 @@ impl LowProcess {
         requires store { HasStore D.told self.old store.old }
         requires ends { (l : Low) × (h : High) × StandsFitting (L.stands ends.old) self.old l h }
 
-        ensures looks { (is_fault : Bool) × LookStep D.told self.old self.new store.old store.new
-            moment word (arrival_of arrival.entry) is_fault result }
-        ensures bounds { IsInBounds result.feedback }
-        ensures store { HasStore D.told self.new store.new }
-        ensures images { LeavesStored D.told self.old store.old store.new
-            (arrival_of arrival.entry) }
-        ensures still { is_down self.old ≡ true → store.new ≡ store.old }
-        ensures silent { is_down self.old ≡ true → result.reply ≡ None }
-        ensures acknowledged { KeepsAcknowledged D.told (row_of self.old) result.reply
-            (low_disk store.new) }
-        ensures lawful { IfSome result.reply IsLawfulFrame }
-
-        ensures hand { hand_of self.new
-            ≡ hand_after (hand_of self.old) (arrival_of arrival.entry) result }
-        ensures row { row_of self.new ≡ row_of self.old }
-        ensures last { last_of self.new ≡ moment }
-        ensures shape { L.shape ends.new ≡ L.shape ends.old }
-        ensures place { L.place ends.new ≡ L.place ends.old }
-        ensures ends { (l : Low) (h : High) → StandsFitting (L.stands ends.old) self.old l h
-            → EndStep (L.shape ends.old) L.on_one_thread (StandsFitting (L.stands ends.new) self.new) l h
-            (hand_of self.old) result.feedback }
+        ensures { WholeLook D.told L.shape L.place L.on_one_thread L.stands
+            self.old self.new store.old store.new ends.old ends.new
+            moment word (arrival_of arrival.entry) result (IfSome result.reply IsLawfulFrame) }
     {
         let mut head = LookHead::new();
         self.look_into(moment, word, arrival, store, ends, &mut head);

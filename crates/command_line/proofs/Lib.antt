@@ -1,4 +1,5 @@
 pub mod Commas
+pub mod More
 pub mod Plain
 pub mod PlainWalks
 pub mod Sole

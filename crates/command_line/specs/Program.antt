@@ -24,20 +24,34 @@ leaf_four name a b c d = with_rule (leaf_three name a b c) (value_rule d)
 abbrev pub bare : App
 bare = let a = new_app (codes "netpump") in record a { top = record a.top { no_binary_name = true; disable_help_flag = true; disable_help_subcommand = true } }
 
-abbrev pub program : App
-program =
-    with_subcommand (with_subcommand (with_subcommand (with_subcommand (with_subcommand (with_subcommand (with_subcommand (with_subcommand (with_subcommand (with_subcommand (with_subcommand (with_subcommand (with_subcommand (with_subcommand bare
+-- with the commands over scripts and generated messages, and those that make and show disks
+abbrev pub with_scripts : App → App
+with_scripts above =
+    with_subcommand (with_subcommand (with_subcommand (with_subcommand (with_subcommand above
     (leaf_none (codes "replay")).top)
     (leaf_two (codes "format") (codes "TABLE") (codes "S")).top)
     (leaf_two (codes "show") (codes "TABLE") (codes "S")).top)
     (leaf_two (codes "exercise") (codes "SEED") (codes "COUNT")).top)
-    (leaf_three (codes "race") (codes "SEED") (codes "COUNT") (codes "TIMES")).top)
+    (leaf_three (codes "race") (codes "SEED") (codes "COUNT") (codes "TIMES")).top
+
+-- with the commands of a relay and its disks
+abbrev pub with_relays : App → App
+with_relays above =
+    with_subcommand (with_subcommand (with_subcommand (with_subcommand above
     (leaf_three (codes "serve") (codes "TABLE") (codes "S") (codes "LOOKS")).top)
     (leaf_three (codes "receive") (codes "TABLE") (codes "S") (codes "LOOKS")).top)
     (leaf_three (codes "send") (codes "TABLE") (codes "S") (codes "LOOKS")).top)
-    (leaf_four (codes "migrate") (codes "TABLE") (codes "S") (codes "NEWTABLE") (codes "T")).top)
+    (leaf_four (codes "migrate") (codes "TABLE") (codes "S") (codes "NEWTABLE") (codes "T")).top
+
+-- with the commands over files, records and chains
+abbrev pub with_files : App → App
+with_files above =
+    with_subcommand (with_subcommand (with_subcommand (with_subcommand (with_subcommand above
     (leaf_two (codes "wrap") (codes "TABLE") (codes "S")).top)
     (leaf_two (codes "unwrap") (codes "TABLE") (codes "S")).top)
     (leaf_none (codes "audit")).top)
     (leaf_none (codes "compare")).top)
     (leaf_none (codes "chain")).top
+
+abbrev pub program : App
+program = with_files (with_relays (with_scripts bare))

@@ -3,7 +3,7 @@ ghost use Rattle.clap.specs.Words.{app_of};
 ghost use Rattle.clap.specs.Walk.{rule_of};
 ghost use Rattle.clap.specs.declared.builder.command.Command.TheViews.{out-Command};
 ghost use Rattle.clap.specs.Simple.{App, with_subcommand};
-ghost use Rattle.command_line.specs.Program.{value_rule, leaf_none, leaf_two, leaf_three, leaf_four, bare, program};
+ghost use Rattle.command_line.specs.Program.{value_rule, leaf_none, leaf_two, leaf_three, leaf_four, bare, with_scripts, with_relays, with_files, program};
 
 use clap::{Arg, Command as Program};
 use std::alloc::{AllocError, Global};
@@ -92,25 +92,46 @@ fn with<'a>(
     above.subcommand(command?)
 }
 
-/// The commands as clap is told of them. An error is want of memory.
-pub(crate) fn program<'a>(alloc: Global) -> Result<Program<'a>, AllocError>
-    ensures { IfOk result (λ c. app_of c ≡ program) }
+/// With the commands over scripts and generated messages, and those that make and show disks.
+fn with_scripts<'a>(alloc: Global, above: Program<'a>) -> Result<Program<'a>, AllocError>
+    ensures { IfOk result (λ all. app_of all ≡ with_scripts (app_of above.entry)) }
 {
-    let all = with(bare(alloc), Ok(plain(alloc, "replay")))?;
+    let all = with(above, Ok(plain(alloc, "replay")))?;
     let all = with(all, with_two(alloc, "format", "TABLE", "S"))?;
     let all = with(all, with_two(alloc, "show", "TABLE", "S"))?;
     let all = with(all, with_two(alloc, "exercise", "SEED", "COUNT"))?;
-    let all = with(all, with_three(alloc, "race", "SEED", "COUNT", "TIMES"))?;
-    let all = with(all, with_three(alloc, "serve", "TABLE", "S", "LOOKS"))?;
+    with(all, with_three(alloc, "race", "SEED", "COUNT", "TIMES"))
+}
+
+/// With the commands of a relay and its disks.
+fn with_relays<'a>(alloc: Global, above: Program<'a>) -> Result<Program<'a>, AllocError>
+    ensures { IfOk result (λ all. app_of all ≡ with_relays (app_of above.entry)) }
+{
+    let all = with(above, with_three(alloc, "serve", "TABLE", "S", "LOOKS"))?;
     let all = with(all, with_three(alloc, "receive", "TABLE", "S", "LOOKS"))?;
     let all = with(all, with_three(alloc, "send", "TABLE", "S", "LOOKS"))?;
-    let all = with(
+    with(
         all,
         with_four(alloc, "migrate", "TABLE", "S", "NEWTABLE", "T"),
-    )?;
-    let all = with(all, with_two(alloc, "wrap", "TABLE", "S"))?;
+    )
+}
+
+/// With the commands over files, records and chains.
+fn with_files<'a>(alloc: Global, above: Program<'a>) -> Result<Program<'a>, AllocError>
+    ensures { IfOk result (λ all. app_of all ≡ with_files (app_of above.entry)) }
+{
+    let all = with(above, with_two(alloc, "wrap", "TABLE", "S"))?;
     let all = with(all, with_two(alloc, "unwrap", "TABLE", "S"))?;
     let all = with(all, Ok(plain(alloc, "audit")))?;
     let all = with(all, Ok(plain(alloc, "compare")))?;
     with(all, Ok(plain(alloc, "chain")))
+}
+
+/// The commands as clap is told of them. An error is want of memory.
+pub(crate) fn program<'a>(alloc: Global) -> Result<Program<'a>, AllocError>
+    ensures { IfOk result (λ c. app_of c ≡ program) }
+{
+    let scripts = with_scripts(alloc, bare(alloc))?;
+    let relays = with_relays(alloc, scripts)?;
+    with_files(alloc, relays)
 }

@@ -1,5 +1,5 @@
 -- What a move leaves.
-use Rattle.std.proofs.Common.{◌≡◌, inl, inr, ⊎_elim, ℕ, zero, suc, ◌+◌, ◌-◌, ◌<◌, ◌≤◌, nat_lt, if◌then◌else◌, Bool, true, false, List, [], ◌∷◌, length, get_or, drop, Option, Some, None, Result, Ok, refl, sym, ◌∙◌, ap, subst, arith, length-drop}
+use Rattle.std.proofs.Common.{◌≡◌, inl, inr, ⊎_elim, ℕ, zero, suc, ◌+◌, ◌-◌, ◌<◌, ◌≤◌, nat_lt, if◌then◌else◌, ◌&&◌, Bool, true, false, List, [], ◌∷◌, length, get_or, drop, Option, Some, None, Result, Ok, refl, sym, ◌∙◌, ap, subst, arith, length-drop}
 use Rattle.std.proofs.lemmas.Bool.{cases_lt}
 use Rattle.std.proofs.lemmas.List.{get_or-drop}
 use Rattle.std.proofs.lemmas.List.Elements.{All-from_get_or}
@@ -14,9 +14,11 @@ use Rattle.stable_buffer.specs.Making.{IsNone, IsNoneOr}
 use Rattle.stable_buffer.specs.Register.{value_of}
 use Rattle.stable_buffer.specs.Stands.{LowStands}
 use Rattle.stable_buffer.specs.Log.{RecvStands}
+use Rattle.disk_model.specs.DiskNames.{same_role}
 use Rattle.recovery.specs.Agreement.{Disagrees}
+use Rattle.recovery.specs.Calls.{is_device}
 use Rattle.recovery.specs.Fillings.{IsMadeFrom}
-use Rattle.recovery.specs.Moves.{StandFor, AreFound, IsMoveRefused, IsMade, IsKept, is_blamed, fault_of, too_long, first_full, first_unfit}
+use Rattle.recovery.specs.Moves.{StandFor, AreFound, IsMoveRefused, IsMade, IsKept, Counted, is_blamed, fault_of, too_long, first_full, first_unfit}
 use Rattle.recovery.specs.Refusals.{or_else, told_of}
 use Rattle.recovery.specs.Surveys.{IsSurveyed}
 use Rattle.recovery.specs.declared.survey.Counts.{Counts}
@@ -174,6 +176,22 @@ pub at_old : (from : SessionRow) (size : ℕ) (counts : Counts) (mid_low mid_rec
 at_old from size counts mid_low mid_recv low high recv Q same_low same_recv clause live received found count end =
     clause live received count (subst (λ (z : List ℕ). (value_of z).1 ≡ counts.end) (sym same_recv) end) (subst (λ (z : List ℕ). LowStands from counts.accepted counts.removed live z) (sym same_low) found.stand.low_stands)
     (subst (λ (z : List ℕ). RecvStands from received z) (sym same_recv) found.stand.recv_stands)
+
+-- a new disk that is only read, and then written
+pub counted_after : {D : Type 0} (m : Meaning D) (old mid new : D) (failed : Bool) → IsKept m old mid false → Counted m mid new failed → Counted m old new failed
+counted_after m old mid new failed first second = record {
+  counts = omega (arith, first.counted.counts, second.counts);
+  rose = λ is. let up = second.rose is in omega (arith, first.counted.counts, up);
+}
+
+not_all : (a b c : Bool) → (c ≡ true → a ≡ false) → (a && b && c) ≡ true → ⊥
+not_all false b c never is = absurd (cc)
+not_all true false c never is = absurd (cc)
+not_all true true c never is = let here : true ≡ false = never is in cc
+
+-- a new disk that no call was made of, where a device that failed is an old one
+pub not_blamed : {D : Type 0} (m : Meaning D) (role : Role) (f : MoveFault) (d : D) → (is_device f.why ≡ true → f.new ≡ false) → Counted m d d (f.new && same_role f.role role && is_device f.why)
+not_blamed m role f d old = record { counts = omega arith; rose = λ is. absurd (not_all f.new (same_role f.role role) (is_device f.why) old is) }
 
 -- one disk more of a call whose survey was fine
 pub kept_on : {D : Type 0} (m : Meaning D) (role : Role) (end : Result Counts MoveFault) (counts : Counts) (old mid new : D) (failed : Bool) → end ≡ Ok counts → IsKept m old mid (is_blamed false role end) → IsKept m mid new failed

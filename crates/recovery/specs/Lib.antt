@@ -6,6 +6,7 @@ pub mod Fillings
 pub mod Images
 pub mod Joint
 pub mod Moves
+pub mod Opening
 pub mod Readings
 pub mod Refills
 pub mod Refusals

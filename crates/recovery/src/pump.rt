@@ -1,15 +1,7 @@
-ghost use Rattle.std.specs.Prelude.{◌≡◌, ◌⊎◌, ◌+◌, ◌-◌, ◌≤◌, ℕ, true, false, [], Some, None, List, length, IfOk, OnOk, IfErr};
+ghost use Rattle.std.specs.Prelude.{◌≡◌, ◌-◌, []};
 ghost use Rattle.pump_frame.specs.Rows.{IsLawfulRow};
-ghost use Rattle.disk_model.specs.Disk.{Moves, Same};
-ghost use Rattle.disk_model.specs.declared.name.Role.TheVariants.{Low as LowRole, High as HighRole};
-ghost use Rattle.stable_buffer.specs.Stands.{LowStands, HighStands};
-ghost use Rattle.stable_buffer.specs.Low.{IsLowReady, low_count, low_row};
-ghost use Rattle.stable_buffer.specs.High.{IsHighReady, high_count};
 ghost use Rattle.pump_core.specs.Passage.{Low, High};
-ghost use Rattle.recovery.specs.Refusals.{refused_pump};
-ghost use Rattle.recovery.specs.Calls.{Calls, CallsHigh, is_device, low_failed, high_failed, low_left, high_left};
-ghost use Rattle.recovery.specs.Deals.{IsDealt, HandsFit};
-ghost use Rattle.recovery.specs.declared.why.Why.TheVariants.{Device};
+ghost use Rattle.recovery.specs.Opening.{IsOpening};
 
 use crate::Why;
 use crate::hands::deal;
@@ -54,35 +46,7 @@ fn open_pump_by<D: Disk, L: LowSide, O: Offers<L>>(
     requires shape { (L.shape ends.old).places ≡ row.now.capacity - 2 }
     requires fresh { (l : Low) × (h : High) × L.stands ends.old l h × (l.forwarded ≡ []) }
 
-    ensures ready_low { IfOk result (λ o. IsLowReady D.told o.low) }
-    ensures ready_high { IfOk result (λ o. IsHighReady D.told o.high) }
-    ensures row { IfOk result (λ o. low_row o.low ≡ row.now) }
-    ensures counts { IfOk result (λ o. (low_count o.low ≡ o.next) × (high_count o.high ≡ o.removed)) }
-    ensures dealt { IfOk result (λ o. (messages : List (List ℕ))
-        × (D.told.tells → LowStands row.now o.next o.removed messages (D.told.reading low))
-        × IsDealt row.now o.removed o.next messages o.high_hand o.low_hand
-        (L.stands ends.old) (L.stands ends.new)) }
-    ensures hands { IfOk result (λ o.
-        HandsFit row.now.capacity o.removed o.next o.high_hand o.low_hand) }
-    ensures removed { IfOk result (λ o. D.told.tells
-        → HighStands row.now o.removed (D.told.reading high)) }
-
-    // The first refusal in the order, and nothing else but a device.
-    ensures fine { OnOk result (D.told.tells
-        → refused_pump row.now (D.told.reading low) (D.told.reading high) ≡ None) }
-    ensures exact { IfErr result (λ e. is_device e.why ≡ false → D.told.tells
-        → refused_pump row.now (D.told.reading low) (D.told.reading high) ≡ Some (e.role, e.why)) }
-    ensures device_low { IfErr result (λ e. is_device e.why ≡ true → e.role ≡ LowRole
-        → e.why ≡ Device (D.told.count e.low)) }
-    ensures device_high { IfErr result (λ e. is_device e.why ≡ true → e.role ≡ HighRole
-        → e.why ≡ Device (D.told.count e.high)) }
-    ensures role { IfErr result (λ e. (e.role ≡ LowRole) ⊎ (e.role ≡ HighRole)) }
-    ensures calls_low { Calls D.told low (low_left result) (low_failed result) }
-    ensures calls_high { CallsHigh D.told row.now low high (high_left result) (high_failed result) }
-
-    ensures moves_low { Moves D.told Same low (low_left result) }
-    ensures moves_high { Moves D.told Same high (high_left result) }
-    ensures ends { (L.shape ends.new ≡ L.shape ends.old) × (L.place ends.new ≡ L.place ends.old) }
+    ensures { IsOpening D.told row.now low high result L.shape L.place L.stands ends.old ends.new }
 {
     let mut low = match open_low(low, row) {
         Ok(low) => low,
@@ -149,35 +113,7 @@ pub fn open_pump<D: Disk, L: LowEnd>(
     requires shape { (L.shape ends.old).places ≡ row.now.capacity - 2 }
     requires fresh { (l : Low) × (h : High) × L.stands ends.old l h × (l.forwarded ≡ []) }
 
-    ensures ready_low { IfOk result (λ o. IsLowReady D.told o.low) }
-    ensures ready_high { IfOk result (λ o. IsHighReady D.told o.high) }
-    ensures row { IfOk result (λ o. low_row o.low ≡ row.now) }
-    ensures counts { IfOk result (λ o. (low_count o.low ≡ o.next) × (high_count o.high ≡ o.removed)) }
-    ensures dealt { IfOk result (λ o. (messages : List (List ℕ))
-        × (D.told.tells → LowStands row.now o.next o.removed messages (D.told.reading low))
-        × IsDealt row.now o.removed o.next messages o.high_hand o.low_hand
-        (L.stands ends.old) (L.stands ends.new)) }
-    ensures hands { IfOk result (λ o.
-        HandsFit row.now.capacity o.removed o.next o.high_hand o.low_hand) }
-    ensures removed { IfOk result (λ o. D.told.tells
-        → HighStands row.now o.removed (D.told.reading high)) }
-
-    // The first refusal in the order, and nothing else but a device.
-    ensures fine { OnOk result (D.told.tells
-        → refused_pump row.now (D.told.reading low) (D.told.reading high) ≡ None) }
-    ensures exact { IfErr result (λ e. is_device e.why ≡ false → D.told.tells
-        → refused_pump row.now (D.told.reading low) (D.told.reading high) ≡ Some (e.role, e.why)) }
-    ensures device_low { IfErr result (λ e. is_device e.why ≡ true → e.role ≡ LowRole
-        → e.why ≡ Device (D.told.count e.low)) }
-    ensures device_high { IfErr result (λ e. is_device e.why ≡ true → e.role ≡ HighRole
-        → e.why ≡ Device (D.told.count e.high)) }
-    ensures role { IfErr result (λ e. (e.role ≡ LowRole) ⊎ (e.role ≡ HighRole)) }
-    ensures calls_low { Calls D.told low (low_left result) (low_failed result) }
-    ensures calls_high { CallsHigh D.told row.now low high (high_left result) (high_failed result) }
-
-    ensures moves_low { Moves D.told Same low (low_left result) }
-    ensures moves_high { Moves D.told Same high (high_left result) }
-    ensures ends { (L.shape ends.new ≡ L.shape ends.old) × (L.place ends.new ≡ L.place ends.old) }
+    ensures { IsOpening D.told row.now low high result L.shape L.place L.stands ends.old ends.new }
 {
     open_pump_by(low, high, row, &AtOnce, ends)
 }
@@ -194,35 +130,7 @@ pub fn open_pump_waiting<D: Disk, L: WaitLowEnd, R: Wait>(
     requires shape { (L.shape ends.old).places ≡ row.now.capacity - 2 }
     requires fresh { (l : Low) × (h : High) × L.stands ends.old l h × (l.forwarded ≡ []) }
 
-    ensures ready_low { IfOk result (λ o. IsLowReady D.told o.low) }
-    ensures ready_high { IfOk result (λ o. IsHighReady D.told o.high) }
-    ensures row { IfOk result (λ o. low_row o.low ≡ row.now) }
-    ensures counts { IfOk result (λ o. (low_count o.low ≡ o.next) × (high_count o.high ≡ o.removed)) }
-    ensures dealt { IfOk result (λ o. (messages : List (List ℕ))
-        × (D.told.tells → LowStands row.now o.next o.removed messages (D.told.reading low))
-        × IsDealt row.now o.removed o.next messages o.high_hand o.low_hand
-        (L.stands ends.old) (L.stands ends.new)) }
-    ensures hands { IfOk result (λ o.
-        HandsFit row.now.capacity o.removed o.next o.high_hand o.low_hand) }
-    ensures removed { IfOk result (λ o. D.told.tells
-        → HighStands row.now o.removed (D.told.reading high)) }
-
-    // The first refusal in the order, and nothing else but a device.
-    ensures fine { OnOk result (D.told.tells
-        → refused_pump row.now (D.told.reading low) (D.told.reading high) ≡ None) }
-    ensures exact { IfErr result (λ e. is_device e.why ≡ false → D.told.tells
-        → refused_pump row.now (D.told.reading low) (D.told.reading high) ≡ Some (e.role, e.why)) }
-    ensures device_low { IfErr result (λ e. is_device e.why ≡ true → e.role ≡ LowRole
-        → e.why ≡ Device (D.told.count e.low)) }
-    ensures device_high { IfErr result (λ e. is_device e.why ≡ true → e.role ≡ HighRole
-        → e.why ≡ Device (D.told.count e.high)) }
-    ensures role { IfErr result (λ e. (e.role ≡ LowRole) ⊎ (e.role ≡ HighRole)) }
-    ensures calls_low { Calls D.told low (low_left result) (low_failed result) }
-    ensures calls_high { CallsHigh D.told row.now low high (high_left result) (high_failed result) }
-
-    ensures moves_low { Moves D.told Same low (low_left result) }
-    ensures moves_high { Moves D.told Same high (high_left result) }
-    ensures ends { (L.shape ends.new ≡ L.shape ends.old) × (L.place ends.new ≡ L.place ends.old) }
+    ensures { IsOpening D.told row.now low high result L.shape L.place L.stands ends.old ends.new }
 {
     open_pump_by(low, high, row, &Waits { rt }, ends)
 }

@@ -1,10 +1,11 @@
 -- Which of the causes refuses the disks that are opened.
-use Rattle.std.proofs.Common.{◌≡◌, ◌⊎◌, inl, inr, ℕ, ◌+◌, ◌-◌, ◌^◌, ◌<◌, ◌≤◌, ◌&&◌, nat_le, if◌then◌else◌, Bool, true, false, List, length, Option, Some, None, refl, sym, ◌∙◌, arith}
+use Rattle.std.proofs.Common.{◌≡◌, ◌⊎◌, inl, inr, ℕ, ◌+◌, ◌-◌, ◌^◌, ◌<◌, ◌≤◌, ◌==◌, ◌&&◌, nat_le, if◌then◌else◌, Bool, true, false, List, length, Option, Some, None, refl, sym, ◌∙◌, arith}
 use Rattle.pump_frame.specs.declared.row.SessionRow.{SessionRow}
+use Rattle.disk_model.specs.declared.name.Role.{Role}
 use Rattle.disk_model.specs.declared.name.Role.TheVariants.{Low, High, Recv}
 use Rattle.stable_buffer.specs.Register.{value_of}
 use Rattle.stable_buffer.specs.Log.{is_log, log_of}
-use Rattle.recovery.specs.Refusals.{refused_shape, refused_log, refused_receiver, refused_disk, refused_pair, refused_pump, bad_slot, told_of, or_else}
+use Rattle.recovery.specs.Refusals.{refused_shape, refused_count, refused_log, refused_receiver, refused_disk, refused_pair, refused_pump, bad_slot, told_of, or_else}
 use Rattle.recovery.specs.declared.why.Why.{Why}
 use Rattle.recovery.specs.declared.why.Why.TheVariants.{Mismatch, BadRegister}
 
@@ -13,6 +14,10 @@ le_true a b le = grind (arith, le)
 
 le_false : (a b : ℕ) → b < a → nat_le a b ≡ false
 le_false a b less = grind (arith, less)
+
+and_false : (b : Bool) → (b && false) ≡ false
+and_false true = refl
+and_false false = refl
 
 far_false : (b e c : ℕ) → (e < b) ⊎ (b + c < e) → (nat_le b e && nat_le e (b + c)) ≡ false
 far_false b e c (inl less) = rw (le_false b e less) refl
@@ -35,6 +40,25 @@ module _ (row : SessionRow) (low high : List ℕ) where
 
     pub refused_slots : (why : Option Why) → B ≤ E → E ≤ B + row.capacity → bad_slot row low B (E - B) ≡ why → refused_pump row low high ≡ told_of Low why
     refused_slots why below above slots = refused_both ∙ (λ i. if le_true B E below i && le_true E (B + row.capacity) above i then told_of Low (slots i) else Some (High, Mismatch B E))
+
+not_zero : (b : ℕ) → (b ≡ 0 → ⊥) → (b == 0) ≡ false
+not_zero b some = grind (arith, some)
+
+many_false : (a b : ℕ) → (2 ^ 48 < a) ⊎ (b ≡ 0 → ⊥) → (nat_le a (2 ^ 48) && (b == 0)) ≡ false
+many_false a b (inl more) = rw (le_false a (2 ^ 48) more) refl
+many_false a b (inr some) = rw (not_zero b some) (and_false (nat_le a (2 ^ 48)))
+
+module _ (row : SessionRow) (role : Role) (disk : List ℕ) where
+  pub refused_alone : (why : Why) → refused_shape row role disk ≡ Some why → refused_disk row role disk ≡ Some why
+  refused_alone why is = λ i. or_else (is i) (refused_count (value_of disk))
+
+  pub fine_alone : (first second : ℕ) → refused_shape row role disk ≡ None → (first, second) ≡ value_of disk → first ≤ 2 ^ 48 → second ≡ 0 → refused_disk row role disk ≡ None
+  fine_alone first second shape value few none =
+      (λ i. or_else (shape i) (refused_count (sym value i))) ∙ (λ i. if le_true first (2 ^ 48) few i && (none i == 0) then None else Some (BadRegister first second))
+
+  pub count_alone : (first second : ℕ) → refused_shape row role disk ≡ None → (first, second) ≡ value_of disk → (2 ^ 48 < first) ⊎ (second ≡ 0 → ⊥) → refused_disk row role disk ≡ Some (BadRegister first second)
+  count_alone first second shape value apart =
+      (λ i. or_else (shape i) (refused_count (sym value i))) ∙ (λ i. if many_false first second apart i then None else Some (BadRegister first second))
 
 module _ (row : SessionRow) (size : ℕ) (disk : List ℕ) where
   pub refused_by_shape : (why : Why) → refused_shape row Recv disk ≡ Some why → refused_receiver row size disk ≡ Some why

@@ -8,11 +8,6 @@ use Rattle.recovery.specs.declared.trio.MoveFault.{MoveFault}
 use Rattle.recovery.specs.declared.why.Why.TheVariants.{Device}
 use Rattle.recovery.proofs.filling.copy_piece.Goals as goal
 
-pub returns-clause-within : goal.returns-clause-within
-returns-clause-within g c = λ told.
-    let all : length {A = ℕ} (take c.args.count (replicate 4096 0)) ≡ c.args.count = length-take-le c.args.count (replicate 4096 0) (omega (arith, c.requires.few, length-replicate {A = ℕ} 4096 0)) in
-    omega (arith, all, c.in_default.ensures.within told)
-
 pub returns-in-Err : goal.returns-in-Err
 returns-in-Err g c =
     let e = c.in-Err.ensures in
@@ -40,6 +35,12 @@ returns-in-Err-write_at-clause-kept g c =
       };
     }
 
+pub returns-in-Err-write_at-clause-within : goal.returns-in-Err-write_at-clause-within
+returns-in-Err-write_at-clause-within g c = tt
+
+pub returns-in-Err-write_at-clause-written : goal.returns-in-Err-write_at-clause-written
+returns-in-Err-write_at-clause-written g c = tt
+
 pub returns-in-Err-write_at-clause-counted : goal.returns-in-Err-write_at-clause-counted
 returns-in-Err-write_at-clause-counted g c =
     let a = c.in-Err-write_at.ensures.answers in record { counts = a.counts; rose = λ _. a.rose refl }
@@ -49,7 +50,19 @@ returns-in-Err-write_at-clause-one g c =
     let counting : ℕ → MoveFault = λ n. record { new = true; role = c.args.role; why = Device n } in
     inr (c.new_fault.ensures ∙ ap counting c.faults-faults-in-Err-write_at.ensures)
 
+pub returns-clause-within : goal.returns-clause-within
+returns-clause-within g c = λ told.
+    let all : length {A = ℕ} (take c.args.count (replicate 4096 0)) ≡ c.args.count = length-take-le c.args.count (replicate 4096 0) (omega (arith, c.requires.few, length-replicate {A = ℕ} 4096 0)) in
+    omega (arith, all, c.in_default.ensures.within told)
+
 pub returns-clause-kept : goal.returns-clause-kept
 returns-clause-kept g c =
     let e = c.in_default.ensures in
     record { moves = e.moves; counted = record { counts = e.answers.counts; rose = λ is. elim (false≢true is) [ ] } }
+
+pub returns-clause-counted : goal.returns-clause-counted
+returns-clause-counted g c =
+    let a = c.in_default-write_at.ensures.answers in record { counts = a.counts; rose = λ is. elim (false≢true is) [ ] }
+
+pub returns-clause-one : goal.returns-clause-one
+returns-clause-one g c = tt

@@ -1,4 +1,4 @@
-use Rattle.std.proofs.Common.{◌≡◌, ◌∙◌, length, ap, arith, false, true, refl, sym}
+use Rattle.std.proofs.Common.{◌∙◌, length, ap, arith, false, true, refl, sym}
 use Rattle.std.proofs.lemmas.Bool.{false≢true}
 use Rattle.disk_model.specs.Disk.{Same}
 use Rattle.disk_model.proofs.Run.{goes_on_same}

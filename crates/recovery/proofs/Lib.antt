@@ -1,4 +1,5 @@
 pub mod Accepts
+pub mod Blamed
 pub mod Calls
 pub mod Comparing
 pub mod Dealing

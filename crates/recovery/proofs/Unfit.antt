@@ -6,11 +6,11 @@ use Rattle.pump_frame.specs.declared.row.SessionRow.{SessionRow}
 use Rattle.stable_buffer.specs.Numbers.{length_at}
 use Rattle.stable_buffer.specs.Stands.{LowStands, slot_of}
 use Rattle.stable_buffer.specs.Log.{Records, RecvStands, log_of}
-use Rattle.disk_model.specs.declared.name.Role.TheVariants.{Low}
+use Rattle.disk_model.specs.declared.name.Role.TheVariants.{Low, Recv}
 use Rattle.stable_buffer.specs.Register.{value_of}
 use Rattle.recovery.specs.Refusals.{or_else, told_of}
 use Rattle.recovery.specs.declared.trio.MoveFault.{MoveFault}
-use Rattle.recovery.specs.Moves.{too_long, small, fault_of}
+use Rattle.recovery.specs.Moves.{too_long, small, fault_of, first_unfit}
 use Rattle.recovery.specs.declared.why.Why.{Why}
 use Rattle.recovery.specs.declared.why.Why.TheVariants.{TooLong}
 use Rattle.recovery.proofs.Slots.{slot_length}
@@ -83,6 +83,12 @@ pick_short to n l x rest le is = let no : nat_lt to.message l ≡ false = grind 
 
 pub none_small : (to : SessionRow) (held : ℕ) → held ≤ to.capacity → fault_of false (told_of Low (small to held)) ≡ None
 none_small to held le = let no : nat_lt to.capacity held ≡ false = grind (arith, le) in rw (no) refl
+
+-- nothing is refused
+pub fits_all : (to : SessionRow) (B : ℕ) (live received : List (List ℕ)) → length live ≤ to.capacity → too_long to 0 received ≡ None → too_long to (length received) (drop (length received - B) live) ≡ None
+    → first_unfit to B live received ≡ None
+fits_all to B live received le first later =
+    (λ i. or_else (none_small to (length live) le i) (or_else (fault_of false (told_of Recv (first i))) (fault_of false (told_of Low (later i)))))
 
 pub comes_second : (a b c : Option MoveFault) (f : MoveFault) → a ≡ None → b ≡ Some f → or_else a (or_else b c) ≡ Some f
 comes_second a b c f none is = (λ i. or_else (none i) (or_else (is i) c))

@@ -1,7 +1,7 @@
-ghost use Rattle.std.specs.Prelude.{◌≡◌, ◌-◌, []};
+ghost use Rattle.std.specs.Prelude.{◌≡◌, ◌-◌, [], IfOk, IfErr};
 ghost use Rattle.pump_frame.specs.Rows.{IsLawfulRow};
 ghost use Rattle.pump_core.specs.Passage.{Low, High};
-ghost use Rattle.recovery.specs.Opening.{IsOpening};
+ghost use Rattle.recovery.specs.Opening.{ArePaired, IsNotOpened, IsOpening};
 
 use crate::Why;
 use crate::hands::deal;
@@ -34,21 +34,21 @@ pub struct NotOpened<D> {
     pub high: D,
 }
 
-// Opens a pump, whose messages are offered to the end in this way.
-fn open_pump_by<D: Disk, L: LowSide, O: Offers<L>>(
-    low: D,
-    high: D,
-    row: &SessionRow,
-    how: &O,
-    ends: &mut L,
-) -> Result<Opened<D>, NotOpened<D>>
-    requires lawful { IsLawfulRow row.now }
-    requires shape { (L.shape ends.old).places ≡ row.now.capacity - 2 }
-    requires fresh { (l : Low) × (h : High) × L.stands ends.old l h × (l.forwarded ≡ []) }
+/// The two stores of a pump.
+#[derive(Drop)]
+pub struct Pair<D> {
+    pub low: LowStore<D>,
+    pub high: HighStore<D>,
+}
 
-    ensures { IsOpening D.told row.now low high result L.shape L.place L.stands ends.old ends.new }
+/// Opens the two stores of a pump, and compares their counts.
+pub fn open_pair<D: Disk>(low: D, high: D, row: &SessionRow) -> Result<Pair<D>, NotOpened<D>>
+    requires lawful { IsLawfulRow row.now }
+
+    ensures opened { IfOk result (λ p. ArePaired D.told row.now low high p) }
+    ensures refused { IfErr result (λ e. IsNotOpened D.told row.now low high e) }
 {
-    let mut low = match open_low(low, row) {
+    let low = match open_low(low, row) {
         Ok(low) => low,
         Err((low, why)) => {
             return Err(NotOpened {
@@ -70,18 +70,37 @@ fn open_pump_by<D: Disk, L: LowSide, O: Offers<L>>(
             });
         }
     };
-    let (next, removed) = (low.accepted(), high.removed());
-    if removed > next || next - removed > row.capacity as u64 {
+    let (accepted, removed) = (low.accepted(), high.removed());
+    if removed > accepted || accepted - removed > row.capacity as u64 {
         return Err(NotOpened {
             role: Role::High,
-            why: Why::Mismatch {
-                removed,
-                accepted: next,
-            },
+            why: Why::Mismatch { removed, accepted },
             low: low.into_disk(),
             high: high.into_disk(),
         });
     }
+    Ok(Pair { low, high })
+}
+
+// Opens a pump, whose messages are offered to the end in this way.
+fn open_pump_by<D: Disk, L: LowSide, O: Offers<L>>(
+    low: D,
+    high: D,
+    row: &SessionRow,
+    how: &O,
+    ends: &mut L,
+) -> Result<Opened<D>, NotOpened<D>>
+    requires lawful { IsLawfulRow row.now }
+    requires shape { (L.shape ends.old).places ≡ row.now.capacity - 2 }
+    requires fresh { (l : Low) × (h : High) × L.stands ends.old l h × (l.forwarded ≡ []) }
+
+    ensures { IsOpening D.told row.now low high result L.shape L.place L.stands ends.old ends.new }
+{
+    let Pair { mut low, high } = match open_pair(low, high, row) {
+        Ok(pair) => pair,
+        Err(refused) => return Err(refused),
+    };
+    let (next, removed) = (low.accepted(), high.removed());
     match deal(&mut low, removed, row, how, ends) {
         Ok(hands) => Ok(Opened {
             low,

@@ -7,7 +7,7 @@ ghost use Rattle.stable_buffer.specs.Stands.{LowStands, HighStands};
 ghost use Rattle.stable_buffer.specs.Low.{IsLowReady, low_count, low_row, low_disk, low_is_open};
 ghost use Rattle.stable_buffer.specs.High.{IsHighReady, high_count, high_disk};
 ghost use Rattle.high_receiver.specs.Receiving.{IsRecvReady, recv_disk, recv_row, recv_count, recv_end};
-ghost use Rattle.recovery.specs.Refusals.{bad_slot, refused_pair, refused_pump};
+ghost use Rattle.recovery.specs.Refusals.{bad_slot, refused_pump};
 ghost use Rattle.recovery.specs.Deals.{InSlots};
 ghost use Rattle.recovery.specs.Calls.{is_device, failed};
 ghost use Rattle.recovery.specs.Agreement.{Disagrees};
@@ -17,14 +17,13 @@ ghost use Rattle.recovery.specs.Surveys.{IsSurveyed, FitsSurvey, SlotsTell};
 ghost use Rattle.recovery.specs.declared.why.Why.TheVariants.{Device};
 
 use crate::hands::read_live;
-use crate::kept::{open_high, open_low};
-use crate::pump::NotOpened;
+use crate::pump::{NotOpened, Pair, open_pair};
 use crate::receiver::open_receiver;
 use crate::{MoveFault, Trio, Why, agree};
 use disk_model::{Disk, Role};
 use high_receiver::Receiver;
 use pump_frame::SessionRow;
-use stable_buffer::{HighStore, LowStore};
+use stable_buffer::LowStore;
 
 /// How many messages were accepted, removed and received, and where the receiver's records end.
 #[derive(Clone, Copy)]
@@ -40,13 +39,6 @@ pub struct Counts {
 pub struct Surveyed<D> {
     pub disks: Trio<D>,
     pub end: Result<Counts, MoveFault>,
-}
-
-/// The two stores of a pump.
-#[derive(Drop)]
-struct Pair<D> {
-    low: LowStore<D>,
-    high: HighStore<D>,
 }
 
 /// A fault of an old disk.
@@ -86,42 +78,8 @@ fn check_live<D: Disk>(low: &mut LowStore<D>, removed: u64, row: &SessionRow) ->
     Ok(())
 }
 
-// Compares the counts of low's disk and high's, and reads the messages that are not removed.
-fn check_pair<D: Disk>(
-    low: &mut LowStore<D>,
-    removed: u64,
-    row: &SessionRow,
-) -> Result<(), (Role, Why)>
-    requires ready { IsLowReady D.told low.old }
-    requires row { low_row low.old ≡ row.now }
-
-    ensures between { OnOk result ((removed ≤ low_count low.old) × (low_count low.old ≤ removed + row.now.capacity)) }
-    ensures live { OnOk result (D.told.tells
-        → SlotsTell row.now removed (low_count low.old) (D.told.reading (low_disk low.old))) }
-    ensures fine { OnOk result (D.told.tells
-        → refused_pair row.now removed (low_count low.old) (D.told.reading (low_disk low.old)) ≡ None) }
-    ensures exact { IfErr result (λ e. is_device e.1 ≡ false → D.told.tells
-        → refused_pair row.now removed (low_count low.old) (D.told.reading (low_disk low.old)) ≡ Some e) }
-    ensures device { IfErr result (λ e. is_device e.1 ≡ true
-        → (e.0 ≡ LowRole) × (e.1 ≡ Device (D.told.count (low_disk low.new)))) }
-    ensures kept { OnOk result (IsKept D.told (low_disk low.old) (low_disk low.new) false) }
-    ensures kept_err { IfErr result (λ e. IsKept D.told (low_disk low.old) (low_disk low.new) (is_device e.1)) }
-    ensures ready { OnOk result (IsLowReady D.told low.new) }
-    ensures count { low_count low.new ≡ low_count low.old }
-    ensures row { low_row low.new ≡ low_row low.old }
-{
-    let accepted = low.accepted();
-    if removed > accepted || accepted - removed > row.capacity as u64 {
-        return Err((Role::High, Why::Mismatch { removed, accepted }));
-    }
-    match check_live(low, removed, row) {
-        Ok(()) => Ok(()),
-        Err(why) => Err((Role::Low, why)),
-    }
-}
-
 // Opens the two stores of a pump, and reads the messages that are not removed.
-fn open_pair<D: Disk>(low: D, high: D, row: &SessionRow) -> Result<Pair<D>, NotOpened<D>>
+fn open_live<D: Disk>(low: D, high: D, row: &SessionRow) -> Result<Pair<D>, NotOpened<D>>
     requires lawful { IsLawfulRow row.now }
 
     ensures ready { IfOk result (λ p. IsLowReady D.told p.low) }
@@ -146,32 +104,14 @@ fn open_pair<D: Disk>(low: D, high: D, row: &SessionRow) -> Result<Pair<D>, NotO
     ensures high_back { IfErr result (λ e. IsKept D.told high e.high
         (is_blamed {T = ℕ} false HighRole (Err (record { new = false; role = e.role; why = e.why })))) }
 {
-    let mut low = match open_low(low, row) {
-        Ok(low) => low,
-        Err((low, why)) => {
-            return Err(NotOpened {
-                role: Role::Low,
-                why,
-                low,
-                high,
-            });
-        }
+    let Pair { mut low, high } = match open_pair(low, high, row) {
+        Ok(pair) => pair,
+        Err(refused) => return Err(refused),
     };
-    let high = match open_high(high, row) {
-        Ok(high) => high,
-        Err((high, why)) => {
-            return Err(NotOpened {
-                role: Role::High,
-                why,
-                low: low.into_disk(),
-                high,
-            });
-        }
-    };
-    match check_pair(&mut low, high.removed(), row) {
+    match check_live(&mut low, high.removed(), row) {
         Ok(()) => Ok(Pair { low, high }),
-        Err((role, why)) => Err(NotOpened {
-            role,
+        Err(why) => Err(NotOpened {
+            role: Role::Low,
             why,
             low: low.into_disk(),
             high: high.into_disk(),
@@ -230,7 +170,7 @@ pub fn survey<D: Disk>(row: &SessionRow, old: Trio<D>, size: u64) -> Surveyed<D>
     ensures recv { IsKept D.told old.recv result.disks.recv (is_blamed false RecvRole result.end) }
 {
     let Trio { low, high, recv } = old;
-    let mut pair = match open_pair(low, high, row) {
+    let mut pair = match open_live(low, high, row) {
         Ok(pair) => pair,
         Err(back) => {
             return Surveyed {

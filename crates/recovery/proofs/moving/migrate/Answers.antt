@@ -120,7 +120,7 @@ returns-in-Err-write_all g c =
     let j : (E B : ℕ) (live received : List (List ℕ)) → StandFor from E B live received (m.reading old.low) (m.reading old.high) (m.reading old.recv) → m.tells → IsJust m from size k old E B live received = λ E B live received stand told.
     just m from size k old c.requires.from s told E B live received stand in
     let fits : (live received : List (List ℕ)) → length received ≡ k.received → (value_of (m.reading old.recv)).1 ≡ k.end
-        → AreFound from size k.accepted k.removed live received (m.reading old.low) (m.reading old.high) (m.reading old.recv) → m.tells → FitBoth to live received = λ live received count end found told.
+    → AreFound from size k.accepted k.removed live received (m.reading old.low) (m.reading old.high) (m.reading old.recv) → m.tells → FitBoth to live received = λ live received count end found told.
     fit_both from to size k.accepted k.removed live received (m.reading old.low) (m.reading old.high) (m.reading old.recv) c.requires.from found
     (at_old from size k (m.reading mid.low) (m.reading mid.recv) (m.reading old.low) (m.reading old.high) (m.reading old.recv) (λ xs ys. first_unfit to k.removed xs ys ≡ None)
     (said.low.moves.reads told) (said.recv.moves.reads told) (checked.unfit told) live received found count end) in
@@ -185,7 +185,7 @@ returns g c =
     let j : (E B : ℕ) (live received : List (List ℕ)) → StandFor from E B live received (m.reading old.low) (m.reading old.high) (m.reading old.recv) → m.tells → IsJust m from size k old E B live received = λ E B live received stand told.
     just m from size k old c.requires.from s told E B live received stand in
     let fits : (live received : List (List ℕ)) → length received ≡ k.received → (value_of (m.reading old.recv)).1 ≡ k.end
-        → AreFound from size k.accepted k.removed live received (m.reading old.low) (m.reading old.high) (m.reading old.recv) → m.tells → FitBoth to live received = λ live received count end found told.
+    → AreFound from size k.accepted k.removed live received (m.reading old.low) (m.reading old.high) (m.reading old.recv) → m.tells → FitBoth to live received = λ live received count end found told.
     fit_both from to size k.accepted k.removed live received (m.reading old.low) (m.reading old.high) (m.reading old.recv) c.requires.from found
     (at_old from size k (m.reading mid.low) (m.reading mid.recv) (m.reading old.low) (m.reading old.high) (m.reading old.recv) (λ xs ys. first_unfit to k.removed xs ys ≡ None)
     (said.low.moves.reads told) (said.recv.moves.reads told) (checked.unfit told) live received found count end) in

@@ -12,7 +12,7 @@ use Rattle.recovery.specs.Refusals.{or_else, told_of}
 use Rattle.recovery.specs.declared.trio.MoveFault.{MoveFault}
 use Rattle.recovery.specs.Moves.{too_long, small, fault_of, first_unfit}
 use Rattle.recovery.specs.declared.why.Why.{Why}
-use Rattle.recovery.specs.declared.why.Why.TheVariants.{TooLong}
+use Rattle.recovery.specs.declared.why.Why.TheVariants.{TooLong, Small}
 use Rattle.recovery.proofs.Slots.{slot_length}
 use Rattle.recovery.proofs.Walk.{rest_length, rest_at}
 use Rattle.recovery.proofs.Words.{length_at-agree}
@@ -83,6 +83,10 @@ pick_short to n l x rest le is = let no : nat_lt to.message l ≡ false = grind 
 
 pub none_small : (to : SessionRow) (held : ℕ) → held ≤ to.capacity → fault_of false (told_of Low (small to held)) ≡ None
 none_small to held le = let no : nat_lt to.capacity held ≡ false = grind (arith, le) in rw (no) refl
+
+-- too many messages
+pub comes_now : (to : SessionRow) (held : ℕ) (b : Option MoveFault) → to.capacity < held → or_else (fault_of false (told_of Low (small to held))) b ≡ Some (record { new = false; role = Low; why = Small held to.capacity })
+comes_now to held b more = let yes : nat_lt to.capacity held ≡ true = grind (arith, more) in rw (yes) refl
 
 -- nothing is refused
 pub fits_all : (to : SessionRow) (B : ℕ) (live received : List (List ℕ)) → length live ≤ to.capacity → too_long to 0 received ≡ None → too_long to (length received) (drop (length received - B) live) ≡ None

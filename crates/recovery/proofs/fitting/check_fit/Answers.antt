@@ -1,19 +1,43 @@
 use Rattle.std.proofs.Common.{◌≡◌, ◌∙◌, ◌-◌, ℕ, List, ap, refl, sym, subst, arith, true, false, drop, length, Err, Some, None, Option}
+use Rattle.std.proofs.lemmas.Bool.{false≢true}
 use Rattle.std.proofs.lemmas.Result.{err_from_is_err_and}
 use Rattle.disk_model.specs.declared.name.Role.TheVariants.{Low, High, Recv}
 use Rattle.stable_buffer.specs.Register.{value_of}
 use Rattle.stable_buffer.specs.Stands.{LowStands}
 use Rattle.stable_buffer.specs.Log.{RecvStands}
 use Rattle.recovery.specs.Calls.{is_device}
-use Rattle.recovery.specs.Moves.{disk_of, fault_of, first_unfit, too_long}
+use Rattle.recovery.specs.Moves.{IsKept, is_blamed, disk_of, fault_of, first_unfit, too_long}
 use Rattle.recovery.specs.Refusals.{told_of}
+use Rattle.recovery.specs.declared.trio.MoveFault.{MoveFault}
 use Rattle.recovery.specs.declared.trio.Trio.{Trio}
 use Rattle.recovery.specs.declared.why.Why.{Why}
-use Rattle.recovery.specs.declared.why.Why.TheVariants.{Device}
+use Rattle.recovery.specs.declared.why.Why.TheVariants.{Device, Small}
 use Rattle.recovery.proofs.Blamed.{apart_kept}
 use Rattle.recovery.proofs.Unwritten.{kept_still}
-use Rattle.recovery.proofs.Unfit.{fits_all, none_small, comes_second, comes_third, records_end}
+use Rattle.recovery.proofs.Unfit.{comes_now, fits_all, none_small, comes_second, comes_third, records_end}
 use Rattle.recovery.proofs.fitting.check_fit.Goals as goal
+
+pub returns-then-held-to : goal.returns-then-held-to
+returns-then-held-to g c =
+    let m = g.D.Disk.told in
+    let k = c.args.counts.now in
+    let to = c.args.to.now in
+    let old = c.args.old.now in
+    let made = c.old_fault.ensures in
+    let f = c.old_fault.result in
+    let fine : is_device f.why ≡ false = ap (λ (e : MoveFault). is_device e.why) made in
+    let failed = λ (broken : is_device f.why ≡ true). false≢true (sym fine ∙ broken) in
+    record {
+      room = tt;
+      fine = tt;
+      exact = λ _ told live received count end lows recvs.
+          let held : k.accepted - k.removed ≡ length live = omega (arith, lows.count) in
+          comes_now to (length live) _ (omega (arith, held, c.if-held-to.true)) ∙ (λ i. Some (record { new = false; role = Low; why = Small (sym held i) to.capacity })) ∙ ap Some (sym made);
+      device = λ broken. elim (failed broken) [ ];
+      low = subst (λ (e : MoveFault). IsKept m old.low old.low (is_blamed {T = ℕ} false Low (Err e))) (sym made) (kept_still m old.low);
+      high = subst (λ (e : MoveFault). IsKept m old.high old.high (is_blamed {T = ℕ} false High (Err e))) (sym made) (kept_still m old.high);
+      recv = subst (λ (e : MoveFault). IsKept m old.recv old.recv (is_blamed {T = ℕ} false Recv (Err e))) (sym made) (kept_still m old.recv);
+    }
 
 pub returns-in_err-check_records : goal.returns-in_err-check_records
 returns-in_err-check_records g c =

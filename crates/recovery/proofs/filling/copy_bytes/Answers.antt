@@ -1,4 +1,6 @@
-use Rattle.std.proofs.Common.{◌≡◌, ◌+◌, ◌≤◌, List, ℕ, false, length, take, drop, refl, ap, subst, arith, length-drop}
+use Rattle.std.proofs.Common.{true, Err, ◌∙◌, ◌≡◌, ◌+◌, ◌≤◌, List, ℕ, false, length, take, drop, refl, ap, subst, arith, length-drop}
+use Rattle.std.proofs.lemmas.Bool.{false≢true}
+use Rattle.std.proofs.lemmas.Result.{err_from_is_err_and}
 use Rattle.std.proofs.lemmas.List.{length-take-le}
 use Rattle.disk_model.specs.Disk.{IsWritten}
 use Rattle.disk_model.specs.Ranges.{holds_length}
@@ -7,9 +9,35 @@ use Rattle.recovery.proofs.Surveys.{kept_after}
 use Rattle.recovery.proofs.Fillings.{piece_more}
 use Rattle.recovery.proofs.filling.copy_bytes.Goals as goal
 
-pub returns-in_err-copy_piece-clause-moves : goal.returns-in_err-copy_piece-clause-moves
-returns-in_err-copy_piece-clause-moves g c =
-    kept_first g.D.Disk.told c.args.to (c.args.to + c.loop-done.done) _ _ _ _ (omega arith) c.loop-done.invariant.moves c.copy_piece.ensures.moves
+pub returns-in_err-copy_piece : goal.returns-in_err-copy_piece
+returns-in_err-copy_piece g c =
+    let m = g.D.Disk.told in
+    let v = c.loop-done.invariant in
+    let e = c.in_err-copy_piece.ensures in
+    let (fault, was, same) = err_from_is_err_and c.from_residual.result c.from_residual.ensures.1 in
+    let is = was ∙ ap (λ d. Err d) same in
+    record {
+      written = rw (is) tt;
+      moves = kept_first m c.args.to (c.args.to + c.loop-done.done) _ _ _ _ (omega arith) v.moves c.copy_piece.ensures.moves;
+      kept = rw (is) (kept_after m _ _ _ _ v.kept e.kept);
+      counted = rw (is) (record { counts = omega (arith, v.counts, e.counted.counts); rose = λ failed. let up = e.counted.rose failed in omega (arith, v.counts, up) });
+      one = rw (is) e.one;
+    }
+
+pub returns : goal.returns
+returns g c =
+    let m = g.D.Disk.told in
+    let v = c.loop-done.invariant in
+    record {
+      written = λ told.
+          let src = m.reading c.args.source.now in
+          let done : c.loop-done.done ≡ c.args.count = omega (arith, v.below, c.loop-done-test.false) in
+          subst (λ n. IsWritten (m.reading c.args.target.now) c.args.to (take n (drop c.args.at src)) (m.reading c.loop-done.target)) done (v.written told);
+      moves = v.moves;
+      kept = v.kept;
+      counted = record { counts = v.counts; rose = λ failed. elim (false≢true failed) [ ] };
+      one = tt;
+    }
 
 pub loop-done-preserved : goal.loop-done-preserved
 loop-done-preserved g c =

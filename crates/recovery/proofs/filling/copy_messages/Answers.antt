@@ -1,4 +1,6 @@
-use Rattle.std.proofs.Common.{◌≡◌, inl, inr, ◌+◌, ◌-◌, ◌<◌, ◌≤◌, List, [], ℕ, false, length, get_or, sym, subst, arith}
+use Rattle.std.proofs.Common.{true, Err, ap, ◌∙◌, ◌≡◌, inl, inr, ◌+◌, ◌-◌, ◌<◌, ◌≤◌, List, [], ℕ, false, length, get_or, sym, subst, arith}
+use Rattle.std.proofs.lemmas.Bool.{false≢true}
+use Rattle.std.proofs.lemmas.Result.{err_from_is_err_and}
 use Rattle.std.proofs.lemmas.Bool.{cases_lt}
 use Rattle.std.proofs.lemmas.List.Elements.{All-get_or}
 use Rattle.stable_buffer.specs.Stands.{InSlot}
@@ -6,8 +8,34 @@ use Rattle.recovery.proofs.Surveys.{kept_after}
 use Rattle.recovery.proofs.Fillings.{first_again}
 use Rattle.recovery.proofs.filling.copy_messages.Goals as goal
 
-pub returns-in_err-copy_message-clause-moves : goal.returns-in_err-copy_message-clause-moves
-returns-in_err-copy_message-clause-moves g c = first_again g.D.Disk.told 80 _ _ _ c.loop-n.invariant.moves c.copy_message.ensures.moves
+pub returns-in_err-copy_message : goal.returns-in_err-copy_message
+returns-in_err-copy_message g c =
+    let m = g.D.Disk.told in
+    let v = c.loop-n.invariant in
+    let e = c.in_err-copy_message.ensures in
+    let (fault, was, same) = err_from_is_err_and c.from_residual.result c.from_residual.ensures.1 in
+    let is = was ∙ ap (λ d. Err d) same in
+    record {
+      copied = rw (is) tt;
+      size = rw (is) tt;
+      moves = first_again m 80 _ _ _ v.moves c.copy_message.ensures.moves;
+      kept = rw (is) (kept_after m _ _ _ _ v.kept e.kept);
+      counted = rw (is) (record { counts = omega (arith, v.counts, e.counted.counts); rose = λ failed. let up = e.counted.rose failed in omega (arith, v.counts, up) });
+      one = rw (is) e.one;
+    }
+
+pub returns : goal.returns
+returns g c =
+    let m = g.D.Disk.told in
+    let v = c.loop-n.invariant in
+    record {
+      copied = λ told live s short i lt. v.copied told live s short i (omega (arith, lt, s.count, v.above, c.loop-n-test.false));
+      size = v.size;
+      moves = v.moves;
+      kept = v.kept;
+      counted = record { counts = v.counts; rose = λ failed. elim (false≢true failed) [ ] };
+      one = tt;
+    }
 
 pub loop-n-preserved : goal.loop-n-preserved
 loop-n-preserved g c =

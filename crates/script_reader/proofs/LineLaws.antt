@@ -15,7 +15,7 @@ use Rattle.script_reader.specs.declared.line.ToldFeedback.{ToldFeedback}
 use Rattle.script_reader.specs.declared.line.ToldFeedback.TheVariants.{Quiet, Full, Pair}
 use Rattle.script_reader.specs.Grammar.{held_field, outcome_field, IsFeedback, spaced, row_fields, IsArriving, HasFields, IsSkipped, IsLine}
 use Rattle.script_reader.specs.Lawful.{IsLawfulArriving, IsLawfulFeedback, IsLawfulLine}
-use Rattle.script_reader.specs.Parsing.{session_of, low_session_of, coarse_of, look_of, told_of, gone_of, high_of, carry_of, return_of, done_of, restart_of, receiver_restart_of, stepped_of, step_of, line_of, is_skipped, line_at}
+use Rattle.script_reader.specs.Parsing.{session_of, low_session_of, coarse_of, look_of, told_of, gone_of, high_of, carry_of, return_of, done_of, restart_of, receiver_restart_of, stepped_of, numbered_step_of, plain_step_of, step_of, line_of, is_skipped, line_at}
 use Rattle.script_reader.proofs.Splits.{split_joined}
 use Rattle.script_reader.proofs.FieldChains.{chosen}
 use Rattle.script_reader.proofs.FreeFields.{free_text, free_word, free_decimal}
@@ -34,17 +34,17 @@ by_word w text fields line here later e same other =
     ]
 
 step_takes : (w : List ℕ) (fields : List (List ℕ)) (line : Line) → step_of w fields ≡ Some line → HasFields line (w ∷ fields)
-unfolding step_of
+unfolding step_of plain_step_of numbered_step_of
 step_takes w fields line e =
     by_word w (codes "look") fields line (look_of fields) _ e (look_takes fields line) (λ e.
     by_word w (codes "told") fields line (told_of fields) _ e (told_takes fields line) (λ e.
     by_word w (codes "gone") fields line (gone_of fields) _ e (gone_takes fields line) (λ e.
     by_word w (codes "high") fields line (high_of fields) _ e (high_takes fields line) (λ e.
+    by_word w (codes "restart") fields line (restart_of fields) _ e (restart_takes fields line) (λ e.
+    by_word w (codes "receiver-restart") fields line (receiver_restart_of fields) _ e (receiver_restart_takes fields line) (λ e.
     by_word w (codes "carry") fields line (carry_of fields) _ e (carry_takes fields line) (λ e.
     by_word w (codes "return") fields line (return_of fields) _ e (return_takes fields line) (λ e.
     by_word w (codes "done") fields line (done_of fields) _ e (done_takes fields line) (λ e.
-    by_word w (codes "restart") fields line (restart_of fields) _ e (restart_takes fields line) (λ e.
-    by_word w (codes "receiver-restart") fields line (receiver_restart_of fields) _ e (receiver_restart_takes fields line) (λ e.
     by_word w (codes "step") fields line (stepped_of fields) None e (stepped_takes fields line) (λ e. cc))))))))))
 
 line_takes : (fields : List (List ℕ)) (line : Line) → line_of fields ≡ Some line → HasFields line fields
@@ -56,7 +56,7 @@ line_takes (w ∷ fields) line e =
     by_word w (codes "coarse") fields line (coarse_of fields) _ e (coarse_takes fields line) (step_takes w fields line)))
 
 line_put : (line : Line) (fields : List (List ℕ)) → HasFields line fields → line_of fields ≡ Some line
-unfolding line_of step_of
+unfolding line_of step_of plain_step_of numbered_step_of
 line_put Skip fields h = absurd h
 line_put (Session row) fields h = rw h.1 (session_put row h.0)
 line_put (LowSession row next held) fields h = rw h.2 (low_session_put row next held h.0 h.1)

@@ -234,20 +234,30 @@ done_of fields = do
   time ← field_at (number (10 ^ 9 + 1)) moment.1
   at_end (Done session.0 moment.0 time.0) time.1
 
+-- a line of a session, a moment or none, and one number
+unfoldable pub numbered_step_of : List ℕ → List (List ℕ) → Option Line
+numbered_step_of word fields =
+    if bytes_eq word (codes "carry") then carry_of fields
+    else if bytes_eq word (codes "return") then return_of fields
+    else if bytes_eq word (codes "done") then done_of fields
+    else if bytes_eq word (codes "step") then stepped_of fields
+    else None
+
+-- a line of a session and a moment, or of one number more
+unfoldable pub plain_step_of : List ℕ → List (List ℕ) → Option Line
+plain_step_of word fields =
+    if bytes_eq word (codes "gone") then gone_of fields
+    else if bytes_eq word (codes "high") then high_of fields
+    else if bytes_eq word (codes "restart") then restart_of fields
+    else if bytes_eq word (codes "receiver-restart") then receiver_restart_of fields
+    else numbered_step_of word fields
+
 -- a line of a session that has begun
 unfoldable pub step_of : List ℕ → List (List ℕ) → Option Line
 step_of word fields =
     if bytes_eq word (codes "look") then look_of fields
     else if bytes_eq word (codes "told") then told_of fields
-    else if bytes_eq word (codes "gone") then gone_of fields
-    else if bytes_eq word (codes "high") then high_of fields
-    else if bytes_eq word (codes "carry") then carry_of fields
-    else if bytes_eq word (codes "return") then return_of fields
-    else if bytes_eq word (codes "done") then done_of fields
-    else if bytes_eq word (codes "restart") then restart_of fields
-    else if bytes_eq word (codes "receiver-restart") then receiver_restart_of fields
-    else if bytes_eq word (codes "step") then stepped_of fields
-    else None
+    else plain_step_of word fields
 
 unfoldable pub line_of : List (List ℕ) → Option Line
 line_of [] = None

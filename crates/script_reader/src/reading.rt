@@ -2,7 +2,7 @@ ghost use Rattle.std.specs.Prelude.{◌≡◌, ℕ, ◌+◌, ◌^◌, List, IfSo
 ghost use Rattle.script_reader.specs.Heads.{arriving_with, line_with, CanHold, CanHoldLine};
 ghost use Rattle.script_reader.specs.Grammar.{IsLine};
 ghost use Rattle.script_reader.specs.Lawful.{IsLawfulLine};
-ghost use Rattle.script_reader.specs.Parsing.{Reads, field_at, number, row_at, session_of, low_session_of, coarse_of, hello_of, data_of, raw_of, arriving_of, look_of, told_of, stepped_of, session_and_moment, gone_of, high_of, carry_of, return_of, done_of, restart_of, receiver_restart_of, step_of, line_of, line_at};
+ghost use Rattle.script_reader.specs.Parsing.{Reads, field_at, number, row_at, session_of, low_session_of, coarse_of, hello_of, data_of, raw_of, arriving_of, look_of, told_of, stepped_of, session_and_moment, gone_of, high_of, carry_of, return_of, done_of, restart_of, receiver_restart_of, numbered_step_of, plain_step_of, step_of, line_of, line_at};
 
 use crate::body::Body;
 use crate::fields::Fields;
@@ -87,12 +87,36 @@ fn read_step(word: &[u8], fields: &mut Fields, body: &mut Body) -> Option<LineHe
     if word == b"told".as_slice() {
         return read_told(fields, body);
     }
+    read_plain_step(word, fields)
+}
+
+/// As `read_step`, of a line that comes without bytes.
+#[tactic(auto, unfolding(crate::specs::Parsing::plain_step_of))]
+fn read_plain_step(word: &[u8], fields: &mut Fields) -> Option<LineHead>
+    ensures value { (bytes : List ℕ) → option_map (line_with bytes) result ≡ plain_step_of word.now fields.old }
+    ensures room { (bytes : List ℕ) → IfSome result (λ it. CanHoldLine it bytes) }
+{
     if word == b"gone".as_slice() {
         return read_gone(fields);
     }
     if word == b"high".as_slice() {
         return read_high(fields);
     }
+    if word == b"restart".as_slice() {
+        return read_restart(fields);
+    }
+    if word == b"receiver-restart".as_slice() {
+        return read_receiver_restart(fields);
+    }
+    read_numbered_step(word, fields)
+}
+
+/// As `read_plain_step`, of a line of a session and a number, most with a moment.
+#[tactic(auto, unfolding(crate::specs::Parsing::numbered_step_of))]
+fn read_numbered_step(word: &[u8], fields: &mut Fields) -> Option<LineHead>
+    ensures value { (bytes : List ℕ) → option_map (line_with bytes) result ≡ numbered_step_of word.now fields.old }
+    ensures room { (bytes : List ℕ) → IfSome result (λ it. CanHoldLine it bytes) }
+{
     if word == b"carry".as_slice() {
         return read_carry(fields);
     }
@@ -101,12 +125,6 @@ fn read_step(word: &[u8], fields: &mut Fields, body: &mut Body) -> Option<LineHe
     }
     if word == b"done".as_slice() {
         return read_done(fields);
-    }
-    if word == b"restart".as_slice() {
-        return read_restart(fields);
-    }
-    if word == b"receiver-restart".as_slice() {
-        return read_receiver_restart(fields);
     }
     if word == b"step".as_slice() {
         return read_stepped(fields);

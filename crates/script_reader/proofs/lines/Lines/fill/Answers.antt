@@ -1,4 +1,4 @@
-use Rattle.std.proofs.Common.{◌≡◌, ◌+◌, ◌-◌, ◌++◌, ◌≤◌, List, ℕ, length, append-nil, take, drop, ap, ◌∙◌, arith}
+use Rattle.std.proofs.Common.{◌≡◌, ◌+◌, ◌-◌, ◌++◌, ◌≤◌, List, ℕ, length, append-nil, take, drop, ap, ◌∙◌, arith, length-append, length-take}
 use Rattle.std.proofs.lemmas.List.{length-take-le}
 use borrow.Rule.Slice.PartMut.{put_mid}
 use Rattle.script_reader.proofs.LineEnds.{held_more, Keeps-moved}
@@ -28,3 +28,18 @@ returns-clause-same g c =
     let s = c.self.inside in
     let grown = grown_to s.cells c.rotate_left.new.self c.read.new.into s.start s.end c.in_ok-count.count c.rotate_left.ensures.after (omega arith) (omega (arith, c.self.told)) (omega (arith, c.in_ok-count.ensures.bound)) in
     λ none. rw (← c.self.view_is) (grown ∙ ap (λ n. take (s.end - s.start) (drop s.start s.cells) ++ take n c.read.new.into) none ∙ append-nil (take (s.end - s.start) (drop s.start s.cells)))
+
+pub returns-clause-grown : goal.returns-clause-grown
+returns-clause-grown g c =
+    let s = c.self.inside in
+    let few : c.in_ok-count.count ≤ length c.read.new.into = omega (arith, c.in_ok-count.ensures.bound) in
+    let grown = grown_to s.cells c.rotate_left.new.self c.read.new.into s.start s.end c.in_ok-count.count c.rotate_left.ensures.after (omega arith) (omega (arith, c.self.told)) few in
+    rw (← c.self.view_is) (ap length grown ∙ length-append _ _ ∙ ap (λ n. length (take (s.end - s.start) (drop s.start s.cells)) + n) (length-take-le _ _ few))
+
+pub returns-clause-room : goal.returns-clause-room
+returns-clause-room g c =
+    omega (arith, c.in_ok-count.ensures.bound, length-take (c.self.inside.end - c.self.inside.start + c.in_ok-count.count - 0) (put_mid (c.self.inside.end - c.self.inside.start) (4096 - (c.self.inside.end - c.self.inside.start)) c.rotate_left.new.self c.read.new.into))
+
+pub returns-in_err-count-clause-room : goal.returns-in_err-count-clause-room
+returns-in_err-count-clause-room g c =
+    omega (arith, length-take (c.self.inside.end - c.self.inside.start - 0) (put_mid (c.self.inside.end - c.self.inside.start) (4096 - (c.self.inside.end - c.self.inside.start)) c.rotate_left.new.self c.read.new.into))

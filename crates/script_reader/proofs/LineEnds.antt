@@ -126,6 +126,12 @@ Keeps-moved held bs None b h = tt
 Keeps-moved held bs (Some xs) None h = absurd h
 Keeps-moved held bs (Some xs) (Some ys) h = append_assoc held bs ys ∙ ap (λ z. held ++ z) (sym h)
 
+-- what is held stays before what is left of the source
+pub Keeps-held : (held : List ℕ) (a b : Option (List ℕ)) → Keeps a b → Keeps (prepend_known held a) (prepend_known held b)
+Keeps-held held None b h = tt
+Keeps-held held (Some xs) None h = absurd h
+Keeps-held held (Some xs) (Some ys) h = ap (λ z. held ++ z) h
+
 pub Keeps-then : (a b c : Option (List ℕ)) → Keeps a b → Keeps b c → Keeps a c
 Keeps-then None b c p q = tt
 Keeps-then (Some x) None c p q = absurd p

@@ -1,7 +1,7 @@
 use Rattle.std.proofs.Common.{◌≡◌, ◌+◌, ◌-◌, ◌++◌, ◌≤◌, List, ℕ, length, append-nil, take, drop, ap, ◌∙◌, arith, length-append, length-take}
 use Rattle.std.proofs.lemmas.List.{length-take-le}
 use borrow.Rule.Slice.PartMut.{put_mid}
-use Rattle.script_reader.proofs.LineEnds.{held_more, Keeps-moved}
+use Rattle.script_reader.proofs.LineEnds.{held_more, Keeps-moved, Keeps-held}
 use Rattle.script_reader.proofs.lines.Lines.fill.Goals as goal
 
 grown_to : (cells turned into : List ℕ) (start end count : ℕ) → turned ≡ drop start cells ++ take start cells → start ≤ end → end ≤ length cells → count ≤ length into
@@ -43,3 +43,15 @@ returns-clause-room g c =
 pub returns-in_err-count-clause-room : goal.returns-in_err-count-clause-room
 returns-in_err-count-clause-room g c =
     omega (arith, length-take (c.self.inside.end - c.self.inside.start - 0) (put_mid (c.self.inside.end - c.self.inside.start) (4096 - (c.self.inside.end - c.self.inside.start)) c.rotate_left.new.self c.read.new.into))
+
+still_held : (cells turned into : List ℕ) (start end : ℕ) → turned ≡ drop start cells ++ take start cells → start ≤ end → end ≤ length cells
+    → take (end - start - 0) (put_mid (end - start) (4096 - (end - start)) turned into) ≡ take (end - start) (drop start cells)
+still_held cells turned into start end e order fits =
+    let zero : end - start - 0 ≡ end - start + 0 - 0 = omega arith in
+    rw zero (grown_to cells turned into start end 0 e order fits (omega arith) ∙ append-nil (take (end - start) (drop start cells)))
+
+pub returns-in_err-count-clause-kept : goal.returns-in_err-count-clause-kept
+returns-in_err-count-clause-kept g c =
+    let s = c.self.inside in
+    let still = still_held s.cells c.rotate_left.new.self c.read.new.into s.start s.end c.rotate_left.ensures.after (omega arith) (omega (arith, c.self.told)) in
+    rw (← c.self.view_is, still) (Keeps-held (take (s.end - s.start) (drop s.start s.cells)) _ _ c.in_err-count.ensures.bytes)

@@ -1,5 +1,4 @@
 pub mod Commas
-pub mod More
 pub mod Plain
 pub mod PlainWalks
 pub mod Sole

@@ -79,37 +79,44 @@ fn bare<'a>(alloc: Global) -> Program<'a>
         .disable_help_subcommand(true)
 }
 
-/// The program with one more command. What is handed in as it is made, so that it is let go in one place
-/// where there is no memory for it.
+/// The program with one more command. Both are handed in as they are made, so that they are let go in one
+/// place where there is no memory for them.
 fn with<'a>(
-    above: Program<'a>,
+    above: Result<Program<'a>, AllocError>,
     command: Result<Program<'a>, AllocError>,
 ) -> Result<Program<'a>, AllocError>
     requires { IfOk command (λ c. (out-Command c).has_globals ≡ false) }
-    ensures { (leaf : App) → IfOk command.entry (λ c. app_of c ≡ leaf)
-        → IfOk result (λ all. app_of all ≡ with_subcommand (app_of above.entry) leaf.top) }
+    ensures { (known leaf : App) → IfOk above.entry (λ c. app_of c ≡ known) → IfOk command.entry (λ c. app_of c ≡ leaf)
+        → IfOk result (λ all. app_of all ≡ with_subcommand known leaf.top) }
 {
+    let above = above?;
     above.subcommand(command?)
 }
 
 /// With the commands over scripts and generated messages, and those that make and show disks.
-fn with_scripts<'a>(alloc: Global, above: Program<'a>) -> Result<Program<'a>, AllocError>
-    ensures { IfOk result (λ all. app_of all ≡ with_scripts (app_of above.entry)) }
+fn with_scripts<'a>(
+    alloc: Global,
+    above: Result<Program<'a>, AllocError>,
+) -> Result<Program<'a>, AllocError>
+    ensures { (known : App) → IfOk above.entry (λ c. app_of c ≡ known) → IfOk result (λ all. app_of all ≡ with_scripts known) }
 {
-    let all = with(above, Ok(plain(alloc, "replay")))?;
-    let all = with(all, with_two(alloc, "format", "TABLE", "S"))?;
-    let all = with(all, with_two(alloc, "show", "TABLE", "S"))?;
-    let all = with(all, with_two(alloc, "exercise", "SEED", "COUNT"))?;
+    let all = with(above, Ok(plain(alloc, "replay")));
+    let all = with(all, with_two(alloc, "format", "TABLE", "S"));
+    let all = with(all, with_two(alloc, "show", "TABLE", "S"));
+    let all = with(all, with_two(alloc, "exercise", "SEED", "COUNT"));
     with(all, with_three(alloc, "race", "SEED", "COUNT", "TIMES"))
 }
 
 /// With the commands of a relay and its disks.
-fn with_relays<'a>(alloc: Global, above: Program<'a>) -> Result<Program<'a>, AllocError>
-    ensures { IfOk result (λ all. app_of all ≡ with_relays (app_of above.entry)) }
+fn with_relays<'a>(
+    alloc: Global,
+    above: Result<Program<'a>, AllocError>,
+) -> Result<Program<'a>, AllocError>
+    ensures { (known : App) → IfOk above.entry (λ c. app_of c ≡ known) → IfOk result (λ all. app_of all ≡ with_relays known) }
 {
-    let all = with(above, with_three(alloc, "serve", "TABLE", "S", "LOOKS"))?;
-    let all = with(all, with_three(alloc, "receive", "TABLE", "S", "LOOKS"))?;
-    let all = with(all, with_three(alloc, "send", "TABLE", "S", "LOOKS"))?;
+    let all = with(above, with_three(alloc, "serve", "TABLE", "S", "LOOKS"));
+    let all = with(all, with_three(alloc, "receive", "TABLE", "S", "LOOKS"));
+    let all = with(all, with_three(alloc, "send", "TABLE", "S", "LOOKS"));
     with(
         all,
         with_four(alloc, "migrate", "TABLE", "S", "NEWTABLE", "T"),
@@ -117,13 +124,16 @@ fn with_relays<'a>(alloc: Global, above: Program<'a>) -> Result<Program<'a>, All
 }
 
 /// With the commands over files, records and chains.
-fn with_files<'a>(alloc: Global, above: Program<'a>) -> Result<Program<'a>, AllocError>
-    ensures { IfOk result (λ all. app_of all ≡ with_files (app_of above.entry)) }
+fn with_files<'a>(
+    alloc: Global,
+    above: Result<Program<'a>, AllocError>,
+) -> Result<Program<'a>, AllocError>
+    ensures { (known : App) → IfOk above.entry (λ c. app_of c ≡ known) → IfOk result (λ all. app_of all ≡ with_files known) }
 {
-    let all = with(above, with_two(alloc, "wrap", "TABLE", "S"))?;
-    let all = with(all, with_two(alloc, "unwrap", "TABLE", "S"))?;
-    let all = with(all, Ok(plain(alloc, "audit")))?;
-    let all = with(all, Ok(plain(alloc, "compare")))?;
+    let all = with(above, with_two(alloc, "wrap", "TABLE", "S"));
+    let all = with(all, with_two(alloc, "unwrap", "TABLE", "S"));
+    let all = with(all, Ok(plain(alloc, "audit")));
+    let all = with(all, Ok(plain(alloc, "compare")));
     with(all, Ok(plain(alloc, "chain")))
 }
 
@@ -131,7 +141,7 @@ fn with_files<'a>(alloc: Global, above: Program<'a>) -> Result<Program<'a>, Allo
 pub(crate) fn program<'a>(alloc: Global) -> Result<Program<'a>, AllocError>
     ensures { IfOk result (λ c. app_of c ≡ program) }
 {
-    let scripts = with_scripts(alloc, bare(alloc))?;
-    let relays = with_relays(alloc, scripts)?;
+    let scripts = with_scripts(alloc, Ok(bare(alloc)));
+    let relays = with_relays(alloc, scripts);
     with_files(alloc, relays)
 }

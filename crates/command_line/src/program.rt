@@ -89,8 +89,14 @@ fn with<'a>(
     ensures { (known leaf : App) → IfOk above.entry (λ c. app_of c ≡ known) → IfOk command.entry (λ c. app_of c ≡ leaf)
         → IfOk result (λ all. app_of all ≡ with_subcommand known leaf.top) }
 {
-    let above = above?;
-    above.subcommand(command?)
+    // By cases, since what `?` makes on its way is dear to prove at values as large as these.
+    match above {
+        Ok(above) => match command {
+            Ok(command) => above.subcommand(command),
+            Err(error) => Err(error),
+        },
+        Err(error) => Err(error),
+    }
 }
 
 /// With the commands over scripts and generated messages, and those that make and show disks.

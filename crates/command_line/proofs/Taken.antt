@@ -10,7 +10,7 @@ use Rattle.clap.specs.declared.builder.value_parser.Reading.TheVariants.{AsWritt
 use Rattle.clap.proofs.OnLiterals.{clap_on_literals}
 use Rattle.command_line.specs.Commands.{IsSession, IsLooking, AreWordsOf}
 use Rattle.command_line.specs.Found.{GivesSession, GivesLooks, GivesNewSession, GivesIn}
-use Rattle.command_line.specs.Program.{bare, leaf_four, program, value_rule}
+use Rattle.command_line.specs.Program.{bare, leaf_two, leaf_three, leaf_four, program, value_rule}
 use Rattle.command_line.specs.declared.command.Command.{Command}
 use Rattle.command_line.specs.declared.command.Command.TheVariants.{Replay, Format, Show, Exercise, Race, Serve, Receive, Send, Migrate, Wrap, Unwrap, Audit, Compare, Chain}
 use Rattle.command_line.proofs.PlainWalks.{behind, walks_on, passes_on, passed}
@@ -57,13 +57,23 @@ session_given t n h =
     let q = plain_decimal n (omega (arith, h.1)) in
     rw (p.whole, q.whole, table_rows p.first q.first p.rest q.rest p.undashed q.undashed) (refl, refl)
 
+-- what clap makes of a command, by its name: that it takes the words is shown once for all that have the same values
+
+abbrev session_shape : Text → Shape
+session_shape name = built_leaf (inherited bare.top (leaf_two name (codes "TABLE") (codes "S")).top)
+
+session_passes : (name : Text) (x y : ℕ) (xs ys : Text) → (x == 45) ≡ false → (y == 45) ≡ false
+    → level_passes (session_shape name) [] nothing_held ((x ∷ xs) ∷ (y ∷ ys) ∷ []) false ≡ true
+unfolding clap_on_literals
+session_passes name x y xs ys h k = simp (h, k)
+
 format_met : (t s : Text) → subcommand_of program (codes "format" ∷ t ∷ s ∷ []) ≡ Some (codes "format", rows_after table_rules [] (t ∷ s ∷ []))
 unfolding clap_on_literals
 format_met t s = refl
 
 format_taken : (x y : ℕ) (xs ys : Text) → (x == 45) ≡ false → (y == 45) ≡ false → takes program (codes "format" ∷ (x ∷ xs) ∷ (y ∷ ys) ∷ []) ≡ true
 unfolding clap_on_literals
-format_taken x y xs ys h k = simp (h, k)
+format_taken x y xs ys h k = ap (λ b. b && true) (session_passes (codes "format") x y xs ys h k)
 
 show_met : (t s : Text) → subcommand_of program (codes "show" ∷ t ∷ s ∷ []) ≡ Some (codes "show", rows_after table_rules [] (t ∷ s ∷ []))
 unfolding clap_on_literals
@@ -71,7 +81,7 @@ show_met t s = refl
 
 show_taken : (x y : ℕ) (xs ys : Text) → (x == 45) ≡ false → (y == 45) ≡ false → takes program (codes "show" ∷ (x ∷ xs) ∷ (y ∷ ys) ∷ []) ≡ true
 unfolding clap_on_literals
-show_taken x y xs ys h k = simp (h, k)
+show_taken x y xs ys h k = ap (λ b. b && true) (session_passes (codes "show") x y xs ys h k)
 
 wrap_met : (t s : Text) → subcommand_of program (codes "wrap" ∷ t ∷ s ∷ []) ≡ Some (codes "wrap", rows_after table_rules [] (t ∷ s ∷ []))
 unfolding clap_on_literals
@@ -79,7 +89,7 @@ wrap_met t s = refl
 
 wrap_taken : (x y : ℕ) (xs ys : Text) → (x == 45) ≡ false → (y == 45) ≡ false → takes program (codes "wrap" ∷ (x ∷ xs) ∷ (y ∷ ys) ∷ []) ≡ true
 unfolding clap_on_literals
-wrap_taken x y xs ys h k = simp (h, k)
+wrap_taken x y xs ys h k = ap (λ b. b && true) (session_passes (codes "wrap") x y xs ys h k)
 
 unwrap_met : (t s : Text) → subcommand_of program (codes "unwrap" ∷ t ∷ s ∷ []) ≡ Some (codes "unwrap", rows_after table_rules [] (t ∷ s ∷ []))
 unfolding clap_on_literals
@@ -87,7 +97,7 @@ unwrap_met t s = refl
 
 unwrap_taken : (x y : ℕ) (xs ys : Text) → (x == 45) ≡ false → (y == 45) ≡ false → takes program (codes "unwrap" ∷ (x ∷ xs) ∷ (y ∷ ys) ∷ []) ≡ true
 unfolding clap_on_literals
-unwrap_taken x y xs ys h k = simp (h, k)
+unwrap_taken x y xs ys h k = ap (λ b. b && true) (session_passes (codes "unwrap") x y xs ys h k)
 
 -- the two that read records
 
@@ -125,13 +135,21 @@ number_rows : (x y : ℕ) (xs ys : Text) → (x == 45) ≡ false → (y == 45) �
 unfolding clap_on_literals
 number_rows x y xs ys h k = simp (h, k)
 
+abbrev number_shape : Text → Shape
+number_shape name = built_leaf (inherited bare.top (leaf_two name (codes "SEED") (codes "COUNT")).top)
+
+number_passes : (name : Text) (x y : ℕ) (xs ys : Text) → (x == 45) ≡ false → (y == 45) ≡ false
+    → level_passes (number_shape name) [] nothing_held ((x ∷ xs) ∷ (y ∷ ys) ∷ []) false ≡ true
+unfolding clap_on_literals
+number_passes name x y xs ys h k = simp (h, k)
+
 exercise_met : (t s : Text) → subcommand_of program (codes "exercise" ∷ t ∷ s ∷ []) ≡ Some (codes "exercise", rows_after number_rules [] (t ∷ s ∷ []))
 unfolding clap_on_literals
 exercise_met t s = refl
 
 exercise_taken : (x y : ℕ) (xs ys : Text) → (x == 45) ≡ false → (y == 45) ≡ false → takes program (codes "exercise" ∷ (x ∷ xs) ∷ (y ∷ ys) ∷ []) ≡ true
 unfolding clap_on_literals
-exercise_taken x y xs ys h k = simp (h, k)
+exercise_taken x y xs ys h k = ap (λ b. b && true) (number_passes (codes "exercise") x y xs ys h k)
 
 -- a seed, a count and times
 
@@ -143,13 +161,21 @@ race_rows : (x y z : ℕ) (xs ys zs : Text) → (x == 45) ≡ false → (y == 45
 unfolding clap_on_literals
 race_rows x y z xs ys zs h k m = simp (h, k, m)
 
+abbrev race_shape : Text → Shape
+race_shape name = built_leaf (inherited bare.top (leaf_three name (codes "SEED") (codes "COUNT") (codes "TIMES")).top)
+
+race_passes : (name : Text) (x y z : ℕ) (xs ys zs : Text) → (x == 45) ≡ false → (y == 45) ≡ false → (z == 45) ≡ false
+    → level_passes (race_shape name) [] nothing_held ((x ∷ xs) ∷ (y ∷ ys) ∷ (z ∷ zs) ∷ []) false ≡ true
+unfolding clap_on_literals
+race_passes name x y z xs ys zs h k m = simp (h, k, m)
+
 race_met : (t s u : Text) → subcommand_of program (codes "race" ∷ t ∷ s ∷ u ∷ []) ≡ Some (codes "race", rows_after race_rules [] (t ∷ s ∷ u ∷ []))
 unfolding clap_on_literals
 race_met t s u = refl
 
 race_taken : (x y z : ℕ) (xs ys zs : Text) → (x == 45) ≡ false → (y == 45) ≡ false → (z == 45) ≡ false → takes program (codes "race" ∷ (x ∷ xs) ∷ (y ∷ ys) ∷ (z ∷ zs) ∷ []) ≡ true
 unfolding clap_on_literals
-race_taken x y z xs ys zs h k m = simp (h, k, m)
+race_taken x y z xs ys zs h k m = ap (λ b. b && true) (race_passes (codes "race") x y z xs ys zs h k m)
 
 -- a table, a session and looks
 
@@ -177,13 +203,21 @@ looks_given t n k h =
     let r = plain_decimal k (omega (arith, h.3)) in
     rw (p.whole, q.whole, r.whole, looks_rows p.first q.first r.first p.rest q.rest r.rest p.undashed q.undashed r.undashed) (refl, refl, refl)
 
+abbrev looks_shape : Text → Shape
+looks_shape name = built_leaf (inherited bare.top (leaf_three name (codes "TABLE") (codes "S") (codes "LOOKS")).top)
+
+looks_passes : (name : Text) (x y z : ℕ) (xs ys zs : Text) → (x == 45) ≡ false → (y == 45) ≡ false → (z == 45) ≡ false
+    → level_passes (looks_shape name) [] nothing_held ((x ∷ xs) ∷ (y ∷ ys) ∷ (z ∷ zs) ∷ []) false ≡ true
+unfolding clap_on_literals
+looks_passes name x y z xs ys zs h k m = simp (h, k, m)
+
 serve_met : (t s u : Text) → subcommand_of program (codes "serve" ∷ t ∷ s ∷ u ∷ []) ≡ Some (codes "serve", rows_after looks_rules [] (t ∷ s ∷ u ∷ []))
 unfolding clap_on_literals
 serve_met t s u = refl
 
 serve_taken : (x y z : ℕ) (xs ys zs : Text) → (x == 45) ≡ false → (y == 45) ≡ false → (z == 45) ≡ false → takes program (codes "serve" ∷ (x ∷ xs) ∷ (y ∷ ys) ∷ (z ∷ zs) ∷ []) ≡ true
 unfolding clap_on_literals
-serve_taken x y z xs ys zs h k m = simp (h, k, m)
+serve_taken x y z xs ys zs h k m = ap (λ b. b && true) (looks_passes (codes "serve") x y z xs ys zs h k m)
 
 receive_met : (t s u : Text) → subcommand_of program (codes "receive" ∷ t ∷ s ∷ u ∷ []) ≡ Some (codes "receive", rows_after looks_rules [] (t ∷ s ∷ u ∷ []))
 unfolding clap_on_literals
@@ -191,7 +225,7 @@ receive_met t s u = refl
 
 receive_taken : (x y z : ℕ) (xs ys zs : Text) → (x == 45) ≡ false → (y == 45) ≡ false → (z == 45) ≡ false → takes program (codes "receive" ∷ (x ∷ xs) ∷ (y ∷ ys) ∷ (z ∷ zs) ∷ []) ≡ true
 unfolding clap_on_literals
-receive_taken x y z xs ys zs h k m = simp (h, k, m)
+receive_taken x y z xs ys zs h k m = ap (λ b. b && true) (looks_passes (codes "receive") x y z xs ys zs h k m)
 
 send_met : (t s u : Text) → subcommand_of program (codes "send" ∷ t ∷ s ∷ u ∷ []) ≡ Some (codes "send", rows_after looks_rules [] (t ∷ s ∷ u ∷ []))
 unfolding clap_on_literals
@@ -199,7 +233,7 @@ send_met t s u = refl
 
 send_taken : (x y z : ℕ) (xs ys zs : Text) → (x == 45) ≡ false → (y == 45) ≡ false → (z == 45) ≡ false → takes program (codes "send" ∷ (x ∷ xs) ∷ (y ∷ ys) ∷ (z ∷ zs) ∷ []) ≡ true
 unfolding clap_on_literals
-send_taken x y z xs ys zs h k m = simp (h, k, m)
+send_taken x y z xs ys zs h k m = ap (λ b. b && true) (looks_passes (codes "send") x y z xs ys zs h k m)
 
 -- a session of one table and one of another
 

@@ -2,7 +2,7 @@ ghost use Rattle.std.specs.Prelude.{◌≡◌, IfOk, false};
 ghost use Rattle.clap.specs.Words.{app_of};
 ghost use Rattle.clap.specs.Walk.{rule_of};
 ghost use Rattle.clap.specs.declared.builder.command.Command.TheViews.{out-Command};
-ghost use Rattle.clap.specs.Simple.{App, with_subcommand};
+ghost use Rattle.clap.specs.Simple.{App, with_rule, with_subcommand};
 ghost use Rattle.command_line.specs.Program.{value_rule, leaf_none, leaf_two, leaf_three, leaf_four, bare, with_scripts, with_relays, with_files, program};
 
 use clap::{Arg, Command as Program};
@@ -24,6 +24,21 @@ fn plain<'a>(alloc: Global, name: &'a str) -> Program<'a>
     Program::new(alloc, name)
 }
 
+/// A command with one more value. It is handed in as it is made, as in `with`.
+fn with_value<'a>(
+    alloc: Global,
+    command: Result<Program<'a>, AllocError>,
+    id: &'a str,
+) -> Result<Program<'a>, AllocError>
+    ensures app { (known : App) → IfOk command.entry (λ c. app_of c ≡ known) → IfOk result (λ c. app_of c ≡ with_rule known (value_rule id.entry.now)) }
+    ensures local { IfOk command.entry (λ c. (out-Command c).has_globals ≡ false) → IfOk result (λ c. (out-Command c).has_globals ≡ false) }
+{
+    match command {
+        Ok(command) => command.arg(value(alloc, id)),
+        Err(error) => Err(error),
+    }
+}
+
 /// A command of its name and two values.
 fn with_two<'a>(
     alloc: Global,
@@ -34,9 +49,8 @@ fn with_two<'a>(
     ensures app { IfOk result (λ c. app_of c ≡ leaf_two name.entry.now first.entry.now second.entry.now) }
     ensures local { IfOk result (λ c. (out-Command c).has_globals ≡ false) }
 {
-    plain(alloc, name)
-        .arg(value(alloc, first))?
-        .arg(value(alloc, second))
+    let one = with_value(alloc, Ok(plain(alloc, name)), first);
+    with_value(alloc, one, second)
 }
 
 /// A command of its name and three values.
@@ -50,7 +64,8 @@ fn with_three<'a>(
     ensures app { IfOk result (λ c. app_of c ≡ leaf_three name.entry.now first.entry.now second.entry.now third.entry.now) }
     ensures local { IfOk result (λ c. (out-Command c).has_globals ≡ false) }
 {
-    with_two(alloc, name, first, second)?.arg(value(alloc, third))
+    let two = with_two(alloc, name, first, second);
+    with_value(alloc, two, third)
 }
 
 /// A command of its name and four values.
@@ -65,7 +80,8 @@ fn with_four<'a>(
     ensures app { IfOk result (λ c. app_of c ≡ leaf_four name.entry.now first.entry.now second.entry.now third.entry.now fourth.entry.now) }
     ensures local { IfOk result (λ c. (out-Command c).has_globals ≡ false) }
 {
-    with_three(alloc, name, first, second, third)?.arg(value(alloc, fourth))
+    let three = with_three(alloc, name, first, second, third);
+    with_value(alloc, three, fourth)
 }
 
 /// The program, before its commands, without clap's words for help.

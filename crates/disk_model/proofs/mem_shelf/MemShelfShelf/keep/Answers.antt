@@ -1,5 +1,5 @@
-use Rattle.std.proofs.Common.{◌≡◌, ◌∙◌, ◌<◌, ◌∷◌, length, ap, vec_len, vec_capacity, arith}
-use Rattle.disk_model.specs.MemShelf.{without, file_of}
+use Rattle.std.proofs.Common.{◌≡◌, ◌∙◌, ◌<◌, ◌∷◌, Some, option_map, length, ap, sym, vec_len, vec_capacity, arith, rules}
+use Rattle.disk_model.specs.MemShelf.{under, without, file_of}
 use Rattle.disk_model.proofs.Homes.{back, home_back, others_back, fewer_out}
 use Rattle.disk_model.proofs.mem_shelf.MemShelfShelf.keep.Goals as goal
 
@@ -14,6 +14,23 @@ invariant_of-self g c =
     let len = rw c.unwrap.ensures at c.insert.ensures.len in
     let block = c.insert.ensures.in_place free in
     omega (arith, len, block.1.0, less, c.self.invariant)
+
+pub unwrap-requires : goal.unwrap-requires
+unwrap-requires g c =
+    let s = c.args.self.now in
+    let outs = ap (λ s. s.outs) c.self.view_is in
+    let forgot : c.forget.new.outs.items ≡ without c.args.name s.outs = c.forget.ensures ∙ ap (without c.args.name) outs in
+    let fewer = fewer_out g.D.Disk.told s c.args.name c.requires in
+    let less : length c.forget.new.outs.items < length c.self.inside.outs.items = omega (arith, ap length forgot, ap length outs, fewer) in
+    let free : vec_len c.self.inside.disks < vec_capacity c.self.inside.disks = omega (arith, less, c.self.invariant) in
+    c.insert.ensures.succeeds free
+
+pub returns-clause-counted : goal.returns-clause-counted
+returns-clause-counted g c =
+    let s = c.args.self.now in
+    let outs = ap (λ s. s.outs) c.self.view_is in
+    let found : under c.args.name s.outs ≡ Some c.in-Some.out.now.1 = rw (← outs, ← c.deref.ensures.value) (ap (option_map (λ entry. entry.1)) (sym c.in-Some.ensures)) in
+    rw found (search rules)
 
 pub returns-clause-back : goal.returns-clause-back
 returns-clause-back g c =

@@ -113,9 +113,13 @@ impl Lines {
         self.cells.rotate_left(self.start);
         self.end -= self.start;
         self.start = 0;
-        let count = script.read(&mut self.cells[self.end..])?;
-        self.end += count;
-        Ok(count)
+        match script.read(&mut self.cells[self.end..]) {
+            Ok(count) => {
+                self.end += count;
+                Ok(count)
+            }
+            Err(fault) => Err(fault),
+        }
     }
 
     /// Whether a whole line is held, or bytes that no line can begin with: then `next` does not ask

@@ -43,7 +43,10 @@ fn rows_from(alloc: Global, entries: &[Value]) -> Result<Vec<SessionRow>, TableF
 {
     let mut rows = Vec::new(alloc);
     for value in entries {
-        let row = row_in(rows.as_slice(), value)?;
+        let row = match row_in(rows.as_slice(), value) {
+            Ok(row) => row,
+            Err(fault) => return Err(fault),
+        };
         match rows.push(row) {
             Ok(()) => {}
             Err(_) => return Err(TableFault::Memory),

@@ -44,18 +44,27 @@ numbered place members row =
     >>= filled place members Longest
     >>= filled place members Resend
 
+-- a row of the document's id and names
+unfoldable pub named : ℕ → Members → Result SessionRow TableFault
+named place members = do
+  id ← whole_at place Id 0 4294967295 members
+  low ← name_at place Low members
+  high ← name_at place High members
+  Ok (begun id low high)
+
+-- the row with the document's ports, and whether it is coarse
+unfoldable pub ported : ℕ → Members → SessionRow → Result SessionRow TableFault
+ported place members row = do
+  low_port ← whole_at place LowPort 1 65535 members
+  high_port ← whole_at place HighPort 1 65535 members
+  coarse ← truth_at place Coarse members
+  Ok (record row { low_port = low_port; high_port = high_port; coarse = coarse })
+
 -- a row by itself: no other key, then each key in its order, of which the last may be left out
 unfoldable pub row_of : ℕ → Members → Result SessionRow TableFault
 row_of place members =
-    if has_other row_keys members then Err (UnknownKey place) else (do
-      id ← whole_at place Id 0 4294967295 members
-      low ← name_at place Low members
-      high ← name_at place High members
-      row ← numbered place members (begun id low high)
-      low_port ← whole_at place LowPort 1 65535 members
-      high_port ← whole_at place HighPort 1 65535 members
-      coarse ← truth_at place Coarse members
-      Ok (record row { low_port = low_port; high_port = high_port; coarse = coarse }))
+    if has_other row_keys members then Err (UnknownKey place)
+    else named place members >>= numbered place members >>= ported place members
 
 -- an earlier row has this id, or this port
 abbrev pub has_id : List SessionRow → ℕ → Bool

@@ -2,7 +2,7 @@ ghost use Rattle.std.specs.Prelude.{◌≡◌, ◌≢◌, ◌<◌, IfOk};
 ghost use Rattle.std.specs.List.{All};
 ghost use Rattle.pump_frame.specs.Rows.{IsLawfulRow};
 ghost use Rattle.toml.specs.View.{table_view};
-ghost use Rattle.session_table.specs.Rows.{begun, with_number, filled, numbered, row_of, has_id, has_port, placed};
+ghost use Rattle.session_table.specs.Rows.{begun, with_number, filled, numbered, named, ported, row_of, has_id, has_port, placed};
 ghost use Rattle.session_table.specs.Tables.{AreApart};
 
 use crate::TableFault;
@@ -100,6 +100,37 @@ fn numbered(place: u32, members: &Members, row: SessionRow) -> Result<SessionRow
     filled(place, members, RowKey::Resend, row)
 }
 
+// A row of the document's id and names.
+#[tactic(auto, unfolding(crate::specs::Rows::named))]
+fn named(place: u32, members: &Members) -> Result<SessionRow, TableFault>
+    ensures value { result ≡ named place (table_view members.now) }
+    ensures lawful { IfOk result IsLawfulRow }
+{
+    let id = whole_at(place, RowKey::Id, 0, u32::MAX, members)?;
+    let low = name_at(place, RowKey::Low, members)?;
+    let high = name_at(place, RowKey::High, members)?;
+    Ok(begun(id, low, high))
+}
+
+// The row with the document's ports, and whether it is coarse.
+#[tactic(auto, unfolding(crate::specs::Rows::ported))]
+fn ported(place: u32, members: &Members, row: SessionRow) -> Result<SessionRow, TableFault>
+    requires { IsLawfulRow row }
+    ensures value { result ≡ ported place (table_view members.now) row }
+    ensures lawful { IfOk result IsLawfulRow }
+    ensures ports { IfOk result (λ row. (0 < row.low_port) × (0 < row.high_port)) }
+{
+    let low_port = port_at(place, RowKey::LowPort, members)?;
+    let high_port = port_at(place, RowKey::HighPort, members)?;
+    let coarse = truth_at(place, RowKey::Coarse, members)?;
+    Ok(SessionRow {
+        low_port,
+        high_port,
+        coarse,
+        ..row
+    })
+}
+
 /// The row at this place of a members, counted from 1, by itself: each key is looked at in turn.
 #[tactic(auto, unfolding(crate::specs::Rows::row_of))]
 pub(crate) fn row_of(place: u32, members: &Members) -> Result<SessionRow, TableFault>
@@ -110,19 +141,9 @@ pub(crate) fn row_of(place: u32, members: &Members) -> Result<SessionRow, TableF
     if has_other(&ROW_KEYS, members) {
         return Err(TableFault::UnknownKey { row: place });
     }
-    let id = whole_at(place, RowKey::Id, 0, u32::MAX, members)?;
-    let low = name_at(place, RowKey::Low, members)?;
-    let high = name_at(place, RowKey::High, members)?;
-    let row = numbered(place, members, begun(id, low, high))?;
-    let low_port = port_at(place, RowKey::LowPort, members)?;
-    let high_port = port_at(place, RowKey::HighPort, members)?;
-    let coarse = truth_at(place, RowKey::Coarse, members)?;
-    Ok(SessionRow {
-        low_port,
-        high_port,
-        coarse,
-        ..row
-    })
+    let row = named(place, members)?;
+    let row = numbered(place, members, row)?;
+    ported(place, members, row)
 }
 
 fn has_id(earlier: &[SessionRow], id: u32) -> bool

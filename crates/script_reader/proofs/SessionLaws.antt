@@ -7,7 +7,7 @@ use Rattle.pump_frame.specs.declared.row.SessionRow.{SessionRow}
 use Rattle.script_reader.specs.declared.line.Line.{Line}
 use Rattle.script_reader.specs.declared.line.Line.TheVariants.{Session, LowSession}
 use Rattle.script_reader.specs.Grammar.{IsRow, row_fields, held_field, IsCount, HasFields}
-use Rattle.script_reader.specs.Parsing.{◌>>=◌, row_at, session_of, choice, at_count, low_session_of}
+use Rattle.script_reader.specs.Parsing.{◌>>=◌, row_behind, row_at, session_of, choice, at_count, low_session_of}
 use Rattle.script_reader.proofs.Splits.{IsFree, AreFree}
 use Rattle.script_reader.proofs.FieldLaws.{choice_takes}
 use Rattle.script_reader.proofs.FieldChains.{bind_some, chosen, take_number, take_name, take_field, number_put, name_put, field_put, end_at}
@@ -16,7 +16,7 @@ use Rattle.script_reader.proofs.FreeFields.{free_text, free_name, free_decimal}
 -- ---- a row ----
 
 row_takes : (fields : List (List ℕ)) (x : SessionRow × List (List ℕ)) → row_at fields ≡ Some x → IsRow x.0 × (fields ≡ row_fields x.0 ++ x.1)
-unfolding row_at
+unfolding row_at row_behind
 row_takes fields x e =
     take_number (2 ^ 32) fields _ x e (λ id fa ha ea e.
     take_number (2 ^ 32) fa _ x e (λ capacity fb hb eb e.
@@ -41,7 +41,7 @@ take_row fields f y e next =
     next p.0.0 p.0.1 q.0 q.1 p.2
 
 row_put : (row : SessionRow) (rest : List (List ℕ)) → IsRow row → row_at (row_fields row ++ rest) ≡ Some (row, rest)
-unfolding row_at
+unfolding row_at row_behind
 row_put row rest h =
     rw (
       number_put (2 ^ 32) row.id _ h.id (omega arith),

@@ -15,7 +15,7 @@ use Rattle.script_reader.specs.declared.line.Arriving.{Arriving}
 use Rattle.script_reader.specs.declared.line.ToldFeedback.{ToldFeedback}
 use Rattle.script_reader.specs.declared.line.ToldFeedback.TheVariants.{Quiet, Full, Pair}
 use Rattle.script_reader.specs.Grammar.{IsWord, IsArriving, IsFeedback, outcome_field, HasFields}
-use Rattle.script_reader.specs.Parsing.{number, choice, is_slash, pair, feedback, arriving_of, told_of}
+use Rattle.script_reader.specs.Parsing.{number, choice, is_slash, pair, feedback, arriving_of, told_behind, told_of}
 use Rattle.script_reader.proofs.Splits.{IsFree, AreFree}
 use Rattle.script_reader.proofs.FieldLaws.{number_takes, number_again, choice_takes}
 use Rattle.script_reader.proofs.FieldChains.{bind_some, chosen, take_number, take_word, take_field, number_put, word_put, field_put}
@@ -130,7 +130,7 @@ free_outcome false = free_text (codes "fine") refl
 -- ---- the line ----
 
 pub told_takes : (fields : List (List ℕ)) (line : Line) → told_of fields ≡ Some line → HasFields line (codes "told" ∷ fields)
-unfolding told_of
+unfolding told_of told_behind
 told_takes fields line e =
     take_number (2 ^ 32) fields _ line e (λ session fa ha ea e.
     take_number (2 ^ 62 + 1) fa _ line e (λ moment fb hb eb e.
@@ -154,7 +154,7 @@ told_takes fields line e =
 pub told_put : (session moment w : ℕ) (hex : List ℕ) (fault : Bool) (told : ToldFeedback) (field : List ℕ) (arrival : Arriving) (rest : List (List ℕ))
     → session < 2 ^ 32 → moment ≤ 2 ^ 62 → IsWord w hex → IsFeedback told field → IsArriving arrival rest
     → told_of (decimal session ∷ decimal moment ∷ hex ∷ outcome_field fault ∷ field ∷ rest) ≡ Some (Told session moment w fault told arrival)
-unfolding told_of
+unfolding told_of told_behind
 told_put session moment w hex fault told field arrival rest hs hm hw ht ha =
     rw (
       number_put (2 ^ 32) session _ hs (omega arith),

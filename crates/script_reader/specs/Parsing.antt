@@ -62,6 +62,16 @@ abbrev pub at_end : {A : Type 0} → A → List (List ℕ) → Option A
 at_end x [] = Some x
 at_end x (field ∷ fields) = None
 
+-- the five last fields of a row, and the fields after them
+unfoldable pub row_behind : ℕ → ℕ → ℕ → ℕ → List (List ℕ) → Option (SessionRow × List (List ℕ))
+row_behind id capacity message window fields = do
+  start ← field_at (number (2 ^ 32)) fields
+  longest ← field_at (number (2 ^ 32)) start.1
+  resend ← field_at (number (2 ^ 32)) longest.1
+  low ← field_at name resend.1
+  high ← field_at name low.1
+  Some (record { id = id; low = low.0; high = high.0; capacity = capacity; message = message; window = window; start = start.0; longest = longest.0; resend = resend.0; low_port = 0; high_port = 0; coarse = false }, high.1)
+
 -- the nine fields of a row, and the fields after them
 unfoldable pub row_at : List (List ℕ) → Option (SessionRow × List (List ℕ))
 row_at fields = do
@@ -69,12 +79,7 @@ row_at fields = do
   capacity ← field_at (number (2 ^ 32)) id.1
   message ← field_at (number (2 ^ 32)) capacity.1
   window ← field_at (number (2 ^ 32)) message.1
-  start ← field_at (number (2 ^ 32)) window.1
-  longest ← field_at (number (2 ^ 32)) start.1
-  resend ← field_at (number (2 ^ 32)) longest.1
-  low ← field_at name resend.1
-  high ← field_at name low.1
-  Some (record { id = id.0; low = low.0; high = high.0; capacity = capacity.0; message = message.0; window = window.0; start = start.0; longest = longest.0; resend = resend.0; low_port = 0; high_port = 0; coarse = false }, high.1)
+  row_behind id.0 capacity.0 message.0 window.0 window.1
 
 unfoldable pub session_of : List (List ℕ) → Option Line
 session_of fields = do
@@ -170,15 +175,20 @@ look_of fields = do
   arrival ← arriving_of hex.1
   Some (Look session.0 moment.0 hex.0 arrival)
 
+-- a told look, behind its session, its moment and its word
+unfoldable pub told_behind : ℕ → ℕ → ℕ → List (List ℕ) → Option Line
+told_behind session moment word fields = do
+  fault ← field_at (choice (codes "fine") (codes "fault")) fields
+  told ← field_at feedback fault.1
+  arrival ← arriving_of told.1
+  Some (Told session moment word fault.0 told.0 arrival)
+
 unfoldable pub told_of : List (List ℕ) → Option Line
 told_of fields = do
   session ← field_at (number (2 ^ 32)) fields
   moment ← field_at (number (2 ^ 62 + 1)) session.1
   hex ← field_at word moment.1
-  fault ← field_at (choice (codes "fine") (codes "fault")) hex.1
-  told ← field_at feedback fault.1
-  arrival ← arriving_of told.1
-  Some (Told session.0 moment.0 hex.0 fault.0 told.0 arrival)
+  told_behind session.0 moment.0 hex.0 hex.1
 
 unfoldable pub stepped_of : List (List ℕ) → Option Line
 stepped_of fields = do

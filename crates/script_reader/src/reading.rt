@@ -2,7 +2,7 @@ ghost use Rattle.std.specs.Prelude.{◌≡◌, ℕ, ◌+◌, ◌^◌, List, IfSo
 ghost use Rattle.script_reader.specs.Heads.{arriving_with, line_with, CanHold, CanHoldLine};
 ghost use Rattle.script_reader.specs.Grammar.{IsLine};
 ghost use Rattle.script_reader.specs.Lawful.{IsLawfulLine};
-ghost use Rattle.script_reader.specs.Parsing.{Reads, field_at, number, row_at, session_of, low_session_of, coarse_of, hello_of, data_of, raw_of, arriving_of, look_of, told_of, stepped_of, session_and_moment, gone_of, high_of, carry_of, return_of, done_of, restart_of, receiver_restart_of, numbered_step_of, plain_step_of, step_of, line_of, line_at};
+ghost use Rattle.script_reader.specs.Parsing.{Reads, field_at, number, row_behind, row_at, session_of, low_session_of, coarse_of, hello_of, data_of, raw_of, arriving_of, look_of, told_behind, told_of, stepped_of, session_and_moment, gone_of, high_of, carry_of, return_of, done_of, restart_of, receiver_restart_of, numbered_step_of, plain_step_of, step_of, line_of, line_at};
 
 use crate::body::Body;
 use crate::fields::Fields;
@@ -141,6 +141,20 @@ fn read_row(fields: &mut Fields) -> Option<SessionRow>
     let capacity = fields.small()?;
     let message = fields.small()?;
     let window = fields.small()?;
+    read_row_behind(fields, id, capacity, message, window)
+}
+
+/// The row of these four numbers and the five fields behind them.
+#[tactic(auto, unfolding(crate::specs::Parsing::row_behind))]
+fn read_row_behind(
+    fields: &mut Fields,
+    id: u32,
+    capacity: u32,
+    message: u32,
+    window: u32,
+) -> Option<SessionRow>
+    ensures { Reads result fields.new (row_behind id capacity message window fields.old) }
+{
     let start = fields.small()?;
     let longest = fields.small()?;
     let resend = fields.small()?;
@@ -286,6 +300,21 @@ fn read_told(fields: &mut Fields, body: &mut Body) -> Option<LineHead>
     let session = fields.small()?;
     let moment = read_moment(fields)?;
     let word = fields.word()?;
+    read_told_behind(fields, body, session, moment, word)
+}
+
+/// The look at this moment, and what is told in it.
+#[tactic(auto, unfolding(crate::specs::Parsing::told_behind))]
+fn read_told_behind(
+    fields: &mut Fields,
+    body: &mut Body,
+    session: u32,
+    moment: u64,
+    word: u32,
+) -> Option<LineHead>
+    ensures value { option_map (line_with body.new) result ≡ told_behind session moment word fields.old }
+    ensures room { IfSome result (λ it. CanHoldLine it body.new) }
+{
     let fault = fields.choice(b"fine", b"fault")?;
     let feedback = fields.feedback()?;
     let arrival = read_arriving(fields, body)?;

@@ -4,6 +4,7 @@ pub mod DoesMore
 pub mod Done
 pub mod Kept
 pub mod On
+pub mod Ran
 pub mod Restarts
 pub mod Runs
 pub mod Timely

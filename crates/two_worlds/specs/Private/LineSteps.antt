@@ -14,6 +14,7 @@ use Rattle.two_worlds.specs.Standing.{Stands}
 use Rattle.two_worlds.specs.Doing.{DoesFrom}
 use Rattle.two_worlds.specs.Timely.{IsCrowdedBy, IsUncrowdedBy, CanApply, CannotApply}
 use Rattle.two_worlds.specs.Private.GoingOn.{WorksOn}
+use Rattle.two_worlds.specs.Private.Serving.{DisksServe}
 
 -- ---- what a line does ----
 -- Each says more of the line than the one before. `Does` says what any part of a line leads to. `LineDoes`
@@ -68,6 +69,13 @@ RunsOn m c d line out now (Err Line) = (d ≡ c) × (now ≡ out) × IsCrowdedBy
 RunsOn m c d line out now (Err (Device role faults)) = IsUncrowdedBy c line × WorksOn m d (Err (Device role faults))
 RunsOn m c d line out now (Err (Full end size_of_message size)) = IsUncrowdedBy c line × WorksOn m d (Err (Full end size_of_message size))
 RunsOn m c d line out now (Err (Disk role why)) = ⊥
+
+-- what is said of a line for which the test holds
+pub record Ran {D : Type 0} (m : Meaning D) (c d : Parts D) (line : ScriptLine) (out now : List Event) (result : Result (Unit {0}) Stop) : Type 0 where
+  pub runs : Runs m c d line out now result
+  pub on : RunsOn m c d line out now result
+  pub serve : DisksServe m c d result
+  pub row : d.row ≡ c.row
 
 -- any line: it can be applied, and the parts go on from what it did; or it can't, and nothing has changed
 abbrev pub AttemptsOn : {D : Type 0} → Meaning D → Parts D → Parts D → ScriptLine → List Event → List Event → Result (Unit {0}) Stop → Type 0

@@ -15,7 +15,7 @@ ghost use Rattle.two_worlds.specs.Working.{IsAble};
 ghost use Rattle.two_worlds.specs.Doing.{Does, LeavesAlone};
 ghost use Rattle.two_worlds.specs.Private.GoingOn.{WorksOn};
 ghost use Rattle.two_worlds.specs.Private.Serving.{DisksServe};
-ghost use Rattle.two_worlds.specs.Private.LineSteps.{IsOverfullSent, Runs, RunsOn, Attempts, AttemptsOn, answer_of};
+ghost use Rattle.two_worlds.specs.Private.LineSteps.{IsOverfullSent, Ran, Runs, RunsOn, Attempts, AttemptsOn, answer_of};
 ghost use Rattle.two_worlds.specs.Timely.{goes_on_by, is_timely_by, opens_again};
 
 use crate::applied::Stop;
@@ -195,10 +195,7 @@ impl<D: Disk> Parts<D> {
         requires stays { opens_again (line_with bytes.now line.now) ≡ false }
         requires timely { is_timely_by self.old (line_with bytes.now line.now) ≡ true }
         requires out { length out.old.items ≤ 0 }
-        ensures runs { Runs D.told self.old self.new (line_with bytes.now line.now) (lines_in out.old.items) (lines_in out.new.items) result }
-        ensures on { RunsOn D.told self.old self.new (line_with bytes.now line.now) (lines_in out.old.items) (lines_in out.new.items) result }
-        ensures serve { DisksServe D.told self.old self.new result }
-        ensures row { self.new.row ≡ self.old.row }
+        ensures { Ran D.told self.old self.new (line_with bytes.now line.now) (lines_in out.old.items) (lines_in out.new.items) result }
     {
         match line {
             LineHead::Skip

@@ -1,4 +1,5 @@
 -- What an opening leaves, and what parts that work have ready.
+pub mod Blames
 pub mod Comparing
 pub mod Ends
 pub mod Founds

@@ -1,7 +1,7 @@
-use Rattle.std.proofs.Common.{◌≡◌, inl, inr, ◌∙◌, ◌&&◌, ℕ, List, false, not, IfSome, slice_index_or, [], refl, sym, ap, subst, arith}
+use Rattle.std.proofs.Common.{is_some, true, ◌≡◌, inl, inr, ◌∙◌, ◌&&◌, ℕ, List, false, not, IfSome, slice_index_or, [], refl, sym, ap, subst, arith, Some}
 use Rattle.disk_model.specs.Disk.{Moves, Same}
 use Rattle.disk_model.specs.declared.name.Role.TheVariants as roles
-use Rattle.disk_model.proofs.Run.{goes_on_same}
+use Rattle.disk_model.proofs.Run.{goes_on_same, started}
 use Rattle.pump_core.specs.Passage.{new_low, new_high}
 use Rattle.pump_frame.specs.declared.row.SessionRow.{SessionRow}
 use Rattle.stable_buffer.specs.Low.{low_disk, low_is_open}
@@ -11,14 +11,44 @@ use Rattle.stable_buffer.specs.Stands.{InSlot}
 use Rattle.high_receiver.specs.Receiving.{recv_disk, recv_is_open}
 use Rattle.recovery.specs.Agreement.{Disagrees}
 use Rattle.recovery.specs.Calls.{is_device}
+use Rattle.recovery.specs.declared.why.Why.TheVariants.{Device}
 use Rattle.two_worlds.specs.Openings.{IsRefused, DiffersFor, failed_at, disk_back}
 use Rattle.two_worlds.specs.Rooms.{Serves, is_role}
 use Rattle.two_worlds.specs.Private.Readied.{role_blamed}
 use Rattle.two_worlds.proofs.Disks.Together.{serves_then}
+use Rattle.two_worlds.proofs.Opening.Blames.{low_said, not_recv, none_failed, one_failed, counts_pump, counts_blamed}
 use Rattle.two_worlds.proofs.Opening.Comparing.{high_said, low_blamed, high_blamed, recv_blamed, serves_by, serves_high, compares_low, compares_recv}
 use Rattle.two_worlds.proofs.pump.open.open_all.Goals as goal
 
 -- ---- refused at once ----
+
+pub returns-in-Err-clause-refused : goal.returns-in-Err-clause-refused
+returns-in-Err-clause-refused g c = λ other told. inl (c.in-Err.ensures.exact other told)
+
+pub returns-in-Err-clause-device : goal.returns-in-Err-clause-device
+returns-in-Err-clause-device g c = λ is.
+    let e = c.in-Err.refused in
+    let w = c.in-Err.ensures in
+    counts_pump g.D.Disk.told (record { role = e.role; why = Some e.why; low = e.low; high = e.high; recv = c.args.disks.recv }) e.why e.role w.role (w.device_low is) (w.device_high is)
+
+pub returns-in-Err-clause-low : goal.returns-in-Err-clause-low
+returns-in-Err-clause-low g c =
+    let e = c.in-Err.refused in
+    subst (λ b. Serves g.D.Disk.told 0 c.args.disks.low e.low b) (low_said e.role (is_device e.why)) (serves_by g.D.Disk.told 0 c.args.disks.low e.low _ c.in-Err.ensures.calls_low)
+
+pub returns-in-Err-clause-recv : goal.returns-in-Err-clause-recv
+returns-in-Err-clause-recv g c =
+    let e = c.in-Err.refused in
+    inl (refl, not_recv e.role (is_device e.why) c.in-Err.ensures.role)
+
+pub returns-in-Err-clause-moves_low : goal.returns-in-Err-clause-moves_low
+returns-in-Err-clause-moves_low g c = c.in-Err.ensures.moves_low
+
+pub returns-in-Err-clause-moves_high : goal.returns-in-Err-clause-moves_high
+returns-in-Err-clause-moves_high g c = c.in-Err.ensures.moves_high
+
+pub returns-in-Err-clause-moves_recv : goal.returns-in-Err-clause-moves_recv
+returns-in-Err-clause-moves_recv g c = started g.D.Disk.told Same (λ b. refl) c.args.disks.recv
 
 pub returns-in-Err-clause-high : goal.returns-in-Err-clause-high
 returns-in-Err-clause-high g c =
@@ -31,7 +61,59 @@ returns-in-Err-open_receiver-clause-refused g c =
     subst (λ r. IfSome r.why (λ why. is_device why ≡ false → m.tells → IsRefused c.args.row.now (m.reading c.args.disks.low) (m.reading c.args.disks.high) (m.reading c.args.disks.recv) r.role why)) (sym c.refused.ensures)
     (λ other told. inr (c.in-Ok.ensures.fine told, refl, inl (c.in-Err-open_receiver.ensures.exact other told)))
 
+pub returns-in-Err-open_receiver-clause-device : goal.returns-in-Err-open_receiver-clause-device
+returns-in-Err-open_receiver-clause-device g c =
+    let m = g.D.Disk.told in
+    subst (λ r. IfSome r.why (λ why. is_device why ≡ true → why ≡ Device (m.count (disk_back r.role r)))) (sym c.refused.ensures) c.in-Err-open_receiver.ensures.device
+
+pub returns-in-Err-open_receiver-clause-some : goal.returns-in-Err-open_receiver-clause-some
+returns-in-Err-open_receiver-clause-some g c = ap (λ r. is_some r.why) c.refused.ensures
+
+pub returns-in-Err-open_receiver-clause-low : goal.returns-in-Err-open_receiver-clause-low
+returns-in-Err-open_receiver-clause-low g c =
+    let m = g.D.Disk.told in
+    let old = c.args.disks.low in
+    let new = low_disk c.in-Ok.pump.low in
+    subst (λ r. Serves m 0 old (disk_back roles.Low r) (failed_at roles.Low r)) (sym c.refused.ensures)
+    (subst (λ b. Serves m 0 old new b) (sym (none_failed (is_device c.in-Err-open_receiver.why))) (serves_by m 0 old new false c.in-Ok.ensures.calls_low))
+
+pub returns-in-Err-open_receiver-clause-high : goal.returns-in-Err-open_receiver-clause-high
+returns-in-Err-open_receiver-clause-high g c =
+    let m = g.D.Disk.told in
+    let old = c.args.disks.high in
+    let new = c.in-Ok.pump.high.register.disk in
+    subst (λ r. Serves m 0 old (disk_back roles.High r) (failed_at roles.High r)) (sym c.refused.ensures)
+    (subst (λ b. Serves m 0 old new b) (sym (none_failed (is_device c.in-Err-open_receiver.why))) (serves_high m 0 c.args.row.now c.args.disks.low old new false c.in-Ok.ensures.calls_high))
+
+pub returns-in-Err-open_receiver-clause-recv : goal.returns-in-Err-open_receiver-clause-recv
+returns-in-Err-open_receiver-clause-recv g c =
+    let m = g.D.Disk.told in
+    let old = c.args.disks.recv in
+    let new = c.in-Err-open_receiver.recv in
+    let d = is_device c.in-Err-open_receiver.why in
+    subst (λ r. Serves m 0 old (disk_back roles.Recv r) (failed_at roles.Recv r)) (sym c.refused.ensures)
+    (subst (λ b. Serves m 0 old new b) (sym (one_failed d)) (serves_by m 0 old new d c.in-Err-open_receiver.ensures.calls_err))
+
+pub returns-in-Err-open_receiver-clause-moves_low : goal.returns-in-Err-open_receiver-clause-moves_low
+returns-in-Err-open_receiver-clause-moves_low g c =
+    subst (λ r. Moves g.D.Disk.told Same c.args.disks.low (disk_back roles.Low r)) (sym c.refused.ensures) c.in-Ok.ensures.moves_low
+
+pub returns-in-Err-open_receiver-clause-moves_high : goal.returns-in-Err-open_receiver-clause-moves_high
+returns-in-Err-open_receiver-clause-moves_high g c =
+    subst (λ r. Moves g.D.Disk.told Same c.args.disks.high (disk_back roles.High r)) (sym c.refused.ensures) c.in-Ok.ensures.moves_high
+
+pub returns-in-Err-open_receiver-clause-moves_recv : goal.returns-in-Err-open_receiver-clause-moves_recv
+returns-in-Err-open_receiver-clause-moves_recv g c =
+    subst (λ r. Moves g.D.Disk.told Same c.args.disks.recv (disk_back roles.Recv r)) (sym c.refused.ensures) c.in-Err-open_receiver.ensures.same_err
+
 -- ---- opened ----
+
+pub returns-in-Ok-agree-clause-high : goal.returns-in-Ok-agree-clause-high
+returns-in-Ok-agree-clause-high g c =
+    serves_high g.D.Disk.told 0 c.args.row.now c.args.disks.low c.args.disks.high c.in-Ok.pump.high.register.disk false c.in-Ok.ensures.calls_high
+
+pub returns-in-Ok-agree-clause-moves_high : goal.returns-in-Ok-agree-clause-moves_high
+returns-in-Ok-agree-clause-moves_high g c = c.in-Ok.ensures.moves_high
 
 pub returns-in-Ok-agree-clause-pump : goal.returns-in-Ok-agree-clause-pump
 returns-in-Ok-agree-clause-pump g c =
@@ -185,3 +267,26 @@ returns-in-Err-agree-clause-moves_recv g c =
     let m = g.D.Disk.told in
     let moves = goes_on_same m Same _ _ _ c.in-Ok-open_receiver.ensures.same c.agree.ensures.moves_receiver in
     subst (λ r. Moves m Same c.args.disks.recv (disk_back roles.Recv r)) (sym c.refused-in-Err-agree.ensures) (subst (λ k. Moves m Same c.args.disks.recv k) (sym c.into_disk.ensures) moves)
+
+pub returns-in-Err-agree-clause-moves_high : goal.returns-in-Err-agree-clause-moves_high
+returns-in-Err-agree-clause-moves_high g c =
+    subst (λ r. Moves g.D.Disk.told Same c.args.disks.high (disk_back roles.High r)) (sym c.refused-in-Err-agree.ensures) c.in-Ok.ensures.moves_high
+
+pub returns-in-Err-agree-clause-some : goal.returns-in-Err-agree-clause-some
+returns-in-Err-agree-clause-some g c = ap (λ r. is_some r.why) c.refused-in-Err-agree.ensures
+
+pub returns-in-Err-agree-clause-device : goal.returns-in-Err-agree-clause-device
+returns-in-Err-agree-clause-device g c =
+    let m = g.D.Disk.told in
+    let e = c.in-Err-agree.ensures in
+    let why = c.in-Err-agree.why in
+    let role = c.blamed-role.result in
+    let low = low_disk c.agree.new.low in
+    let high = c.in-Ok.pump.high.register.disk in
+    let recv = recv_disk c.agree.new.receiver in
+    subst (λ r. IfSome r.why (λ why. is_device why ≡ true → why ≡ Device (m.count (disk_back r.role r)))) (sym c.refused-in-Err-agree.ensures)
+    (λ is.
+    let shut : low_is_open c.agree.new.low ≡ true → recv_is_open c.agree.new.receiver ≡ false = λ up. elim (e.shut is) [ inl low_down ↦ absurd (cc) | inr down ↦ down ] in
+    counts_blamed m (record { role = role; why = Some why; low = low; high = high; recv = c.into_disk.result }) why (low_is_open c.agree.new.low) role c.blamed-role.ensures
+    (λ down. e.device_low is down)
+    (λ up. e.device_receiver is (shut up) ∙ ap (λ d. Device (m.count d)) (sym c.into_disk.ensures)))

@@ -45,7 +45,7 @@ use Rattle.pump_audit.specs.Claims.{has_end, AreRight, IsFirstWrong}
 use Rattle.pump_audit.specs.Entries.{IsEntry}
 use Rattle.pump_audit.specs.Machine.{state_of, is_down, stores_of, begins_store, Lets}
 use Rattle.pump_audit.specs.Pairs.{Keeps, Fell, IsMet, Waits, Meets}
-use Rattle.pump_audit.specs.Places.{takes_looks, takes_times, behind_line, ends_at, has_end_at}
+use Rattle.pump_audit.specs.Places.{at_place, takes_looks, takes_times, behind_line, ends_at, has_end_at}
 use Rattle.pump_audit.specs.Records.{Record, look_of, GoesOn, AreTold, claims_of, told_by_note, form_of, with_look, with_note}
 use Rattle.pump_audit.specs.Verdicts.{is_ack, acknowledgements, IsRightEnd}
 use Rattle.pump_audit.proofs.ClaimLaws.{meet_push, met_right, unmet_wrong, risen_right, fall_wrong}
@@ -122,7 +122,7 @@ module _ (row : SessionRow) (o : Opening) (looks : List Look) (comments : List S
   untold life None e was told = absurd (cc)
   untold life (Some reply) e was told = let none = owed_is life (Some reply) [] was told in absurd (cc)
 
-none_owed : (owed : Option Reply) → is_some owed ≡ false → owed ≡ None
+pub none_owed : (owed : Option Reply) → is_some owed ≡ false → owed ≡ None
 none_owed None e = refl
 none_owed (Some r) e = absurd (cc)
 
@@ -351,6 +351,11 @@ tells_none (notes.Low session moment reply) other = absurd (other session moment
 tells_none (notes.Time micros) other = refl
 tells_none (notes.Took count) other = refl
 tells_none (notes.End accepted removed) other = refl
+
+-- a line that has a place behind it may stand here
+pub may_stand : (f : Form) (test : Bool) (p : Place) → is_some (at_place f test p) ≡ true → test ≡ true
+may_stand f true p some = refl
+may_stand f false p some = absurd (cc)
 
 -- ---- lines ----
 

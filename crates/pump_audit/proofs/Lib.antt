@@ -3,6 +3,7 @@ pub mod AuditLaws
 pub mod BothLaws
 pub mod ClaimLaws
 pub mod ComparedLaws
+pub mod EndLaws
 pub mod EntryLaws
 pub mod Lives
 pub mod NoteLaws

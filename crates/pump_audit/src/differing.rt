@@ -163,7 +163,7 @@ impl Side {
     pub fn compared(&self, first: &Opened) -> Compared
         ensures { (a b : SideTold) → Opens first.now a → Stands (Some a.items) self.now b → SidesAre a b result }
     {
-        if !self.opened.is_same(first) {
+        if !first.is_same(&self.opened) {
             return Compared::Differ {
                 item: 0,
                 what: What::Opening,

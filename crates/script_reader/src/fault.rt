@@ -1,7 +1,7 @@
 use disk_model::Role;
 
 /// Why a command stops, as its last line of output says; `docs/formats.md`, "Statuses and fault lines".
-#[derive(Clone, Copy)]
+#[derive(Clone, Copy, PartialEq, Eq, Debug)]
 pub enum Fault {
     /// The words are no command.
     Words,

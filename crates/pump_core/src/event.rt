@@ -1,6 +1,6 @@
 use pump_frame::Payload;
 
-/// What may happen next in a world. `docs/definitions.md`, "Events", says when each can happen and
+/// What may happen next in a world. `docs/model.md`, "Events", says when each can happen and
 /// what it changes.
 #[derive(Clone, Copy)]
 pub enum Event {

@@ -12,7 +12,7 @@ use std::alloc::Global;
 use std::collections::VecDeque;
 use std::marker::Model;
 
-/// All that a pump, a receiver and the network between them hold: `docs/definitions.md`, "World".
+/// All that a pump, a receiver and the network between them hold: `docs/model.md`, "World".
 /// Contracts see it as a record of plain lists and numbers, and every `World` is lawful.
 #[derive(Drop)]
 pub struct World {

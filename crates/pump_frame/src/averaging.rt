@@ -11,7 +11,7 @@ pub struct Averaging {
     pub window: u32,
     /// The mean while there is no time, at most 10^9.
     pub start: u32,
-    /// Whether only the mean's level comes down (`docs/definitions.md`, "Averages and levels").
+    /// Whether only the mean's level comes down (`docs/model.md`, "Averages and levels").
     pub coarse: bool,
 }
 

@@ -26,7 +26,7 @@ pub enum Heard {
 }
 
 /// Reads bytes off a link until one frame, bad bytes, a look that gives no byte, or the most bytes
-/// that one reading takes (`docs/architecture.md`, "Serving"). `Failed` comes only where the link's
+/// that one reading takes (`docs/design.md`, "Serving"). `Failed` comes only where the link's
 /// count of faults rose. Nothing is sent.
 pub fn hear<C: Link>(link: &mut C, reader: &mut Reader) -> Heard
     requires within { reader.old ≡ Within (held_in reader.old) }

@@ -218,7 +218,7 @@ impl HighConnection {
     }
 
     /// Makes one round: it draws a moment, reads, and makes a look and sends what that sends, where
-    /// a look is due (`docs/architecture.md`, "Serving").
+    /// a look is due (`docs/design.md`, "Serving").
     pub fn round<R: Wait, C: Link, K: Clock, D: Disk, H: WaitHighEnd>(
         &mut self,
         rt: &R,

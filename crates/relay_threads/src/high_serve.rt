@@ -28,7 +28,7 @@ fn counted(removed: u64, has_removed: bool) -> u64
     if has_removed { removed + 1 } else { removed }
 }
 
-/// Serves one connection of a receiver, with at most `looks` rounds (`docs/architecture.md`,
+/// Serves one connection of a receiver, with at most `looks` rounds (`docs/design.md`,
 /// "Serving"). Each round draws a moment, in microseconds, and reads the link. No look is made
 /// before the first frame, which is to be an ATTACH, and then one in each round; what it sends goes
 /// out as a DATA. The gate is asked before each round, with the rounds made and the messages removed

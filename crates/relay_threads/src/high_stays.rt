@@ -82,7 +82,7 @@ fn stay<R: Wait, P: Door, K: Clock, D: Disk, H: WaitHighEnd>(
     }
 }
 
-/// The high worker of a session over its door, with this many rounds (`docs/architecture.md`,
+/// The high worker of a session over its door, with this many rounds (`docs/design.md`,
 /// "Serving"). A round without connection draws a moment, in microseconds, asks the door, and makes
 /// no look; a link that comes is served by `serve_high`, and given back to the door when its
 /// connection or the worker ends. A connection's failure ends that connection alone.

@@ -155,7 +155,7 @@ fn why_left(
     }
 }
 
-/// Makes one round of a low worker (`docs/architecture.md`, "Serving"): it draws a moment and a word,
+/// Makes one round of a low worker (`docs/design.md`, "Serving"): it draws a moment and a word,
 /// reads where the process wants what comes, makes a look, sends its reply, and records it, also where
 /// the send failed. Where the link failed in the reading, there is no look.
 pub fn low_round<R: Wait, C: Link, K: Clock, W: Words, D: Disk, L: WaitLowEnd, O: Sink>(

@@ -39,7 +39,7 @@ fn counted(acks: u64, is_acked: bool) -> u64
     if is_acked { acks + 1 } else { acks }
 }
 
-/// Serves one connection of the low party, for at most `looks` rounds (`docs/architecture.md`,
+/// Serves one connection of the low party, for at most `looks` rounds (`docs/design.md`,
 /// "Serving"). The process replies over the link, and the tape takes the record of its looks. The gate
 /// is asked before each round, with the rounds so far and the messages that were acknowledged in them.
 /// The call may wait for the other end of the passage.

@@ -213,7 +213,7 @@ fn stay<R: Wait, P: Door, K: Clock, W: Words, D: Disk, L: WaitLowEnd, O: Sink>(
     }
 }
 
-/// The low worker of a session over its door, with this many rounds (`docs/architecture.md`, "Serving").
+/// The low worker of a session over its door, with this many rounds (`docs/design.md`, "Serving").
 /// A round without connection draws a moment, in microseconds, asks the door, and makes no look; a link
 /// that comes is served by `serve_low`, and given back to the door when its connection or the worker
 /// ends. After a link that failed or showed bad bytes the process makes a look with Gone, which counts as

@@ -137,7 +137,7 @@ fn end_of(ends: Result<WorkersEnd, NotServed>) -> SessionEnd
 /// Both disks come back, and both doors are shut, however it ends. `Memory`, `Refused`, `NoDoor` and
 /// `NoThread` come before anything is written and before a clock is read, and leave what the disks hold: `Refused` for the
 /// first cause in the order of refusals, or where a call of that disk failed, and `NoDoor` only where the
-/// count of the ports rose. Otherwise both workers ended; `docs/architecture.md`, "Serving", has the rules
+/// count of the ports rose. Otherwise both workers ended; `docs/design.md`, "Serving", has the rules
 /// of each.
 pub fn serve_session<
     T: Threads + Wait + Sync,

@@ -1,7 +1,7 @@
 //! The laws over all that may happen in a relay: in every interleaving and every crash of its world, in
 //! pairs of timed runs, and in scripts. Each is a function without parameters and without a result whose
 //! contract is the law; calling it does nothing. They rest on the definitions of the world, of its
-//! replies and of scripts alone, and know nothing of a pump's code; `docs/definitions.md` tells them in
+//! replies and of scripts alone, and know nothing of a pump's code; `docs/model.md` tells them in
 //! words. `two_worlds::laws` hands them on.
 #![tactic(auto)]
 

@@ -1,10 +1,22 @@
-use Rattle.std.proofs.Common.{◌-◌, ◌∙◌, ◌++◌, replicate, arith}
+use Rattle.std.proofs.Common.{Err, ℕ, ◌≤◌, refl, false, true, ap, ◌-◌, ◌∙◌, ◌++◌, replicate, arith}
+use Rattle.std.proofs.lemmas.Bool.{false≢true}
+use Rattle.std.proofs.lemmas.List.{length-replicate}
+use Rattle.std.proofs.lemmas.Result.{err_from_is_err_and}
 use Rattle.disk_model.specs.Disk.{Moves, Each}
 use Rattle.disk_model.proofs.Run.{each_after, weaker}
-use Rattle.stable_buffer.specs.Format.{header_of, role_byte}
+use Rattle.disk_model.specs.declared.name.Role.{Role}
+use Rattle.disk_model.specs.declared.name.Role.TheVariants.{Low, High, Recv}
+use Rattle.pump_frame.specs.declared.row.SessionRow.{SessionRow}
+use Rattle.stable_buffer.specs.Format.{header_of, role_byte, size_of}
 use Rattle.stable_buffer.specs.Making.{HasZeros, IsNone, KeepsFirst, LeavesFrom}
 use Rattle.stable_buffer.proofs.Making.{first_leaves, cleared, zeros_each, zeros_leave, zeros_stay, torn_first, begun_bytes, anything}
 use Rattle.stable_buffer.proofs.new_disk.begin.Goals as goal
+
+-- a disk has at least its front
+size_least : (row : SessionRow) (role : Role) → 80 ≤ size_of row role
+size_least row Low = omega arith
+size_least row High = omega arith
+size_least row Recv = omega arith
 
 pub returns-in_err-write-clause-during : goal.returns-in_err-write-clause-during
 returns-in_err-write-clause-during g c = λ short moment le so_far.
@@ -67,3 +79,119 @@ returns-clause-bytes g c = λ told.
 pub returns-in_err-write_and_sync-clause-during : goal.returns-in_err-write_and_sync-clause-during
 returns-in_err-write_and_sync-clause-during g c = λ short moment le so_far.
     first_leaves g.D.Disk.told c.args.disk.now c.requires.empty short moment c.write_and_sync.new.disk le so_far c.write_and_sync.ensures.moves
+
+pub returns-in_err-write_and_sync-clause-bytes : goal.returns-in_err-write_and_sync-clause-bytes
+returns-in_err-write_and_sync-clause-bytes g c =
+    let (device, was, same) = err_from_is_err_and c.from_residual.result c.from_residual.ensures.1 in
+    let is = was ∙ ap (λ d. Err d) same in
+    rw (is) tt
+
+pub returns-in_err-write_and_sync-clause-zeros : goal.returns-in_err-write_and_sync-clause-zeros
+returns-in_err-write_and_sync-clause-zeros g c =
+    let (device, was, same) = err_from_is_err_and c.from_residual.result c.from_residual.ensures.1 in
+    let is = was ∙ ap (λ d. Err d) same in
+    rw (is) tt
+
+pub returns-in_err-write_and_sync-clause-device : goal.returns-in_err-write_and_sync-clause-device
+returns-in_err-write_and_sync-clause-device g c =
+    let (device, was, same) = err_from_is_err_and c.from_residual.result c.from_residual.ensures.1 in
+    let is = was ∙ ap (λ d. Err d) same in
+    rw (is) c.in_err-write_and_sync.ensures.device
+
+pub returns-in_err-write_and_sync-clause-later : goal.returns-in_err-write_and_sync-clause-later
+returns-in_err-write_and_sync-clause-later g c =
+    omega (arith, c.write_and_sync.ensures.moves.later)
+
+pub returns-in_err-write-clause-bytes : goal.returns-in_err-write-clause-bytes
+returns-in_err-write-clause-bytes g c =
+    let (device, was, same) = err_from_is_err_and c.from_residual-in_err-write.result c.from_residual-in_err-write.ensures.1 in
+    let is = was ∙ ap (λ d. Err d) same in
+    rw (is) tt
+
+pub returns-in_err-write-clause-zeros : goal.returns-in_err-write-clause-zeros
+returns-in_err-write-clause-zeros g c =
+    let (device, was, same) = err_from_is_err_and c.from_residual-in_err-write.result c.from_residual-in_err-write.ensures.1 in
+    let is = was ∙ ap (λ d. Err d) same in
+    rw (is) tt
+
+pub returns-in_err-write-clause-device : goal.returns-in_err-write-clause-device
+returns-in_err-write-clause-device g c =
+    let (device, was, same) = err_from_is_err_and c.from_residual-in_err-write.result c.from_residual-in_err-write.ensures.1 in
+    let is = was ∙ ap (λ d. Err d) same in
+    rw (is) c.in_err-write.ensures.device
+
+pub returns-in_err-write-clause-later : goal.returns-in_err-write-clause-later
+returns-in_err-write-clause-later g c =
+    omega (arith, c.write_and_sync.ensures.moves.later, c.write.ensures.moves.later)
+
+pub returns-in_err-fill_zeros-clause-bytes : goal.returns-in_err-fill_zeros-clause-bytes
+returns-in_err-fill_zeros-clause-bytes g c =
+    let (device, was, same) = err_from_is_err_and c.from_residual-in_err-fill_zeros.result c.from_residual-in_err-fill_zeros.ensures.1 in
+    let is = was ∙ ap (λ d. Err d) same in
+    rw (is) tt
+
+pub returns-in_err-fill_zeros-clause-zeros : goal.returns-in_err-fill_zeros-clause-zeros
+returns-in_err-fill_zeros-clause-zeros g c =
+    let (device, was, same) = err_from_is_err_and c.from_residual-in_err-fill_zeros.result c.from_residual-in_err-fill_zeros.ensures.1 in
+    let is = was ∙ ap (λ d. Err d) same in
+    rw (is) tt
+
+pub returns-in_err-fill_zeros-clause-device : goal.returns-in_err-fill_zeros-clause-device
+returns-in_err-fill_zeros-clause-device g c =
+    let (device, was, same) = err_from_is_err_and c.from_residual-in_err-fill_zeros.result c.from_residual-in_err-fill_zeros.ensures.1 in
+    let is = was ∙ ap (λ d. Err d) same in
+    rw (is) c.in_err-fill_zeros.ensures.device
+
+pub returns-in_err-fill_zeros-clause-later : goal.returns-in_err-fill_zeros-clause-later
+returns-in_err-fill_zeros-clause-later g c =
+    omega (arith, c.write_and_sync.ensures.moves.later, c.write.ensures.moves.later, c.fill_zeros.ensures.moves.later)
+
+pub returns-clause-later : goal.returns-clause-later
+returns-clause-later g c = omega (arith, c.write_and_sync.ensures.moves.later, c.write.ensures.moves.later, c.fill_zeros.ensures.moves.later)
+
+pub returns-clause-device : goal.returns-clause-device
+returns-clause-device g c = tt
+
+pub returns-in_err-write_and_sync-clause-answers : goal.returns-in_err-write_and_sync-clause-answers
+returns-in_err-write_and_sync-clause-answers g c =
+    let first = c.in_err-write_and_sync.ensures.answers in
+    let (device, was, same) = err_from_is_err_and c.from_residual.result c.from_residual.ensures.1 in
+    let is = was ∙ ap (λ d. Err d) same in
+    record {
+      counts = omega (arith, first.counts);
+      rose = λ _. let rise = first.rose refl in omega (arith, rise);
+      never = λ plan off fits. elim (false≢true (first.never plan off (omega (arith, fits, size_least c.args.row.now c.args.role, length-replicate {A = ℕ} 4 0)))) [ ];
+      always = λ plan on. rw (is) refl;
+      room = λ plan. first.room plan;
+      disarmed = first.disarmed;
+    }
+
+pub returns-in_err-fill_zeros-clause-answers : goal.returns-in_err-fill_zeros-clause-answers
+returns-in_err-fill_zeros-clause-answers g c =
+    let first = c.in_ok-write_and_sync.ensures.answers in
+    let second = c.in_ok-write.ensures.answers in
+    let third = c.in_err-fill_zeros.ensures.answers in
+    let (device, was, same) = err_from_is_err_and c.from_residual-in_err-fill_zeros.result c.from_residual-in_err-fill_zeros.ensures.1 in
+    let is = was ∙ ap (λ d. Err d) same in
+    record {
+      counts = omega (arith, first.counts, second.counts, third.counts);
+      rose = λ _. let rise = third.rose refl in omega (arith, first.counts, second.counts, rise);
+      never = λ plan off fits. elim (false≢true (third.never plan (second.disarmed plan) (let room = second.room plan ∙ first.room plan in omega (arith, fits, room, c.disk_size.ensures.size)))) [ ];
+      always = λ plan on. rw (is) refl;
+      room = λ plan. third.room plan ∙ second.room plan ∙ first.room plan;
+      disarmed = third.disarmed;
+    }
+
+pub returns-clause-answers : goal.returns-clause-answers
+returns-clause-answers g c =
+    let first = c.in_ok-write_and_sync.ensures.answers in
+    let second = c.in_ok-write.ensures.answers in
+    let third = c.in_ok-fill_zeros.ensures.answers in
+    record {
+      counts = omega (arith, first.counts, second.counts, third.counts);
+      rose = λ failed. elim (false≢true failed) [ ];
+      never = λ plan off fits. refl;
+      always = first.always;
+      room = λ plan. third.room plan ∙ second.room plan ∙ first.room plan;
+      disarmed = third.disarmed;
+    }

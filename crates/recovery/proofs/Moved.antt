@@ -30,7 +30,7 @@ use Rattle.recovery.proofs.Calls.{some_none}
 use Rattle.recovery.proofs.Readings.{low_tells, receiver_tells}
 use Rattle.recovery.proofs.Rows.{row_message}
 use Rattle.recovery.proofs.Slots.{slot_one}
-use Rattle.recovery.proofs.Surveys.{kept_after}
+use Rattle.recovery.proofs.Surveys.{counted_next, kept_after}
 use Rattle.recovery.proofs.Triples.{never_apart}
 
 -- ---- what a crash leaves ----
@@ -179,10 +179,7 @@ at_old from size counts mid_low mid_recv low high recv Q same_low same_recv clau
 
 -- a new disk that is only read, and then written
 pub counted_after : {D : Type 0} (m : Meaning D) (old mid new : D) (failed : Bool) → IsKept m old mid false → Counted m mid new failed → Counted m old new failed
-counted_after m old mid new failed first second = record {
-  counts = omega (arith, first.counted.counts, second.counts);
-  rose = λ is. let up = second.rose is in omega (arith, first.counted.counts, up);
-}
+counted_after m old mid new failed first second = counted_next m old mid new failed first.counted second
 
 not_all : (a b c : Bool) → (c ≡ true → a ≡ false) → (a && b && c) ≡ true → ⊥
 not_all false b c never is = absurd (cc)

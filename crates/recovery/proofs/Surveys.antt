@@ -12,7 +12,7 @@ use Rattle.stable_buffer.specs.declared.low.LowStore.{LowStore}
 use Rattle.high_receiver.specs.Receiving.{recv_disk, recv_row, recv_count, recv_end, StandsForSome}
 use Rattle.high_receiver.specs.declared.receiver.Receiver.{Receiver}
 use Rattle.recovery.specs.Agreement.{SlotsAgree, Disagrees}
-use Rattle.recovery.specs.Moves.{AreFound, AreRefused, IsKept}
+use Rattle.recovery.specs.Moves.{AreFound, AreRefused, Counted, IsKept}
 use Rattle.recovery.specs.Refusals.{refused_pump, refused_receiver}
 use Rattle.recovery.specs.Surveys.{FitsSurvey, IsSurveyed}
 use Rattle.recovery.specs.declared.survey.Counts.{Counts}
@@ -27,6 +27,13 @@ kept_after m old mid new failed first second = record {
     counts = omega (arith, first.counted.counts, second.counted.counts);
     rose = λ is. let up = second.counted.rose is in omega (arith, first.counted.counts, up);
   };
+}
+
+-- one call more of a disk that may be written
+pub counted_next : {D : Type 0} (m : Meaning D) (old mid new : D) (failed : Bool) → Counted m old mid false → Counted m mid new failed → Counted m old new failed
+counted_next m old mid new failed first second = record {
+  counts = omega (arith, first.counts, second.counts);
+  rose = λ is. let up = second.rose is in omega (arith, first.counts, up);
 }
 
 -- two stores over disks that stand for something, beside the disks as they were

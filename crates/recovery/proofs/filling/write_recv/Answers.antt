@@ -1,10 +1,15 @@
-use Rattle.std.proofs.Common.{◌≡◌, List, ℕ, length, sym, subst, arith}
+use Rattle.std.proofs.Common.{◌≡◌, ◌∙◌, ap, inr, false, Err, List, ℕ, length, sym, subst, arith}
+use Rattle.std.proofs.lemmas.Result.{err_from_is_err_and}
 use Rattle.disk_model.proofs.Run.{each_after}
 use Rattle.disk_model.specs.declared.name.Role.TheVariants.{Recv}
 use Rattle.stable_buffer.specs.Making.{marked, HasZeros, IsNone, KeepsFirst, LeavesFrom}
 use Rattle.stable_buffer.specs.Log.{RecvStands}
 use Rattle.stable_buffer.proofs.Making.{zeros_leave, zeros_stay}
 use Rattle.recovery.proofs.Wholes.{begun_length, none_leaves, whole_leaves, recv_whole}
+use Rattle.recovery.specs.declared.trio.MoveFault.{MoveFault}
+use Rattle.recovery.proofs.Blamed.{old_kept}
+use Rattle.recovery.proofs.Surveys.{counted_next}
+use Rattle.recovery.proofs.Unwritten.{kept_still}
 use Rattle.recovery.proofs.filling.write_recv.Goals as goal
 
 pub copy_bytes-requires-clause-starts : goal.copy_bytes-requires-clause-starts
@@ -73,3 +78,125 @@ returns-clause-stands g c = λ told row received stands value fits.
 pub returns-in_err-begin_as-clause-made : goal.returns-in_err-begin_as-clause-made
 returns-in_err-begin_as-clause-made g c = λ row received stands value fits short start le so_far.
     none_leaves g.D.Disk.told (RecvStands c.args.to.now received) start c.begin_as.new.target (c.begin_as.ensures.during short start le so_far)
+
+pub returns-in_err-begin_as-clause-stands : goal.returns-in_err-begin_as-clause-stands
+returns-in_err-begin_as-clause-stands g c =
+    let (fault, was, same) = err_from_is_err_and c.from_residual.result c.from_residual.ensures.1 in
+    let is = was ∙ ap (λ d. Err d) same in
+    rw (is) tt
+
+pub returns-in_err-begin_as-clause-settled : goal.returns-in_err-begin_as-clause-settled
+returns-in_err-begin_as-clause-settled g c =
+    let (fault, was, same) = err_from_is_err_and c.from_residual.result c.from_residual.ensures.1 in
+    let is = was ∙ ap (λ d. Err d) same in
+    rw (is) tt
+
+pub returns-in_err-begin_as-clause-kept : goal.returns-in_err-begin_as-clause-kept
+returns-in_err-begin_as-clause-kept g c =
+    let m = g.D.Disk.told in
+    let e = c.in_err-begin_as.ensures in
+    let (fault, was, same) = err_from_is_err_and c.from_residual.result c.from_residual.ensures.1 in
+    let is = was ∙ ap (λ d. Err d) same in
+    rw (is) (old_kept m Recv c.in_err-begin_as.field-0.0 c.args.source.now c.args.source.now (λ _. ap (λ (x : MoveFault). x.new) e.device) (kept_still m c.args.source.now))
+
+pub returns-in_err-begin_as-clause-counted : goal.returns-in_err-begin_as-clause-counted
+returns-in_err-begin_as-clause-counted g c =
+    let m = g.D.Disk.told in
+    let e = c.in_err-begin_as.ensures in
+    let (fault, was, same) = err_from_is_err_and c.from_residual.result c.from_residual.ensures.1 in
+    let is = was ∙ ap (λ d. Err d) same in
+    rw (is) e.counted
+
+pub returns-in_err-begin_as-clause-one : goal.returns-in_err-begin_as-clause-one
+returns-in_err-begin_as-clause-one g c =
+    let m = g.D.Disk.told in
+    let e = c.in_err-begin_as.ensures in
+    let (fault, was, same) = err_from_is_err_and c.from_residual.result c.from_residual.ensures.1 in
+    let is = was ∙ ap (λ d. Err d) same in
+    rw (is) (inr e.device)
+
+pub returns-in_err-copy_bytes-clause-stands : goal.returns-in_err-copy_bytes-clause-stands
+returns-in_err-copy_bytes-clause-stands g c =
+    let (fault, was, same) = err_from_is_err_and c.from_residual-in_err-copy_bytes.result c.from_residual-in_err-copy_bytes.ensures.1 in
+    let is = was ∙ ap (λ d. Err d) same in
+    rw (is) tt
+
+pub returns-in_err-copy_bytes-clause-settled : goal.returns-in_err-copy_bytes-clause-settled
+returns-in_err-copy_bytes-clause-settled g c =
+    let (fault, was, same) = err_from_is_err_and c.from_residual-in_err-copy_bytes.result c.from_residual-in_err-copy_bytes.ensures.1 in
+    let is = was ∙ ap (λ d. Err d) same in
+    rw (is) tt
+
+pub returns-in_err-copy_bytes-clause-kept : goal.returns-in_err-copy_bytes-clause-kept
+returns-in_err-copy_bytes-clause-kept g c =
+    let m = g.D.Disk.told in
+    let e = c.in_err-copy_bytes.ensures in
+    let (fault, was, same) = err_from_is_err_and c.from_residual-in_err-copy_bytes.result c.from_residual-in_err-copy_bytes.ensures.1 in
+    let is = was ∙ ap (λ d. Err d) same in
+    rw (is) e.kept
+
+pub returns-in_err-copy_bytes-clause-counted : goal.returns-in_err-copy_bytes-clause-counted
+returns-in_err-copy_bytes-clause-counted g c =
+    let m = g.D.Disk.told in
+    let e = c.in_err-copy_bytes.ensures in
+    let (fault, was, same) = err_from_is_err_and c.from_residual-in_err-copy_bytes.result c.from_residual-in_err-copy_bytes.ensures.1 in
+    let is = was ∙ ap (λ d. Err d) same in
+    rw (is) (counted_next m c.args.target.now c.begin_as.new.target c.copy_bytes.new.target _ c.in_ok-begin_as.ensures.counted e.counted)
+
+pub returns-in_err-copy_bytes-clause-one : goal.returns-in_err-copy_bytes-clause-one
+returns-in_err-copy_bytes-clause-one g c =
+    let m = g.D.Disk.told in
+    let e = c.in_err-copy_bytes.ensures in
+    let (fault, was, same) = err_from_is_err_and c.from_residual-in_err-copy_bytes.result c.from_residual-in_err-copy_bytes.ensures.1 in
+    let is = was ∙ ap (λ d. Err d) same in
+    rw (is) e.one
+
+pub returns-in_err-finish_as-clause-stands : goal.returns-in_err-finish_as-clause-stands
+returns-in_err-finish_as-clause-stands g c =
+    let (fault, was, same) = err_from_is_err_and c.from_residual-in_err-finish_as.result c.from_residual-in_err-finish_as.ensures.1 in
+    let is = was ∙ ap (λ d. Err d) same in
+    rw (is) tt
+
+pub returns-in_err-finish_as-clause-settled : goal.returns-in_err-finish_as-clause-settled
+returns-in_err-finish_as-clause-settled g c =
+    let (fault, was, same) = err_from_is_err_and c.from_residual-in_err-finish_as.result c.from_residual-in_err-finish_as.ensures.1 in
+    let is = was ∙ ap (λ d. Err d) same in
+    rw (is) tt
+
+pub returns-in_err-finish_as-clause-kept : goal.returns-in_err-finish_as-clause-kept
+returns-in_err-finish_as-clause-kept g c =
+    let m = g.D.Disk.told in
+    let e = c.in_err-finish_as.ensures in
+    let (fault, was, same) = err_from_is_err_and c.from_residual-in_err-finish_as.result c.from_residual-in_err-finish_as.ensures.1 in
+    let is = was ∙ ap (λ d. Err d) same in
+    rw (is) (old_kept m Recv c.in_err-finish_as.field-0.0 c.args.source.now c.copy_bytes.new.source (λ _. ap (λ (x : MoveFault). x.new) e.device) c.in_ok-copy_bytes.ensures.kept)
+
+pub returns-in_err-finish_as-clause-counted : goal.returns-in_err-finish_as-clause-counted
+returns-in_err-finish_as-clause-counted g c =
+    let m = g.D.Disk.told in
+    let e = c.in_err-finish_as.ensures in
+    let (fault, was, same) = err_from_is_err_and c.from_residual-in_err-finish_as.result c.from_residual-in_err-finish_as.ensures.1 in
+    let is = was ∙ ap (λ d. Err d) same in
+    rw (is) (counted_next m c.args.target.now c.copy_bytes.new.target c.finish_as.new.target _ (counted_next m c.args.target.now c.begin_as.new.target c.copy_bytes.new.target false c.in_ok-begin_as.ensures.counted c.in_ok-copy_bytes.ensures.counted) e.counted)
+
+pub returns-in_err-finish_as-clause-one : goal.returns-in_err-finish_as-clause-one
+returns-in_err-finish_as-clause-one g c =
+    let m = g.D.Disk.told in
+    let e = c.in_err-finish_as.ensures in
+    let (fault, was, same) = err_from_is_err_and c.from_residual-in_err-finish_as.result c.from_residual-in_err-finish_as.ensures.1 in
+    let is = was ∙ ap (λ d. Err d) same in
+    rw (is) (inr e.device)
+
+pub returns-clause-settled : goal.returns-clause-settled
+returns-clause-settled g c = c.in_ok-finish_as.ensures.settled
+
+pub returns-clause-kept : goal.returns-clause-kept
+returns-clause-kept g c = c.in_ok-copy_bytes.ensures.kept
+
+pub returns-clause-counted : goal.returns-clause-counted
+returns-clause-counted g c =
+    let m = g.D.Disk.told in
+    counted_next m c.args.target.now c.copy_bytes.new.target c.finish_as.new.target false (counted_next m c.args.target.now c.begin_as.new.target c.copy_bytes.new.target false c.in_ok-begin_as.ensures.counted c.in_ok-copy_bytes.ensures.counted) c.in_ok-finish_as.ensures.counted
+
+pub returns-clause-one : goal.returns-clause-one
+returns-clause-one g c = tt

@@ -1,4 +1,4 @@
-use Rattle.std.proofs.Common.{true, Err, ◌∙◌, ◌≡◌, ◌+◌, ◌≤◌, List, ℕ, false, length, take, drop, refl, ap, subst, arith, length-drop}
+use Rattle.std.proofs.Common.{Err, ◌∙◌, ◌≡◌, ◌+◌, ◌≤◌, List, ℕ, false, length, take, drop, refl, ap, subst, arith, length-drop}
 use Rattle.std.proofs.lemmas.Bool.{false≢true}
 use Rattle.std.proofs.lemmas.Result.{err_from_is_err_and}
 use Rattle.std.proofs.lemmas.List.{length-take-le}

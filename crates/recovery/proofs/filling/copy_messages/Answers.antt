@@ -1,4 +1,4 @@
-use Rattle.std.proofs.Common.{true, Err, ap, ◌∙◌, ◌≡◌, inl, inr, ◌+◌, ◌-◌, ◌<◌, ◌≤◌, List, [], ℕ, false, length, get_or, sym, subst, arith}
+use Rattle.std.proofs.Common.{Err, ap, ◌∙◌, ◌≡◌, inl, inr, ◌+◌, ◌-◌, ◌<◌, ◌≤◌, List, [], ℕ, false, length, get_or, sym, subst, arith}
 use Rattle.std.proofs.lemmas.Bool.{false≢true}
 use Rattle.std.proofs.lemmas.Result.{err_from_is_err_and}
 use Rattle.std.proofs.lemmas.Bool.{cases_lt}

@@ -124,3 +124,27 @@ returns-then-first-gt-GREATEST_COUNT-clause-calls_err g c = subst (λ d. Calls g
 
 pub returns-then-first-gt-GREATEST_COUNT-clause-same_err : goal.returns-then-first-gt-GREATEST_COUNT-clause-same_err
 returns-then-first-gt-GREATEST_COUNT-clause-same_err g c = subst (λ d. Moves g.D.Disk.told Same c.args.disk d) (sym c.into_disk-disk.ensures) c.in-Ok.ensures.same
+
+pub returns-then-first-gt-GREATEST_COUNT-clause-ready : goal.returns-then-first-gt-GREATEST_COUNT-clause-ready
+returns-then-first-gt-GREATEST_COUNT-clause-ready g c = tt
+
+pub returns-then-first-gt-GREATEST_COUNT-clause-row : goal.returns-then-first-gt-GREATEST_COUNT-clause-row
+returns-then-first-gt-GREATEST_COUNT-clause-row g c = tt
+
+pub returns-then-first-gt-GREATEST_COUNT-clause-size : goal.returns-then-first-gt-GREATEST_COUNT-clause-size
+returns-then-first-gt-GREATEST_COUNT-clause-size g c = tt
+
+pub returns-then-first-gt-GREATEST_COUNT-clause-value : goal.returns-then-first-gt-GREATEST_COUNT-clause-value
+returns-then-first-gt-GREATEST_COUNT-clause-value g c = tt
+
+pub returns-then-first-gt-GREATEST_COUNT-clause-stands : goal.returns-then-first-gt-GREATEST_COUNT-clause-stands
+returns-then-first-gt-GREATEST_COUNT-clause-stands g c = tt
+
+pub returns-then-first-gt-GREATEST_COUNT-clause-fine : goal.returns-then-first-gt-GREATEST_COUNT-clause-fine
+returns-then-first-gt-GREATEST_COUNT-clause-fine g c = tt
+
+pub returns-then-first-gt-GREATEST_COUNT-clause-calls : goal.returns-then-first-gt-GREATEST_COUNT-clause-calls
+returns-then-first-gt-GREATEST_COUNT-clause-calls g c = tt
+
+pub returns-then-first-gt-GREATEST_COUNT-clause-same : goal.returns-then-first-gt-GREATEST_COUNT-clause-same
+returns-then-first-gt-GREATEST_COUNT-clause-same g c = tt

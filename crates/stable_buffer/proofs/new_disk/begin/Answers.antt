@@ -1,4 +1,4 @@
-use Rattle.std.proofs.Common.{Err, ℕ, ◌≤◌, refl, false, true, ap, ◌-◌, ◌∙◌, ◌++◌, replicate, arith}
+use Rattle.std.proofs.Common.{Err, ℕ, ◌≤◌, refl, ap, ◌-◌, ◌∙◌, ◌++◌, replicate, arith}
 use Rattle.std.proofs.lemmas.Bool.{false≢true}
 use Rattle.std.proofs.lemmas.List.{length-replicate}
 use Rattle.std.proofs.lemmas.Result.{err_from_is_err_and}

@@ -1,4 +1,5 @@
-//! The pump that plays the lines of a script, over disks with room and over one that fails.
+//! The pump that plays the lines of a script over a disk that fails. What it does with packets is in
+//! `tests/pump-packets.t`.
 
 ghost use Rattle.std.specs.Prelude.{◌≡◌, ◌<◌, ◌≤◌, [], false, IfSome, IfOk};
 ghost use Rattle.pump_frame.specs.Rows.{IsLawfulRow};
@@ -8,7 +9,7 @@ ghost use Rattle.two_worlds.specs.Pumps.{is_down};
 use crate::held::Held;
 use crate::move_tests::numbers;
 use arrayvec::ArrayVec;
-use disk_model::{Disk, MemDisk, Outcome, PlainDisk, Role};
+use disk_model::{Disk, MemDisk, Outcome, Role};
 use pump_frame::{Name, SessionRow};
 use script_reader::{print_event, read_line};
 use std::alloc::Global;
@@ -37,25 +38,6 @@ pub fn row() -> Option<SessionRow>
     })
 }
 
-// A new pump whose disks have room.
-fn new_pump(alloc: Global) -> Result<Pump<PlainDisk>, Fail>
-    ensures up { IfOk result (λ pump. is_down pump ≡ false) }
-{
-    let Some(row) = row() else {
-        return Err(Fail::new("no row"));
-    };
-    let low = Held(PlainDisk::new(alloc, 4096)?);
-    let high = Held(PlainDisk::new(alloc, 80)?);
-    let recv = Held(PlainDisk::new(alloc, 4096)?);
-    match Pump::open(alloc, &row, low.taken(), high.taken(), recv.taken()) {
-        Ok(pump) => Ok(pump),
-        Err(refused) => {
-            drop(refused);
-            Err(Fail::new("not open"))
-        }
-    }
-}
-
 // Adds what the lines print, until one stops.
 pub fn play<D: Disk>(
     pump: &mut Pump<D>,
@@ -80,170 +62,6 @@ pub fn play<D: Disk>(
         }
     }
     Ok(None)
-}
-
-// What a new pump did with the lines: why they stopped, what is printed, and its counts.
-#[derive(Drop)]
-struct Played {
-    stop: Option<Stop>,
-    output: Vec<u8>,
-    counts: (u64, u64, u64),
-}
-
-fn play_new(alloc: Global, script: &[&str], is_coarse: bool) -> Result<Played, Fail> {
-    let mut output = Vec::new(alloc);
-    let mut pump = match new_pump(alloc) {
-        Ok(pump) => pump,
-        Err(fail) => return Err(fail),
-    };
-    if is_coarse {
-        pump.make_coarse();
-    }
-    let ended = play(&mut pump, script, &mut output);
-    let counts = pump.counts();
-    drop(pump);
-    Ok(Played {
-        stop: ended?,
-        output,
-        counts,
-    })
-}
-
-#[test]
-fn packets_are_lost_or_come_again(rt: HostRuntime) -> Result<(), Fail> {
-    let alloc = rt.alloc();
-    // A TAKEN comes back twice; the second one finds nothing to remove.
-    let again: &[&str] = &[
-        HELLO,
-        "look 1 100 00000000 data 0 61",
-        "look 1 100 00000000",
-        "high 1 110",
-        "carry 1 0",
-        "carry 1 0",
-        "return 1 160 1",
-        "return 1 170 0",
-        "look 1 178 00000000",
-    ];
-    // Room is made before the second look for it.
-    let room: &[&str] = &[
-        HELLO,
-        "look 1 100 00000000 data 0 61",
-        "look 1 100 00000000",
-        "look 1 177 00000000",
-        "look 1 178 00000000",
-        "look 1 200 00000000 data 1 62",
-        "look 1 210 00000000",
-        "high 1 215",
-        "look 1 220 00000000",
-        "look 1 240 00000000",
-        "look 1 298 00000000",
-        "look 1 318 00000000",
-    ];
-    // No packet was sent that could be carried.
-    let early: &[&str] = &[
-        HELLO,
-        "look 1 100 00000000 data 0 61",
-        "look 1 100 00000000",
-        "carry 1 0",
-        "look 1 178 00000000",
-    ];
-    // The receiver is opened again: its ATTACH brings back the TAKEN that was lost.
-    let taken: &[&str] = &[
-        HELLO,
-        "look 1 100 00000000 data 0 61",
-        "look 1 100 00000000",
-        "high 1 110",
-        "carry 1 0",
-        "receiver-restart 1 160",
-    ];
-    // It has nothing, so what is in the hand is sent again; a moment that is over is refused.
-    let lost: &[&str] = &[
-        HELLO,
-        "look 1 100 00000000 data 0 61",
-        "look 1 100 00000000",
-        "high 1 110",
-        "receiver-restart 1 160",
-        "receiver-restart 1 159",
-    ];
-    for (script, wanted, stop, counts) in [
-        (
-            taken,
-            "low 1 10 welcome 0\nstored 1 100 0\npassed 1 100 0 20000\nsent 1 110 0\ntook 1 0\nattach 1 160 1\nremoved 1 160 0 50\n",
-            None,
-            (1, 1, 1),
-        ),
-        (
-            lost,
-            "low 1 10 welcome 0\nstored 1 100 0\npassed 1 100 0 20000\nsent 1 110 0\nattach 1 160 0\nsent 1 160 0\n",
-            Some(Stop::Line),
-            (1, 0, 0),
-        ),
-        (
-            again,
-            "low 1 10 welcome 0\nstored 1 100 0\npassed 1 100 0 20000\nsent 1 110 0\ntook 1 0\nagain 1 0\nremoved 1 160 0 50\nlow 1 178 ack 0\n",
-            None,
-            (1, 1, 1),
-        ),
-        (
-            room,
-            "low 1 10 welcome 0\nstored 1 100 0\npassed 1 100 0 20000\nlow 1 178 ack 0\nstored 1 200 1\nfull 1 210\nsent 1 215 0\npassed 1 220 0 20000\nlow 1 298 ack 1\n",
-            None,
-            (2, 0, 0),
-        ),
-        (
-            early,
-            "low 1 10 welcome 0\nstored 1 100 0\npassed 1 100 0 20000\n",
-            Some(Stop::Line),
-            (1, 0, 0),
-        ),
-    ] {
-        let played = play_new(alloc, script, false)?;
-        assert_eq!(rt; played.stop, stop);
-        assert_eq!(rt; played.output.as_slice(), wanted.as_bytes());
-        assert_eq!(rt; played.counts, counts);
-    }
-    Ok(())
-}
-
-// In a coarse session the start comes down as 32768, and the time 100 as 128.
-#[test]
-fn averages_come_down_as_levels(rt: HostRuntime) -> Result<(), Fail> {
-    let alloc = rt.alloc();
-    let start: &[&str] = &[
-        HELLO,
-        "look 1 100 00000000 data 0 61",
-        "look 1 100 00000000",
-        "look 1 227 00000000",
-        "look 1 228 00000000",
-    ];
-    let time: &[&str] = &[
-        HELLO,
-        "look 1 10 00000000 data 0 61",
-        "look 1 10 00000000",
-        "look 1 138 00000000",
-        "done 1 200 100",
-        "look 1 400 00000000 data 1 62",
-        "look 1 400 00000000",
-        "look 1 400 00000000",
-    ];
-    for (script, wanted, counts) in [
-        (
-            start,
-            "low 1 10 welcome 0\nstored 1 100 0\npassed 1 100 0 32768\nlow 1 228 ack 0\n",
-            (1, 0, 0),
-        ),
-        (
-            time,
-            "low 1 10 welcome 0\nstored 1 10 0\npassed 1 10 0 32768\nlow 1 138 ack 0\nsent 1 200 0\ntook 1 0\nremoved 1 300 0 100\nstored 1 400 1\npassed 1 400 1 128\nlow 1 400 ack 1\n",
-            (2, 1, 1),
-        ),
-    ] {
-        let played = play_new(alloc, script, true)?;
-        assert_eq!(rt; played.stop, None);
-        assert_eq!(rt; played.output.as_slice(), wanted.as_bytes());
-        assert_eq!(rt; played.counts, counts);
-    }
-    Ok(())
 }
 
 // A new pump over disks in memory; this call of low's disk fails.

@@ -32,11 +32,12 @@ fn lines_are_printed_as_they_are_spelled(rt: HostRuntime) {
         b"told 1 5 0000000a fine 4294967295/1000000000 data 7 6162",
         b"gone 1 20",
         b"high 1 30",
-        b"carry 1 18446744073709551615",
+        b"carry 4294967295 18446744073709551615",
         b"return 1 40 3",
         b"done 1 50 1000000000",
         b"restart 1 60",
         b"receiver-restart 1 70",
+        b"step 4294967295 4611686018427387904 0000000a",
     ] {
         assert!(rt; prints(text, text));
     }

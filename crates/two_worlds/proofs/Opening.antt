@@ -7,6 +7,7 @@ pub mod Headers
 pub mod Lives
 pub mod NewDisks
 pub mod Opened
+pub mod Readies
 pub mod Ready
 pub mod Refusing
 pub mod Restarting

@@ -1,4 +1,4 @@
-use Rattle.std.proofs.Common.{true}
+use Rattle.std.proofs.Common.{true, arith}
 use Rattle.pump_frame.specs.declared.frame.Kind.TheVariants.{Attach}
 use Rattle.script_reader.specs.declared.event.Event.TheVariants.{Attach as AttachLine}
 use Rattle.two_worlds.specs.Private.HighLooks.{LeadsWith, BreaksWith, Attaches, BreaksAttaching}
@@ -35,3 +35,27 @@ returns-clause-does g c = λ p s.
 
 pub returns-clause-serve : goal.returns-clause-serve
 returns-clause-serve g c = c.look_with.ensures.serve
+
+pub returns-clause-works : goal.returns-clause-works
+returns-clause-works g c = c.look_with.ensures.works
+
+pub returns-clause-low : goal.returns-clause-low
+returns-clause-low g c = c.look_with.ensures.low
+
+pub returns-clause-recv : goal.returns-clause-recv
+returns-clause-recv g c = c.look_with.ensures.recv
+
+pub returns-clause-row : goal.returns-clause-row
+returns-clause-row g c = c.look_with.ensures.row
+
+pub look_with-requires-clause-order : goal.look_with-requires-clause-order
+look_with-requires-clause-order g c = c.requires.order
+
+pub look_with-requires-clause-moment : goal.look_with-requires-clause-moment
+look_with-requires-clause-moment g c = c.requires.moment
+
+pub look_with-requires-clause-out : goal.look_with-requires-clause-out
+look_with-requires-clause-out g c =
+    let few = c.put.ensures.few in
+    let room = c.requires.out in
+    omega (arith, few, room)

@@ -4,10 +4,11 @@ use Rattle.std.proofs.Math.Logic.{∥∥₁_elim}
 use Rattle.std.proofs.Props.{props}
 use Rattle.high_receiver.specs.Receiving.{recv_count, recv_end, recv_size, is_device}
 use Rattle.high_receiver.specs.declared.values.TakeFault.TheVariants.{Device, LogFull}
+use Rattle.two_worlds.proofs.Carry.Answered.{in_store}
 use Rattle.two_worlds.proofs.Carry.Carries.{leads_by, breaks, overfull, returned}
 use Rattle.two_worlds.proofs.Carry.Serves.{serves_nothing, serves_ok, serves_device, serves_full}
 use Rattle.two_worlds.proofs.Opening.Ready.{recv_is_ready}
-use Rattle.two_worlds.proofs.Carry.Works.{small, short, answered_as, ahead_same, ahead_never, works_with, works_full}
+use Rattle.two_worlds.proofs.Carry.Works.{small, short, answered_as, ahead_same, ahead_never, works_with, works_not, works_full}
 use Rattle.world_laws.proofs.Packets.{keep_last_some}
 use Rattle.two_worlds.specs.Printing.{lines_in}
 use Rattle.two_worlds.proofs.pump.parts.Parts.carry.Goals as goal
@@ -128,3 +129,16 @@ returns-in-Err-LogFull-clause-works g c =
     let item = c.in-Some.item.now in
     let w = answered_as m s item c.take.new.self c.take.result (Err (LogFull c.in-Err-LogFull.end c.in-Err-LogFull.length c.in-Err-LogFull.size)) (c.in-Err-LogFull.is ∙ ap (λ f. Err f) c.in-Err-LogFull.field-0-is) refl c.take.ensures.at_once c.take.ensures.unchanged c.take.ensures.stores in
     works_full m s c.requires.able item.payload item.number c.take.new.self c.in-Err-LogFull.end c.in-Err-LogFull.length c.in-Err-LogFull.size w
+
+pub returns-in-Err-Device-clause-works : goal.returns-in-Err-Device-clause-works
+returns-in-Err-Device-clause-works g c =
+    let m = g.D.Disk.told in
+    let s = c.args.self.now in
+    let item = c.in-Some.item.now in
+    let w = answered_as m s item c.take.new.self c.take.result (Err (Device c.in-Err-Device.faults)) (c.in-Err-Device.is ∙ ap (λ f. Err f) c.in-Err-Device.field-0-is) refl c.take.ensures.at_once c.take.ensures.unchanged c.take.ensures.stores in
+    let stored = in_store m item.payload item.number (recv_count s.receiver) (recv_end s.receiver) (recv_size s.receiver) s.receiver c.take.new.self c.in-Err-Device.faults w in
+    works_not m s c.requires.able c.take.new.self c.in-Err-Device.faults stored.2.closed stored.2.device
+
+pub returns-in-Err-Ahead-clause-works : goal.returns-in-Err-Ahead-clause-works
+returns-in-Err-Ahead-clause-works g c =
+    works_with g.D.Disk.told c.args.self.now c.requires.able c.take.new.self c.args.self.now.returned (c.in-Err-Ahead.ensures.ready (ap (λ f. is_device (Err f)) c.in-Err-Ahead.field-0-is)) c.take.ensures.row c.take.ensures.size refl

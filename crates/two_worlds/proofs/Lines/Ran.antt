@@ -1,7 +1,8 @@
 -- A line that can be applied, from the part of it that carried it out.
-use Rattle.std.proofs.Common.{◌≡◌, ℕ, true, List, Result, sym, ap, ◌∙◌, subst}
-use Rattle.std.specs.Prelude.{◌==◌, nat_le}
+use Rattle.std.proofs.Common.{◌≡◌, ◌≤◌, ◌<◌, ℕ, Bool, true, false, arith, List, Result, sym, ap, ◌∙◌, subst}
+use Rattle.std.specs.Prelude.{◌==◌, ◌&&◌, ◌||◌, not, nat_le, nat_lt}
 use Rattle.std.proofs.lemmas.Bool.{and_parts, eqb-true}
+use Rattle.std.proofs.lemmas.Bool.Decides.{nat_tests}
 use Rattle.disk_model.specs.Disk.{Meaning}
 use Rattle.script_reader.specs.declared.event.Event.{Event}
 use Rattle.script_reader.specs.declared.line.Arriving.{Arriving}
@@ -39,3 +40,31 @@ module _ {D : Type 0} (c : Parts D) (line : ScriptLine) (timely : is_timely_by c
   own_done moment time is =
       let both = and_parts (session == c.row.id) _ (subst (λ (l : ScriptLine). is_timely_by c l ≡ true) is timely) in
       is ∙ ap (λ (s : ℕ). lines.Done s moment time) (eqb-true session c.row.id both.0)
+
+-- ---- what the test says ----
+
+less_by : (a b : ℕ) → nat_lt a b ≡ true → a < b
+less_by a b is = grind (arith, nat_tests)
+
+most_by : (a b : ℕ) → nat_le a b ≡ true → a ≤ b
+most_by a b is = grind (arith, nat_tests)
+
+-- it is not before the last one
+pub in_order : (mine : Bool) (last moment : ℕ) → (mine && nat_le last moment) ≡ true → last ≤ moment
+in_order mine last moment is = most_by last moment (and_parts mine (nat_le last moment) is).1
+
+pub in_order_with : (mine : Bool) (last moment : ℕ) (more : Bool) → (mine && (nat_le last moment && more)) ≡ true → last ≤ moment
+in_order_with mine last moment more is = most_by last moment (and_parts (nat_le last moment) more (and_parts mine (nat_le last moment && more) is).1).0
+
+-- so many packets were sent
+pub are_kept : (mine : Bool) (back count : ℕ) → (mine && nat_lt back count) ≡ true → back < count
+are_kept mine back count is = less_by back count (and_parts mine (nat_lt back count) is).1
+
+pub are_returned : (mine due : Bool) (back count : ℕ) → (mine && (due && nat_lt back count)) ≡ true → back < count
+are_returned mine due back count is = less_by back count (and_parts due (nat_lt back count) (and_parts mine (due && nat_lt back count) is).1).1
+
+-- its time has room
+pub ends_in_time : (mine due goes : Bool) (end last : ℕ) → (mine && (due && (not goes || nat_le end last))) ≡ true → goes ≡ true → end ≤ last
+ends_in_time mine due true end last is on =
+    most_by end last (and_parts due (false || nat_le end last) (and_parts mine (due && (false || nat_le end last)) is).1).1
+ends_in_time mine due false end last is on = absurd (cc)

@@ -1,9 +1,11 @@
-use Rattle.std.proofs.Common.{◌≡◌, ℕ, List, ◌∷◌, [], length, refl, sym, ◌∙◌, ap, subst, arith, length-append}
+use Rattle.std.proofs.Common.{◌≡◌, ◌<◌, ◌≤◌, ℕ, List, ◌∷◌, [], length, refl, sym, ◌∙◌, ap, subst, arith, length-append}
 use Rattle.disk_model.specs.Disk.{Same}
 use Rattle.disk_model.proofs.Run.{started, goes_on_same}
 use Rattle.recovery.specs.Deals.{InSlots}
 use Rattle.recovery.proofs.Dealing.{slots_snoc}
-use Rattle.stable_buffer.specs.Stands.{InSlot}
+use Rattle.stable_buffer.specs.Low.{low_count}
+use Rattle.stable_buffer.specs.Numbers.{length_at}
+use Rattle.stable_buffer.specs.Stands.{InSlot, slot_of}
 use Rattle.two_worlds.proofs.pump.surveying.read_live.Goals as goal
 
 pub loop-n-init : goal.loop-n-init
@@ -45,3 +47,78 @@ loop-n-preserved g c =
       moves = goes_on_same m Same _ _ _ i.moves r.moves;
       count = omega (arith, i.count, r.counts);
     }
+
+pub returns-in-Err-clause-long : goal.returns-in-Err-clause-long
+returns-in-Err-clause-long g c = λ other told.
+    let i = c.loop-n.invariant in
+    let row = c.args.row.now in
+    let n = c.loop-n.n in
+    let test = c.loop-n-test.true in
+    let all = c.accepted-to.ensures in
+    let lt : n < low_count c.args.low.now = omega (arith, test, all) in
+    (n, i.from, lt, subst (λ (z : List ℕ). row.message < length_at z (slot_of row n)) (i.moves.reads told) (c.in-Err.ensures.long other told))
+
+pub returns-in-Err-clause-device : goal.returns-in-Err-clause-device
+returns-in-Err-clause-device g c = λ is.
+    let rose = c.in-Err.ensures.device is in
+    let count = c.loop-n.invariant.count in
+    omega (arith, rose, count)
+
+pub returns-in-Err-clause-counts : goal.returns-in-Err-clause-counts
+returns-in-Err-clause-counts g c =
+    let counts = c.read_message.ensures.counts in
+    let count = c.loop-n.invariant.count in
+    omega (arith, counts, count)
+
+pub returns-in-Err-clause-moves : goal.returns-in-Err-clause-moves
+returns-in-Err-clause-moves g c = goes_on_same g.D.Disk.told Same _ _ _ c.loop-n.invariant.moves c.read_message.ensures.moves
+
+pub returns-in-Err-push-clause-counts : goal.returns-in-Err-push-clause-counts
+returns-in-Err-push-clause-counts g c =
+    let counts = c.read_message.ensures.counts in
+    let count = c.loop-n.invariant.count in
+    omega (arith, counts, count)
+
+pub returns-in-Err-push-clause-moves : goal.returns-in-Err-push-clause-moves
+returns-in-Err-push-clause-moves g c = goes_on_same g.D.Disk.told Same _ _ _ c.loop-n.invariant.moves c.read_message.ensures.moves
+
+pub returns-clause-count : goal.returns-clause-count
+returns-clause-count g c =
+    let i = c.loop-n.invariant in
+    let all = c.accepted-to.ensures in
+    let range = c.requires.range in
+    let some : c.args.from ≤ c.accepted-to.result = omega (arith, all, range) in
+    let end = c.loop-n.auto.n-end some in
+    let test = c.loop-n-test.false in
+    let read = i.read in
+    omega (arith, all, end, test, read)
+
+pub returns-clause-stand : goal.returns-clause-stand
+returns-clause-stand g c = c.loop-n.invariant.slots
+
+pub returns-clause-moves : goal.returns-clause-moves
+returns-clause-moves g c = c.loop-n.invariant.moves
+
+pub returns-clause-counts : goal.returns-clause-counts
+returns-clause-counts g c = c.loop-n.invariant.count
+
+pub read_message-requires-clause-ready : goal.read_message-requires-clause-ready
+read_message-requires-clause-ready g c = c.loop-n.invariant.ready
+
+pub read_message-requires-clause-row : goal.read_message-requires-clause-row
+read_message-requires-clause-row g c = c.loop-n.invariant.row' ∙ c.requires.row
+
+pub read_message-requires-clause-kept : goal.read_message-requires-clause-kept
+read_message-requires-clause-kept g c =
+    let i = c.loop-n.invariant in
+    let stored = i.stored in
+    let from = i.from in
+    let range = c.requires.range in
+    omega (arith, stored, from, range)
+
+pub read_message-requires-clause-stored : goal.read_message-requires-clause-stored
+read_message-requires-clause-stored g c =
+    let stored = c.loop-n.invariant.stored in
+    let test = c.loop-n-test.true in
+    let all = c.accepted-to.ensures in
+    omega (arith, stored, test, all)

@@ -2,11 +2,15 @@ use Rattle.std.proofs.Common.{◌<◌, ℕ, List, sym, ◌∙◌, subst, arith, 
 use Rattle.std.specs.Prelude.{◌&&◌}
 use Rattle.pump_frame.specs.Counts.{Rose}
 use Rattle.recovery.specs.Deals.{InSlots}
+use Rattle.disk_model.specs.declared.name.Role.TheVariants as roles
+use Rattle.high_receiver.specs.Receiving.{recv_disk}
+use Rattle.stable_buffer.specs.High.{high_disk}
 use Rattle.stable_buffer.specs.Low.{low_disk}
 use Rattle.stable_buffer.specs.Numbers.{length_at}
 use Rattle.stable_buffer.specs.Stands.{slot_of}
-use Rattle.two_worlds.specs.Openings.{is_for_device}
+use Rattle.two_worlds.specs.Openings.{is_for_device, failed_at}
 use Rattle.two_worlds.specs.Surveys.{IsRead}
+use Rattle.two_worlds.proofs.Opening.Blames.{none_failed}
 use Rattle.two_worlds.proofs.Opening.Comparing.{found_by}
 use Rattle.two_worlds.proofs.Opening.Surveying.{if_some, never_long, same_messages, same_next, same_removed, same_taken, read_by, read_then, blamed}
 use Rattle.two_worlds.proofs.pump.surveying.survey_disks.Goals as goal
@@ -72,3 +76,49 @@ returns-clause-low_back g c =
     subst (λ d. IsRead m c.args.low d (is_for_device c.in-Err-read_live.why && true)) (sym c.into_disk-in-Err-read_live.ensures)
     (read_then m c.args.low (low_disk o.low) (low_disk c.read_live.new.low) (is_for_device c.in-Err-read_live.why && true) (read_by m c.args.low (low_disk o.low) false e.low e.moves_low) c.read_live.ensures.moves c.read_live.ensures.counts
     (λ is. blamed (Rose (m.count (low_disk o.low)) (m.count (low_disk c.read_live.new.low))) c.in-Err-read_live.why is c.in-Err-read_live.ensures.device))
+
+pub returns-in-Err-clause-refused : goal.returns-in-Err-clause-refused
+returns-in-Err-clause-refused g c = c.in-Err.ensures.refused
+
+pub returns-in-Err-clause-low_back : goal.returns-in-Err-clause-low_back
+returns-in-Err-clause-low_back g c =
+    let e = c.in-Err.refused in
+    read_by g.D.Disk.told c.args.low e.low (failed_at roles.Low e) c.in-Err.ensures.low c.in-Err.ensures.moves_low
+
+pub returns-in-Err-clause-high_back : goal.returns-in-Err-clause-high_back
+returns-in-Err-clause-high_back g c =
+    let e = c.in-Err.refused in
+    read_by g.D.Disk.told c.args.high e.high (failed_at roles.High e) c.in-Err.ensures.high c.in-Err.ensures.moves_high
+
+pub returns-in-Err-clause-recv_back : goal.returns-in-Err-clause-recv_back
+returns-in-Err-clause-recv_back g c =
+    let e = c.in-Err.refused in
+    read_by g.D.Disk.told c.args.recv e.recv (failed_at roles.Recv e) c.in-Err.ensures.recv c.in-Err.ensures.moves_recv
+
+pub returns-in-Ok-read_live-clause-high : goal.returns-in-Ok-read_live-clause-high
+returns-in-Ok-read_live-clause-high g c =
+    let m = g.D.Disk.told in
+    let e = c.in-Ok-open_all.ensures in
+    let o = c.in-Ok-open_all.opened.0 in
+    subst (λ d. IsRead m c.args.high d false) (sym c.into_disk-in-Ok-read_live.ensures) (read_by m c.args.high (high_disk o.high) false e.high e.moves_high)
+
+pub returns-in-Ok-read_live-clause-recv : goal.returns-in-Ok-read_live-clause-recv
+returns-in-Ok-read_live-clause-recv g c =
+    let m = g.D.Disk.told in
+    let e = c.in-Ok-open_all.ensures in
+    subst (λ d. IsRead m c.args.recv d false) (sym c.into_disk-in-Ok-read_live-2.ensures) (read_by m c.args.recv (recv_disk c.in-Ok-open_all.opened.1) false e.recv e.moves_recv)
+
+pub returns-clause-high_back : goal.returns-clause-high_back
+returns-clause-high_back g c =
+    let m = g.D.Disk.told in
+    let e = c.in-Ok-open_all.ensures in
+    let o = c.in-Ok-open_all.opened.0 in
+    subst (λ d. IsRead m c.args.high d (is_for_device c.in-Err-read_live.why && false)) (sym c.into_disk-in-Err-read_live-2.ensures)
+    (subst (λ b. IsRead m c.args.high (high_disk o.high) b) (sym (none_failed (is_for_device c.in-Err-read_live.why))) (read_by m c.args.high (high_disk o.high) false e.high e.moves_high))
+
+pub returns-clause-recv_back : goal.returns-clause-recv_back
+returns-clause-recv_back g c =
+    let m = g.D.Disk.told in
+    let e = c.in-Ok-open_all.ensures in
+    subst (λ d. IsRead m c.args.recv d (is_for_device c.in-Err-read_live.why && false)) (sym c.into_disk-in-Err-read_live-3.ensures)
+    (subst (λ b. IsRead m c.args.recv (recv_disk c.in-Ok-open_all.opened.1) b) (sym (none_failed (is_for_device c.in-Err-read_live.why))) (read_by m c.args.recv (recv_disk c.in-Ok-open_all.opened.1) false e.recv e.moves_recv))

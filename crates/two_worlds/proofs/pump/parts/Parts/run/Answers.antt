@@ -1,10 +1,14 @@
-use Rattle.std.proofs.Common.{ap, refl}
-use Rattle.script_reader.specs.Heads.{line_with, arriving_with}
+use Rattle.std.proofs.Common.{◌≡◌, ap, refl, subst, true}
+use Rattle.script_reader.specs.Heads.{line_with, arriving_with, CanHoldLine}
+use Rattle.script_reader.specs.Lawful.{IsLawfulLine}
+use Rattle.script_reader.specs.declared.head.LineHead.{LineHead}
+use Rattle.script_reader.specs.declared.line.Line.{Line as ScriptLine}
 use Rattle.script_reader.specs.declared.line.Line.TheVariants as lines
 use Rattle.two_worlds.proofs.Lines.On.{runs_on}
-use Rattle.two_worlds.proofs.Lines.Ran.{ran_as, own_look, own_gone, own_done}
+use Rattle.two_worlds.proofs.Lines.Ran.{ran_as, own_look, own_gone, own_done, in_order, in_order_with, are_kept, are_returned, ends_in_time}
 use Rattle.two_worlds.proofs.Lines.Runs.{high_runs, carry_runs, return_runs}
 use Rattle.two_worlds.specs.Printing.{lines_in}
+use Rattle.two_worlds.specs.Timely.{is_timely_by}
 use Rattle.two_worlds.proofs.pump.parts.Parts.run.Goals as goal
 
 pub returns-in-Look : goal.returns-in-Look
@@ -70,3 +74,48 @@ returns-in-Done g c =
     c.done_line.ensures.runs
     (runs_on g.D.Disk.told c.args.self.now c.done_line.new.self own (lines_in c.args.out.now.items) (lines_in c.done_line.new.out.items) c.done_line.result tt c.done_line.ensures.works)
     c.done_line.ensures.serve c.done_line.ensures.row
+
+pub look_line-requires-clause-order : goal.look_line-requires-clause-order
+look_line-requires-clause-order g c = in_order _ c.args.self.now.moment c.in-Look.moment (subst (λ (l : ScriptLine). is_timely_by c.args.self.now l ≡ true) (ap (line_with c.args.bytes.now) c.in-Look.is) c.requires.timely)
+
+pub gone_line-requires-clause-order : goal.gone_line-requires-clause-order
+gone_line-requires-clause-order g c = in_order _ c.args.self.now.moment c.in-Gone.moment (subst (λ (l : ScriptLine). is_timely_by c.args.self.now l ≡ true) (ap (line_with c.args.bytes.now) c.in-Gone.is) c.requires.timely)
+
+pub look_high-requires-clause-order : goal.look_high-requires-clause-order
+look_high-requires-clause-order g c = in_order _ c.args.self.now.moment c.in-High.moment (subst (λ (l : ScriptLine). is_timely_by c.args.self.now l ≡ true) (ap (line_with c.args.bytes.now) c.in-High.is) c.requires.timely)
+
+pub take_back-requires-clause-order : goal.take_back-requires-clause-order
+take_back-requires-clause-order g c = in_order_with _ c.args.self.now.moment c.in-Return.moment _ (subst (λ (l : ScriptLine). is_timely_by c.args.self.now l ≡ true) (ap (line_with c.args.bytes.now) c.in-Return.is) c.requires.timely)
+
+pub done_line-requires-clause-order : goal.done_line-requires-clause-order
+done_line-requires-clause-order g c = in_order_with _ c.args.self.now.moment c.in-Done.moment _ (subst (λ (l : ScriptLine). is_timely_by c.args.self.now l ≡ true) (ap (line_with c.args.bytes.now) c.in-Done.is) c.requires.timely)
+
+pub look_line-requires-clause-moment : goal.look_line-requires-clause-moment
+look_line-requires-clause-moment g c = (subst IsLawfulLine (ap (line_with c.args.bytes.now) c.in-Look.is) c.requires.lawful).0
+
+pub look_line-requires-clause-lawful : goal.look_line-requires-clause-lawful
+look_line-requires-clause-lawful g c = (subst IsLawfulLine (ap (line_with c.args.bytes.now) c.in-Look.is) c.requires.lawful).1
+
+pub look_line-requires-clause-room : goal.look_line-requires-clause-room
+look_line-requires-clause-room g c = subst (λ (h : LineHead). CanHoldLine h c.args.bytes.now) c.in-Look.is c.requires.room
+
+pub done_line-requires-clause-moment : goal.done_line-requires-clause-moment
+done_line-requires-clause-moment g c = (subst IsLawfulLine (ap (line_with c.args.bytes.now) c.in-Done.is) c.requires.lawful).0
+
+pub gone_line-requires-clause-moment : goal.gone_line-requires-clause-moment
+gone_line-requires-clause-moment g c = subst IsLawfulLine (ap (line_with c.args.bytes.now) c.in-Gone.is) c.requires.lawful
+
+pub look_high-requires-clause-moment : goal.look_high-requires-clause-moment
+look_high-requires-clause-moment g c = subst IsLawfulLine (ap (line_with c.args.bytes.now) c.in-High.is) c.requires.lawful
+
+pub take_back-requires-clause-moment : goal.take_back-requires-clause-moment
+take_back-requires-clause-moment g c = subst IsLawfulLine (ap (line_with c.args.bytes.now) c.in-Return.is) c.requires.lawful
+
+pub carry-requires-clause-back : goal.carry-requires-clause-back
+carry-requires-clause-back g c = are_kept _ c.in-Carry.back _ (subst (λ (l : ScriptLine). is_timely_by c.args.self.now l ≡ true) (ap (line_with c.args.bytes.now) c.in-Carry.is) c.requires.timely)
+
+pub take_back-requires-clause-back : goal.take_back-requires-clause-back
+take_back-requires-clause-back g c = are_returned _ _ c.in-Return.back _ (subst (λ (l : ScriptLine). is_timely_by c.args.self.now l ≡ true) (ap (line_with c.args.bytes.now) c.in-Return.is) c.requires.timely)
+
+pub done_line-requires-clause-back : goal.done_line-requires-clause-back
+done_line-requires-clause-back g c = ends_in_time _ _ _ _ _ (subst (λ (l : ScriptLine). is_timely_by c.args.self.now l ≡ true) (ap (line_with c.args.bytes.now) c.in-Done.is) c.requires.timely)

@@ -1,9 +1,9 @@
 -- What is gathered before it is handed on.
-use Rattle.std.proofs.Common.{◌≡◌, ℕ, ◌+◌, ◌<◌, List, [], ◌∷◌, ◌++◌, Option, Result, Ok, Err, OnErr, length, take, drop, slice_index_or, sym, ap, ◌∙◌, append_assoc, append-nil}
+use Rattle.std.proofs.Common.{◌≡◌, ℕ, ◌+◌, ◌<◌, List, [], ◌∷◌, ◌++◌, Option, Result, Ok, Err, OnErr, OnOk, ◌≤◌, le_trans, arith, length, take, drop, slice_index_or, sym, ap, ◌∙◌, append_assoc, append-nil}
 use Rattle.std.proofs.lemmas.List.{map-append, take-append-drop, take_more}
 use Rattle.std.proofs.lemmas.List.Concat.{flat_map-append}
 use Rattle.std.specs.Io.KnownBytes.{Appends}
-use Rattle.pump_link.specs.Causes.{AppendsFront}
+use Rattle.pump_link.specs.Causes.{AppendsFront, HasCause}
 use Rattle.pump_link.proofs.Known.{Appends-none, Appends-then}
 use Rattle.script_reader.specs.declared.event.Event.{Event}
 use Rattle.script_reader.specs.declared.event.EventHead.{EventHead}
@@ -84,3 +84,18 @@ held_front (Err t) first second a b c x y e p q =
 pub front_behind : {T E : Type 0} (r : Result T E) (first second later y : List ℕ) (a b c : Option (List ℕ)) → Gathers first second a b [] → later ≡ second ++ y → OnErr r (AppendsFront b c later) → OnErr r (AppendsFront a c (first ++ y))
 front_behind (Ok t) first second later y a b c p e q = tt
 front_behind (Err t) first second later y a b c p e q = front_then first second a b c [] y p (rw e at q)
+
+-- y came behind what was held
+pub gathers_behind : (first second later y : List ℕ) (a b : Option (List ℕ)) → Gathers first second a b [] → later ≡ second ++ y → Gathers first later a b y
+gathers_behind first second later y a b p e =
+    (p.0, p.1, ap (λ z. z ++ y) (sym (append-nil first) ∙ p.2) ∙ append_assoc p.0 second y ∙ ap (λ z. p.0 ++ z) (sym e))
+
+-- .. and all of it was written
+pub all_behind : {T E : Type 0} (r : Result T E) (first second later y : List ℕ) (a b c : Option (List ℕ)) → Gathers first second a b [] → later ≡ second ++ y → OnOk r (Appends b c later) → OnOk r (Appends a c (first ++ y))
+all_behind (Ok t) first second later y a b c p e q = appends_then first second a b c [] y p (rw e at q)
+all_behind (Err t) first second later y a b c p e q = tt
+
+-- the cause of the second call, where the first one went well
+pub cause_then : {T E : Type 0} (r : Result T E) (a b c : ℕ) → a ≤ b → HasCause b c r → HasCause a c r
+cause_then (Ok t) a b c le cause = record { later = le_trans le cause.later; failed = tt }
+cause_then (Err t) a b c le cause = record { later = le_trans le cause.later; failed = (let rose = cause.failed in omega (arith, rose, le)) }

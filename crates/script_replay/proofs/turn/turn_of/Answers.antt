@@ -31,3 +31,36 @@ returns-else-is_at-clause-does g c = λ told tells before lends t stand.
 
 pub returns-else-is_at-clause-device : goal.returns-else-is_at-clause-device
 returns-else-is_at-clause-device g c = λ number h before lends. inl (c.begin_at.ensures.device number h)
+
+pub returns-then-is_at-clause-order : goal.returns-then-is_at-clause-order
+returns-then-is_at-clause-order g c = c.go_on_at.ensures.order
+
+pub returns-then-is_at-clause-quiet : goal.returns-then-is_at-clause-quiet
+returns-then-is_at-clause-quiet g c = c.go_on_at.ensures.quiet
+
+pub returns-then-is_at-clause-line : goal.returns-then-is_at-clause-line
+returns-then-is_at-clause-line g c = c.go_on_at.ensures.line
+
+pub returns-then-is_at-clause-later : goal.returns-then-is_at-clause-later
+returns-then-is_at-clause-later g c = c.go_on_at.ensures.later
+
+pub returns-then-is_at-clause-cause : goal.returns-then-is_at-clause-cause
+returns-then-is_at-clause-cause g c = c.go_on_at.ensures.cause
+
+pub returns-else-is_at-clause-order : goal.returns-else-is_at-clause-order
+returns-else-is_at-clause-order g c = c.begin_at.ensures.order
+
+pub returns-else-is_at-clause-hands : goal.returns-else-is_at-clause-hands
+returns-else-is_at-clause-hands g c = c.begin_at.ensures.hands
+
+pub returns-else-is_at-clause-goes : goal.returns-else-is_at-clause-goes
+returns-else-is_at-clause-goes g c = c.begin_at.ensures.goes
+
+pub returns-else-is_at-clause-line : goal.returns-else-is_at-clause-line
+returns-else-is_at-clause-line g c = c.begin_at.ensures.line
+
+pub returns-else-is_at-clause-disks_later : goal.returns-else-is_at-clause-disks_later
+returns-else-is_at-clause-disks_later g c = c.begin_at.ensures.disks_later
+
+pub returns-else-is_at-clause-cause : goal.returns-else-is_at-clause-cause
+returns-else-is_at-clause-cause g c = λ is. absurd (c.begin_at.ensures.written is)

@@ -14,48 +14,90 @@ use Rattle.pump_wrapper.proofs.Following.{begins, begins_no, one_taken, whole_fi
 use Rattle.pump_wrapper.proofs.Takings.{length_of_piece, stands_on, count_is, next_message, next_bytes, front_behind}
 use Rattle.pump_wrapper.proofs.gathered.gather_held.Goals as goal
 
-pub returns-in-Err-clause-gathers : goal.returns-in-Err-clause-gathers
-returns-in-Err-clause-gathers g c = λ told messages stands.
+pub returns-in-Err : goal.returns-in-Err
+returns-in-Err g c =
     let m = g.D.Disk.told in
     let kept = c.loop-number.invariant in
-    let n = c.loop-number.number in
-    let on = stands_on m c.args.receiver.now c.loop-number.receiver messages kept.row kept.moves told stands in
-    let lt : n < length messages = omega (arith, c.loop-number-test.true, c.count-number-end.ensures, kept.count, count_is m c.loop-number.receiver messages kept.ready told on) in
-    (n, lt, begins c.args.message (take n messages) c.loop-number.gathering (kept.taken told messages stands), kept.wrote told messages stands)
+    let e = c.in-Err.ensures in
+    record {
+      gathers = λ told messages stands.
+          let n = c.loop-number.number in
+          let on = stands_on m c.args.receiver.now c.loop-number.receiver messages kept.row kept.moves told stands in
+          let lt : n < length messages = omega (arith, c.loop-number-test.true, c.count-number-end.ensures, kept.count, count_is m c.loop-number.receiver messages kept.ready told on) in
+          (n, lt, begins c.args.message (take n messages) c.loop-number.gathering (kept.taken told messages stands), kept.wrote told messages stands);
+      ready = λ other. absurd (other tt);
+      closed = λ device. e.closed;
+      count = e.count ∙ kept.count;
+      end = e.end ∙ kept.end;
+      row = e.row ∙ kept.row;
+      size = e.size ∙ kept.size;
+      moves = goes_on_same m Same _ _ _ kept.moves e.moves;
+      cause = (e.device, omega (arith, kept.counts, e.rose));
+      later = kept.later;
+      counts = omega (arith, kept.counts, e.counts);
+    }
 
-pub returns-in_default-clause-gathers : goal.returns-in_default-clause-gathers
-returns-in_default-clause-gathers g c = λ told messages stands.
+pub returns-in_default : goal.returns-in_default
+returns-in_default g c =
     let m = g.D.Disk.told in
     let kept = c.loop-number.invariant in
-    let n = c.loop-number.number in
-    let on = stands_on m c.args.receiver.now c.loop-number.receiver messages kept.row kept.moves told stands in
-    let lt : n < length messages = omega (arith, c.loop-number-test.true, c.count-number-end.ensures, kept.count, count_is m c.loop-number.receiver messages kept.ready told on) in
-    let more = next_message messages n (given_message c.advance.new.self) c.message.result.now lt (c.in-Ok.ensures.message told messages on ∙ ap (λ k. slice_index_or messages k []) kept.given) c.message.ensures.message in
-    let has = kept.taken told messages stands in
-    let never = begins_no c.args.message (take n messages) c.message.result.now c.loop-number.gathering has c.in_default.ensures.taken in
-    (lt, begins c.args.message (take n messages) c.loop-number.gathering has, subst (λ (ms : List (List ℕ)). BeginsFile c.args.message ms → ⊥) more never, kept.wrote told messages stands)
+    let e = c.in-Ok.ensures in
+    record {
+      gathers = λ told messages stands.
+          let n = c.loop-number.number in
+          let on = stands_on m c.args.receiver.now c.loop-number.receiver messages kept.row kept.moves told stands in
+          let lt : n < length messages = omega (arith, c.loop-number-test.true, c.count-number-end.ensures, kept.count, count_is m c.loop-number.receiver messages kept.ready told on) in
+          let more = next_message messages n (given_message c.advance.new.self) c.message.result.now lt (c.in-Ok.ensures.message told messages on ∙ ap (λ k. slice_index_or messages k []) kept.given) c.message.ensures.message in
+          let has = kept.taken told messages stands in
+          let never = begins_no c.args.message (take n messages) c.message.result.now c.loop-number.gathering has c.in_default.ensures.taken in
+          (lt, begins c.args.message (take n messages) c.loop-number.gathering has, subst (λ (ms : List (List ℕ)). BeginsFile c.args.message ms → ⊥) more never, kept.wrote told messages stands);
+      ready = λ other. e.ready;
+      closed = λ device. absurd device;
+      count = e.count ∙ kept.count;
+      end = e.end ∙ kept.end;
+      row = e.row ∙ kept.row;
+      size = e.size ∙ kept.size;
+      moves = goes_on_same m Same _ _ _ kept.moves e.moves;
+      cause = tt;
+      later = kept.later;
+      counts = omega (arith, kept.counts, e.counts);
+    }
 
-pub returns-in-Err-put-clause-gathers : goal.returns-in-Err-put-clause-gathers
-returns-in-Err-put-clause-gathers g c = λ told messages stands.
+pub returns-in-Err-put : goal.returns-in-Err-put
+returns-in-Err-put g c =
     let m = g.D.Disk.told in
     let kept = c.loop-number.invariant in
-    let n = c.loop-number.number in
-    let asl = c.message.result.now in
-    let piece = c.in-Some.piece.now in
-    let step = c.in-Some.ensures.taken in
-    let on = stands_on m c.args.receiver.now c.loop-number.receiver messages kept.row kept.moves told stands in
-    let lt : n < length messages = omega (arith, c.loop-number-test.true, c.count-number-end.ensures, kept.count, count_is m c.loop-number.receiver messages kept.ready told on) in
-    let more = next_message messages n (given_message c.advance.new.self) asl lt (c.in-Ok.ensures.message told messages on ∙ ap (λ k. slice_index_or messages k []) kept.given) c.message.ensures.message in
-    let has = one_taken c.args.message (take n messages) asl c.loop-number.gathering c.take.new.self (kept.taken told messages stands) step.0 in
-    let held = kept.wrote told messages stands in
-    let bytes : held.0 ++ (held_in c.loop-number.room ++ piece) ≡ unwrapped (take (n + 1) messages) =
-    sym (append_assoc held.0 (held_in c.loop-number.room) piece) ∙ ap (λ (bs : List ℕ). bs ++ piece) (sym held.2) ∙ next_bytes messages n asl piece more step.1 in (
-      n + 1,
-      omega (arith, lt),
-      subst (λ (ms : List (List ℕ)). BeginsFile c.args.message ms) more (begins c.args.message (take n messages ++ asl ∷ []) c.take.new.self has),
-      subst (λ (bs : List ℕ). AppendsFront (g.O.Sink.written c.args.out.now) (g.O.Sink.written c.put.new.out) bs) bytes
-          (front_behind _ _ _ held.0 (held_in c.loop-number.room ++ piece) held.1 c.in-Err-put.ensures.err),
-    )
+    let e = c.in-Ok.ensures in
+    record {
+      gathers = λ told messages stands.
+          let n = c.loop-number.number in
+          let asl = c.message.result.now in
+          let piece = c.in-Some.piece.now in
+          let step = c.in-Some.ensures.taken in
+          let on = stands_on m c.args.receiver.now c.loop-number.receiver messages kept.row kept.moves told stands in
+          let lt : n < length messages = omega (arith, c.loop-number-test.true, c.count-number-end.ensures, kept.count, count_is m c.loop-number.receiver messages kept.ready told on) in
+          let more = next_message messages n (given_message c.advance.new.self) asl lt (c.in-Ok.ensures.message told messages on ∙ ap (λ k. slice_index_or messages k []) kept.given) c.message.ensures.message in
+          let has = one_taken c.args.message (take n messages) asl c.loop-number.gathering c.take.new.self (kept.taken told messages stands) step.0 in
+          let held = kept.wrote told messages stands in
+          let bytes : held.0 ++ (held_in c.loop-number.room ++ piece) ≡ unwrapped (take (n + 1) messages) =
+          sym (append_assoc held.0 (held_in c.loop-number.room) piece) ∙ ap (λ (bs : List ℕ). bs ++ piece) (sym held.2) ∙ next_bytes messages n asl piece more step.1 in (
+            n + 1,
+            omega (arith, lt),
+            subst (λ (ms : List (List ℕ)). BeginsFile c.args.message ms) more (begins c.args.message (take n messages ++ asl ∷ []) c.take.new.self has),
+            subst (λ (bs : List ℕ). AppendsFront (g.O.Sink.written c.args.out.now) (g.O.Sink.written c.put.new.out) bs) bytes
+                (front_behind _ _ _ held.0 (held_in c.loop-number.room ++ piece) held.1 c.in-Err-put.ensures.err),
+          );
+      ready = λ other. e.ready;
+      closed = λ device. absurd device;
+      count = e.count ∙ kept.count;
+      end = e.end ∙ kept.end;
+      row = e.row ∙ kept.row;
+      size = e.size ∙ kept.size;
+      moves = goes_on_same m Same _ _ _ kept.moves e.moves;
+      cause = omega (arith, kept.later, c.in-Err-put.ensures.cause.failed);
+      later = omega (arith, kept.later, c.in-Err-put.ensures.cause.later);
+      counts = omega (arith, kept.counts, e.counts);
+    }
 
 pub put-requires : goal.put-requires
 put-requires g c =
@@ -117,17 +159,39 @@ loop-number-preserved g c =
       wrote = λ told messages stands. subst (Held _ _ _) (bytes told messages stands) (c.in-Ok-put.ensures.ok _ (unwrapped (take n messages)) (kept.wrote told messages stands));
     }
 
-pub returns-clause-gathers : goal.returns-clause-gathers
-returns-clause-gathers g c = λ told messages stands.
+pub returns : goal.returns
+returns g c =
     let m = g.D.Disk.told in
     let kept = c.loop-number.invariant in
-    let n = c.loop-number.number in
-    let on = stands_on m c.args.receiver.now c.loop-number.receiver messages kept.row kept.moves told stands in
-    let all : take n messages ≡ messages = take_all n messages (omega (arith, c.loop-number-test.false, c.count-number-end.ensures, kept.count, count_is m c.loop-number.receiver messages kept.ready told on)) in
-    let has = subst (λ (ms : List (List ℕ)). HasTaken c.args.message ms c.loop-number.gathering) all (kept.taken told messages stands) in
-    let is = c.is_whole.ensures in (
-      begins c.args.message messages c.loop-number.gathering has,
-      subst (λ (ms : List (List ℕ)). Held (g.O.Sink.written c.args.out.now) (g.O.Sink.written c.loop-number.out) (held_in c.loop-number.room) (unwrapped ms)) all (kept.wrote told messages stands),
-      c.bytes.ensures ∙ kept.bytes told messages stands ∙ ap (λ (ms : List (List ℕ)). length (unwrapped ms)) all,
-      (λ whole. whole_file c.args.message messages c.loop-number.gathering has (is.0 whole), λ file. is.1 (file_whole c.args.message messages c.loop-number.gathering has file)),
-    )
+    record {
+      gathers = λ told messages stands.
+          let n = c.loop-number.number in
+          let on = stands_on m c.args.receiver.now c.loop-number.receiver messages kept.row kept.moves told stands in
+          let all : take n messages ≡ messages = take_all n messages (omega (arith, c.loop-number-test.false, c.count-number-end.ensures, kept.count, count_is m c.loop-number.receiver messages kept.ready told on)) in
+          let has = subst (λ (ms : List (List ℕ)). HasTaken c.args.message ms c.loop-number.gathering) all (kept.taken told messages stands) in
+          let is = c.is_whole.ensures in (
+            begins c.args.message messages c.loop-number.gathering has,
+            subst (λ (ms : List (List ℕ)). Held (g.O.Sink.written c.args.out.now) (g.O.Sink.written c.loop-number.out) (held_in c.loop-number.room) (unwrapped ms)) all (kept.wrote told messages stands),
+            c.bytes.ensures ∙ kept.bytes told messages stands ∙ ap (λ (ms : List (List ℕ)). length (unwrapped ms)) all,
+            (λ whole. whole_file c.args.message messages c.loop-number.gathering has (is.0 whole), λ file. is.1 (file_whole c.args.message messages c.loop-number.gathering has file)),
+          );
+      ready = λ other. kept.ready;
+      closed = λ device. absurd device;
+      count = kept.count;
+      end = kept.end;
+      row = kept.row;
+      size = kept.size;
+      moves = kept.moves;
+      cause = tt;
+      later = kept.later;
+      counts = kept.counts;
+    }
+
+pub advance-requires : goal.advance-requires
+advance-requires g c =
+    let kept = c.loop-number.invariant in
+    record {
+      ready = kept.ready;
+      reading = kept.reading;
+      more = omega (arith, c.loop-number-test.true, c.count-number-end.ensures, kept.count, kept.given);
+    }

@@ -1,4 +1,4 @@
-use Rattle.std.proofs.Common.{◌+◌, ◌<◌, ◌≤◌, ◌^◌, ℕ, length, refl, ap, ◌∙◌, arith}
+use Rattle.std.proofs.Common.{◌+◌, ◌<◌, ◌≤◌, ◌^◌, ℕ, length, refl, sym, ap, ◌∙◌, arith}
 use Rattle.pump_frame.specs.declared.row.SessionRow.{SessionRow}
 use Rattle.script_reader.specs.Openings.{accepted_in}
 use Rattle.script_reader.proofs.Opened.{row_capacity}
@@ -72,3 +72,34 @@ returns-in-Err-clause-counts g c = λ role.
 pub returns-in-Err-clause-rose : goal.returns-in-Err-clause-rose
 returns-in-Err-clause-rose g c =
     rose_before g.D.Disk.told c.args.pump.now c.loop-number.pump c.turn.new.pump c.in-Err.stop c.loop-number.invariant.later c.in-Err.ensures.goes.rose
+
+pub returns-then-accepted-removed : goal.returns-then-accepted-removed
+returns-then-accepted-removed g c =
+    let m = g.D.Disk.told in
+    let row = row_of c.args.pump.now in
+    let u = c.loop-number.pump in
+    let n = c.loop-number.number in
+    let kept = c.loop-number.invariant in
+    record {
+      drains = λ told f lawful can stands.
+          let turned = kept.turned told f lawful can stands in
+          let counts = c.counts-accepted.ensures.stands in
+          let (accepted, removed) = counts_tell m row f u n _ _ turned (λ p s. (ap (λ (x : ℕ × ℕ × ℕ). x.0) (counts p s), ap (λ (x : ℕ × ℕ × ℕ). x.1) (counts p s))) in
+          turned_all m row f u n turned (sym removed ∙ sym c.if-accepted-removed.true ∙ accepted);
+      counts = kept.later;
+      rose = tt;
+      row = kept.row;
+      up = kept.up;
+    }
+
+pub returns-in-Err-clause-row : goal.returns-in-Err-clause-row
+returns-in-Err-clause-row g c = c.in-Err.ensures.goes.row ∙ c.loop-number.invariant.row
+
+pub returns-clause-row : goal.returns-clause-row
+returns-clause-row g c = c.loop-number.invariant.row
+
+pub returns-clause-counts : goal.returns-clause-counts
+returns-clause-counts g c = c.loop-number.invariant.later
+
+pub returns-clause-up : goal.returns-clause-up
+returns-clause-up g c = c.loop-number.invariant.up

@@ -33,101 +33,6 @@ loop-number-init g c =
           (sending_none m row messages c.args.pump.now c.greet.new.pump start left lawful can stands refl told e.goes);
     }
 
-pub returns-in-Err-clause-sends : goal.returns-in-Err-clause-sends
-returns-in-Err-clause-sends g c = λ told messages lawful can stands. (
-  [],
-  are_first [] c.args.cutter.now c.args.cutter.now (g.I.Source.left c.args.file.now) (g.I.Source.left c.args.file.now) [] (Consumes-nil (g.I.Source.left c.args.file.now)) (none_passed c.args.cutter.now (g.I.Source.left c.args.file.now)),
-  greeting_goes g.D.Disk.told (row_of c.args.pump.now) messages c.args.pump.now c.greet.new.pump c.in-Err.stop lawful can stands refl told c.in-Err.ensures.goes,
-)
-
-pub returns-in-Err-clause-gave : goal.returns-in-Err-clause-gave
-returns-in-Err-clause-gave g c = (let few = c.requires.may.few in ([], Consumes-nil (g.I.Source.left c.args.file.now), (λ e. absurd (cc)), λ e. omega (arith, few)))
-
-pub returns-in-Failed-clause-sends : goal.returns-in-Failed-clause-sends
-returns-in-Failed-clause-sends g c = λ told messages lawful can stands.
-    let kept = c.loop-number.invariant in
-    sending_part g.D.Disk.told (row_of c.args.pump.now) messages c.loop-number.pump c.args.cutter.now c.loop-number.cutter _ _ c.loop-number.number kept.taken.0 (kept.sending told messages lawful can stands) kept.taken.1
-
-pub returns-in-TooLong-clause-sends : goal.returns-in-TooLong-clause-sends
-returns-in-TooLong-clause-sends g c = λ told messages lawful can stands.
-    let kept = c.loop-number.invariant in
-    sending_part g.D.Disk.told (row_of c.args.pump.now) messages c.loop-number.pump c.args.cutter.now c.loop-number.cutter _ _ c.loop-number.number kept.taken.0 (kept.sending told messages lawful can stands) kept.taken.1
-
-pub returns-in-Failed-clause-gave : goal.returns-in-Failed-clause-gave
-returns-in-Failed-clause-gave g c =
-    let kept = c.loop-number.invariant in
-    let t = c.in-Failed.ensures.takes in
-    gave_few c.args.cutter.now c.loop-number.cutter c.next.new.self _ _ _ kept.taken.0 t.0 _ kept.taken.1 kept.taken.2 t.1 t.2 (λ e. cc)
-
-pub returns-in-Done-clause-gave : goal.returns-in-Done-clause-gave
-returns-in-Done-clause-gave g c =
-    let kept = c.loop-number.invariant in
-    let t = c.in-Done.ensures.takes in
-    gave_few c.args.cutter.now c.loop-number.cutter c.next.new.self _ _ _ kept.taken.0 t.0 _ kept.taken.1 kept.taken.2 t.1 t.2 (λ e. cc)
-
-pub returns-in-TooLong-clause-gave : goal.returns-in-TooLong-clause-gave
-returns-in-TooLong-clause-gave g c =
-    let kept = c.loop-number.invariant in
-    let t = c.in-TooLong.ensures.takes in
-    gave_all c.args.cutter.now c.loop-number.cutter c.next.new.self _ _ _ kept.taken.0 t.0 _ kept.taken.1 kept.taken.2 t.1 t.2 refl
-
-pub returns-in-Err-send-clause-gave : goal.returns-in-Err-send-clause-gave
-returns-in-Err-send-clause-gave g c =
-    let kept = c.loop-number.invariant in
-    let t = c.in-Message.ensures.takes in
-    gave_few c.args.cutter.now c.loop-number.cutter c.next.new.self _ _ _ kept.taken.0 t.0 _ kept.taken.1 kept.taken.2 t.1 t.2 (λ e. cc)
-
-pub returns-clause-gave : goal.returns-clause-gave
-returns-clause-gave g c =
-    let kept = c.loop-number.invariant in
-    let few = kept.may.few in
-    let count = kept.taken.2 in
-    (kept.taken.0, kept.taken.1, (λ e. absurd (cc)), λ e. omega (arith, few, count))
-
-pub returns-in-Done-clause-total : goal.returns-in-Done-clause-total
-returns-in-Done-clause-total g c =
-    let kept = c.loop-number.invariant in
-    total_is c.args.cutter.now c.loop-number.cutter c.next.new.self _ _ _ kept.taken.0 c.in-Done.ensures.takes.0 kept.taken.1 c.in-Done.ensures.takes.1 kept.same c.in-Done.ensures.counts
-
-pub returns-in-Failed-clause-read : goal.returns-in-Failed-clause-read
-returns-in-Failed-clause-read g c = λ e. (let rose = c.in-Failed.ensures.failed refl in let before = c.loop-number.invariant.reads in omega (arith, rose, before))
-
-pub returns-in-Err-send-clause-counts : goal.returns-in-Err-send-clause-counts
-returns-in-Err-send-clause-counts g c = λ role. (let one = c.loop-number.invariant.counts role in let other = c.in-Err-send.ensures.goes.later role in omega (arith, one, other))
-
-pub returns-in-Err-send-clause-cause : goal.returns-in-Err-send-clause-cause
-returns-in-Err-send-clause-cause g c =
-    rose_before g.D.Disk.told c.args.pump.now c.loop-number.pump c.send.new.pump c.in-Err-send.stop c.loop-number.invariant.counts c.in-Err-send.ensures.goes.rose
-
-pub returns-in-Done-clause-sends : goal.returns-in-Done-clause-sends
-returns-in-Done-clause-sends g c = λ told messages lawful can stands.
-    let kept = c.loop-number.invariant in
-    let sending = kept.sending told messages lawful can stands in
-    let e = c.in-Done.ensures in
-    sending_all g.D.Disk.told (row_of c.args.pump.now) messages c.loop-number.pump c.args.cutter.now c.loop-number.cutter c.next.new.self _ _ _ c.loop-number.number _ _ _ sending kept.taken.1 e.takes.1 e.gives
-
-pub returns-in-Err-send-clause-sends : goal.returns-in-Err-send-clause-sends
-returns-in-Err-send-clause-sends g c = λ told messages lawful can stands.
-    let m = g.D.Disk.told in
-    let row = row_of c.args.pump.now in
-    let kept = c.loop-number.invariant in
-    let sending = kept.sending told messages lawful can stands in
-    let e = c.in-Message.ensures in
-    let first : c.counts-first.result.0 ≡ length messages =
-    ap (λ (x : ℕ × ℕ × ℕ). x.0) (c.counts-first.ensures.stands (first_past row (all_taken messages)) stands) ∙ ap length (append-nil messages) in
-    let pauses : c.pause-pause.result ≡ pause row = c.pause-pause.ensures.value ∙ ap pause c.row.ensures in
-    let small : pause row < 2 ^ 32 = (let short = c.pause-pause.ensures.short in omega (arith, short, pauses)) in
-    let few : c.loop-number.number ≤ 2 ^ 24 = (let test = c.loop-number-test.true in omega (arith, test)) in
-    let fits : length c.next.new.into ≤ row.message = (let short = e.fits refl in let size = kept.message in omega (arith, short, size)) in
-    let cut = one_passed sending.more (sending.more ++ c.next.new.into ∷ []) c.next.new.into c.args.cutter.now c.loop-number.cutter c.next.new.self (g.I.Source.left c.args.file.now) (g.I.Source.left c.loop-number.file) (g.I.Source.left c.next.new.file)
-    kept.taken.0 kept.taken.1 sending.cut e.gives refl in
-    let all = Consumes-trans _ _ _ _ _ kept.taken.1 e.takes.1 in (
-      sending.more ++ c.next.new.into ∷ [],
-      are_first (sending.more ++ c.next.new.into ∷ []) c.args.cutter.now c.next.new.self (g.I.Source.left c.args.file.now) (g.I.Source.left c.next.new.file) _ all cut,
-      sends_go m row messages c.loop-number.pump c.send.new.pump c.args.cutter.now c.loop-number.cutter c.next.new.self (g.I.Source.left c.args.file.now) (g.I.Source.left c.loop-number.file) (g.I.Source.left c.next.new.file) c.loop-number.number _ sending
-          (moment_of c.loop-number.number _ _ _ _ _ sending.count first pauses) few small c.next.new.into fits c.in-Err-send.stop kept.row told c.in-Err-send.ensures.goes,
-    )
-
 pub loop-number-preserved : goal.loop-number-preserved
 loop-number-preserved g c =
     let m = g.D.Disk.told in
@@ -157,9 +62,121 @@ loop-number-preserved g c =
           (moment_of c.loop-number.number _ _ _ _ _ sending.count first pauses) few small c.next.new.into fits kept.row told kept.taken.0 kept.taken.1 e.gives s.goes;
     }
 
-pub returns-clause-sends : goal.returns-clause-sends
-returns-clause-sends g c = λ told messages lawful can stands.
-    let kept = c.loop-number.invariant in
-    let test = c.loop-number-test.false in
-    let few = sending_few g.D.Disk.told (row_of c.args.pump.now) messages c.loop-number.pump c.args.cutter.now c.loop-number.cutter _ _ c.loop-number.number (kept.sending told messages lawful can stands) in
-    absurd (omega (arith, few, test))
+pub returns-in-Err : goal.returns-in-Err
+returns-in-Err g c = record {
+  sends = λ told messages lawful can stands. (
+    [],
+    are_first [] c.args.cutter.now c.args.cutter.now (g.I.Source.left c.args.file.now) (g.I.Source.left c.args.file.now) [] (Consumes-nil (g.I.Source.left c.args.file.now)) (none_passed c.args.cutter.now (g.I.Source.left c.args.file.now)),
+    greeting_goes g.D.Disk.told (row_of c.args.pump.now) messages c.args.pump.now c.greet.new.pump c.in-Err.stop lawful can stands refl told c.in-Err.ensures.goes,
+  );
+  total = tt;
+  gave = (let few = c.requires.may.few in ([], Consumes-nil (g.I.Source.left c.args.file.now), (λ e. absurd (cc)), λ e. omega (arith, few)));
+  read = λ e. cc;
+  counts = c.in-Err.ensures.goes.later;
+  cause = c.in-Err.ensures.goes.rose;
+  row = c.in-Err.ensures.goes.row;
+  failed = tt;
+}
+
+pub returns-in-Done : goal.returns-in-Done
+returns-in-Done g c = record {
+  sends = λ told messages lawful can stands.
+      let kept = c.loop-number.invariant in
+      let sending = kept.sending told messages lawful can stands in
+      let e = c.in-Done.ensures in
+      sending_all g.D.Disk.told (row_of c.args.pump.now) messages c.loop-number.pump c.args.cutter.now c.loop-number.cutter c.next.new.self _ _ _ c.loop-number.number _ _ _ sending kept.taken.1 e.takes.1 e.gives;
+  total = let kept = c.loop-number.invariant in
+      total_is c.args.cutter.now c.loop-number.cutter c.next.new.self _ _ _ kept.taken.0 c.in-Done.ensures.takes.0 kept.taken.1 c.in-Done.ensures.takes.1 kept.same c.in-Done.ensures.counts;
+  gave = let kept = c.loop-number.invariant in
+      let t = c.in-Done.ensures.takes in
+      gave_few c.args.cutter.now c.loop-number.cutter c.next.new.self _ _ _ kept.taken.0 t.0 _ kept.taken.1 kept.taken.2 t.1 t.2 (λ e. cc);
+  read = λ e. cc;
+  counts = c.loop-number.invariant.counts;
+  cause = tt;
+  row = c.loop-number.invariant.row;
+  failed = tt;
+}
+
+pub returns-in-Failed : goal.returns-in-Failed
+returns-in-Failed g c = record {
+  sends = λ told messages lawful can stands.
+      let kept = c.loop-number.invariant in
+      sending_part g.D.Disk.told (row_of c.args.pump.now) messages c.loop-number.pump c.args.cutter.now c.loop-number.cutter _ _ c.loop-number.number kept.taken.0 (kept.sending told messages lawful can stands) kept.taken.1;
+  total = tt;
+  gave = let kept = c.loop-number.invariant in
+      let t = c.in-Failed.ensures.takes in
+      gave_few c.args.cutter.now c.loop-number.cutter c.next.new.self _ _ _ kept.taken.0 t.0 _ kept.taken.1 kept.taken.2 t.1 t.2 (λ e. cc);
+  read = λ e. (let rose = c.in-Failed.ensures.failed refl in let before = c.loop-number.invariant.reads in omega (arith, rose, before));
+  counts = c.loop-number.invariant.counts;
+  cause = tt;
+  row = c.loop-number.invariant.row;
+  failed = tt;
+}
+
+pub returns-in-TooLong : goal.returns-in-TooLong
+returns-in-TooLong g c = record {
+  sends = λ told messages lawful can stands.
+      let kept = c.loop-number.invariant in
+      sending_part g.D.Disk.told (row_of c.args.pump.now) messages c.loop-number.pump c.args.cutter.now c.loop-number.cutter _ _ c.loop-number.number kept.taken.0 (kept.sending told messages lawful can stands) kept.taken.1;
+  total = tt;
+  gave = let kept = c.loop-number.invariant in
+      let t = c.in-TooLong.ensures.takes in
+      gave_all c.args.cutter.now c.loop-number.cutter c.next.new.self _ _ _ kept.taken.0 t.0 _ kept.taken.1 kept.taken.2 t.1 t.2 refl;
+  read = λ e. cc;
+  counts = c.loop-number.invariant.counts;
+  cause = tt;
+  row = c.loop-number.invariant.row;
+  failed = tt;
+}
+
+pub returns-in-Err-send : goal.returns-in-Err-send
+returns-in-Err-send g c = record {
+  sends = λ told messages lawful can stands.
+      let m = g.D.Disk.told in
+      let row = row_of c.args.pump.now in
+      let kept = c.loop-number.invariant in
+      let sending = kept.sending told messages lawful can stands in
+      let e = c.in-Message.ensures in
+      let first : c.counts-first.result.0 ≡ length messages =
+      ap (λ (x : ℕ × ℕ × ℕ). x.0) (c.counts-first.ensures.stands (first_past row (all_taken messages)) stands) ∙ ap length (append-nil messages) in
+      let pauses : c.pause-pause.result ≡ pause row = c.pause-pause.ensures.value ∙ ap pause c.row.ensures in
+      let small : pause row < 2 ^ 32 = (let short = c.pause-pause.ensures.short in omega (arith, short, pauses)) in
+      let few : c.loop-number.number ≤ 2 ^ 24 = (let test = c.loop-number-test.true in omega (arith, test)) in
+      let fits : length c.next.new.into ≤ row.message = (let short = e.fits refl in let size = kept.message in omega (arith, short, size)) in
+      let cut = one_passed sending.more (sending.more ++ c.next.new.into ∷ []) c.next.new.into c.args.cutter.now c.loop-number.cutter c.next.new.self (g.I.Source.left c.args.file.now) (g.I.Source.left c.loop-number.file) (g.I.Source.left c.next.new.file)
+      kept.taken.0 kept.taken.1 sending.cut e.gives refl in
+      let all = Consumes-trans _ _ _ _ _ kept.taken.1 e.takes.1 in (
+        sending.more ++ c.next.new.into ∷ [],
+        are_first (sending.more ++ c.next.new.into ∷ []) c.args.cutter.now c.next.new.self (g.I.Source.left c.args.file.now) (g.I.Source.left c.next.new.file) _ all cut,
+        sends_go m row messages c.loop-number.pump c.send.new.pump c.args.cutter.now c.loop-number.cutter c.next.new.self (g.I.Source.left c.args.file.now) (g.I.Source.left c.loop-number.file) (g.I.Source.left c.next.new.file) c.loop-number.number _ sending
+            (moment_of c.loop-number.number _ _ _ _ _ sending.count first pauses) few small c.next.new.into fits c.in-Err-send.stop kept.row told c.in-Err-send.ensures.goes,
+      );
+  total = tt;
+  gave = let kept = c.loop-number.invariant in
+      let t = c.in-Message.ensures.takes in
+      gave_few c.args.cutter.now c.loop-number.cutter c.next.new.self _ _ _ kept.taken.0 t.0 _ kept.taken.1 kept.taken.2 t.1 t.2 (λ e. cc);
+  read = λ e. cc;
+  counts = λ role. (let one = c.loop-number.invariant.counts role in let other = c.in-Err-send.ensures.goes.later role in omega (arith, one, other));
+  cause = rose_before g.D.Disk.told c.args.pump.now c.loop-number.pump c.send.new.pump c.in-Err-send.stop c.loop-number.invariant.counts c.in-Err-send.ensures.goes.rose;
+  row = c.in-Err-send.ensures.goes.row ∙ c.loop-number.invariant.row;
+  failed = tt;
+}
+
+pub returns : goal.returns
+returns g c = record {
+  sends = λ told messages lawful can stands.
+      let kept = c.loop-number.invariant in
+      let test = c.loop-number-test.false in
+      let few = sending_few g.D.Disk.told (row_of c.args.pump.now) messages c.loop-number.pump c.args.cutter.now c.loop-number.cutter _ _ c.loop-number.number (kept.sending told messages lawful can stands) in
+      absurd (omega (arith, few, test));
+  total = tt;
+  gave = let kept = c.loop-number.invariant in
+      let few = kept.may.few in
+      let count = kept.taken.2 in
+      (kept.taken.0, kept.taken.1, (λ e. absurd (cc)), λ e. omega (arith, few, count));
+  read = λ e. cc;
+  counts = c.loop-number.invariant.counts;
+  cause = tt;
+  row = c.loop-number.invariant.row;
+  failed = tt;
+}

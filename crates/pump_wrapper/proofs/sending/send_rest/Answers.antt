@@ -46,8 +46,8 @@ loop-number-preserved g c =
       may = e.may refl;
       message = e.same ∙ kept.message;
       from = (let from = kept.from in omega (arith, from));
-      taken = takes_on c.args.cutter.now c.loop-number.cutter c.next.new.self _ _ _ kept.taken.0 e.takes.0 _ kept.taken.1 kept.taken.2 e.takes.1 e.takes.2 (λ e. cc);
-      same = one_counted c.args.cutter.now c.loop-number.cutter c.next.new.self _ _ _ kept.taken.0 kept.taken.1 kept.same e.counts;
+      taken = takes_on c.args.cutter.now c.loop-number.cutter c.next.new.self (g.I.Source.left c.args.file.now) (g.I.Source.left c.loop-number.file) (g.I.Source.left c.next.new.file) kept.taken.0 e.takes.0 _ kept.taken.1 kept.taken.2 e.takes.1 e.takes.2 (λ e. cc);
+      same = one_counted c.args.cutter.now c.loop-number.cutter c.next.new.self (g.I.Source.left c.args.file.now) (g.I.Source.left c.loop-number.file) (g.I.Source.left c.next.new.file) kept.taken.0 kept.taken.1 kept.same e.counts;
       reads = (let before = kept.reads in let after = e.later in omega (arith, before, after));
       counts = λ role. (let one = kept.counts role in let other = s.goes.later role in omega (arith, one, other));
       sending = λ told messages lawful can stands.
@@ -84,12 +84,12 @@ returns-in-Done g c = record {
       let kept = c.loop-number.invariant in
       let sending = kept.sending told messages lawful can stands in
       let e = c.in-Done.ensures in
-      sending_all g.D.Disk.told (row_of c.args.pump.now) messages c.loop-number.pump c.args.cutter.now c.loop-number.cutter c.next.new.self _ _ _ c.loop-number.number _ _ _ sending kept.taken.1 e.takes.1 e.gives;
+      sending_all g.D.Disk.told (row_of c.args.pump.now) messages c.loop-number.pump c.args.cutter.now c.loop-number.cutter c.next.new.self (g.I.Source.left c.args.file.now) (g.I.Source.left c.loop-number.file) (g.I.Source.left c.next.new.file) c.loop-number.number _ _ _ sending kept.taken.1 e.takes.1 e.gives;
   total = let kept = c.loop-number.invariant in
-      total_is c.args.cutter.now c.loop-number.cutter c.next.new.self _ _ _ kept.taken.0 c.in-Done.ensures.takes.0 kept.taken.1 c.in-Done.ensures.takes.1 kept.same c.in-Done.ensures.counts;
+      total_is c.args.cutter.now c.loop-number.cutter c.next.new.self (g.I.Source.left c.args.file.now) (g.I.Source.left c.loop-number.file) (g.I.Source.left c.next.new.file) kept.taken.0 c.in-Done.ensures.takes.0 kept.taken.1 c.in-Done.ensures.takes.1 kept.same c.in-Done.ensures.counts;
   gave = let kept = c.loop-number.invariant in
       let t = c.in-Done.ensures.takes in
-      gave_few c.args.cutter.now c.loop-number.cutter c.next.new.self _ _ _ kept.taken.0 t.0 _ kept.taken.1 kept.taken.2 t.1 t.2 (λ e. cc);
+      gave_few c.args.cutter.now c.loop-number.cutter c.next.new.self (g.I.Source.left c.args.file.now) (g.I.Source.left c.loop-number.file) (g.I.Source.left c.next.new.file) kept.taken.0 t.0 _ kept.taken.1 kept.taken.2 t.1 t.2 (λ e. cc);
   read = λ e. cc;
   counts = c.loop-number.invariant.counts;
   cause = tt;
@@ -105,7 +105,7 @@ returns-in-Failed g c = record {
   total = tt;
   gave = let kept = c.loop-number.invariant in
       let t = c.in-Failed.ensures.takes in
-      gave_few c.args.cutter.now c.loop-number.cutter c.next.new.self _ _ _ kept.taken.0 t.0 _ kept.taken.1 kept.taken.2 t.1 t.2 (λ e. cc);
+      gave_few c.args.cutter.now c.loop-number.cutter c.next.new.self (g.I.Source.left c.args.file.now) (g.I.Source.left c.loop-number.file) (g.I.Source.left c.next.new.file) kept.taken.0 t.0 _ kept.taken.1 kept.taken.2 t.1 t.2 (λ e. cc);
   read = λ e. (let rose = c.in-Failed.ensures.failed refl in let before = c.loop-number.invariant.reads in omega (arith, rose, before));
   counts = c.loop-number.invariant.counts;
   cause = tt;
@@ -121,7 +121,7 @@ returns-in-TooLong g c = record {
   total = tt;
   gave = let kept = c.loop-number.invariant in
       let t = c.in-TooLong.ensures.takes in
-      gave_all c.args.cutter.now c.loop-number.cutter c.next.new.self _ _ _ kept.taken.0 t.0 _ kept.taken.1 kept.taken.2 t.1 t.2 refl;
+      gave_all c.args.cutter.now c.loop-number.cutter c.next.new.self (g.I.Source.left c.args.file.now) (g.I.Source.left c.loop-number.file) (g.I.Source.left c.next.new.file) kept.taken.0 t.0 _ kept.taken.1 kept.taken.2 t.1 t.2 refl;
   read = λ e. cc;
   counts = c.loop-number.invariant.counts;
   cause = tt;
@@ -154,7 +154,7 @@ returns-in-Err-send g c = record {
   total = tt;
   gave = let kept = c.loop-number.invariant in
       let t = c.in-Message.ensures.takes in
-      gave_few c.args.cutter.now c.loop-number.cutter c.next.new.self _ _ _ kept.taken.0 t.0 _ kept.taken.1 kept.taken.2 t.1 t.2 (λ e. cc);
+      gave_few c.args.cutter.now c.loop-number.cutter c.next.new.self (g.I.Source.left c.args.file.now) (g.I.Source.left c.loop-number.file) (g.I.Source.left c.next.new.file) kept.taken.0 t.0 _ kept.taken.1 kept.taken.2 t.1 t.2 (λ e. cc);
   read = λ e. cc;
   counts = λ role. (let one = c.loop-number.invariant.counts role in let other = c.in-Err-send.ensures.goes.later role in omega (arith, one, other));
   cause = rose_before g.D.Disk.told c.args.pump.now c.loop-number.pump c.send.new.pump c.in-Err-send.stop c.loop-number.invariant.counts c.in-Err-send.ensures.goes.rose;

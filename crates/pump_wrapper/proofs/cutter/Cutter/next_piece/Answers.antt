@@ -16,6 +16,12 @@ use Rattle.pump_wrapper.proofs.cutter.Cutter.next_piece.Goals.{then-count-most, 
 lent : (room zeros : List ℕ) (most : ℕ) → length room ≡ length (take (most + 1 - 1) zeros) → most ≤ length zeros → length room ≡ most
 lent room zeros most is le = is ∙ length-take-le (most + 1 - 1) zeros (omega (arith, le)) ∙ omega arith
 
+-- .. and how much came before a fault
+fewer : (bytes zeros : List ℕ) (most : ℕ) → length bytes < length (take (most + 1 - 1) zeros) → most ≤ length zeros → length bytes < most
+fewer bytes zeros most part le =
+    let room = length-take-le (most + 1 - 1) zeros (omega (arith, le)) in
+    omega (arith, part, room)
+
 -- the answers and the stages differ
 long_no_message : TooLong ≡ Message → ⊥
 long_no_message e = cc
@@ -141,4 +147,23 @@ returns g c =
       same = ap (λ k. k + 1) same;
       failed = λ is. absurd (message_no_failure _ refl is);
       later = c.in-Ok.ensures.cause.later;
+    }
+
+pub returns-in_default : goal.returns-in_default
+returns-in_default g c =
+    let old = c.args.self.now in
+    let now : Cutter = record old { stage = Stopped } in
+    let part = c.in_default.ensures.part in
+    let most : c.min-most.result ≡ min old.size (2 ^ 48 - old.bytes) = c.min-most.ensures in
+    let zeros : List ℕ = replicate 1023 0 in
+    let came = fewer part.0 zeros c.min-most.result part.2 (omega (arith, most, c.requires.may.greatest, length-replicate {A = ℕ} 1023 0)) in
+    record {
+      gives = gives_unseen old now (g.I.Source.left c.args.file.now) (g.I.Source.left c.fill.new.file) c.args.into.now Failed (λ before after. tt);
+      counts = counts_unseen old now (g.I.Source.left c.args.file.now) (g.I.Source.left c.fill.new.file) Failed (λ left rest. tt);
+      takes = (part.0, part.1, record { long = λ is. cc; short = λ other. omega (arith, came, most, c.requires.may.few); counted = λ other. absurd (other refl) });
+      fits = λ is. cc;
+      may = λ is. cc;
+      same = refl;
+      failed = λ is. c.in_default.ensures.cause.failed;
+      later = c.in_default.ensures.cause.later;
     }

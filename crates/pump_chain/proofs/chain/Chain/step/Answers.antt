@@ -1,4 +1,4 @@
-use Rattle.std.proofs.Common.{◌≡◌, ◌||◌, true, false, inl, refl, sym, ap, ◌∙◌, subst, arith}
+use Rattle.std.proofs.Common.{◌≡◌, ◌||◌, Bool, true, false, inl, refl, sym, ap, ◌∙◌, subst, arith}
 use Rattle.std.proofs.lemmas.Bool.{or_parts, le-leb, lt-leb}
 use Rattle.script_reader.specs.declared.line.Arriving.{Arriving}
 use Rattle.script_reader.specs.declared.line.Line.TheVariants as lines
@@ -8,6 +8,8 @@ use Rattle.two_worlds.specs.Printing.{lines_in}
 use Rattle.two_worlds.specs.Pumps.{row_of, is_down}
 use Rattle.pump_chain.specs.Chained.{added, is_frame}
 use Rattle.pump_chain.proofs.Applying.{order_is, still_fronts, none_way}
+use Rattle.pump_chain.proofs.Counting.{second_counts, serves_rose}
+use Rattle.pump_chain.specs.Standing.{AreCounted}
 use Rattle.pump_chain.proofs.Printing.{none_printed}
 use Rattle.pump_chain.proofs.Stepping.{look_way, unread_applies, unread_fronts, read_stands, look_applies, look_fronts}
 use Rattle.pump_chain.specs.Failing.{FailsNoLess}
@@ -85,3 +87,29 @@ returns-clause-later g c =
       reads_later m c.args.self.now.first c.add.new.self.first false c.in-Ok.ensures.reads.alone,
       subst (λ (x : Pump _ _). FailsNoLess m x t) c.in-Ok.ensures.second (goes_later m c.add.new.self.second t c.apply_head-stop.result c.apply_head-stop.ensures.serve),
     )
+
+pub returns-then-moment-clause-down : goal.returns-then-moment-clause-down
+returns-then-moment-clause-down g c = c.requires.up
+
+pub returns-then-moment-clause-device : goal.returns-then-moment-clause-device
+returns-then-moment-clause-device g c = tt
+
+pub returns-then-moment-clause-later : goal.returns-then-moment-clause-later
+returns-then-moment-clause-later g c = (alone_later g.D.Disk.told c.args.self.now.first c.args.self.now.first refl, alone_later g.D.Disk.told c.args.self.now.second c.args.self.now.second refl)
+
+pub returns-in-Err-clause-down : goal.returns-in-Err-clause-down
+returns-in-Err-clause-down g c = ap (λ (b : Bool). b || is_down c.add.new.self.second) c.in-Err.ensures.fails.alone.down
+
+pub returns-in-Err-clause-device : goal.returns-in-Err-clause-device
+returns-in-Err-clause-device g c = inl (serves_rose g.D.Disk.told _ _ _ c.in-Err.ensures.fails.alone.serves)
+
+pub returns-clause-device : goal.returns-clause-device
+returns-clause-device g c =
+    let m = g.D.Disk.told in
+    let u = c.add.new.self in
+    let t = c.apply_head-stop.new.self in
+    let stop = c.apply_head-stop.result in
+    subst (λ (x : Pump _ _). AreCounted m c.args.self.now.first u.first x t stop) c.in-Ok.ensures.second (second_counts m c.args.self.now.first u.first u.second t stop c.apply_head-stop.ensures.serve)
+
+pub returns-clause-down : goal.returns-clause-down
+returns-clause-down g c = ap (λ (b : Bool). b || is_down c.apply_head-stop.new.self) c.in-Ok.ensures.reads.alone.down ∙ c.apply_head-stop.ensures.down

@@ -1,4 +1,4 @@
-use Rattle.std.proofs.Common.{◌≡◌, ◌+◌, ◌^◌, ◌<◌, arith}
+use Rattle.std.proofs.Common.{◌≡◌, ◌+◌, ◌^◌, ◌<◌, refl, arith}
 use Rattle.pump_audit.proofs.StreamLaws.{goes_on, stops, cut_off, too_many, ends}
 use Rattle.pump_audit.proofs.checking.follow.Goals as goal
 
@@ -37,3 +37,41 @@ returns-in-Ok-Some-clause-verdict g c bytes reads =
     let few : c.lines.audit.lines + 1 < 2 ^ 32 = omega (arith, c.if-lines.false, c.lines-lines.ensures) in
     let is = rw (c.in-Ok-Some.field-0-is, c.as_slice.ensures.value) at c.in-Ok-Some.ensures.is in
     stops bytes c.lines.audit _ was _ c.next.new.text.items (c.from-line.result + 1) c.in-Ok-Some.cause line few next.0 next.1 (is was.so_far was.audits)
+
+pub returns-in-Cut-clause-read : goal.returns-in-Cut-clause-read
+returns-in-Cut-clause-read g c = λ failed. cc
+
+pub returns-in-Cut-clause-later : goal.returns-in-Cut-clause-later
+returns-in-Cut-clause-later g c = omega (arith, c.lines.invariant.later, c.next.ensures.later)
+
+pub returns-in-End-clause-read : goal.returns-in-End-clause-read
+returns-in-End-clause-read g c = λ failed. cc
+
+pub returns-in-End-clause-later : goal.returns-in-End-clause-later
+returns-in-End-clause-later g c = omega (arith, c.lines.invariant.later, c.next.ensures.later)
+
+pub returns-then-lines-clause-read : goal.returns-then-lines-clause-read
+returns-then-lines-clause-read g c = λ failed. cc
+
+pub returns-then-lines-clause-later : goal.returns-then-lines-clause-later
+returns-then-lines-clause-later g c = omega (arith, c.lines.invariant.later, c.next.ensures.later)
+
+pub returns-in-Ok-Some-clause-read : goal.returns-in-Ok-Some-clause-read
+returns-in-Ok-Some-clause-read g c = λ failed. cc
+
+pub returns-in-Ok-Some-clause-later : goal.returns-in-Ok-Some-clause-later
+returns-in-Ok-Some-clause-later g c = omega (arith, c.lines.invariant.later, c.next.ensures.later)
+
+pub returns-in-Failed : goal.returns-in-Failed
+returns-in-Failed g c = record {
+  verdict = λ bytes reads. tt;
+  read = λ failed. (let rose = c.in-Failed.ensures.failed refl in let before = c.lines.invariant.later in omega (arith, rose, before));
+  later = omega (arith, c.lines.invariant.later, c.next.ensures.later);
+}
+
+pub returns-in-Err : goal.returns-in-Err
+returns-in-Err g c = record {
+  verdict = λ bytes reads. tt;
+  read = λ failed. cc;
+  later = omega (arith, c.lines.invariant.later, c.next.ensures.later);
+}

@@ -1,4 +1,4 @@
-use Rattle.std.proofs.Common.{◌∙◌, sym, arith}
+use Rattle.std.proofs.Common.{◌∙◌, refl, sym, arith}
 use Rattle.pump_audit.proofs.BothLaws.{cut_off, too_many, outside, goes_on, separated, end_comes}
 use Rattle.pump_audit.proofs.comparing.Both.follow.Goals as goal
 
@@ -35,3 +35,47 @@ returns-in-Ok-false-clause-side g c first bytes before goes =
     let added = rw (c.in-Ok-false.field-0-test, c.as_slice-in-lines.ensures.value) at c.in-Ok-false.ensures in
     let other = rw c.as_slice.ensures.value at (c.is_separator.ensures.no c.if-is_separator.false) in
     outside first c.args.is_first before bytes c.lines.side c.lines.self.lines _ was _ c.next.new.text.items c.in-Text.ensures.next.0 c.in-Text.ensures.next.1 other (added first was.so_far was.stands)
+
+pub returns-in-Cut-clause-read : goal.returns-in-Cut-clause-read
+returns-in-Cut-clause-read g c = λ failed. cc
+
+pub returns-in-Cut-clause-later : goal.returns-in-Cut-clause-later
+returns-in-Cut-clause-later g c = omega (arith, c.lines.invariant.later, c.next.ensures.later)
+
+pub returns-in-End-clause-read : goal.returns-in-End-clause-read
+returns-in-End-clause-read g c = λ failed. cc
+
+pub returns-in-End-clause-later : goal.returns-in-End-clause-later
+returns-in-End-clause-later g c = omega (arith, c.lines.invariant.later, c.next.ensures.later)
+
+pub returns-then-lines-clause-read : goal.returns-then-lines-clause-read
+returns-then-lines-clause-read g c = λ failed. cc
+
+pub returns-then-lines-clause-later : goal.returns-then-lines-clause-later
+returns-then-lines-clause-later g c = omega (arith, c.lines.invariant.later, c.next.ensures.later)
+
+pub returns-then-is_separator-clause-read : goal.returns-then-is_separator-clause-read
+returns-then-is_separator-clause-read g c = λ failed. cc
+
+pub returns-then-is_separator-clause-later : goal.returns-then-is_separator-clause-later
+returns-then-is_separator-clause-later g c = omega (arith, c.lines.invariant.later, c.next.ensures.later)
+
+pub returns-in-Ok-false-clause-read : goal.returns-in-Ok-false-clause-read
+returns-in-Ok-false-clause-read g c = λ failed. cc
+
+pub returns-in-Ok-false-clause-later : goal.returns-in-Ok-false-clause-later
+returns-in-Ok-false-clause-later g c = omega (arith, c.lines.invariant.later, c.next.ensures.later)
+
+pub returns-in-Failed : goal.returns-in-Failed
+returns-in-Failed g c = record {
+  side = λ first bytes before goes. tt;
+  read = λ failed. (let rose = c.in-Failed.ensures.failed refl in let before = c.lines.invariant.later in omega (arith, rose, before));
+  later = omega (arith, c.lines.invariant.later, c.next.ensures.later);
+}
+
+pub returns-in-Err : goal.returns-in-Err
+returns-in-Err g c = record {
+  side = λ first bytes before goes. tt;
+  read = λ failed. cc;
+  later = omega (arith, c.lines.invariant.later, c.next.ensures.later);
+}

@@ -1,4 +1,4 @@
-//! Files that are sent over disks in memory, one after another, and what is gathered of them.
+//! A file that is sent over disks in memory while one of them fails, and sent on, and what is gathered of it.
 
 ghost use Rattle.std.specs.Prelude.{◌≡◌, ◌≤◌, IfSome, IsTrue};
 ghost use Rattle.pump_frame.specs.Rows.{IsLawfulRow};
@@ -143,7 +143,7 @@ fn are_sent_anew(
 }
 
 #[test]
-fn files_are_sent(rt: HostRuntime) -> Result<(), Fail> {
+fn a_file_that_was_stopped_is_sent_on(rt: HostRuntime) -> Result<(), Fail> {
     let alloc = rt.alloc();
     let Some(row) = row() else {
         return Err(Fail::new("no row"));
@@ -162,25 +162,6 @@ fn files_are_sent(rt: HostRuntime) -> Result<(), Fail> {
         },
         written: b"hello, world",
     };
-    let other = WrapRow {
-        file: b"hello, there",
-        end: WrapEnd::Differs { number: 0 },
-        ..whole
-    };
-    let empty = WrapRow {
-        file: b"",
-        end: WrapEnd::Done {
-            bytes: 0,
-            messages: 1,
-        },
-        count: 1,
-        log_end: 91,
-        gathered: Gathered {
-            bytes: 0,
-            whole: true,
-        },
-        written: b"",
-    };
     // The receiver's disk fails in the second taking.
     let stopped = WrapRow {
         end: WrapEnd::Stopped(Stop::Device {
@@ -196,8 +177,6 @@ fn files_are_sent(rt: HostRuntime) -> Result<(), Fail> {
         written: b"hello, worl",
         ..whole
     };
-    assert!(rt; are_sent_anew(alloc, &row, &[], &[whole, whole, other])?);
-    assert!(rt; are_sent_anew(alloc, &row, &[], &[empty])?);
     assert!(rt; are_sent_anew(alloc, &row, &[20], &[stopped, whole])?);
     Ok(())
 }

@@ -1,13 +1,15 @@
 //! The commands over links and doors: what comes of a session, with its frames on both sides.
 
-use crate::command_tests::new_shelf;
-use crate::runs::{ROOM, Ran, joined, lines_after, run_batch, run_live, words};
+use crate::runs::{ROOM, Ran, joined, lines_after, push_disks, run_batch, run_live, words};
 use disk_model::{MemShelf, PlainDisk};
 use pump_link::{Looked, MemLink, MemPorts, MemSink, MemSource};
 use std::alloc::{AllocError, Global};
 use std::sync::Wait;
 use std::test::Fail;
 use std::thread::Threads;
+
+const TABLE: &str =
+    "[[session]]\nid = 1\nlow = \"weather\"\nhigh = \"watch\"\ncapacity = 3\nmessage = 8\nwindow = 2\nstart = 20000\nlongest = 100000\nresend = 500000\nlow_port = 7001\nhigh_port = 7002\n";
 
 const HELLO: &[u8] = b"NP\x01\x01\0\0\0\x01\0\0\0\0\0\0\0\0\0\x0dweather:watch";
 
@@ -54,6 +56,18 @@ fn links(alloc: Global, frames: &[&[u8]]) -> Result<Vec<MemLink>, AllocError> {
     }
     links.push(MemLink::new(looks, vec![in alloc; 0; 256]?, Vec::new(alloc)))?;
     Ok(links)
+}
+
+/// A shelf with empty disks for session 1 and its table.
+fn new_shelf(alloc: Global) -> Result<MemShelf<PlainDisk>, Fail> {
+    let mut files = Vec::new(alloc);
+    files.push((
+        String::from_str(alloc, "t.toml")?,
+        Vec::from_slice(alloc, TABLE.as_bytes())?,
+    ))?;
+    let mut disks = Vec::new(alloc);
+    push_disks(alloc, 1, &mut disks)?;
+    Ok(MemShelf::new(disks, files, Vec::new(alloc)))
 }
 
 /// A shelf on which the disks of session 1 are formatted.

@@ -77,19 +77,6 @@ impl<D: Disk + Drop> Stage<D> {
         self.run(play, script, 7, Vec::new(alloc), Vec::new(alloc))
     }
 
-    /// Whether a script of these parts ends with this status and writes this.
-    pub fn ends(
-        &mut self,
-        alloc: Global,
-        play: Play,
-        parts: &[&str],
-        status: u8,
-        output: &[&str],
-    ) -> Result<bool, AllocError> {
-        let (ended, written) = self.play(alloc, play, parts)?;
-        Ok(ended == status && are_parts(written.as_slice(), output))
-    }
-
     /// Whether the three disks of session 1 are on the shelf.
     pub fn are_back(&self) -> bool {
         [Role::Low, Role::High, Role::Recv].iter().all(|role| self
@@ -108,16 +95,4 @@ pub fn joined(alloc: Global, parts: &[&str]) -> Result<Vec<u8>, AllocError> {
         bytes.extend_from_slice(part.as_bytes())?;
     }
     Ok(bytes)
-}
-
-/// Whether the bytes are these parts, one behind the other.
-pub fn are_parts(bytes: &[u8], parts: &[&str]) -> bool {
-    let mut rest = bytes;
-    for part in parts {
-        match rest.strip_prefix(part.as_bytes()) {
-            Some(behind) => rest = behind,
-            None => return false,
-        }
-    }
-    rest.is_empty()
 }

@@ -1,6 +1,6 @@
 //! Each read of a script, and each write of what it prints, fails in turn.
 
-use crate::session_tests::{CARRIED, H, P, STORE, STORED, TAKEN, WELCOME, run};
+use crate::replay_tests::{CARRIED, H, P, STORE, STORED, TAKEN, WELCOME, run};
 use crate::stage::joined;
 use std::alloc::{AllocError, Global};
 use std::test::Fail;

@@ -74,7 +74,8 @@ A file without bytes is one message.
   $ wc -c <1.recv; netpump unwrap w.toml 1
   91
 
-Over new disks, where the messages of the row are too short, the table can't be read, and a folder has the name of a disk.
+A file without bytes is sent over new disks once more; no file is where the messages of the row are too short, the table can't be
+read, or a folder has the name of a disk.
 
   $ anew
   $ wrap '' w.toml

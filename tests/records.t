@@ -36,7 +36,7 @@ The comment is of another reply, or another line stands in its place (3).
   audit no 3 3
   [15]
 
-The moment falls; a look with a message is told nothing (2).
+The moment falls; a look that passes the message on is told nothing (2).
 
   $ audited 4 'told 1 9 00000000 fine -'
   audit no 4 2

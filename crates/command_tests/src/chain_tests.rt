@@ -55,7 +55,7 @@ fn failing_stage(alloc: Global, call: u64) -> Result<Stage<MemDisk>, Fail> {
             disks.push((DiskName { session, role }, disk))?;
         }
     }
-    Ok(Stage::new(disks, Vec::new(alloc)))
+    Ok(Stage::new(disks))
 }
 
 /// What is printed before the message is read that is to be sent on.

@@ -33,7 +33,7 @@ fn new_stage(alloc: Global) -> Result<Stage<PlainDisk>, Fail> {
     ] {
         disks.push((DiskName { session: 1, role }, PlainDisk::new(alloc, room)?))?;
     }
-    Ok(Stage::new(disks, Vec::new(alloc)))
+    Ok(Stage::new(disks))
 }
 
 /// The status and the output of a replay of a script that comes in pieces, over new disks.
@@ -63,7 +63,7 @@ fn failing_stage(alloc: Global, call: u64) -> Result<Stage<MemDisk>, Fail> {
         let disk = MemDisk::new(alloc, room, 64, fails)?;
         disks.push((DiskName { session: 1, role }, disk))?;
     }
-    Ok(Stage::new(disks, Vec::new(alloc)))
+    Ok(Stage::new(disks))
 }
 
 #[test]

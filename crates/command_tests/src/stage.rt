@@ -33,9 +33,10 @@ impl<D: Disk + Drop> Drop for Stage<D> {
 const ROOM: usize = 32_768;
 
 impl<D: Disk + Drop> Stage<D> {
-    /// A stage with these disks; these calls of the shelf fail.
-    pub fn new(disks: Vec<(DiskName, D)>, fails: Vec<u64>) -> Stage<D> {
+    /// A stage with these disks.
+    pub fn new(disks: Vec<(DiskName, D)>) -> Stage<D> {
         let files = Vec::new(*disks.allocator());
+        let fails = Vec::new(*disks.allocator());
         Stage {
             shelf: MemShelf::new(disks, files, fails),
         }

@@ -1,6 +1,8 @@
-use Rattle.std.proofs.Common.{inl, inr, ◌∙◌, arith}
+use Rattle.std.proofs.Common.{◌≡◌, ℕ, None, Some, inl, inr, sym, ap, ◌∙◌, subst, arith, true, false}
 use Rattle.script_reader.specs.Heads.{line_with}
+use Rattle.script_reader.specs.Sessions.{session_in}
 use Rattle.script_replay.specs.Outputs.{held_of}
+use Rattle.script_replay.specs.Sessions.{IsPlaced}
 use Rattle.script_replay.proofs.Numbered.{place_least}
 use Rattle.script_replay.proofs.Turns.{hands_of, begin_turn}
 use Rattle.script_replay.proofs.turn.turn_of.Goals as goal
@@ -64,3 +66,55 @@ returns-else-is_at-clause-disks_later g c = c.begin_at.ensures.disks_later
 
 pub returns-else-is_at-clause-cause : goal.returns-else-is_at-clause-cause
 returns-else-is_at-clause-cause g c = λ is. absurd (c.begin_at.ensures.written is)
+
+pub go_on_at-requires-clause-lawful : goal.go_on_at-requires-clause-lawful
+go_on_at-requires-clause-lawful g c = c.requires.lawful
+
+pub go_on_at-requires-clause-order : goal.go_on_at-requires-clause-order
+go_on_at-requires-clause-order g c = c.requires.order
+
+pub go_on_at-requires-clause-up : goal.go_on_at-requires-clause-up
+go_on_at-requires-clause-up g c = c.requires.up
+
+pub go_on_at-requires-clause-room : goal.go_on_at-requires-clause-room
+go_on_at-requires-clause-room g c = c.requires.room
+
+pub go_on_at-requires-clause-named : goal.go_on_at-requires-clause-named
+go_on_at-requires-clause-named g c = (c.args.number, c.requires.named)
+
+pub go_on_at-requires-clause-some : goal.go_on_at-requires-clause-some
+go_on_at-requires-clause-some g c = λ is.
+    let none : None ≡ Some c.args.number = sym (ap session_in is) ∙ c.requires.named in
+    absurd (cc)
+
+pub go_on_at-requires-clause-placed : goal.go_on_at-requires-clause-placed
+go_on_at-requires-clause-placed g c = λ number named.
+    let both : Some c.args.number ≡ Some number = sym c.requires.named ∙ named in
+    let same : c.args.number ≡ number = cc in
+    subst (λ (n : ℕ). IsPlaced n c.place_of-place.result c.args.sessions.now.begun.items true) same (c.place_of-place.ensures, sym c.is_at.ensures ∙ c.if-is_at.true)
+
+pub begin_at-requires-clause-lawful : goal.begin_at-requires-clause-lawful
+begin_at-requires-clause-lawful g c = c.requires.lawful
+
+pub begin_at-requires-clause-order : goal.begin_at-requires-clause-order
+begin_at-requires-clause-order g c = c.requires.order
+
+pub begin_at-requires-clause-up : goal.begin_at-requires-clause-up
+begin_at-requires-clause-up g c = c.requires.up
+
+pub begin_at-requires-clause-named : goal.begin_at-requires-clause-named
+begin_at-requires-clause-named g c = (c.args.number, c.requires.named)
+
+pub begin_at-requires-clause-some : goal.begin_at-requires-clause-some
+begin_at-requires-clause-some g c = λ is.
+    let none : None ≡ Some c.args.number = sym (ap session_in is) ∙ c.requires.named in
+    absurd (cc)
+
+pub begin_at-requires-clause-placed : goal.begin_at-requires-clause-placed
+begin_at-requires-clause-placed g c = λ number named.
+    let both : Some c.args.number ≡ Some number = sym c.requires.named ∙ named in
+    let same : c.args.number ≡ number = cc in
+    subst (λ (n : ℕ). IsPlaced n c.place_of-place.result c.args.sessions.now.begun.items false) same (c.place_of-place.ensures, sym c.is_at.ensures ∙ c.if-is_at.false)
+
+pub begin_at-requires-clause-first : goal.begin_at-requires-clause-first
+begin_at-requires-clause-first g c = c.is_in_turn.ensures.first c.args.body.now c.if-not-is_in_turn.false

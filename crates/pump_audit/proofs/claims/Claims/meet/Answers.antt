@@ -29,7 +29,7 @@ returns-then-pair-count c =
     let here = c.then-pair-count.self in
     let kept : (here.pairs ≡ now.pairs) × (here.met ≡ now.met) × (here.greatest ≡ now.greatest) × (here.fall ≡ now.fall) =
     elim c.then-pair-count.branch [
-      then-pair-count-via-then-pair-count w ↦ (ap (λ (x : Claims). x.pairs) w.self-is, ap (λ (x : Claims). x.met) w.self-is, ap (λ (x : Claims). x.greatest) w.self-is, ap (λ (x : Claims). x.fall) w.self-is)
+      | then-pair-count-via-then-pair-count w ↦ (ap (λ (x : Claims). x.pairs) w.self-is, ap (λ (x : Claims). x.met) w.self-is, ap (λ (x : Claims). x.greatest) w.self-is, ap (λ (x : Claims). x.fall) w.self-is)
       | then-pair-count-via-else-pair-count+then-pair-average w ↦ (ap (λ (x : Claims). x.pairs) w.self-is, ap (λ (x : Claims). x.met) w.self-is, ap (λ (x : Claims). x.greatest) w.self-is, ap (λ (x : Claims). x.fall) w.self-is)
     ] in
     record {

@@ -21,7 +21,8 @@ pub add_time-requires : goal.add_time-requires
 add_time-requires c = record {
   owed = none_owed c.args.self.now.owed (sym c.is_some.ensures ∙ c.if-is_some.false);
   place = may_stand (form_of_audit c.args.self.now) (takes_times c.args.self.now.place) places.Times (rw c.in-Time.is at c.requires.place);
-  lines = c.requires.lines; micros = rw c.in-Time.is at c.requires.range;
+  lines = c.requires.lines;
+  micros = rw c.in-Time.is at c.requires.range;
 }
 
 pub returns-in-Time : goal.returns-in-Time

@@ -69,7 +69,7 @@ returns-in-Ok g c =
           let count = ap (λ (n : ℕ × ℕ × ℕ). n.2) (c.counts-received.ensures.stands s.first.past stands.first) in
           let test = c.if-number-received.false in
           let few : c.counts-number.result.0 < length (received_of s) = omega (arith, count, test) in
-              adds_message s c.args.self.now.sender c.counts-number.result.0 c.fetch.new.into stands.sender c.if-self.false c.if-not-self.false number few (e.message told s.first.past stands.first);
+          adds_message s c.args.self.now.sender c.counts-number.result.0 c.fetch.new.into stands.sender c.if-self.false c.if-not-self.false number few (e.message told s.first.past stands.first);
       lawful = omega (arith, few, test);
       reads = e.reads;
       fails = tt;
@@ -93,7 +93,7 @@ returns-in-Err g c =
           let count = ap (λ (n : ℕ × ℕ × ℕ). n.2) (c.counts-received.ensures.stands s.first.past stands.first) in
           let test = c.if-number-received.false in
           let few : c.counts-number.result.0 < length (received_of s) = omega (arith, count, test) in
-              (c.counts-number.result.0, get_or (received_of s) c.counts-number.result.0 [], sym (adds_message s c.args.self.now.sender c.counts-number.result.0 _ stands.sender c.if-self.false c.if-not-self.false number few refl));
+          (c.counts-number.result.0, get_or (received_of s) c.counts-number.result.0 [], sym (adds_message s c.args.self.now.sender c.counts-number.result.0 _ stands.sender c.if-self.false c.if-not-self.false number few refl));
       device = e.device;
       second = e.second;
       sender = e.sender;

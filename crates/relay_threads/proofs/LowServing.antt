@@ -22,10 +22,10 @@ use Rattle.relay_threads.specs.Reaching.{Reaches}
 use Rattle.relay_threads.specs.Records.{Made, replies_made, is_recorded, was_full, record_of}
 use Rattle.relay_threads.specs.RecordLines.{look_text, looks_text}
 use Rattle.relay_threads.specs.LowRounds.{Round, with_look, made_after, made_in, looks_of_rounds, moments_of, words_of, reply_bytes, held_after, held_heard, is_lost_in, cause, cause_at, cause_heard, IsRound, GoOn, AreRounds, is_ack_made, acks_in, ask_after, asks_of}
-use Rattle.relay_threads.specs.LowServes.{Serves, Turns, EndsBy, all_sent, all_kept, asked_in, LeavesIf, bytes_of, bytes_made, text_made, full_after}
+use Rattle.relay_threads.specs.LowServes.{Serves, Turns, EndsBy, CountsFault, CountsFaultIn, is_device, is_device_in, all_sent, all_kept, asked_in, LeavesIf, bytes_of, bytes_made, text_made, full_after}
 use Rattle.relay_threads.proofs.Kept.{recorded_at}
 use Rattle.relay_threads.proofs.LowLives.{leads_none, leads_then}
-use Rattle.relay_threads.proofs.Reaching.{reaches_behind}
+use Rattle.relay_threads.proofs.Reaching.{reaches_behind, rose_later}
 
 -- ---- what one look more adds ----
 
@@ -234,3 +234,27 @@ asked_by r rounds Stopped e = let c : is_cause (Some Stopped) ≡ true = ap is_c
 pub asks_more : (a a1 a2 : List (ℕ × ℕ) → Type 0) (rounds : List Round) (count acks : ℕ) → count ≡ length rounds → acks ≡ acks_in rounds → Grows a a1 (asks_of rounds) → Grows a1 a2 ((count, acks) ∷ []) → Grows a a2 (asks_of rounds ++ ask_after rounds ∷ [])
 asks_more a a1 a2 rounds count acks long acked was one =
     subst (λ (t : ℕ × ℕ). Grows a a2 (asks_of rounds ++ t ∷ [])) (λ i. (long i, acked i)) (Grows-then a a1 a2 (asks_of rounds) ((count, acks) ∷ []) was one)
+
+-- ---- what a round's end says of the call's end ----
+
+-- no round ends the call as the gate does
+pub no_stop : (r : Round) (why : LowWhy) → cause r ≡ Some why → why ≡ Stopped → ⊥
+no_stop r why e stopped =
+    let c : is_cause (Some Stopped) ≡ true = ap (λ w. is_cause (Some w)) (sym stopped) ∙ ap is_cause (sym e) ∙ round_cause r in
+    cc
+
+-- a fault of the disk in the newest round counts from the start of the call, too
+pub fault_since : (turn : Option LowWhy) (why : LowWhy) (start before now : ℕ) → turn ≡ Some why → start ≤ before → CountsFaultIn turn before now → CountsFault why start now
+fault_since turn why start before now is le counted = by_cases why (subst (λ t. CountsFaultIn t before now) is counted) where
+  by_cases : (why : LowWhy) → CountsFault why before now → CountsFault why start now
+  by_cases Gone counted = tt
+  by_cases Bad counted = tt
+  by_cases LinkFailed counted = tt
+  by_cases (Device n) counted = (counted.0, rose_later start before now le counted.1)
+  by_cases RecordFailed counted = tt
+  by_cases Looks counted = tt
+  by_cases Stopped counted = tt
+
+-- the process is up after a round that neither the disk nor the record ended
+pub up_after : {Up : Type 0} (turn : Option LowWhy) (why : LowWhy) → turn ≡ Some why → (is_device_in turn ≡ false → (turn ≡ Some RecordFailed → ⊥) → Up) → is_device why ≡ false → (why ≡ RecordFailed → ⊥) → Up
+up_after turn why is up calm kept = up (ap is_device_in is ∙ calm) (λ broke. let same : Some why ≡ Some RecordFailed = sym is ∙ broke in kept (cc))

@@ -3,8 +3,8 @@ use Rattle.relay_threads.specs.LowRounds.{made_in}
 use Rattle.relay_threads.specs.LowServes.{is_device_in}
 use Rattle.relay_threads.proofs.Levels.{levels_then}
 use Rattle.relay_threads.proofs.PairsRead.{reads_none, reads_more}
-use Rattle.relay_threads.proofs.Reaching.{reaches_whole}
-use Rattle.relay_threads.proofs.LowServing.{acks_few, calm_round, sent_on, kept_on, within_of, serves_more, so_far_none, so_far_more, told_none, sends_more, keeps_more, ended_by, broken_round, asked_by, asks_more}
+use Rattle.relay_threads.proofs.Reaching.{reaches_whole, rose_later}
+use Rattle.relay_threads.proofs.LowServing.{acks_few, calm_round, sent_on, kept_on, within_of, serves_more, so_far_none, so_far_more, told_none, sends_more, keeps_more, ended_by, broken_round, asked_by, asks_more, up_after, fault_since, no_stop}
 use Rattle.low_process.specs.Looks.{row_of}
 use Rattle.pump_link.specs.Tells.{Grows}
 use Rattle.pump_link.proofs.Grown.{Draws-then}
@@ -37,29 +37,6 @@ pub counted-acks-requires : goal.counted-acks-requires
 counted-acks-requires g c =
     let f = c.loop-rounds.invariant.so_far in
     omega (arith, f.long, f.acked, acks_few c.loop-rounds.invariant.rounds, c.loop-rounds-test.true)
-
-pub returns-in-Some-clause-served : goal.returns-in-Some-clause-served
-returns-in-Some-clause-served g c =
-    let was = c.loop-rounds.invariant in
-    let f = was.so_far in
-    let told = was.told in
-    let t = c.low_round-turn.ensures.turn in
-    let r = t.0 in
-    let rs = was.rounds in
-    let why = sym t.8 ∙ c.in-Some.is in
-    let long : length (r ∷ rs) ≤ c.args.looks = omega (arith, f.long, c.loop-rounds-test.true) in (
-      r ∷ rs,
-      serves_more c.args.process.now c.loop-rounds.process c.low_round-turn.new.process _ r rs f.serves f.go_on f.is_held t.1,
-      (omega (arith, f.long), ended_by r rs c.args.looks c.in-Some.why long why),
-      Draws-then _ _ _ _ _ told.looks t.3,
-      sends_more r rs _ _ _ _ _ _ was.link told.bytes t.4,
-      Draws-then _ _ _ _ _ told.moments t.5,
-      Draws-then _ _ _ _ _ told.words t.6,
-      keeps_more r rs _ _ _ _ _ _ _ _ _ was.tape f.serves.row f.full told.lines t.7,
-      subst (Grows (g.G.Gate.asked c.args.gate.now) (g.G.Gate.asked c.pass.new.self)) (sym (asked_by r rs c.in-Some.why why)) (asks_more _ _ _ rs _ _ f.long f.acked told.asks c.pass.ensures.asked),
-      levels_then g.L.LowSide.stands g.L.LowSide.shape c.args.ends.now c.loop-rounds.ends (row_of c.args.process.now) (row_of c.loop-rounds.process) r.made (made_in rs) was.shape f.serves.row was.levels t.11,
-      reads_more g.L.LowSide.stands c.args.ends.now c.loop-rounds.ends c.low_round-turn.new.ends c.args.process.now c.loop-rounds.process c.low_round-turn.new.process r.made (made_in rs) was.pairs t.12,
-    )
 
 pub loop-rounds-preserved : goal.loop-rounds-preserved
 loop-rounds-preserved g c =
@@ -102,11 +79,13 @@ loop-rounds-preserved g c =
       gate = omega (arith, was.gate, c.pass.ensures.later);
     }
 
-pub returns-then-not-pass-clause-served : goal.returns-then-not-pass-clause-served
-returns-then-not-pass-clause-served g c =
+pub returns-then-not-pass : goal.returns-then-not-pass
+returns-then-not-pass g c =
     let was = c.loop-rounds.invariant in
     let f = was.so_far in
-    let t = was.told in (
+    let t = was.told in
+    record {
+      served = (
       was.rounds,
       f.serves,
       (f.long, (omega (arith, f.long, c.loop-rounds-test.true), f.go_on)),
@@ -118,13 +97,66 @@ returns-then-not-pass-clause-served g c =
       asks_more _ _ _ was.rounds _ _ f.long f.acked t.asks c.pass.ensures.asked,
       was.levels,
       was.pairs,
-    )
+    );
+      ready = was.ready;
+      up = λ _ _. was.up;
+      order = was.order;
+      shape = was.shape;
+      place = was.place;
+      link = λ e. absurd (cc);
+      tape = λ e. absurd (cc);
+      counts = was.counts;
+      device = tt;
+      stopped = λ _. rose_later _ _ _ was.gate (c.pass.ensures.stopped c.if-not-pass.true);
+    }
 
-pub returns-clause-served : goal.returns-clause-served
-returns-clause-served g c =
+pub returns-in-Some : goal.returns-in-Some
+returns-in-Some g c =
     let was = c.loop-rounds.invariant in
     let f = was.so_far in
-    let t = was.told in (
+    let told = was.told in
+    let t = c.low_round-turn.ensures.turn in
+    let r = t.0 in
+    let rs = was.rounds in
+    let why = sym t.8 ∙ c.in-Some.is in
+    let long : length (r ∷ rs) ≤ c.args.looks = omega (arith, f.long, c.loop-rounds-test.true) in
+    let O = g.O.Sink in
+    let keeps = keeps_more r rs (O.written c.args.tape.now) (O.written c.loop-rounds.tape) (O.written c.low_round-turn.new.tape) (O.faults c.args.tape.now) (O.faults c.loop-rounds.tape) (O.faults c.low_round-turn.new.tape)
+    (row_of c.args.process.now) (row_of c.loop-rounds.process) c.loop-rounds.was_full was.tape f.serves.row f.full told.lines t.7 in
+    let e = c.low_round-turn.ensures in
+    record {
+      served = (
+      r ∷ rs,
+      serves_more c.args.process.now c.loop-rounds.process c.low_round-turn.new.process _ r rs f.serves f.go_on f.is_held t.1,
+      (omega (arith, f.long), ended_by r rs c.args.looks c.in-Some.why long why),
+      Draws-then _ _ _ _ _ told.looks t.3,
+      sends_more r rs _ _ _ _ _ _ was.link told.bytes t.4,
+      Draws-then _ _ _ _ _ told.moments t.5,
+      Draws-then _ _ _ _ _ told.words t.6,
+      keeps_more r rs _ _ _ _ _ _ _ _ _ was.tape f.serves.row f.full told.lines t.7,
+      subst (Grows (g.G.Gate.asked c.args.gate.now) (g.G.Gate.asked c.pass.new.self)) (sym (asked_by r rs c.in-Some.why why)) (asks_more _ _ _ rs _ _ f.long f.acked told.asks c.pass.ensures.asked),
+      levels_then g.L.LowSide.stands g.L.LowSide.shape c.args.ends.now c.loop-rounds.ends (row_of c.args.process.now) (row_of c.loop-rounds.process) r.made (made_in rs) was.shape f.serves.row was.levels t.11,
+      reads_more g.L.LowSide.stands c.args.ends.now c.loop-rounds.ends c.low_round-turn.new.ends c.args.process.now c.loop-rounds.process c.low_round-turn.new.process r.made (made_in rs) was.pairs t.12,
+    );
+      ready = e.ready;
+      up = up_after c.low_round-turn.result.why c.in-Some.why c.in-Some.is e.up;
+      order = e.order;
+      shape = e.shape ∙ was.shape;
+      place = e.place ∙ was.place;
+      link = λ is. rose_later _ _ _ was.link (e.link (c.in-Some.is ∙ ap (λ w. Some w) is));
+      tape = λ is. keeps.cause (broken_round r (sym t.8 ∙ c.in-Some.is ∙ ap (λ w. Some w) is));
+      counts = omega (arith, was.counts, e.counts);
+      device = fault_since c.low_round-turn.result.why c.in-Some.why _ _ _ c.in-Some.is was.counts e.device;
+      stopped = λ is. absurd (no_stop r c.in-Some.why why is);
+    }
+
+pub returns : goal.returns
+returns g c =
+    let was = c.loop-rounds.invariant in
+    let f = was.so_far in
+    let t = was.told in
+    record {
+      served = (
       was.rounds,
       f.serves,
       (f.long, (omega (arith, f.long, was.most, c.loop-rounds-test.false), f.go_on)),
@@ -136,16 +168,15 @@ returns-clause-served g c =
       t.asks,
       was.levels,
       was.pairs,
-    )
-
-pub returns-in-Some-clause-tape : goal.returns-in-Some-clause-tape
-returns-in-Some-clause-tape g c = λ e.
-    let was = c.loop-rounds.invariant in
-    let f = was.so_far in
-    let t = c.low_round-turn.ensures.turn in
-    let r = t.0 in
-    let rs = was.rounds in
-    let O = g.O.Sink in
-    let keeps = keeps_more r rs (O.written c.args.tape.now) (O.written c.loop-rounds.tape) (O.written c.low_round-turn.new.tape) (O.faults c.args.tape.now) (O.faults c.loop-rounds.tape) (O.faults c.low_round-turn.new.tape)
-    (row_of c.args.process.now) (row_of c.loop-rounds.process) c.loop-rounds.was_full was.tape f.serves.row f.full was.told.lines t.7 in
-    keeps.cause (broken_round r (sym t.8 ∙ c.in-Some.is ∙ ap (λ w. Some w) e))
+    );
+      ready = was.ready;
+      up = λ _ _. was.up;
+      order = was.order;
+      shape = was.shape;
+      place = was.place;
+      link = λ e. absurd (cc);
+      tape = λ e. absurd (cc);
+      counts = was.counts;
+      device = tt;
+      stopped = λ e. absurd (cc);
+    }

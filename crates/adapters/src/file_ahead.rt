@@ -1,3 +1,5 @@
+//! Bytes of a file that are read ahead in a walk along it.
+
 ghost use Rattle.std.specs.Prelude.{◌≡◌, IfSome, length as count_of};
 
 use std::alloc::{AllocError, Global};

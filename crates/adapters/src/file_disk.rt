@@ -1,3 +1,5 @@
+//! A file as a disk.
+
 ghost use Rattle.std.specs.Prelude.{◌≡◌, ◌≤◌};
 ghost use Rattle.pump_frame.specs.Counts.{raised};
 ghost use Rattle.adapters.specs.Files.{count_alone};

@@ -1,3 +1,5 @@
+//! The current folder as a shelf.
+
 ghost use Rattle.std.specs.Prelude.{◌≡◌, IfOk};
 ghost use Rattle.adapters.specs.Files.{counts_alone};
 

@@ -1,3 +1,5 @@
+//! The system's random bytes as a source.
+
 ghost use Rattle.std.specs.Prelude.{◌≡◌, None};
 ghost use Rattle.std.specs.Io.{ReadsAtMost};
 

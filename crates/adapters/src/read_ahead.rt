@@ -1,3 +1,5 @@
+//! Bytes that were read and are not given yet.
+
 ghost use Rattle.std.specs.Prelude.{◌≡◌, ℕ, List, [], ◌∷◌, length, IfNone, IfSome, IfOk};
 ghost use Rattle.std.specs.Io.KnownBytes.{ReadConsumes};
 

@@ -1,3 +1,5 @@
+//! The machine's clock, which paces the worker that reads it.
+
 ghost use Rattle.std.specs.Prelude.{◌≡◌, ◌≤◌, ◌/◌, ℕ, min, ◌^◌};
 
 use crate::traffic::Traffic;

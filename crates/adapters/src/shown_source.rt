@@ -1,3 +1,5 @@
+//! A source that shows on a terminal how far it is read.
+
 ghost use Rattle.std.specs.Prelude.{◌≡◌};
 
 use pump_link::{ReadFault, Source};

@@ -1,3 +1,5 @@
+//! A reader of std as a source, and a writer as a sink.
+
 ghost use Rattle.std.specs.Prelude.{◌≡◌};
 
 use pump_frame::raised;

@@ -1,3 +1,5 @@
+//! A TCP listener as a door.
+
 ghost use Rattle.std.specs.Prelude.{◌≡◌, IfOk};
 
 use crate::readiness::{is_readable, pause};

@@ -1,3 +1,5 @@
+//! A TCP connection as a link.
+
 ghost use Rattle.std.specs.Prelude.{◌≡◌, ◌≤◌, IfOk};
 ghost use Rattle.pump_frame.specs.Counts.{raised};
 ghost use Rattle.pump_link.specs.declared.link.Looked.{Looked as Look};

@@ -1,3 +1,5 @@
+//! The TCP ports of 127.0.0.1.
+
 ghost use Rattle.std.specs.Prelude.{◌≡◌, ◌≤◌};
 ghost use Rattle.pump_frame.specs.Counts.{raised};
 

@@ -1,3 +1,5 @@
+//! How much came and went on one side of a relay.
+
 use std::sync::atomic::{AtomicBool, AtomicU64, Ordering};
 
 /// What the links, the door and the clock of one side of a relay tell one another: how much came and

@@ -1,3 +1,4 @@
+// The commands with their values, and why words give none.
 use crate::TableName;
 use arrayvec::ArrayVec;
 

@@ -1,3 +1,4 @@
+// The command that the words are.
 ghost use Rattle.std.specs.Prelude.{◌≡◌, ◌⊎◌, map, string_bytes, IfOk, Ok, Err};
 ghost use Rattle.command_line.specs.Commands.{AreWordsOf};
 ghost use Rattle.command_line.specs.Found.{Finds};

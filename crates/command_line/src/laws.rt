@@ -1,3 +1,5 @@
+//! The law that no words are two commands.
+
 ghost use Rattle.std.specs.Prelude.{◌≡◌, ℕ, List};
 ghost use Rattle.command_line.specs.Commands.{AreWordsOf};
 ghost use Rattle.command_line.specs.declared.command.Command.{Command};

@@ -1,3 +1,4 @@
+// The name of a table's file.
 ghost use Rattle.std.specs.Prelude.{◌≡◌, ◌↔◌, IsSome, IsTrue, IfSome};
 ghost use Rattle.std.specs.List.{list_all};
 ghost use Rattle.command_line.specs.TableNames.{is_table_byte, begins_plainly, is_table_name};

@@ -1,3 +1,4 @@
+// A list of times as a word.
 ghost use Rattle.std.specs.Prelude.{◌≡◌, ℕ, ◌≤◌, ◌^◌, List, decimal, IfSome, Some, IsSomeAnd, IsTrue, ◌↔◌};
 ghost use Rattle.command_line.specs.TimeLists.{AreTimes, times_word};
 

@@ -1,4 +1,4 @@
-//! The file that a session's messages are is written.
+//! The messages of a session are written as the file that they make up.
 
 ghost use Rattle.std.specs.Prelude.{◌≡◌, ◌≤◌};
 ghost use Rattle.disk_model.specs.declared.name.Role.{Role as DiskRole};

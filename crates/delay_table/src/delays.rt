@@ -1,3 +1,4 @@
+// The delay of an acknowledgement, and the mean of all delays.
 ghost use Rattle.std.specs.Prelude.{◌≡◌, ℕ, ◌+◌, ◌*◌, ◌^◌, ◌≤◌, List, map, sum};
 ghost use Rattle.pump_frame.specs.Delays.{delay_of, quantile, class_of};
 ghost use Rattle.delay_table.specs.Delays.{IsOfEachClass, AreUncut};

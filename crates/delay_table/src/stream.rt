@@ -1,3 +1,4 @@
+// Random words from a stream of ChaCha20.
 ghost use Rattle.std.specs.Prelude.{◌≡◌, ◌+◌, ◌%◌, ◌^◌, ◌<◌, [], ◌∷◌};
 ghost use Rattle.rand_chacha.specs.ChaCha.{ChaCha, word_at, key_of};
 ghost use Rattle.pump_link.specs.Tells.{Draws};

@@ -1,3 +1,4 @@
+// The table of quantiles, and its laws.
 ghost use Rattle.std.specs.Prelude.{◌≡◌, ◌-◌, ◌*◌, ◌^◌, ◌≤◌, slice_index, sum};
 ghost use Rattle.std.specs.List.Sorted.{IsStrictlyIncreasing};
 ghost use Rattle.pump_frame.specs.Delays.{quantile};

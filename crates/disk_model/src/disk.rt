@@ -1,3 +1,4 @@
+// The calls of a disk, and what they promise.
 ghost use Rattle.std.specs.Prelude.{◌≡◌, ◌+◌, ◌≤◌, length, take, drop, OnOk, IfOk, OnErr, ⊤};
 ghost use Rattle.disk_model.specs.Disk.{Meaning, Moves, Same, Torn, IsWritten, Settled, KeepsImages, Answers, FailsPast};
 

@@ -1,3 +1,4 @@
+// A shelf in memory.
 ghost use Rattle.std.specs.Prelude.{◌≡◌, ◌+◌, ◌≤◌, ◌↔◌, ◌⊎◌, ◌++◌, [], take, drop, length, Contains, None, Some, Err, IfOk, OnOk, OnErr, IfSome, IsTrue, find, position, option_copied, vec_capacity, vec_len};
 ghost use Rattle.pump_frame.specs.Counts.{raised};
 ghost use Rattle.disk_model.specs.Shelf.{Out, OnShelf, IsOut, FailsBy, LeavesOthers, ReadsFile, reading_given, count_when_back};

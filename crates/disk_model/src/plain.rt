@@ -1,3 +1,4 @@
+// A disk in memory whose next call can be made to fail.
 ghost use Rattle.std.specs.Prelude.{◌≡◌, ◌+◌, ◌≤◌, true, false, [], length, max, take, drop, vec_len, vec_capacity, IfOk, IsErr, IsTrue, OnOk, OnErr, ⊤};
 ghost use Rattle.pump_frame.specs.Counts.{CountsFailure};
 ghost use Rattle.disk_model.specs.Disk.{Moves, Same, Torn, IsWritten, Settled, KeepsImages, Answers, FailsPast};

@@ -1,3 +1,4 @@
+// What happened to a disk, and what a crash makes of it.
 ghost use Rattle.std.specs.Prelude.{◌≡◌};
 
 use std::marker::Model;

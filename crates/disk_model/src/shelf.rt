@@ -1,3 +1,4 @@
+// The calls of a shelf, and what they promise.
 ghost use Rattle.std.specs.Prelude.{◌≡◌, ◌≤◌, Some, IfOk, OnErr};
 ghost use Rattle.disk_model.specs.Shelf.{Holdings, Out, OnShelf, IsOut, FailsBy, LeavesOthers, ReadsFile, reading_given, count_when_back};
 

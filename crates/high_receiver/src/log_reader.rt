@@ -1,3 +1,4 @@
+// A reader that gives a receiver's messages in order.
 ghost use Rattle.std.specs.Prelude.{◌≡◌, ◌+◌, ◌≤◌, ◌<◌, ◌^◌, ℕ, List, None, false, ⊤, [], length, slice_index_or, IfSome, OnOk, OnErr, IfErr};
 ghost use Rattle.disk_model.specs.Disk.{Moves, Same, Answers};
 ghost use Rattle.pump_frame.specs.Counts.{Rose};

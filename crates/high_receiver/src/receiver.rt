@@ -1,3 +1,4 @@
+// High's receiver over its disk.
 ghost use Rattle.std.specs.Prelude.{◌≡◌, ◌+◌, ◌^◌, ◌<◌, ◌≤◌, ℕ, List, None, true, false, ⊤, [], length, take, drop, slice_index_or, IfSome, IfOk, OnOk, OnErr, IfErr};
 ghost use Rattle.disk_model.specs.Disk.{Moves, Same, Settled, Leaves, Answers};
 ghost use Rattle.pump_frame.specs.Rows.{IsLawfulRow};

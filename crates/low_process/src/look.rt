@@ -1,3 +1,4 @@
+// A look of the low process: its first half, and the whole over an end that waits for nobody.
 ghost use Rattle.std.specs.Prelude.{◌≡◌, ℕ, ◌+◌, ◌^◌, ◌<◌, ◌≤◌, Bool, true, false, Option, Some, None, IfSome};
 ghost use Rattle.stable_buffer.specs.Low.{low_disk};
 ghost use Rattle.pump_frame.specs.Frames.{IsLawful as IsLawfulFrame};

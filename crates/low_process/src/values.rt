@@ -1,3 +1,4 @@
+// What a look of the low process is offered, asks and does.
 ghost use Rattle.std.specs.Prelude.{◌≡◌, true, Some};
 ghost use Rattle.low_process.specs.Heads.{nothing_done};
 

@@ -1,3 +1,5 @@
+//! The sentences that say why the program ended, and what to do.
+
 mod auditing;
 mod link;
 mod moving;

@@ -1,3 +1,4 @@
+// Both ends of a passage on one thread.
 ghost use Rattle.std.specs.Prelude.{◌≡◌, ◌+◌, ◌-◌, ◌<◌, ◌≤◌, length, IfOk};
 ghost use Rattle.pump_frame.specs.Rows.{greatest_capacity};
 

@@ -1,3 +1,5 @@
+//! Laws of the two parties' calls. Each is a function without a body whose contract is the law.
+
 ghost use Rattle.std.specs.Prelude.{◌≡◌, ◌++◌, ℕ, List, Option, Some};
 ghost use Rattle.pump_frame.specs.declared.row.SessionRow.{SessionRow};
 ghost use Rattle.peers.specs.declared.receive.ReceiveEnd.{ReceiveEnd};

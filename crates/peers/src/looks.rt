@@ -1,3 +1,4 @@
+// The wait for a frame, look by look.
 ghost use Rattle.std.specs.Prelude.{◌≡◌, ℕ, ◌+◌, ◌<◌, ◌≤◌, List, [], length};
 ghost use Rattle.pump_link.specs.Tells.{Draws, Grows};
 ghost use Rattle.pump_link.specs.declared.link.Looked.{Looked};

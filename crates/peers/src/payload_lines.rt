@@ -1,3 +1,4 @@
+// A reader of the lines of a sender's script.
 ghost use Rattle.std.specs.Prelude.{◌≡◌, ℕ, ◌+◌, ◌-◌, ◌*◌, ◌≤◌, [], ◌∷◌, length, Some, None, if◌then◌else◌};
 ghost use Rattle.std.specs.Io.KnownBytes.{prepend_known, Consumes, IsAtEnd};
 ghost use Rattle.pump_frame.specs.Counts.{Rose};

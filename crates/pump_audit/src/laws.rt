@@ -1,4 +1,4 @@
-//! What it says of a record that it is clean. Each is a function without a body whose contract is the law.
+//! Laws of records and of the verdicts on them. Each is a function without a body whose contract is the law.
 
 ghost use Rattle.std.specs.Prelude.{◌≡◌, ◌+◌, ◌^◌, ◌<◌, ◌≤◌, ◌++◌, ◌∷◌, ℕ, List, true, map};
 ghost use Rattle.std.specs.List.{All};

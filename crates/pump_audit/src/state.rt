@@ -1,3 +1,4 @@
+// What the lines of a record told so far.
 ghost use Rattle.std.specs.Prelude.{◌≤◌};
 ghost use Rattle.pump_frame.specs.Rows.{IsLawfulRow};
 ghost use Rattle.moving_avg.specs.Windows.{count_of};

@@ -1,3 +1,5 @@
+//! Why two pumps make no chain.
+
 use crate::six::Six;
 use disk_model::Role;
 use recovery::Why;

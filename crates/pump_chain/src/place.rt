@@ -1,3 +1,5 @@
+//! Where a message of the first receiver stands in its log.
+
 ghost use Rattle.std.specs.Prelude.{◌≡◌};
 
 /// A message of the first receiver, and the offset in its log at which its record begins.

@@ -1,3 +1,5 @@
+//! The six disks of two pumps in a row.
+
 use recovery::Trio;
 
 /// The disks of two pumps in a row.

@@ -1,4 +1,4 @@
-//! Whose a line is.
+//! Which session of a chain a line belongs to.
 
 ghost use Rattle.std.specs.Prelude.{◌≡◌, ◌==◌, if◌then◌else◌, ℕ, List, false};
 ghost use Rattle.script_reader.specs.Heads.{line_with};

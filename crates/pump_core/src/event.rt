@@ -1,3 +1,5 @@
+//! What may happen next in a world.
+
 use pump_frame::Payload;
 
 /// What may happen next in a world. `docs/model.md`, "Events", says when each can happen and

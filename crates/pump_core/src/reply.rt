@@ -1,3 +1,5 @@
+//! The replies of the low process, and why it refuses a frame.
+
 ghost use Rattle.std.specs.Prelude.{◌≡◌, ◌≤◌, [], ◌∷◌};
 ghost use Rattle.pump_frame.specs.Frames.{IsLawful};
 ghost use Rattle.pump_core.specs.ReplyFrames.{code_of, frame_of, IsLawfulReply};

@@ -1,3 +1,4 @@
+// How High's times are averaged, and what of the mean comes down to Low.
 ghost use Rattle.std.specs.Prelude.{◌≡◌};
 ghost use Rattle.pump_frame.specs.Averages.{averaging_of};
 

@@ -1,3 +1,4 @@
+// A count after one more, which stays at its greatest value.
 ghost use Rattle.std.specs.Prelude.{◌≡◌};
 ghost use Rattle.pump_frame.specs.Counts.{raised};
 

@@ -1,3 +1,4 @@
+// Frames and messages, and which frames are lawful.
 ghost use Rattle.std.specs.Prelude.{◌≡◌, ◌↔◌, ◌<◌, ◌≢◌, ℕ, length, slice_index, IsTrue, IsSome, IsNone, IfSome};
 ghost use Rattle.pump_frame.specs.Names.{IsName};
 ghost use Rattle.pump_frame.specs.Frames.{IsLawful, IsForm, AreNames, IsCode, greeting};

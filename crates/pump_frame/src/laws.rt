@@ -1,3 +1,5 @@
+//! Laws of frames and their bytes. Each is a function without a body whose contract is the law.
+
 ghost use Rattle.std.specs.Prelude.{◌≡◌, ◌↔◌, ◌∷◌, ◌++◌, ◌<◌, [], ℕ, List, length};
 ghost use Rattle.std.specs.List.{AllByRecursion, concat};
 ghost use Rattle.pump_frame.specs.Frames.{IsLawful, greeting};

@@ -1,3 +1,4 @@
+// The name of a party.
 ghost use Rattle.std.specs.Prelude.{◌≡◌, ◌↔◌, IsSome, IsTrue, IfSome};
 ghost use Rattle.std.specs.List.{list_all};
 ghost use Rattle.pump_frame.specs.Names.{IsName, is_name_byte};

@@ -1,3 +1,4 @@
+// What a message carries.
 ghost use Rattle.std.specs.Prelude.{◌≡◌, ◌≤◌, ◌↔◌, length, IsSome, IfSome};
 
 use std::marker::Model;

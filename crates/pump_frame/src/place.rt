@@ -1,3 +1,4 @@
+// The places within a frame, by what the next byte must be.
 ghost use Rattle.std.specs.Prelude.{◌≡◌, ◌≤◌, ◌-◌, ◌==◌, ◌↔◌, IsTrue, if◌then◌else◌};
 ghost use Rattle.pump_frame.specs.Places.{step, kind_of, at_rest, at_payload, at_name, IsLive};
 

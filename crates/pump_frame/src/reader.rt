@@ -1,3 +1,4 @@
+// A reader of frames, byte by byte.
 ghost use Rattle.std.specs.Prelude.{◌≡◌, ◌↔◌, [], IsTrue};
 ghost use Rattle.pump_frame.specs.Frames.{IsLawful};
 ghost use Rattle.pump_frame.specs.Spellings.{spelling};

@@ -1,3 +1,4 @@
+// A row of the session table, and the ranges of its numbers.
 ghost use Rattle.std.specs.Prelude.{◌≡◌, nat_le, ◌&&◌};
 ghost use Rattle.pump_frame.specs.Rows.{first_bad};
 

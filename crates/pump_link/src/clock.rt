@@ -1,3 +1,4 @@
+// What a clock promises.
 ghost use Rattle.std.specs.Prelude.{◌≡◌, ℕ, ◌≤◌, ◌^◌, List, [], ◌∷◌};
 ghost use Rattle.pump_frame.specs.Counts.{raised};
 ghost use Rattle.pump_link.specs.Tells.{Draws};

@@ -1,3 +1,4 @@
+// A door at which links come in: its calls, and what they promise.
 ghost use Rattle.std.specs.Prelude.{◌≡◌, ℕ, ◌≤◌, List, [], ◌∷◌};
 ghost use Rattle.pump_frame.specs.Counts.{Rose};
 ghost use Rattle.pump_link.specs.Doors.{DoorStep, BackLink, answered};

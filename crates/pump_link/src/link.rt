@@ -1,3 +1,4 @@
+// A link, whose bytes are looked at one by one: its calls, and what they promise.
 ghost use Rattle.std.specs.Prelude.{◌≡◌, ℕ, ◌≤◌, List, [], ◌∷◌};
 ghost use Rattle.pump_frame.specs.Counts.{Rose};
 ghost use Rattle.pump_link.specs.Causes.{HasCause};

@@ -1,3 +1,4 @@
+// Words from a list in memory.
 ghost use Rattle.std.specs.Prelude.{◌≡◌, ℕ, ◌≤◌, List, [], ◌∷◌, length, drop};
 ghost use Rattle.pump_link.specs.Running.{WordsFrom, first_word};
 ghost use Rattle.pump_link.specs.Tells.{Draws};

@@ -1,3 +1,4 @@
+// A door in memory.
 ghost use Rattle.std.specs.Prelude.{◌≡◌, ◌≢◌, ℕ, [], ◌∷◌, None, Some};
 ghost use Rattle.pump_link.specs.Doors.{MemoryDoor, BackLink, ComesFrom, DidSteps, accepted, answered};
 ghost use Rattle.pump_link.specs.Running.{MemoryLink};

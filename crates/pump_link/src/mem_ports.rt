@@ -1,3 +1,4 @@
+// Ports in memory.
 ghost use Rattle.std.specs.Prelude.{◌≡◌, ◌-◌, ◌≤◌, ◌↔◌, ◌⊎◌, [], ◌∷◌, take, drop, length, Contains, None, Some, IsErr, IfOk, OnOk, OnErr, IsTrue, if◌then◌else◌, vec_capacity, vec_len};
 ghost use Rattle.pump_link.specs.Causes.{HasCause};
 ghost use Rattle.pump_link.specs.Doors.{DidSteps};

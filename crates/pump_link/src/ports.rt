@@ -1,3 +1,4 @@
+// Ports, which open doors and make links: their calls, and what they promise.
 ghost use Rattle.std.specs.Prelude.{◌≡◌, ℕ, List, [], ◌∷◌, IfOk};
 ghost use Rattle.pump_link.specs.Causes.{HasCause};
 ghost use Rattle.pump_link.specs.Ports.{PortsStep, BackToPorts, ShutDoor, listened, connected};

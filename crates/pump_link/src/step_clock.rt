@@ -1,3 +1,4 @@
+// A clock in memory, which goes on by equal steps.
 ghost use Rattle.std.specs.Prelude.{◌≡◌, ◌+◌, ◌≤◌, ◌^◌, min, [], ◌∷◌};
 ghost use Rattle.pump_frame.specs.Counts.{raised};
 ghost use Rattle.pump_link.specs.Running.{MemoryClock, StepsFrom};

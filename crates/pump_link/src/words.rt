@@ -1,3 +1,4 @@
+// What random words promise.
 ghost use Rattle.std.specs.Prelude.{ℕ, List, [], ◌∷◌};
 ghost use Rattle.pump_link.specs.Tells.{Draws};
 

@@ -1,3 +1,5 @@
+//! The messages of a receiver are looked for in a file.
+
 ghost use Rattle.std.specs.Prelude.{◌≡◌, ℕ, ◌≤◌, false, List, OnOk};
 ghost use Rattle.disk_model.specs.Disk.{Moves, Same};
 ghost use Rattle.stable_buffer.specs.Log.{RecvStands};

@@ -1,3 +1,5 @@
+//! A room is filled from a source.
+
 ghost use Rattle.std.specs.Prelude.{ℕ, ◌<◌, ◌≤◌, List, length, take, IfOk, OnErr};
 ghost use Rattle.std.specs.Io.KnownBytes.{Consumes, IsAtEnd};
 ghost use Rattle.pump_link.specs.Causes.{HasCause};

@@ -1,3 +1,5 @@
+//! The last message of a file, which tells how long it is.
+
 ghost use Rattle.std.specs.Prelude.{◌≡◌};
 ghost use Rattle.pump_wrapper.specs.Wrapped.{length_message};
 

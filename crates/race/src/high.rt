@@ -1,3 +1,4 @@
+// The high half of a race: the high process, and the receiver.
 ghost use Rattle.std.specs.Prelude.{◌≡◌, ◌+◌, ◌<◌, ◌≤◌, [], true, false};
 ghost use Rattle.disk_model.specs.Plain.{plain_meaning};
 ghost use Rattle.stable_buffer.specs.Stands.{HighStands};

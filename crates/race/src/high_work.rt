@@ -1,3 +1,4 @@
+// The high worker of a race.
 use crate::high::HighHalf;
 use passage::WaitHighEnd;
 use relay_threads::{Gate, Work};

@@ -1,3 +1,4 @@
+// The low half of a race: the low process, and the low party.
 ghost use Rattle.std.specs.Prelude.{◌≡◌, ◌≤◌, ◌-◌, ◌^◌, List, [], ◌∷◌, true, false, IfSome};
 ghost use Rattle.disk_model.specs.Plain.{plain_meaning};
 ghost use Rattle.pump_frame.specs.declared.frame.Item.{Item};

@@ -1,3 +1,4 @@
+// The low worker of a race.
 ghost use Rattle.std.specs.Prelude.{◌≡◌};
 ghost use Rattle.pump_core.specs.Step.{is_full};
 

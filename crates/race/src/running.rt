@@ -1,3 +1,4 @@
+// The two works of a race, run side by side.
 ghost use Rattle.std.specs.Prelude.{◌≡◌, ◌≤◌, List, [], true, false, IfOk, OnOk, OnErr};
 ghost use Rattle.std.specs.List.{AllByRecursion};
 ghost use Rattle.pump_frame.specs.Counts.{Rose};

@@ -1,3 +1,4 @@
+// The three disks of a session, and how a move to new ones ended.
 use crate::Why;
 use disk_model::Role;
 

@@ -1,3 +1,4 @@
+// Why the disks of a session are refused.
 ghost use Rattle.std.specs.Prelude.{◌≡◌};
 ghost use Rattle.recovery.specs.Faults.{why_number, why_values};
 

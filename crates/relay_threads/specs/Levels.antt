@@ -1,4 +1,4 @@
--- The low end of a session's passage, of which each average that is read comes down of some times.
+-- The low end of a passage, where each average that it reads is that of some times.
 use Rattle.std.specs.Prelude.{◌≡◌}
 use Rattle.std.specs.List.{All}
 use Rattle.pump_frame.specs.Averages.{averaging_of}

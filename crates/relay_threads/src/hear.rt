@@ -1,3 +1,4 @@
+// One reading of a link.
 ghost use Rattle.std.specs.Prelude.{◌≡◌, ◌≤◌, []};
 ghost use Rattle.pump_frame.specs.Counts.{Rose};
 ghost use Rattle.pump_frame.specs.Readings.{Within, HasBegun};

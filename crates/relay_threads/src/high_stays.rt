@@ -1,3 +1,4 @@
+// The high worker at its door.
 ghost use Rattle.std.specs.Prelude.{◌≡◌, ℕ, ◌<◌, ◌≤◌, false, List, Some};
 ghost use Rattle.std.specs.List.{AllByRecursion};
 ghost use Rattle.pump_link.specs.Tells.{Draws, Grows};

@@ -1,3 +1,5 @@
+//! Laws of records. Each is a function without a body whose contract is the law.
+
 ghost use Rattle.std.specs.Prelude.{◌≡◌, [], List, Some, true, false};
 ghost use Rattle.std.specs.List.{AllByRecursion};
 ghost use Rattle.pump_frame.specs.Rows.{IsLawfulRow};

@@ -1,3 +1,4 @@
+// Two works, run side by side in two threads.
 ghost use Rattle.std.specs.Prelude.{◌≡◌, true, false, OnOk, OnErr};
 ghost use Rattle.relay_threads.specs.Pairs.{IsDoneFrom};
 

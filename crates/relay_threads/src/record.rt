@@ -1,3 +1,4 @@
+// The lines of a record, put behind what a room holds.
 ghost use Rattle.std.specs.Prelude.{◌≡◌, true, ℕ, ◌+◌, ◌≤◌, List, ◌++◌, IfSome, option_map};
 ghost use Rattle.arrayvec.specs.ArrayVec.{array_vec_len};
 ghost use Rattle.pump_frame.specs.declared.row.SessionRow.{SessionRow as Row};

@@ -1,4 +1,4 @@
--- The event of an event's head.
+-- The event that a head stands for.
 use Rattle.std.specs.Prelude.{Bool, true, false}
 use Rattle.pump_core.specs.ReplyFrames.{frame_of}
 use Rattle.script_reader.specs.declared.event.Event.{Event}

@@ -1,3 +1,4 @@
+// The lines of a transcript.
 ghost use Rattle.std.specs.Prelude.{◌≡◌, true};
 ghost use Rattle.script_reader.specs.EventHeads.{event_of, has_head};
 

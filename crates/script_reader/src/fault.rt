@@ -1,3 +1,4 @@
+// Why a command stops.
 use disk_model::Role;
 
 /// Why a command stops, as its last line of output says; `docs/formats.md`, "Statuses and fault lines".

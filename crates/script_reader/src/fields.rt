@@ -1,3 +1,4 @@
+// The fields of a line, read one by one.
 ghost use Rattle.std.specs.Prelude.{◌≡◌, ℕ, ◌+◌, ◌^◌, ◌<◌, ◌≤◌, List, [], ◌∷◌, length, decimal, IsSome, IfSome, IfNone, MatchOption, IsTrue, ◌↔◌, option_map, position};
 ghost use Rattle.std.specs.Option.{option_copied};
 ghost use Rattle.script_reader.specs.Fields.{is_space};

@@ -1,3 +1,5 @@
+//! Laws of scripts and transcripts. Each is a function without a body whose contract is the law.
+
 ghost use Rattle.std.specs.Prelude.{◌≡◌, ℕ, ◌≤◌, Bool, false, true, List, [], ◌∷◌, ◌++◌, length, Option, None, Some};
 ghost use Rattle.std.specs.List.{AllByRecursion};
 ghost use Rattle.script_reader.specs.declared.line.Line.{Line};

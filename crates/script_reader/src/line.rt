@@ -1,3 +1,4 @@
+// The lines of a script.
 use arrayvec::ArrayVec;
 use pump_frame::{Name, Payload, SessionRow};
 

@@ -1,3 +1,5 @@
+//! What is printed, held back until a large piece of it is there.
+
 ghost use Rattle.std.specs.Prelude.{◌≡◌, ◌+◌, ◌≤◌, [], ◌++◌, length, OnOk, OnErr};
 ghost use Rattle.std.specs.Io.KnownBytes.{Appends};
 ghost use Rattle.pump_link.specs.Causes.{HasCause, AppendsFront};

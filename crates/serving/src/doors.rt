@@ -1,3 +1,4 @@
+// Both workers of a session, each at the door of its own port.
 ghost use Rattle.std.specs.Prelude.{◌≡◌, ◌≤◌, false, [], ◌∷◌, IfOk, IfErr, OnErr};
 ghost use Rattle.disk_model.specs.Disk.{Meaning};
 ghost use Rattle.pump_frame.specs.Counts.{Rose};

@@ -1,3 +1,4 @@
+// The high half of a session: the high process with what it needs, and its door.
 ghost use Rattle.std.specs.Prelude.{◌≡◌, ◌≤◌, false};
 ghost use Rattle.high_process.specs.Ready.{Ready};
 ghost use Rattle.high_process.specs.States.{last_of, is_down};

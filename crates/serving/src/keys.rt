@@ -1,3 +1,4 @@
+// The key from which the words of a session come.
 ghost use Rattle.std.specs.Prelude.{◌≡◌, ℕ, ◌<◌, length, IfOk, IfSome, Err};
 ghost use Rattle.std.specs.Io.KnownBytes.{Consumes};
 ghost use Rattle.pump_frame.specs.Counts.{Rose};

@@ -1,3 +1,4 @@
+// A session is served over its two disks.
 ghost use Rattle.std.specs.Prelude.{◌≡◌, ◌+◌, ◌-◌, ◌≤◌, ℕ, true, false};
 ghost use Rattle.pump_core.specs.Passage.{Low, High, new_low, new_high};
 ghost use Rattle.pump_frame.specs.Counts.{Rose};

@@ -1,3 +1,4 @@
+// The two processes of an opening, each with what it needs.
 ghost use Rattle.std.specs.Prelude.{◌≡◌, false, [], is_some};
 ghost use Rattle.rand_chacha.specs.ChaCha.{key_of};
 ghost use Rattle.pump_core.specs.Passage.{Low, High, ComesNext, new_high};

@@ -1,3 +1,4 @@
+// Both halves of a session, serving side by side in two threads.
 ghost use Rattle.std.specs.Prelude.{◌≡◌, OnOk, OnErr};
 
 use pump_frame::OutOfMemory;

@@ -1,3 +1,4 @@
+// The rows of a document.
 ghost use Rattle.std.specs.Prelude.{◌≡◌, ◌≤◌, ◌<◌, [], IfOk, is_some, length};
 ghost use Rattle.std.specs.List.{All, list_all};
 ghost use Rattle.pump_frame.specs.Rows.{IsLawfulRow};

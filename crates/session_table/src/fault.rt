@@ -1,3 +1,4 @@
+// Why a document is no table of sessions.
 ghost use Rattle.std.specs.Prelude.{◌≡◌};
 ghost use Rattle.session_table.specs.Faults.{fault_number, fault_row};
 

@@ -1,3 +1,4 @@
+// The keys of a row.
 ghost use Rattle.std.specs.Prelude.{◌≡◌, not, string_bytes};
 ghost use Rattle.std.specs.List.{list_any};
 ghost use Rattle.std.specs.Map.{keys_of};

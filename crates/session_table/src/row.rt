@@ -1,3 +1,4 @@
+// A row of a document: by itself, and beside the rows before it.
 ghost use Rattle.std.specs.Prelude.{◌≡◌, ◌≢◌, ◌<◌, IfOk};
 ghost use Rattle.std.specs.List.{All};
 ghost use Rattle.pump_frame.specs.Rows.{IsLawfulRow};

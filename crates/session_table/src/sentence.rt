@@ -1,3 +1,4 @@
+// The sentences that say what is wrong with a table.
 ghost use Rattle.std.specs.Prelude.{◌≡◌};
 ghost use Rattle.session_table.specs.Faults.{range_of};
 

@@ -1,3 +1,4 @@
+// A table of sessions.
 ghost use Rattle.std.specs.Prelude.{◌≡◌, ◌==◌, IfSome, find, option_copied};
 ghost use Rattle.std.specs.List.{All, list_any};
 ghost use Rattle.pump_frame.specs.Rows.{IsLawfulRow, permits};

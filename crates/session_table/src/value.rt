@@ -1,3 +1,4 @@
+// What stands at a key of a row.
 ghost use Rattle.std.specs.Prelude.{◌≡◌, ◌<◌, ◌≤◌, IfOk, option_map};
 ghost use Rattle.toml.specs.Data.{get_member, as_integer, as_str, as_bool};
 ghost use Rattle.toml.specs.View.{view, table_view};

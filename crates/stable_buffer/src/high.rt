@@ -1,3 +1,4 @@
+// The store of the high process: how many messages it has removed.
 ghost use Rattle.std.specs.Prelude.{◌≡◌, ◌+◌, ◌^◌, ◌<◌, ◌≤◌, false, IfOk, OnOk, OnErr, IfErr};
 ghost use Rattle.disk_model.specs.Disk.{Moves, Settled, Leaves, Answers};
 ghost use Rattle.stable_buffer.specs.Stands.{HighStands, MayRemove, Removes, StandsOrRemoves};

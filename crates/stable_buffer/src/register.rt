@@ -1,3 +1,4 @@
+// A register: two numbers on a disk, of which a change is whole or not at all.
 ghost use Rattle.std.specs.Prelude.{◌≡◌, ◌⊎◌, ◌+◌, ◌^◌, ◌<◌, ◌≤◌, false, length, take, drop, IfOk, OnOk, OnErr, IfErr};
 ghost use Rattle.disk_model.specs.Disk.{Moves, Same, Torn, IsWritten, Settled, Leaves, Answers};
 ghost use Rattle.byteorder.specs.Endian.{big_bytes};

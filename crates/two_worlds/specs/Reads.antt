@@ -1,4 +1,4 @@
--- What reading a message of its own leaves of a pump.
+-- What a pump is after one of its messages was read.
 use Rattle.std.specs.Prelude.{◌≡◌, Bool, true, false}
 use Rattle.disk_model.specs.Disk.{Meaning, Moves, Same}
 use Rattle.disk_model.specs.declared.name.Role.{Role}

@@ -1,3 +1,5 @@
+//! What a line printed, and why it stopped a session.
+
 use arrayvec::ArrayVec;
 use disk_model::Role;
 use recovery::Why;

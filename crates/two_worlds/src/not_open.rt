@@ -1,3 +1,5 @@
+//! Why a pump was not opened, with its disks.
+
 use disk_model::Role;
 use recovery::Why;
 

@@ -1,3 +1,5 @@
+//! The sentences of the commands over records.
+
 use super::{fault_line, field};
 use std::io;
 

@@ -86,18 +86,18 @@ returns-then-not-pass g c =
     let t = was.told in
     record {
       served = (
-      was.rounds,
-      f.serves,
-      (f.long, (omega (arith, f.long, c.loop-rounds-test.true), f.go_on)),
-      t.looks,
-      reaches_whole _ _ _ _ _ (sent_on was.rounds f.go_on) was.link t.bytes,
-      t.moments,
-      t.words,
-      reaches_whole _ _ _ _ _ (kept_on was.rounds f.go_on) was.tape t.lines,
-      asks_more _ _ _ was.rounds _ _ f.long f.acked t.asks c.pass.ensures.asked,
-      was.levels,
-      was.pairs,
-    );
+        was.rounds,
+        f.serves,
+        (f.long, (omega (arith, f.long, c.loop-rounds-test.true), f.go_on)),
+        t.looks,
+        reaches_whole _ _ _ _ _ (sent_on was.rounds f.go_on) was.link t.bytes,
+        t.moments,
+        t.words,
+        reaches_whole _ _ _ _ _ (kept_on was.rounds f.go_on) was.tape t.lines,
+        asks_more _ _ _ was.rounds _ _ f.long f.acked t.asks c.pass.ensures.asked,
+        was.levels,
+        was.pairs,
+      );
       ready = was.ready;
       up = λ _ _. was.up;
       order = was.order;
@@ -126,18 +126,18 @@ returns-in-Some g c =
     let e = c.low_round-turn.ensures in
     record {
       served = (
-      r ∷ rs,
-      serves_more c.args.process.now c.loop-rounds.process c.low_round-turn.new.process _ r rs f.serves f.go_on f.is_held t.1,
-      (omega (arith, f.long), ended_by r rs c.args.looks c.in-Some.why long why),
-      Draws-then _ _ _ _ _ told.looks t.3,
-      sends_more r rs _ _ _ _ _ _ was.link told.bytes t.4,
-      Draws-then _ _ _ _ _ told.moments t.5,
-      Draws-then _ _ _ _ _ told.words t.6,
-      keeps_more r rs _ _ _ _ _ _ _ _ _ was.tape f.serves.row f.full told.lines t.7,
-      subst (Grows (g.G.Gate.asked c.args.gate.now) (g.G.Gate.asked c.pass.new.self)) (sym (asked_by r rs c.in-Some.why why)) (asks_more _ _ _ rs _ _ f.long f.acked told.asks c.pass.ensures.asked),
-      levels_then g.L.LowSide.stands g.L.LowSide.shape c.args.ends.now c.loop-rounds.ends (row_of c.args.process.now) (row_of c.loop-rounds.process) r.made (made_in rs) was.shape f.serves.row was.levels t.11,
-      reads_more g.L.LowSide.stands c.args.ends.now c.loop-rounds.ends c.low_round-turn.new.ends c.args.process.now c.loop-rounds.process c.low_round-turn.new.process r.made (made_in rs) was.pairs t.12,
-    );
+        r ∷ rs,
+        serves_more c.args.process.now c.loop-rounds.process c.low_round-turn.new.process _ r rs f.serves f.go_on f.is_held t.1,
+        (omega (arith, f.long), ended_by r rs c.args.looks c.in-Some.why long why),
+        Draws-then _ _ _ _ _ told.looks t.3,
+        sends_more r rs _ _ _ _ _ _ was.link told.bytes t.4,
+        Draws-then _ _ _ _ _ told.moments t.5,
+        Draws-then _ _ _ _ _ told.words t.6,
+        keeps_more r rs _ _ _ _ _ _ _ _ _ was.tape f.serves.row f.full told.lines t.7,
+        subst (Grows (g.G.Gate.asked c.args.gate.now) (g.G.Gate.asked c.pass.new.self)) (sym (asked_by r rs c.in-Some.why why)) (asks_more _ _ _ rs _ _ f.long f.acked told.asks c.pass.ensures.asked),
+        levels_then g.L.LowSide.stands g.L.LowSide.shape c.args.ends.now c.loop-rounds.ends (row_of c.args.process.now) (row_of c.loop-rounds.process) r.made (made_in rs) was.shape f.serves.row was.levels t.11,
+        reads_more g.L.LowSide.stands c.args.ends.now c.loop-rounds.ends c.low_round-turn.new.ends c.args.process.now c.loop-rounds.process c.low_round-turn.new.process r.made (made_in rs) was.pairs t.12,
+      );
       ready = e.ready;
       up = up_after c.low_round-turn.result.why c.in-Some.why c.in-Some.is e.up;
       order = e.order;
@@ -157,18 +157,18 @@ returns g c =
     let t = was.told in
     record {
       served = (
-      was.rounds,
-      f.serves,
-      (f.long, (omega (arith, f.long, was.most, c.loop-rounds-test.false), f.go_on)),
-      t.looks,
-      reaches_whole _ _ _ _ _ (sent_on was.rounds f.go_on) was.link t.bytes,
-      t.moments,
-      t.words,
-      reaches_whole _ _ _ _ _ (kept_on was.rounds f.go_on) was.tape t.lines,
-      t.asks,
-      was.levels,
-      was.pairs,
-    );
+        was.rounds,
+        f.serves,
+        (f.long, (omega (arith, f.long, was.most, c.loop-rounds-test.false), f.go_on)),
+        t.looks,
+        reaches_whole _ _ _ _ _ (sent_on was.rounds f.go_on) was.link t.bytes,
+        t.moments,
+        t.words,
+        reaches_whole _ _ _ _ _ (kept_on was.rounds f.go_on) was.tape t.lines,
+        t.asks,
+        was.levels,
+        was.pairs,
+      );
       ready = was.ready;
       up = λ _ _. was.up;
       order = was.order;

@@ -36,20 +36,5 @@ module _ {D : Type 0} (m : Meaning D) (before now : Places) (one two : ℕ) (apa
   pub out_there : LeavesOtherSessions before now two → AreOutAt m before one t → AreOutAt m now one t
   out_there others out role = let h = out role in (h.0, same_there others role ∙ h.1, h.2)
 
-  pub off_there : LeavesOtherSessions before now two → AreOut before one → AreOut now one
-  off_there others out role = subst IsOut (sym (same_there others role)) (out role)
-
-  pub back_there : LeavesOtherSessions before now two → AreBackAt m before one t → AreBackAt m now one t
-  back_there others back role = same_there others role ∙ back role
-
-  pub read_there : LeavesOtherSessions before now two → AreReadAt m now one t → AreReadAt m before one t
-  read_there others read role = subst (λ (w : Whereabouts). ReadAt (λ name. w) one role (m.reading (disk_in role t))) (same_there others role) (read role)
-
-pub others_then : (before mid now : Places) (one two : ℕ) → LeavesOtherSessions before mid one → LeavesOtherSessions mid now two → LeavesOthers before now one two
-others_then before mid now one two first second name a b = second name b ∙ first name a
-
-pub others_none : (before now : Places) (one two : ℕ) → LeavesOtherSessions before now one → LeavesOthers before now one two
-others_none before now one two first name a b = first name a
-
 pub others_more : (before mid now : Places) (one two : ℕ) → LeavesOthers before mid one two → LeavesOthers mid now one two → LeavesOthers before now one two
 others_more before mid now one two first second name a b = second name a b ∙ first name a b

@@ -83,13 +83,6 @@ module _ (before mid now : Places) (session : ℕ) (taken : LeavesBut before mid
       ]
     ]
 
--- the two have names of their own
-pub high_is_other : (session : ℕ) → disk_name session roles.High ≡ disk_name session roles.Low → ⊥
-high_is_other session e = let r = ap (λ (n : DiskName). n.role) e in cc
-
-pub low_is_other : (session : ℕ) → disk_name session roles.Low ≡ disk_name session roles.High → ⊥
-low_is_other session e = let r = ap (λ (n : DiskName). n.role) e in cc
-
 -- ---- the end of a command ----
 
 -- a disk that could not be taken

@@ -88,20 +88,6 @@ module _ {D : Type 0} (d : Meaning D) (tells : d.tells) (before mid now : Places
 
 -- ---- the end ----
 
-pub ends_at_disk : (role : Role) (why : Option Why) → IsDiskEnd (end_at role why)
-ends_at_disk role None = tt
-ends_at_disk role (Some (whys.Device n)) = tt
-ends_at_disk role (Some (whys.NotABuffer size bytes)) = tt
-ends_at_disk role (Some (whys.WrongShape field found wanted)) = tt
-ends_at_disk role (Some (whys.BadRegister first second)) = tt
-ends_at_disk role (Some (whys.Mismatch removed accepted)) = tt
-ends_at_disk role (Some (whys.BadSlot number length')) = tt
-ends_at_disk role (Some (whys.Apart count bound)) = tt
-ends_at_disk role (Some (whys.Differs number)) = tt
-ends_at_disk role (Some (whys.NotEmpty size)) = tt
-ends_at_disk role (Some (whys.Small held capacity)) = tt
-ends_at_disk role (Some (whys.TooLong number size)) = tt
-
 -- the disk of this role failed
 is_blamed : (role other : Role) (why : Option Why) → end_at other why ≡ Failed role → (is_for_device why && is_role role other) ≡ true
 is_blamed role other None e = cc

@@ -30,23 +30,6 @@ no_stop true end is = cc
 no_stop false end is = cc
 
 module _ (disk disk' out out' : ℕ) where
-  pub gather_device : (r : Result Gathered GatherFault) (role : Role) → GatherCause disk disk' out out' r → end_of_gather r ≡ Stopped (Failed role) → Rose disk disk'
-  gather_device (Ok gathered) role cause is = absurd (no_stop gathered.whole (Failed role) is)
-  gather_device (Err (Device faults)) role cause is = cause.1
-  gather_device (Err (NotWrapped n)) role cause is = absurd (cc)
-  gather_device (Err Write) role cause is = absurd (cc)
-
-  pub gather_unwritten : (r : Result Gathered GatherFault) → GatherCause disk disk' out out' r → end_of_gather r ≡ Stopped Unwritten → Rose out out'
-  gather_unwritten (Ok gathered) cause is = absurd (no_stop gathered.whole Unwritten is)
-  gather_unwritten (Err (Device faults)) cause is = absurd (cc)
-  gather_unwritten (Err (NotWrapped n)) cause is = absurd (cc)
-  gather_unwritten (Err Write) cause is = cause
-
-pub gather_reads : (r : Result Gathered GatherFault) → end_of_gather r ≡ Stopped Unread → ⊥
-gather_reads (Ok gathered) is = no_stop gathered.whole Unread is
-gather_reads (Err (Device faults)) is = cc
-gather_reads (Err (NotWrapped n)) is = cc
-gather_reads (Err Write) is = cc
 
 whole_status : (whole : Bool) → IsUnwrapStatus (unwrap_status (if whole then Whole else Unfinished))
 whole_status true = inl (omega arith)
@@ -58,22 +41,11 @@ gather_status (Err (Device faults)) = inl (omega arith)
 gather_status (Err (NotWrapped n)) = inr (inl refl)
 gather_status (Err Write) = inl (omega arith)
 
--- the end of a command that a disk stops
-pub disk_status : (end : CommandEnd) → IsDiskEnd end → IsUnwrapStatus (end_status end)
-disk_status Memory is = inl (omega arith)
-disk_status (Failed role) is = inl (omega arith)
-disk_status (Refused role why) is = inl (omega arith)
-disk_status end is = absurd is
-
 pub table_status : (end : CommandEnd) → IsTableEnd end → IsUnwrapStatus (end_status end)
 table_status Memory is = inl (omega arith)
 table_status Unread is = inl (omega arith)
 table_status (NoRow number row) is = inl (omega arith)
 table_status end is = absurd is
-
-pub untaken_status : (fault : ShelfFault) (end : CommandEnd) → (fault ≡ shelf_faults.Memory → end ≡ Memory) → (role : Role) → (fault ≡ shelf_faults.Failed → end ≡ Failed role) → IsUnwrapStatus (end_status end)
-untaken_status shelf_faults.Memory end memory role failed = disk_status end (subst IsDiskEnd (sym (memory refl)) tt)
-untaken_status shelf_faults.Failed end memory role failed = disk_status end (subst IsDiskEnd (sym (failed refl)) tt)
 
 -- the messages of an open receiver were gathered
 pub unwraps_gathered : (row : SessionRow) (found : List ℕ) (old new : Option (List ℕ)) (gathered : Result Gathered GatherFault) → refused_receiver row receiver_size found ≡ None

@@ -78,15 +78,6 @@ of_stop (stops.Disk role why) = tt
 stopped_end : (a b : CommandEnd) → Stopped a ≡ Stopped b → a ≡ b
 stopped_end a b e = cc
 
-pub read_only : (answer : WrapEnd) → end_of_wrap answer ≡ Stopped Unread → answer ≡ answers.Read
-read_only (answers.Done bytes messages) e = absurd (cc)
-read_only answers.Memory e = absurd (cc)
-read_only answers.Read e = refl
-read_only answers.TooLong e = absurd (cc)
-read_only (answers.Differs number) e = absurd (cc)
-read_only (answers.Refused role why) e = absurd (subst IsOfDisk (stopped_end _ _ e) (of_disk role why))
-read_only (answers.Stopped stop) e = absurd (subst IsOfDisk (stopped_end _ _ e) (of_stop stop))
-
 pub never_unwritten : (answer : WrapEnd) → end_of_wrap answer ≡ Stopped Unwritten → ⊥
 never_unwritten (answers.Done bytes messages) e = cc
 never_unwritten answers.Memory e = cc
@@ -122,11 +113,6 @@ wrap_status (answers.Stopped stops.Line) = inl (omega arith)
 wrap_status (answers.Stopped (stops.Device role faults)) = inl (omega arith)
 wrap_status (answers.Stopped (stops.Full end length size)) = inr (inl refl)
 wrap_status (answers.Stopped (stops.Disk role why)) = inl (omega arith)
-
-pub shelf_status : (end : CommandEnd) → StopsAtShelf end → IsSendStatus (end_status end)
-shelf_status Memory h = inl (omega arith)
-shelf_status (Failed role) h = inl (omega arith)
-shelf_status end h = absurd h
 
 pub table_status : (end : CommandEnd) → IsTableEnd end → IsSendStatus (end_status end)
 table_status Memory h = inl (omega arith)

@@ -134,9 +134,6 @@ exercise_asked old new a b n m status ends c one other =
     let same = sym one ∙ other in
     subst (λ (p : ℕ × ℕ). EndsExercise p.0 p.1 old new status) (λ i. (seed_is a b n m same i, count_is a b n m same i)) ends
 
-pub exercise_nothing : (old new : Option (List ℕ)) (seed count : ℕ) → Appends old new [] → EndsExercise seed count old new 1
-exercise_nothing old new seed count a = inr (inl (refl, a))
-
 race_seed_is : (a b n m : ℕ) (ts us : ArrayVec ℕ) → Race a n ts ≡ Race b m us → a ≡ b
 race_seed_is a b n m ts us e = cc
 

@@ -140,10 +140,6 @@ never_fails : (size : ℕ) (old new : Plain) → IsFree plain_meaning size old �
 never_fails size old new free (inl kept) = absurd (cc kept.1)
 never_fails size old new free (inr answers) = absurd (cc (answers.never tt free.unarmed free.room))
 
-stays_free : (size : ℕ) (old new : Plain) (b : Bool) → IsFree plain_meaning size old → Serves plain_meaning size old new b → IsFree plain_meaning size new
-stays_free size old new b free (inl same) = subst (IsFree plain_meaning size) (sym same.0) free
-stays_free size old new b free (inr answers) = record { unarmed = answers.disarmed tt; room = omega (arith, answers.room tt, free.room) }
-
 -- no disk fails, no line is refused, and no message overfills the receiver's disk
 pub never_stops : {g : Ghosts Plain} (s t : Pump Plain g) (line : Line) (p : Past) (printed : List Event) (stop : Stop) → CannotFail s → CanGo p line
     → Applies plain_meaning s t line p printed (Some stop)

@@ -6,9 +6,3 @@ use Rattle.low_process.specs.declared.values.Phase.TheVariants.{Idle, Passing, W
 use Rattle.low_process.specs.declared.values.Asking.TheVariants.{Forward}
 use Rattle.low_process.specs.Hands.{is_asked_of}
 use Rattle.low_process.specs.Looks.{is_down_in}
-
-pub offering_up : (next : ℕ) (ph : Phase) → IsTrue (is_asked_of next ph Forward) → is_down_in ph ≡ false
-offering_up next Idle h = refl
-offering_up next (Passing owed) h = refl
-offering_up next (Waiting k due) h = refl
-offering_up next Down h = absurd (cc)

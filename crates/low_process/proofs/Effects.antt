@@ -265,9 +265,3 @@ silent row n g Down hand x e = refl
 silent row n g Idle hand x e = absurd (cc)
 silent row n g (Passing owed) hand x e = absurd (cc)
 silent row n g (Waiting k at') hand x e = absurd (cc)
-
--- a process that is down replies nothing
-pub silent_so : (p q : LowProcess) (m w : ℕ) (a : Arrival) (d : Bool) (r : Ask) → StepBegins p q m w a d r → is_down p ≡ true → reply_in r ≡ None
-silent_so p q m w a d (Forward item) step e = refl
-silent_so p q m w a d Average step e = refl
-silent_so p q m w a d (Done l) step e = step.1.reply ∙ silent p.row p.next p.greeted p.phase p.hand.number (look_of m w a d l.feedback) e

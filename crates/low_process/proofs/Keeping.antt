@@ -90,16 +90,6 @@ falls_by m p q a d old new b keeps =
     same true d h = refl
     same false d h = sym (h refl)
 
--- a process that is down makes no device call
-pub down_stays : {D : Type 0} (m : Meaning D) (p : LowProcess) (a : Arrival) (d : Bool) (old new : LowStore D) → StoreStep m (message_in p a) old new d → is_down p ≡ true → new ≡ old
-down_stays m p a d old new keeps down = ((did m (wants p a) a d old new (came p a) keeps).none (down_wants p.row p.next p.greeted p.phase a down)).1
-  where
-    down_wants : (row : SessionRow) (n : ℕ) (g : Bool) (ph : Phase) (a : Arrival) → is_down_in ph ≡ true → wants_in row n g ph a ≡ false
-    down_wants row n g Down a e = refl
-    down_wants row n g Idle a e = absurd (cc)
-    down_wants row n g (Waiting k due) a e = absurd (cc)
-    down_wants row n g (Passing owed) a e = absurd (cc)
-
 -- ---- what a crash leaves ----
 
 module _ {D : Type 0} (m : Meaning D) (old new : LowStore D) (E b : ℕ) (messages : List (List ℕ)) (free : E + 1 ≤ b + (low_row old).capacity) (settled : Settled m (low_disk old))

@@ -23,15 +23,6 @@ pub fell_now : (claims : List Claim) (c : Claim) (g : ℕ) (o : Option ℕ) → 
 fell_now claims c g None e low f = ([], c, claims, refl, f.0, λ all. absurd (let m = f.2 c.count all in omega (arith, m, low)), refl)
 fell_now claims c g (Some line) e low f = absurd (cc)
 
-pub fell_on : (claims : List Claim) (c : Claim) (g : ℕ) (o : Option ℕ) → is_some o ≡ false → g ≤ c.count → Fell claims g o → Fell (c ∷ claims) c.count o
-fell_on claims c g None e low f =
-    let below = All-weaker (λ b. b.count ≤ g) (λ b. b.count ≤ c.count) (λ b h. omega (arith, h, low)) claims f.1 in (
-      (below, f.0),
-      All-cons (λ b. b.count ≤ c.count) c claims (omega arith) below,
-      λ m all. All-head (λ b. b.count ≤ m) c claims all,
-    )
-fell_on claims c g (Some line) e low f = absurd (cc)
-
 -- .. of a record without an end
 pub risen_right : (r : Record) → has_end r ≡ false → (claims : List Claim) → AreRisen claims → AreRight r claims
 risen_right r e [] h = tt

@@ -105,12 +105,6 @@ only_bad bytes e (coming.Frame f) h = absurd (not_a_frame f (sym (same_raw bytes
 only_bad bytes e coming.Bad h = refl
 only_bad bytes e coming.Gone h = absurd h
 
-pub only_frame : (bytes : List ℕ) (o : Option Frame) → (bytes ≡ 0 ∷ [] → ⊥) → ((f : Frame) → IsLawful f → spelling f ≡ bytes → o ≡ Some f) → (c : Coming) → IsComing c (arriving.Raw (record { items = bytes })) → option_map coming.Frame o ≡ Some c
-only_frame bytes o other only coming.Nothing h = absurd (cc)
-only_frame bytes o other only (coming.Frame f) h = ap (option_map coming.Frame) (only f h.1 (sym (same_raw bytes (spelling f) h.0)))
-only_frame bytes o other only coming.Bad h = absurd (other (same_raw bytes (0 ∷ []) h))
-only_frame bytes o other only coming.Gone h = absurd h
-
 -- ---- lines ----
 
 -- the look that the line of one tells, with this coming

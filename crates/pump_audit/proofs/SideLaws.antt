@@ -88,9 +88,6 @@ not_yet (Some w) e = absurd (cc)
 
 -- a look more
 module _ (us xs : List ItemTold) (x : ItemTold) (alike : ℕ) where
-  pub differs_on : (w : What) → MatchesTo us alike (Some w) xs → MatchesTo us alike (Some w) (xs ++ x ∷ [])
-  differs_on w h rest = subst (λ (ys : List ItemTold). DifferAt us ys alike w) (sym (append_assoc xs (x ∷ []) rest)) (h (x ∷ rest))
-
   module _ (items : List Item) (told : map tells items ≡ us) (was : MatchesTo us alike None xs) where
     abbrev IsNext : Item → Type 0
     IsNext own = (alike < length items) × (own ≡ get_or items alike own)

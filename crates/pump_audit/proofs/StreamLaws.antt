@@ -100,10 +100,6 @@ module _ (bytes : List ℕ) (old : Option (List ℕ)) (known : old ≡ Some byte
         known = left.1;
       }
 
--- a line that is no opening opens nothing
-pub opens_not : (text : List ℕ) (e : Entry) → ((d : Entry) → IsEntry d text → Some e ≡ Some d) → behind None e ≡ None → IsMisplaced None text
-opens_not text e only none d is = subst (λ (o : Option Entry). IfSome o (λ x. behind None x ≡ None)) (only d is) none
-
 -- nothing was read ahead
 pub known_ahead : (held : List ℕ) (left : Option (List ℕ)) (bytes : List ℕ) → held ≡ [] → left ≡ Some bytes → prepend_known held left ≡ Some bytes
 known_ahead held left bytes e known = ap (λ (x : List ℕ × Option (List ℕ)). prepend_known x.0 x.1) (λ i. (e i, known i))

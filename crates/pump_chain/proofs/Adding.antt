@@ -53,10 +53,3 @@ adds_nothing c s n same idle welcome number all =
     ap (message_of n) (sym (slice_get_past received n all)) ∙ ap (λ (k : ℕ). message_of k (slice_get received k)) number
     ∙ ap (λ (b : Bool). if b then message else hello) (sym greeted)
     ∙ ap (λ (b : Bool). if b then Nothing else if c.sender.is_welcome then message else hello) (sym none)
-
--- a message has room for what it adds
-pub can_hold : (a : ArrivingHead) (bytes : List ℕ) → length bytes ≤ 1024 → CanHold a bytes
-can_hold heads.Nothing bytes few = tt
-can_hold (heads.Hello low high) bytes few = tt
-can_hold (heads.Data number) bytes few = few
-can_hold heads.Raw bytes few = omega (arith, few)

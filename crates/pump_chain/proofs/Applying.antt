@@ -325,9 +325,6 @@ none_way b stop way e = (
 pub down_first : (a b new : Bool) (stop : Option Stop) → (a || b) ≡ false → new ≡ stops_at_disk stop → (new || b) ≡ stops_at_disk stop
 down_first a b new stop up e = ap (λ (x : Bool). new || x) (or_parts a b up).1 ∙ or-false new ∙ e
 
-pub down_second : (a b new : Bool) (stop : Option Stop) → (a || b) ≡ false → new ≡ stops_at_disk stop → (a || new) ≡ stops_at_disk stop
-down_second a b new stop up e = ap (λ (x : Bool). x || new) (or_parts a b up).0 ∙ e
-
 -- the sender after a line, where it was applied and where it was refused
 pub sent_way : (was of : Sender) (line : ScriptLine) (printed : List Printed) (stop : Option Stop) (is_applied : Bool) (new : Sender) → was ≡ of → is_applied ≡ is_none stop → new ≡ (if is_applied then sender_after was line printed else was)
     → (stop ≡ None → new ≡ sender_after of line printed) × (stop ≡ Some Line → new ≡ was)

@@ -48,10 +48,6 @@ module _ {L : Type 0} where
   carried coming coming' calls calls' fails fails' rest p q r t =
       subst (λ xs. AnswersFrom xs calls' fails' rest) p (subst (λ n. AnswersFrom coming n fails' rest) q (subst (λ xs. AnswersFrom coming calls xs rest) r t))
 
-  -- what comes back changes no answer to come
-  pub same_answers : (old new : MemoryPorts L) (link : Option L) → new ≡ with_back old link → Draws (GivesPorts old) (GivesPorts new) []
-  same_answers old new link e = record { told = λ rest t. carried _ _ _ _ _ _ rest (ap (λ p. p.coming) e) (ap (λ p. p.calls) e) (ap (λ p. p.fails) e) t }
-
   pub leave_none : (kept : KeptLinks L) → leave kept None ≡ kept
   leave_none kept = let same : kept.places + 0 ≡ kept.places = omega arith in λ i. record { links = kept.links; places = same i }
 

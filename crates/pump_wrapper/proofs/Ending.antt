@@ -55,29 +55,6 @@ module _ {D : Type 0} {g : _} (m : Meaning D) (old new : Trio D) (s t : Pump D g
   sent_cause bytes (Err (ends.Differs n)) h = absurd h
   sent_cause bytes (Err (ends.Refused role why)) h = absurd h
 
--- a cause since later is one since earlier
-pub cause_since : {D : Type 0} (m : Meaning D) (old mid new : Trio D) (end : WrapEnd) → CountOn m old mid → HasDiskCause m mid new end → HasDiskCause m old new end
-cause_since m old mid new (ends.Refused role (whys.Device faults)) on h = (h.0, rose_later _ _ _ (on role) h.1)
-cause_since m old mid new (ends.Refused role (whys.NotABuffer size bytes)) on h = tt
-cause_since m old mid new (ends.Refused role (whys.WrongShape field found wanted)) on h = tt
-cause_since m old mid new (ends.Refused role (whys.BadRegister first second)) on h = tt
-cause_since m old mid new (ends.Refused role (whys.Mismatch removed accepted)) on h = tt
-cause_since m old mid new (ends.Refused role (whys.BadSlot number length)) on h = tt
-cause_since m old mid new (ends.Refused role (whys.Apart count bound)) on h = tt
-cause_since m old mid new (ends.Refused role (whys.Differs number)) on h = tt
-cause_since m old mid new (ends.Refused role (whys.NotEmpty size)) on h = tt
-cause_since m old mid new (ends.Refused role (whys.Small held capacity)) on h = tt
-cause_since m old mid new (ends.Refused role (whys.TooLong number length)) on h = tt
-cause_since m old mid new (ends.Stopped (stops.Device role faults)) on h = (h.0, rose_later _ _ _ (on role) h.1)
-cause_since m old mid new (ends.Stopped stops.Line) on h = tt
-cause_since m old mid new (ends.Stopped (stops.Full end length size)) on h = tt
-cause_since m old mid new (ends.Stopped (stops.Disk role why)) on h = tt
-cause_since m old mid new (ends.Done bytes messages) on h = tt
-cause_since m old mid new ends.Memory on h = tt
-cause_since m old mid new ends.Read on h = tt
-cause_since m old mid new ends.TooLong on h = tt
-cause_since m old mid new (ends.Differs number) on h = tt
-
 pub read_sent : (bytes : ℕ) (sent : Result ℕ WrapEnd) → end_of_sending bytes sent ≡ ends.Read → sent ≡ Err ends.Read
 read_sent bytes (Ok count) e = absurd (cc)
 read_sent bytes (Err end) e = ap (λ (x : WrapEnd). Err x) e

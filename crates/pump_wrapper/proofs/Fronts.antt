@@ -17,9 +17,6 @@ begins_more xs more = (more, refl)
 pub begins_then : (xs ys zs : List Payload) → Begins xs ys → Begins ys zs → Begins xs zs
 begins_then xs ys zs (a, e) (b, f) = (a ++ b, f ∙ ap (λ (l : List Payload). l ++ b) e ∙ append_assoc xs a b)
 
-pub begins_behind : (held xs ys : List Payload) → Begins xs ys → Begins (held ++ xs) (held ++ ys)
-begins_behind held xs ys (a, e) = (a, ap (λ (l : List Payload). held ++ l) e ∙ sym (append_assoc held xs a))
-
 -- a list with what is kept
 pub kept_begins : (kept : Bool) (o : Option Payload) (ps : List Payload) → Begins ps (with_kept kept o ps)
 kept_begins true (Some p) ps = begins_more ps (p ∷ [])

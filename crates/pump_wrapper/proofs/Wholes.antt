@@ -17,15 +17,6 @@ use Rattle.pump_wrapper.specs.declared.file_sender.WrapEnd.{WrapEnd}
 use Rattle.pump_wrapper.specs.declared.file_sender.WrapEnd.TheVariants as ends
 
 module _ {D : Type 0} (m : Meaning D) (row : SessionRow) where
-  pub failed_whole : (file : List ℕ) (end : WrapEnd) (disks : Trio D) → IsFailure end → IsWhole m row file end disks
-  failed_whole file (ends.Done bytes messages) disks h = absurd h
-  failed_whole file ends.Memory disks h = tt
-  failed_whole file ends.Read disks h = tt
-  failed_whole file ends.TooLong disks h = tt
-  failed_whole file (ends.Differs number) disks h = tt
-  failed_whole file (ends.Refused role why) disks h = tt
-  failed_whole file (ends.Stopped stop) disks h = tt
-
   pub failed_sent : (messages : List (List ℕ)) (cutter : Cutter) (left : Option (List ℕ)) (end : WrapEnd) (disks : Trio D) → IsFailure end → IsSent m row messages cutter left end disks
   failed_sent messages cutter left (ends.Done bytes count) disks h = absurd h
   failed_sent messages cutter left ends.Memory disks h = tt

@@ -39,12 +39,6 @@ piece_more old src at to done size mid new piece starts within so_far is wrote =
     now ∙ (λ i. kept i ++ ys ++ after i) ∙ ap (λ (l : List ℕ). l ++ drop (to + length (xs ++ ys)) old) (append_assoc (take to old) xs ys) in
     subst (λ (z : List ℕ). IsWritten old to z new) both joined
 
--- a piece that was read into a buffer
-pub piece_is : (size k : ℕ) (into rest src : List ℕ) (at : ℕ) → k ≡ size → at + k ≤ length src → into ≡ take k (drop at src) → take size (into ++ rest) ≡ take size (drop at src)
-piece_is size k into rest src at same within is =
-    let few : length into ≡ size = ap length is ∙ length-take-le k (drop at src) (omega (arith, length-drop at src, within)) ∙ same in
-    take_at into rest size few ∙ is ∙ ap (λ n. take n (drop at src)) same
-
 -- ---- a message that is copied to its slot ----
 
 module _ (to : SessionRow) (n place : ℕ) (bytes old new : List ℕ) (some : 1 ≤ to.capacity) (fits : length bytes ≤ 2 + to.message) (is : place ≡ slot_of to n) (size : length old ≡ low_size to) (wrote : IsWritten old place bytes new) where

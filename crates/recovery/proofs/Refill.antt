@@ -67,11 +67,6 @@ taken_numbered b zero ms = tt
 taken_numbered b (suc k) [] = tt
 taken_numbered b (suc k) (m ∷ ms) = (refl, taken_numbered (b + 1) k ms)
 
--- the items in the passage have the numbers behind that of the high hand
-pub passing_numbered : (n b : ℕ) (ms : List (List ℕ)) → Numbered (b + 1) (passing n (numbered b ms))
-passing_numbered n b [] = subst (Numbered (b + 1)) (sym (take_all (n - 2) [] (omega arith))) tt
-passing_numbered n b (m ∷ ms) = taken_numbered (b + 1) (n - 2) ms
-
 taken_next : (b k : ℕ) (ms : List (List ℕ)) (next : ℕ) → next ≡ b + min k (length ms) → ComesNext (take k (numbered b ms)) next
 taken_next b zero ms next is = tt
 taken_next b (suc k) [] next is = tt

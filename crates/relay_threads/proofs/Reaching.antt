@@ -34,14 +34,6 @@ reaches_behind Adds More before mid now is_whole first bytes le adds r = record 
   later = omega (arith, le, r.later);
 }
 
--- the bytes are these, and the count may have gone up since
-pub reaches_as : (Adds More : List ℕ → Type 0) (before now later : ℕ) (is_whole : Bool) (bytes more : List ℕ) → now ≤ later → bytes ≡ more → ((xs : List ℕ) → Adds xs → More xs)
-    → Reaches Adds before now is_whole bytes → Reaches More before later is_whole more
-reaches_as Adds More before now later is_whole bytes more le e adds r = record {
-  whole = λ h. subst More e (adds bytes (r.whole h));
-  front = (r.front.0, r.front.1, sym e ∙ r.front.2, adds r.front.0 r.front.3);
-  cause = λ h. rose_earlier before now later (r.cause h) le;
-  later = omega (arith, le, r.later);
 }
 
 -- a write of all of them

@@ -191,38 +191,6 @@ overfills_names s p (lines.ReceiverRestart session m) q printed end n size h = a
 
 -- ---- a line that the device of a disk cuts short ----
 
-off_names : (s : SessionRow) (p : Past) (m : ℕ) (role : Role) (q : Past) (printed : List Event) → BreaksOff s p m role q printed → Names s printed
-off_names s p m roles.Low q printed h = absurd h
-off_names s p m roles.Recv q printed h = names s printed [] h.1 tt
-off_names s p m roles.High q printed (far, carried, unremoved) = carry_names s p 0 far printed carried
-
-pub breaks_names : (s : SessionRow) (p : Past) (line : Line) (role : Role) (q : Past) (printed : List Event) → Breaks s p line role q printed → Names s printed
-breaks_names s p lines.Skip role q printed h = absurd h
-breaks_names s p (lines.Session other) role q printed h = absurd h
-breaks_names s p (lines.LowSession other next held) role q printed h = absurd h
-breaks_names s p (lines.Coarse session) role q printed h = absurd h
-breaks_names s p (lines.Told session m w fault told a) role q printed h = absurd h
-breaks_names s p (lines.Step session m w) role q printed h = absurd h
-breaks_names s p (lines.Gone session m) role q printed h = absurd h
-breaks_names s p (lines.High session m) role q printed h = absurd h
-breaks_names s p (lines.Look session m w a) roles.Low q printed (c, comes, few, lost) = names s printed _ lost.printed_is (refl, tt)
-breaks_names s p (lines.Look session m w a) roles.High q printed h = absurd h
-breaks_names s p (lines.Look session m w a) roles.Recv q printed h = absurd h
-breaks_names s p (lines.Carry session back) roles.Recv q printed h = names s printed [] h.1 tt
-breaks_names s p (lines.Carry session back) roles.Low q printed h = absurd h
-breaks_names s p (lines.Carry session back) roles.High q printed h = absurd h
-breaks_names s p (lines.Return session m back) roles.High q printed h = names s printed [] h.1 tt
-breaks_names s p (lines.Return session m back) roles.Low q printed h = absurd h
-breaks_names s p (lines.Return session m back) roles.Recv q printed h = absurd h
-breaks_names s p (lines.Done session m t) role q printed (mid, n, first, second, high, hand, off, e) =
-    names_both s first second printed e (high_names s false p m None mid first high) (off_names s mid (m + t) role q second off)
-breaks_names s p (lines.Restart session m) roles.Low q printed h = names s printed [] h.1 tt
-breaks_names s p (lines.Restart session m) roles.High q printed h = names s printed [] h.1 tt
-breaks_names s p (lines.Restart session m) roles.Recv q printed h = absurd h
-breaks_names s p (lines.ReceiverRestart session m) roles.Recv q printed h = names s printed [] h.1 tt
-breaks_names s p (lines.ReceiverRestart session m) roles.High q printed (mid, reopened, unattached, f) = names s printed _ f (refl, tt)
-breaks_names s p (lines.ReceiverRestart session m) roles.Low q printed h = absurd h
-
 -- ---- what a line leads its session to ----
 
 -- the session has this number

@@ -81,22 +81,6 @@ coarse_line (lines.Done session m time) first begins = absurd (cc)
 coarse_line (lines.Restart session m) first begins = absurd (cc)
 coarse_line (lines.ReceiverRestart session m) first begins = absurd (cc)
 
-pub begins_first : (line : Line) → begins_session line ≡ true → stands_first line ≡ true
-begins_first (lines.Session row) begins = refl
-begins_first (lines.LowSession row next held) begins = refl
-begins_first (lines.Coarse session) begins = absurd (cc)
-begins_first lines.Skip begins = absurd (cc)
-begins_first (lines.Look session m w z) begins = absurd (cc)
-begins_first (lines.Told session m w fault told z) begins = absurd (cc)
-begins_first (lines.Step session m w) begins = absurd (cc)
-begins_first (lines.Gone session m) begins = absurd (cc)
-begins_first (lines.High session m) begins = absurd (cc)
-begins_first (lines.Carry session back) begins = absurd (cc)
-begins_first (lines.Return session m back) begins = absurd (cc)
-begins_first (lines.Done session m time) begins = absurd (cc)
-begins_first (lines.Restart session m) begins = absurd (cc)
-begins_first (lines.ReceiverRestart session m) begins = absurd (cc)
-
 still_by : (first way : Bool) (room from : Bool) → (if first then (not way && room) else from) ≡ true → first ≡ true → way ≡ false
 still_by true false room from turn is = refl
 still_by true true room from turn is = cc

@@ -31,9 +31,3 @@ module _ {D : Type 0} {g : Ghosts D} (d : Meaning D) where
           let low = ends s.past h.is_of.2 in
           let same : End (low_pump.low_row_of p).id next None ≡ End id next None = ap (λ (i : ℕ). End i next None) (ap (λ r. r.id) h.is_of.1 ∙ sym h.is_of.0) in
           (End id next None, subst (λ (e : Event). IsEndAlone s.row s.past e) same (subst (λ r. IsEndAlone r s.past (End (low_pump.low_row_of p).id next None)) h.is_of.1 low), refl)
-
--- it was written after what was held, or a front of both was
-pub end_front : {T E : Type 0} (last : Option EventHead) (head : EventHead) (r : Result T E) (first second : List ℕ) (a b c : Option (List ℕ)) → last ≡ Some head
-    → Gathers first second a b (event_line (event_of head)) → OnErr r (AppendsFront b c second) → OnErr r (AppendsFront a c (first ++ text (lines_in (option_to_list last))))
-end_front last head r first second a b c is p q =
-    held_front r first second a b c _ _ (sym (text-one (event_of head)) ∙ sym (ap (λ (o : Option EventHead). text (lines_in (option_to_list o))) is)) p q

@@ -20,9 +20,6 @@ read_in (OnShelf x) r e = cc
 read_in (Out given) r e = cc
 read_in Nowhere r e = cc
 
-on_shelf : (w : Whereabouts) (r : List ℕ) → w ≡ OnShelf r → reading_in w ≡ r
-on_shelf w r e = ap reading_in e
-
 not_out : (w : Whereabouts) (r : List ℕ) → w ≡ OnShelf r → IsOut w → ⊥
 not_out w r e out = subst IsOut e out
 

@@ -94,15 +94,6 @@ begins_alone d before row next held t lawful stands = (Alone (record { row = row
 
 -- ---- all sessions ----
 
--- the outputs of a turn
-adds_so : {D : Type 0} {g : Ghosts D} (d : Meaning D) (before now : Places) (t : Script) (line : Line) (s : Sessions D g) (held later : List ℕ) (old new : Option (List ℕ)) (outcome : Outcome)
-    → (outcome ≡ outcomes.Applied → ⊥) → Adds d before now t line s.begun.items held later old new outcome → TurnDoes d before now t line s held later old new outcome
-adds_so d before now t line s held later old new outcomes.Applied other h = absurd (other refl)
-adds_so d before now t line s held later old new outcomes.Refused other h = h
-adds_so d before now t line s held later old new outcomes.Memory other h = tt
-adds_so d before now t line s held later old new outcomes.Unwritten other h = absurd h.1
-adds_so d before now t line s held later old new (outcomes.Stopped fault) other h = h
-
 -- a line that names a session, on one that is there
 refuses_named : (t : Script) (line : Line) (number : ℕ) → session_in line ≡ Some number → (is_in_turn t line ≡ false) ⊎ IsRefused (session_at number t.begun) line → ScriptRefuses t line
 refuses_named t line number named h = subst (λ (at : Option ℕ). RefusesOne t line at) (sym named) h
@@ -382,14 +373,6 @@ refuses_alone s (lines.ReceiverRestart session m) e = cc
 refuses_there : (r : Begun) (line : Line) → begins_session line ≡ true → IsRefused (Some r) line
 refuses_there (Whole s) line e = refuses_whole s line e
 refuses_there (Alone s) line e = refuses_alone s line e
-
--- a line that can't be applied, where nothing has changed
-pub refused_still : {D : Type 0} {g : Ghosts D} (d : Meaning D) (before now : Places) (t : Script) (line : Line) (s : Sessions D g) (held : List ℕ) (a : Option (List ℕ)) → AllLend d before now s.begun.items → AllStandFor d s t → ScriptRefuses t line
-    → TurnDoes d before now t line s held held a a outcomes.Refused
-refused_still d before now t line s held a lends stand refuses = ([], (refuses, refl, stand.each, lends), gathers_none held a)
-
-pub refused_late : (t : Script) (line : Line) (number : ℕ) → session_in line ≡ Some number → is_in_turn t line ≡ false → ScriptRefuses t line
-refused_late t line number named late = refuses_named t line number named (inl late)
 
 -- its session is there, and refuses it
 refused_there : {D : Type 0} {g : Ghosts D} (d : Meaning D) (t : Script) (line : Line) (number place : ℕ) (s : Sessions D g) → session_in line ≡ Some number → IsPlaced number place s.begun.items true → AllStandFor d s t

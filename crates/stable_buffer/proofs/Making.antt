@@ -19,9 +19,6 @@ zeros_stay k c d le zeros keeps = sym (take-take 4 k d le) ∙ ap (λ (l : List 
 short_none : (c : List ℕ) → length c < 80 → IsNone c
 short_none c short long is = absurd (omega (arith, short, long))
 
-pub mark_put : (w c : List ℕ) → Torn 0 4 w c → IsNoneOr (λ d. d ≡ marked w) c
-mark_put w c torn long is = sym (take-append-drop 4 c) ∙ (λ i. is i ++ torn.after i)
-
 module _ {D : Type 0} (m : Meaning D) where
   pub anything : (d : D) → Each m (λ c. Unit {0}) d
   anything d = record { reading = λ told. tt; images = λ told c is. tt }
@@ -58,20 +55,7 @@ module _ {D : Type 0} (m : Meaning D) where
   pub zeros_leave : (k moment : ℕ) (old new : D) → 4 ≤ k → moment ≤ m.moment old → LeavesFrom m moment IsNone old → Each m HasZeros old → Moves m (KeepsFirst k) old new → LeavesFrom m moment IsNone new
   zeros_leave k moment old new le from so_far zeros moved =
       leaves_on HasZeros IsNone (KeepsFirst k) moment old new from so_far zeros (λ c d is keeps. zeros_none d (zeros_stay k c d le is keeps)) moved
-
   -- ---- a disk is finished ----
-
-  pub synced_leaves : (w : List ℕ) (moment : ℕ) (old new : D) → moment ≤ m.moment old → LeavesFrom m moment (IsNoneOr (λ c. c ≡ marked w)) old → Each m HasZeros old → Moves m Same old new
-      → LeavesFrom m moment (IsNoneOr (λ c. c ≡ marked w)) new
-  synced_leaves w moment old new le so_far zeros moved =
-      leaves_on HasZeros (IsNoneOr (λ c. c ≡ marked w)) Same moment old new le so_far zeros
-      (λ c d is same long begins. absurd (zeros_none d (subst HasZeros (sym same) is) long begins)) moved
-
-  pub marked_leaves : (w : List ℕ) (moment : ℕ) (old new : D) → moment ≤ m.moment old → LeavesFrom m moment (IsNoneOr (λ c. c ≡ marked w)) old → (m.tells → m.reading old ≡ w) → Settled m old
-      → Moves m (Torn 0 4) old new → LeavesFrom m moment (IsNoneOr (λ c. c ≡ marked w)) new
-  marked_leaves w moment old new le so_far is settled moved =
-      leaves_on (λ c. c ≡ w) (IsNoneOr (λ c. c ≡ marked w)) (Torn 0 4) moment old new le so_far (each_settled m (λ c. c ≡ w) old settled is)
-      (λ c d same torn. mark_put w d (subst (λ (z : List ℕ). Torn 0 4 z d) same torn)) moved
 
 -- ---- the bytes of a disk that is begun ----
 

@@ -54,12 +54,6 @@ ends_as Bars Bars' Does More c d events (Some (stops.Device roles.Recv faults)) 
 ends_as Bars Bars' Does More c d events (Some (stops.Full end size_of_message size)) b f h = absurd h
 ends_as Bars Bars' Does More c d events (Some (stops.Disk role why)) b f h = absurd h
 
--- nothing was done
-pub ends_barred : (Bars : Type 0) (Does : Bool → PastAlone → List Event → Type 0) (c d : LowParts) (events : List Event) (stop : Option Stop)
-    → Bars → d ≡ c → events ≡ [] → stop ≡ Some stops.Line → EndsBy Bars Does c d events stop
-ends_barred Bars Does c d events stop bars same none is =
-    subst (λ (s : Option Stop). EndsBy Bars Does c d events s) (sym is) (bars, none, same)
-
 -- ---- what comes before a look ----
 
 or_armed : (b : Bool) → true ≡ (b || true)

@@ -1,7 +1,8 @@
 -- One look and one round of the high worker, by what their calls say.
-use Rattle.std.proofs.Common.{◌≡◌, ℕ, Bool, true, false, List, Option, Some, None, Result, Ok, Err, refl, sym, ap, ◌∙◌, subst}
-use Rattle.std.specs.Prelude.{IfSome, ◌||◌, ◌&&◌, not, is_some}
+use Rattle.std.proofs.Common.{◌≡◌, ℕ, ◌≤◌, Bool, true, false, List, Option, Some, None, Result, Ok, Err, refl, sym, ap, ◌∙◌, subst, arith}
+use Rattle.std.specs.Prelude.{IfSome, if◌then◌else◌, ◌||◌, ◌&&◌, not, is_some}
 use Rattle.disk_model.specs.Disk.{Meaning}
+use Rattle.stable_buffer.specs.High.{high_disk}
 use Rattle.stable_buffer.specs.declared.high.HighStore.{HighStore}
 use Rattle.pump_frame.specs.declared.frame.Frame.{Frame}
 use Rattle.pump_frame.specs.declared.frame.Item.{Item}
@@ -9,25 +10,28 @@ use Rattle.pump_frame.specs.declared.row.SessionRow.{SessionRow}
 use Rattle.pump_core.specs.Passage.{Shape, Low, High}
 use Rattle.high_process.specs.declared.process.HighProcess.{HighProcess}
 use Rattle.high_process.specs.declared.values.HighFault.{HighFault}
+use Rattle.high_process.specs.declared.values.HighFault.TheVariants as faults
 use Rattle.high_process.specs.declared.values.HighLook.{HighLook}
 use Rattle.high_process.specs.declared.values.Task.{Task}
 use Rattle.high_process.specs.declared.values.Task.TheVariants.{Refuse, Remove, Keep}
-use Rattle.high_process.specs.Tasks.{task_of}
+use Rattle.high_process.specs.Tasks.{is_attach, task_of}
 use Rattle.high_process.specs.Past.{ProcessPast, begun, removed_in, published_in, taken_up, finished, wants, sent_in}
-use Rattle.high_process.specs.States.{row_of, hand_of, is_down, task_at, attaches_at}
+use Rattle.high_process.specs.States.{row_of, hand_of, last_of, is_down, task_at, attaches_at}
 use Rattle.high_process.specs.Ready.{Ready}
-use Rattle.high_process.specs.Storing.{GivenBack, Fares}
+use Rattle.high_process.specs.Storing.{GivenBack, Fares, IsAfter, Removing}
 use Rattle.high_process.specs.Ends.{TakesUp, told_time}
 use Rattle.high_process.specs.Looks.{StandsFor, Looked}
 use Rattle.high_process.proofs.Looking.{removal}
 use Rattle.pump_frame.specs.Readings.{Reading}
 use Rattle.relay_threads.specs.declared.hear.Heard.{Heard}
+use Rattle.relay_threads.specs.declared.hear.Heard.TheVariants as heards
 use Rattle.relay_threads.specs.declared.high_served.HighWhy.{HighWhy}
+use Rattle.relay_threads.specs.declared.high_served.HighWhy.TheVariants.{Gone, Bad, NotAttach, LinkFailed, Device, Ahead, Behind, Looks, Stopped}
 use Rattle.relay_threads.specs.declared.high_round.Plan.{Plan}
 use Rattle.relay_threads.specs.declared.high_round.Plan.TheVariants.{End, Pass, Look}
 use Rattle.relay_threads.specs.Hearings.{Hearing, IsHearing, Leaves, heard_as}
-use Rattle.relay_threads.specs.HighRounds.{Made, Round, MakesLook, plan_of, frame_heard, cause, cause_by, cause_look, is_frame, IsDone, LooksBy, with_hand, past_by}
-use Rattle.relay_threads.specs.HighServes.{LookMade, RoundMade}
+use Rattle.relay_threads.specs.HighRounds.{Made, Round, MakesLook, plan_of, frame_heard, cause, cause_by, cause_look, why_of, is_frame, IsDone, LooksBy, with_hand, past_by}
+use Rattle.relay_threads.specs.HighServes.{LookMade, RoundMade, CountsFault, CountsFaultIn, is_device, device_in}
 
 -- what is in the hand after a look tells what was taken up
 taken_hand : (u : ProcessPast) (got : Option Item) → taken_up u got ≡ with_hand u (taken_up u got).hand
@@ -200,3 +204,88 @@ module _ (p : HighProcess) (held : List ℕ) (now : Reading) (attached : Bool) (
 
   pub looked_cause : (x : Made) (is_sent : Bool) → plan_of attached (heard_as h.ending) ≡ Look → cause_look x.result is_sent ≡ cause attached (round_with m h x is_sent)
   looked_cause x is_sent is = ap (λ w. cause_by w (Some x) is_sent) (sym is)
+
+-- ---- what a look's answer says of the disk, and of the process ----
+
+-- the disk's count of faults never falls
+pub look_counts : {D T : Type 0} (M : Meaning D) (task : Task) (p q : HighProcess) (old new : HighStore D) (result : Result T HighFault) → Fares M task p q old new result → M.count (high_disk old) ≤ M.count (high_disk new)
+look_counts M (Refuse x) p q old new result f = subst (λ s. M.count (high_disk old) ≤ M.count (high_disk s)) (sym f.2) (omega arith)
+look_counts M Keep p q old new result f = subst (λ s. M.count (high_disk old) ≤ M.count (high_disk s)) (sym f.1) (omega arith)
+look_counts M Remove p q old new result f = f.0.answers.counts
+
+removing_counts : {D : Type 0} (M : Meaning D) (old new : HighStore D) (n : ℕ) → Removing {T = HighLook} M old new (Err (faults.Device n)) → CountsFault (why_of (faults.Device n)) (M.count (high_disk old)) (M.count (high_disk new))
+removing_counts M old new n f = (let is = f.fault in cc, f.answers.rose refl)
+
+-- a device fault carries the count, which rose
+pub err_counts : {D : Type 0} (M : Meaning D) (task : Task) (p q : HighProcess) (old new : HighStore D) (m : ℕ) (e : HighFault) (why : HighWhy) → why ≡ why_of e → is_down p ≡ false → IsAfter e p q m → Fares {T = HighLook} M task p q old new (Err e) → CountsFault why (M.count (high_disk old)) (M.count (high_disk new))
+err_counts M task p q old new m e why is up after f = subst (λ w. CountsFault w (M.count (high_disk old)) (M.count (high_disk new))) (sym is) (by_cases e task after f) where
+  by_cases : (e : HighFault) (task : Task) → IsAfter e p q m → Fares {T = HighLook} M task p q old new (Err e) → CountsFault (why_of e) (M.count (high_disk old)) (M.count (high_disk new))
+  by_cases (faults.Device n) Remove after f = removing_counts M old new n f.0
+  by_cases (faults.Device n) Keep after f = absurd f.0
+  by_cases (faults.Device n) (Refuse x) after f = absurd (let down = after.down in let same = ap is_down f.1 in cc)
+  by_cases (faults.Ahead n x) task after f = tt
+  by_cases (faults.Behind n x) task after f = tt
+
+-- the process is down after a device fault alone
+pub err_up : (p q : HighProcess) (m : ℕ) (e : HighFault) (why : HighWhy) → why ≡ why_of e → is_down p ≡ false → IsAfter e p q m → is_device why ≡ false → is_down q ≡ false
+err_up p q m e why is up after calm = by_cases e after (ap is_device (sym is) ∙ calm) where
+  by_cases : (e : HighFault) → IsAfter e p q m → is_device (why_of e) ≡ false → is_down q ≡ false
+  by_cases (faults.Device n) after calm = absurd (cc)
+  by_cases (faults.Ahead n x) after calm = ap is_down after ∙ up
+  by_cases (faults.Behind n x) after calm = ap is_down after ∙ up
+
+pub err_order : (p q : HighProcess) (m : ℕ) (e : HighFault) → last_of p ≤ m → IsAfter e p q m → last_of q ≤ m
+err_order p q m (faults.Device n) le after = omega (arith, after.last)
+err_order p q m (faults.Ahead n x) le after = subst (λ w. last_of w ≤ m) (sym after) le
+err_order p q m (faults.Behind n x) le after = subst (λ w. last_of w ≤ m) (sym after) le
+
+-- a refused frame, or a fault of the disk, is no failure of the link
+pub err_link : {A : Type 0} (e : HighFault) (why : HighWhy) → why ≡ why_of e → Some why ≡ Some LinkFailed → A
+err_link (faults.Device n) why is failed = absurd (cc)
+err_link (faults.Ahead n x) why is failed = absurd (cc)
+err_link (faults.Behind n x) why is failed = absurd (cc)
+
+-- what a send says of the turn is no fault of the disk
+pub calm_counts : (why : Option HighWhy) (before now : ℕ) → device_in why ≡ false → CountsFaultIn why before now
+calm_counts None before now calm = tt
+calm_counts (Some Gone) before now calm = tt
+calm_counts (Some Bad) before now calm = tt
+calm_counts (Some NotAttach) before now calm = tt
+calm_counts (Some LinkFailed) before now calm = tt
+calm_counts (Some (Device n)) before now calm = absurd (cc)
+calm_counts (Some (Ahead n m)) before now calm = tt
+calm_counts (Some (Behind n m)) before now calm = tt
+calm_counts (Some Looks) before now calm = tt
+calm_counts (Some Stopped) before now calm = tt
+
+-- ---- how a reading ends a connection ----
+
+no_attach : (b : Bool) (why : HighWhy) → (if b then Look else End NotAttach) ≡ End why → (why ≡ LinkFailed → ⊥) × (device_in (Some why) ≡ false)
+no_attach true why e = absurd (cc)
+no_attach false why e = (let is : NotAttach ≡ why = cc in ((λ failed. cc), ap is_device (sym is)))
+
+no_end : {A : Type 0} (b : Bool) (why : HighWhy) → (if b then Look else Pass) ≡ End why → A
+no_end true why e = absurd (cc)
+no_end false why e = absurd (cc)
+
+-- as a failure of the link only where the link failed
+pub ended_failed : (attached : Bool) (heard : Heard) (plan : Plan) (why : HighWhy) → plan ≡ plan_of attached heard → plan ≡ End why → Some why ≡ Some LinkFailed → heard ≡ heards.Failed
+ended_failed attached heard plan why is end failed = by_cases heard (sym is ∙ end) where
+  same : why ≡ LinkFailed
+  same = cc
+  by_cases : (heard : Heard) → plan_of attached heard ≡ End why → heard ≡ heards.Failed
+  by_cases heards.Nothing e = no_end attached why e
+  by_cases (heards.Frame f) e = absurd ((no_attach (attached || is_attach f.kind) why e).0 same)
+  by_cases heards.Bad e = absurd (cc)
+  by_cases heards.Ended e = absurd (cc)
+  by_cases heards.Failed e = refl
+
+-- never as a fault of the disk
+pub ended_calm : (attached : Bool) (heard : Heard) (plan : Plan) (why : HighWhy) → plan ≡ plan_of attached heard → plan ≡ End why → device_in (Some why) ≡ false
+ended_calm attached heard plan why is end = by_cases heard (sym is ∙ end) where
+  by_cases : (heard : Heard) → plan_of attached heard ≡ End why → device_in (Some why) ≡ false
+  by_cases heards.Nothing e = no_end attached why e
+  by_cases (heards.Frame f) e = (no_attach (attached || is_attach f.kind) why e).1
+  by_cases heards.Bad e = let same : Bad ≡ why = cc in ap is_device (sym same)
+  by_cases heards.Ended e = let same : Gone ≡ why = cc in ap is_device (sym same)
+  by_cases heards.Failed e = let same : LinkFailed ≡ why = cc in ap is_device (sym same)

@@ -1,9 +1,11 @@
-use Rattle.std.proofs.Common.{rules, [], refl, ap, true}
+use Rattle.std.proofs.Common.{rules, [], refl, ap, subst, arith, true}
 use Rattle.high_process.specs.Tasks.{frame_of}
 use Rattle.high_process.specs.Ends.{StandsFitting}
 use Rattle.high_process.proofs.Fitting.{looked_some}
-use Rattle.pump_link.proofs.Grown.{Grows-nil}
-use Rattle.relay_threads.proofs.HighTurning.{look_ok, look_err, made_ok, made_err, same_err, ready_again}
+use Rattle.pump_link.proofs.Grown.{Draws-nil, Grows-nil}
+use Rattle.relay_threads.proofs.HighTurning.{look_ok, look_err, made_ok, made_err, same_err, ready_again, look_counts, err_counts, err_up, err_order, err_link, calm_counts}
+use Rattle.high_process.specs.States.{task_at}
+use Rattle.relay_threads.specs.HighServes.{IsData}
 use Rattle.relay_threads.proofs.high_round.look.Goals as goal
 
 pub returns-in-Ok-clause-look : goal.returns-in-Ok-clause-look
@@ -60,3 +62,63 @@ returns-in-Err-clause-ready g c = λ up.
     let e = c.in-Err.ensures in
     let same = same_err g.D.Disk.told p q c.args.store.now c.look_waiting.new.store _ c.in-Err.fault e.fares up in
     ready_again g.D.Disk.told p q c.args.store.now c.look_waiting.new.store _ _ c.requires.ready same.0 same.1 (ap (λ w. g.H.HighSide.stands w) e.refused)
+
+pub returns-in-Ok-clause-gives : goal.returns-in-Ok-clause-gives
+returns-in-Ok-clause-gives g c = c.send_hand-is_sent.ensures.gives
+
+pub returns-in-Ok-clause-message : goal.returns-in-Ok-clause-message
+returns-in-Ok-clause-message g c = subst (λ row. IsData row.id c.send_hand-is_sent.new.message) c.in-Ok.ensures.row c.send_hand-is_sent.ensures.message
+
+pub returns-in-Ok-clause-up : goal.returns-in-Ok-clause-up
+returns-in-Ok-clause-up g c = λ _. c.in-Ok.ensures.up
+
+pub returns-in-Ok-clause-order : goal.returns-in-Ok-clause-order
+returns-in-Ok-clause-order g c = omega (arith, c.in-Ok.ensures.last)
+
+pub returns-in-Ok-clause-shape : goal.returns-in-Ok-clause-shape
+returns-in-Ok-clause-shape g c = c.in-Ok.ensures.shape
+
+pub returns-in-Ok-clause-place : goal.returns-in-Ok-clause-place
+returns-in-Ok-clause-place g c = c.in-Ok.ensures.place
+
+pub returns-in-Ok-clause-later : goal.returns-in-Ok-clause-later
+returns-in-Ok-clause-later g c = c.send_hand-is_sent.ensures.later
+
+pub returns-in-Ok-clause-failed : goal.returns-in-Ok-clause-failed
+returns-in-Ok-clause-failed g c = λ is. c.send_hand-is_sent.ensures.failed (c.why_sent.ensures.failed is)
+
+pub returns-in-Ok-clause-counts : goal.returns-in-Ok-clause-counts
+returns-in-Ok-clause-counts g c = look_counts g.D.Disk.told (task_at c.args.process.now (frame_of c.args.frame)) _ _ _ _ _ c.in-Ok.ensures.fares
+
+pub returns-in-Ok-clause-device : goal.returns-in-Ok-clause-device
+returns-in-Ok-clause-device g c = calm_counts c.why_sent.result _ _ c.why_sent.ensures.calm
+
+pub returns-in-Err-clause-gives : goal.returns-in-Err-clause-gives
+returns-in-Err-clause-gives g c = Draws-nil _
+
+pub returns-in-Err-clause-message : goal.returns-in-Err-clause-message
+returns-in-Err-clause-message g c = c.requires.message
+
+pub returns-in-Err-clause-up : goal.returns-in-Err-clause-up
+returns-in-Err-clause-up g c = err_up c.args.process.now c.look_waiting.new.self c.args.moment c.in-Err.fault c.why_of.result c.why_of.ensures c.requires.ready.up c.in-Err.ensures.fault
+
+pub returns-in-Err-clause-order : goal.returns-in-Err-clause-order
+returns-in-Err-clause-order g c = err_order c.args.process.now c.look_waiting.new.self c.args.moment c.in-Err.fault c.requires.order c.in-Err.ensures.fault
+
+pub returns-in-Err-clause-shape : goal.returns-in-Err-clause-shape
+returns-in-Err-clause-shape g c = c.in-Err.ensures.shape
+
+pub returns-in-Err-clause-place : goal.returns-in-Err-clause-place
+returns-in-Err-clause-place g c = c.in-Err.ensures.place
+
+pub returns-in-Err-clause-later : goal.returns-in-Err-clause-later
+returns-in-Err-clause-later g c = omega arith
+
+pub returns-in-Err-clause-failed : goal.returns-in-Err-clause-failed
+returns-in-Err-clause-failed g c = err_link c.in-Err.fault c.why_of.result c.why_of.ensures
+
+pub returns-in-Err-clause-counts : goal.returns-in-Err-clause-counts
+returns-in-Err-clause-counts g c = look_counts g.D.Disk.told (task_at c.args.process.now (frame_of c.args.frame)) _ _ _ _ _ c.in-Err.ensures.fares
+
+pub returns-in-Err-clause-device : goal.returns-in-Err-clause-device
+returns-in-Err-clause-device g c = err_counts g.D.Disk.told (task_at c.args.process.now (frame_of c.args.frame)) c.args.process.now c.look_waiting.new.self _ _ c.args.moment c.in-Err.fault c.why_of.result c.why_of.ensures c.requires.ready.up c.in-Err.ensures.fault c.in-Err.ensures.fares

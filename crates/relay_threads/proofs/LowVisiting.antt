@@ -15,8 +15,9 @@ use Rattle.relay_threads.specs.Records.{Made, record_of}
 use Rattle.relay_threads.specs.RecordLines.{looks_text}
 use Rattle.relay_threads.specs.Replays.{ReadsBack}
 use Rattle.relay_threads.specs.LowRounds.{Round, made_after, made_in, AreRounds, GoOn, newest_cause}
-use Rattle.relay_threads.specs.LowServes.{Leads, Serves, EndsBy, all_kept, text_made}
-use Rattle.relay_threads.specs.LowStays.{IsGone, GoneAfter, IsVisit, visited, visit_text, end_at, end_by, is_left_so, is_kept_by, IsLeft}
+use Rattle.relay_threads.specs.LowServes.{Leads, Serves, EndsBy, CountsFault, is_device, all_kept, text_made}
+use Rattle.relay_threads.specs.LowStays.{IsGone, GoneAfter, IsVisit, visited, visit_text, end_at, end_by, is_left_so, is_kept_by, is_ended, IsLeft}
+use Rattle.relay_threads.specs.Workers.{CountsEnd}
 use Rattle.relay_threads.proofs.LowLives.{leads_then}
 use Rattle.relay_threads.proofs.LowServing.{kept_on, broken_round}
 use Rattle.relay_threads.proofs.Reaching.{reaches_behind}
@@ -176,3 +177,32 @@ module _ (t t1 : Option (List ℕ)) (n n1 : ℕ) (row : SessionRow) (rounds : Li
       let here : Reaches (Appends t1 t2) n1 n2 k (text_made row [] (Some m)) = subst (λ (z : SessionRow). Reaches (Appends t1 t2) n1 n2 k (text_made z [] (Some m))) same line in
       subst (λ (b : Bool). Reaches (Appends t t2) n n2 b (visit_text row rounds (Some m))) (kept_by k ∙ ap is_kept_by (sym is))
       (reaches_behind (Appends t t2) (Appends t1 t2) n n1 n2 k (looks_text row (record_of (made_in rounds))) (text_made row [] (Some m)) keeps.later (λ rest g. Appends-then t t1 t2 _ rest first g) here)
+
+-- ---- what an end says ----
+
+-- a call that did not end the worker ended neither by the disk nor by the record
+pub calm_end : (why : LowWhy) (end : Option RoundsEnd) → end ≡ end_by why → is_ended end ≡ false → (is_device why ≡ false) × (why ≡ RecordFailed → ⊥)
+calm_end why end is calm = by_cases why (ap is_ended (sym is) ∙ calm) where
+  by_cases : (why : LowWhy) → is_ended (end_by why) ≡ false → (is_device why ≡ false) × (why ≡ RecordFailed → ⊥)
+  by_cases Gone calm = (refl, λ e. cc)
+  by_cases Bad calm = (refl, λ e. cc)
+  by_cases LinkFailed calm = (refl, λ e. cc)
+  by_cases (Device n) calm = absurd (cc)
+  by_cases RecordFailed calm = absurd (cc)
+  by_cases Looks calm = (refl, λ e. cc)
+  by_cases Stopped calm = (refl, λ e. cc)
+
+pub end_counts : (why : LowWhy) (end : Option RoundsEnd) (before now : ℕ) → end ≡ end_by why → CountsFault why before now → CountsEnd end before now
+end_counts why end before now is counted = subst (λ e. CountsEnd e before now) (sym is) (by_cases why counted) where
+  by_cases : (why : LowWhy) → CountsFault why before now → CountsEnd (end_by why) before now
+  by_cases Gone counted = tt
+  by_cases Bad counted = tt
+  by_cases LinkFailed counted = tt
+  by_cases (Device n) counted = counted
+  by_cases RecordFailed counted = tt
+  by_cases Looks counted = tt
+  by_cases Stopped counted = tt
+
+pub kept_counts : (k : Bool) (end : Option RoundsEnd) (before now : ℕ) → end ≡ (if k then None else Some RecordBroke) → CountsEnd end before now
+kept_counts true end before now is = subst (λ e. CountsEnd e before now) (sym is) tt
+kept_counts false end before now is = subst (λ e. CountsEnd e before now) (sym is) tt

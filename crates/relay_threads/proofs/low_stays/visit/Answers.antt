@@ -1,10 +1,11 @@
-use Rattle.std.proofs.Common.{Some, None, sym, ◌∙◌, subst, true, append-nil, arith}
+use Rattle.std.proofs.Common.{◌≤◌, Some, None, sym, ◌∙◌, subst, true, append-nil, arith}
 use Rattle.pump_link.proofs.Grown.{Draws-then}
 use Rattle.pump_link.specs.Tells.{Draws}
 use Rattle.low_process.specs.Looks.{row_of}
+use Rattle.stable_buffer.specs.Low.{low_disk}
 use Rattle.relay_threads.specs.LowRounds.{made_in, moments_of}
 use Rattle.relay_threads.proofs.Levels.{levels_then}
-use Rattle.relay_threads.proofs.LowVisiting.{stays_on, goes, caused_by, bound_of, left_of, ends_without, ends_with, kept_alone, kept_both}
+use Rattle.relay_threads.proofs.LowVisiting.{stays_on, goes, caused_by, bound_of, left_of, ends_without, ends_with, kept_alone, kept_both, calm_end, end_counts, kept_counts}
 use Rattle.relay_threads.proofs.PairsRead.{reads_more}
 use Rattle.relay_threads.proofs.low_stays.visit.Goals as goal
 
@@ -54,3 +55,45 @@ returns-clause-visit g c =
       levels_then g.L.LowSide.stands g.L.LowSide.shape c.args.ends.now c.serve_low-served.new.ends (row_of c.args.process.now) (row_of c.serve_low-served.new.process) (Some l.0) (made_in rounds) c.serve_low-served.ensures.shape s.1.row s.9 l.5,
       reads_more g.L.LowSide.stands c.args.ends.now c.serve_low-served.new.ends c.leave-is_kept.new.ends c.args.process.now c.serve_low-served.new.process c.leave-is_kept.new.process (Some l.0) (made_in rounds) s.10 l.6,
     )
+
+pub returns-then-not-is_left_so-clause-ready : goal.returns-then-not-is_left_so-clause-ready
+returns-then-not-is_left_so-clause-ready g c = c.serve_low-served.ensures.ready
+
+pub returns-then-not-is_left_so-clause-order : goal.returns-then-not-is_left_so-clause-order
+returns-then-not-is_left_so-clause-order g c = c.serve_low-served.ensures.order
+
+pub returns-then-not-is_left_so-clause-shape : goal.returns-then-not-is_left_so-clause-shape
+returns-then-not-is_left_so-clause-shape g c = c.serve_low-served.ensures.shape
+
+pub returns-then-not-is_left_so-clause-place : goal.returns-then-not-is_left_so-clause-place
+returns-then-not-is_left_so-clause-place g c = c.serve_low-served.ensures.place
+
+pub returns-then-not-is_left_so-clause-counts : goal.returns-then-not-is_left_so-clause-counts
+returns-then-not-is_left_so-clause-counts g c = c.serve_low-served.ensures.counts
+
+pub returns-then-not-is_left_so-clause-up : goal.returns-then-not-is_left_so-clause-up
+returns-then-not-is_left_so-clause-up g c = λ calm. let end = calm_end c.serve_low-served.result.why c.end_by.result c.end_by.ensures calm in c.serve_low-served.ensures.up end.0 end.1
+
+pub returns-then-not-is_left_so-clause-device : goal.returns-then-not-is_left_so-clause-device
+returns-then-not-is_left_so-clause-device g c = end_counts c.serve_low-served.result.why c.end_by.result _ _ c.end_by.ensures c.serve_low-served.ensures.device
+
+pub returns-clause-ready : goal.returns-clause-ready
+returns-clause-ready g c = c.leave-is_kept.ensures.ready
+
+pub returns-clause-order : goal.returns-clause-order
+returns-clause-order g c = c.leave-is_kept.ensures.order
+
+pub returns-clause-up : goal.returns-clause-up
+returns-clause-up g c = λ _. c.leave-is_kept.ensures.up
+
+pub returns-clause-shape : goal.returns-clause-shape
+returns-clause-shape g c = c.leave-is_kept.ensures.shape ∙ c.serve_low-served.ensures.shape
+
+pub returns-clause-place : goal.returns-clause-place
+returns-clause-place g c = c.leave-is_kept.ensures.place ∙ c.serve_low-served.ensures.place
+
+pub returns-clause-counts : goal.returns-clause-counts
+returns-clause-counts g c = subst (λ s. g.D.Disk.told.count (low_disk c.args.store.now) ≤ g.D.Disk.told.count (low_disk s)) (sym c.leave-is_kept.ensures.store) c.serve_low-served.ensures.counts
+
+pub returns-clause-device : goal.returns-clause-device
+returns-clause-device g c = kept_counts c.leave-is_kept.result c.end_kept.result _ _ c.end_kept.ensures

@@ -1,5 +1,5 @@
 -- Stays of the high worker, one after the other.
-use Rattle.std.proofs.Common.{◌≡◌, ◌⊎◌, inl, inr, ℕ, ◌+◌, ◌≤◌, ◌<◌, false, List, [], ◌∷◌, length, Some, None, refl, sym, ap, ◌∙◌, subst, arith}
+use Rattle.std.proofs.Common.{◌≡◌, ◌⊎◌, inl, inr, ℕ, ◌+◌, ◌≤◌, ◌<◌, false, List, [], ◌∷◌, length, Option, Some, None, refl, sym, ap, ◌∙◌, subst, arith}
 use Rattle.std.specs.List.{AllByRecursion}
 use Rattle.pump_frame.specs.declared.row.SessionRow.{SessionRow}
 use Rattle.pump_frame.specs.Counts.{Rose}
@@ -15,7 +15,8 @@ use Rattle.relay_threads.specs.declared.high_served.HighWhy.{HighWhy}
 use Rattle.relay_threads.specs.declared.high_served.HighWhy.TheVariants.{Gone, Bad, NotAttach, LinkFailed, Device, Ahead, Behind, Looks, Stopped}
 use Rattle.relay_threads.specs.declared.rounds_end.RoundsEnd.{RoundsEnd}
 use Rattle.relay_threads.specs.declared.rounds_end.RoundsEnd.TheVariants.{Rounds, Device as DeviceBroke, RecordFailed as RecordBroke}
-use Rattle.relay_threads.specs.Workers.{IsNobody}
+use Rattle.relay_threads.specs.Workers.{CountsEnd, IsNobody}
+use Rattle.relay_threads.proofs.Reaching.{rose_later}
 use Rattle.relay_threads.specs.HighRounds.{Round, GoOn, newest_cause}
 use Rattle.relay_threads.specs.HighServes.{Serves, EndsBy, device_in, is_device}
 use Rattle.relay_threads.specs.HighStays.{Visit, Stay, Alone, With, IsStay, IsOver, stay_after, stayed, StaySo, StaysSo, EndsStay, EndsStayBy, EndsStays, end_by, steps, answers, moments_in, count, count_at, TellsVisit}
@@ -102,3 +103,11 @@ pub worker_ends : {L : Type 0} (x : Stay L) (past : List (Stay L)) (rounds most 
 worker_ends x past rounds most looks Rounds le e = absurd e
 worker_ends x past rounds most looks (DeviceBroke n) le e = (le, e)
 worker_ends x past rounds most looks RecordBroke le e = absurd e
+
+-- a fault of the disk in the newest stay counts from the start of the worker, too
+pub end_since : (turn : Option RoundsEnd) (end : RoundsEnd) (start before now : ℕ) → turn ≡ Some end → start ≤ before → CountsEnd turn before now → CountsEnd (Some end) start now
+end_since turn end start before now is le counted = by_cases end (subst (λ t. CountsEnd t before now) is counted) where
+  by_cases : (end : RoundsEnd) → CountsEnd (Some end) before now → CountsEnd (Some end) start now
+  by_cases Rounds counted = tt
+  by_cases (DeviceBroke n) counted = (counted.0, rose_later start before now le counted.1)
+  by_cases RecordBroke counted = tt

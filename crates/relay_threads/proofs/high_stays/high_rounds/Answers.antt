@@ -1,7 +1,7 @@
 use Rattle.std.proofs.Common.{◌≤◌, ◌+◌, ◌-◌, [], ◌∷◌, refl, ap, ◌∙◌, subst, arith, None}
 use Rattle.pump_link.proofs.Grown.{Draws-nil, Draws-then, Grows-nil, Grows-then}
 use Rattle.relay_threads.specs.HighStays.{count, count_at, EndsStayBy, is_broken}
-use Rattle.relay_threads.proofs.HighStaying.{stays_none, stays_more, tells_at, worker_ends}
+use Rattle.relay_threads.proofs.HighStaying.{stays_none, stays_more, tells_at, worker_ends, end_since}
 use Rattle.relay_threads.proofs.high_stays.high_rounds.Goals as goal
 
 pub loop-made-init : goal.loop-made-init
@@ -66,3 +66,57 @@ loop-made-preserved g c =
       place = c.stay-turn.ensures.place ∙ was.place;
       counts = omega (arith, was.counts, c.stay-turn.ensures.counts);
     }
+
+pub returns-in-Some-clause-port : goal.returns-in-Some-clause-port
+returns-in-Some-clause-port g c = λ n h. c.stay-turn.ensures.port n (c.loop-made.invariant.port n h)
+
+pub returns-in-Some-clause-ready : goal.returns-in-Some-clause-ready
+returns-in-Some-clause-ready g c = c.stay-turn.ensures.ready
+
+pub returns-in-Some-clause-up : goal.returns-in-Some-clause-up
+returns-in-Some-clause-up g c = λ calm. c.stay-turn.ensures.up (ap is_broken c.in-Some.is ∙ calm)
+
+pub returns-in-Some-clause-order : goal.returns-in-Some-clause-order
+returns-in-Some-clause-order g c = c.stay-turn.ensures.order
+
+pub returns-in-Some-clause-shape : goal.returns-in-Some-clause-shape
+returns-in-Some-clause-shape g c = c.stay-turn.ensures.shape ∙ c.loop-made.invariant.shape
+
+pub returns-in-Some-clause-place : goal.returns-in-Some-clause-place
+returns-in-Some-clause-place g c = c.stay-turn.ensures.place ∙ c.loop-made.invariant.place
+
+pub returns-in-Some-clause-counts : goal.returns-in-Some-clause-counts
+returns-in-Some-clause-counts g c = omega (arith, c.loop-made.invariant.counts, c.stay-turn.ensures.counts)
+
+pub returns-in-Some-clause-device : goal.returns-in-Some-clause-device
+returns-in-Some-clause-device g c = end_since c.stay-turn.result.end c.in-Some.end _ _ _ c.in-Some.is c.loop-made.invariant.counts c.stay-turn.ensures.device
+
+pub returns-clause-rounds : goal.returns-clause-rounds
+returns-clause-rounds g c =
+    let was = c.loop-made.invariant in
+    let t = was.told in
+    (was.stays, was.so, (omega (arith, was.made, was.most, c.loop-made-test.false, c.from-most.ensures), was.calm), t.door, t.came, t.links, t.moments)
+
+pub returns-clause-port : goal.returns-clause-port
+returns-clause-port g c = c.loop-made.invariant.port
+
+pub returns-clause-ready : goal.returns-clause-ready
+returns-clause-ready g c = λ _. c.loop-made.invariant.ready
+
+pub returns-clause-up : goal.returns-clause-up
+returns-clause-up g c = λ _. c.loop-made.invariant.ready.up
+
+pub returns-clause-order : goal.returns-clause-order
+returns-clause-order g c = c.loop-made.invariant.order
+
+pub returns-clause-shape : goal.returns-clause-shape
+returns-clause-shape g c = c.loop-made.invariant.shape
+
+pub returns-clause-place : goal.returns-clause-place
+returns-clause-place g c = c.loop-made.invariant.place
+
+pub returns-clause-counts : goal.returns-clause-counts
+returns-clause-counts g c = c.loop-made.invariant.counts
+
+pub returns-clause-device : goal.returns-clause-device
+returns-clause-device g c = tt

@@ -6,7 +6,6 @@ pub mod Dealing
 pub mod Fillings
 pub mod Image
 pub mod Moved
-pub mod Moves
 pub mod Openings
 pub mod Readings
 pub mod Refill

@@ -3,5 +3,3 @@ use Rattle.std.proofs.Common.{◌≡◌, ℕ, ◌+◌, ◌≤◌, ◌<◌, List,
 use Rattle.stable_buffer.specs.Stands.{InSlot, LowStands}
 use Rattle.pump_frame.specs.declared.row.SessionRow.{SessionRow}
 use Rattle.recovery.specs.Surveys.{SlotsTell}
-
-)

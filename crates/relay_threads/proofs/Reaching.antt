@@ -34,8 +34,6 @@ reaches_behind Adds More before mid now is_whole first bytes le adds r = record 
   later = omega (arith, le, r.later);
 }
 
-}
-
 -- a write of all of them
 pub reaches_written : {T E : Type 0} (r : Result T E) (old new : Option (List ℕ)) (before now : ℕ) (bytes : List ℕ) → OnOk r (Appends old new bytes) → OnErr r (AppendsFront old new bytes) → HasCause before now r
     → Reaches (Appends old new) before now (is_ok r) bytes

@@ -1,4 +1,3 @@
-pub mod Asked
 pub mod Coarse
 pub mod Effects
 pub mod Greetings

@@ -1,13 +1,14 @@
 -- What the words ask for, and which command ends so.
-use Rattle.std.proofs.Common.{◌≡◌, ◌⊎◌, ℕ, List, [], Option, Result, Ok, Err, inl, inr, map, String, Global, string_bytes, refl, sym, ◌∙◌, subst}
+use Rattle.std.proofs.Common.{rules, ◌≡◌, ◌⊎◌, ℕ, Bool, true, false, nat_eq, List, [], Option, Result, Ok, Err, inl, inr, map, String, Global, string_bytes, refl, sym, ap, ◌∙◌, subst}
 use Rattle.std.specs.Io.KnownBytes.{Appends}
 use Rattle.arrayvec.specs.ArrayVec.{ArrayVec}
 use Rattle.command_line.specs.Commands.{AreWordsOf}
 use Rattle.command_line.specs.declared.command.Command.{Command}
-use Rattle.command_line.specs.declared.command.Command.TheVariants.{Format, Show, Exercise, Race, Serve, Receive, Send, Migrate, Wrap, Unwrap}
+use Rattle.command_line.specs.declared.command.Command.TheVariants.{Replay, Format, Show, Exercise, Race, Serve, Receive, Send, Migrate, Wrap, Unwrap, Audit, Compare, Chain}
 use Rattle.command_line.specs.declared.command.WordsFault.{WordsFault}
 use Rattle.command_line.specs.declared.command.WordsFault.TheVariants.{NoCommand, Memory}
 use Rattle.commands.specs.CommandEnds.{EndsSo, EndsWithStatus, end_status}
+use Rattle.dispatch.specs.Commands.{IsNoCommand, IsWrap, ReadsScript, is_live}
 use Rattle.exercises.specs.Exercises.{EndsExercise}
 use Rattle.commands.specs.Formatting.{Formats}
 use Rattle.commands.specs.Migrating.{Migrates}
@@ -202,3 +203,102 @@ read_words words slice c is h = subst (λ (ws : List (String Global)). AreWordsO
 -- the words are those of the call
 pub words_are : (words slice : List (String Global)) (c call : Command) → slice ≡ words → AreWordsOf (map string_bytes slice) c → c ≡ call → AreWordsOf (map string_bytes words) call
 words_are words slice c call is h same = subst (λ (x : List (String Global) × Command). AreWordsOf (map string_bytes x.0) x.1) (λ i. (is i, same i)) h
+
+-- ---- the one command that the words are, and no other one ----
+
+-- the words are those of this command, and of no other one
+pub record Asks (words : List (List ℕ)) (call : Command) : Type 0 where
+  pub are : AreWordsOf words call
+  pub only : (c : Command) → AreWordsOf words c → call ≡ c
+
+pub asks : (words slice : List (String Global)) (b call : Command) → slice ≡ words → AreWordsOf (map string_bytes slice) b
+    → ((c : Command) → AreWordsOf (map string_bytes slice) c → (let r : Result Command WordsFault = Ok b in (r ≡ Ok c) ⊎ (r ≡ Err Memory))) → b ≡ call → Asks (map string_bytes words) call
+asks words slice b call value are command is = record {
+  are = words_are words slice b call value are is;
+  only = λ c h. sym is ∙ same_command b c (command c (read_words words slice c value h));
+}
+
+-- .. and of none
+pub asks_none : (words slice : List (String Global)) → slice ≡ words
+    → ((c : Command) → AreWordsOf (map string_bytes slice) c → (let r : Result Command WordsFault = Err NoCommand in (r ≡ Ok c) ⊎ (r ≡ Err Memory))) → IsNoCommand (map string_bytes words)
+asks_none words slice value command c still h = not_command c (command c (read_words words slice c value h))
+
+-- a number for each command
+abbrev pub kind : Command → ℕ
+kind Replay = 0
+kind (Format table session) = 1
+kind (Show table session) = 2
+kind (Exercise seed count) = 3
+kind (Race seed count times) = 4
+kind (Serve table session looks) = 5
+kind (Receive table session looks) = 6
+kind (Send table session looks) = 7
+kind (Migrate table session new_table new_session) = 8
+kind (Wrap table session) = 9
+kind (Unwrap table session) = 10
+kind Audit = 11
+kind Compare = 12
+kind Chain = 13
+
+-- the commands that read the script
+abbrev pub is_script : Command → Bool
+is_script Replay = true
+is_script Audit = true
+is_script Compare = true
+is_script Chain = true
+is_script _ = false
+
+eq_self : (n : ℕ) → nat_eq n n ≡ true
+eq_self n = search rules
+
+-- a number is not two different ones
+pub is_not : (n k s : ℕ) → nat_eq n k ≡ false → s ≡ n → s ≡ k → ⊥
+is_not n k s differ one other =
+    let same : nat_eq n n ≡ false = subst (λ m. nat_eq n m ≡ false) (sym (sym one ∙ other)) differ in
+    cc (eq_self n)
+
+pub other : (words : List (List ℕ)) (call : Command) → Asks words call → (c : Command) → nat_eq (kind call) (kind c) ≡ false → AreWordsOf words c → ⊥
+other words call a c differ h = is_not (kind call) (kind c) (kind call) differ refl (ap kind (a.only c h))
+
+pub not_wrap : (words : List (List ℕ)) (call : Command) → Asks words call → nat_eq (kind call) 9 ≡ false → IsWrap words → ⊥
+not_wrap words call a differ (table, session, h) = other words call a (Wrap table session) differ h
+
+unread : (call c : Command) → is_script call ≡ false → is_script c ≡ true → call ≡ c → ⊥
+unread call c differ reads same =
+    let e : is_script call ≡ is_script c = ap is_script same in
+    cc
+
+pub not_script : (words : List (List ℕ)) (call : Command) → Asks words call → is_script call ≡ false → ReadsScript words → ⊥
+not_script words call a differ (inl h) = unread call Replay differ refl (a.only Replay (tt, h))
+not_script words call a differ (inr (inl h)) = unread call Chain differ refl (a.only Chain (tt, h))
+not_script words call a differ (inr (inr (inl h))) = unread call Audit differ refl (a.only Audit (tt, h))
+not_script words call a differ (inr (inr (inr h))) = unread call Compare differ refl (a.only Compare (tt, h))
+
+-- ---- the words that are no command that `batch` runs ----
+
+pub never_wrap : (words : List (List ℕ)) → IsNoCommand words → IsWrap words → ⊥
+never_wrap words none (table, session, h) = none (Wrap table session) refl h
+
+pub never_script : (words : List (List ℕ)) → IsNoCommand words → ReadsScript words → ⊥
+never_script words none (inl h) = none Replay refl (tt, h)
+never_script words none (inr (inl h)) = none Chain refl (tt, h)
+never_script words none (inr (inr (inl h))) = none Audit refl (tt, h)
+never_script words none (inr (inr (inr h))) = none Compare refl (tt, h)
+
+-- a command of `live`
+abbrev pub IsLiveOne : Command → Type 0
+IsLiveOne b = ((seed count : ℕ) × (times : ArrayVec ℕ) × (b ≡ Race seed count times))
+    ⊎ (((table : List ℕ) × (session looks : ℕ) × (b ≡ Serve table session looks))
+    ⊎ (((table : List ℕ) × (session looks : ℕ) × (b ≡ Receive table session looks))
+    ⊎ ((table : List ℕ) × (session looks : ℕ) × (b ≡ Send table session looks))))
+
+pub live_one : (b : Command) → IsLiveOne b → is_live b ≡ true
+live_one b (inl (seed, count, times, e)) = ap is_live e
+live_one b (inr (inl (table, session, looks, e))) = ap is_live e
+live_one b (inr (inr (inl (table, session, looks, e)))) = ap is_live e
+live_one b (inr (inr (inr (table, session, looks, e)))) = ap is_live e
+
+pub live_alone : (words : List (List ℕ)) (call : Command) → is_live call ≡ true → Asks words call → IsNoCommand words
+live_alone words call live a c still h =
+    let e : is_live call ≡ is_live c = ap is_live (a.only c h) in
+    cc

@@ -1,4 +1,5 @@
 pub mod Asked
+pub mod Caused
 pub mod LiveEnded
 pub mod Raced
 pub mod Received

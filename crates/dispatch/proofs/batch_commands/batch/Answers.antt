@@ -1,102 +1,414 @@
-use Rattle.std.proofs.Common.{rules, refl, sym, ◌∙◌}
+-- Each return is answered whole: most clauses speak of another command than the one that the words are.
+use Rattle.std.proofs.Common.{rules, inl, inr, refl, sym, ◌∙◌}
 use Rattle.command_line.specs.declared.command.Command.TheVariants as commands
-use Rattle.dispatch.proofs.Asked.{read_words, not_command, same_command, formats_asked, formats_nothing, shows_asked, shows_nothing, migrates_asked, migrates_nothing, wraps_asked, wraps_nothing, unwraps_asked, unwraps_nothing, exercise_asked}
+use Rattle.dispatch.proofs.Asked.{asks, asks_none, live_alone, live_one, is_not, other, not_wrap, not_script, never_wrap, never_script, formats_asked, formats_nothing, shows_asked, shows_nothing, migrates_asked, migrates_nothing, wraps_asked, wraps_nothing, unwraps_asked, unwraps_nothing, exercise_asked}
+use Rattle.dispatch.proofs.Caused.{end_causes, unwrap_causes, send_causes, chain_causes, told_not, exercise_not, audit_not, compare_not, end_in, unwrap_in, send_in, replay_in, told_in, exercise_in, audit_in, compare_in}
 use Rattle.dispatch.proofs.batch_commands.batch.Goals as goal
 
-pub returns-in-Format-clause-format : goal.returns-in-Format-clause-format
-returns-in-Format-clause-format g c = λ table session words told tells.
-    let asked = c.in-Ok.ensures.command (commands.Format table session) (read_words _ _ (commands.Format table session) c.as_slice.ensures.value words) in
-    formats_asked (g.S.Shelf.told.file c.args.shelf.now) _ _ _ _ _ table _ session c.format_session.result c.status.result (c.format_session.ensures.ends told tells) c.status.ensures
-    c.in-Ok.asked c.in-Format.is (same_command c.in-Ok.asked (commands.Format table session) asked)
+pub returns-in-Format : goal.returns-in-Format
+returns-in-Format g c =
+    let call = commands.Format c.in-Format.table c.in-Format.session in
+    let a = asks _ _ c.in-Ok.asked call c.as_slice.ensures.value c.in-Ok.ensures.found c.in-Ok.ensures.command c.in-Format.is in
+    let e = c.format_session.ensures in
+    let k = end_causes _ _ _ c.format_session.result c.status.result c.status.ensures e.device e.read e.unwritten in
+    record {
+      untouched = λ none. absurd (none call refl a.are);
+      words = λ none. absurd (none call refl a.are);
+      known = λ d live words. k.words;
+      unasked = λ reads wraps. refl;
+      back = e.back;
+      device = λ seven. inl (k.disk seven);
+      disk = λ replays. k.disk;
+      file = λ reads wraps. k.read;
+      read = λ reads. absurd (not_script _ call a refl reads);
+      either = λ wraps. absurd (not_wrap _ call a refl wraps);
+      unwritten = k.write;
+      memory = λ reads. absurd (not_script _ call a refl reads);
+      replay = λ words. absurd (other _ call a commands.Replay refl (tt, words));
+      chain = λ words. absurd (other _ call a commands.Chain refl (tt, words));
+      format = λ table session words told tells. formats_asked (g.S.Shelf.told.file c.args.shelf.now) _ _ _ _ _ table _ session c.format_session.result c.status.result (e.ends told tells) c.status.ensures call refl (a.only (commands.Format table session) words);
+      show = λ table session words. absurd (other _ call a (commands.Show table session) refl words);
+      migrate = λ table session new_table new_session words. absurd (other _ call a (commands.Migrate table session new_table new_session) refl words);
+      wrap = λ table session words. absurd (other _ call a (commands.Wrap table session) refl words);
+      unwrap = λ table session words. absurd (other _ call a (commands.Unwrap table session) refl words);
+      exercise = λ seed count words. absurd (other _ call a (commands.Exercise seed count) refl words);
+      audit = λ words. absurd (other _ call a commands.Audit refl (tt, words));
+      compare = λ words. absurd (other _ call a commands.Compare refl (tt, words));
+      status = end_in _ _ c.status.ensures e.status;
+    }
 
-pub returns-in-Err-NoCommand-clause-format : goal.returns-in-Err-NoCommand-clause-format
-returns-in-Err-NoCommand-clause-format g c = λ table session words.
-    absurd (not_command (commands.Format table session) ((rw c.in-Err-NoCommand.field-0-is at c.in-Err-NoCommand.ensures.command) (commands.Format table session) (read_words _ _ (commands.Format table session) c.as_slice.ensures.value words)))
+pub returns-in-Show : goal.returns-in-Show
+returns-in-Show g c =
+    let call = commands.Show c.in-Show.table c.in-Show.session in
+    let a = asks _ _ c.in-Ok.asked call c.as_slice.ensures.value c.in-Ok.ensures.found c.in-Ok.ensures.command c.in-Show.is in
+    let e = c.show_session.ensures in
+    let k = end_causes _ _ _ c.show_session.result c.status-in-Show.result c.status-in-Show.ensures e.device e.read e.unwritten in
+    record {
+      untouched = λ none. absurd (none call refl a.are);
+      words = λ none. absurd (none call refl a.are);
+      known = λ d live words. k.words;
+      unasked = λ reads wraps. refl;
+      back = e.back;
+      device = λ seven. inl (k.disk seven);
+      disk = λ replays. k.disk;
+      file = λ reads wraps. k.read;
+      read = λ reads. absurd (not_script _ call a refl reads);
+      either = λ wraps. absurd (not_wrap _ call a refl wraps);
+      unwritten = k.write;
+      memory = λ reads. absurd (not_script _ call a refl reads);
+      replay = λ words. absurd (other _ call a commands.Replay refl (tt, words));
+      chain = λ words. absurd (other _ call a commands.Chain refl (tt, words));
+      format = λ table session words. absurd (other _ call a (commands.Format table session) refl words);
+      show = λ table session words told tells. shows_asked (g.S.Shelf.told.file c.args.shelf.now) _ _ _ _ _ table _ session c.show_session.result c.status-in-Show.result (e.ends told tells) c.status-in-Show.ensures call refl (a.only (commands.Show table session) words);
+      migrate = λ table session new_table new_session words. absurd (other _ call a (commands.Migrate table session new_table new_session) refl words);
+      wrap = λ table session words. absurd (other _ call a (commands.Wrap table session) refl words);
+      unwrap = λ table session words. absurd (other _ call a (commands.Unwrap table session) refl words);
+      exercise = λ seed count words. absurd (other _ call a (commands.Exercise seed count) refl words);
+      audit = λ words. absurd (other _ call a commands.Audit refl (tt, words));
+      compare = λ words. absurd (other _ call a commands.Compare refl (tt, words));
+      status = end_in _ _ c.status-in-Show.ensures e.status;
+    }
 
-pub returns-in-Err-Memory-clause-format : goal.returns-in-Err-Memory-clause-format
-returns-in-Err-Memory-clause-format g c = λ table session words told tells. formats_nothing _ _ _ _ session (search rules)
+pub returns-in-Migrate : goal.returns-in-Migrate
+returns-in-Migrate g c =
+    let call = commands.Migrate c.in-Migrate.table c.in-Migrate.session c.in-Migrate.new_table c.in-Migrate.new_session in
+    let a = asks _ _ c.in-Ok.asked call c.as_slice.ensures.value c.in-Ok.ensures.found c.in-Ok.ensures.command c.in-Migrate.is in
+    let e = c.migrate_session.ensures in
+    let k = end_causes _ _ _ c.migrate_session.result c.status-in-Migrate.result c.status-in-Migrate.ensures e.device e.read e.unwritten in
+    record {
+      untouched = λ none. absurd (none call refl a.are);
+      words = λ none. absurd (none call refl a.are);
+      known = λ d live words. k.words;
+      unasked = λ reads wraps. refl;
+      back = e.back;
+      device = λ seven. inl (k.disk seven);
+      disk = λ replays. k.disk;
+      file = λ reads wraps. k.read;
+      read = λ reads. absurd (not_script _ call a refl reads);
+      either = λ wraps. absurd (not_wrap _ call a refl wraps);
+      unwritten = k.write;
+      memory = λ reads. absurd (not_script _ call a refl reads);
+      replay = λ words. absurd (other _ call a commands.Replay refl (tt, words));
+      chain = λ words. absurd (other _ call a commands.Chain refl (tt, words));
+      format = λ table session words. absurd (other _ call a (commands.Format table session) refl words);
+      show = λ table session words. absurd (other _ call a (commands.Show table session) refl words);
+      migrate = λ table session new_table new_session words told tells. migrates_asked (g.S.Shelf.told.file c.args.shelf.now) _ _ _ _ _ table _ new_table _ session _ new_session c.migrate_session.result c.status-in-Migrate.result
+          (e.ends told tells) c.status-in-Migrate.ensures call refl (a.only (commands.Migrate table session new_table new_session) words);
+      wrap = λ table session words. absurd (other _ call a (commands.Wrap table session) refl words);
+      unwrap = λ table session words. absurd (other _ call a (commands.Unwrap table session) refl words);
+      exercise = λ seed count words. absurd (other _ call a (commands.Exercise seed count) refl words);
+      audit = λ words. absurd (other _ call a commands.Audit refl (tt, words));
+      compare = λ words. absurd (other _ call a commands.Compare refl (tt, words));
+      status = end_in _ _ c.status-in-Migrate.ensures e.status;
+    }
 
-pub returns-in-Show-clause-show : goal.returns-in-Show-clause-show
-returns-in-Show-clause-show g c = λ table session words told tells.
-    let asked = c.in-Ok.ensures.command (commands.Show table session) (read_words _ _ (commands.Show table session) c.as_slice.ensures.value words) in
-    shows_asked (g.S.Shelf.told.file c.args.shelf.now) _ _ _ _ _ table _ session c.show_session.result c.status-in-Show.result (c.show_session.ensures.ends told tells) c.status-in-Show.ensures
-    c.in-Ok.asked c.in-Show.is (same_command c.in-Ok.asked (commands.Show table session) asked)
+pub returns-in-Unwrap : goal.returns-in-Unwrap
+returns-in-Unwrap g c =
+    let call = commands.Unwrap c.in-Unwrap.table c.in-Unwrap.session in
+    let a = asks _ _ c.in-Ok.asked call c.as_slice.ensures.value c.in-Ok.ensures.found c.in-Ok.ensures.command c.in-Unwrap.is in
+    let e = c.unwrap_session.ensures in
+    let k = unwrap_causes _ _ _ c.unwrap_session.result c.status-in-Unwrap.result c.status-in-Unwrap.ensures e.device e.read e.unwritten in
+    record {
+      untouched = λ none. absurd (none call refl a.are);
+      words = λ none. absurd (none call refl a.are);
+      known = λ d live words. k.words;
+      unasked = λ reads wraps. refl;
+      back = e.back;
+      device = λ seven. inl (k.disk seven);
+      disk = λ replays. k.disk;
+      file = λ reads wraps. k.read;
+      read = λ reads. absurd (not_script _ call a refl reads);
+      either = λ wraps. absurd (not_wrap _ call a refl wraps);
+      unwritten = k.write;
+      memory = λ reads. absurd (not_script _ call a refl reads);
+      replay = λ words. absurd (other _ call a commands.Replay refl (tt, words));
+      chain = λ words. absurd (other _ call a commands.Chain refl (tt, words));
+      format = λ table session words. absurd (other _ call a (commands.Format table session) refl words);
+      show = λ table session words. absurd (other _ call a (commands.Show table session) refl words);
+      migrate = λ table session new_table new_session words. absurd (other _ call a (commands.Migrate table session new_table new_session) refl words);
+      wrap = λ table session words. absurd (other _ call a (commands.Wrap table session) refl words);
+      unwrap = λ table session words told tells. unwraps_asked (g.S.Shelf.told.file c.args.shelf.now) (g.S.Shelf.told.disk c.args.shelf.now) (g.S.Shelf.told.disk c.unwrap_session.new.shelf) (g.O.Sink.written c.args.out.now) (g.O.Sink.written c.unwrap_session.new.out)
+          _ table _ session c.unwrap_session.result c.status-in-Unwrap.result (e.unwraps told tells) c.status-in-Unwrap.ensures call refl (a.only (commands.Unwrap table session) words);
+      exercise = λ seed count words. absurd (other _ call a (commands.Exercise seed count) refl words);
+      audit = λ words. absurd (other _ call a commands.Audit refl (tt, words));
+      compare = λ words. absurd (other _ call a commands.Compare refl (tt, words));
+      status = unwrap_in _ _ c.status-in-Unwrap.ensures e.status;
+    }
 
-pub returns-in-Err-NoCommand-clause-show : goal.returns-in-Err-NoCommand-clause-show
-returns-in-Err-NoCommand-clause-show g c = λ table session words.
-    absurd (not_command (commands.Show table session) ((rw c.in-Err-NoCommand.field-0-is at c.in-Err-NoCommand.ensures.command) (commands.Show table session) (read_words _ _ (commands.Show table session) c.as_slice.ensures.value words)))
+pub returns-in-Wrap : goal.returns-in-Wrap
+returns-in-Wrap g c =
+    let call = commands.Wrap c.in-Wrap.table c.in-Wrap.session in
+    let a = asks _ _ c.in-Ok.asked call c.as_slice.ensures.value c.in-Ok.ensures.found c.in-Ok.ensures.command c.in-Wrap.is in
+    let e = c.wrap_session.ensures in
+    let k = send_causes _ _ _ c.wrap_session.result c.status-in-Wrap.result c.status-in-Wrap.ensures e.device e.read e.unwritten in
+    record {
+      untouched = λ none. absurd (none call refl a.are);
+      words = λ none. absurd (none call refl a.are);
+      known = λ d live words. k.words;
+      unasked = λ reads wraps. absurd (wraps (c.in-Wrap.table, c.in-Wrap.session, a.are));
+      back = e.back;
+      device = λ seven. inl (k.disk seven);
+      disk = λ replays. k.disk;
+      file = λ reads wraps. absurd (wraps (c.in-Wrap.table, c.in-Wrap.session, a.are));
+      read = λ reads. absurd (not_script _ call a refl reads);
+      either = λ wraps. k.read;
+      unwritten = k.write;
+      memory = λ reads. absurd (not_script _ call a refl reads);
+      replay = λ words. absurd (other _ call a commands.Replay refl (tt, words));
+      chain = λ words. absurd (other _ call a commands.Chain refl (tt, words));
+      format = λ table session words. absurd (other _ call a (commands.Format table session) refl words);
+      show = λ table session words. absurd (other _ call a (commands.Show table session) refl words);
+      migrate = λ table session new_table new_session words. absurd (other _ call a (commands.Migrate table session new_table new_session) refl words);
+      wrap = λ table session words told tells. wraps_asked (g.S.Shelf.told.file c.args.shelf.now) (g.S.Shelf.told.disk c.args.shelf.now) (g.S.Shelf.told.disk c.wrap_session.new.shelf) (g.I.Source.left c.args.script.now) (g.O.Sink.written c.args.out.now)
+          (g.O.Sink.written c.wrap_session.new.out) _ table _ session c.wrap_session.result c.status-in-Wrap.result (e.ends told tells) c.status-in-Wrap.ensures call refl (a.only (commands.Wrap table session) words);
+      unwrap = λ table session words. absurd (other _ call a (commands.Unwrap table session) refl words);
+      exercise = λ seed count words. absurd (other _ call a (commands.Exercise seed count) refl words);
+      audit = λ words. absurd (other _ call a commands.Audit refl (tt, words));
+      compare = λ words. absurd (other _ call a commands.Compare refl (tt, words));
+      status = send_in _ _ c.status-in-Wrap.ensures e.status;
+    }
 
-pub returns-in-Err-Memory-clause-show : goal.returns-in-Err-Memory-clause-show
-returns-in-Err-Memory-clause-show g c = λ table session words told tells. shows_nothing _ _ _ _ session (search rules)
+pub returns-in-Chain : goal.returns-in-Chain
+returns-in-Chain g c =
+    let call = commands.Chain in
+    let a = asks _ _ c.in-Ok.asked call c.as_slice.ensures.value c.in-Ok.ensures.found c.in-Ok.ensures.command c.in-Chain.is in
+    let e = c.replay_chain.ensures in
+    let s = c.status-in-Chain.ensures in
+    let k = chain_causes _ _ _ _ c.replay_chain.result c.status-in-Chain.result s.is e.memory e.words e.device e.read e.write in
+    record {
+      untouched = λ none. absurd (none call refl a.are);
+      words = λ none. absurd (none call refl a.are);
+      known = λ d live words. k.words;
+      unasked = λ reads wraps. absurd (reads (inr (inl a.are.1)));
+      back = e.back;
+      device = λ seven. inl (k.disk seven);
+      disk = λ replays. k.disk;
+      file = λ reads wraps. absurd (reads (inr (inl a.are.1)));
+      read = λ reads. k.read;
+      either = λ wraps. absurd (not_wrap _ call a refl wraps);
+      unwritten = k.write;
+      memory = λ reads. k.memory;
+      replay = λ words. absurd (other _ call a commands.Replay refl (tt, words));
+      chain = λ words told tells. (c.replay_chain.result, sym s.is, e.ends told tells);
+      format = λ table session words. absurd (other _ call a (commands.Format table session) refl words);
+      show = λ table session words. absurd (other _ call a (commands.Show table session) refl words);
+      migrate = λ table session new_table new_session words. absurd (other _ call a (commands.Migrate table session new_table new_session) refl words);
+      wrap = λ table session words. absurd (other _ call a (commands.Wrap table session) refl words);
+      unwrap = λ table session words. absurd (other _ call a (commands.Unwrap table session) refl words);
+      exercise = λ seed count words. absurd (other _ call a (commands.Exercise seed count) refl words);
+      audit = λ words. absurd (other _ call a commands.Audit refl (tt, words));
+      compare = λ words. absurd (other _ call a commands.Compare refl (tt, words));
+      status = replay_in _ s.range;
+    }
 
-pub returns-in-Migrate-clause-migrate : goal.returns-in-Migrate-clause-migrate
-returns-in-Migrate-clause-migrate g c = λ table session new_table new_session words told tells.
-    let wanted = commands.Migrate table session new_table new_session in
-    let asked = c.in-Ok.ensures.command wanted (read_words _ _ wanted c.as_slice.ensures.value words) in
-    migrates_asked (g.S.Shelf.told.file c.args.shelf.now) _ _ _ _ _ table _ new_table _ session _ new_session c.migrate_session.result c.status-in-Migrate.result
-    (c.migrate_session.ensures.ends told tells) c.status-in-Migrate.ensures c.in-Ok.asked c.in-Migrate.is (same_command c.in-Ok.asked wanted asked)
+pub returns-in-Exercise : goal.returns-in-Exercise
+returns-in-Exercise g c =
+    let call = commands.Exercise c.in-Exercise.seed c.in-Exercise.count in
+    let a = asks _ _ c.in-Ok.asked call c.as_slice.ensures.value c.in-Ok.ensures.found c.in-Ok.ensures.command c.in-Exercise.is in
+    let e = c.run_exercise.ensures in
+    record {
+      untouched = λ none. absurd (none call refl a.are);
+      words = λ none. absurd (none call refl a.are);
+      known = λ d live words. exercise_not _ 2 e.status refl refl refl;
+      unasked = λ reads wraps. refl;
+      back = λ tells name out. out;
+      device = λ seven. absurd (exercise_not _ 7 e.status refl refl refl seven);
+      disk = λ replays seven. absurd (exercise_not _ 7 e.status refl refl refl seven);
+      file = λ reads wraps three. absurd (exercise_not _ 3 e.status refl refl refl three);
+      read = λ reads. absurd (not_script _ call a refl reads);
+      either = λ wraps. absurd (not_wrap _ call a refl wraps);
+      unwritten = e.cause;
+      memory = λ reads. absurd (not_script _ call a refl reads);
+      replay = λ words. absurd (other _ call a commands.Replay refl (tt, words));
+      chain = λ words. absurd (other _ call a commands.Chain refl (tt, words));
+      format = λ table session words. absurd (other _ call a (commands.Format table session) refl words);
+      show = λ table session words. absurd (other _ call a (commands.Show table session) refl words);
+      migrate = λ table session new_table new_session words. absurd (other _ call a (commands.Migrate table session new_table new_session) refl words);
+      wrap = λ table session words. absurd (other _ call a (commands.Wrap table session) refl words);
+      unwrap = λ table session words. absurd (other _ call a (commands.Unwrap table session) refl words);
+      exercise = λ seed count words. (refl, exercise_asked _ _ _ seed _ count _ e.ends call refl (a.only (commands.Exercise seed count) words));
+      audit = λ words. absurd (other _ call a commands.Audit refl (tt, words));
+      compare = λ words. absurd (other _ call a commands.Compare refl (tt, words));
+      status = exercise_in _ e.status;
+    }
 
-pub returns-in-Err-NoCommand-clause-migrate : goal.returns-in-Err-NoCommand-clause-migrate
-returns-in-Err-NoCommand-clause-migrate g c = λ table session new_table new_session words.
-    let wanted = commands.Migrate table session new_table new_session in
-    absurd (not_command wanted ((rw c.in-Err-NoCommand.field-0-is at c.in-Err-NoCommand.ensures.command) wanted (read_words _ _ wanted c.as_slice.ensures.value words)))
+pub returns-in-Audit : goal.returns-in-Audit
+returns-in-Audit g c =
+    let call = commands.Audit in
+    let a = asks _ _ c.in-Ok.asked call c.as_slice.ensures.value c.in-Ok.ensures.found c.in-Ok.ensures.command c.in-Audit.is in
+    let e = c.audit_script.ensures in
+    record {
+      untouched = λ none. absurd (none call refl a.are);
+      words = λ none. absurd (none call refl a.are);
+      known = λ d live words. audit_not _ 2 e.status refl refl refl refl refl;
+      unasked = λ reads wraps. absurd (reads (inr (inr (inl a.are.1))));
+      back = λ tells name out. out;
+      device = λ seven. absurd (audit_not _ 7 e.status refl refl refl refl refl seven);
+      disk = λ replays seven. absurd (audit_not _ 7 e.status refl refl refl refl refl seven);
+      file = λ reads wraps. absurd (reads (inr (inr (inl a.are.1))));
+      read = λ reads. e.read;
+      either = λ wraps. absurd (not_wrap _ call a refl wraps);
+      unwritten = e.unwritten;
+      memory = λ reads. e.memory;
+      replay = λ words. absurd (other _ call a commands.Replay refl (tt, words));
+      chain = λ words. absurd (other _ call a commands.Chain refl (tt, words));
+      format = λ table session words. absurd (other _ call a (commands.Format table session) refl words);
+      show = λ table session words. absurd (other _ call a (commands.Show table session) refl words);
+      migrate = λ table session new_table new_session words. absurd (other _ call a (commands.Migrate table session new_table new_session) refl words);
+      wrap = λ table session words. absurd (other _ call a (commands.Wrap table session) refl words);
+      unwrap = λ table session words. absurd (other _ call a (commands.Unwrap table session) refl words);
+      exercise = λ seed count words. absurd (other _ call a (commands.Exercise seed count) refl words);
+      audit = λ words. (refl, e.ends);
+      compare = λ words. absurd (other _ call a commands.Compare refl (tt, words));
+      status = audit_in _ e.status;
+    }
 
-pub returns-in-Err-Memory-clause-migrate : goal.returns-in-Err-Memory-clause-migrate
-returns-in-Err-Memory-clause-migrate g c = λ table session new_table new_session words told tells. migrates_nothing _ _ _ _ _ session new_session (search rules)
+pub returns-in-Compare : goal.returns-in-Compare
+returns-in-Compare g c =
+    let call = commands.Compare in
+    let a = asks _ _ c.in-Ok.asked call c.as_slice.ensures.value c.in-Ok.ensures.found c.in-Ok.ensures.command c.in-Compare.is in
+    let e = c.compare_script.ensures in
+    record {
+      untouched = λ none. absurd (none call refl a.are);
+      words = λ none. absurd (none call refl a.are);
+      known = λ d live words. compare_not _ 2 e.status refl refl refl refl refl refl;
+      unasked = λ reads wraps. absurd (reads (inr (inr (inr a.are.1))));
+      back = λ tells name out. out;
+      device = λ seven. absurd (compare_not _ 7 e.status refl refl refl refl refl refl seven);
+      disk = λ replays seven. absurd (compare_not _ 7 e.status refl refl refl refl refl refl seven);
+      file = λ reads wraps. absurd (reads (inr (inr (inr a.are.1))));
+      read = λ reads. e.read;
+      either = λ wraps. absurd (not_wrap _ call a refl wraps);
+      unwritten = e.unwritten;
+      memory = λ reads. e.memory;
+      replay = λ words. absurd (other _ call a commands.Replay refl (tt, words));
+      chain = λ words. absurd (other _ call a commands.Chain refl (tt, words));
+      format = λ table session words. absurd (other _ call a (commands.Format table session) refl words);
+      show = λ table session words. absurd (other _ call a (commands.Show table session) refl words);
+      migrate = λ table session new_table new_session words. absurd (other _ call a (commands.Migrate table session new_table new_session) refl words);
+      wrap = λ table session words. absurd (other _ call a (commands.Wrap table session) refl words);
+      unwrap = λ table session words. absurd (other _ call a (commands.Unwrap table session) refl words);
+      exercise = λ seed count words. absurd (other _ call a (commands.Exercise seed count) refl words);
+      audit = λ words. absurd (other _ call a commands.Audit refl (tt, words));
+      compare = λ words. (refl, e.ends);
+      status = compare_in _ e.status;
+    }
 
-pub returns-in-Unwrap-clause-unwrap : goal.returns-in-Unwrap-clause-unwrap
-returns-in-Unwrap-clause-unwrap g c = λ table session words told tells.
-    let asked = c.in-Ok.ensures.command (commands.Unwrap table session) (read_words _ _ (commands.Unwrap table session) c.as_slice.ensures.value words) in
-    unwraps_asked (g.S.Shelf.told.file c.args.shelf.now) (g.S.Shelf.told.disk c.args.shelf.now) (g.S.Shelf.told.disk c.unwrap_session.new.shelf) (g.O.Sink.written c.args.out.now) (g.O.Sink.written c.unwrap_session.new.out)
-    _ table _ session c.unwrap_session.result c.status-in-Unwrap.result (c.unwrap_session.ensures.unwraps told tells) c.status-in-Unwrap.ensures
-    c.in-Ok.asked c.in-Unwrap.is (same_command c.in-Ok.asked (commands.Unwrap table session) asked)
+pub returns : goal.returns
+returns g c =
+    let call = commands.Replay in
+    let a = asks _ _ c.in-Ok.asked call c.as_slice.ensures.value c.in-Ok.ensures.found c.in-Ok.ensures.command c.in-Replay.is in
+    let e = c.replay.ensures in
+    let s = c.status-2.ensures in
+    record {
+      untouched = λ none. absurd (none call refl a.are);
+      words = λ none. absurd (none call refl a.are);
+      known = λ d live words two. e.words (sym s.is ∙ two);
+      unasked = λ reads wraps. absurd (reads (inl a.are.1));
+      back = e.back;
+      device = λ seven. e.device (sym s.is ∙ seven);
+      disk = λ replays. absurd (replays a.are.1);
+      file = λ reads wraps. absurd (reads (inl a.are.1));
+      read = λ reads three. e.read (sym s.is ∙ three);
+      either = λ wraps. absurd (not_wrap _ call a refl wraps);
+      unwritten = λ four. e.write (sym s.is ∙ four);
+      memory = λ reads one. e.memory (sym s.is ∙ one);
+      replay = λ words told tells. rw (s.is) (e.ends told tells);
+      chain = λ words. absurd (other _ call a commands.Chain refl (tt, words));
+      format = λ table session words. absurd (other _ call a (commands.Format table session) refl words);
+      show = λ table session words. absurd (other _ call a (commands.Show table session) refl words);
+      migrate = λ table session new_table new_session words. absurd (other _ call a (commands.Migrate table session new_table new_session) refl words);
+      wrap = λ table session words. absurd (other _ call a (commands.Wrap table session) refl words);
+      unwrap = λ table session words. absurd (other _ call a (commands.Unwrap table session) refl words);
+      exercise = λ seed count words. absurd (other _ call a (commands.Exercise seed count) refl words);
+      audit = λ words. absurd (other _ call a commands.Audit refl (tt, words));
+      compare = λ words. absurd (other _ call a commands.Compare refl (tt, words));
+      status = replay_in _ s.range;
+    }
 
-pub returns-in-Err-NoCommand-clause-unwrap : goal.returns-in-Err-NoCommand-clause-unwrap
-returns-in-Err-NoCommand-clause-unwrap g c = λ table session words.
-    absurd (not_command (commands.Unwrap table session) ((rw c.in-Err-NoCommand.field-0-is at c.in-Err-NoCommand.ensures.command) (commands.Unwrap table session) (read_words _ _ (commands.Unwrap table session) c.as_slice.ensures.value words)))
+pub returns-in-Err-NoCommand : goal.returns-in-Err-NoCommand
+returns-in-Err-NoCommand g c =
+    let none = asks_none _ _ c.as_slice.ensures.value (rw c.in-Err-NoCommand.field-0-is at c.in-Err-NoCommand.ensures.command) in
+    let told = c.refuse_words.ensures.told in
+    record {
+      untouched = λ words. (refl, refl);
+      words = λ words. inl told;
+      known = λ d live words. absurd (none d live words);
+      unasked = λ reads wraps. refl;
+      back = λ tells name out. out;
+      device = λ seven. absurd (told_not _ _ _ 7 told refl refl seven);
+      disk = λ replays seven. absurd (told_not _ _ _ 7 told refl refl seven);
+      file = λ reads wraps three. absurd (told_not _ _ _ 3 told refl refl three);
+      read = λ reads. absurd (never_script _ none reads);
+      either = λ wraps. absurd (never_wrap _ none wraps);
+      unwritten = c.refuse_words.ensures.cause;
+      memory = λ reads. absurd (never_script _ none reads);
+      replay = λ words. absurd (none commands.Replay refl (tt, words));
+      chain = λ words. absurd (none commands.Chain refl (tt, words));
+      format = λ table session words. absurd (none (commands.Format table session) refl words);
+      show = λ table session words. absurd (none (commands.Show table session) refl words);
+      migrate = λ table session new_table new_session words. absurd (none (commands.Migrate table session new_table new_session) refl words);
+      wrap = λ table session words. absurd (none (commands.Wrap table session) refl words);
+      unwrap = λ table session words. absurd (none (commands.Unwrap table session) refl words);
+      exercise = λ seed count words. absurd (none (commands.Exercise seed count) refl words);
+      audit = λ words. absurd (none commands.Audit refl (tt, words));
+      compare = λ words. absurd (none commands.Compare refl (tt, words));
+      status = told_in _ _ _ told;
+    }
 
-pub returns-in-Err-Memory-clause-unwrap : goal.returns-in-Err-Memory-clause-unwrap
-returns-in-Err-Memory-clause-unwrap g c = λ table session words told tells. unwraps_nothing (g.S.Shelf.told.file c.args.shelf.now table) (g.S.Shelf.told.disk c.args.shelf.now) _ _ session (search rules)
+pub returns-in-Race : goal.returns-in-Race
+returns-in-Race g c =
+    let none = live_alone _ c.in-Ok.asked (live_one c.in-Ok.asked c.in-Race.is) (asks _ _ c.in-Ok.asked c.in-Ok.asked c.as_slice.ensures.value c.in-Ok.ensures.found c.in-Ok.ensures.command refl) in
+    let told = c.refuse_words-in-Race.ensures.told in
+    record {
+      untouched = λ words. (refl, refl);
+      words = λ words. inl told;
+      known = λ d live words. absurd (none d live words);
+      unasked = λ reads wraps. refl;
+      back = λ tells name out. out;
+      device = λ seven. absurd (told_not _ _ _ 7 told refl refl seven);
+      disk = λ replays seven. absurd (told_not _ _ _ 7 told refl refl seven);
+      file = λ reads wraps three. absurd (told_not _ _ _ 3 told refl refl three);
+      read = λ reads. absurd (never_script _ none reads);
+      either = λ wraps. absurd (never_wrap _ none wraps);
+      unwritten = c.refuse_words-in-Race.ensures.cause;
+      memory = λ reads. absurd (never_script _ none reads);
+      replay = λ words. absurd (none commands.Replay refl (tt, words));
+      chain = λ words. absurd (none commands.Chain refl (tt, words));
+      format = λ table session words. absurd (none (commands.Format table session) refl words);
+      show = λ table session words. absurd (none (commands.Show table session) refl words);
+      migrate = λ table session new_table new_session words. absurd (none (commands.Migrate table session new_table new_session) refl words);
+      wrap = λ table session words. absurd (none (commands.Wrap table session) refl words);
+      unwrap = λ table session words. absurd (none (commands.Unwrap table session) refl words);
+      exercise = λ seed count words. absurd (none (commands.Exercise seed count) refl words);
+      audit = λ words. absurd (none commands.Audit refl (tt, words));
+      compare = λ words. absurd (none commands.Compare refl (tt, words));
+      status = told_in _ _ _ told;
+    }
 
-pub returns-in-Exercise-clause-exercise : goal.returns-in-Exercise-clause-exercise
-returns-in-Exercise-clause-exercise g c = λ seed count words.
-    let asked = c.in-Ok.ensures.command (commands.Exercise seed count) (read_words _ _ (commands.Exercise seed count) c.as_slice.ensures.value words) in
-    (refl, exercise_asked _ _ _ seed _ count _ c.run_exercise.ensures.ends c.in-Ok.asked c.in-Exercise.is (same_command c.in-Ok.asked (commands.Exercise seed count) asked))
-
-pub returns-in-Err-NoCommand-clause-exercise : goal.returns-in-Err-NoCommand-clause-exercise
-returns-in-Err-NoCommand-clause-exercise g c = λ seed count words.
-    absurd (not_command (commands.Exercise seed count) ((rw c.in-Err-NoCommand.field-0-is at c.in-Err-NoCommand.ensures.command) (commands.Exercise seed count) (read_words _ _ (commands.Exercise seed count) c.as_slice.ensures.value words)))
-
-pub returns-in-Err-NoCommand-clause-replay : goal.returns-in-Err-NoCommand-clause-replay
-returns-in-Err-NoCommand-clause-replay g c = λ replay.
-    absurd (not_command commands.Replay ((rw c.in-Err-NoCommand.field-0-is at c.in-Err-NoCommand.ensures.command) commands.Replay (read_words _ _ commands.Replay c.as_slice.ensures.value (tt, replay))))
-
-pub returns-clause-device : goal.returns-clause-device
-returns-clause-device g c = λ is. c.replay.ensures.device (sym c.status-2.ensures.is ∙ is)
-
-pub returns-in-Err-NoCommand-clause-audit : goal.returns-in-Err-NoCommand-clause-audit
-returns-in-Err-NoCommand-clause-audit g c = λ audit.
-    absurd (not_command commands.Audit ((rw c.in-Err-NoCommand.field-0-is at c.in-Err-NoCommand.ensures.command) commands.Audit (read_words _ _ commands.Audit c.as_slice.ensures.value (tt, audit))))
-
-pub returns-in-Err-NoCommand-clause-compare : goal.returns-in-Err-NoCommand-clause-compare
-returns-in-Err-NoCommand-clause-compare g c = λ compare.
-    absurd (not_command commands.Compare ((rw c.in-Err-NoCommand.field-0-is at c.in-Err-NoCommand.ensures.command) commands.Compare (read_words _ _ commands.Compare c.as_slice.ensures.value (tt, compare))))
-
-pub returns-in-Wrap-clause-wrap : goal.returns-in-Wrap-clause-wrap
-returns-in-Wrap-clause-wrap g c = λ table session words told tells.
-    let asked = c.in-Ok.ensures.command (commands.Wrap table session) (read_words _ _ (commands.Wrap table session) c.as_slice.ensures.value words) in
-    wraps_asked (g.S.Shelf.told.file c.args.shelf.now) (g.S.Shelf.told.disk c.args.shelf.now) (g.S.Shelf.told.disk c.wrap_session.new.shelf) (g.I.Source.left c.args.script.now)
-    (g.O.Sink.written c.args.out.now) (g.O.Sink.written c.wrap_session.new.out)
-    _ table _ session c.wrap_session.result c.status-in-Wrap.result (c.wrap_session.ensures.ends told tells) c.status-in-Wrap.ensures
-    c.in-Ok.asked c.in-Wrap.is (same_command c.in-Ok.asked (commands.Wrap table session) asked)
-
-pub returns-in-Err-NoCommand-clause-wrap : goal.returns-in-Err-NoCommand-clause-wrap
-returns-in-Err-NoCommand-clause-wrap g c = λ table session words.
-    absurd (not_command (commands.Wrap table session) ((rw c.in-Err-NoCommand.field-0-is at c.in-Err-NoCommand.ensures.command) (commands.Wrap table session) (read_words _ _ (commands.Wrap table session) c.as_slice.ensures.value words)))
-
-pub returns-in-Err-Memory-clause-wrap : goal.returns-in-Err-Memory-clause-wrap
-returns-in-Err-Memory-clause-wrap g c = λ table session words told tells. wraps_nothing (g.S.Shelf.told.file c.args.shelf.now table) (g.S.Shelf.told.disk c.args.shelf.now) _ _ _ session (search rules)
-
-pub returns-in-Err-NoCommand-clause-chain : goal.returns-in-Err-NoCommand-clause-chain
-returns-in-Err-NoCommand-clause-chain g c = λ chain.
-    absurd (not_command commands.Chain ((rw c.in-Err-NoCommand.field-0-is at c.in-Err-NoCommand.ensures.command) commands.Chain (read_words _ _ commands.Chain c.as_slice.ensures.value (tt, chain))))
+pub returns-in-Err-Memory : goal.returns-in-Err-Memory
+returns-in-Err-Memory g c = record {
+  untouched = λ words. (refl, refl);
+  words = λ words. inr (refl, search rules);
+  known = λ d live words two. is_not 1 2 1 refl refl two;
+  unasked = λ reads wraps. refl;
+  back = λ tells name out. out;
+  device = λ seven. absurd (is_not 1 7 1 refl refl seven);
+  disk = λ replays seven. absurd (is_not 1 7 1 refl refl seven);
+  file = λ reads wraps three. absurd (is_not 1 3 1 refl refl three);
+  read = λ reads three. absurd (is_not 1 3 1 refl refl three);
+  either = λ wraps three. absurd (is_not 1 3 1 refl refl three);
+  unwritten = λ four. absurd (is_not 1 4 1 refl refl four);
+  memory = λ reads one. search rules;
+  replay = search rules;
+  chain = search rules;
+  format = λ table session words told tells. formats_nothing _ _ _ _ session (search rules);
+  show = λ table session words told tells. shows_nothing _ _ _ _ session (search rules);
+  migrate = λ table session new_table new_session words told tells. migrates_nothing _ _ _ _ _ session new_session (search rules);
+  wrap = λ table session words told tells. wraps_nothing (g.S.Shelf.told.file c.args.shelf.now table) (g.S.Shelf.told.disk c.args.shelf.now) _ _ _ session (search rules);
+  unwrap = λ table session words told tells. unwraps_nothing (g.S.Shelf.told.file c.args.shelf.now table) (g.S.Shelf.told.disk c.args.shelf.now) _ _ session (search rules);
+  exercise = search rules;
+  audit = search rules;
+  compare = search rules;
+  status = inl (search rules);
+}

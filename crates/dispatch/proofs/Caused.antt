@@ -1,0 +1,185 @@
+-- What a status of a command tells of its causes.
+use Rattle.std.proofs.Common.{◌≡◌, ◌⊎◌, ℕ, ◌≤◌, false, nat_eq, zero, suc, List, Option, inl, inr, refl, sym, ap, ◌∙◌, subst, arith}
+use Rattle.commands.specs.CommandEnds.{end_status}
+use Rattle.commands.specs.Unwrapping.{IsUnwrapStatus, unwrap_status}
+use Rattle.commands.specs.Wrapping.{IsSendStatus, send_status}
+use Rattle.commands.specs.declared.command_end.CommandEnd.{CommandEnd}
+use Rattle.commands.specs.declared.command_end.CommandEnd.TheVariants as ends
+use Rattle.commands.specs.declared.unwrap.UnwrapEnd.{UnwrapEnd}
+use Rattle.commands.specs.declared.unwrap.UnwrapEnd.TheVariants as unwraps
+use Rattle.commands.specs.declared.wrap.SendEnd.{SendEnd}
+use Rattle.commands.specs.declared.wrap.SendEnd.TheVariants as sends
+use Rattle.disk_model.specs.declared.name.Role.{Role}
+use Rattle.dispatch.specs.Commands.{TellsWords}
+use Rattle.dispatch.proofs.Asked.{is_not}
+use Rattle.script_reader.specs.declared.fault.Fault.TheVariants as faults
+use Rattle.script_replay.specs.Ends.{end_status as chain_status}
+use Rattle.script_replay.specs.declared.ended.Ended.{Ended}
+use Rattle.script_replay.specs.declared.ended.Ended.TheVariants as chains
+
+-- what a status tells of the causes: of want of memory, a disk, a read and a write; and it does not tell of the words
+pub record Causes (Wants Disk Read Write : Type 0) (status : ℕ) : Type 0 where
+  pub memory : status ≡ 1 → Wants
+  pub words : status ≡ 2 → ⊥
+  pub read : status ≡ 3 → Read
+  pub write : status ≡ 4 → Write
+  pub disk : status ≡ 7 → Disk
+
+abbrev pub Cause : (Wants Disk Read Write : Type 0) → ℕ → Type 0
+Cause Wants Disk Read Write zero = Unit
+Cause Wants Disk Read Write (suc zero) = Wants
+Cause Wants Disk Read Write (suc (suc zero)) = ⊥
+Cause Wants Disk Read Write (suc (suc (suc zero))) = Read
+Cause Wants Disk Read Write (suc (suc (suc (suc zero)))) = Write
+Cause Wants Disk Read Write (suc (suc (suc (suc (suc zero))))) = Unit
+Cause Wants Disk Read Write (suc (suc (suc (suc (suc (suc zero)))))) = Unit
+Cause Wants Disk Read Write (suc (suc (suc (suc (suc (suc (suc zero))))))) = Disk
+Cause Wants Disk Read Write (suc (suc (suc (suc (suc (suc (suc (suc n)))))))) = Unit
+
+causes : (Wants Disk Read Write : Type 0) (status number : ℕ) → status ≡ number → Cause Wants Disk Read Write number → Causes Wants Disk Read Write status
+causes Wants Disk Read Write status number is cause = record {
+  memory = λ e. subst (λ n. Cause Wants Disk Read Write n) (sym is ∙ e) cause;
+  words = λ e. subst (λ n. Cause Wants Disk Read Write n) (sym is ∙ e) cause;
+  read = λ e. subst (λ n. Cause Wants Disk Read Write n) (sym is ∙ e) cause;
+  write = λ e. subst (λ n. Cause Wants Disk Read Write n) (sym is ∙ e) cause;
+  disk = λ e. subst (λ n. Cause Wants Disk Read Write n) (sym is ∙ e) cause;
+}
+
+end_cause : (Disk Read Write : Type 0) (end : CommandEnd) → ((role : Role) → end ≡ ends.Failed role → Disk) → (end ≡ ends.Unread → Read) → (end ≡ ends.Unwritten → Write)
+    → Cause Unit Disk Read Write (end_status end)
+end_cause Disk Read Write ends.Done disk read write = tt
+end_cause Disk Read Write ends.Memory disk read write = tt
+end_cause Disk Read Write ends.Unread disk read write = read refl
+end_cause Disk Read Write ends.Unwritten disk read write = write refl
+end_cause Disk Read Write (ends.BadLine line) disk read write = tt
+end_cause Disk Read Write (ends.NoRow number row) disk read write = tt
+end_cause Disk Read Write (ends.Failed role) disk read write = disk role refl
+end_cause Disk Read Write (ends.Refused role why) disk read write = tt
+end_cause Disk Read Write ends.Unconnected disk read write = tt
+end_cause Disk Read Write (ends.Ahead number count) disk read write = tt
+end_cause Disk Read Write (ends.Full end length size) disk read write = tt
+end_cause Disk Read Write (ends.Denied code number) disk read write = tt
+end_cause Disk Read Write (ends.Unfinished number) disk read write = tt
+
+pub end_causes : (Disk Read Write : Type 0) (end : CommandEnd) (status : ℕ) → status ≡ end_status end
+    → ((role : Role) → end ≡ ends.Failed role → Disk) → (end ≡ ends.Unread → Read) → (end ≡ ends.Unwritten → Write) → Causes Unit Disk Read Write status
+end_causes Disk Read Write end status is disk read write = causes Unit Disk Read Write status (end_status end) is (end_cause Disk Read Write end disk read write)
+
+unwrap_cause : (Disk Read Write : Type 0) (end : UnwrapEnd) → ((role : Role) → end ≡ unwraps.Stopped (ends.Failed role) → Disk) → (end ≡ unwraps.Stopped ends.Unread → Read) → (end ≡ unwraps.Stopped ends.Unwritten → Write)
+    → Cause Unit Disk Read Write (unwrap_status end)
+unwrap_cause Disk Read Write unwraps.Whole disk read write = tt
+unwrap_cause Disk Read Write (unwraps.NotWrapped number) disk read write = tt
+unwrap_cause Disk Read Write unwraps.Unfinished disk read write = tt
+unwrap_cause Disk Read Write (unwraps.Stopped end) disk read write =
+    end_cause Disk Read Write end (λ role e. disk role (ap (λ x. unwraps.Stopped x) e)) (λ e. read (ap (λ x. unwraps.Stopped x) e)) (λ e. write (ap (λ x. unwraps.Stopped x) e))
+
+pub unwrap_causes : (Disk Read Write : Type 0) (end : UnwrapEnd) (status : ℕ) → status ≡ unwrap_status end
+    → ((role : Role) → end ≡ unwraps.Stopped (ends.Failed role) → Disk) → (end ≡ unwraps.Stopped ends.Unread → Read) → (end ≡ unwraps.Stopped ends.Unwritten → Write) → Causes Unit Disk Read Write status
+unwrap_causes Disk Read Write end status is disk read write = causes Unit Disk Read Write status (unwrap_status end) is (unwrap_cause Disk Read Write end disk read write)
+
+send_cause : (Disk Read Write : Type 0) (end : SendEnd) → ((role : Role) → end ≡ sends.Stopped (ends.Failed role) → Disk) → (end ≡ sends.Stopped ends.Unread → Read) → (end ≡ sends.Stopped ends.Unwritten → Write)
+    → Cause Unit Disk Read Write (send_status end)
+send_cause Disk Read Write (sends.Sent bytes messages) disk read write = tt
+send_cause Disk Read Write (sends.Differs number) disk read write = tt
+send_cause Disk Read Write sends.TooLong disk read write = tt
+send_cause Disk Read Write (sends.Stopped end) disk read write =
+    end_cause Disk Read Write end (λ role e. disk role (ap (λ x. sends.Stopped x) e)) (λ e. read (ap (λ x. sends.Stopped x) e)) (λ e. write (ap (λ x. sends.Stopped x) e))
+
+pub send_causes : (Disk Read Write : Type 0) (end : SendEnd) (status : ℕ) → status ≡ send_status end
+    → ((role : Role) → end ≡ sends.Stopped (ends.Failed role) → Disk) → (end ≡ sends.Stopped ends.Unread → Read) → (end ≡ sends.Stopped ends.Unwritten → Write) → Causes Unit Disk Read Write status
+send_causes Disk Read Write end status is disk read write = causes Unit Disk Read Write status (send_status end) is (send_cause Disk Read Write end disk read write)
+
+chain_cause : (Wants Disk Read Write : Type 0) (end : Ended) → (end ≡ chains.Memory → Wants) → (end ≡ chains.Stopped faults.Words → ⊥)
+    → ((session : ℕ) (role : Role) → end ≡ chains.Stopped (faults.Device session role) → Disk) → (end ≡ chains.Stopped faults.Read → Read) → (end ≡ chains.Write → Write)
+    → Cause Wants Disk Read Write (chain_status end)
+chain_cause Wants Disk Read Write chains.Done memory words disk read write = tt
+chain_cause Wants Disk Read Write chains.Memory memory words disk read write = memory refl
+chain_cause Wants Disk Read Write chains.Write memory words disk read write = write refl
+chain_cause Wants Disk Read Write (chains.Stopped faults.Words) memory words disk read write = words refl
+chain_cause Wants Disk Read Write (chains.Stopped faults.Read) memory words disk read write = read refl
+chain_cause Wants Disk Read Write (chains.Stopped (faults.Script line)) memory words disk read write = tt
+chain_cause Wants Disk Read Write (chains.Stopped (faults.Device session role)) memory words disk read write = disk session role refl
+chain_cause Wants Disk Read Write (chains.Stopped (faults.Disk session role number a b)) memory words disk read write = tt
+chain_cause Wants Disk Read Write (chains.Stopped (faults.Full session end length size)) memory words disk read write = tt
+
+pub chain_causes : (Wants Disk Read Write : Type 0) (end : Ended) (status : ℕ) → status ≡ chain_status end → (end ≡ chains.Memory → Wants) → (end ≡ chains.Stopped faults.Words → ⊥)
+    → ((session : ℕ) (role : Role) → end ≡ chains.Stopped (faults.Device session role) → Disk) → (end ≡ chains.Stopped faults.Read → Read) → (end ≡ chains.Write → Write)
+    → Causes Wants Disk Read Write status
+chain_causes Wants Disk Read Write end status is memory words disk read write =
+    causes Wants Disk Read Write status (chain_status end) is (chain_cause Wants Disk Read Write end memory words disk read write)
+
+-- the status where the words are no command that is run is none but 2 and 4
+pub told_not : (old new : Option (List ℕ)) (status k : ℕ) → TellsWords old new status → nat_eq 2 k ≡ false → nat_eq 4 k ≡ false → status ≡ k → ⊥
+told_not old new status k (inl (two, line)) no2 no4 = is_not 2 k status no2 two
+told_not old new status k (inr (four, front)) no2 no4 = is_not 4 k status no4 four
+
+-- the status of an exercise
+pub exercise_not : (status k : ℕ) → (status ≡ 0) ⊎ ((status ≡ 1) ⊎ (status ≡ 4)) → nat_eq 0 k ≡ false → nat_eq 1 k ≡ false → nat_eq 4 k ≡ false → status ≡ k → ⊥
+exercise_not status k (inl e) no0 no1 no4 = is_not 0 k status no0 e
+exercise_not status k (inr (inl e)) no0 no1 no4 = is_not 1 k status no1 e
+exercise_not status k (inr (inr e)) no0 no1 no4 = is_not 4 k status no4 e
+
+-- .. of an audit and of a comparison
+pub audit_not : (status k : ℕ) → (status ≡ 0) ⊎ ((status ≡ 1) ⊎ ((status ≡ 3) ⊎ ((status ≡ 4) ⊎ (status ≡ 15))))
+    → nat_eq 0 k ≡ false → nat_eq 1 k ≡ false → nat_eq 3 k ≡ false → nat_eq 4 k ≡ false → nat_eq 15 k ≡ false → status ≡ k → ⊥
+audit_not status k (inl e) no0 no1 no3 no4 no15 = is_not 0 k status no0 e
+audit_not status k (inr (inl e)) no0 no1 no3 no4 no15 = is_not 1 k status no1 e
+audit_not status k (inr (inr (inl e))) no0 no1 no3 no4 no15 = is_not 3 k status no3 e
+audit_not status k (inr (inr (inr (inl e)))) no0 no1 no3 no4 no15 = is_not 4 k status no4 e
+audit_not status k (inr (inr (inr (inr e)))) no0 no1 no3 no4 no15 = is_not 15 k status no15 e
+
+pub compare_not : (status k : ℕ) → (status ≡ 0) ⊎ ((status ≡ 1) ⊎ ((status ≡ 3) ⊎ ((status ≡ 4) ⊎ ((status ≡ 5) ⊎ (status ≡ 16)))))
+    → nat_eq 0 k ≡ false → nat_eq 1 k ≡ false → nat_eq 3 k ≡ false → nat_eq 4 k ≡ false → nat_eq 5 k ≡ false → nat_eq 16 k ≡ false → status ≡ k → ⊥
+compare_not status k (inl e) no0 no1 no3 no4 no5 no16 = is_not 0 k status no0 e
+compare_not status k (inr (inl e)) no0 no1 no3 no4 no5 no16 = is_not 1 k status no1 e
+compare_not status k (inr (inr (inl e))) no0 no1 no3 no4 no5 no16 = is_not 3 k status no3 e
+compare_not status k (inr (inr (inr (inl e)))) no0 no1 no3 no4 no5 no16 = is_not 4 k status no4 e
+compare_not status k (inr (inr (inr (inr (inl e))))) no0 no1 no3 no4 no5 no16 = is_not 5 k status no5 e
+compare_not status k (inr (inr (inr (inr (inr e))))) no0 no1 no3 no4 no5 no16 = is_not 16 k status no16 e
+
+-- ---- the statuses of `batch` ----
+
+abbrev pub IsStatus : ℕ → Type 0
+IsStatus status = (status ≤ 8) ⊎ ((status ≡ 10) ⊎ ((13 ≤ status) × (status ≤ 16)))
+
+pub end_in : (status number : ℕ) → status ≡ number → number ≤ 8 → IsStatus status
+end_in status number is small = inl (omega arith)
+
+pub unwrap_in : (status number : ℕ) → status ≡ number → IsUnwrapStatus number → IsStatus status
+unwrap_in status number is (inl small) = inl (omega arith)
+unwrap_in status number is (inr (inl e)) = inr (inr (omega arith, omega arith))
+unwrap_in status number is (inr (inr e)) = inr (inr (omega arith, omega arith))
+
+pub send_in : (status number : ℕ) → status ≡ number → IsSendStatus number → IsStatus status
+send_in status number is (inl small) = inl (omega arith)
+send_in status number is (inr (inl e)) = inr (inl (omega arith))
+send_in status number is (inr (inr (inl e))) = inr (inr (omega arith, omega arith))
+send_in status number is (inr (inr (inr e))) = inr (inr (omega arith, omega arith))
+
+pub replay_in : (status : ℕ) → (status ≤ 8) ⊎ (status ≡ 10) → IsStatus status
+replay_in status (inl small) = inl small
+replay_in status (inr e) = inr (inl e)
+
+pub told_in : (old new : Option (List ℕ)) (status : ℕ) → TellsWords old new status → IsStatus status
+told_in old new status (inl (two, line)) = inl (omega arith)
+told_in old new status (inr (four, front)) = inl (omega arith)
+
+pub exercise_in : (status : ℕ) → (status ≡ 0) ⊎ ((status ≡ 1) ⊎ (status ≡ 4)) → IsStatus status
+exercise_in status (inl e) = inl (omega arith)
+exercise_in status (inr (inl e)) = inl (omega arith)
+exercise_in status (inr (inr e)) = inl (omega arith)
+
+pub audit_in : (status : ℕ) → (status ≡ 0) ⊎ ((status ≡ 1) ⊎ ((status ≡ 3) ⊎ ((status ≡ 4) ⊎ (status ≡ 15)))) → IsStatus status
+audit_in status (inl e) = inl (omega arith)
+audit_in status (inr (inl e)) = inl (omega arith)
+audit_in status (inr (inr (inl e))) = inl (omega arith)
+audit_in status (inr (inr (inr (inl e)))) = inl (omega arith)
+audit_in status (inr (inr (inr (inr e)))) = inr (inr (omega arith, omega arith))
+
+pub compare_in : (status : ℕ) → (status ≡ 0) ⊎ ((status ≡ 1) ⊎ ((status ≡ 3) ⊎ ((status ≡ 4) ⊎ ((status ≡ 5) ⊎ (status ≡ 16))))) → IsStatus status
+compare_in status (inl e) = inl (omega arith)
+compare_in status (inr (inl e)) = inl (omega arith)
+compare_in status (inr (inr (inl e))) = inl (omega arith)
+compare_in status (inr (inr (inr (inl e)))) = inl (omega arith)
+compare_in status (inr (inr (inr (inr (inl e))))) = inl (omega arith)
+compare_in status (inr (inr (inr (inr (inr e))))) = inr (inr (omega arith, omega arith))

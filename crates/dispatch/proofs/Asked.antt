@@ -8,7 +8,7 @@ use Rattle.command_line.specs.declared.command.Command.TheVariants.{Replay, Form
 use Rattle.command_line.specs.declared.command.WordsFault.{WordsFault}
 use Rattle.command_line.specs.declared.command.WordsFault.TheVariants.{NoCommand, Memory}
 use Rattle.commands.specs.CommandEnds.{EndsSo, EndsWithStatus, end_status}
-use Rattle.dispatch.specs.Commands.{IsNoCommand, IsWrap, ReadsScript, is_live}
+use Rattle.dispatch.specs.Commands.{IsNoCommand, IsNoLiveCommand, IsWrap, ReadsScript, is_live}
 use Rattle.exercises.specs.Exercises.{EndsExercise}
 use Rattle.commands.specs.Formatting.{Formats}
 use Rattle.commands.specs.Migrating.{Migrates}
@@ -222,6 +222,10 @@ asks words slice b call value are command is = record {
 pub asks_none : (words slice : List (String Global)) → slice ≡ words
     → ((c : Command) → AreWordsOf (map string_bytes slice) c → (let r : Result Command WordsFault = Err NoCommand in (r ≡ Ok c) ⊎ (r ≡ Err Memory))) → IsNoCommand (map string_bytes words)
 asks_none words slice value command c still h = not_command c (command c (read_words words slice c value h))
+
+pub asks_no_live : (words slice : List (String Global)) → slice ≡ words
+    → ((c : Command) → AreWordsOf (map string_bytes slice) c → (let r : Result Command WordsFault = Err NoCommand in (r ≡ Ok c) ⊎ (r ≡ Err Memory))) → IsNoLiveCommand (map string_bytes words)
+asks_no_live words slice value command c live h = not_command c (command c (read_words words slice c value h))
 
 -- a number for each command
 abbrev pub kind : Command → ℕ

@@ -1,5 +1,6 @@
 -- What a status of a command tells of its causes.
-use Rattle.std.proofs.Common.{◌≡◌, ◌⊎◌, ℕ, ◌≤◌, false, nat_eq, zero, suc, List, Option, inl, inr, refl, sym, ap, ◌∙◌, subst, arith}
+use Rattle.std.proofs.Common.{◌≡◌, ◌⊎◌, ℕ, ◌≤◌, false, nat_eq, zero, suc, List, [], Option, inl, inr, refl, sym, ap, ◌∙◌, subst, arith}
+use Rattle.std.specs.Io.KnownBytes.{Appends}
 use Rattle.commands.specs.CommandEnds.{end_status}
 use Rattle.commands.specs.Unwrapping.{IsUnwrapStatus, unwrap_status}
 use Rattle.commands.specs.Wrapping.{IsSendStatus, send_status}
@@ -11,6 +12,7 @@ use Rattle.commands.specs.declared.wrap.SendEnd.{SendEnd}
 use Rattle.commands.specs.declared.wrap.SendEnd.TheVariants as sends
 use Rattle.disk_model.specs.declared.name.Role.{Role}
 use Rattle.dispatch.specs.Commands.{TellsWords}
+use Rattle.dispatch.specs.Racing.{EndsRace}
 use Rattle.dispatch.proofs.Asked.{is_not}
 use Rattle.script_reader.specs.declared.fault.Fault.TheVariants as faults
 use Rattle.script_replay.specs.Ends.{end_status as chain_status}
@@ -183,3 +185,10 @@ compare_in status (inr (inr (inl e))) = inl (omega arith)
 compare_in status (inr (inr (inr (inl e)))) = inl (omega arith)
 compare_in status (inr (inr (inr (inr (inl e))))) = inl (omega arith)
 compare_in status (inr (inr (inr (inr (inr e))))) = inr (inr (omega arith, omega arith))
+
+-- ---- of a race ----
+
+pub race_memory : (IsRecord : List ℕ → Type 0) (old new : Option (List ℕ)) (status : ℕ) → EndsRace IsRecord old new status → status ≡ 1 → Appends old new []
+race_memory IsRecord old new status (inl (zero_is, record_is)) one = absurd (is_not 0 1 status refl zero_is one)
+race_memory IsRecord old new status (inr (inl (same, appends))) one = appends
+race_memory IsRecord old new status (inr (inr (four, front))) one = absurd (is_not 4 1 status refl four one)

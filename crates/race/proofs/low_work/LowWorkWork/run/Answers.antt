@@ -1,4 +1,4 @@
-use Rattle.std.proofs.Common.{rules, ℕ, false, List, [], ◌∷◌, ◌++◌, refl, sym, ap, ◌∙◌, subst, le_refl}
+use Rattle.std.proofs.Common.{rules, ℕ, false, List, [], ◌∷◌, ◌++◌, refl, sym, ap, ◌∙◌, subst, le_refl, arith}
 use Rattle.pump_frame.specs.Counts.{raised}
 use Rattle.pump_link.specs.Tells.{Draws}
 use Rattle.pump_link.proofs.Grown.{Grows-nil}
@@ -7,9 +7,11 @@ use Rattle.relay_threads.specs.RecordLines.{looks_text, made_by, HasLawfulFrame}
 use Rattle.script_reader.specs.Generated.{generated_row}
 use Rattle.race.specs.LowHalf.{offered}
 use Rattle.race.specs.MadeLooks.{moments_of, is_ack, acks_of}
+use Rattle.race.specs.LowWorks.{LowSoFar}
 use Rattle.race.specs.Messages.{messages_in}
 use Rattle.race.specs.Race.{look_lines}
 use Rattle.race.specs.Tape.{Prints}
+use Rattle.race.specs.Turns.{asks_in_run}
 use Rattle.race.proofs.Frames.{has_lawful}
 use Rattle.race.proofs.HighAsks.{asks_more}
 use Rattle.race.proofs.LowAsks.{acks_are}
@@ -104,16 +106,7 @@ returns-then-not-pass g c =
     record {
       made = made;
       so_far = record {
-        keeps = record {
-          half = search rules;
-          clock = search rules;
-          out = search rules;
-          tape = search rules;
-          gate = search rules;
-          place_stays = search rules;
-          seed = search rules;
-          count = search rules;
-        };
+        keeps = record { half = s.keeps.half; clock = s.keeps.clock; out = s.keeps.out; tape = s.keeps.tape; gate = s.keeps.gate; place_stays = s.keeps.place_stays; seed = s.keeps.seed; count = s.keeps.count };
         at = s.at;
         order = s.order;
         row = s.row;
@@ -121,8 +114,18 @@ returns-then-not-pass g c =
         prints = s.prints;
         readable = s.readable;
         asks_are = asks_more _ _ _ false (acks_of made) c.loop.looks taken.result i.4 done s.asks_are c.pass.ensures.asked;
-        stops_rise = search rules;
+        stops_rise = omega (arith, s.stops_rise, c.pass.ensures.later);
       };
-      ended = search rules;
-      stopped = search rules;
+      ended = λ e. absurd (cc);
+      stopped = λ _. omega (arith, s.stops_rise, c.pass.ensures.stopped c.if-not-pass.true);
+    }
+
+pub returns-then-is_done : goal.returns-then-is_done
+returns-then-is_done g c =
+    let i = c.loop.invariant in
+    record {
+      made = i.0;
+      so_far = subst (λ b. LowSoFar g.K.Clock.reads g.K.Clock.floor g.O.Sink.written g.O.Sink.faults g.L.LowSide.stands g.L.LowSide.place g.L.LowSide.shape g.G.Gate.asked g.G.Gate.stops c.args.self.now c.loop.self i.0 (asks_in_run b (acks_of i.0))) (sym i.3) i.1;
+      ended = λ _. c.is_done.ensures c.if-is_done.true;
+      stopped = λ stop. let going = i.3 in absurd (cc);
     }

@@ -1,4 +1,4 @@
-use Rattle.std.proofs.Common.{rules, ℕ, false, List, [], ◌∷◌, ◌++◌, refl, sym, ap, ◌∙◌, subst, le_refl, arith}
+use Rattle.std.proofs.Common.{ℕ, false, List, [], ◌∷◌, ◌++◌, refl, sym, ap, ◌∙◌, subst, le_refl, arith}
 use Rattle.pump_frame.specs.Counts.{raised}
 use Rattle.pump_link.specs.Tells.{Draws}
 use Rattle.pump_link.proofs.Grown.{Grows-nil}
@@ -67,17 +67,17 @@ loop-preserved g c =
       m ∷ made,
       record {
         keeps = record {
-          half = search rules;
-          clock = search rules;
-          out = search rules;
-          tape = search rules;
-          gate = search rules;
-          place_stays = search rules;
-          seed = search rules;
-          count = search rules;
+          half = s.keeps.half;
+          clock = s.keeps.clock;
+          out = s.keeps.out;
+          tape = s.keeps.tape;
+          gate = s.keeps.gate;
+          place_stays = c.look_with-made.ensures.place ∙ ap (λ e. g.L.LowSide.place e) c.next_frame-comes.ensures.ends ∙ s.keeps.place_stays;
+          seed = c.look_with-made.ensures.seed ∙ c.next_frame-comes.ensures.seed ∙ s.keeps.seed;
+          count = c.look_with-made.ensures.count ∙ c.next_frame-comes.ensures.count ∙ s.keeps.count;
         };
         at = c.look_with-made.ensures.at made left at offer;
-        order = search rules;
+        order = omega (arith, c.look_with-made.ensures.last, c.moment-moment.ensures.to);
         row = c.look.ensures.row ∙ s.row;
         draws = subst (λ (z : ℕ). Draws (K.reads c.args.self.now.clock.now) (K.reads c.moment-moment.new.self) (moments_of made ++ z ∷ [])) (sym c.look_with-made.ensures.moment)
             (draws_then _ _ _ (moments_of made) (c.moment-moment.result ∷ []) s.draws c.moment-moment.ensures.reads);
@@ -88,7 +88,7 @@ loop-preserved g c =
             (looks_text generated_row (record_of made)) (look_lines made m) s.prints (c.look.ensures.prints made i.2));
         readable = readable_more made m (c.look.ensures.reads made i.2) s.readable;
         asks_are = asks_more _ _ _ (is_ack m.reply) (acks_of made) c.loop.looks c.acknowledged-acknowledged.result i.4 done s.asks_are c.pass.ensures.asked;
-        stops_rise = search rules;
+        stops_rise = omega (arith, s.stops_rise, c.pass.ensures.later);
       },
       c.found_full-was_full.ensures,
       i.3,

@@ -14,3 +14,8 @@ of_end (Err e) is follows = tt
 pub of_both : {T E : Type 0} {P Q S : T → Type 0} (r : Result T E) → IfOk r P → IfOk r Q → ((x : T) → P x → Q x → S x) → IfOk r S
 of_both (Ok x) is is_too follows = follows x is is_too
 of_both (Err e) is is_too follows = tt
+
+-- what holds always holds after a refusal
+pub onerr_always : {T E P : Type 0} (r : Result T E) → P → OnErr r P
+onerr_always (Ok x) p = tt
+onerr_always (Err e) p = p

@@ -1,4 +1,4 @@
-use Rattle.std.proofs.Common.{ℕ, List, ap, ◌∙◌, subst}
+use Rattle.std.proofs.Common.{ℕ, List, refl, ap, ◌∙◌, subst}
 use Rattle.std.proofs.lemmas.Result.{IfOk-from_err}
 use Rattle.pump_frame.specs.Counts.{Rose}
 use Rattle.pump_core.specs.Passage.{new_low, new_high, shape_of_row}
@@ -6,7 +6,7 @@ use Rattle.race.specs.Messages.{messages_in}
 use Rattle.race.specs.Race.{IsRaceRecord, IsStoppedRecord, AreRaceDisks}
 use Rattle.race.specs.Turns.{AsksHigh}
 use Rattle.race.proofs.Tapes.{failed_of}
-use Rattle.race.proofs.Unstarted.{of_end, of_both}
+use Rattle.race.proofs.Unstarted.{of_end, of_both, onerr_always}
 use Rattle.race.proofs.racing.race_with.Goals as goal
 
 pub returns-in_err-low_store-clause-record : goal.returns-in_err-low_store-clause-record
@@ -159,3 +159,15 @@ returns-clause-high_stopped g c = c.race_halves.ensures.high_stopped
 
 pub returns-clause-nothing : goal.returns-clause-nothing
 returns-clause-nothing g c = c.race_halves.ensures.nothing
+
+pub returns-in_err-low_store-clause-nothing : goal.returns-in_err-low_store-clause-nothing
+returns-in_err-low_store-clause-nothing g c = onerr_always c.from_residual.result refl
+
+pub returns-in_err-high_store-clause-nothing : goal.returns-in_err-high_store-clause-nothing
+returns-in_err-high_store-clause-nothing g c = onerr_always c.from_residual-in_err-high_store.result refl
+
+pub returns-in_err-receiver-clause-nothing : goal.returns-in_err-receiver-clause-nothing
+returns-in_err-receiver-clause-nothing g c = onerr_always c.from_residual-in_err-receiver.result refl
+
+pub returns-in_err-passage-clause-nothing : goal.returns-in_err-passage-clause-nothing
+returns-in_err-passage-clause-nothing g c = onerr_always c.from_residual-in_err-passage.result refl

@@ -273,6 +273,7 @@ pub ended_failed : (attached : Bool) (heard : Heard) (plan : Plan) (why : HighWh
 ended_failed attached heard plan why is end failed = by_cases heard (sym is ∙ end) where
   same : why ≡ LinkFailed
   same = cc
+
   by_cases : (heard : Heard) → plan_of attached heard ≡ End why → heard ≡ heards.Failed
   by_cases heards.Nothing e = no_end attached why e
   by_cases (heards.Frame f) e = absurd ((no_attach (attached || is_attach f.kind) why e).0 same)

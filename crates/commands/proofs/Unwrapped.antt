@@ -29,8 +29,6 @@ no_stop : (whole : Bool) (end : CommandEnd) → (if whole then Whole else Unfini
 no_stop true end is = cc
 no_stop false end is = cc
 
-module _ (disk disk' out out' : ℕ) where
-
 whole_status : (whole : Bool) → IsUnwrapStatus (unwrap_status (if whole then Whole else Unfinished))
 whole_status true = inl (omega arith)
 whole_status false = inr (inr refl)

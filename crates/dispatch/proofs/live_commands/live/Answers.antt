@@ -1,5 +1,5 @@
 -- Each return is answered whole: most clauses speak of another command than the one that the words are.
-use Rattle.std.proofs.Common.{ℕ, List, inl, inr, refl, sym, subst, rules, arith}
+use Rattle.std.proofs.Common.{ℕ, List, inl, inr, refl, subst, rules, arith}
 use Rattle.command_line.specs.declared.command.Command.TheVariants as commands
 use Rattle.disk_model.specs.Shelf.{IsOut}
 use Rattle.script_replay.specs.Shelves.{Places}

@@ -68,6 +68,15 @@ def opened(name):
     return file, count
 
 
+def connected(port):
+    try:
+        link = socket.create_connection(("127.0.0.1", port))
+    except ConnectionRefusedError:
+        sys.exit(f"nobody listens at port {port} of 127.0.0.1")
+    link.setsockopt(socket.IPPROTO_TCP, socket.TCP_NODELAY, 1)
+    return link
+
+
 def read(link, size):
     """So many bytes, or None where the connection ends."""
     data = b""
@@ -121,8 +130,7 @@ def main():
         return
     port, session, name = int(sys.argv[1]), int(sys.argv[2]), sys.argv[3]
     file, count = opened(name)
-    with file, socket.create_connection(("127.0.0.1", port)) as link:
-        link.setsockopt(socket.IPPROTO_TCP, socket.TCP_NODELAY, 1)
+    with file, connected(port) as link:
         count = receive(link, session, file, count)
     print(f"the relay has ended the connection; {count} messages are in {name}", file=sys.stderr)
 

@@ -18,6 +18,15 @@ def frame(kind, session, number=0, payload=b""):
     return struct.pack(">2sBBIQH", b"NP", 1, kind, session, number, len(payload)) + payload
 
 
+def connected(port):
+    try:
+        link = socket.create_connection(("127.0.0.1", port))
+    except ConnectionRefusedError:
+        sys.exit(f"nobody listens at port {port} of 127.0.0.1")
+    link.setsockopt(socket.IPPROTO_TCP, socket.TCP_NODELAY, 1)
+    return link
+
+
 def read(link, size):
     data = b""
     while len(data) < size:
@@ -55,8 +64,7 @@ def message_of(number, line):
 
 def main():
     port, session, low, high = int(sys.argv[1]), int(sys.argv[2]), sys.argv[3], sys.argv[4]
-    with socket.create_connection(("127.0.0.1", port)) as link:
-        link.setsockopt(socket.IPPROTO_TCP, socket.TCP_NODELAY, 1)
+    with connected(port) as link:
         link.sendall(frame(HELLO, session, 0, f"{low}:{high}".encode()))
         accepted = answer(link, session, WELCOME)
         passed = 0

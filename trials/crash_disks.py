@@ -136,9 +136,8 @@ class Trace:
         """A call has ended: what was synced outlives a crash from now on."""
         if event.kind == "syncing" and result == "0":
             self.add(number, "synced", event.name, event.line)
-        if event.kind == "write" and result != "?":
-            if int(result) < 0:
-                sys.exit(f"a write failed, in line {number} of the trace")
+        # What is read behind a write that failed, or was cut off by a kill, shows when the process has ended.
+        if event.kind == "write" and result.isdigit():
             self.add(number, "wrote", event.name, event.line, int(result))
 
 

@@ -583,7 +583,7 @@ class Migrate(Case):
     def is_shown(self, folder, images, draw):
         """What is left can be shown, and what is emptied can be moved again."""
         shown = run(self.program, ["show", "u.toml", "2"], folder)
-        if None not in images.values() and shown != lines_of(self.new, images):
+        if all(images.get(name) is not None for name in self.names) and shown != lines_of(self.new, images):
             return False
         for role in ROLES:
             write_file(f"{folder}/2.{role}", b"")

@@ -1,6 +1,7 @@
 //! The sentences that say why the program ended, and what to do.
 
 mod auditing;
+mod files;
 mod link;
 mod moving;
 mod unwrapping;
@@ -8,22 +9,22 @@ mod wrapping;
 
 use auditing::{explain_audit, explain_difference, explain_unpaired};
 use command_line::USAGE;
+use files::{explain_disk_file, explain_table_file, table_bytes};
 use link::{explain_ahead, explain_full, explain_port, explain_refused, explain_unfinished};
 use moving::{explain_filled, explain_long, explain_same, explain_small, table_name};
 use session_table::{Table, TableFault};
-use std::{fs, io, str};
+use std::io::{self, ErrorKind};
+use std::str;
 use unwrapping::explain_unwrap;
 use wrapping::explain_wrap;
 
 /// What the shelf knows of the file that stopped a command with status 3 or 7.
 #[derive(Clone, Copy)]
 pub enum Trouble {
-    /// The table's file could not be read.
-    Unread,
-    /// The disk's file is in use by another process.
-    InUse,
-    /// A call of the disk's file failed.
-    Failed,
+    /// The table's file could not be read, for this reason.
+    Unread(ErrorKind),
+    /// A call of the disk's file failed, for this reason.
+    Failed(ErrorKind),
     /// No file failed: a line of the script told so, or something else was read.
     Told,
 }
@@ -71,11 +72,12 @@ fn explain_device(rt: &HostRuntime, last: &[u8], trouble: Trouble) -> io::Result
     let session = field(line, 2);
     let role = field(line, 3);
     match trouble {
-        Trouble::InUse => eprintln!(rt;
-            "netpump: the file {session}.{role} is in use by another netpump; wait until that one has ended, and try again"
-        ),
-        Trouble::Failed | Trouble::Unread => eprintln!(rt;
-            "netpump: the file {session}.{role} in this folder could not be made, read, written or synced; see that its disk has room and that the file is yours to write, and go on with what was not acknowledged. What was acknowledged is kept"
+        Trouble::Failed(why) | Trouble::Unread(why) => explain_disk_file(
+            rt,
+            session,
+            role,
+            why,
+            "see that its disk has room and that the file is yours to write, and go on with what was not acknowledged. What was acknowledged is kept",
         ),
         Trouble::Told => eprintln!(rt;
             "netpump: the device of the low disk fails in a store, as a line with the word fault tells; write fine in its place to go on. What was said until then is answered above"
@@ -154,9 +156,7 @@ fn explain_refusal(rt: &HostRuntime, words: &[String], last: &[u8]) -> io::Resul
 fn explain_unread(rt: &HostRuntime, words: &[String], trouble: Trouble) -> io::Result<()> {
     let table = table_name(rt, words);
     match (trouble, word(words, 0)) {
-        (Trouble::Unread, _) => eprintln!(rt;
-            "netpump: the file {table} in this folder could not be read; see that it is there and that it is yours to read, and try again"
-        ),
+        (Trouble::Unread(why), _) => explain_table_file(rt, table, why),
         (_, Some("serve")) => eprintln!(rt;
             "netpump: the 32 bytes of the relay's key could not be read from /dev/urandom; see that this machine has it and that it is yours to read, and try again"
         ),
@@ -171,7 +171,7 @@ fn explain_unread(rt: &HostRuntime, words: &[String], trouble: Trouble) -> io::R
 
 /// What is wrong with a table, which is read again for it.
 fn fault_of_table(rt: &HostRuntime, name: &str) -> Option<TableFault> {
-    let bytes = fs::read(rt, name).ok()?;
+    let bytes = table_bytes(rt, name).ok()?;
     Table::read(rt.alloc(), bytes.as_slice()).err()
 }
 

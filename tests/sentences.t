@@ -94,7 +94,7 @@ Disks are refused: an empty one, no disk at all, another row's, one whose regist
   $ anew; netpump format t.toml 1; sed 's/^capacity = 3/capacity = 4/' t.toml >other.toml; netpump show other.toml 1
   formatted 1
   fault disk 1 low 3 3 4
-  netpump: the file 1.low was made with other numbers than those of the session line, or is another disk: 3 stands where 4 is wanted
+  netpump: the file 1.low was made with the capacity 3, and the session's is 4
   netpump: put back the three files that belong together, use the numbers of the session line that made them, or replay in an empty folder to begin anew (docs/formats.md, "When disks are refused")
   [8]
   $ put() { printf "$3" | dd of=$1 bs=1 seek=$2 conv=notrunc status=none; }

@@ -69,39 +69,39 @@ The role, which is then high's.
 
   $ changed 1.low 4 48
   fault disk 1 low 3 72 76
-  netpump: the file 1.low was made with other numbers than those of the session line, or is another disk: 72 stands where 76 is wanted
+  netpump: the file 1.low is a disk of the role high, and one of the role low is wanted, so the files of the session stand under each other's names
   [8]
 
 The version, which is then 3.
 
   $ changed 1.low 5 03
   fault disk 1 low 3 3 2
-  netpump: the file 1.low was made with other numbers than those of the session line, or is another disk: 3 stands where 2 is wanted
+  netpump: the file 1.low is of version 3, and 2 is wanted
   [8]
 
 The session.
 
   $ changed 1.low 11 02
   fault disk 1 low 3 2 1
-  netpump: the file 1.low was made with other numbers than those of the session line, or is another disk: 2 stands where 1 is wanted
+  netpump: the file 1.low is a disk of session 2, and the session is 1
   [8]
 
 The capacity.
 
   $ changed 1.low 15 04
   fault disk 1 low 3 4 3
-  netpump: the file 1.low was made with other numbers than those of the session line, or is another disk: 4 stands where 3 is wanted
+  netpump: the file 1.low was made with the capacity 4, and the session's is 3
   [8]
   $ changed 1.low 15 05
   fault disk 1 low 3 5 3
-  netpump: the file 1.low was made with other numbers than those of the session line, or is another disk: 5 stands where 3 is wanted
+  netpump: the file 1.low was made with the capacity 5, and the session's is 3
   [8]
 
 The message size.
 
   $ changed 1.low 19 09
   fault disk 1 low 3 9 8
-  netpump: the file 1.low was made with other numbers than those of the session line, or is another disk: 9 stands where 8 is wanted
+  netpump: the file 1.low was made with the message size 9, and the session's is 8
   [8]
 
 The first number of the register, which is then above 2^48.
@@ -170,7 +170,7 @@ It has one byte less than one of its row.
   $ truncate -s 109 1.low
   $ shown
   fault disk 1 low 3 109 110
-  netpump: the file 1.low was made with other numbers than those of the session line, or is another disk: 109 stands where 110 is wanted
+  netpump: the file 1.low has 109 bytes, and a disk of its session has 110
   [8]
 
 Low's disk stands in the place of high's too.
@@ -179,7 +179,7 @@ Low's disk stands in the place of high's too.
   $ cp 1.low 1.high
   $ shown
   fault disk 1 high 3 76 72
-  netpump: the file 1.high was made with other numbers than those of the session line, or is another disk: 76 stands where 72 is wanted
+  netpump: the file 1.high is a disk of the role low, and one of the role high is wanted, so the files of the session stand under each other's names
   [8]
 
 Three messages are removed, and one is accepted.

@@ -90,11 +90,11 @@ A folder stands where high's disk of a session should be, and where the receiver
   $ mkdir 4294967295.high 0.recv
   $ echo "session 4294967295 $rest" | netpump replay
   fault device 4294967295 high
-  netpump: the file 4294967295.high in this folder could not be made, read, written or synced; see that its disk has room and that the file is yours to write, and go on with what was not acknowledged. What was acknowledged is kept
+  netpump: what is called 4294967295.high in this folder is no regular file but a folder, a link, a device or a pipe; move it away, and put the disk of this name there
   [7]
   $ echo "session 0 $rest" | netpump replay
   fault device 0 recv
-  netpump: the file 0.recv in this folder could not be made, read, written or synced; see that its disk has room and that the file is yours to write, and go on with what was not acknowledged. What was acknowledged is kept
+  netpump: what is called 0.recv in this folder is no regular file but a folder, a link, a device or a pipe; move it away, and put the disk of this name there
   [7]
 
 Three messages are removed and one is accepted, so high's disk is refused. The register at 48 is the one that counts in new disks.

@@ -39,7 +39,7 @@ The output can't be written.
   netpump: standard output could not be written; see that its reader is there, or that its disk has room, and try again
   [4]
 
-A disk can't be opened, is in use, or is told to fail.
+A disk is a folder or a link, can't be written, is in use, or is told to fail.
 
   $ cat >t.toml <<.
   > [[session]]
@@ -58,9 +58,14 @@ A disk can't be opened, is in use, or is told to fail.
   $ anew() { rm -rf *.low *.high *.recv; }
   $ anew; mkdir 1.low; netpump format t.toml 1
   fault device 1 low
-  netpump: the file 1.low in this folder could not be made, read, written or synced; see that its disk has room and that the file is yours to write, and go on with what was not acknowledged. What was acknowledged is kept
+  netpump: what is called 1.low in this folder is no regular file but a folder, a link, a device or a pipe; move it away, and put the disk of this name there
   [7]
-  $ rmdir 1.low; flock 1.high netpump format t.toml 1
+  $ rmdir 1.low; ln -s kept 1.low; netpump format t.toml 1; ls kept
+  fault device 1 low
+  netpump: what is called 1.low in this folder is no regular file but a folder, a link, a device or a pipe; move it away, and put the disk of this name there
+  ls: cannot access 'kept': No such file or directory
+  [2]
+  $ rm 1.low; flock 1.high netpump format t.toml 1
   fault device 1 high
   netpump: the file 1.high is in use by another netpump; wait until that one has ended, and try again
   [7]
@@ -89,7 +94,7 @@ Disks are refused: an empty one, no disk at all, another row's, one whose regist
   $ anew; netpump format t.toml 1; sed 's/^capacity = 3/capacity = 4/' t.toml >other.toml; netpump show other.toml 1
   formatted 1
   fault disk 1 low 3 3 4
-  netpump: the file 1.low was made with other numbers than those of the session line, or is another disk: 3 stands where 4 is wanted
+  netpump: the file 1.low was made with the capacity 3, and the session's is 4
   netpump: put back the three files that belong together, use the numbers of the session line that made them, or replay in an empty folder to begin anew (docs/formats.md, "When disks are refused")
   [8]
   $ put() { printf "$3" | dd of=$1 bs=1 seek=$2 conv=notrunc status=none; }
@@ -203,7 +208,11 @@ A table has too many bytes, no such session, or messages that are too short for 
   [6]
   $ netpump show none.toml 1
   fault read
-  netpump: the file none.toml in this folder could not be read; see that it is there and that it is yours to read, and try again
+  netpump: the file none.toml in this folder could not be read: there is no such file; see that it is there and that it is yours to read, and try again
+  [3]
+  $ mkfifo pipe.toml; netpump show pipe.toml 1
+  fault read
+  netpump: what is called pipe.toml in this folder is no regular file but a folder, a link, a device or a pipe; name the file of the table itself
   [3]
 
 A receiver has another file; the file to send can't be read.
@@ -223,13 +232,13 @@ A receiver has another file; the file to send can't be read.
 empty, messages that are no file's, and a file that is not there whole.
 
   $ netpump unwrap none.toml 1
-  netpump: the file none.toml in this folder could not be read; see that it is there and that it is yours to read, and try again
+  netpump: the file none.toml in this folder could not be read: there is no such file; see that it is there and that it is yours to read, and try again
   [3]
   $ netpump unwrap t.toml 9
   netpump: no row of the table t.toml has id = 9 and messages of at least 9 bytes, which files need; name a session that has one
   [6]
   $ mv 1.recv kept; mkdir 1.recv; netpump unwrap t.toml 1
-  netpump: the file 1.recv in this folder could not be made, read or synced; see that it is yours to read, and try again
+  netpump: what is called 1.recv in this folder is no regular file but a folder, a link, a device or a pipe; move it away, and put the disk of this name there
   [7]
   $ rmdir 1.recv; netpump unwrap t.toml 1
   netpump: the file 1.recv is no disk of session 1, as its row in t.toml has it; netpump show t.toml 1 says what is wrong with it

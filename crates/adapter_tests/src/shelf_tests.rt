@@ -5,6 +5,7 @@ use adapters::{FileDisk, FileShelf};
 use disk_model::{Disk, DiskName, Role, Shelf, ShelfFault};
 use std::fs;
 use std::fs::{File, Files};
+use std::io::ErrorKind;
 use std::os::unix::fs::PermissionsExt;
 use std::process::Abort;
 use std::test::Fail;
@@ -41,7 +42,7 @@ fn is_taken_by_one<R: Files<File = File>>(
     match shelf.disk(LOW) {
         Ok(mut disk) => {
             assert!(rt; size_of(second, LOW).is_none());
-            assert!(rt; second.is_in_use());
+            assert!(rt; second.why() == Some(ErrorKind::WouldBlock));
             assert!(rt; fill(&mut disk));
             shelf.keep(LOW, disk);
         }
@@ -73,7 +74,7 @@ fn the_current_folder_is_a_shelf(rt: HostRuntime) -> Result<(), Fail> {
     assert_eq!(rt; mode & 0o777, 0o600);
     fs::create_dir(&rt, "7.high")?;
     assert!(rt; size_of(&mut second, HIGH).is_none());
-    assert!(rt; !second.is_in_use());
+    assert!(rt; second.why() == Some(ErrorKind::InvalidInput));
     reads_whole_files(&rt, &mut shelf);
     fs::remove_dir_all(&rt, folder.as_str())?;
     Ok(())

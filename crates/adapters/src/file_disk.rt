@@ -8,6 +8,7 @@ use crate::file_ahead::FileAhead;
 use disk_model::{Disk, DiskFault};
 use pump_frame::raised;
 use std::fs::File;
+use std::io::{self, ErrorKind};
 use std::os::unix::fs::FileExt;
 
 /// A file as a disk. It tells how often a call failed, and nothing of what it holds. Nobody else
@@ -19,6 +20,8 @@ pub struct FileDisk {
     size: Option<u64>,
     ahead: FileAhead,
     faults: u64,
+    // Why the last failed call failed.
+    why: Option<ErrorKind>,
 }
 
 impl FileDisk {
@@ -31,14 +34,21 @@ impl FileDisk {
             size: Some(size),
             ahead,
             faults: 0,
+            why: None,
         }
     }
 
-    fn fault(&mut self) -> DiskFault
+    /// Why the last call that failed did, where one has.
+    pub fn why(&self) -> Option<ErrorKind> {
+        self.why
+    }
+
+    fn fault(&mut self, error: &io::Error) -> DiskFault
         ensures raised { self.new.faults ≡ raised self.old.faults }
         ensures later { self.old.faults ≤ self.new.faults }
     {
         self.faults = raised(self.faults);
+        self.why = Some(error.kind());
         DiskFault
     }
 }
@@ -55,14 +65,14 @@ impl Disk for FileDisk {
                 self.size = Some(metadata.len());
                 Ok(metadata.len())
             }
-            Err(_) => Err(self.fault()),
+            Err(error) => Err(self.fault(&error)),
         }
     }
 
     fn read(&mut self, at: u64, into: &mut [u8]) -> Result<(), DiskFault> {
         match self.ahead.read(&self.file, at, into) {
             Ok(()) => Ok(()),
-            Err(_) => Err(self.fault()),
+            Err(error) => Err(self.fault(&error)),
         }
     }
 
@@ -74,10 +84,10 @@ impl Disk for FileDisk {
                 self.size = self.size.map(|size| size.max(end));
                 Ok(())
             }
-            Err(_) => {
+            Err(error) => {
                 // A part may be written.
                 self.size = None;
-                Err(self.fault())
+                Err(self.fault(&error))
             }
         }
     }
@@ -86,7 +96,7 @@ impl Disk for FileDisk {
     fn sync(&mut self) -> Result<(), DiskFault> {
         match self.file.sync_data() {
             Ok(()) => Ok(()),
-            Err(_) => Err(self.fault()),
+            Err(error) => Err(self.fault(&error)),
         }
     }
 

@@ -10,7 +10,7 @@ use disk_model::{Disk, DiskName, Role, Shelf, ShelfFault};
 use pump_frame::raised;
 use std::alloc::Global;
 use std::fmt::Write;
-use std::fs::{File, Files, OpenOptions};
+use std::fs::{self, File, Files, OpenOptions};
 use std::io::{self, ErrorKind};
 use std::os::unix::fs::{FileExt, OpenOptionsExt};
 
@@ -24,7 +24,8 @@ pub struct FileShelf<R> {
     files: R,
     faults: u64,
     disk_faults: u64,
-    is_in_use: bool,
+    // Why the last file that failed did.
+    why: Option<ErrorKind>,
 }
 
 // Ten digits, a dot and four letters at most.
@@ -39,12 +40,24 @@ fn file_name(name: DiskName) -> ArrayString<15> {
     text
 }
 
-// A file without bytes may be new. Its folder is synced before it is handed out, so that a file that
-// has bytes outlives a crash.
+// Only a regular file is taken: a device of length 0 would pass for a new disk, and a pipe would keep the
+// call. A link is not followed.
+fn check_kind<R: Files<File = File>>(files: &R, name: &str) -> io::Result<()> {
+    match fs::symlink_metadata(files, name) {
+        Ok(metadata) if metadata.is_file() => Ok(()),
+        Ok(_) => Err(io::Error::from(ErrorKind::InvalidInput)),
+        Err(error) if error.kind() == ErrorKind::NotFound => Ok(()),
+        Err(error) => Err(error),
+    }
+}
+
+// The folder is synced before the file is handed out, so that a file that has bytes outlives a crash, also
+// one that was made, copied or moved there by others.
 fn open_disk<R: Files<File = File>>(alloc: Global, files: &R, name: &str) -> io::Result<FileDisk>
     ensures { IfOk result (λ disk. disk.faults ≡ 0) }
 {
     let ahead = FileAhead::new(alloc)?;
+    check_kind(files, name)?;
     let file = OpenOptions::new()
         .read(true)
         .write(true)
@@ -53,13 +66,12 @@ fn open_disk<R: Files<File = File>>(alloc: Global, files: &R, name: &str) -> io:
         .open(files, name)?;
     file.try_lock()?;
     let size = file.metadata()?.len();
-    if size == 0 {
-        File::open(files, ".")?.sync_all()?;
-    }
+    File::open(files, ".")?.sync_all()?;
     Ok(FileDisk::new(file, size, ahead))
 }
 
 fn read_whole<R: Files<File = File>>(files: &R, name: &str, into: &mut [u8]) -> io::Result<u64> {
+    check_kind(files, name)?;
     let file = File::open(files, name)?;
     let length = file.metadata()?.len();
     let fits = length.min(into.len() as u64) as usize;
@@ -74,16 +86,15 @@ impl<R: Files<File = File>> FileShelf<R> {
             files,
             faults: 0,
             disk_faults: 0,
-            is_in_use: false,
+            why: None,
         }
     }
 
-    /// Whether the last call of `disk` that failed found its disk in use, by another process or by
-    /// this one.
-    pub fn is_in_use(&self) -> bool
-        ensures { result ≡ self.now.is_in_use }
-    {
-        self.is_in_use
+    /// Why the last file that failed did, where one has: of a disk that is off the shelf this is known when
+    /// it is kept. `WouldBlock` says that a disk is in use, by another process or by this one, and
+    /// `InvalidInput` that what has the name is no regular file.
+    pub fn why(&self) -> Option<ErrorKind> {
+        self.why
     }
 }
 
@@ -95,7 +106,8 @@ impl<R: Files<File = File>> Shelf for FileShelf<R> {
     fn whole(&mut self, name: &str, into: &mut [u8]) -> Result<u64, ShelfFault> {
         match read_whole(&self.files, name, into) {
             Ok(length) => Ok(length),
-            Err(_) => {
+            Err(error) => {
+                self.why = Some(error.kind());
                 self.faults = raised(self.faults);
                 Err(ShelfFault::Failed)
             }
@@ -107,7 +119,7 @@ impl<R: Files<File = File>> Shelf for FileShelf<R> {
             Ok(disk) => Ok(disk),
             Err(error) if error.kind() == ErrorKind::OutOfMemory => Err(ShelfFault::Memory),
             Err(error) => {
-                self.is_in_use = error.kind() == ErrorKind::WouldBlock;
+                self.why = Some(error.kind());
                 self.disk_faults = raised(self.disk_faults);
                 Err(ShelfFault::Failed)
             }
@@ -117,6 +129,7 @@ impl<R: Files<File = File>> Shelf for FileShelf<R> {
     // The file is closed, and so its lock is given up.
     fn keep(&mut self, _name: DiskName, disk: FileDisk) {
         if disk.faults() > 0 {
+            self.why = disk.why();
             self.disk_faults = raised(self.disk_faults);
         }
     }

@@ -3,6 +3,7 @@
 ghost use Rattle.std.specs.Prelude.{◌≡◌, None};
 ghost use Rattle.std.specs.Io.{ReadsAtMost};
 
+use crate::interruption::{TRIES, is_interrupted};
 use pump_frame::raised;
 use pump_link::{ReadFault, Source};
 use std::fs::{File, Files};
@@ -49,13 +50,15 @@ impl<R: Files<File = File>> Source for KeySource<R> {
     ghost faults = { λ s. s.faults };
 
     fn read(&mut self, into: &mut [u8]) -> Result<usize, ReadFault> {
-        match self.read_some(into) {
-            Ok(count) => Ok(count),
-            Err(_) => {
-                self.faults = raised(self.faults);
-                Err(ReadFault)
+        for _ in 0..TRIES {
+            match self.read_some(into) {
+                Ok(count) => return Ok(count),
+                Err(error) if is_interrupted(&error) => {}
+                Err(_) => break,
             }
         }
+        self.faults = raised(self.faults);
+        Err(ReadFault)
     }
 
     fn faults(&self) -> u64 {

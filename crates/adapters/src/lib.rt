@@ -6,7 +6,7 @@
 mod file_ahead;
 mod file_disk;
 mod file_shelf;
-mod keep_alive;
+mod interruption;
 mod key_source;
 mod read_ahead;
 mod readiness;

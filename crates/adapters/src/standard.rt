@@ -2,6 +2,7 @@
 
 ghost use Rattle.std.specs.Prelude.{◌≡◌};
 
+use crate::interruption::{TRIES, is_interrupted};
 use pump_frame::raised;
 use pump_link::{ReadFault, Sink, Source, WriteFault};
 use std::io::{Read, Write};
@@ -28,13 +29,15 @@ impl<R: Read> Source for StdSource<R> {
     ghost faults = { λ s. s.faults };
 
     fn read(&mut self, into: &mut [u8]) -> Result<usize, ReadFault> {
-        match self.inner.read(into) {
-            Ok(count) => Ok(count),
-            Err(_) => {
-                self.faults = raised(self.faults);
-                Err(ReadFault)
+        for _ in 0..TRIES {
+            match self.inner.read(into) {
+                Ok(count) => return Ok(count),
+                Err(error) if is_interrupted(&error) => {}
+                Err(_) => break,
             }
         }
+        self.faults = raised(self.faults);
+        Err(ReadFault)
     }
 
     fn faults(&self) -> u64 {
@@ -84,16 +87,18 @@ impl<W: Write> Sink for StdSink<W> {
     ghost faults = { λ s. s.faults };
 
     fn write(&mut self, bytes: &[u8]) -> Result<usize, WriteFault> {
-        match self.inner.write(bytes) {
-            Ok(count) if count > 0 => {
-                self.keep_last(&bytes[..count]);
-                Ok(count)
-            }
-            _ => {
-                self.faults = raised(self.faults);
-                Err(WriteFault)
+        for _ in 0..TRIES {
+            match self.inner.write(bytes) {
+                Ok(count) if count > 0 => {
+                    self.keep_last(&bytes[..count]);
+                    return Ok(count);
+                }
+                Err(error) if is_interrupted(&error) => {}
+                _ => break,
             }
         }
+        self.faults = raised(self.faults);
+        Err(WriteFault)
     }
 
     fn faults(&self) -> u64 {

@@ -4,7 +4,6 @@ ghost use Rattle.std.specs.Prelude.{◌≡◌, ◌≤◌, IfOk};
 ghost use Rattle.pump_frame.specs.Counts.{raised};
 ghost use Rattle.pump_link.specs.declared.link.Looked.{Looked as Look};
 
-use crate::keep_alive::keep_alive;
 use crate::read_ahead::ReadAhead;
 use crate::readiness::{is_readable, is_writable};
 use crate::traffic::Traffic;
@@ -71,7 +70,6 @@ impl<'a> TcpLink<'a> {
         ensures { IfOk result (λ link. link.faults ≡ 0) }
     {
         stream.set_nodelay(true)?;
-        keep_alive(&stream);
         stream.set_nonblocking(true)?;
         traffic.note();
         Ok(TcpLink {
@@ -104,13 +102,14 @@ impl<'a> TcpLink<'a> {
         }
     }
 
-    /// What a look gives where the read failed.
+    /// What a look gives where the read failed. The socket does not block, so a time-out says that the
+    /// peer's host is gone, and not that nothing came yet.
     fn unread(&mut self, error: &io::Error) -> Looked
         ensures later { self.old.faults ≤ self.new.faults }
         ensures failed { result ≡ Look.Failed → self.new.faults ≡ raised self.old.faults }
     {
         match error.kind() {
-            ErrorKind::WouldBlock | ErrorKind::TimedOut | ErrorKind::Interrupted => Looked::NotYet,
+            ErrorKind::WouldBlock | ErrorKind::Interrupted => Looked::NotYet,
             _ => {
                 self.faults = raised(self.faults);
                 Looked::Failed

@@ -8,7 +8,7 @@ use crate::tcp_link::TcpLink;
 use crate::traffic::Traffic;
 use pump_frame::raised;
 use pump_link::{Ports, PortsFault};
-use std::io;
+use std::io::{self, ErrorKind};
 use std::net::{Ipv4Addr, Net, TcpListener, TcpStream};
 
 /// The TCP ports of 127.0.0.1. They tell how often a call failed, and nothing else.
@@ -59,8 +59,13 @@ impl<'a, R: Net<Listener = TcpListener, Stream = TcpStream>> TcpPorts<'a, R> {
         TcpDoor::over(listener, side)
     }
 
+    // A connection to a port at which nobody listens may meet itself, where the system gives it that very
+    // port as its own.
     fn call(&self, port: u16) -> io::Result<TcpLink<'a>> {
         let stream = TcpStream::connect(self.net, (Ipv4Addr::LOCALHOST, port))?;
+        if stream.local_addr()?.port() == port {
+            return Err(io::Error::from(ErrorKind::ConnectionRefused));
+        }
         TcpLink::over(stream, self.high)
     }
 }

@@ -1,6 +1,8 @@
 //! The sentences that say why the program ended, and what to do.
 
 mod auditing;
+mod disks;
+mod files;
 mod link;
 mod moving;
 mod unwrapping;
@@ -8,22 +10,23 @@ mod wrapping;
 
 use auditing::{explain_audit, explain_difference, explain_unpaired};
 use command_line::USAGE;
+use disks::explain_refusal;
+use files::{explain_disk_file, explain_table_file, table_bytes};
 use link::{explain_ahead, explain_full, explain_port, explain_refused, explain_unfinished};
-use moving::{explain_filled, explain_long, explain_same, explain_small, table_name};
+use moving::{explain_same, table_name};
 use session_table::{Table, TableFault};
-use std::{fs, io, str};
+use std::io::{self, ErrorKind};
+use std::str;
 use unwrapping::explain_unwrap;
 use wrapping::explain_wrap;
 
 /// What the shelf knows of the file that stopped a command with status 3 or 7.
 #[derive(Clone, Copy)]
 pub enum Trouble {
-    /// The table's file could not be read.
-    Unread,
-    /// The disk's file is in use by another process.
-    InUse,
-    /// A call of the disk's file failed.
-    Failed,
+    /// The table's file could not be read, for this reason.
+    Unread(ErrorKind),
+    /// A call of the disk's file failed, for this reason.
+    Failed(ErrorKind),
     /// No file failed: a line of the script told so, or something else was read.
     Told,
 }
@@ -71,11 +74,12 @@ fn explain_device(rt: &HostRuntime, last: &[u8], trouble: Trouble) -> io::Result
     let session = field(line, 2);
     let role = field(line, 3);
     match trouble {
-        Trouble::InUse => eprintln!(rt;
-            "netpump: the file {session}.{role} is in use by another netpump; wait until that one has ended, and try again"
-        ),
-        Trouble::Failed | Trouble::Unread => eprintln!(rt;
-            "netpump: the file {session}.{role} in this folder could not be made, read, written or synced; see that its disk has room and that the file is yours to write, and go on with what was not acknowledged. What was acknowledged is kept"
+        Trouble::Failed(why) | Trouble::Unread(why) => explain_disk_file(
+            rt,
+            session,
+            role,
+            why,
+            "see that its disk has room and that the file is yours to write, and go on with what was not acknowledged. What was acknowledged is kept",
         ),
         Trouble::Told => eprintln!(rt;
             "netpump: the device of the low disk fails in a store, as a line with the word fault tells; write fine in its place to go on. What was said until then is answered above"
@@ -83,80 +87,10 @@ fn explain_device(rt: &HostRuntime, last: &[u8], trouble: Trouble) -> io::Result
     }
 }
 
-/// What was found on a disk that is refused.
-fn explain_disk(rt: &HostRuntime, words: &[String], line: &str) -> io::Result<()> {
-    let session = field(line, 2);
-    let role = field(line, 3);
-    let first = field(line, 5);
-    let second = field(line, 6);
-    match field(line, 4) {
-        "2" => eprintln!(rt;
-            "netpump: the file {session}.{role} is no disk of netpump's: it has {first} bytes, and does not begin as one"
-        ),
-        "3" => eprintln!(rt;
-            "netpump: the file {session}.{role} was made with other numbers than those of the session line, or is another disk: {first} stands where {second} is wanted"
-        ),
-        "4" => eprintln!(rt;
-            "netpump: the register of the file {session}.{role} has {first} and {second}, which no such disk has"
-        ),
-        "5" => eprintln!(rt;
-            "netpump: the files {session}.low and {session}.high are not of one time: {first} messages are removed, and {second} accepted"
-        ),
-        "6" => eprintln!(rt;
-            "netpump: message {first} in the file {session}.{role} has {second} bytes, which is more than the session line allows"
-        ),
-        "7" => eprintln!(rt;
-            "netpump: the files of session {session} are not of one time: the receiver has {first} messages, and the bound is {second}"
-        ),
-        "9" => explain_filled(rt, words, line),
-        "10" => explain_small(rt, line),
-        "11" => explain_long(rt, line),
-        "12" => eprintln!(rt;
-            "netpump: the second pump has accepted {first} messages in {session}.low, and the receiver of the first one has {second} alone, so the six files are not of one time; put back those that belong together, or replay the chain in an empty folder"
-        ),
-        "13" => eprintln!(rt;
-            "netpump: message {first} in {session}.low is another one than the receiver of the first pump has, so the six files are not of one chain; put back those that belong together, or replay the chain in an empty folder"
-        ),
-        _ => eprintln!(rt;
-            "netpump: the files of session {session} are not of one time: message {first} is another one in {session}.low than in {session}.recv"
-        ),
-    }
-}
-
-/// A disk that is empty, and what to do.
-fn explain_empty(rt: &HostRuntime, words: &[String], last: &[u8]) -> io::Result<()> {
-    let line = fault_line(last).unwrap_or("");
-    let table = word(words, 1).unwrap_or("TABLE");
-    let session = field(line, 2);
-    let role = field(line, 3);
-    eprintln!(rt;
-        "netpump: the file {session}.{role} is empty, so it is no disk yet; where all three files of the session are empty, netpump format {table} {session} makes new disks, and else put back the three files that belong together"
-    )
-}
-
-/// What was found on a disk that is refused, and what to do.
-fn explain_refusal(rt: &HostRuntime, words: &[String], last: &[u8]) -> io::Result<()> {
-    let line = fault_line(last).unwrap_or("");
-    let number = field(line, 4);
-    if number == "2" && field(line, 5) == "0" {
-        return explain_empty(rt, words, last);
-    }
-    explain_disk(rt, words, line)?;
-    // Those sentences say what to do.
-    if matches!(number, "9" | "10" | "11" | "12" | "13") {
-        return Ok(());
-    }
-    eprintln!(rt;
-        "netpump: put back the three files that belong together, use the numbers of the session line that made them, or replay in an empty folder to begin anew (docs/formats.md, \"When disks are refused\")"
-    )
-}
-
 fn explain_unread(rt: &HostRuntime, words: &[String], trouble: Trouble) -> io::Result<()> {
     let table = table_name(rt, words);
     match (trouble, word(words, 0)) {
-        (Trouble::Unread, _) => eprintln!(rt;
-            "netpump: the file {table} in this folder could not be read; see that it is there and that it is yours to read, and try again"
-        ),
+        (Trouble::Unread(why), _) => explain_table_file(rt, table, why),
         (_, Some("serve")) => eprintln!(rt;
             "netpump: the 32 bytes of the relay's key could not be read from /dev/urandom; see that this machine has it and that it is yours to read, and try again"
         ),
@@ -171,7 +105,7 @@ fn explain_unread(rt: &HostRuntime, words: &[String], trouble: Trouble) -> io::R
 
 /// What is wrong with a table, which is read again for it.
 fn fault_of_table(rt: &HostRuntime, name: &str) -> Option<TableFault> {
-    let bytes = fs::read(rt, name).ok()?;
+    let bytes = table_bytes(rt, name).ok()?;
     Table::read(rt.alloc(), bytes.as_slice()).err()
 }
 

@@ -83,14 +83,10 @@ where
 
 /// What the shelf knows of the file that stopped the command.
 fn trouble_of<R: Files<File = File>>(shelf: &FileShelf<R>) -> Trouble {
-    if shelf.faults() > 0 {
-        Trouble::Unread
-    } else if shelf.is_in_use() {
-        Trouble::InUse
-    } else if shelf.disk_faults() > 0 {
-        Trouble::Failed
-    } else {
-        Trouble::Told
+    match shelf.why() {
+        Some(why) if shelf.faults() > 0 => Trouble::Unread(why),
+        Some(why) => Trouble::Failed(why),
+        None => Trouble::Told,
     }
 }
 

@@ -1,16 +1,14 @@
 //! The sentences of commands over a socket.
 
+use super::files::table;
 use super::{field, word};
 use pump_frame::SessionRow;
-use session_table::Table;
-use std::{fs, io};
+use std::io;
 
 /// The row of the session that the words name, from the table that they name, which is read again for it.
 fn row(rt: &HostRuntime, words: &[String]) -> Option<SessionRow> {
-    let bytes = fs::read(rt, word(words, 1)?).ok()?;
     let session = word(words, 2)?.parse::<u32>().ok()?;
-    let table = Table::read(rt.alloc(), bytes.as_slice()).ok()?;
-    table.row(session)
+    table(rt, word(words, 1)?)?.row(session)
 }
 
 /// Ports that can't be listened at, or a port at which nobody answers.

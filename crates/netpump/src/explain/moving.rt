@@ -1,17 +1,14 @@
 //! The sentences of `migrate`, which has two tables and two sessions.
 
+use super::files::table;
 use super::{field, word};
-use session_table::Table;
-use std::{fs, io};
+use std::io;
 
 /// Whether the file is a table with a row for the session, which is read again for it.
 fn has_row(rt: &HostRuntime, name: &str, session: &str) -> bool {
-    let (Ok(bytes), Ok(session)) = (fs::read(rt, name), session.parse::<u32>()) else {
-        return false;
-    };
-    match Table::read(rt.alloc(), bytes.as_slice()) {
-        Ok(table) => bytes.len() <= 65_536 && table.row(session).is_some(),
-        Err(_) => false,
+    match (table(rt, name), session.parse::<u32>()) {
+        (Some(table), Ok(session)) => table.row(session).is_some(),
+        _ => false,
     }
 }
 

@@ -1,5 +1,6 @@
 //! The sentences of `unwrap`, which writes no fault line.
 
+use super::files::explain_disk_file;
 use super::{Trouble, fault_of_table, word};
 use std::io;
 
@@ -16,10 +17,14 @@ fn explain_row(rt: &HostRuntime, table: &str, session: &str) -> io::Result<()> {
 /// Why the receiver's disk could not be read.
 fn explain_file(rt: &HostRuntime, session: &str, trouble: Trouble) -> io::Result<()> {
     match trouble {
-        Trouble::InUse => eprintln!(rt;
-            "netpump: the file {session}.recv is in use by another netpump; wait until that one has ended, and try again"
+        Trouble::Failed(why) | Trouble::Unread(why) => explain_disk_file(
+            rt,
+            session,
+            "recv",
+            why,
+            "see that it is yours to read, and try again",
         ),
-        _ => eprintln!(rt;
+        Trouble::Told => eprintln!(rt;
             "netpump: the file {session}.recv in this folder could not be made, read or synced; see that it is yours to read, and try again"
         ),
     }

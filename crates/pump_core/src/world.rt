@@ -165,7 +165,6 @@ impl World {
         Ok(true)
     }
 
-    #[tactic(auto, using(crate::proofs::Stepping::carried_here))]
     fn carry(&mut self, which: u64) -> Result<bool, OutOfMemory>
         ensures did { IfOk result (λ did. StepAnswers self.old (Event.CarryData which) did self.new) }
         ensures memory { OnErr result (self.new ≡ self.old) }

@@ -3,8 +3,8 @@ use Rattle.std.proofs.Common.{◌≡◌, ℕ, ◌+◌, ◌-◌, ◌≤◌, ◌<�
 use Rattle.std.proofs.lemmas.Bool.Decides.{nat_tests}
 use Rattle.std.proofs.lemmas.List.{take_at, drop_at, length-take-le}
 use Rattle.pump_link.specs.Doors.{MemoryDoor}
-use Rattle.pump_link.specs.Ports.{PortsStep, Listened, NoDoor, Connected, NoConnection, BackToPorts, ShutDoor, MemoryPorts, KeptLinks, keep, leave, with_back, AnswersFrom, GivesPorts, DidPorts, kept_after, last_port}
-use Rattle.pump_link.specs.Tells.{Draws, Grows}
+use Rattle.pump_link.specs.Ports.{PortsStep, Listened, NoDoor, Connected, NoConnection, BackToPorts, ShutDoor, MemoryPorts, KeptLinks, keep, leave, AnswersFrom, DidPorts, kept_after, last_port}
+use Rattle.pump_link.specs.Tells.{Grows}
 
 -- an insert behind the front
 long : {A : Type 0} (b : ℕ) (xs : List A) (x : A) → b ≤ length xs → length (take b xs ++ x ∷ []) ≡ b + 1

@@ -1,11 +1,11 @@
 -- A new disk that is no buffer until it is whole.
-use Rattle.std.proofs.Common.{◌≡◌, ⊎_elim, ℕ, ◌+◌, ◌<◌, ◌≤◌, List, [], ◌∷◌, ◌++◌, length, take, drop, replicate, sym, ◌∙◌, ap, subst, arith}
-use Rattle.std.proofs.lemmas.List.{take-take, take-append-drop}
-use Rattle.disk_model.specs.Disk.{Meaning, Moves, Same, Torn, IsWritten, Settled, Each}
+use Rattle.std.proofs.Common.{◌≡◌, ⊎_elim, ℕ, ◌+◌, ◌<◌, ◌≤◌, List, [], ◌∷◌, ◌++◌, length, take, drop, replicate, sym, ◌∙◌, ap, arith}
+use Rattle.std.proofs.lemmas.List.{take-take}
+use Rattle.disk_model.specs.Disk.{Meaning, Moves, Torn, IsWritten, Settled, Each}
 use Rattle.disk_model.proofs.Run.{goes_on, each_settled}
 use Rattle.pump_frame.specs.declared.row.SessionRow.{SessionRow}
 use Rattle.stable_buffer.specs.Format.{header_of}
-use Rattle.stable_buffer.specs.Making.{mark_bytes, marked, HasZeros, IsNone, IsNoneOr, KeepsFirst, LeavesFrom}
+use Rattle.stable_buffer.specs.Making.{mark_bytes, marked, HasZeros, IsNone, KeepsFirst, LeavesFrom}
 
 pub torn_first : (k at n : ℕ) (old new : List ℕ) → k ≤ at → Torn at n old new → KeepsFirst k old new
 torn_first k at n old new le torn = record { same = sym (take-take k at new le) ∙ ap (λ (l : List ℕ). take k l) torn.before ∙ take-take k at old le }

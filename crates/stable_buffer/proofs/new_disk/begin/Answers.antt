@@ -1,4 +1,5 @@
 use Rattle.std.proofs.Common.{Err, ℕ, ◌≤◌, refl, ap, ◌-◌, ◌∙◌, ◌++◌, replicate, arith}
+use Rattle.std.proofs.lemmas.Grind.{common_steps}
 use Rattle.std.proofs.lemmas.Bool.{false≢true}
 use Rattle.std.proofs.lemmas.List.{length-replicate}
 use Rattle.std.proofs.lemmas.Result.{err_from_is_err_and}
@@ -195,3 +196,15 @@ returns-clause-answers g c =
       room = λ plan. third.room plan ∙ second.room plan ∙ first.room plan;
       disarmed = third.disarmed;
     }
+
+pub fill_zeros-requires-clause-starts : goal.fill_zeros-requires-clause-starts
+fill_zeros-requires-clause-starts g c = grind (arith, common_steps)
+
+pub fill_zeros-requires-clause-calm : goal.fill_zeros-requires-clause-calm
+fill_zeros-requires-clause-calm g c = grind (arith, common_steps)
+
+pub returns-in_err-write-clause-answers : goal.returns-in_err-write-clause-answers
+returns-in_err-write-clause-answers g c = grind (arith, common_steps)
+
+pub write-requires : goal.write-requires
+write-requires g c = grind (arith, common_steps)

@@ -1,4 +1,5 @@
 use Rattle.std.proofs.Common.{◌≡◌, ℕ, ◌+◌, ◌-◌, ◌≤◌, List, [], ◌++◌, length, take, drop, replicate, ap, ◌∙◌, arith, append_assoc, append-nil, length-append}
+use Rattle.std.proofs.lemmas.Grind.{common_steps}
 use Rattle.std.proofs.lemmas.List.{take_all, drop_all, take-replicate, length-replicate, replicate-append-replicate}
 use Rattle.disk_model.specs.Disk.{IsWritten}
 use Rattle.stable_buffer.proofs.Making.{kept_first}
@@ -42,3 +43,15 @@ loop-at-preserved g c =
       calm = λ plan. c.write.ensures.answers.disarmed plan;
       room = λ plan. c.write.ensures.answers.room plan ∙ old.room plan;
     }
+
+pub returns-in_err-write-clause-answers : goal.returns-in_err-write-clause-answers
+returns-in_err-write-clause-answers g c = grind (arith, common_steps)
+
+pub returns-clause-answers : goal.returns-clause-answers
+returns-clause-answers g c = grind (arith, common_steps)
+
+pub returns-clause-zeros : goal.returns-clause-zeros
+returns-clause-zeros g c = grind (arith, common_steps)
+
+pub write-requires : goal.write-requires
+write-requires g c = grind (arith, common_steps)

@@ -1,4 +1,5 @@
 use Rattle.std.proofs.Common.{◌≡◌, ℕ, ◌-◌, ◌++◌, length, take, replicate, ◌∙◌, ap, arith, length-append}
+use Rattle.std.proofs.lemmas.Grind.{common_steps}
 use Rattle.std.proofs.lemmas.List.{take_at, length-replicate}
 use Rattle.stable_buffer.specs.Format.{header_of, role_byte, second_of, size_of}
 use Rattle.stable_buffer.proofs.Fresh.{fresh_stands, holds_empty, header_length}
@@ -25,3 +26,18 @@ returns-clause-stands g c = λ told.
     let left = length-replicate {A = ℕ} (size_of row role - 80) 0 in
     let all : length (front ++ rest) ≡ size_of row role = omega (arith, length-append front rest, size, left, c.disk_size.ensures.whole, c.disk_size.ensures.size) in
     fresh_stands row role c.args.count disk c.requires.count c.requires.receiver (ap (take 80) bytes ∙ take_at front rest 80 size) (ap length bytes ∙ all)
+
+pub fill_zeros-requires-clause-starts : goal.fill_zeros-requires-clause-starts
+fill_zeros-requires-clause-starts g c = grind (arith, common_steps)
+
+pub fill_zeros-requires-clause-calm : goal.fill_zeros-requires-clause-calm
+fill_zeros-requires-clause-calm g c = grind (arith, common_steps)
+
+pub returns-clause-answers : goal.returns-clause-answers
+returns-clause-answers g c = grind (arith, common_steps)
+
+pub returns-in_err-fill_zeros-clause-answers : goal.returns-in_err-fill_zeros-clause-answers
+returns-in_err-fill_zeros-clause-answers g c = grind (arith, common_steps)
+
+pub returns-in_err-sync-clause-answers : goal.returns-in_err-sync-clause-answers
+returns-in_err-sync-clause-answers g c = grind (arith, common_steps)

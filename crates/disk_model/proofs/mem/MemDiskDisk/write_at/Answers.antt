@@ -1,4 +1,5 @@
 use Rattle.std.proofs.Common.{◌≡◌, ◌∷◌, ◌∙◌, ap, arith}
+use Rattle.std.proofs.lemmas.Grind.{common_steps}
 use Rattle.disk_model.specs.Mem.{Memory}
 use Rattle.disk_model.specs.declared.record.Entry.TheVariants.{Write}
 use Rattle.disk_model.proofs.Log.{moves_written, holds_written}
@@ -19,3 +20,9 @@ returns-clause-moves c =
     let log : c.keep.new.self.log ≡ Write c.args.at c.args.bytes.now ∷ c.args.self.now.log =
     ap (λ (d : Memory). d.log) c.keep.ensures ∙ ap (λ (d : Memory). Write c.args.at c.args.bytes.now ∷ d.log) same in
     moves_written c.args.self.now c.keep.new.self c.args.at c.args.bytes.now start log
+
+pub returns-then-fails-clause-moves : goal.returns-then-fails-clause-moves
+returns-then-fails-clause-moves c = grind (arith, common_steps)
+
+pub returns-then-not-takes-clause-moves : goal.returns-then-not-takes-clause-moves
+returns-then-not-takes-clause-moves c = grind (arith, common_steps)

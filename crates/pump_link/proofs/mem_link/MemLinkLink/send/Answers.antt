@@ -1,4 +1,5 @@
-use Rattle.std.proofs.Common.{ℕ, ◌-◌, List, ◌++◌, length, take, drop, refl, sym, ap, ◌∙◌, take-append-drop}
+use Rattle.std.proofs.Common.{arith, ℕ, ◌-◌, List, ◌++◌, length, take, drop, refl, sym, ap, ◌∙◌, take-append-drop}
+use Rattle.std.proofs.lemmas.Grind.{common_steps}
 use Rattle.std.proofs.lemmas.List.{drop_all}
 use Rattle.pump_link.proofs.mem_link.MemLinkLink.send.Goals as goal
 
@@ -29,3 +30,9 @@ returns-clause-sent c =
             ap (λ v. v.sent) c.put.ensures.sent ∙ ap (λ (xs : List ℕ). xs ++ take room bytes) (ap (λ v. v.sent) c.self.view_is ∙ t);
       },
     )
+
+pub returns-clause-fails : goal.returns-clause-fails
+returns-clause-fails c = grind (arith, common_steps)
+
+pub returns-then-not-put-clause-fails : goal.returns-then-not-put-clause-fails
+returns-then-not-put-clause-fails c = grind (arith, common_steps)

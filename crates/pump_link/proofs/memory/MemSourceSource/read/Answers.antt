@@ -1,4 +1,5 @@
 use Rattle.std.proofs.Common.{◌≡◌, ◌+◌, min, take, length, drop, arith, length-drop, sym, ap, ◌∙◌}
+use Rattle.std.proofs.lemmas.Grind.{common_steps}
 use Rattle.std.proofs.lemmas.List.{take_rest, drop_all}
 use Rattle.pump_link.proofs.Known.{front_and_rest}
 use Rattle.pump_link.proofs.memory.MemSourceSource.read.Goals as goal
@@ -16,3 +17,9 @@ returns-clause-bytes c =
 
 pub returns-clause-gives : goal.returns-clause-gives
 returns-clause-gives c = record { told = λ rest t. (_, (returns-clause-bytes c).0, t) }
+
+pub invariant_of-self-2 : goal.invariant_of-self-2
+invariant_of-self-2 c = grind (arith, common_steps)
+
+pub returns-clause-ok : goal.returns-clause-ok
+returns-clause-ok c = grind (arith, common_steps)

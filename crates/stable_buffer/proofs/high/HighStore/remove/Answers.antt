@@ -1,4 +1,5 @@
 use Rattle.std.proofs.Common.{◌≡◌, ℕ, ◌+◌, sym, ◌∙◌, ap, subst, arith}
+use Rattle.std.proofs.lemmas.Grind.{common_steps}
 use Rattle.disk_model.specs.Disk.{Moves, Each}
 use Rattle.disk_model.proofs.Run.{weaker, goes_on, each_weaker}
 use Rattle.stable_buffer.specs.Register.{KeepsValue, MayTurnTo, Selects, SameOutside, value_of}
@@ -94,3 +95,15 @@ pub returns-clause-during : goal.returns-clause-during
 returns-clause-during g c = λ row stands.
     let r = c.args.self.now.register in
     removed_during g.D.Disk.told row r.first r.disk c.commit.new.self.disk c.requires.ready.settled stands (returns-clause-moves g c)
+
+pub returns-clause-answers : goal.returns-clause-answers
+returns-clause-answers g c = grind (arith, common_steps)
+
+pub returns-in_err-commit-clause-answers : goal.returns-in_err-commit-clause-answers
+returns-in_err-commit-clause-answers g c = grind (arith, common_steps)
+
+pub returns-in_err-stage-clause-answers : goal.returns-in_err-stage-clause-answers
+returns-in_err-stage-clause-answers g c = grind (arith, common_steps)
+
+pub overflow_add-number : goal.overflow_add-number
+overflow_add-number g c = grind (arith, common_steps)

@@ -1,4 +1,5 @@
 -- Each return by hand: a search at each of its clauses takes far longer.
+use Rattle.std.proofs.lemmas.Grind.{common_steps}
 use Rattle.std.proofs.Common.{◌≡◌, ℕ, ◌≤◌, Err, length, replicate, take, drop, refl, ◌∙◌, ap, subst, sym, arith}
 use Rattle.std.proofs.lemmas.Bool.{false≢true}
 use Rattle.std.proofs.lemmas.List.{length-take-le, length-replicate}
@@ -171,3 +172,24 @@ returns g c =
       };
       device = tt;
     }
+
+pub read_beside-requires : goal.read_beside-requires
+read_beside-requires g c = grind (arith, common_steps)
+
+pub read_length-requires : goal.read_length-requires
+read_length-requires g c = grind (arith, common_steps)
+
+pub set-requires : goal.set-requires
+set-requires g c = grind (arith, common_steps)
+
+pub overflow_add-at : goal.overflow_add-at
+overflow_add-at g c = grind (arith, common_steps)
+
+pub slice_bounds-set-end : goal.slice_bounds-set-end
+slice_bounds-set-end g c = grind (arith, common_steps)
+
+pub slice_bounds-read_beside-end : goal.slice_bounds-read_beside-end
+slice_bounds-read_beside-end g c = grind (arith, common_steps)
+
+pub slice_bounds-bytes-end-2 : goal.slice_bounds-bytes-end-2
+slice_bounds-bytes-end-2 g c = grind (arith, common_steps)

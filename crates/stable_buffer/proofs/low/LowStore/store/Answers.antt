@@ -1,4 +1,5 @@
 use Rattle.std.proofs.Common.{◌≡◌, ℕ, ◌+◌, sym, ◌∙◌, ap, subst, arith}
+use Rattle.std.proofs.lemmas.Grind.{common_steps}
 use Rattle.disk_model.specs.Disk.{Moves, Each}
 use Rattle.stable_buffer.specs.Register.{MayTurnTo, Selects, SameOutside, value_of}
 use Rattle.stable_buffer.specs.Stands.{InSlot, StandsOn}
@@ -132,3 +133,15 @@ pub returns-clause-during : goal.returns-clause-during
 returns-clause-during g c = λ b messages free stands.
     let s = c.args.self.now in
     stored_during g.D.Disk.told s.row c.args.payload.now s.register.first b messages s.register.disk c.commit.new.self.disk c.requires.ready.settled free stands (returns-clause-moves g c)
+
+pub returns-clause-answers : goal.returns-clause-answers
+returns-clause-answers g c = grind (arith, common_steps)
+
+pub returns-in_err-commit-clause-answers : goal.returns-in_err-commit-clause-answers
+returns-in_err-commit-clause-answers g c = grind (arith, common_steps)
+
+pub returns-in_err-stage-clause-answers : goal.returns-in_err-stage-clause-answers
+returns-in_err-stage-clause-answers g c = grind (arith, common_steps)
+
+pub returns-in_err-write_slot-clause-answers : goal.returns-in_err-write_slot-clause-answers
+returns-in_err-write_slot-clause-answers g c = grind (arith, common_steps)

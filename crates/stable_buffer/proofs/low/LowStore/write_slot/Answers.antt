@@ -1,4 +1,5 @@
 use Rattle.std.proofs.Common.{◌≡◌, ℕ, ◌+◌, length, ◌∙◌, ap, refl, subst, arith}
+use Rattle.std.proofs.lemmas.Grind.{common_steps}
 use Rattle.std.proofs.lemmas.Result.{on_ok_weaker}
 use Rattle.disk_model.specs.Disk.{Torn, IsWritten}
 use Rattle.disk_model.proofs.Run.{weaker}
@@ -32,3 +33,12 @@ returns-clause-moves g c =
     (λ a b is' torn. slot_torn_stands_on s.row r.parity r.first r.second n a b c.requires.ready.ranges.some (omega (arith, c.requires.fits)) is'
     (subst (λ p. Torn p n a b) place torn))
     c.write_message.ensures.moves
+
+pub returns-clause-answers : goal.returns-clause-answers
+returns-clause-answers g c = grind (arith, common_steps)
+
+pub write_message-requires-clause-within : goal.write_message-requires-clause-within
+write_message-requires-clause-within g c = grind (arith, common_steps)
+
+pub write_message-requires-clause-beside : goal.write_message-requires-clause-beside
+write_message-requires-clause-beside g c = grind (arith, common_steps)

@@ -1,4 +1,5 @@
 use Rattle.std.proofs.Common.{◌≡◌, ◌∙◌, ℕ, ◌-◌, length, ap, subst, arith}
+use Rattle.std.proofs.lemmas.Grind.{common_steps}
 use Rattle.disk_model.specs.Disk.{Meaning, Moves, IsWritten, Torn, Leaves}
 use Rattle.disk_model.proofs.Run.{weaker, each_after, each_settled, leaves}
 use Rattle.stable_buffer.specs.Register.{Selects, HoldsNext, KeepsValue, IsReady, place_of, value_of}
@@ -58,3 +59,12 @@ returns-in-Err-clause-during g c = during g.D.Disk.told c.args.self.now c.write_
 
 pub returns-clause-during : goal.returns-clause-during
 returns-clause-during g c = during g.D.Disk.told c.args.self.now c.write_and_sync.new.disk c.requires (returns-clause-moves g c)
+
+pub overflow_add-at : goal.overflow_add-at
+overflow_add-at g c = grind (arith, common_steps)
+
+pub overflow_mul-at : goal.overflow_mul-at
+overflow_mul-at g c = grind (arith, common_steps)
+
+pub returns-clause-answers : goal.returns-clause-answers
+returns-clause-answers g c = grind (arith, common_steps)

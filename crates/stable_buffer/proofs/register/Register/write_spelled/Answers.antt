@@ -1,4 +1,5 @@
-use Rattle.std.proofs.Common.{◌+◌, length, take}
+use Rattle.std.proofs.Common.{arith, ◌+◌, length, take}
+use Rattle.std.proofs.lemmas.Grind.{common_steps}
 use Rattle.disk_model.specs.Disk.{Torn}
 use Rattle.disk_model.proofs.Run.{each_after}
 use Rattle.stable_buffer.specs.Register.{Selects}
@@ -17,3 +18,15 @@ returns-clause-ready g c =
       each = each_after g.D.Disk.told P P (Torn c.args.at n) r.disk c.write.new.disk ready.each
           (λ a b is torn. selects_beside r.parity r.first r.second c.args.at n a b ready.parity c.requires.beside is torn) c.write.ensures.moves;
     }
+
+pub returns-clause-answers : goal.returns-clause-answers
+returns-clause-answers g c = grind (arith, common_steps)
+
+pub returns-clause-written : goal.returns-clause-written
+returns-clause-written g c = grind (arith, common_steps)
+
+pub returns-clause-moves : goal.returns-clause-moves
+returns-clause-moves g c = grind (arith, common_steps)
+
+pub write-requires : goal.write-requires
+write-requires g c = grind (arith, common_steps)

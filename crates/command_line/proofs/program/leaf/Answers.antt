@@ -17,5 +17,5 @@ loop-id-preserved c =
 pub returns : goal.returns
 returns c = record {
   app = rw (take_all c.loop-id.id-index c.args.ids.now c.loop-id-test.false) at c.loop-id.invariant.0;
-  local = c.loop-id.invariant.1
+  local = c.loop-id.invariant.1;
 }

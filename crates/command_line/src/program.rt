@@ -81,27 +81,20 @@ fn bare<'a>(alloc: Global) -> Program<'a>
         .disable_help_subcommand(true)
 }
 
-/// The program with one more command. Both are handed in as they are made, so that they are let go in one
-/// place where there is no memory for them.
+/// The program with one more command, which is handed in as it was made.
 fn with<'a>(
-    above: Result<Program<'a>, AllocError>,
+    above: Program<'a>,
     command: Result<Program<'a>, AllocError>,
 ) -> Result<Program<'a>, AllocError>
     requires { IfOk command (λ c. (out-Command c).has_globals ≡ false) }
-    ensures { (known leaf : App) → IfOk above.entry (λ c. app_of c ≡ known) → IfOk command.entry (λ c. app_of c ≡ leaf)
+    ensures { (known leaf : App) → app_of above.entry ≡ known → IfOk command.entry (λ c. app_of c ≡ leaf)
         → IfOk result (λ all. app_of all ≡ with_subcommand known leaf.top) }
 {
-    // By cases, since what `?` makes on its way is dear to prove at values as large as these.
-    match above {
-        Ok(above) => match command {
-            Ok(command) => above.subcommand(command),
-            Err(error) => {
-                drop(above);
-                Err(error)
-            }
-        },
+    match command {
+        Ok(command) => above.subcommand(command),
         Err(error) => {
-            drop(command);
+            // One call, where the end of the match would let go of each field.
+            drop(above);
             Err(error)
         }
     }
@@ -115,11 +108,11 @@ fn with_commands<'a>(
 ) -> Result<Program<'a>, AllocError>
     ensures { (known : App) → app_of above.entry ≡ known → IfOk result (λ all. app_of all ≡ fold with_command known commands.now) }
 {
-    let mut all = Ok(above);
+    let mut all = above;
     for &(name, ids) in commands {
-        all = with(all, leaf(alloc, name, ids));
+        all = with(all, leaf(alloc, name, ids))?;
     }
-    all
+    Ok(all)
 }
 
 /// The commands as clap is told of them. An error is want of memory.

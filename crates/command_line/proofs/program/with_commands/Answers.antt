@@ -1,8 +1,6 @@
-use Rattle.std.proofs.Common.{◌≡◌, take, fold, sym, subst, IfOk}
+use Rattle.std.proofs.Common.{◌∙◌, take, fold, sym}
 use Rattle.std.proofs.lemmas.List.{take_all}
 use Rattle.std.proofs.lemmas.List.Sums.{fold_more}
-use Rattle.clap.specs.Simple.{App}
-use Rattle.clap.specs.Words.{app_of}
 use Rattle.command_line.specs.Program.{with_command}
 use Rattle.command_line.proofs.program.with_commands.Goals as goal
 
@@ -11,8 +9,7 @@ loop-name-preserved c known given =
     let commands = c.args.commands.now in
     let so_far = fold with_command known (take c.loop-name.name-index commands) in
     let more = fold_more with_command known commands c.loop-name.name-index _ c.loop-name-test.true in
-    let made = c.with-all.ensures so_far _ (c.loop-name.invariant known given) c.leaf.ensures.app in
-    subst (λ (all : App). IfOk c.with-all.result (λ made. app_of made ≡ all)) (sym more) made
+    c.in_ok-all.ensures so_far _ (c.loop-name.invariant known given) c.leaf.ensures.app ∙ sym more
 
 pub returns : goal.returns
 returns c known given =

@@ -1,15 +1,16 @@
 -- clap takes the words of each command, and finds its values. A command whose words have the shape of another one's needs two
 -- lemmas of its own: what clap finds (`met`), and that it takes the words (`taken`).
-use Rattle.std.proofs.Common.{◌≡◌, ℕ, ◌==◌, true, false, List, [], ◌∷◌, Some, None, codes, decimal, ◌&&◌, ap, ap₂, ◌∙◌, arith, refl}
+use Rattle.std.proofs.Common.{◌≡◌, ℕ, ◌≤◌, ◌<◌, ◌^◌, ◌==◌, true, false, List, [], ◌∷◌, Some, None, codes, decimal, ◌&&◌, ap, ap₂, ◌∙◌, sym, subst, arith, refl}
 use Rattle.std.specs.List.{list_all}
-use Rattle.clap.specs.Walk.{Rule, Text, Row, Walk, rows_after, nothing_held, finished}
+use Rattle.clap.specs.Walk.{Rule, Text, Row, Walk, rows_after, first_of, nothing_held, finished}
 use Rattle.clap.specs.Simple.{Shape, subcommand_of, is_simple, filled_from, built_leaf, inherited}
 use Rattle.clap.specs.Takes.{takes, level_passes, settle_passes, default_passes, is_valid}
 use Rattle.clap.specs.declared.parser.matches.ValueSource.TheVariants.{CommandLine}
 use Rattle.clap.specs.declared.builder.value_parser.Reading.TheVariants.{AsWritten}
 use Rattle.clap.proofs.OnLiterals.{clap_on_literals}
-use Rattle.command_line.specs.Commands.{IsSession, IsLooking, AreWordsOf}
-use Rattle.command_line.specs.Found.{GivesSession, GivesLooks, GivesNewSession, GivesIn}
+use Rattle.command_line.specs.Commands.{IsSession, IsLooking, IsCommand, AreWordsOf}
+use Rattle.command_line.specs.TimeLists.{AreTimes, times_word}
+use Rattle.command_line.specs.Found.{GivesSession, GivesLooks, GivesNewSession, Gives, GivesIn}
 use Rattle.command_line.specs.Program.{bare, leaf_two, leaf_three, leaf_four, program, value_rule}
 use Rattle.command_line.specs.declared.command.Command.{Command}
 use Rattle.command_line.specs.declared.command.Command.TheVariants.{Replay, Format, Show, Exercise, Race, Serve, Receive, Send, Migrate, Wrap, Unwrap, Audit, Compare, Chain}
@@ -288,9 +289,9 @@ migrate_given t u n m h k rows e =
 
 -- clap takes the words of each command
 pub words_taken : (words : List Text) (c : Command) → AreWordsOf words c → takes program words ≡ true
-words_taken words Replay h = rw h.1 replay_taken
-words_taken words (Format t n) h = rw h.1 (session_taken (codes "format") t n h.0 format_taken)
-words_taken words (Show t n) h = rw h.1 (session_taken (codes "show") t n h.0 show_taken)
+words_taken words Replay h = ap (takes program) h.1 ∙ replay_taken
+words_taken words (Format t n) h = ap (takes program) h.1 ∙ session_taken (codes "format") t n h.0 format_taken
+words_taken words (Show t n) h = ap (takes program) h.1 ∙ session_taken (codes "show") t n h.0 show_taken
 words_taken words (Exercise m n) h =
     let p = plain_decimal m (omega (arith, h.0.0)) in
     let q = plain_decimal n (omega (arith, h.0.2)) in
@@ -300,9 +301,9 @@ words_taken words (Race m n ts) h =
     let q = plain_decimal n (omega (arith, h.0.2)) in
     let r = plain_times ts.items h.0.3 in
     rw (h.1, p.whole, q.whole, r.whole) (race_taken p.first q.first r.first p.rest q.rest r.rest p.undashed q.undashed r.undashed)
-words_taken words (Serve t n k) h = rw h.1 (looks_taken (codes "serve") t n k h.0 serve_taken)
-words_taken words (Receive t n k) h = rw h.1 (looks_taken (codes "receive") t n k h.0 receive_taken)
-words_taken words (Send t n k) h = rw h.1 (looks_taken (codes "send") t n k h.0 send_taken)
+words_taken words (Serve t n k) h = ap (takes program) h.1 ∙ looks_taken (codes "serve") t n k h.0 serve_taken
+words_taken words (Receive t n k) h = ap (takes program) h.1 ∙ looks_taken (codes "receive") t n k h.0 receive_taken
+words_taken words (Send t n k) h = ap (takes program) h.1 ∙ looks_taken (codes "send") t n k h.0 send_taken
 words_taken words (Migrate t n u m) h =
     let p = plain_table t h.0.0.0 in
     let q = plain_decimal n (omega (arith, h.0.0.1)) in
@@ -310,36 +311,48 @@ words_taken words (Migrate t n u m) h =
     let s = plain_decimal m (omega (arith, h.0.1.1)) in
     rw (h.1, p.whole, q.whole, r.whole, s.whole)
     (migrate_taken p.first q.first r.first s.first p.rest q.rest r.rest s.rest p.undashed q.undashed r.undashed s.undashed)
-words_taken words (Wrap t n) h = rw h.1 (session_taken (codes "wrap") t n h.0 wrap_taken)
-words_taken words (Unwrap t n) h = rw h.1 (session_taken (codes "unwrap") t n h.0 unwrap_taken)
-words_taken words Audit h = rw h.1 audit_taken
-words_taken words Compare h = rw h.1 compare_taken
-words_taken words Chain h = rw h.1 chain_taken
+words_taken words (Wrap t n) h = ap (takes program) h.1 ∙ session_taken (codes "wrap") t n h.0 wrap_taken
+words_taken words (Unwrap t n) h = ap (takes program) h.1 ∙ session_taken (codes "unwrap") t n h.0 unwrap_taken
+words_taken words Audit h = ap (takes program) h.1 ∙ audit_taken
+words_taken words Compare h = ap (takes program) h.1 ∙ compare_taken
+words_taken words Chain h = ap (takes program) h.1 ∙ chain_taken
+
+exercise_given : (m n : ℕ) → IsCommand (Exercise m n) → Gives (Exercise m n) (codes "exercise") (rows_after number_rules [] (decimal m ∷ decimal n ∷ []))
+exercise_given m n h =
+    let p = plain_decimal m (omega (arith, h.0)) in
+    let q = plain_decimal n (omega (arith, h.2)) in
+    rw (p.whole, q.whole, number_rows p.first q.first p.rest q.rest p.undashed q.undashed) (refl, refl, refl)
+
+race_given : (m n : ℕ) (times : List ℕ) → m < 2 ^ 32 → n ≤ 100000 → AreTimes times
+    → (rows : List Row) → rows ≡ rows_after race_rules [] (decimal m ∷ decimal n ∷ times_word times ∷ [])
+    → (first_of (codes "SEED") rows ≡ Some (decimal m)) × (first_of (codes "COUNT") rows ≡ Some (decimal n)) × (first_of (codes "TIMES") rows ≡ Some (times_word times))
+race_given m n times seed count all rows e =
+    let p = plain_decimal m (omega (arith, seed)) in
+    let q = plain_decimal n (omega (arith, count)) in
+    let r = plain_times times all in
+    rw (e, p.whole, q.whole, r.whole, race_rows p.first q.first r.first p.rest q.rest r.rest p.undashed q.undashed r.undashed) (refl, refl, refl)
+
+found_as : {words given : List Text} {name : Text} {rows : List Row} (c : Command) → words ≡ given → subcommand_of program given ≡ Some (name, rows)
+    → Gives c name rows → GivesIn c (subcommand_of program words)
+found_as c same met gives = subst (GivesIn c) (sym (ap (subcommand_of program) same ∙ met)) gives
 
 -- and finds its values
 pub values_found : (words : List Text) (c : Command) → AreWordsOf words c → GivesIn c (subcommand_of program words)
-values_found words Replay h = rw (h.1, replay_met) refl
-values_found words (Format t n) h = rw (h.1, format_met) (refl, session_given t n h.0)
-values_found words (Show t n) h = rw (h.1, show_met) (refl, session_given t n h.0)
-values_found words (Exercise m n) h =
-    let p = plain_decimal m (omega (arith, h.0.0)) in
-    let q = plain_decimal n (omega (arith, h.0.2)) in
-    let rows = number_rows p.first q.first p.rest q.rest p.undashed q.undashed in
-    rw (h.1, exercise_met, p.whole, q.whole, rows) (refl, refl, refl)
+values_found words Replay h = found_as Replay h.1 replay_met refl
+values_found words (Format t n) h = found_as (Format t n) h.1 (format_met _ _) (refl, session_given t n h.0)
+values_found words (Show t n) h = found_as (Show t n) h.1 (show_met _ _) (refl, session_given t n h.0)
+values_found words (Exercise m n) h = found_as (Exercise m n) h.1 (exercise_met _ _) (exercise_given m n h.0)
 values_found words (Race m n ts) h =
-    let p = plain_decimal m (omega (arith, h.0.0)) in
-    let q = plain_decimal n (omega (arith, h.0.2)) in
-    let r = plain_times ts.items h.0.3 in
-    let rows = race_rows p.first q.first r.first p.rest q.rest r.rest p.undashed q.undashed r.undashed in
-    rw (h.1, race_met, p.whole, q.whole, r.whole, rows) (refl, refl, refl, refl)
-values_found words (Serve t n k) h = rw (h.1, serve_met) (refl, looks_given t n k h.0)
-values_found words (Receive t n k) h = rw (h.1, receive_met) (refl, looks_given t n k h.0)
-values_found words (Send t n k) h = rw (h.1, send_met) (refl, looks_given t n k h.0)
+    let given = race_given m n ts.items h.0.0 h.0.2 h.0.3 _ refl in
+    found_as (Race m n ts) h.1 (race_met _ _ _) (refl, given.0, given.1, given.2)
+values_found words (Serve t n k) h = found_as (Serve t n k) h.1 (serve_met _ _ _) (refl, looks_given t n k h.0)
+values_found words (Receive t n k) h = found_as (Receive t n k) h.1 (receive_met _ _ _) (refl, looks_given t n k h.0)
+values_found words (Send t n k) h = found_as (Send t n k) h.1 (send_met _ _ _) (refl, looks_given t n k h.0)
 values_found words (Migrate t n u m) h =
     let given = migrate_given t u n m h.0.0 h.0.1 _ refl in
-    rw (h.1, migrate_met) (refl, given.0, given.1)
-values_found words (Wrap t n) h = rw (h.1, wrap_met) (refl, session_given t n h.0)
-values_found words (Unwrap t n) h = rw (h.1, unwrap_met) (refl, session_given t n h.0)
-values_found words Audit h = rw (h.1, audit_met) refl
-values_found words Compare h = rw (h.1, compare_met) refl
-values_found words Chain h = rw (h.1, chain_met) refl
+    found_as (Migrate t n u m) h.1 (migrate_met _ _ _ _) (refl, given.0, given.1)
+values_found words (Wrap t n) h = found_as (Wrap t n) h.1 (wrap_met _ _) (refl, session_given t n h.0)
+values_found words (Unwrap t n) h = found_as (Unwrap t n) h.1 (unwrap_met _ _) (refl, session_given t n h.0)
+values_found words Audit h = found_as Audit h.1 audit_met refl
+values_found words Compare h = found_as Compare h.1 compare_met refl
+values_found words Chain h = found_as Chain h.1 chain_met refl

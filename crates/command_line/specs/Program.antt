@@ -1,5 +1,6 @@
 -- What clap is told of the commands.
-use Rattle.std.specs.Prelude.{codes, true}
+use Rattle.std.specs.Prelude.{codes, true, List, fold}
+use Rattle.std.specs.Borrow.{Bor}
 use Rattle.clap.specs.Walk.{Rule, Text}
 use Rattle.clap.specs.Simple.{App, new_app, new_rule, with_rule, with_subcommand}
 
@@ -19,6 +20,16 @@ leaf_three name a b c = with_rule (leaf_two name a b) (value_rule c)
 
 abbrev pub leaf_four : Text → Text → Text → Text → Text → App
 leaf_four name a b c d = with_rule (leaf_three name a b c) (value_rule d)
+
+-- a command of its name and these values, in their order, as the code holds them
+abbrev pub with_id : App → Bor Text → App
+with_id command id = with_rule command (value_rule id.now)
+
+abbrev pub leaf : Text → List (Bor Text) → App
+leaf name ids = fold with_id (leaf_none name) ids
+
+abbrev pub with_command : App → Bor Text × Bor (List (Bor Text)) → App
+with_command above command = with_subcommand above (leaf command.0.now command.1.now).top
 
 -- the program without its commands
 abbrev pub bare : App

@@ -1,13 +1,31 @@
 // The commands as `clap` is told of them.
-ghost use Rattle.std.specs.Prelude.{◌≡◌, IfOk, false};
+ghost use Rattle.std.specs.Prelude.{◌≡◌, IfOk, false, fold};
 ghost use Rattle.clap.specs.Words.{app_of};
 ghost use Rattle.clap.specs.Walk.{rule_of};
 ghost use Rattle.clap.specs.declared.builder.command.Command.TheViews.{out-Command};
 ghost use Rattle.clap.specs.Simple.{App, with_rule, with_subcommand};
-ghost use Rattle.command_line.specs.Program.{value_rule, leaf_none, leaf_two, leaf_three, leaf_four, bare, with_scripts, with_relays, with_files, program};
+ghost use Rattle.command_line.specs.Program.{value_rule, leaf_none, leaf, bare, with_command, program};
 
 use clap::{Arg, Command as Program};
 use std::alloc::{AllocError, Global};
+
+/// The commands by name, each with its values.
+const COMMANDS: [(&str, &[&str]); 14] = [
+    ("replay", &[]),
+    ("format", &["TABLE", "S"]),
+    ("show", &["TABLE", "S"]),
+    ("exercise", &["SEED", "COUNT"]),
+    ("race", &["SEED", "COUNT", "TIMES"]),
+    ("serve", &["TABLE", "S", "LOOKS"]),
+    ("receive", &["TABLE", "S", "LOOKS"]),
+    ("send", &["TABLE", "S", "LOOKS"]),
+    ("migrate", &["TABLE", "S", "NEWTABLE", "T"]),
+    ("wrap", &["TABLE", "S"]),
+    ("unwrap", &["TABLE", "S"]),
+    ("audit", &[]),
+    ("compare", &[]),
+    ("chain", &[]),
+];
 
 /// A value that has to be there.
 fn value<'a>(alloc: Global, id: &'a str) -> Arg<'a>
@@ -40,49 +58,16 @@ fn with_value<'a>(
     }
 }
 
-/// A command of its name and two values.
-fn with_two<'a>(
-    alloc: Global,
-    name: &'a str,
-    first: &'a str,
-    second: &'a str,
-) -> Result<Program<'a>, AllocError>
-    ensures app { IfOk result (λ c. app_of c ≡ leaf_two name.entry.now first.entry.now second.entry.now) }
+/// A command of its name and these values, in their order.
+fn leaf<'a>(alloc: Global, name: &'a str, ids: &[&'a str]) -> Result<Program<'a>, AllocError>
+    ensures app { IfOk result (λ c. app_of c ≡ leaf name.entry.now ids.now) }
     ensures local { IfOk result (λ c. (out-Command c).has_globals ≡ false) }
 {
-    let one = with_value(alloc, Ok(plain(alloc, name)), first);
-    with_value(alloc, one, second)
-}
-
-/// A command of its name and three values.
-fn with_three<'a>(
-    alloc: Global,
-    name: &'a str,
-    first: &'a str,
-    second: &'a str,
-    third: &'a str,
-) -> Result<Program<'a>, AllocError>
-    ensures app { IfOk result (λ c. app_of c ≡ leaf_three name.entry.now first.entry.now second.entry.now third.entry.now) }
-    ensures local { IfOk result (λ c. (out-Command c).has_globals ≡ false) }
-{
-    let two = with_two(alloc, name, first, second);
-    with_value(alloc, two, third)
-}
-
-/// A command of its name and four values.
-fn with_four<'a>(
-    alloc: Global,
-    name: &'a str,
-    first: &'a str,
-    second: &'a str,
-    third: &'a str,
-    fourth: &'a str,
-) -> Result<Program<'a>, AllocError>
-    ensures app { IfOk result (λ c. app_of c ≡ leaf_four name.entry.now first.entry.now second.entry.now third.entry.now fourth.entry.now) }
-    ensures local { IfOk result (λ c. (out-Command c).has_globals ≡ false) }
-{
-    let three = with_three(alloc, name, first, second, third);
-    with_value(alloc, three, fourth)
+    let mut command = Ok(plain(alloc, name));
+    for &id in ids {
+        command = with_value(alloc, command, id);
+    }
+    command
 }
 
 /// The program, before its commands, without clap's words for help.
@@ -96,75 +81,43 @@ fn bare<'a>(alloc: Global) -> Program<'a>
         .disable_help_subcommand(true)
 }
 
-/// The program with one more command. Both are handed in as they are made, so that they are let go in one
-/// place where there is no memory for them.
+/// The program with one more command, which is handed in as it was made.
 fn with<'a>(
-    above: Result<Program<'a>, AllocError>,
+    above: Program<'a>,
     command: Result<Program<'a>, AllocError>,
 ) -> Result<Program<'a>, AllocError>
     requires { IfOk command (λ c. (out-Command c).has_globals ≡ false) }
-    ensures { (known leaf : App) → IfOk above.entry (λ c. app_of c ≡ known) → IfOk command.entry (λ c. app_of c ≡ leaf)
+    ensures { (known leaf : App) → app_of above.entry ≡ known → IfOk command.entry (λ c. app_of c ≡ leaf)
         → IfOk result (λ all. app_of all ≡ with_subcommand known leaf.top) }
 {
-    // By cases, since what `?` makes on its way is dear to prove at values as large as these.
-    match above {
-        Ok(above) => match command {
-            Ok(command) => above.subcommand(command),
-            Err(error) => Err(error),
-        },
-        Err(error) => Err(error),
+    match command {
+        Ok(command) => above.subcommand(command),
+        Err(error) => {
+            // One call, where the end of the match would let go of each field.
+            drop(above);
+            Err(error)
+        }
     }
 }
 
-/// With the commands over scripts and generated messages, and those that make and show disks.
-fn with_scripts<'a>(
+/// The program with each of these commands, which are names with their values.
+fn with_commands<'a>(
     alloc: Global,
-    above: Result<Program<'a>, AllocError>,
+    above: Program<'a>,
+    commands: &[(&'a str, &[&'a str])],
 ) -> Result<Program<'a>, AllocError>
-    ensures { (known : App) → IfOk above.entry (λ c. app_of c ≡ known) → IfOk result (λ all. app_of all ≡ with_scripts known) }
+    ensures { (known : App) → app_of above.entry ≡ known → IfOk result (λ all. app_of all ≡ fold with_command known commands.now) }
 {
-    let all = with(above, Ok(plain(alloc, "replay")));
-    let all = with(all, with_two(alloc, "format", "TABLE", "S"));
-    let all = with(all, with_two(alloc, "show", "TABLE", "S"));
-    let all = with(all, with_two(alloc, "exercise", "SEED", "COUNT"));
-    with(all, with_three(alloc, "race", "SEED", "COUNT", "TIMES"))
-}
-
-/// With the commands of a relay and its disks.
-fn with_relays<'a>(
-    alloc: Global,
-    above: Result<Program<'a>, AllocError>,
-) -> Result<Program<'a>, AllocError>
-    ensures { (known : App) → IfOk above.entry (λ c. app_of c ≡ known) → IfOk result (λ all. app_of all ≡ with_relays known) }
-{
-    let all = with(above, with_three(alloc, "serve", "TABLE", "S", "LOOKS"));
-    let all = with(all, with_three(alloc, "receive", "TABLE", "S", "LOOKS"));
-    let all = with(all, with_three(alloc, "send", "TABLE", "S", "LOOKS"));
-    with(
-        all,
-        with_four(alloc, "migrate", "TABLE", "S", "NEWTABLE", "T"),
-    )
-}
-
-/// With the commands over files, records and chains.
-fn with_files<'a>(
-    alloc: Global,
-    above: Result<Program<'a>, AllocError>,
-) -> Result<Program<'a>, AllocError>
-    ensures { (known : App) → IfOk above.entry (λ c. app_of c ≡ known) → IfOk result (λ all. app_of all ≡ with_files known) }
-{
-    let all = with(above, with_two(alloc, "wrap", "TABLE", "S"));
-    let all = with(all, with_two(alloc, "unwrap", "TABLE", "S"));
-    let all = with(all, Ok(plain(alloc, "audit")));
-    let all = with(all, Ok(plain(alloc, "compare")));
-    with(all, Ok(plain(alloc, "chain")))
+    let mut all = above;
+    for &(name, ids) in commands {
+        all = with(all, leaf(alloc, name, ids))?;
+    }
+    Ok(all)
 }
 
 /// The commands as clap is told of them. An error is want of memory.
 pub(crate) fn program<'a>(alloc: Global) -> Result<Program<'a>, AllocError>
     ensures { IfOk result (λ c. app_of c ≡ program) }
 {
-    let scripts = with_scripts(alloc, Ok(bare(alloc)));
-    let relays = with_relays(alloc, scripts);
-    with_files(alloc, relays)
+    with_commands(alloc, bare(alloc), &COMMANDS)
 }

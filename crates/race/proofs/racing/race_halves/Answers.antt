@@ -36,6 +36,14 @@ low_shape end = ring.low_shape end.0
 abbrev high_shape : Calm RingHigh → Shape
 high_shape end = ring.high_shape end.0
 
+-- what two ends did fits, since it fits of the ends that were let go
+fits_left : (low low_end : Calm RingLow) (high high_end : Calm RingHigh) → low_end ≡ low → high_end ≡ high → high_shape high ≡ shape_of_row generated_row
+    → ((l : Low) (h : High) → LowEndStands low_end l h → HighEndStands high_end l h → Fits (high_shape high_end) l h)
+    → (l : Low) (h : High) → LowEndStands low l h → HighEndStands high l h → Fits (shape_of_row generated_row) l h
+fits_left low low_end high high_end low_is high_is shape lawful l h low_stands high_stands =
+    subst (λ (s : Shape). Fits s l h) (ap high_shape high_is ∙ shape)
+    (lawful l h (subst (λ (end : Calm RingLow). LowEndStands end l h) (sym low_is) low_stands) (subst (λ (end : Calm RingHigh). HighEndStands end l h) (sym high_is) high_stands))
+
 pub returns-clause-record : goal.returns-clause-record
 returns-clause-record g c = λ low_on high_on.
     let r = c.in_ok-raced.ensures in
@@ -47,9 +55,8 @@ returns-clause-record g c = λ low_on high_on.
     let (b, all) = r.high_ended high_on in
     let same : low.count ≡ high.count = r.low_count ∙ c.requires.count ∙ sym r.high_count in
     let stands = b.fitting.0 in
-    let shape : high_shape high.ends ≡ shape_of_row generated_row = r.high_shape ∙ c.requires.shape in
-    let fits : Fits (shape_of_row generated_row) a.low b.high = subst (λ (s : Shape). Fits s a.low b.high) shape
-    (c.rejoin.ensures.lawful a.low b.high a.fitting.0 (record { is = stands.is; taken = stands.taken; times = stands.times; taken_before = stands.taken_before; tries = stands.tries })) in
+    let fits = fits_left low.ends c.into_end-low_end.result.0 high.ends c.into_end-high_end.result.0 c.into_end-low_end.ensures.end c.into_end-high_end.ensures.end (r.high_shape ∙ c.requires.shape) c.rejoin.ensures.lawful
+    a.low b.high a.fitting.0 (record { is = stands.is; taken = stands.taken; times = stands.times; taken_before = stands.taken_before; tries = stands.tries }) in
     let times_are : c.as_slice.result.now ≡ high.times.items = c.as_slice.ensures.value in
     let none : c.in_ok-raced.raced.low_stopped || c.in_ok-raced.raced.high_stopped ≡ false = ap (λ (z : Bool × Bool). z.0 || z.1) (λ i. (low_on i, high_on i)) in
     let O = g.O.Sink in
@@ -119,25 +126,24 @@ returns-clause-disks g c = λ low_on high_on.
     let (b, all) = r.high_ended high_on in
     let same : low.count ≡ high.count = r.low_count ∙ c.requires.count ∙ sym r.high_count in
     let stands = b.fitting.0 in
-    let shape : high_shape high.ends ≡ shape_of_row generated_row = r.high_shape ∙ c.requires.shape in
-    let fits : Fits (shape_of_row generated_row) a.low b.high = subst (λ (s : Shape). Fits s a.low b.high) shape
-    (c.rejoin.ensures.lawful a.low b.high a.fitting.0 (record { is = stands.is; taken = stands.taken; times = stands.times; taken_before = stands.taken_before; tries = stands.tries })) in
+    let fits = fits_left low.ends c.into_end-low_end.result.0 high.ends c.into_end-high_end.result.0 c.into_end-low_end.ensures.end c.into_end-high_end.ensures.end (r.high_shape ∙ c.requires.shape) c.rejoin.ensures.lawful
+    a.low b.high a.fitting.0 (record { is = stands.is; taken = stands.taken; times = stands.times; taken_before = stands.taken_before; tries = stands.tries }) in
     let next_is = low_count_is LowEndStands low_shape low made a HighEndStands high b done all same fits.agrees ∙ r.high_count in
     let removed_is = high_count_is LowEndStands low_shape low made a HighEndStands high b done all same fits.agrees ∙ r.high_count in
     let messages : b.received ≡ payloads c.args.low.seed c.args.high.count =
     received_by_both LowEndStands low_shape low made a HighEndStands high b done all same fits.agrees ∙ ap (λ (z : ℕ × ℕ). payloads z.0 z.1) (λ i. (r.seed i, r.high_count i)) in
     let store = a.store a.up in
     record {
-      low_stands = subst (λ (z : SessionRow × ℕ × Plain). StandsForCount z.0 z.1 z.2.bytes) (λ i. ((store.row ∙ a.row) i, (store.count ∙ next_is) i, sym c.into_disk.ensures i)) (store.ready.stands tt);
-      high_stands = subst (λ (z : ℕ × Plain). HighDiskStands generated_row z.0 z.1.bytes) (λ i. (removed_is i, sym c.into_disk-2.ensures i)) b.disk;
-      recv_stands = subst (λ (z : List (List ℕ) × Plain). RecvStands generated_row z.0 z.1.bytes) (λ i. (messages i, sym c.into_disk-3.ensures i)) b.recv.stands;
+      low_stands = subst (λ (z : SessionRow × ℕ × Plain). StandsForCount z.0 z.1 z.2.bytes) (λ i. ((store.row ∙ a.row) i, (store.count ∙ next_is) i, sym c.into_end-low_end.ensures.disk i)) (store.ready.stands tt);
+      high_stands = subst (λ (z : ℕ × Plain). HighDiskStands generated_row z.0 z.1.bytes) (λ i. (removed_is i, sym c.into_end-high_end.ensures.disk i)) b.disk;
+      recv_stands = subst (λ (z : List (List ℕ) × Plain). RecvStands generated_row z.0 z.1.bytes) (λ i. (messages i, sym c.into_end-high_end.ensures.recv i)) b.recv.stands;
     }
 
 pub returns-clause-asked_high : goal.returns-clause-asked_high
 returns-clause-asked_high g c =
     let r = c.in_ok-raced.ensures in
     let H = g.H.Gate in
-    subst (λ (z : ℕ × Plain). AsksHigh z.0 c.in_ok-raced.raced.high_stopped (H.asked c.args.high_gate.now) (H.asked c.run_halves.new.high_gate) z.1.bytes) (λ i. (r.high_count i, sym c.into_disk-3.ensures i)) r.high_asks
+    subst (λ (z : ℕ × Plain). AsksHigh z.0 c.in_ok-raced.raced.high_stopped (H.asked c.args.high_gate.now) (H.asked c.run_halves.new.high_gate) z.1.bytes) (λ i. (r.high_count i, sym c.into_end-high_end.ensures.recv i)) r.high_asks
 
 pub returns-in_err-raced-clause-record : goal.returns-in_err-raced-clause-record
 returns-in_err-raced-clause-record g c = IfOk-from_err c.from_residual.result _ c.from_residual.ensures.0

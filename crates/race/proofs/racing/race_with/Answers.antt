@@ -9,93 +9,51 @@ use Rattle.race.proofs.Tapes.{failed_of}
 use Rattle.race.proofs.Unstarted.{of_end, of_both, onerr_always}
 use Rattle.race.proofs.racing.race_with.Goals as goal
 
-pub returns-in_err-low_store-clause-record : goal.returns-in_err-low_store-clause-record
-returns-in_err-low_store-clause-record g c = IfOk-from_err c.from_residual.result _ c.from_residual.ensures.0
-
-pub returns-in_err-low_store-clause-cut_short : goal.returns-in_err-low_store-clause-cut_short
-returns-in_err-low_store-clause-cut_short g c = IfOk-from_err c.from_residual.result _ c.from_residual.ensures.0
-
-pub returns-in_err-low_store-clause-disks : goal.returns-in_err-low_store-clause-disks
-returns-in_err-low_store-clause-disks g c = IfOk-from_err c.from_residual.result _ c.from_residual.ensures.0
-
-pub returns-in_err-low_store-clause-failed : goal.returns-in_err-low_store-clause-failed
-returns-in_err-low_store-clause-failed g c = IfOk-from_err c.from_residual.result _ c.from_residual.ensures.0
-
-pub returns-in_err-low_store-clause-low_stopped : goal.returns-in_err-low_store-clause-low_stopped
-returns-in_err-low_store-clause-low_stopped g c = IfOk-from_err c.from_residual.result _ c.from_residual.ensures.0
-
-pub returns-in_err-low_store-clause-high_stopped : goal.returns-in_err-low_store-clause-high_stopped
-returns-in_err-low_store-clause-high_stopped g c = IfOk-from_err c.from_residual.result _ c.from_residual.ensures.0
-
-pub returns-in_err-low_store-clause-asked_high : goal.returns-in_err-low_store-clause-asked_high
-returns-in_err-low_store-clause-asked_high g c = IfOk-from_err c.from_residual.result _ c.from_residual.ensures.0
-
-pub returns-in_err-high_store-clause-record : goal.returns-in_err-high_store-clause-record
-returns-in_err-high_store-clause-record g c = IfOk-from_err c.from_residual-in_err-high_store.result _ c.from_residual-in_err-high_store.ensures.0
-
-pub returns-in_err-high_store-clause-cut_short : goal.returns-in_err-high_store-clause-cut_short
-returns-in_err-high_store-clause-cut_short g c = IfOk-from_err c.from_residual-in_err-high_store.result _ c.from_residual-in_err-high_store.ensures.0
-
-pub returns-in_err-high_store-clause-disks : goal.returns-in_err-high_store-clause-disks
-returns-in_err-high_store-clause-disks g c = IfOk-from_err c.from_residual-in_err-high_store.result _ c.from_residual-in_err-high_store.ensures.0
-
-pub returns-in_err-high_store-clause-failed : goal.returns-in_err-high_store-clause-failed
-returns-in_err-high_store-clause-failed g c = IfOk-from_err c.from_residual-in_err-high_store.result _ c.from_residual-in_err-high_store.ensures.0
-
-pub returns-in_err-high_store-clause-low_stopped : goal.returns-in_err-high_store-clause-low_stopped
-returns-in_err-high_store-clause-low_stopped g c = IfOk-from_err c.from_residual-in_err-high_store.result _ c.from_residual-in_err-high_store.ensures.0
-
-pub returns-in_err-high_store-clause-high_stopped : goal.returns-in_err-high_store-clause-high_stopped
-returns-in_err-high_store-clause-high_stopped g c = IfOk-from_err c.from_residual-in_err-high_store.result _ c.from_residual-in_err-high_store.ensures.0
-
-pub returns-in_err-high_store-clause-asked_high : goal.returns-in_err-high_store-clause-asked_high
-returns-in_err-high_store-clause-asked_high g c = IfOk-from_err c.from_residual-in_err-high_store.result _ c.from_residual-in_err-high_store.ensures.0
-
-pub returns-in_err-receiver-clause-record : goal.returns-in_err-receiver-clause-record
-returns-in_err-receiver-clause-record g c = IfOk-from_err c.from_residual-in_err-receiver.result _ c.from_residual-in_err-receiver.ensures.0
-
-pub returns-in_err-receiver-clause-cut_short : goal.returns-in_err-receiver-clause-cut_short
-returns-in_err-receiver-clause-cut_short g c = IfOk-from_err c.from_residual-in_err-receiver.result _ c.from_residual-in_err-receiver.ensures.0
-
-pub returns-in_err-receiver-clause-disks : goal.returns-in_err-receiver-clause-disks
-returns-in_err-receiver-clause-disks g c = IfOk-from_err c.from_residual-in_err-receiver.result _ c.from_residual-in_err-receiver.ensures.0
-
-pub returns-in_err-receiver-clause-failed : goal.returns-in_err-receiver-clause-failed
-returns-in_err-receiver-clause-failed g c = IfOk-from_err c.from_residual-in_err-receiver.result _ c.from_residual-in_err-receiver.ensures.0
-
-pub returns-in_err-receiver-clause-low_stopped : goal.returns-in_err-receiver-clause-low_stopped
-returns-in_err-receiver-clause-low_stopped g c = IfOk-from_err c.from_residual-in_err-receiver.result _ c.from_residual-in_err-receiver.ensures.0
-
-pub returns-in_err-receiver-clause-high_stopped : goal.returns-in_err-receiver-clause-high_stopped
-returns-in_err-receiver-clause-high_stopped g c = IfOk-from_err c.from_residual-in_err-receiver.result _ c.from_residual-in_err-receiver.ensures.0
-
-pub returns-in_err-receiver-clause-asked_high : goal.returns-in_err-receiver-clause-asked_high
-returns-in_err-receiver-clause-asked_high g c = IfOk-from_err c.from_residual-in_err-receiver.result _ c.from_residual-in_err-receiver.ensures.0
-
 pub returns-in_err-passage-clause-record : goal.returns-in_err-passage-clause-record
-returns-in_err-passage-clause-record g c = IfOk-from_err c.from_residual-in_err-passage.result _ c.from_residual-in_err-passage.ensures.0
+returns-in_err-passage-clause-record g c = IfOk-from_err c.from_residual.result _ c.from_residual.ensures.0
 
 pub returns-in_err-passage-clause-cut_short : goal.returns-in_err-passage-clause-cut_short
-returns-in_err-passage-clause-cut_short g c = IfOk-from_err c.from_residual-in_err-passage.result _ c.from_residual-in_err-passage.ensures.0
+returns-in_err-passage-clause-cut_short g c = IfOk-from_err c.from_residual.result _ c.from_residual.ensures.0
 
 pub returns-in_err-passage-clause-disks : goal.returns-in_err-passage-clause-disks
-returns-in_err-passage-clause-disks g c = IfOk-from_err c.from_residual-in_err-passage.result _ c.from_residual-in_err-passage.ensures.0
+returns-in_err-passage-clause-disks g c = IfOk-from_err c.from_residual.result _ c.from_residual.ensures.0
 
 pub returns-in_err-passage-clause-failed : goal.returns-in_err-passage-clause-failed
-returns-in_err-passage-clause-failed g c = IfOk-from_err c.from_residual-in_err-passage.result _ c.from_residual-in_err-passage.ensures.0
+returns-in_err-passage-clause-failed g c = IfOk-from_err c.from_residual.result _ c.from_residual.ensures.0
 
 pub returns-in_err-passage-clause-low_stopped : goal.returns-in_err-passage-clause-low_stopped
-returns-in_err-passage-clause-low_stopped g c = IfOk-from_err c.from_residual-in_err-passage.result _ c.from_residual-in_err-passage.ensures.0
+returns-in_err-passage-clause-low_stopped g c = IfOk-from_err c.from_residual.result _ c.from_residual.ensures.0
 
 pub returns-in_err-passage-clause-high_stopped : goal.returns-in_err-passage-clause-high_stopped
-returns-in_err-passage-clause-high_stopped g c = IfOk-from_err c.from_residual-in_err-passage.result _ c.from_residual-in_err-passage.ensures.0
+returns-in_err-passage-clause-high_stopped g c = IfOk-from_err c.from_residual.result _ c.from_residual.ensures.0
 
 pub returns-in_err-passage-clause-asked_high : goal.returns-in_err-passage-clause-asked_high
-returns-in_err-passage-clause-asked_high g c = IfOk-from_err c.from_residual-in_err-passage.result _ c.from_residual-in_err-passage.ensures.0
+returns-in_err-passage-clause-asked_high g c = IfOk-from_err c.from_residual.result _ c.from_residual.ensures.0
+
+pub returns-in_err-disks-clause-record : goal.returns-in_err-disks-clause-record
+returns-in_err-disks-clause-record g c = IfOk-from_err c.from_residual-in_err-disks.result _ c.from_residual-in_err-disks.ensures.0
+
+pub returns-in_err-disks-clause-cut_short : goal.returns-in_err-disks-clause-cut_short
+returns-in_err-disks-clause-cut_short g c = IfOk-from_err c.from_residual-in_err-disks.result _ c.from_residual-in_err-disks.ensures.0
+
+pub returns-in_err-disks-clause-disks : goal.returns-in_err-disks-clause-disks
+returns-in_err-disks-clause-disks g c = IfOk-from_err c.from_residual-in_err-disks.result _ c.from_residual-in_err-disks.ensures.0
+
+pub returns-in_err-disks-clause-failed : goal.returns-in_err-disks-clause-failed
+returns-in_err-disks-clause-failed g c = IfOk-from_err c.from_residual-in_err-disks.result _ c.from_residual-in_err-disks.ensures.0
+
+pub returns-in_err-disks-clause-low_stopped : goal.returns-in_err-disks-clause-low_stopped
+returns-in_err-disks-clause-low_stopped g c = IfOk-from_err c.from_residual-in_err-disks.result _ c.from_residual-in_err-disks.ensures.0
+
+pub returns-in_err-disks-clause-high_stopped : goal.returns-in_err-disks-clause-high_stopped
+returns-in_err-disks-clause-high_stopped g c = IfOk-from_err c.from_residual-in_err-disks.result _ c.from_residual-in_err-disks.ensures.0
+
+pub returns-in_err-disks-clause-asked_high : goal.returns-in_err-disks-clause-asked_high
+returns-in_err-disks-clause-asked_high g c = IfOk-from_err c.from_residual-in_err-disks.result _ c.from_residual-in_err-disks.ensures.0
 
 pub start-low-requires : goal.start-low-requires
 start-low-requires g c =
-    let store = c.in_ok-low_store.ensures in
+    let store = c.in_ok-disks.ensures.low in
     record {
       row = c.generated_row-row.ensures;
       stands = c.ends-low_end.ensures.low new_high;
@@ -112,7 +70,7 @@ start-low-requires g c =
 
 pub start-high-requires : goal.start-high-requires
 start-high-requires g c =
-    let store = c.in_ok-high_store.ensures in
+    let store = c.in_ok-disks.ensures.high in
     record {
       row = c.generated_row-row.ensures;
       stands = c.ends-low_end.ensures.high new_low;
@@ -121,7 +79,7 @@ start-high-requires g c =
       disk = store.stands;
       calm = store.calm;
       room = store.room;
-      receiver = c.in_ok-receiver.ensures;
+      receiver = c.in_ok-disks.ensures.receiver;
       turn = c.requires.turn;
     }
 
@@ -160,14 +118,8 @@ returns-clause-high_stopped g c = c.race_halves.ensures.high_stopped
 pub returns-clause-nothing : goal.returns-clause-nothing
 returns-clause-nothing g c = c.race_halves.ensures.nothing
 
-pub returns-in_err-low_store-clause-nothing : goal.returns-in_err-low_store-clause-nothing
-returns-in_err-low_store-clause-nothing g c = onerr_always c.from_residual.result refl
-
-pub returns-in_err-high_store-clause-nothing : goal.returns-in_err-high_store-clause-nothing
-returns-in_err-high_store-clause-nothing g c = onerr_always c.from_residual-in_err-high_store.result refl
-
-pub returns-in_err-receiver-clause-nothing : goal.returns-in_err-receiver-clause-nothing
-returns-in_err-receiver-clause-nothing g c = onerr_always c.from_residual-in_err-receiver.result refl
-
 pub returns-in_err-passage-clause-nothing : goal.returns-in_err-passage-clause-nothing
-returns-in_err-passage-clause-nothing g c = onerr_always c.from_residual-in_err-passage.result refl
+returns-in_err-passage-clause-nothing g c = onerr_always c.from_residual.result refl
+
+pub returns-in_err-disks-clause-nothing : goal.returns-in_err-disks-clause-nothing
+returns-in_err-disks-clause-nothing g c = onerr_always c.from_residual-in_err-disks.result refl

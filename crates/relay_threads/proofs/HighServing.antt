@@ -243,3 +243,14 @@ fault_since turn why start before now is le counted = by_cases why (subst (λ t.
   by_cases (Behind n m) counted = tt
   by_cases Looks counted = tt
   by_cases Stopped counted = tt
+
+-- ---- ends that are not one another ----
+
+pub stopped_no_link : Stopped ≡ LinkFailed → ⊥
+stopped_no_link e = cc
+
+pub looks_no_link : Looks ≡ LinkFailed → ⊥
+looks_no_link e = cc
+
+pub looks_no_stop : Looks ≡ Stopped → ⊥
+looks_no_stop e = cc

@@ -1,20 +1,20 @@
-use Rattle.std.proofs.Common.{rules, refl, arith, []}
+use Rattle.std.proofs.Common.{refl, le_refl, le_trans, arith, []}
 use Rattle.pump_link.proofs.Grown.{Grows-nil, Grows-then}
-use Rattle.relay_threads.proofs.Hearing.{none_read, read_more, hears_frame, hears_bad, hears_nothing, hears_end, hears_failure, hears_most, lawful_frame}
+use Rattle.relay_threads.proofs.Hearing.{none_read, read_more, hears_frame, hears_bad, hears_nothing, hears_end, hears_failure, hears_most, lawful_frame, frame_no_failure, bad_no_failure, nothing_no_failure, end_no_failure}
 use Rattle.relay_threads.proofs.Reaching.{rose_later}
 use Rattle.relay_threads.proofs.hear.hear.Goals as goal
 
 pub loop-count-init : goal.loop-count-init
-loop-count-init g c = record { reads = none_read c.args.reader.now _ c.requires.within c.requires.begun; begun = c.requires.begun; sent = Grows-nil _; later = omega arith }
+loop-count-init g c = record { reads = none_read c.args.reader.now _ c.requires.within c.requires.begun; begun = c.requires.begun; sent = Grows-nil _; later = le_refl _ }
 
 pub loop-count-preserved : goal.loop-count-preserved
 loop-count-preserved g c =
     let was = c.loop-count.invariant in
     record {
-      reads = read_more _ _ _ _ _ _ was.reads c.in-Byte.byte _ _ (search rules) c.in-More.ensures.answer c.in-Byte.ensures.gives;
+      reads = read_more _ _ _ _ _ _ was.reads c.in-Byte.byte _ _ refl c.in-More.ensures.answer c.in-Byte.ensures.gives;
       begun = c.in-More.ensures.begun;
       sent = Grows-then _ _ _ [] [] was.sent c.look.ensures.sent;
-      later = omega (arith, was.later, c.look.ensures.later);
+      later = le_trans was.later c.look.ensures.later;
     }
 
 pub returns-in-Whole-clause-heard : goal.returns-in-Whole-clause-heard
@@ -45,10 +45,10 @@ pub returns-in-Whole-clause-sent : goal.returns-in-Whole-clause-sent
 returns-in-Whole-clause-sent g c = Grows-then _ _ _ [] [] c.loop-count.invariant.sent c.look.ensures.sent
 
 pub returns-in-Whole-clause-later : goal.returns-in-Whole-clause-later
-returns-in-Whole-clause-later g c = omega (arith, c.loop-count.invariant.later, c.look.ensures.later)
+returns-in-Whole-clause-later g c = le_trans c.loop-count.invariant.later c.look.ensures.later
 
 pub returns-in-Whole-clause-failed : goal.returns-in-Whole-clause-failed
-returns-in-Whole-clause-failed g c = λ is. absurd (cc)
+returns-in-Whole-clause-failed g c = λ is. absurd (frame_no_failure c.in-Whole.frame is)
 
 pub returns-in-Bad-clause-lawful : goal.returns-in-Bad-clause-lawful
 returns-in-Bad-clause-lawful g c = tt
@@ -60,10 +60,10 @@ pub returns-in-Bad-clause-sent : goal.returns-in-Bad-clause-sent
 returns-in-Bad-clause-sent g c = Grows-then _ _ _ [] [] c.loop-count.invariant.sent c.look.ensures.sent
 
 pub returns-in-Bad-clause-later : goal.returns-in-Bad-clause-later
-returns-in-Bad-clause-later g c = omega (arith, c.loop-count.invariant.later, c.look.ensures.later)
+returns-in-Bad-clause-later g c = le_trans c.loop-count.invariant.later c.look.ensures.later
 
 pub returns-in-Bad-clause-failed : goal.returns-in-Bad-clause-failed
-returns-in-Bad-clause-failed g c = λ is. absurd (cc)
+returns-in-Bad-clause-failed g c = λ is. absurd (bad_no_failure is)
 
 pub returns-in-NotYet-clause-lawful : goal.returns-in-NotYet-clause-lawful
 returns-in-NotYet-clause-lawful g c = tt
@@ -75,10 +75,10 @@ pub returns-in-NotYet-clause-sent : goal.returns-in-NotYet-clause-sent
 returns-in-NotYet-clause-sent g c = Grows-then _ _ _ [] [] c.loop-count.invariant.sent c.look.ensures.sent
 
 pub returns-in-NotYet-clause-later : goal.returns-in-NotYet-clause-later
-returns-in-NotYet-clause-later g c = omega (arith, c.loop-count.invariant.later, c.look.ensures.later)
+returns-in-NotYet-clause-later g c = le_trans c.loop-count.invariant.later c.look.ensures.later
 
 pub returns-in-NotYet-clause-failed : goal.returns-in-NotYet-clause-failed
-returns-in-NotYet-clause-failed g c = λ is. absurd (cc)
+returns-in-NotYet-clause-failed g c = λ is. absurd (nothing_no_failure is)
 
 pub returns-in-Ended-clause-lawful : goal.returns-in-Ended-clause-lawful
 returns-in-Ended-clause-lawful g c = tt
@@ -90,10 +90,10 @@ pub returns-in-Ended-clause-sent : goal.returns-in-Ended-clause-sent
 returns-in-Ended-clause-sent g c = Grows-then _ _ _ [] [] c.loop-count.invariant.sent c.look.ensures.sent
 
 pub returns-in-Ended-clause-later : goal.returns-in-Ended-clause-later
-returns-in-Ended-clause-later g c = omega (arith, c.loop-count.invariant.later, c.look.ensures.later)
+returns-in-Ended-clause-later g c = le_trans c.loop-count.invariant.later c.look.ensures.later
 
 pub returns-in-Ended-clause-failed : goal.returns-in-Ended-clause-failed
-returns-in-Ended-clause-failed g c = λ is. absurd (cc)
+returns-in-Ended-clause-failed g c = λ is. absurd (end_no_failure is)
 
 pub returns-in-Failed-clause-lawful : goal.returns-in-Failed-clause-lawful
 returns-in-Failed-clause-lawful g c = tt
@@ -105,7 +105,7 @@ pub returns-in-Failed-clause-sent : goal.returns-in-Failed-clause-sent
 returns-in-Failed-clause-sent g c = Grows-then _ _ _ [] [] c.loop-count.invariant.sent c.look.ensures.sent
 
 pub returns-in-Failed-clause-later : goal.returns-in-Failed-clause-later
-returns-in-Failed-clause-later g c = omega (arith, c.loop-count.invariant.later, c.look.ensures.later)
+returns-in-Failed-clause-later g c = le_trans c.loop-count.invariant.later c.look.ensures.later
 
 pub returns-in-Failed-clause-failed : goal.returns-in-Failed-clause-failed
 returns-in-Failed-clause-failed g c = λ _. rose_later _ _ _ c.loop-count.invariant.later (c.in-Failed.ensures.failed refl)
@@ -123,4 +123,4 @@ pub returns-clause-later : goal.returns-clause-later
 returns-clause-later g c = c.loop-count.invariant.later
 
 pub returns-clause-failed : goal.returns-clause-failed
-returns-clause-failed g c = λ is. absurd (cc)
+returns-clause-failed g c = λ is. absurd (nothing_no_failure is)

@@ -1,10 +1,10 @@
-use Rattle.std.proofs.Common.{rules, [], refl, ap, subst, arith, true}
+use Rattle.std.proofs.Common.{rules, [], refl, ap, subst, le_refl, arith, true}
 use Rattle.high_process.specs.Tasks.{frame_of}
 use Rattle.high_process.specs.Ends.{StandsFitting}
 use Rattle.high_process.proofs.Fitting.{looked_some}
 use Rattle.pump_link.proofs.Grown.{Draws-nil, Grows-nil}
 use Rattle.relay_threads.proofs.HighTurning.{look_ok, look_err, made_ok, made_err, same_err, ready_again, look_counts, err_counts, err_up, err_order, err_link, calm_counts}
-use Rattle.high_process.specs.States.{task_at}
+use Rattle.high_process.specs.States.{task_at, attaches_at}
 use Rattle.relay_threads.specs.HighServes.{IsData}
 use Rattle.relay_threads.proofs.high_round.look.Goals as goal
 
@@ -28,7 +28,11 @@ pub returns-in-Ok-clause-ready : goal.returns-in-Ok-clause-ready
 returns-in-Ok-clause-ready g c = λ up.
     let was = c.requires.ready in
     let e = c.in-Ok.ensures in
-    let some = looked_some _ _ _ _ _ _ _ _ _ _ _ _ (e.looks was.l was.h was.t was.fitting was.past) in
+    let p = c.args.process.now in
+    let q = c.look_waiting.new.self in
+    let frame = frame_of c.args.frame in
+    let some = looked_some (g.H.HighSide.shape c.args.ends.now) g.H.HighSide.on_one_thread (StandsFitting (g.H.HighSide.stands c.look_waiting.new.ends) q) was.l was.h p q was.t c.args.moment (task_at p frame) (attaches_at p frame) c.in-Ok.look
+    (e.looks was.l was.h was.t was.fitting was.past) in
     record {
       between = e.between;
       up = e.up;
@@ -112,7 +116,7 @@ pub returns-in-Err-clause-place : goal.returns-in-Err-clause-place
 returns-in-Err-clause-place g c = c.in-Err.ensures.place
 
 pub returns-in-Err-clause-later : goal.returns-in-Err-clause-later
-returns-in-Err-clause-later g c = omega arith
+returns-in-Err-clause-later g c = le_refl _
 
 pub returns-in-Err-clause-failed : goal.returns-in-Err-clause-failed
 returns-in-Err-clause-failed g c = err_link c.in-Err.fault c.why_of.result c.why_of.ensures

@@ -1,9 +1,10 @@
-use Rattle.std.proofs.Common.{◌≤◌, ◌+◌, [], ◌∷◌, refl, sym, ap, ◌∙◌, subst, arith, Some, true}
+use Rattle.std.proofs.Common.{◌≤◌, ◌+◌, [], ◌∷◌, refl, sym, ap, ◌∙◌, subst, le_refl, le_trans, arith, Some, true}
 use Rattle.std.specs.Io.KnownBytes.{Appends}
 use Rattle.pump_link.proofs.Grown.{Draws-then, Grows-then}
 use Rattle.low_process.specs.Looks.{row_of}
 use Rattle.relay_threads.specs.Reaching.{Reaches}
 use Rattle.relay_threads.specs.LowStays.{count, count_at, is_ended, is_kept_by, text_at}
+use Rattle.relay_threads.proofs.Counting.{none_at_most}
 use Rattle.relay_threads.proofs.Levels.{levels_stays, still_end}
 use Rattle.relay_threads.proofs.PairsRead.{reads_none, reads_stays}
 use Rattle.relay_threads.proofs.Reaching.{rose_later, reaches_all}
@@ -21,14 +22,14 @@ loop-made-init g c = record {
   over = λ lt. tt;
   made = refl;
   port = λ n h. h;
-  most = omega arith;
+  most = none_at_most _;
   ready = c.requires.ready;
   up = c.requires.up;
   order = c.requires.order;
   shape = refl;
   place = refl;
-  counts = omega arith;
-  tape = omega arith;
+  counts = le_refl _;
+  tape = le_refl _;
 }
 
 pub returns-in-Some-clause-rounds : goal.returns-in-Some-clause-rounds
@@ -51,7 +52,7 @@ returns-in-Some-clause-rounds g c =
       (s.5, t.links),
       Draws-then _ _ _ _ _ t.moments s.6,
       Draws-then _ _ _ _ _ t.words s.7,
-      lines_more _ _ _ _ _ _ _ _ x past _ was.tape was.so.row t.lines line,
+      lines_more (O.written c.args.tape.now) (O.written c.loop-made.tape) (O.written c.stay-turn.new.tape) (O.faults c.args.tape.now) (O.faults c.loop-made.tape) (O.faults c.stay-turn.new.tape) (row_of c.args.process.now) (row_of c.loop-made.process) x past (is_kept_by (Some c.in-Some.end)) was.tape was.so.row t.lines line,
       recorded_as c.args.process.now c.stay-turn.new.process (x ∷ past) (stays_more c.args.process.now c.loop-made.process c.stay-turn.new.process x past (was.over c.loop-made-test.true) was.so s.1),
       (λ end. levels_stays (row_of c.args.process.now) (row_of c.loop-made.process) x past was.so.row (was.levels end)
           (s.9 (still_end g.L.LowSide.stands g.L.LowSide.shape c.args.ends.now c.loop-made.ends (row_of c.args.process.now) (row_of c.loop-made.process) was.shape was.so.row end))),
@@ -113,7 +114,7 @@ loop-made-preserved g c =
       order = c.stay-turn.ensures.order;
       shape = c.stay-turn.ensures.shape ∙ was.shape;
       place = c.stay-turn.ensures.place ∙ was.place;
-      counts = omega (arith, was.counts, c.stay-turn.ensures.counts);
+      counts = le_trans was.counts c.stay-turn.ensures.counts;
       tape = lines.later;
     }
 

@@ -1,6 +1,7 @@
-use Rattle.std.proofs.Common.{rules, Some, [], refl, ◌∙◌, arith}
+use Rattle.std.specs.Prelude.{◌||◌}
+use Rattle.std.proofs.Common.{Some, [], refl, ap, ◌∙◌, le_refl, le_trans}
 use Rattle.pump_link.proofs.Grown.{Draws-kept, Grows-after}
-use Rattle.relay_threads.proofs.HighTurning.{plan_is, frame_is, attached_is, round_without, round_with, ended_turn, passed_turn, ended_cause, passed_cause, looked_turn, looked_cause, ended_failed, ended_calm, calm_counts}
+use Rattle.relay_threads.proofs.HighTurning.{plan_is, frame_is, attached_is, round_without, round_with, ended_turn, passed_turn, ended_cause, passed_cause, looked_turn, looked_cause, ended_failed, ended_calm, calm_counts, none_no_link}
 use Rattle.relay_threads.proofs.Reaching.{rose_later}
 use Rattle.relay_threads.proofs.high_round.HighConnection.round.Goals as goal
 
@@ -17,7 +18,7 @@ returns-in-End-clause-round g c =
       c.moment-moment.ensures.reads,
       ended_cause c.args.process.now _ _ was m h.0 h.1 h.3 _ is,
       refl,
-      attached_is was _ h.0 c.hear-heard.result h.2 (search rules),
+      attached_is was _ h.0 c.hear-heard.result h.2 (ap (λ b. was || b) c.is_frame.ensures),
     )
 
 pub returns-in-Pass-clause-round : goal.returns-in-Pass-clause-round
@@ -33,7 +34,7 @@ returns-in-Pass-clause-round g c =
       c.moment-moment.ensures.reads,
       passed_cause c.args.process.now _ _ was m h.0 h.1 h.3 is,
       refl,
-      attached_is was _ h.0 c.hear-heard.result h.2 (search rules),
+      attached_is was _ h.0 c.hear-heard.result h.2 (ap (λ b. was || b) c.is_frame.ensures),
     )
 
 pub returns-in-Look-clause-round : goal.returns-in-Look-clause-round
@@ -50,7 +51,7 @@ returns-in-Look-clause-round g c =
       c.moment-moment.ensures.reads,
       l.4 ∙ looked_cause c.args.process.now _ _ was m h.0 h.1 h.3 l.0 l.1 is,
       l.5,
-      attached_is was _ h.0 c.hear-heard.result h.2 (search rules),
+      attached_is was _ h.0 c.hear-heard.result h.2 (ap (λ b. was || b) c.is_frame.ensures),
     )
 
 pub returns-in-End-clause-begun : goal.returns-in-End-clause-begun
@@ -66,7 +67,7 @@ pub returns-in-End-clause-up : goal.returns-in-End-clause-up
 returns-in-End-clause-up g c = λ _. c.requires.ready.up
 
 pub returns-in-End-clause-order : goal.returns-in-End-clause-order
-returns-in-End-clause-order g c = omega (arith, c.requires.order, c.moment-moment.ensures.from, c.moment-moment.ensures.to)
+returns-in-End-clause-order g c = le_trans c.requires.order (le_trans c.moment-moment.ensures.from c.moment-moment.ensures.to)
 
 pub returns-in-End-clause-shape : goal.returns-in-End-clause-shape
 returns-in-End-clause-shape g c = refl
@@ -78,7 +79,7 @@ pub returns-in-End-clause-later : goal.returns-in-End-clause-later
 returns-in-End-clause-later g c = c.hear-heard.ensures.later
 
 pub returns-in-End-clause-counts : goal.returns-in-End-clause-counts
-returns-in-End-clause-counts g c = omega arith
+returns-in-End-clause-counts g c = le_refl _
 
 pub returns-in-End-clause-failed : goal.returns-in-End-clause-failed
 returns-in-End-clause-failed g c = λ is. c.hear-heard.ensures.failed (ended_failed c.args.self.now.is_attached c.hear-heard.result c.planned-plan.result c.in-End.why c.planned-plan.ensures c.in-End.is is)
@@ -99,7 +100,7 @@ pub returns-in-Pass-clause-up : goal.returns-in-Pass-clause-up
 returns-in-Pass-clause-up g c = λ _. c.requires.ready.up
 
 pub returns-in-Pass-clause-order : goal.returns-in-Pass-clause-order
-returns-in-Pass-clause-order g c = omega (arith, c.requires.order, c.moment-moment.ensures.from, c.moment-moment.ensures.to)
+returns-in-Pass-clause-order g c = le_trans c.requires.order (le_trans c.moment-moment.ensures.from c.moment-moment.ensures.to)
 
 pub returns-in-Pass-clause-shape : goal.returns-in-Pass-clause-shape
 returns-in-Pass-clause-shape g c = refl
@@ -111,10 +112,10 @@ pub returns-in-Pass-clause-later : goal.returns-in-Pass-clause-later
 returns-in-Pass-clause-later g c = c.hear-heard.ensures.later
 
 pub returns-in-Pass-clause-counts : goal.returns-in-Pass-clause-counts
-returns-in-Pass-clause-counts g c = omega arith
+returns-in-Pass-clause-counts g c = le_refl _
 
 pub returns-in-Pass-clause-failed : goal.returns-in-Pass-clause-failed
-returns-in-Pass-clause-failed g c = λ is. absurd (cc)
+returns-in-Pass-clause-failed g c = λ is. absurd (none_no_link is)
 
 pub returns-in-Pass-clause-device : goal.returns-in-Pass-clause-device
 returns-in-Pass-clause-device g c = tt
@@ -132,7 +133,7 @@ pub returns-in-Look-clause-up : goal.returns-in-Look-clause-up
 returns-in-Look-clause-up g c = c.look.ensures.up
 
 pub returns-in-Look-clause-order : goal.returns-in-Look-clause-order
-returns-in-Look-clause-order g c = omega (arith, c.look.ensures.order, c.moment-moment.ensures.to)
+returns-in-Look-clause-order g c = le_trans c.look.ensures.order c.moment-moment.ensures.to
 
 pub returns-in-Look-clause-shape : goal.returns-in-Look-clause-shape
 returns-in-Look-clause-shape g c = c.look.ensures.shape
@@ -141,7 +142,7 @@ pub returns-in-Look-clause-place : goal.returns-in-Look-clause-place
 returns-in-Look-clause-place g c = c.look.ensures.place
 
 pub returns-in-Look-clause-later : goal.returns-in-Look-clause-later
-returns-in-Look-clause-later g c = omega (arith, c.hear-heard.ensures.later, c.look.ensures.later)
+returns-in-Look-clause-later g c = le_trans c.hear-heard.ensures.later c.look.ensures.later
 
 pub returns-in-Look-clause-failed : goal.returns-in-Look-clause-failed
 returns-in-Look-clause-failed g c = λ is. rose_later _ _ _ c.hear-heard.ensures.later (c.look.ensures.failed is)

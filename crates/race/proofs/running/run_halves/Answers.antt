@@ -1,4 +1,4 @@
-use Rattle.std.proofs.Common.{◌≤◌, false, sym, ap, ◌∙◌, subst}
+use Rattle.std.proofs.Common.{rules, ◌≤◌, false, sym, ap, ◌∙◌, subst}
 use Rattle.std.proofs.lemmas.Result.{IfOk-from_err}
 use Rattle.pump_frame.specs.Counts.{Rose}
 use Rattle.pump_core.specs.Passage.{new_low}
@@ -9,50 +9,28 @@ use Rattle.race.specs.LowWorks.{IsLowDone}
 use Rattle.race.specs.Turns.{AsksHigh}
 use Rattle.race.specs.declared.high.HighHalf.{HighHalf}
 use Rattle.race.specs.declared.low.LowHalf.{LowHalf}
+use Rattle.race.proofs.Unstarted.{onerr_always}
 use Rattle.race.proofs.LowReturns.{low_ran}
 use Rattle.race.proofs.running.run_halves.Goals as goal
 
-pub returns-in_err-try_run_pair-clause-low : goal.returns-in_err-try_run_pair-clause-low
-returns-in_err-try_run_pair-clause-low g c = IfOk-from_err c.from_residual.result _ c.from_residual.ensures.0
-
-pub returns-in_err-try_run_pair-clause-low_ended : goal.returns-in_err-try_run_pair-clause-low_ended
-returns-in_err-try_run_pair-clause-low_ended g c = IfOk-from_err c.from_residual.result _ c.from_residual.ensures.0
-
-pub returns-in_err-try_run_pair-clause-low_stopped : goal.returns-in_err-try_run_pair-clause-low_stopped
-returns-in_err-try_run_pair-clause-low_stopped g c = IfOk-from_err c.from_residual.result _ c.from_residual.ensures.0
-
-pub returns-in_err-try_run_pair-clause-low_place : goal.returns-in_err-try_run_pair-clause-low_place
-returns-in_err-try_run_pair-clause-low_place g c = IfOk-from_err c.from_residual.result _ c.from_residual.ensures.0
-
-pub returns-in_err-try_run_pair-clause-seed : goal.returns-in_err-try_run_pair-clause-seed
-returns-in_err-try_run_pair-clause-seed g c = IfOk-from_err c.from_residual.result _ c.from_residual.ensures.0
-
-pub returns-in_err-try_run_pair-clause-low_count : goal.returns-in_err-try_run_pair-clause-low_count
-returns-in_err-try_run_pair-clause-low_count g c = IfOk-from_err c.from_residual.result _ c.from_residual.ensures.0
-
-pub returns-in_err-try_run_pair-clause-high : goal.returns-in_err-try_run_pair-clause-high
-returns-in_err-try_run_pair-clause-high g c = IfOk-from_err c.from_residual.result _ c.from_residual.ensures.0
-
-pub returns-in_err-try_run_pair-clause-high_ended : goal.returns-in_err-try_run_pair-clause-high_ended
-returns-in_err-try_run_pair-clause-high_ended g c = IfOk-from_err c.from_residual.result _ c.from_residual.ensures.0
-
-pub returns-in_err-try_run_pair-clause-high_stopped : goal.returns-in_err-try_run_pair-clause-high_stopped
-returns-in_err-try_run_pair-clause-high_stopped g c = IfOk-from_err c.from_residual.result _ c.from_residual.ensures.0
-
-pub returns-in_err-try_run_pair-clause-high_asks : goal.returns-in_err-try_run_pair-clause-high_asks
-returns-in_err-try_run_pair-clause-high_asks g c = IfOk-from_err c.from_residual.result _ c.from_residual.ensures.0
-
-pub returns-in_err-try_run_pair-clause-high_place : goal.returns-in_err-try_run_pair-clause-high_place
-returns-in_err-try_run_pair-clause-high_place g c = IfOk-from_err c.from_residual.result _ c.from_residual.ensures.0
-
-pub returns-in_err-try_run_pair-clause-high_shape : goal.returns-in_err-try_run_pair-clause-high_shape
-returns-in_err-try_run_pair-clause-high_shape g c = IfOk-from_err c.from_residual.result _ c.from_residual.ensures.0
-
-pub returns-in_err-try_run_pair-clause-high_count : goal.returns-in_err-try_run_pair-clause-high_count
-returns-in_err-try_run_pair-clause-high_count g c = IfOk-from_err c.from_residual.result _ c.from_residual.ensures.0
-
-pub returns-in_err-try_run_pair-clause-times : goal.returns-in_err-try_run_pair-clause-times
-returns-in_err-try_run_pair-clause-times g c = IfOk-from_err c.from_residual.result _ c.from_residual.ensures.0
+pub returns-in_err-try_run_pair : goal.returns-in_err-try_run_pair
+returns-in_err-try_run_pair g c = record {
+  low = IfOk-from_err c.from_residual.result _ c.from_residual.ensures.0;
+  low_ended = IfOk-from_err c.from_residual.result _ c.from_residual.ensures.0;
+  low_stopped = IfOk-from_err c.from_residual.result _ c.from_residual.ensures.0;
+  low_place = IfOk-from_err c.from_residual.result _ c.from_residual.ensures.0;
+  seed = IfOk-from_err c.from_residual.result _ c.from_residual.ensures.0;
+  low_count = IfOk-from_err c.from_residual.result _ c.from_residual.ensures.0;
+  high = IfOk-from_err c.from_residual.result _ c.from_residual.ensures.0;
+  high_ended = IfOk-from_err c.from_residual.result _ c.from_residual.ensures.0;
+  high_stopped = IfOk-from_err c.from_residual.result _ c.from_residual.ensures.0;
+  high_asks = IfOk-from_err c.from_residual.result _ c.from_residual.ensures.0;
+  high_place = IfOk-from_err c.from_residual.result _ c.from_residual.ensures.0;
+  high_shape = IfOk-from_err c.from_residual.result _ c.from_residual.ensures.0;
+  high_count = IfOk-from_err c.from_residual.result _ c.from_residual.ensures.0;
+  times = IfOk-from_err c.from_residual.result _ c.from_residual.ensures.0;
+  nothing = onerr_always c.from_residual.result (search rules);
+}
 
 pub returns : goal.returns
 returns g c =

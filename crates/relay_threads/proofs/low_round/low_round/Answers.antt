@@ -49,14 +49,14 @@ returns-then-is_failed g c = record {
         (λ end. tt),
         reads_none g.L.LowSide.stands c.args.ends.now p,
       );
-  begun = search rules;
-  ready = search rules;
-  up = search rules;
-  order = search rules;
-  shape = search rules;
-  place = search rules;
+  begun = c.hear_if-heard.ensures.begun;
+  ready = c.requires.ready;
+  up = λ _ _. c.requires.up;
+  order = le_trans c.requires.order (le_trans c.moment-moment.ensures.from c.moment-moment.ensures.to);
+  shape = refl;
+  place = refl;
   link = search rules;
-  counts = search rules;
+  counts = le_refl _;
   device = search rules;
 }
 
@@ -110,7 +110,7 @@ returns g c = record {
             (g.L.LowSide.shape c.args.ends.now) g.L.LowSide.on_one_thread q was.l was.h (hand_of p) head.feedback (c.look_waiting_into.ensures.ends was.l was.h was.fitting)),
         (λ l h fits. step_reads (g.L.LowSide.shape c.args.ends.now) g.L.LowSide.on_one_thread (StandsFitting (g.L.LowSide.stands c.look_waiting_into.new.ends) q) l h (hand_of p) head.feedback (c.look_waiting_into.ensures.ends l h fits)),
       );
-  begun = search rules;
+  begun = c.hear_if-heard.ensures.begun;
   ready =
       let was = c.requires.ready in
       let e = c.look_waiting_into.ensures in
@@ -118,8 +118,8 @@ returns g c = record {
       record { between = e.looks.1.looks.asking; of = e.store; l = some.0; h = some.1.0; fitting = some.1.1 };
   up = search rules;
   order = search rules;
-  shape = search rules;
-  place = search rules;
+  shape = c.look_waiting_into.ensures.shape;
+  place = c.look_waiting_into.ensures.place;
   link =
       λ e.
       rose_later _ _ _ c.hear_if-heard.ensures.later (c.answer-is_sent.ensures.sent.cause (link_by c.record_look-is_kept.result c.is_down.result c.answer-is_sent.result c.faults.result c.hear_if-heard.result (sym c.if-is_failed.ensures) (sym c.why_left.ensures ∙ e)));

@@ -59,13 +59,13 @@ returns-in-Some g c = record {
             (s.9 (still_end g.L.LowSide.stands g.L.LowSide.shape c.args.ends.now c.loop-made.ends (row_of c.args.process.now) (row_of c.loop-made.process) was.shape was.so.row end))),
         reads_stays g.L.LowSide.stands c.args.ends.now c.loop-made.ends c.stay-turn.new.ends c.args.process.now c.loop-made.process c.stay-turn.new.process x past was.pairs s.10,
       );
-  port = search rules;
-  ready = search rules;
+  port = λ n h. c.stay-turn.ensures.port n (c.loop-made.invariant.port n h);
+  ready = c.stay-turn.ensures.ready;
   up = λ e. absurd (no_rounds c.stay-turn.ensures.stay.0 (sym c.stay-turn.ensures.stay.2.end ∙ c.in-Some.is ∙ ap (λ w. Some w) e));
-  order = search rules;
-  shape = search rules;
-  place = search rules;
-  counts = search rules;
+  order = c.stay-turn.ensures.order;
+  shape = c.stay-turn.ensures.shape ∙ c.loop-made.invariant.shape;
+  place = c.stay-turn.ensures.place ∙ c.loop-made.invariant.place;
+  counts = le_trans c.loop-made.invariant.counts c.stay-turn.ensures.counts;
   tape =
       λ e.
       let was = c.loop-made.invariant in
@@ -92,13 +92,13 @@ returns g c = record {
         was.levels,
         was.pairs,
       );
-  port = search rules;
-  ready = search rules;
-  up = search rules;
-  order = search rules;
-  shape = search rules;
-  place = search rules;
-  counts = search rules;
+  port = c.loop-made.invariant.port;
+  ready = c.loop-made.invariant.ready;
+  up = λ _. c.loop-made.invariant.up;
+  order = c.loop-made.invariant.order;
+  shape = c.loop-made.invariant.shape;
+  place = c.loop-made.invariant.place;
+  counts = c.loop-made.invariant.counts;
   tape = search rules;
   device = search rules;
 }

@@ -52,6 +52,9 @@ loop-rounds-preserved g c =
     let rs = was.rounds in
     let calm = sym t.8 ∙ c.in_default.is in
     let C = g.C.Link in
+    let K = g.K.Clock in
+    let W = g.W.Words in
+    let G = g.G.Gate in
     let O = g.O.Sink in
     let sends = sends_more r rs (C.sent c.args.link.now) (C.sent c.loop-rounds.link) (C.sent c.low_round-turn.new.link) (C.faults c.args.link.now) (C.faults c.loop-rounds.link) (C.faults c.low_round-turn.new.link) was.link told.bytes t.4 in
     let keeps = keeps_more r rs (O.written c.args.tape.now) (O.written c.loop-rounds.tape) (O.written c.low_round-turn.new.tape) (O.faults c.args.tape.now) (O.faults c.loop-rounds.tape) (O.faults c.low_round-turn.new.tape)
@@ -61,12 +64,12 @@ loop-rounds-preserved g c =
       so_far = so_far_more c.args.process.now c.loop-rounds.process c.low_round-turn.new.process c.loop-rounds.reader c.low_round-turn.new.reader c.loop-rounds.was_full c.low_round-turn.result.is_full c.low_round-turn.result.is_acked
           c.loop-rounds.acks c.counted-acks.result c.loop-rounds.rounds _ r rs f t.1 t.2 calm t.9 t.10 c.counted-acks.ensures refl;
       told = record {
-        looks = Draws-then _ _ _ _ _ told.looks t.3;
+        looks = Draws-then (C.gives c.args.link.now) (C.gives c.loop-rounds.link) (C.gives c.low_round-turn.new.link) _ _ told.looks t.3;
         bytes = sends.whole (calm_round r calm).1.0;
-        moments = Draws-then _ _ _ _ _ told.moments t.5;
-        words = Draws-then _ _ _ _ _ told.words t.6;
+        moments = Draws-then (K.reads c.args.clock.now) (K.reads c.loop-rounds.clock) (K.reads c.low_round-turn.new.clock) _ _ told.moments t.5;
+        words = Draws-then (W.gives c.args.words.now) (W.gives c.loop-rounds.words) (W.gives c.low_round-turn.new.words) _ _ told.words t.6;
         lines = keeps.whole (calm_round r calm).0;
-        asks = asks_more _ _ _ rs _ _ f.long f.acked told.asks c.pass.ensures.asked;
+        asks = asks_more (G.asked c.args.gate.now) (G.asked c.loop-rounds.gate) (G.asked c.pass.new.self) rs c.loop-rounds.rounds c.loop-rounds.acks f.long f.acked told.asks c.pass.ensures.asked;
       };
       levels = levels_then g.L.LowSide.stands g.L.LowSide.shape c.args.ends.now c.loop-rounds.ends (row_of c.args.process.now) (row_of c.loop-rounds.process) r.made (made_in rs) was.shape f.serves.row was.levels t.11;
       pairs = reads_more g.L.LowSide.stands c.args.ends.now c.loop-rounds.ends c.low_round-turn.new.ends c.args.process.now c.loop-rounds.process c.low_round-turn.new.process r.made (made_in rs) was.pairs t.12;
@@ -89,6 +92,7 @@ returns-then-not-pass g c =
     let f = was.so_far in
     let t = was.told in
     let C = g.C.Link in
+    let G = g.G.Gate in
     let O = g.O.Sink in
     record {
       served = (
@@ -100,7 +104,7 @@ returns-then-not-pass g c =
         t.moments,
         t.words,
         reaches_whole (Appends (O.written c.args.tape.now) (O.written c.loop-rounds.tape)) (O.faults c.args.tape.now) (O.faults c.loop-rounds.tape) (all_kept was.rounds) (looks_text (row_of c.args.process.now) (record_of (made_in was.rounds))) (kept_on was.rounds f.go_on) was.tape t.lines,
-        asks_more _ _ _ was.rounds _ _ f.long f.acked t.asks c.pass.ensures.asked,
+        asks_more (G.asked c.args.gate.now) (G.asked c.loop-rounds.gate) (G.asked c.pass.new.self) was.rounds c.loop-rounds.rounds c.loop-rounds.acks f.long f.acked t.asks c.pass.ensures.asked,
         was.levels,
         was.pairs,
       );
@@ -127,6 +131,9 @@ returns-in-Some g c =
     let why = sym t.8 ∙ c.in-Some.is in
     let long : length (r ∷ rs) ≤ c.args.looks = next_at_most c.loop-rounds.rounds (length rs) c.args.looks f.long c.loop-rounds-test.true in
     let C = g.C.Link in
+    let K = g.K.Clock in
+    let W = g.W.Words in
+    let G = g.G.Gate in
     let O = g.O.Sink in
     let keeps = keeps_more r rs (O.written c.args.tape.now) (O.written c.loop-rounds.tape) (O.written c.low_round-turn.new.tape) (O.faults c.args.tape.now) (O.faults c.loop-rounds.tape) (O.faults c.low_round-turn.new.tape)
     (row_of c.args.process.now) (row_of c.loop-rounds.process) c.loop-rounds.was_full was.tape f.serves.row f.full told.lines t.7 in
@@ -136,12 +143,12 @@ returns-in-Some g c =
         r ∷ rs,
         serves_more c.args.process.now c.loop-rounds.process c.low_round-turn.new.process _ r rs f.serves f.go_on f.is_held t.1,
         (same_more c.loop-rounds.rounds (length rs) f.long, ended_by r rs c.args.looks c.in-Some.why long why),
-        Draws-then _ _ _ _ _ told.looks t.3,
+        Draws-then (C.gives c.args.link.now) (C.gives c.loop-rounds.link) (C.gives c.low_round-turn.new.link) _ _ told.looks t.3,
         sends_more r rs (C.sent c.args.link.now) (C.sent c.loop-rounds.link) (C.sent c.low_round-turn.new.link) (C.faults c.args.link.now) (C.faults c.loop-rounds.link) (C.faults c.low_round-turn.new.link) was.link told.bytes t.4,
-        Draws-then _ _ _ _ _ told.moments t.5,
-        Draws-then _ _ _ _ _ told.words t.6,
+        Draws-then (K.reads c.args.clock.now) (K.reads c.loop-rounds.clock) (K.reads c.low_round-turn.new.clock) _ _ told.moments t.5,
+        Draws-then (W.gives c.args.words.now) (W.gives c.loop-rounds.words) (W.gives c.low_round-turn.new.words) _ _ told.words t.6,
         keeps,
-        subst (Grows (g.G.Gate.asked c.args.gate.now) (g.G.Gate.asked c.pass.new.self)) (sym (asked_by r rs c.in-Some.why why)) (asks_more _ _ _ rs _ _ f.long f.acked told.asks c.pass.ensures.asked),
+        subst (Grows (G.asked c.args.gate.now) (G.asked c.pass.new.self)) (sym (asked_by r rs c.in-Some.why why)) (asks_more (G.asked c.args.gate.now) (G.asked c.loop-rounds.gate) (G.asked c.pass.new.self) rs c.loop-rounds.rounds c.loop-rounds.acks f.long f.acked told.asks c.pass.ensures.asked),
         levels_then g.L.LowSide.stands g.L.LowSide.shape c.args.ends.now c.loop-rounds.ends (row_of c.args.process.now) (row_of c.loop-rounds.process) r.made (made_in rs) was.shape f.serves.row was.levels t.11,
         reads_more g.L.LowSide.stands c.args.ends.now c.loop-rounds.ends c.low_round-turn.new.ends c.args.process.now c.loop-rounds.process c.low_round-turn.new.process r.made (made_in rs) was.pairs t.12,
       );

@@ -1,4 +1,4 @@
-use Rattle.std.proofs.Common.{◌≡◌, ◌≤◌, [], ◌∷◌, length, Some, refl, sym, ap, ◌∙◌, subst, le_refl, le_trans}
+use Rattle.std.proofs.Common.{◌≤◌, [], ◌∷◌, length, Some, refl, sym, ap, ◌∙◌, subst, le_refl, le_trans}
 use Rattle.high_process.specs.States.{row_of}
 use Rattle.relay_threads.specs.HighServes.{IsData, device_in}
 use Rattle.relay_threads.proofs.HighServing.{within_of, data_at, so_far_none, so_far_more, serves_more, told_none, told_more, each_more, sends_at, sent_all, asks_more, asks_ended, counts_more, counts_few, ended_by, no_stop, fault_since, stopped_no_link, looks_no_link, looks_no_stop}

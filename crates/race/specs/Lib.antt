@@ -5,6 +5,7 @@ pub mod LowHalf
 pub mod LowWorks
 pub mod MadeLooks
 pub mod Messages
+pub mod NewDisks
 pub mod Race
 pub mod Replayed
 pub mod Tape

@@ -5,7 +5,7 @@ ghost use Rattle.stable_buffer.specs.Stands.{HighStands};
 ghost use Rattle.stable_buffer.specs.High.{IsHighReady, high_count, high_disk};
 ghost use Rattle.pump_core.specs.Passage.{new_low, new_high};
 ghost use Rattle.high_process.specs.States.{removed_of, hand_of};
-ghost use Rattle.high_receiver.specs.Receiving.{recv_count};
+ghost use Rattle.high_receiver.specs.Receiving.{recv_count, recv_disk};
 ghost use Rattle.script_reader.specs.Generated.{generated_row};
 ghost use Rattle.race.specs.Turns.{turn, CanTurn};
 ghost use Rattle.race.specs.HighHalf.{HighAt, HasReceived, IsAnswer, comes_to_receiver};
@@ -162,6 +162,21 @@ impl<H: WaitHighEnd> HighHalf<H> {
             Ok(_) => {}
             Err(_) => unreachable!(),
         }
+    }
+
+    /// Its end, its disk and the receiver's, as it left them.
+    pub fn into_end(self) -> (H, PlainDisk, PlainDisk)
+        ensures end { result.0 ≡ self.ends }
+        ensures disk { result.1 ≡ high_disk self.store }
+        ensures recv { result.2 ≡ recv_disk self.receiver }
+    {
+        let HighHalf {
+            ends,
+            store,
+            receiver,
+            ..
+        } = self;
+        (ends, store.into_disk(), receiver.into_disk())
     }
 
     /// How many messages the receiver has taken.

@@ -164,6 +164,15 @@ impl<L: WaitLowEnd> LowHalf<L> {
         }
     }
 
+    /// Its end and its disk, as it left them.
+    pub fn into_end(self) -> (L, PlainDisk)
+        ensures end { result.0 ≡ self.ends }
+        ensures disk { result.1 ≡ low_disk self.store }
+    {
+        let LowHalf { ends, store, .. } = self;
+        (ends, store.into_disk())
+    }
+
     /// All messages are stored, passed on and acknowledged.
     pub fn is_done(&self) -> bool
         ensures { result ≡ true → (is_idle self.now.process ≡ true) × (self.now.count ≤ next_of self.now.process) }

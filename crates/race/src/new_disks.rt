@@ -5,11 +5,9 @@ ghost use Rattle.disk_model.specs.Plain.{plain_meaning};
 ghost use Rattle.pump_frame.specs.Rows.{IsLawfulRow};
 ghost use Rattle.stable_buffer.specs.Format.{FormatStands, second_of, size_of};
 ghost use Rattle.stable_buffer.specs.Register.{IsReady, register_disk, register_value};
-ghost use Rattle.stable_buffer.specs.Stands.{HighStands, low_size};
-ghost use Rattle.stable_buffer.specs.Low.{IsLowReady, low_count, low_row, low_disk};
-ghost use Rattle.stable_buffer.specs.High.{IsHighReady, high_count, high_disk};
 ghost use Rattle.script_reader.specs.Generated.{generated_row};
 ghost use Rattle.race.specs.HighHalf.{HasReceived};
+ghost use Rattle.race.specs.NewDisks.{IsNewLow, IsNewHigh};
 
 use disk_model::{PlainDisk, Role};
 use high_receiver::Receiver;
@@ -48,33 +46,25 @@ fn new_register(
 }
 
 /// A new store of the messages.
-pub fn new_low(alloc: Global, row: &SessionRow) -> Result<LowStore<PlainDisk>, OutOfMemory>
+fn new_low(alloc: Global, row: &SessionRow) -> Result<LowStore<PlainDisk>, OutOfMemory>
     requires { row.now ≡ generated_row }
-    ensures ready { IfOk result (λ store. IsLowReady plain_meaning store) }
-    ensures count { IfOk result (λ store. low_count store ≡ 0) }
-    ensures row { IfOk result (λ store. low_row store ≡ generated_row) }
-    ensures calm { IfOk result (λ store. (low_disk store).armed ≡ false) }
-    ensures room { IfOk result (λ store. low_size generated_row ≤ (low_disk store).room) }
+    ensures { IfOk result IsNewLow }
 {
     let register = new_register(alloc, row, Role::Low, disk_size(row, Role::Low))?;
     Ok(LowStore::over(register, row))
 }
 
 /// A new store of how many messages are removed.
-pub fn new_high(alloc: Global, row: &SessionRow) -> Result<HighStore<PlainDisk>, OutOfMemory>
+fn new_high(alloc: Global, row: &SessionRow) -> Result<HighStore<PlainDisk>, OutOfMemory>
     requires { row.now ≡ generated_row }
-    ensures ready { IfOk result (λ store. IsHighReady plain_meaning store) }
-    ensures count { IfOk result (λ store. high_count store ≡ 0) }
-    ensures stands { IfOk result (λ store. HighStands generated_row 0 (high_disk store).bytes) }
-    ensures calm { IfOk result (λ store. (high_disk store).armed ≡ false) }
-    ensures room { IfOk result (λ store. 80 ≤ (high_disk store).room) }
+    ensures { IfOk result IsNewHigh }
 {
     let register = new_register(alloc, row, Role::High, disk_size(row, Role::High))?;
     Ok(HighStore::over(register))
 }
 
 /// A new receiver, with room for so many messages.
-pub fn new_receiver(
+fn new_receiver(
     alloc: Global,
     row: &SessionRow,
     count: u32,
@@ -86,4 +76,30 @@ pub fn new_receiver(
     let room = disk_size(row, Role::Recv) + LONGEST_RECORD * u64::from(count);
     let register = new_register(alloc, row, Role::Recv, room)?;
     Ok(Receiver::over(register, row, room))
+}
+
+/// The stores of the two processes, and the receiver.
+#[derive(Drop)]
+pub struct NewDisks {
+    pub low: LowStore<PlainDisk>,
+    pub high: HighStore<PlainDisk>,
+    pub receiver: Receiver<PlainDisk>,
+}
+
+/// All of them new, with room for so many messages.
+pub fn new_disks(alloc: Global, row: &SessionRow, count: u32) -> Result<NewDisks, OutOfMemory>
+    requires row { row.now ≡ generated_row }
+    requires count { count ≤ 100000 }
+    ensures low { IfOk result (λ disks. IsNewLow disks.low) }
+    ensures high { IfOk result (λ disks. IsNewHigh disks.high) }
+    ensures receiver { IfOk result (λ disks. HasReceived disks.receiver count []) }
+{
+    let receiver = new_receiver(alloc, row, count)?;
+    let high = new_high(alloc, row)?;
+    let low = new_low(alloc, row)?;
+    Ok(NewDisks {
+        low,
+        high,
+        receiver,
+    })
 }

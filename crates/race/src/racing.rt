@@ -15,7 +15,7 @@ ghost use Rattle.race.specs.Turns.{CanTurn, AsksHigh};
 
 use crate::high::HighHalf;
 use crate::low::LowHalf;
-use crate::new_disks::{new_high, new_low, new_receiver};
+use crate::new_disks::new_disks;
 use crate::running::run_halves;
 use crate::tape::{Ending, Tape};
 use disk_model::PlainDisk;
@@ -89,37 +89,24 @@ fn race_halves<
     let raced = run_halves(
         rt, &mut low, &mut high, low_clock, out, &mut tape, low_gate, high_gate,
     )?;
-    let LowHalf {
-        ends: low_end,
-        process: low_process,
-        store: low_store,
-        ..
-    } = low;
-    let HighHalf {
-        ends: high_end,
-        process: high_process,
-        store: high_store,
-        receiver,
-        times,
-        count,
-        ..
-    } = high;
-    RingPassage::rejoin(low_end.0, high_end.0);
     let ending = Ending {
-        times: times.as_slice(),
-        count,
-        received: receiver.count(),
-        accepted: low_process.next(),
-        removed: high_process.removed(),
+        times: high.times.as_slice(),
+        count: high.count,
+        received: high.receiver.count(),
+        accepted: low.process.next(),
+        removed: high.process.removed(),
     };
     let write_failed = tape.close(out, raced.low_stopped | raced.high_stopped, &ending);
+    let (low_end, low_disk) = low.into_end();
+    let (high_end, high_disk, recv_disk) = high.into_end();
+    RingPassage::rejoin(low_end.0, high_end.0);
     Ok(RaceEnd {
         write_failed,
         low_stopped: raced.low_stopped,
         high_stopped: raced.high_stopped,
-        low: low_store.into_disk(),
-        high: high_store.into_disk(),
-        recv: receiver.into_disk(),
+        low: low_disk,
+        high: high_disk,
+        recv: recv_disk,
     })
 }
 
@@ -175,13 +162,18 @@ pub fn race_with<
     ensures nothing { OnErr result (out.new ≡ out.old) }
 {
     let row = generated_row();
-    let low_store = new_low(alloc, &row)?;
-    let high_store = new_high(alloc, &row)?;
-    let receiver = new_receiver(alloc, &row, count)?;
     let mut passage = RingPassage::new(alloc, &row)?;
+    let disks = new_disks(alloc, &row, count)?;
     let (low_end, high_end) = passage.ends();
     let script = Generator::new(seed, count);
-    let low = LowHalf::start(Calm(low_end), low_store, &row, script, seed, count);
-    let high = HighHalf::start(Calm(high_end), high_store, receiver, &row, times, count);
+    let low = LowHalf::start(Calm(low_end), disks.low, &row, script, seed, count);
+    let high = HighHalf::start(
+        Calm(high_end),
+        disks.high,
+        disks.receiver,
+        &row,
+        times,
+        count,
+    );
     race_halves(rt, low, high, low_clock, out, low_gate, high_gate)
 }

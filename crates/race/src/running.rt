@@ -1,5 +1,5 @@
 // The two works of a race, run side by side.
-ghost use Rattle.std.specs.Prelude.{◌≡◌, ◌≤◌, List, [], true, false, IfOk, OnOk, OnErr};
+ghost use Rattle.std.specs.Prelude.{◌≡◌, ◌≤◌, List, [], true, false, IfOk, OnErr};
 ghost use Rattle.std.specs.List.{AllByRecursion};
 ghost use Rattle.pump_frame.specs.Counts.{Rose};
 ghost use Rattle.pump_link.specs.Tells.{Draws, Grows};
@@ -12,9 +12,8 @@ ghost use Rattle.relay_threads.specs.RecordLines.{looks_text};
 ghost use Rattle.relay_threads.specs.Replays.{IsReadable};
 ghost use Rattle.script_reader.specs.Generated.{generated_row};
 ghost use Rattle.race.specs.HighHalf.{HighAt};
-ghost use Rattle.race.specs.HighWorks.{HighCan, HighRuns};
 ghost use Rattle.race.specs.LowHalf.{LowRests};
-ghost use Rattle.race.specs.LowWorks.{IsLowDone, LowCan, LowRuns};
+ghost use Rattle.race.specs.LowWorks.{IsLowDone};
 ghost use Rattle.race.specs.MadeLooks.{moments_of, acks_of};
 ghost use Rattle.race.specs.Tape.{row_in, Prints};
 ghost use Rattle.race.specs.Turns.{AsksHigh, asks_in_run};
@@ -30,37 +29,6 @@ use pump_link::{Clock, Sink};
 use relay_threads::{Gate, try_run_pair};
 use std::sync::Wait;
 use std::thread::Threads;
-
-/// Runs the two works of a race side by side. They keep what they borrowed. `OutOfMemory` where the
-/// second thread can't be started: then both are as they were.
-fn run_works<
-    R: Threads + Wait + Sync,
-    K: Clock + Send,
-    O: Sink + Send,
-    L: WaitLowEnd + Send,
-    G: Gate + Send,
-    H: WaitHighEnd + Send,
-    I: Gate + Send,
->(
-    rt: &R,
-    low: &mut LowWork<'_, '_, '_, '_, '_, K, O, L, G>,
-    high: &mut HighWork<'_, '_, H, I>,
-) -> Result<(), OutOfMemory>
-    requires low { LowCan K.reads K.floor O.written O.faults L.stands L.place L.shape G.asked G.stops low.old }
-    requires high { HighCan H.stands H.place H.shape I.asked I.stops high.old }
-    ensures low_half { low.new.half.ghost_name ≡ low.old.half.ghost_name }
-    ensures high_half { high.new.half.ghost_name ≡ high.old.half.ghost_name }
-    ensures clock { low.new.clock.ghost_name ≡ low.old.clock.ghost_name }
-    ensures out { low.new.out.ghost_name ≡ low.old.out.ghost_name }
-    ensures tape { low.new.tape.ghost_name ≡ low.old.tape.ghost_name }
-    ensures low_gate { low.new.gate.ghost_name ≡ low.old.gate.ghost_name }
-    ensures high_gate { high.new.gate.ghost_name ≡ high.old.gate.ghost_name }
-    ensures low { OnOk result (LowRuns K.reads K.floor O.written O.faults L.stands L.place L.shape G.asked G.stops low.old low.new) }
-    ensures high { OnOk result (HighRuns H.stands H.place H.shape I.asked I.stops high.old high.new) }
-    ensures kept { OnErr result (low.new ≡ low.old) }
-{
-    try_run_pair(rt, low, high)
-}
 
 /// Which workers were stopped.
 #[derive(Clone, Copy)]
@@ -127,7 +95,7 @@ pub fn run_halves<
         gate: high_gate,
         is_stopped: false,
     };
-    run_works(rt, &mut low_work, &mut high_work)?;
+    try_run_pair(rt, &mut low_work, &mut high_work)?;
     Ok(Raced {
         low_stopped: low_work.is_stopped,
         high_stopped: high_work.is_stopped,

@@ -105,3 +105,17 @@ hears_most held now p q n was e = (
   was.now_held,
   subst (Draws p q) (sym (append-nil (map Byte was.bytes))) was.gave,
 )
+
+-- ---- what is heard where the link did not fail ----
+
+pub frame_no_failure : (f : Frame) → HeardFrame f ≡ HeardFailed → ⊥
+frame_no_failure f e = cc
+
+pub bad_no_failure : HeardBad ≡ HeardFailed → ⊥
+bad_no_failure e = cc
+
+pub nothing_no_failure : HeardNothing ≡ HeardFailed → ⊥
+nothing_no_failure e = cc
+
+pub end_no_failure : HeardEnded ≡ HeardFailed → ⊥
+end_no_failure e = cc

@@ -133,13 +133,13 @@ sent_all p q b bytes grew = (bytes, [], sym (append-nil bytes), (λ e. refl), gr
 
 module _ (gave g1 g2 : List Looked → Type 0) (s s1 s2 k k1 k2 : List ℕ → Type 0) (a a1 : List (ℕ × ℕ) → Type 0) (session : ℕ) (rounds : List Round) (was : Told gave g1 s s1 k k1 a a1 session rounds) where
   module _ (r : Round) (looks : Draws g1 g2 (looks_in_round r)) (sends : SendsFront s1 s2 r.is_sent (spellings (data_made session r.made))) (moment : Draws k1 k2 (r.moment ∷ [])) where
-    pub looks_more : Draws gave g2 (looks_of_rounds (r ∷ rounds))
+    looks_more : Draws gave g2 (looks_of_rounds (r ∷ rounds))
     looks_more = Draws-then gave g1 g2 _ _ was.looks looks
 
-    pub moments_more : Draws k k2 (moments (r ∷ rounds))
+    moments_more : Draws k k2 (moments (r ∷ rounds))
     moments_more = Draws-then k k1 k2 _ _ was.moments moment
 
-    pub sends_more : SendsFront s s2 r.is_sent (spellings (data_sent session (r ∷ rounds)))
+    sends_more : SendsFront s s2 r.is_sent (spellings (data_sent session (r ∷ rounds)))
     sends_more = (
       spellings (data_sent session rounds) ++ sends.0,
       sends.1,
@@ -147,6 +147,10 @@ module _ (gave g1 g2 : List Looked → Type 0) (s s1 s2 k k1 k2 : List ℕ → T
       sends.3,
       Grows-then s s1 s2 _ _ was.bytes sends.4,
     )
+
+    -- all three, also of a round that ended the call
+    pub each_more : Draws gave g2 (looks_of_rounds (r ∷ rounds)) × SendsFront s s2 r.is_sent (spellings (data_sent session (r ∷ rounds))) × Draws k k2 (moments (r ∷ rounds))
+    each_more = (looks_more, sends_more, moments_more)
 
     pub told_more : (a2 : List (ℕ × ℕ) → Type 0) → r.is_sent ≡ true → Grows a a2 (asks_before (r ∷ rounds)) → Told gave g2 s s2 k k2 a a2 session (r ∷ rounds)
     told_more a2 whole asks = record {
@@ -243,3 +247,14 @@ fault_since turn why start before now is le counted = by_cases why (subst (λ t.
   by_cases (Behind n m) counted = tt
   by_cases Looks counted = tt
   by_cases Stopped counted = tt
+
+-- ---- ends that are not one another ----
+
+pub stopped_no_link : Stopped ≡ LinkFailed → ⊥
+stopped_no_link e = cc
+
+pub looks_no_link : Looks ≡ LinkFailed → ⊥
+looks_no_link e = cc
+
+pub looks_no_stop : Looks ≡ Stopped → ⊥
+looks_no_stop e = cc

@@ -290,3 +290,6 @@ ended_calm attached heard plan why is end = by_cases heard (sym is ∙ end) wher
   by_cases heards.Bad e = let same : Bad ≡ why = cc in ap is_device (sym same)
   by_cases heards.Ended e = let same : Gone ≡ why = cc in ap is_device (sym same)
   by_cases heards.Failed e = let same : LinkFailed ≡ why = cc in ap is_device (sym same)
+
+pub none_no_link : None ≡ Some LinkFailed → ⊥
+none_no_link e = cc

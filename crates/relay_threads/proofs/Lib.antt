@@ -1,4 +1,5 @@
 pub mod Alike
+pub mod Counting
 pub mod Hearing
 pub mod HighServing
 pub mod HighStaying

@@ -258,3 +258,23 @@ fault_since turn why start before now is le counted = by_cases why (subst (λ t.
 -- the process is up after a round that neither the disk nor the record ended
 pub up_after : {Up : Type 0} (turn : Option LowWhy) (why : LowWhy) → turn ≡ Some why → (is_device_in turn ≡ false → (turn ≡ Some RecordFailed → ⊥) → Up) → is_device why ≡ false → (why ≡ RecordFailed → ⊥) → Up
 up_after turn why is up calm kept = up (ap is_device_in is ∙ calm) (λ broke. let same : Some why ≡ Some RecordFailed = sym is ∙ broke in kept (cc))
+
+-- ---- ends that are not one another ----
+
+pub not_lost : (why : Option LowWhy) → why ≡ None → why ≡ Some RecordFailed → ⊥
+not_lost why none some = cc
+
+pub stopped_no_link : Stopped ≡ LinkFailed → ⊥
+stopped_no_link e = cc
+
+pub stopped_no_record : Stopped ≡ RecordFailed → ⊥
+stopped_no_record e = cc
+
+pub looks_no_link : Looks ≡ LinkFailed → ⊥
+looks_no_link e = cc
+
+pub looks_no_record : Looks ≡ RecordFailed → ⊥
+looks_no_record e = cc
+
+pub looks_no_stop : Looks ≡ Stopped → ⊥
+looks_no_stop e = cc

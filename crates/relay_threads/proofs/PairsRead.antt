@@ -1,12 +1,12 @@
 -- What the low end reads in one look, and in looks one after another.
-use Rattle.std.proofs.Common.{◌≡◌, ℕ, Bool, List, [], ◌∷◌, ◌++◌, Option, Some, None, refl, sym, ap, ◌∙◌, subst, append-nil, append_assoc}
+use Rattle.std.proofs.Common.{◌≡◌, ℕ, Bool, List, [], ◌∷◌, ◌++◌, Option, Some, None, refl, sym, ap, ◌∙◌, append-nil, append_assoc}
 use Rattle.pump_core.specs.declared.feedback.Feedback.{Feedback}
 use Rattle.pump_core.specs.declared.feedback.Feedback.TheVariants.{Quiet, Full, Passed, Released, Repeat}
 use Rattle.pump_core.specs.Passage.{Shape, Low, High, forwards, tried, read_pair}
 use Rattle.pump_core.proofs.PassageSteps.{never_fall_snoc}
 use Rattle.pump_frame.specs.declared.frame.Item.{Item}
 use Rattle.low_process.specs.declared.process.LowProcess.{LowProcess}
-use Rattle.low_process.specs.Ends.{StandsFitting, EndStep}
+use Rattle.low_process.specs.Ends.{EndStep}
 use Rattle.relay_threads.specs.LowRounds.{Round, with_look, made_after, made_in}
 use Rattle.relay_threads.specs.LowStays.{Stay, Alone, With, stay_after, stayed}
 use Rattle.relay_threads.specs.PairsRead.{pair_in, pairs_of, HasRead, ReadsPairs}

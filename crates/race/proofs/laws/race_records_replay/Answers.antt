@@ -1,4 +1,4 @@
-use Rattle.std.proofs.Common.{List, [], append-nil, sym, ◌∙◌}
+use Rattle.std.proofs.Common.{[], append-nil, sym, ◌∙◌}
 use Rattle.race.proofs.Replayable.{replays_to_itself}
 use Rattle.race.specs.Race.{end_lines}
 use Rattle.race.specs.Turns.{turns}

@@ -1,124 +1,90 @@
-use Rattle.std.proofs.Common.{rules, [], refl, ap, subst, arith, true}
+use Rattle.std.proofs.Common.{rules, [], refl, ap, subst, le_refl, arith, true}
 use Rattle.high_process.specs.Tasks.{frame_of}
 use Rattle.high_process.specs.Ends.{StandsFitting}
 use Rattle.high_process.proofs.Fitting.{looked_some}
 use Rattle.pump_link.proofs.Grown.{Draws-nil, Grows-nil}
 use Rattle.relay_threads.proofs.HighTurning.{look_ok, look_err, made_ok, made_err, same_err, ready_again, look_counts, err_counts, err_up, err_order, err_link, calm_counts}
-use Rattle.high_process.specs.States.{task_at}
+use Rattle.high_process.specs.States.{task_at, attaches_at}
 use Rattle.relay_threads.specs.HighServes.{IsData}
 use Rattle.relay_threads.proofs.high_round.look.Goals as goal
 
-pub returns-in-Ok-clause-look : goal.returns-in-Ok-clause-look
-returns-in-Ok-clause-look g c =
-    let p = c.args.process.now in
-    let q = c.look_waiting.new.self in
-    let e = c.in-Ok.ensures in
-    let was = c.requires.ready in
-    let frame = frame_of c.args.frame in
-    let sent = c.send_hand-is_sent.ensures.sent in (
-      made_ok q frame c.in-Ok.look,
-      c.send_hand-is_sent.result,
-      look_ok g.D.Disk.told (g.H.HighSide.shape c.args.ends.now) g.H.HighSide.on_one_thread (StandsFitting (g.H.HighSide.stands c.look_waiting.new.ends) q) was.l was.h p q c.args.store.now c.look_waiting.new.store c.args.moment frame c.in-Ok.look e.row e.fares (λ t st. e.looks was.l was.h t was.fitting st),
-      (sent.0, sent.1, (search rules), sent.3, sent.4),
-      c.why_sent.ensures.why,
-      c.is_some.ensures,
-    )
+pub returns-in-Ok : goal.returns-in-Ok
+returns-in-Ok g c = record {
+  look =
+      let p = c.args.process.now in
+      let q = c.look_waiting.new.self in
+      let e = c.in-Ok.ensures in
+      let was = c.requires.ready in
+      let frame = frame_of c.args.frame in
+      let sent = c.send_hand-is_sent.ensures.sent in (
+        made_ok q frame c.in-Ok.look,
+        c.send_hand-is_sent.result,
+        look_ok g.D.Disk.told (g.H.HighSide.shape c.args.ends.now) g.H.HighSide.on_one_thread (StandsFitting (g.H.HighSide.stands c.look_waiting.new.ends) q) was.l was.h p q c.args.store.now c.look_waiting.new.store c.args.moment frame c.in-Ok.look e.row e.fares (λ t st. e.looks was.l was.h t was.fitting st),
+        (sent.0, sent.1, (search rules), sent.3, sent.4),
+        c.why_sent.ensures.why,
+        c.is_some.ensures,
+      );
+  gives = c.send_hand-is_sent.ensures.gives;
+  message = subst (λ row. IsData row.id c.send_hand-is_sent.new.message) c.in-Ok.ensures.row c.send_hand-is_sent.ensures.message;
+  ready =
+      λ up.
+      let was = c.requires.ready in
+      let e = c.in-Ok.ensures in
+      let p = c.args.process.now in
+      let q = c.look_waiting.new.self in
+      let frame = frame_of c.args.frame in
+      let some = looked_some (g.H.HighSide.shape c.args.ends.now) g.H.HighSide.on_one_thread (StandsFitting (g.H.HighSide.stands c.look_waiting.new.ends) q) was.l was.h p q was.t c.args.moment (task_at p frame) (attaches_at p frame) c.in-Ok.look
+      (e.looks was.l was.h was.t was.fitting was.past) in
+      record {
+        between = e.between;
+        up = e.up;
+        ready = e.store;
+        count = e.count;
+        t = some.1.1.0;
+        past = some.1.1.1.1;
+        l = some.0;
+        h = some.1.0;
+        fitting = some.1.1.1.0;
+      };
+  up = λ _. c.in-Ok.ensures.up;
+  order = omega (arith, c.in-Ok.ensures.last);
+  shape = c.in-Ok.ensures.shape;
+  place = c.in-Ok.ensures.place;
+  later = c.send_hand-is_sent.ensures.later;
+  failed = λ is. c.send_hand-is_sent.ensures.failed (c.why_sent.ensures.failed is);
+  counts = look_counts g.D.Disk.told (task_at c.args.process.now (frame_of c.args.frame)) _ _ _ _ _ c.in-Ok.ensures.fares;
+  device = calm_counts c.why_sent.result _ _ c.why_sent.ensures.calm;
+}
 
-pub returns-in-Ok-clause-ready : goal.returns-in-Ok-clause-ready
-returns-in-Ok-clause-ready g c = λ up.
-    let was = c.requires.ready in
-    let e = c.in-Ok.ensures in
-    let some = looked_some _ _ _ _ _ _ _ _ _ _ _ _ (e.looks was.l was.h was.t was.fitting was.past) in
-    record {
-      between = e.between;
-      up = e.up;
-      ready = e.store;
-      count = e.count;
-      t = some.1.1.0;
-      past = some.1.1.1.1;
-      l = some.0;
-      h = some.1.0;
-      fitting = some.1.1.1.0;
-    }
-
-pub returns-in-Err-clause-look : goal.returns-in-Err-clause-look
-returns-in-Err-clause-look g c =
-    let p = c.args.process.now in
-    let q = c.look_waiting.new.self in
-    let e = c.in-Err.ensures in
-    let frame = frame_of c.args.frame in (
-      made_err q frame c.in-Err.fault,
-      true,
-      look_err g.D.Disk.told p q c.args.store.now c.look_waiting.new.store c.args.moment frame c.in-Err.fault e.row e.fares,
-      ([], [], refl, (λ t. refl), Grows-nil _),
-      (search rules),
-      refl,
-    )
-
-pub returns-in-Err-clause-ready : goal.returns-in-Err-clause-ready
-returns-in-Err-clause-ready g c = λ up.
-    let p = c.args.process.now in
-    let q = c.look_waiting.new.self in
-    let e = c.in-Err.ensures in
-    let same = same_err g.D.Disk.told p q c.args.store.now c.look_waiting.new.store _ c.in-Err.fault e.fares up in
-    ready_again g.D.Disk.told p q c.args.store.now c.look_waiting.new.store _ _ c.requires.ready same.0 same.1 (ap (λ w. g.H.HighSide.stands w) e.refused)
-
-pub returns-in-Ok-clause-gives : goal.returns-in-Ok-clause-gives
-returns-in-Ok-clause-gives g c = c.send_hand-is_sent.ensures.gives
-
-pub returns-in-Ok-clause-message : goal.returns-in-Ok-clause-message
-returns-in-Ok-clause-message g c = subst (λ row. IsData row.id c.send_hand-is_sent.new.message) c.in-Ok.ensures.row c.send_hand-is_sent.ensures.message
-
-pub returns-in-Ok-clause-up : goal.returns-in-Ok-clause-up
-returns-in-Ok-clause-up g c = λ _. c.in-Ok.ensures.up
-
-pub returns-in-Ok-clause-order : goal.returns-in-Ok-clause-order
-returns-in-Ok-clause-order g c = omega (arith, c.in-Ok.ensures.last)
-
-pub returns-in-Ok-clause-shape : goal.returns-in-Ok-clause-shape
-returns-in-Ok-clause-shape g c = c.in-Ok.ensures.shape
-
-pub returns-in-Ok-clause-place : goal.returns-in-Ok-clause-place
-returns-in-Ok-clause-place g c = c.in-Ok.ensures.place
-
-pub returns-in-Ok-clause-later : goal.returns-in-Ok-clause-later
-returns-in-Ok-clause-later g c = c.send_hand-is_sent.ensures.later
-
-pub returns-in-Ok-clause-failed : goal.returns-in-Ok-clause-failed
-returns-in-Ok-clause-failed g c = λ is. c.send_hand-is_sent.ensures.failed (c.why_sent.ensures.failed is)
-
-pub returns-in-Ok-clause-counts : goal.returns-in-Ok-clause-counts
-returns-in-Ok-clause-counts g c = look_counts g.D.Disk.told (task_at c.args.process.now (frame_of c.args.frame)) _ _ _ _ _ c.in-Ok.ensures.fares
-
-pub returns-in-Ok-clause-device : goal.returns-in-Ok-clause-device
-returns-in-Ok-clause-device g c = calm_counts c.why_sent.result _ _ c.why_sent.ensures.calm
-
-pub returns-in-Err-clause-gives : goal.returns-in-Err-clause-gives
-returns-in-Err-clause-gives g c = Draws-nil _
-
-pub returns-in-Err-clause-message : goal.returns-in-Err-clause-message
-returns-in-Err-clause-message g c = c.requires.message
-
-pub returns-in-Err-clause-up : goal.returns-in-Err-clause-up
-returns-in-Err-clause-up g c = err_up c.args.process.now c.look_waiting.new.self c.args.moment c.in-Err.fault c.why_of.result c.why_of.ensures c.requires.ready.up c.in-Err.ensures.fault
-
-pub returns-in-Err-clause-order : goal.returns-in-Err-clause-order
-returns-in-Err-clause-order g c = err_order c.args.process.now c.look_waiting.new.self c.args.moment c.in-Err.fault c.requires.order c.in-Err.ensures.fault
-
-pub returns-in-Err-clause-shape : goal.returns-in-Err-clause-shape
-returns-in-Err-clause-shape g c = c.in-Err.ensures.shape
-
-pub returns-in-Err-clause-place : goal.returns-in-Err-clause-place
-returns-in-Err-clause-place g c = c.in-Err.ensures.place
-
-pub returns-in-Err-clause-later : goal.returns-in-Err-clause-later
-returns-in-Err-clause-later g c = omega arith
-
-pub returns-in-Err-clause-failed : goal.returns-in-Err-clause-failed
-returns-in-Err-clause-failed g c = err_link c.in-Err.fault c.why_of.result c.why_of.ensures
-
-pub returns-in-Err-clause-counts : goal.returns-in-Err-clause-counts
-returns-in-Err-clause-counts g c = look_counts g.D.Disk.told (task_at c.args.process.now (frame_of c.args.frame)) _ _ _ _ _ c.in-Err.ensures.fares
-
-pub returns-in-Err-clause-device : goal.returns-in-Err-clause-device
-returns-in-Err-clause-device g c = err_counts g.D.Disk.told (task_at c.args.process.now (frame_of c.args.frame)) c.args.process.now c.look_waiting.new.self _ _ c.args.moment c.in-Err.fault c.why_of.result c.why_of.ensures c.requires.ready.up c.in-Err.ensures.fault c.in-Err.ensures.fares
+pub returns-in-Err : goal.returns-in-Err
+returns-in-Err g c = record {
+  look =
+      let p = c.args.process.now in
+      let q = c.look_waiting.new.self in
+      let e = c.in-Err.ensures in
+      let frame = frame_of c.args.frame in (
+        made_err q frame c.in-Err.fault,
+        true,
+        look_err g.D.Disk.told p q c.args.store.now c.look_waiting.new.store c.args.moment frame c.in-Err.fault e.row e.fares,
+        ([], [], refl, (λ t. refl), Grows-nil _),
+        (search rules),
+        refl,
+      );
+  gives = Draws-nil _;
+  message = c.requires.message;
+  ready =
+      λ up.
+      let p = c.args.process.now in
+      let q = c.look_waiting.new.self in
+      let e = c.in-Err.ensures in
+      let same = same_err g.D.Disk.told p q c.args.store.now c.look_waiting.new.store _ c.in-Err.fault e.fares up in
+      ready_again g.D.Disk.told p q c.args.store.now c.look_waiting.new.store _ _ c.requires.ready same.0 same.1 (ap (λ w. g.H.HighSide.stands w) e.refused);
+  up = err_up c.args.process.now c.look_waiting.new.self c.args.moment c.in-Err.fault c.why_of.result c.why_of.ensures c.requires.ready.up c.in-Err.ensures.fault;
+  order = err_order c.args.process.now c.look_waiting.new.self c.args.moment c.in-Err.fault c.requires.order c.in-Err.ensures.fault;
+  shape = c.in-Err.ensures.shape;
+  place = c.in-Err.ensures.place;
+  later = le_refl _;
+  failed = err_link c.in-Err.fault c.why_of.result c.why_of.ensures;
+  counts = look_counts g.D.Disk.told (task_at c.args.process.now (frame_of c.args.frame)) _ _ _ _ _ c.in-Err.ensures.fares;
+  device = err_counts g.D.Disk.told (task_at c.args.process.now (frame_of c.args.frame)) c.args.process.now c.look_waiting.new.self _ _ c.args.moment c.in-Err.fault c.why_of.result c.why_of.ensures c.requires.ready.up c.in-Err.ensures.fault c.in-Err.ensures.fares;
+}

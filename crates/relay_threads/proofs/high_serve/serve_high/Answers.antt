@@ -1,6 +1,9 @@
-use Rattle.std.proofs.Common.{◌≡◌, ◌≤◌, [], ◌∷◌, length, Some, refl, sym, ap, ◌∙◌, subst, arith, rules}
+use Rattle.std.proofs.Common.{◌≤◌, [], ◌∷◌, length, Some, refl, sym, ap, ◌∙◌, subst, le_refl, le_trans}
+use Rattle.high_process.specs.States.{row_of}
 use Rattle.relay_threads.specs.HighServes.{IsData, device_in}
-use Rattle.relay_threads.proofs.HighServing.{within_of, data_at, so_far_none, so_far_more, serves_more, told_none, told_more, looks_more, moments_more, sends_more, sends_at, sent_all, asks_more, asks_ended, counts_more, counts_few, ended_by, no_stop, fault_since}
+use Rattle.relay_threads.proofs.HighServing.{within_of, data_at, so_far_none, so_far_more, serves_more, told_none, told_more, each_more, sends_at, sent_all, asks_more, asks_ended, counts_more, counts_few, ended_by, no_stop, fault_since, stopped_no_link, looks_no_link, looks_no_stop}
+use Rattle.relay_threads.proofs.Counting.{none_at_most, one_more, same_more, some_left, next_at_most, none_left}
+use Rattle.relay_threads.proofs.Reaching.{rose_later}
 use Rattle.relay_threads.proofs.high_serve.serve_high.Goals as goal
 
 pub loop-rounds-init : goal.loop-rounds-init
@@ -11,15 +14,15 @@ loop-rounds-init g c = record {
   begun = c.new-connection.ensures.open.begun;
   message = subst (λ n. IsData n c.new-connection.result.message) c.session.ensures c.new-connection.ensures.open.message;
   removed = refl;
-  few = omega arith;
+  few = none_at_most 0;
   ready = c.requires.ready;
   order = c.requires.order;
   shape = refl;
   place = refl;
-  most = omega arith;
-  link = omega arith;
-  counts = omega arith;
-  gate = omega arith;
+  most = none_at_most c.args.looks;
+  link = le_refl _;
+  counts = le_refl _;
+  gate = le_refl _;
 }
 
 pub round-turn-requires-clause-open : goal.round-turn-requires-clause-open
@@ -46,7 +49,7 @@ returns-then-not-pass g c =
       served = (
         was.rounds,
         f.serves,
-        (f.long, (omega (arith, f.long, c.loop-rounds-test.true), f.go_on)),
+        (f.long, (some_left c.loop-rounds.rounds (length was.rounds) c.args.looks f.long c.loop-rounds-test.true, f.go_on)),
         was.told.looks,
         sent_all _ _ _ _ was.told.bytes,
         was.told.moments,
@@ -57,10 +60,10 @@ returns-then-not-pass g c =
       order = was.order;
       shape = was.shape;
       place = was.place;
-      link = λ failed. absurd cc;
+      link = λ failed. absurd (stopped_no_link failed);
       counts = was.counts;
       device = tt;
-      stopped = λ stopped. omega (arith, was.gate, e.stopped c.if-not-pass.true);
+      stopped = λ stopped. rose_later _ _ _ was.gate (e.stopped c.if-not-pass.true);
     }
 
 pub returns-in-Some : goal.returns-in-Some
@@ -71,18 +74,23 @@ returns-in-Some g c =
     let t = e.round in
     let r = t.0 in
     let rs = was.rounds in
-    let sent = sends_at c.args.process.now c.loop-rounds.process _ _ r.is_sent r.made f.serves.row t.3 in
-    let asks = asks_more _ _ _ rs c.loop-rounds.rounds c.loop-rounds.removed was.told.asks f.long was.removed c.pass.ensures.asked in
-    let long : length (r ∷ rs) ≤ c.args.looks = omega (arith, f.long, c.loop-rounds-test.true) in
+    let C = g.C.Link in
+    let K = g.K.Clock in
+    let G = g.G.Gate in
+    let sent = sends_at c.args.process.now c.loop-rounds.process (C.sent c.loop-rounds.link) (C.sent c.round-turn.new.link) r.is_sent r.made f.serves.row t.3 in
+    let asks = asks_more (G.asked c.args.gate.now) (G.asked c.loop-rounds.gate) (G.asked c.pass.new.self) rs c.loop-rounds.rounds c.loop-rounds.removed was.told.asks f.long was.removed c.pass.ensures.asked in
+    let long : length (r ∷ rs) ≤ c.args.looks = next_at_most c.loop-rounds.rounds (length rs) c.args.looks f.long c.loop-rounds-test.true in
     let is = sym t.5 ∙ c.in-Some.is in
+    let more = each_more (C.gives c.args.link.now) (C.gives c.loop-rounds.link) (C.gives c.round-turn.new.link) (C.sent c.args.link.now) (C.sent c.loop-rounds.link) (C.sent c.round-turn.new.link)
+    (K.reads c.args.clock.now) (K.reads c.loop-rounds.clock) (K.reads c.round-turn.new.clock) (G.asked c.args.gate.now) (G.asked c.loop-rounds.gate) (row_of c.args.process.now).id rs was.told r t.2 sent t.4 in
     record {
       served = (
         r ∷ rs,
         serves_more c.args.process.now c.loop-rounds.process c.round-turn.new.process _ _ _ r rs _ was.ready.up f t.1,
-        (omega (arith, f.long), ended_by c.loop-rounds.connection.is_attached r rs c.args.looks c.in-Some.why f.is_attached long is),
-        looks_more _ _ _ _ _ _ _ _ _ _ _ _ rs was.told r t.2 sent t.4,
-        sends_more _ _ _ _ _ _ _ _ _ _ _ _ rs was.told r t.2 sent t.4,
-        moments_more _ _ _ _ _ _ _ _ _ _ _ _ rs was.told r t.2 sent t.4,
+        (same_more c.loop-rounds.rounds (length rs) f.long, ended_by c.loop-rounds.connection.is_attached r rs c.args.looks c.in-Some.why f.is_attached long is),
+        more.0,
+        more.1,
+        more.2,
         asks_ended _ _ c.loop-rounds.connection.is_attached r (r ∷ rs) c.in-Some.why is asks,
       );
       ready = e.ready;
@@ -90,8 +98,8 @@ returns-in-Some g c =
       order = e.order;
       shape = e.shape ∙ was.shape;
       place = e.place ∙ was.place;
-      link = λ failed. omega (arith, was.link, e.failed (c.in-Some.is ∙ ap Some failed));
-      counts = omega (arith, was.counts, e.counts);
+      link = λ failed. rose_later _ _ _ was.link (e.failed (c.in-Some.is ∙ ap Some failed));
+      counts = le_trans was.counts e.counts;
       device = fault_since c.round-turn.result.why c.in-Some.why _ _ _ c.in-Some.is was.counts e.device;
       stopped = λ stopped. absurd (no_stop c.loop-rounds.connection.is_attached r c.in-Some.why is stopped);
     }
@@ -100,7 +108,7 @@ pub returns : goal.returns
 returns g c =
     let was = c.loop-rounds.invariant in
     let f = was.so_far in
-    let all : length was.rounds ≡ c.args.looks = omega (arith, f.long, was.most, c.loop-rounds-test.false) in
+    let all = none_left c.loop-rounds.rounds (length was.rounds) c.args.looks f.long was.most c.loop-rounds-test.false in
     record {
       served = (
         was.rounds,
@@ -116,10 +124,10 @@ returns g c =
       order = was.order;
       shape = was.shape;
       place = was.place;
-      link = λ failed. absurd cc;
+      link = λ failed. absurd (looks_no_link failed);
       counts = was.counts;
       device = tt;
-      stopped = λ stopped. absurd cc;
+      stopped = λ stopped. absurd (looks_no_stop stopped);
     }
 
 pub loop-rounds-preserved : goal.loop-rounds-preserved
@@ -129,23 +137,28 @@ loop-rounds-preserved g c =
     let t = c.round-turn.ensures.round in
     let r = t.0 in
     let rs = was.rounds in
-    let sent = sends_at c.args.process.now c.loop-rounds.process _ _ r.is_sent r.made f.serves.row t.3 in
-    let asks = asks_more _ _ _ rs c.loop-rounds.rounds c.loop-rounds.removed was.told.asks f.long was.removed c.pass.ensures.asked in
+    let C = g.C.Link in
+    let K = g.K.Clock in
+    let G = g.G.Gate in
+    let sent = sends_at c.args.process.now c.loop-rounds.process (C.sent c.loop-rounds.link) (C.sent c.round-turn.new.link) r.is_sent r.made f.serves.row t.3 in
+    let asks = asks_more (G.asked c.args.gate.now) (G.asked c.loop-rounds.gate) (G.asked c.pass.new.self) rs c.loop-rounds.rounds c.loop-rounds.removed was.told.asks f.long was.removed c.pass.ensures.asked in
     let calm = sym t.5 ∙ c.in_default.is in
+    let told = told_more (C.gives c.args.link.now) (C.gives c.loop-rounds.link) (C.gives c.round-turn.new.link) (C.sent c.args.link.now) (C.sent c.loop-rounds.link) (C.sent c.round-turn.new.link)
+    (K.reads c.args.clock.now) (K.reads c.loop-rounds.clock) (K.reads c.round-turn.new.clock) (G.asked c.args.gate.now) (G.asked c.loop-rounds.gate) (row_of c.args.process.now).id rs was.told r t.2 sent t.4 (G.asked c.pass.new.self) (t.1.whole calm) asks in
     record {
       rounds = r ∷ rs;
-      so_far = so_far_more c.args.process.now c.loop-rounds.process c.round-turn.new.process _ _ _ _ _ _ r rs was.ready.up f t.1 calm t.7 refl;
-      told = told_more _ _ _ _ _ _ _ _ _ _ _ _ rs was.told r t.2 sent t.4 _ (t.1.whole calm) asks;
+      so_far = so_far_more c.args.process.now c.loop-rounds.process c.round-turn.new.process c.loop-rounds.connection.reader c.round-turn.new.self.reader c.loop-rounds.connection.is_attached c.round-turn.new.self.is_attached c.loop-rounds.rounds _ r rs was.ready.up f t.1 calm t.7 refl;
+      told = told;
       begun = c.round-turn.ensures.begun;
       message = data_at c.loop-rounds.process c.args.process.now c.round-turn.new.self.message f.serves.row c.round-turn.ensures.message;
       removed = counts_more r rs _ _ _ was.removed t.6 c.counted-removed.ensures;
       few = counts_few _ _ _ _ c.counted-removed.ensures was.few;
-      ready = c.round-turn.ensures.ready (search rules);
+      ready = c.round-turn.ensures.ready (c.round-turn.ensures.up (ap device_in c.in_default.is));
       order = c.round-turn.ensures.order;
       shape = c.round-turn.ensures.shape ∙ was.shape;
       place = c.round-turn.ensures.place ∙ was.place;
-      most = omega (arith, c.loop-rounds-test.true);
-      link = omega (arith, was.link, c.round-turn.ensures.later);
-      counts = omega (arith, was.counts, c.round-turn.ensures.counts);
-      gate = omega (arith, was.gate, c.pass.ensures.later);
+      most = one_more c.loop-rounds.rounds c.args.looks c.loop-rounds-test.true;
+      link = le_trans was.link c.round-turn.ensures.later;
+      counts = le_trans was.counts c.round-turn.ensures.counts;
+      gate = le_trans was.gate c.pass.ensures.later;
     }

@@ -21,22 +21,32 @@ loop-made-init g c = record {
   counts = omega arith;
 }
 
-pub returns-in-Some-clause-rounds : goal.returns-in-Some-clause-rounds
-returns-in-Some-clause-rounds g c =
-    let was = c.loop-made.invariant in
-    let t = was.told in
-    let s = c.stay-turn.ensures.stay in
-    let x = s.0 in
-    let past = was.stays in
-    let le : count past + count_at x ≤ c.args.rounds = omega (arith, was.made, s.2.bound, c.loop-made-test.true, c.from-most.ensures) in (
-      x ∷ past,
-      stays_more c.args.process.now c.loop-made.process c.stay-turn.new.process x past was.ready.up (was.over c.loop-made-test.true) was.so s.1,
-      worker_ends x past c.args.rounds (c.from-most.result - c.loop-made.made) c.stay-turn.result.looks c.in-Some.end le (subst (λ e. EndsStayBy x (c.from-most.result - c.loop-made.made) c.stay-turn.result.looks e) c.in-Some.is s.2.ends),
-      Grows-then _ _ _ _ _ t.door s.3,
-      Draws-then _ _ _ _ _ t.came s.4,
-      (tells_at _ _ _ c.args.process.now c.loop-made.process x was.so.row s.5, t.links),
-      Draws-then _ _ _ _ _ t.moments s.6,
-    )
+pub returns-in-Some : goal.returns-in-Some
+returns-in-Some g c = record {
+  rounds =
+      let was = c.loop-made.invariant in
+      let t = was.told in
+      let s = c.stay-turn.ensures.stay in
+      let x = s.0 in
+      let past = was.stays in
+      let le : count past + count_at x ≤ c.args.rounds = omega (arith, was.made, s.2.bound, c.loop-made-test.true, c.from-most.ensures) in (
+        x ∷ past,
+        stays_more c.args.process.now c.loop-made.process c.stay-turn.new.process x past was.ready.up (was.over c.loop-made-test.true) was.so s.1,
+        worker_ends x past c.args.rounds (c.from-most.result - c.loop-made.made) c.stay-turn.result.looks c.in-Some.end le (subst (λ e. EndsStayBy x (c.from-most.result - c.loop-made.made) c.stay-turn.result.looks e) c.in-Some.is s.2.ends),
+        Grows-then _ _ _ _ _ t.door s.3,
+        Draws-then _ _ _ _ _ t.came s.4,
+        (tells_at _ _ _ c.args.process.now c.loop-made.process x was.so.row s.5, t.links),
+        Draws-then _ _ _ _ _ t.moments s.6,
+      );
+  port = λ n h. c.stay-turn.ensures.port n (c.loop-made.invariant.port n h);
+  ready = c.stay-turn.ensures.ready;
+  up = λ calm. c.stay-turn.ensures.up (ap is_broken c.in-Some.is ∙ calm);
+  order = c.stay-turn.ensures.order;
+  shape = c.stay-turn.ensures.shape ∙ c.loop-made.invariant.shape;
+  place = c.stay-turn.ensures.place ∙ c.loop-made.invariant.place;
+  counts = omega (arith, c.loop-made.invariant.counts, c.stay-turn.ensures.counts);
+  device = end_since c.stay-turn.result.end c.in-Some.end _ _ _ c.in-Some.is c.loop-made.invariant.counts c.stay-turn.ensures.device;
+}
 
 pub loop-made-preserved : goal.loop-made-preserved
 loop-made-preserved g c =
@@ -67,56 +77,18 @@ loop-made-preserved g c =
       counts = omega (arith, was.counts, c.stay-turn.ensures.counts);
     }
 
-pub returns-in-Some-clause-port : goal.returns-in-Some-clause-port
-returns-in-Some-clause-port g c = λ n h. c.stay-turn.ensures.port n (c.loop-made.invariant.port n h)
-
-pub returns-in-Some-clause-ready : goal.returns-in-Some-clause-ready
-returns-in-Some-clause-ready g c = c.stay-turn.ensures.ready
-
-pub returns-in-Some-clause-up : goal.returns-in-Some-clause-up
-returns-in-Some-clause-up g c = λ calm. c.stay-turn.ensures.up (ap is_broken c.in-Some.is ∙ calm)
-
-pub returns-in-Some-clause-order : goal.returns-in-Some-clause-order
-returns-in-Some-clause-order g c = c.stay-turn.ensures.order
-
-pub returns-in-Some-clause-shape : goal.returns-in-Some-clause-shape
-returns-in-Some-clause-shape g c = c.stay-turn.ensures.shape ∙ c.loop-made.invariant.shape
-
-pub returns-in-Some-clause-place : goal.returns-in-Some-clause-place
-returns-in-Some-clause-place g c = c.stay-turn.ensures.place ∙ c.loop-made.invariant.place
-
-pub returns-in-Some-clause-counts : goal.returns-in-Some-clause-counts
-returns-in-Some-clause-counts g c = omega (arith, c.loop-made.invariant.counts, c.stay-turn.ensures.counts)
-
-pub returns-in-Some-clause-device : goal.returns-in-Some-clause-device
-returns-in-Some-clause-device g c = end_since c.stay-turn.result.end c.in-Some.end _ _ _ c.in-Some.is c.loop-made.invariant.counts c.stay-turn.ensures.device
-
-pub returns-clause-rounds : goal.returns-clause-rounds
-returns-clause-rounds g c =
-    let was = c.loop-made.invariant in
-    let t = was.told in
-    (was.stays, was.so, (omega (arith, was.made, was.most, c.loop-made-test.false, c.from-most.ensures), was.calm), t.door, t.came, t.links, t.moments)
-
-pub returns-clause-port : goal.returns-clause-port
-returns-clause-port g c = c.loop-made.invariant.port
-
-pub returns-clause-ready : goal.returns-clause-ready
-returns-clause-ready g c = λ _. c.loop-made.invariant.ready
-
-pub returns-clause-up : goal.returns-clause-up
-returns-clause-up g c = λ _. c.loop-made.invariant.ready.up
-
-pub returns-clause-order : goal.returns-clause-order
-returns-clause-order g c = c.loop-made.invariant.order
-
-pub returns-clause-shape : goal.returns-clause-shape
-returns-clause-shape g c = c.loop-made.invariant.shape
-
-pub returns-clause-place : goal.returns-clause-place
-returns-clause-place g c = c.loop-made.invariant.place
-
-pub returns-clause-counts : goal.returns-clause-counts
-returns-clause-counts g c = c.loop-made.invariant.counts
-
-pub returns-clause-device : goal.returns-clause-device
-returns-clause-device g c = tt
+pub returns : goal.returns
+returns g c = record {
+  rounds =
+      let was = c.loop-made.invariant in
+      let t = was.told in
+      (was.stays, was.so, (omega (arith, was.made, was.most, c.loop-made-test.false, c.from-most.ensures), was.calm), t.door, t.came, t.links, t.moments);
+  port = c.loop-made.invariant.port;
+  ready = λ _. c.loop-made.invariant.ready;
+  up = λ _. c.loop-made.invariant.ready.up;
+  order = c.loop-made.invariant.order;
+  shape = c.loop-made.invariant.shape;
+  place = c.loop-made.invariant.place;
+  counts = c.loop-made.invariant.counts;
+  device = tt;
+}

@@ -1,4 +1,4 @@
-use Rattle.std.proofs.Common.{List, [], ◌≤◌, ◌^◌, refl, sym, ap, ◌∙◌, subst, le_refl, le_trans}
+use Rattle.std.proofs.Common.{rules, List, [], ◌≤◌, ◌^◌, refl, sym, ap, ◌∙◌, subst, le_refl, le_trans}
 use Rattle.std.specs.Prelude.{option_map}
 use Rattle.std.specs.Io.KnownBytes.{Appends}
 use Rattle.pump_link.proofs.Grown.{Draws-kept, Grows-then}
@@ -25,101 +25,112 @@ use Rattle.relay_threads.proofs.Reaching.{rose_later, reaches_all, reaches_behin
 use Rattle.relay_threads.proofs.LowTurning.{counts_by, rose_by, fault_by, down_is, round_failed, failed_turn, made_turn, round, failed_cause, made_cause, link_by}
 use Rattle.relay_threads.proofs.low_round.low_round.Goals as goal
 
-pub returns-then-is_failed-clause-turn : goal.returns-then-is_failed-clause-turn
-returns-then-is_failed-clause-turn g c =
-    let p = c.args.process.now in
-    let h = c.hear_if-heard.ensures.heard in
-    let heard = c.hear_if-heard.result in
-    let m = c.moment-moment.result in
-    let w = c.word-word.result in
-    let wanted = h.1 ∙ c.wants.ensures in
-    let failed = sym c.if-is_failed.ensures in (
-      round_failed p _ h.0 heard m w h.3 wanted h.2 0,
-      failed_turn p _ h.0 heard m w h.3 wanted h.2 0 failed,
-      h.4,
-      h.5,
-      reaches_all _ _ _ [] c.hear_if-heard.ensures.later c.hear_if-heard.ensures.sent,
-      c.moment-moment.ensures.reads,
-      c.word-word.ensures.gives,
-      (λ before e. reaches_all _ _ _ [] (le_refl _) (Appends-none _)),
-      failed_cause h.0 heard h.3 failed,
-      refl,
-      refl,
-      (λ end. tt),
-      reads_none g.L.LowSide.stands c.args.ends.now p,
-    )
+pub returns-then-is_failed : goal.returns-then-is_failed
+returns-then-is_failed g c = record {
+  turn =
+      let p = c.args.process.now in
+      let h = c.hear_if-heard.ensures.heard in
+      let heard = c.hear_if-heard.result in
+      let m = c.moment-moment.result in
+      let w = c.word-word.result in
+      let wanted = h.1 ∙ c.wants.ensures in
+      let failed = sym c.if-is_failed.ensures in (
+        round_failed p _ h.0 heard m w h.3 wanted h.2 0,
+        failed_turn p _ h.0 heard m w h.3 wanted h.2 0 failed,
+        h.4,
+        h.5,
+        reaches_all _ _ _ [] c.hear_if-heard.ensures.later c.hear_if-heard.ensures.sent,
+        c.moment-moment.ensures.reads,
+        c.word-word.ensures.gives,
+        (λ before e. reaches_all _ _ _ [] (le_refl _) (Appends-none _)),
+        failed_cause h.0 heard h.3 failed,
+        refl,
+        refl,
+        (λ end. tt),
+        reads_none g.L.LowSide.stands c.args.ends.now p,
+      );
+  begun = c.hear_if-heard.ensures.begun;
+  ready = c.requires.ready;
+  up = λ _ _. c.requires.up;
+  order = le_trans c.requires.order (le_trans c.moment-moment.ensures.from c.moment-moment.ensures.to);
+  shape = refl;
+  place = refl;
+  link = search rules;
+  counts = le_refl _;
+  device = search rules;
+}
 
-pub returns-clause-turn : goal.returns-clause-turn
-returns-clause-turn g c =
-    let p = c.args.process.now in
-    let q = c.look_waiting_into.new.self in
-    let h = c.hear_if-heard.ensures.heard in
-    let heard = c.hear_if-heard.result in
-    let m = c.moment-moment.result in
-    let w = c.word-word.result in
-    let head = c.look_waiting_into.new.head in
-    let l = look_with (row_of p) head in
-    let looks = c.look_waiting_into.ensures.looks in
-    let a = arrival_of c.arrival_in-arrival.result in
-    let n = c.faults.result in
-    let sent = c.answer-is_sent.result in
-    let kept = c.record_look-is_kept.result in
-    let wanted = h.1 ∙ c.wants.ensures in
-    let C = g.C.Link in
-    let O = g.O.Sink in
-    let s0 = C.sent c.args.link.now in
-    let s1 = C.sent c.hear_if-heard.new.link in
-    let s2 = C.sent c.answer-is_sent.new.link in
-    let shown : LookMade = record { moment = m; word = w; arrival = c.arrival_in-arrival.result; look = head } in
-    let row_is = c.row-2.ensures ∙ c.look_waiting_into.ensures.row in
-    let reads = subst (λ (z : SessionRow). IsLawfulRow z → m ≤ 2 ^ 62 → IsInBounds head.feedback → (before : List Made) → ReadsBack z before (made_by z shown)) row_is c.record_look-is_kept.ensures.reads in
-    let fine = sym c.if-is_failed.ensures in
-    let down = c.is_down.ensures ∙ down_is (is_down q) (is_down p) looks.0 c.requires.up looks.1.falls in (
-      round p _ h.0 heard m w h.3 wanted h.2 q looks.0 l a sent kept n,
-      made_turn p _ h.0 heard m w h.3 wanted h.2 q looks.0 l a sent kept n c.look_waiting_into.ensures.row (le_trans c.requires.order c.moment-moment.ensures.from) fine c.arrival_in-arrival.ensures.is looks.1.looks
-          (λ lawful before is. let r = reads lawful c.moment-moment.ensures.bound c.look_waiting_into.ensures.bounds before is in record { line = r.line; reply = r.reply }),
-      h.4,
-      Draws-kept _ _ _ _ h.5 c.answer-is_sent.ensures.gives,
-      subst (λ (z : SessionRow). Reaches (Grows s0 s2) (C.faults c.args.link.now) (C.faults c.answer-is_sent.new.link) sent (bytes_of (option_map (frame_of z.id) head.reply)))
-          (c.row.ensures ∙ c.look_waiting_into.ensures.row)
-          (reaches_behind (Grows s0 s2) (Grows s1 s2) (C.faults c.args.link.now) (C.faults c.hear_if-heard.new.link) (C.faults c.answer-is_sent.new.link) sent [] (bytes_of (option_map (frame_of c.row.result.now.id) head.reply))
-          c.hear_if-heard.ensures.later (λ rest g. Grows-then s0 s1 s2 [] rest c.hear_if-heard.ensures.sent g) c.answer-is_sent.ensures.sent),
-      c.moment-moment.ensures.reads,
-      c.word-word.ensures.gives,
-      (λ before e.
-          subst (λ (z : SessionRow). Reaches (Appends (O.written c.args.tape.now) (O.written c.record_look-is_kept.new.tape)) (O.faults c.args.tape.now) (O.faults c.record_look-is_kept.new.tape) kept (text_after z before (made_by z shown)))
-          row_is (c.record_look-is_kept.ensures.text before e)),
-      c.why_left.ensures ∙ made_cause h.0 heard kept c.is_down.result looks.0 sent n h.3 down,
-      c.is_full.ensures,
-      c.is_ack.ensures (row_of p).id,
-      (λ end.
-          let was = c.requires.ready in
-          step_tells g.L.LowSide.stands g.L.LowSide.shape c.look_waiting_into.new.ends (row_of p) end.0 (ap (λ (s : Shape). s.averaging) c.look_waiting_into.ensures.shape ∙ end.1)
-          (g.L.LowSide.shape c.args.ends.now) g.L.LowSide.on_one_thread q was.l was.h (hand_of p) head.feedback (c.look_waiting_into.ensures.ends was.l was.h was.fitting)),
-      (λ l h fits. step_reads (g.L.LowSide.shape c.args.ends.now) g.L.LowSide.on_one_thread (StandsFitting (g.L.LowSide.stands c.look_waiting_into.new.ends) q) l h (hand_of p) head.feedback (c.look_waiting_into.ensures.ends l h fits)),
-    )
-
-pub returns-clause-ready : goal.returns-clause-ready
-returns-clause-ready g c =
-    let was = c.requires.ready in
-    let e = c.look_waiting_into.ensures in
-    let some = stands_for_some _ _ (StandsFitting (g.L.LowSide.stands c.look_waiting_into.new.ends) c.look_waiting_into.new.self) was.l was.h (hand_of c.args.process.now) c.look_waiting_into.new.head.feedback (e.ends was.l was.h was.fitting) in
-    record { between = e.looks.1.looks.asking; of = e.store; l = some.0; h = some.1.0; fitting = some.1.1 }
-
-pub returns-clause-counts : goal.returns-clause-counts
-returns-clause-counts g c =
-    let looks = c.look_waiting_into.ensures.looks in
-    counts_by g.D.Disk.told (message_in c.args.process.now (arrival_of c.arrival_in-arrival.result)) c.args.store.now c.look_waiting_into.new.store looks.0 looks.1.keeps
-
-pub returns-clause-device : goal.returns-clause-device
-returns-clause-device g c =
-    let looks = c.look_waiting_into.ensures.looks in
-    let p = c.args.process.now in
-    let q = c.look_waiting_into.new.self in
-    let down = c.is_down.ensures ∙ down_is (is_down q) (is_down p) looks.0 c.requires.up looks.1.falls in
-    fault_by c.record_look-is_kept.result c.is_down.result c.answer-is_sent.result c.faults.result _ _ c.hear_if-heard.result c.why_left.result c.why_left.ensures c.faults.ensures
-    (λ e. rose_by g.D.Disk.told (message_in c.args.process.now (arrival_of c.arrival_in-arrival.result)) c.args.store.now c.look_waiting_into.new.store looks.0 (sym down ∙ e) looks.1.keeps)
-
-pub returns-clause-link : goal.returns-clause-link
-returns-clause-link g c = λ e.
-    rose_later _ _ _ c.hear_if-heard.ensures.later (c.answer-is_sent.ensures.sent.cause (link_by c.record_look-is_kept.result c.is_down.result c.answer-is_sent.result c.faults.result c.hear_if-heard.result (sym c.if-is_failed.ensures) (sym c.why_left.ensures ∙ e)))
+pub returns : goal.returns
+returns g c = record {
+  turn =
+      let p = c.args.process.now in
+      let q = c.look_waiting_into.new.self in
+      let h = c.hear_if-heard.ensures.heard in
+      let heard = c.hear_if-heard.result in
+      let m = c.moment-moment.result in
+      let w = c.word-word.result in
+      let head = c.look_waiting_into.new.head in
+      let l = look_with (row_of p) head in
+      let looks = c.look_waiting_into.ensures.looks in
+      let a = arrival_of c.arrival_in-arrival.result in
+      let n = c.faults.result in
+      let sent = c.answer-is_sent.result in
+      let kept = c.record_look-is_kept.result in
+      let wanted = h.1 ∙ c.wants.ensures in
+      let C = g.C.Link in
+      let O = g.O.Sink in
+      let s0 = C.sent c.args.link.now in
+      let s1 = C.sent c.hear_if-heard.new.link in
+      let s2 = C.sent c.answer-is_sent.new.link in
+      let shown : LookMade = record { moment = m; word = w; arrival = c.arrival_in-arrival.result; look = head } in
+      let row_is = c.row-2.ensures ∙ c.look_waiting_into.ensures.row in
+      let reads = subst (λ (z : SessionRow). IsLawfulRow z → m ≤ 2 ^ 62 → IsInBounds head.feedback → (before : List Made) → ReadsBack z before (made_by z shown)) row_is c.record_look-is_kept.ensures.reads in
+      let fine = sym c.if-is_failed.ensures in
+      let down = c.is_down.ensures ∙ down_is (is_down q) (is_down p) looks.0 c.requires.up looks.1.falls in (
+        round p _ h.0 heard m w h.3 wanted h.2 q looks.0 l a sent kept n,
+        made_turn p _ h.0 heard m w h.3 wanted h.2 q looks.0 l a sent kept n c.look_waiting_into.ensures.row (le_trans c.requires.order c.moment-moment.ensures.from) fine c.arrival_in-arrival.ensures.is looks.1.looks
+            (λ lawful before is. let r = reads lawful c.moment-moment.ensures.bound c.look_waiting_into.ensures.bounds before is in record { line = r.line; reply = r.reply }),
+        h.4,
+        Draws-kept _ _ _ _ h.5 c.answer-is_sent.ensures.gives,
+        subst (λ (z : SessionRow). Reaches (Grows s0 s2) (C.faults c.args.link.now) (C.faults c.answer-is_sent.new.link) sent (bytes_of (option_map (frame_of z.id) head.reply)))
+            (c.row.ensures ∙ c.look_waiting_into.ensures.row)
+            (reaches_behind (Grows s0 s2) (Grows s1 s2) (C.faults c.args.link.now) (C.faults c.hear_if-heard.new.link) (C.faults c.answer-is_sent.new.link) sent [] (bytes_of (option_map (frame_of c.row.result.now.id) head.reply))
+            c.hear_if-heard.ensures.later (λ rest g. Grows-then s0 s1 s2 [] rest c.hear_if-heard.ensures.sent g) c.answer-is_sent.ensures.sent),
+        c.moment-moment.ensures.reads,
+        c.word-word.ensures.gives,
+        (λ before e.
+            subst (λ (z : SessionRow). Reaches (Appends (O.written c.args.tape.now) (O.written c.record_look-is_kept.new.tape)) (O.faults c.args.tape.now) (O.faults c.record_look-is_kept.new.tape) kept (text_after z before (made_by z shown)))
+            row_is (c.record_look-is_kept.ensures.text before e)),
+        c.why_left.ensures ∙ made_cause h.0 heard kept c.is_down.result looks.0 sent n h.3 down,
+        c.is_full.ensures,
+        c.is_ack.ensures (row_of p).id,
+        (λ end.
+            let was = c.requires.ready in
+            step_tells g.L.LowSide.stands g.L.LowSide.shape c.look_waiting_into.new.ends (row_of p) end.0 (ap (λ (s : Shape). s.averaging) c.look_waiting_into.ensures.shape ∙ end.1)
+            (g.L.LowSide.shape c.args.ends.now) g.L.LowSide.on_one_thread q was.l was.h (hand_of p) head.feedback (c.look_waiting_into.ensures.ends was.l was.h was.fitting)),
+        (λ l h fits. step_reads (g.L.LowSide.shape c.args.ends.now) g.L.LowSide.on_one_thread (StandsFitting (g.L.LowSide.stands c.look_waiting_into.new.ends) q) l h (hand_of p) head.feedback (c.look_waiting_into.ensures.ends l h fits)),
+      );
+  begun = c.hear_if-heard.ensures.begun;
+  ready =
+      let was = c.requires.ready in
+      let e = c.look_waiting_into.ensures in
+      let some = stands_for_some _ _ (StandsFitting (g.L.LowSide.stands c.look_waiting_into.new.ends) c.look_waiting_into.new.self) was.l was.h (hand_of c.args.process.now) c.look_waiting_into.new.head.feedback (e.ends was.l was.h was.fitting) in
+      record { between = e.looks.1.looks.asking; of = e.store; l = some.0; h = some.1.0; fitting = some.1.1 };
+  up = search rules;
+  order = search rules;
+  shape = c.look_waiting_into.ensures.shape;
+  place = c.look_waiting_into.ensures.place;
+  link =
+      λ e.
+      rose_later _ _ _ c.hear_if-heard.ensures.later (c.answer-is_sent.ensures.sent.cause (link_by c.record_look-is_kept.result c.is_down.result c.answer-is_sent.result c.faults.result c.hear_if-heard.result (sym c.if-is_failed.ensures) (sym c.why_left.ensures ∙ e)));
+  counts =
+      let looks = c.look_waiting_into.ensures.looks in
+      counts_by g.D.Disk.told (message_in c.args.process.now (arrival_of c.arrival_in-arrival.result)) c.args.store.now c.look_waiting_into.new.store looks.0 looks.1.keeps;
+  device =
+      let looks = c.look_waiting_into.ensures.looks in
+      let p = c.args.process.now in
+      let q = c.look_waiting_into.new.self in
+      let down = c.is_down.ensures ∙ down_is (is_down q) (is_down p) looks.0 c.requires.up looks.1.falls in
+      fault_by c.record_look-is_kept.result c.is_down.result c.answer-is_sent.result c.faults.result _ _ c.hear_if-heard.result c.why_left.result c.why_left.ensures c.faults.ensures
+      (λ e. rose_by g.D.Disk.told (message_in c.args.process.now (arrival_of c.arrival_in-arrival.result)) c.args.store.now c.look_waiting_into.new.store looks.0 (sym down ∙ e) looks.1.keeps);
+}

@@ -1,10 +1,14 @@
-use Rattle.std.proofs.Common.{◌≤◌, [], ◌∷◌, Some, length, refl, sym, ap, ◌∙◌, subst, arith}
-use Rattle.relay_threads.specs.LowRounds.{made_in}
-use Rattle.relay_threads.specs.LowServes.{is_device_in}
+use Rattle.std.proofs.Common.{◌≤◌, [], ◌∷◌, Some, length, refl, sym, ap, ◌∙◌, subst, le_refl, le_trans, arith}
+use Rattle.std.specs.Io.KnownBytes.{Appends}
+use Rattle.relay_threads.specs.LowRounds.{made_in, reply_bytes}
+use Rattle.relay_threads.specs.LowServes.{is_device_in, all_sent, all_kept}
+use Rattle.relay_threads.specs.Records.{record_of}
+use Rattle.relay_threads.specs.RecordLines.{looks_text}
+use Rattle.relay_threads.proofs.Counting.{none_at_most, one_more, same_more, some_left, next_at_most, none_left}
 use Rattle.relay_threads.proofs.Levels.{levels_then}
 use Rattle.relay_threads.proofs.PairsRead.{reads_none, reads_more}
 use Rattle.relay_threads.proofs.Reaching.{reaches_whole, rose_later}
-use Rattle.relay_threads.proofs.LowServing.{acks_few, calm_round, sent_on, kept_on, within_of, serves_more, so_far_none, so_far_more, told_none, sends_more, keeps_more, ended_by, broken_round, asked_by, asks_more, up_after, fault_since, no_stop}
+use Rattle.relay_threads.proofs.LowServing.{acks_few, calm_round, sent_on, kept_on, within_of, serves_more, so_far_none, so_far_more, told_none, sends_more, keeps_more, ended_by, broken_round, asked_by, asks_more, up_after, fault_since, no_stop, not_lost, stopped_no_link, stopped_no_record, looks_no_link, looks_no_record, looks_no_stop}
 use Rattle.low_process.specs.Looks.{row_of}
 use Rattle.pump_link.specs.Tells.{Grows}
 use Rattle.pump_link.proofs.Grown.{Draws-then}
@@ -23,11 +27,11 @@ loop-rounds-init g c = record {
   order = c.requires.order;
   shape = refl;
   place = refl;
-  most = omega arith;
-  link = omega arith;
-  counts = omega arith;
-  tape = omega arith;
-  gate = omega arith;
+  most = none_at_most c.args.looks;
+  link = le_refl _;
+  counts = le_refl _;
+  tape = le_refl _;
+  gate = le_refl _;
 }
 
 pub low_round-turn-requires-clause-within : goal.low_round-turn-requires-clause-within
@@ -48,6 +52,9 @@ loop-rounds-preserved g c =
     let rs = was.rounds in
     let calm = sym t.8 ∙ c.in_default.is in
     let C = g.C.Link in
+    let K = g.K.Clock in
+    let W = g.W.Words in
+    let G = g.G.Gate in
     let O = g.O.Sink in
     let sends = sends_more r rs (C.sent c.args.link.now) (C.sent c.loop-rounds.link) (C.sent c.low_round-turn.new.link) (C.faults c.args.link.now) (C.faults c.loop-rounds.link) (C.faults c.low_round-turn.new.link) was.link told.bytes t.4 in
     let keeps = keeps_more r rs (O.written c.args.tape.now) (O.written c.loop-rounds.tape) (O.written c.low_round-turn.new.tape) (O.faults c.args.tape.now) (O.faults c.loop-rounds.tape) (O.faults c.low_round-turn.new.tape)
@@ -57,26 +64,26 @@ loop-rounds-preserved g c =
       so_far = so_far_more c.args.process.now c.loop-rounds.process c.low_round-turn.new.process c.loop-rounds.reader c.low_round-turn.new.reader c.loop-rounds.was_full c.low_round-turn.result.is_full c.low_round-turn.result.is_acked
           c.loop-rounds.acks c.counted-acks.result c.loop-rounds.rounds _ r rs f t.1 t.2 calm t.9 t.10 c.counted-acks.ensures refl;
       told = record {
-        looks = Draws-then _ _ _ _ _ told.looks t.3;
+        looks = Draws-then (C.gives c.args.link.now) (C.gives c.loop-rounds.link) (C.gives c.low_round-turn.new.link) _ _ told.looks t.3;
         bytes = sends.whole (calm_round r calm).1.0;
-        moments = Draws-then _ _ _ _ _ told.moments t.5;
-        words = Draws-then _ _ _ _ _ told.words t.6;
+        moments = Draws-then (K.reads c.args.clock.now) (K.reads c.loop-rounds.clock) (K.reads c.low_round-turn.new.clock) _ _ told.moments t.5;
+        words = Draws-then (W.gives c.args.words.now) (W.gives c.loop-rounds.words) (W.gives c.low_round-turn.new.words) _ _ told.words t.6;
         lines = keeps.whole (calm_round r calm).0;
-        asks = asks_more _ _ _ rs _ _ f.long f.acked told.asks c.pass.ensures.asked;
+        asks = asks_more (G.asked c.args.gate.now) (G.asked c.loop-rounds.gate) (G.asked c.pass.new.self) rs c.loop-rounds.rounds c.loop-rounds.acks f.long f.acked told.asks c.pass.ensures.asked;
       };
       levels = levels_then g.L.LowSide.stands g.L.LowSide.shape c.args.ends.now c.loop-rounds.ends (row_of c.args.process.now) (row_of c.loop-rounds.process) r.made (made_in rs) was.shape f.serves.row was.levels t.11;
       pairs = reads_more g.L.LowSide.stands c.args.ends.now c.loop-rounds.ends c.low_round-turn.new.ends c.args.process.now c.loop-rounds.process c.low_round-turn.new.process r.made (made_in rs) was.pairs t.12;
       begun = c.low_round-turn.ensures.begun;
       ready = c.low_round-turn.ensures.ready;
-      up = c.low_round-turn.ensures.up (ap is_device_in c.in_default.is) (λ e. let x = c.in_default.is in cc);
+      up = c.low_round-turn.ensures.up (ap is_device_in c.in_default.is) (not_lost c.low_round-turn.result.why c.in_default.is);
       order = c.low_round-turn.ensures.order;
       shape = c.low_round-turn.ensures.shape ∙ was.shape;
       place = c.low_round-turn.ensures.place ∙ was.place;
-      most = omega (arith, c.loop-rounds-test.true);
+      most = one_more c.loop-rounds.rounds c.args.looks c.loop-rounds-test.true;
       link = sends.later;
-      counts = omega (arith, was.counts, c.low_round-turn.ensures.counts);
+      counts = le_trans was.counts c.low_round-turn.ensures.counts;
       tape = keeps.later;
-      gate = omega (arith, was.gate, c.pass.ensures.later);
+      gate = le_trans was.gate c.pass.ensures.later;
     }
 
 pub returns-then-not-pass : goal.returns-then-not-pass
@@ -84,17 +91,20 @@ returns-then-not-pass g c =
     let was = c.loop-rounds.invariant in
     let f = was.so_far in
     let t = was.told in
+    let C = g.C.Link in
+    let G = g.G.Gate in
+    let O = g.O.Sink in
     record {
       served = (
         was.rounds,
         f.serves,
-        (f.long, (omega (arith, f.long, c.loop-rounds-test.true), f.go_on)),
+        (f.long, (some_left c.loop-rounds.rounds (length was.rounds) c.args.looks f.long c.loop-rounds-test.true, f.go_on)),
         t.looks,
-        reaches_whole _ _ _ _ _ (sent_on was.rounds f.go_on) was.link t.bytes,
+        reaches_whole (Grows (C.sent c.args.link.now) (C.sent c.loop-rounds.link)) (C.faults c.args.link.now) (C.faults c.loop-rounds.link) (all_sent was.rounds) (reply_bytes (made_in was.rounds)) (sent_on was.rounds f.go_on) was.link t.bytes,
         t.moments,
         t.words,
-        reaches_whole _ _ _ _ _ (kept_on was.rounds f.go_on) was.tape t.lines,
-        asks_more _ _ _ was.rounds _ _ f.long f.acked t.asks c.pass.ensures.asked,
+        reaches_whole (Appends (O.written c.args.tape.now) (O.written c.loop-rounds.tape)) (O.faults c.args.tape.now) (O.faults c.loop-rounds.tape) (all_kept was.rounds) (looks_text (row_of c.args.process.now) (record_of (made_in was.rounds))) (kept_on was.rounds f.go_on) was.tape t.lines,
+        asks_more (G.asked c.args.gate.now) (G.asked c.loop-rounds.gate) (G.asked c.pass.new.self) was.rounds c.loop-rounds.rounds c.loop-rounds.acks f.long f.acked t.asks c.pass.ensures.asked,
         was.levels,
         was.pairs,
       );
@@ -103,8 +113,8 @@ returns-then-not-pass g c =
       order = was.order;
       shape = was.shape;
       place = was.place;
-      link = λ e. absurd (cc);
-      tape = λ e. absurd (cc);
+      link = λ e. absurd (stopped_no_link e);
+      tape = λ e. absurd (stopped_no_record e);
       counts = was.counts;
       device = tt;
       stopped = λ _. rose_later _ _ _ was.gate (c.pass.ensures.stopped c.if-not-pass.true);
@@ -119,7 +129,11 @@ returns-in-Some g c =
     let r = t.0 in
     let rs = was.rounds in
     let why = sym t.8 ∙ c.in-Some.is in
-    let long : length (r ∷ rs) ≤ c.args.looks = omega (arith, f.long, c.loop-rounds-test.true) in
+    let long : length (r ∷ rs) ≤ c.args.looks = next_at_most c.loop-rounds.rounds (length rs) c.args.looks f.long c.loop-rounds-test.true in
+    let C = g.C.Link in
+    let K = g.K.Clock in
+    let W = g.W.Words in
+    let G = g.G.Gate in
     let O = g.O.Sink in
     let keeps = keeps_more r rs (O.written c.args.tape.now) (O.written c.loop-rounds.tape) (O.written c.low_round-turn.new.tape) (O.faults c.args.tape.now) (O.faults c.loop-rounds.tape) (O.faults c.low_round-turn.new.tape)
     (row_of c.args.process.now) (row_of c.loop-rounds.process) c.loop-rounds.was_full was.tape f.serves.row f.full told.lines t.7 in
@@ -128,13 +142,13 @@ returns-in-Some g c =
       served = (
         r ∷ rs,
         serves_more c.args.process.now c.loop-rounds.process c.low_round-turn.new.process _ r rs f.serves f.go_on f.is_held t.1,
-        (omega (arith, f.long), ended_by r rs c.args.looks c.in-Some.why long why),
-        Draws-then _ _ _ _ _ told.looks t.3,
-        sends_more r rs _ _ _ _ _ _ was.link told.bytes t.4,
-        Draws-then _ _ _ _ _ told.moments t.5,
-        Draws-then _ _ _ _ _ told.words t.6,
-        keeps_more r rs _ _ _ _ _ _ _ _ _ was.tape f.serves.row f.full told.lines t.7,
-        subst (Grows (g.G.Gate.asked c.args.gate.now) (g.G.Gate.asked c.pass.new.self)) (sym (asked_by r rs c.in-Some.why why)) (asks_more _ _ _ rs _ _ f.long f.acked told.asks c.pass.ensures.asked),
+        (same_more c.loop-rounds.rounds (length rs) f.long, ended_by r rs c.args.looks c.in-Some.why long why),
+        Draws-then (C.gives c.args.link.now) (C.gives c.loop-rounds.link) (C.gives c.low_round-turn.new.link) _ _ told.looks t.3,
+        sends_more r rs (C.sent c.args.link.now) (C.sent c.loop-rounds.link) (C.sent c.low_round-turn.new.link) (C.faults c.args.link.now) (C.faults c.loop-rounds.link) (C.faults c.low_round-turn.new.link) was.link told.bytes t.4,
+        Draws-then (K.reads c.args.clock.now) (K.reads c.loop-rounds.clock) (K.reads c.low_round-turn.new.clock) _ _ told.moments t.5,
+        Draws-then (W.gives c.args.words.now) (W.gives c.loop-rounds.words) (W.gives c.low_round-turn.new.words) _ _ told.words t.6,
+        keeps,
+        subst (Grows (G.asked c.args.gate.now) (G.asked c.pass.new.self)) (sym (asked_by r rs c.in-Some.why why)) (asks_more (G.asked c.args.gate.now) (G.asked c.loop-rounds.gate) (G.asked c.pass.new.self) rs c.loop-rounds.rounds c.loop-rounds.acks f.long f.acked told.asks c.pass.ensures.asked),
         levels_then g.L.LowSide.stands g.L.LowSide.shape c.args.ends.now c.loop-rounds.ends (row_of c.args.process.now) (row_of c.loop-rounds.process) r.made (made_in rs) was.shape f.serves.row was.levels t.11,
         reads_more g.L.LowSide.stands c.args.ends.now c.loop-rounds.ends c.low_round-turn.new.ends c.args.process.now c.loop-rounds.process c.low_round-turn.new.process r.made (made_in rs) was.pairs t.12,
       );
@@ -145,7 +159,7 @@ returns-in-Some g c =
       place = e.place ∙ was.place;
       link = λ is. rose_later _ _ _ was.link (e.link (c.in-Some.is ∙ ap (λ w. Some w) is));
       tape = λ is. keeps.cause (broken_round r (sym t.8 ∙ c.in-Some.is ∙ ap (λ w. Some w) is));
-      counts = omega (arith, was.counts, e.counts);
+      counts = le_trans was.counts e.counts;
       device = fault_since c.low_round-turn.result.why c.in-Some.why _ _ _ c.in-Some.is was.counts e.device;
       stopped = λ is. absurd (no_stop r c.in-Some.why why is);
     }
@@ -155,16 +169,18 @@ returns g c =
     let was = c.loop-rounds.invariant in
     let f = was.so_far in
     let t = was.told in
+    let C = g.C.Link in
+    let O = g.O.Sink in
     record {
       served = (
         was.rounds,
         f.serves,
-        (f.long, (omega (arith, f.long, was.most, c.loop-rounds-test.false), f.go_on)),
+        (f.long, (none_left c.loop-rounds.rounds (length was.rounds) c.args.looks f.long was.most c.loop-rounds-test.false, f.go_on)),
         t.looks,
-        reaches_whole _ _ _ _ _ (sent_on was.rounds f.go_on) was.link t.bytes,
+        reaches_whole (Grows (C.sent c.args.link.now) (C.sent c.loop-rounds.link)) (C.faults c.args.link.now) (C.faults c.loop-rounds.link) (all_sent was.rounds) (reply_bytes (made_in was.rounds)) (sent_on was.rounds f.go_on) was.link t.bytes,
         t.moments,
         t.words,
-        reaches_whole _ _ _ _ _ (kept_on was.rounds f.go_on) was.tape t.lines,
+        reaches_whole (Appends (O.written c.args.tape.now) (O.written c.loop-rounds.tape)) (O.faults c.args.tape.now) (O.faults c.loop-rounds.tape) (all_kept was.rounds) (looks_text (row_of c.args.process.now) (record_of (made_in was.rounds))) (kept_on was.rounds f.go_on) was.tape t.lines,
         t.asks,
         was.levels,
         was.pairs,
@@ -174,9 +190,9 @@ returns g c =
       order = was.order;
       shape = was.shape;
       place = was.place;
-      link = λ e. absurd (cc);
-      tape = λ e. absurd (cc);
+      link = λ e. absurd (looks_no_link e);
+      tape = λ e. absurd (looks_no_record e);
       counts = was.counts;
       device = tt;
-      stopped = λ e. absurd (cc);
+      stopped = λ e. absurd (looks_no_stop e);
     }

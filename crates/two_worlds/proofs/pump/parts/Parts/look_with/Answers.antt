@@ -1,4 +1,4 @@
-use Rattle.std.proofs.Common.{◌≡◌, Err, OnErr, [], inl, refl, sym, ap, ◌∙◌, subst, arith, length, length-append, append-nil, le_trans}
+use Rattle.std.proofs.Common.{rules, ◌≡◌, Err, OnErr, [], inl, refl, sym, ap, ◌∙◌, subst, arith, length, length-append, append-nil, le_trans}
 use Rattle.std.specs.Prelude.{is_some}
 use Rattle.std.proofs.Math.Logic.{∥∥₁_elim, ∥∥₁_map}
 use Rattle.std.proofs.Props.{props}
@@ -6,6 +6,7 @@ use Rattle.std.specs.Coded.{le_prop}
 use Rattle.high_process.specs.Tasks.{frame_of}
 use Rattle.high_process.specs.States.{task_at, attaches_at, hand_of}
 use Rattle.high_process.specs.declared.values.HighFault.TheVariants.{Ahead, Behind, Device}
+use Rattle.std.proofs.Math.Nat.{le-add_right}
 use Rattle.two_worlds.specs.Private.HighLooks.{ComesBack, most_lines, printed_look}
 use Rattle.two_worlds.specs.Standing.{high_past_of}
 use Rattle.two_worlds.specs.Working.{Works}
@@ -50,172 +51,184 @@ tell_high-requires g c = record {
       omega (arith, few, c.requires.out, ap most_lines c.frame_back-frame.ensures));
 }
 
-pub returns-in-Ok-clause-does : goal.returns-in-Ok-clause-does
-returns-in-Ok-clause-does g c = λ p s attaches back given.
-    let m = g.D.Disk.told in
-    let comes = subst (λ f. ComesBack c.args.self.now.row.id p.world attaches f back) (sym c.frame_back-frame.ensures) given in
-    let d = c.args.self.now in
-    let looked = c.in-Ok.ensures.looks s.ends.low s.ends.high (high_past_of d p) (s.ends.stand, s.ends.high_fits) s.high_ready.past in
-    led m d p s c.args.moment c.requires.order c.look.new.self c.look.new.store c.look.new.ends attaches back c.in-Ok.look
-    (looks m d p s c.args.moment c.requires.order c.look.new.self c.look.new.store c.look.new.ends attaches c.in-Ok.look c.in-Ok.ensures.store c.in-Ok.ensures.count c.in-Ok.ensures.up c.look.ensures.between c.look.ensures.row c.look.ensures.shape (frame_of c.frame_back-frame.result) back comes c.in-Ok.ensures.fares looked c.look.ensures.images)
-    (lines_in c.args.out.now.items) (lines_in c.tell_high.new.out.items) c.tell_high.ensures.out c.tell_high.new.self c.tell_high.ensures.rest
+pub returns-in-Ok : goal.returns-in-Ok
+returns-in-Ok g c = record {
+  does =
+      λ p s attaches back given.
+      let m = g.D.Disk.told in
+      let comes = subst (λ f. ComesBack c.args.self.now.row.id p.world attaches f back) (sym c.frame_back-frame.ensures) given in
+      let d = c.args.self.now in
+      let looked = c.in-Ok.ensures.looks s.ends.low s.ends.high (high_past_of d p) (s.ends.stand, s.ends.high_fits) s.high_ready.past in
+      led m d p s c.args.moment c.requires.order c.look.new.self c.look.new.store c.look.new.ends attaches back c.in-Ok.look
+      (looks m d p s c.args.moment c.requires.order c.look.new.self c.look.new.store c.look.new.ends attaches c.in-Ok.look c.in-Ok.ensures.store c.in-Ok.ensures.count c.in-Ok.ensures.up c.look.ensures.between c.look.ensures.row c.look.ensures.shape (frame_of c.frame_back-frame.result) back comes c.in-Ok.ensures.fares looked c.look.ensures.images)
+      (lines_in c.args.out.now.items) (lines_in c.tell_high.new.out.items) c.tell_high.ensures.out c.tell_high.new.self c.tell_high.ensures.rest;
+  works =
+      let m = g.D.Disk.told in
+      let d = c.args.self.now in
+      let frame = frame_of c.frame_back-frame.result in
+      subst (λ (e : Parts _). ∥ Works m e ∥₁) (sym c.tell_high.ensures.rest)
+      (∥∥₁_map c.requires.able.works (λ w. high_works m d c.args.moment c.requires.order c.look.new.self c.look.new.store c.look.new.ends c.in-Ok.look c.in-Ok.ensures.store c.in-Ok.ensures.count c.in-Ok.ensures.up c.look.ensures.between c.look.ensures.row c.look.ensures.shape (task_at d.high frame) (attaches_at d.high frame) w
+      (c.in-Ok.ensures.looks w.ends.low w.ends.high w.past (w.ends.stand, w.ends.high_fits) w.high_ready.past)));
+  goes =
+      λ full.
+      let m = g.D.Disk.told in
+      let d = c.args.self.now in
+      let frame = frame_of c.frame_back-frame.result in
+      ∥∥₁_elim c.requires.able.works (hlevel props) (λ w. high_goes m d c.args.moment c.requires.order c.look.new.self c.look.new.store c.look.new.ends c.in-Ok.look c.in-Ok.ensures.store c.in-Ok.ensures.count c.in-Ok.ensures.up c.look.ensures.between c.look.ensures.row c.look.ensures.shape (task_at d.high frame) (attaches_at d.high frame) w
+      (c.in-Ok.ensures.looks w.ends.low w.ends.high w.past (w.ends.stand, w.ends.high_fits) w.high_ready.past)
+      (sym (ap (λ (t : Parts _). is_some (hand_of t.high)) c.tell_high.ensures.rest) ∙ full));
+  serve =
+      let m = g.D.Disk.told in
+      let d = c.args.self.now in
+      let frame = frame_of c.frame_back-frame.result in
+      looked_serves m d c.args.moment c.look.new.self c.look.new.store c.look.new.ends c.in-Ok.look (task_at d.high frame) c.in-Ok.ensures.fares
+      (removes_behind m d c.look.new.self c.look.new.store frame c.requires.able (λ p s. (let b = c.requires.back p s in (b.0, b.1, subst (λ f. ComesBack c.args.self.now.row.id p.world b.0 f b.1) (sym c.frame_back-frame.ensures) b.2))) c.look.ensures.images) c.tell_high.new.self c.tell_high.ensures.rest;
+  low = search rules;
+  high = search rules;
+  recv = search rules;
+  out =
+      ∥∥₁_elim c.requires.able.works le_prop (λ w.
+      let d = c.args.self.now in
+      let few = lines_by d w c.look.new.self c.look.new.ends c.args.moment (frame_of c.frame_back-frame.result) c.in-Ok.look c.in-Ok.ensures.looks in
+      omega (arith, few, ap most_lines c.frame_back-frame.ensures, ap length c.tell_high.ensures.out, length-append (lines_in c.args.out.now.items) (printed_look d.row.id c.args.moment c.in-Ok.look), length-map c.args.out.now.items event_of, length-map c.tell_high.new.out.items event_of));
+  row = search rules;
+  moment = search rules;
+}
 
-pub returns-in-Ok-clause-serve : goal.returns-in-Ok-clause-serve
-returns-in-Ok-clause-serve g c =
-    let m = g.D.Disk.told in
-    let d = c.args.self.now in
-    let frame = frame_of c.frame_back-frame.result in
-    looked_serves m d c.args.moment c.look.new.self c.look.new.store c.look.new.ends c.in-Ok.look (task_at d.high frame) c.in-Ok.ensures.fares
-    (removes_behind m d c.look.new.self c.look.new.store frame c.requires.able (λ p s. (let b = c.requires.back p s in (b.0, b.1, subst (λ f. ComesBack c.args.self.now.row.id p.world b.0 f b.1) (sym c.frame_back-frame.ensures) b.2))) c.look.ensures.images) c.tell_high.new.self c.tell_high.ensures.rest
+pub returns-in-Err-Device : goal.returns-in-Err-Device
+returns-in-Err-Device g c = record {
+  does =
+      λ p s attaches back given.
+      let m = g.D.Disk.told in
+      let comes = subst (λ f. ComesBack c.args.self.now.row.id p.world attaches f back) (sym c.frame_back-frame.ensures) given in
+      let d = c.args.self.now in
+      let task = task_at d.high (frame_of c.frame_back-frame.result) in
+      let fares = fared m task d.high c.look.new.self d.high_store c.look.new.store c.look.result (Device c.in-Err-Device.faults) (c.in-Err-Device.is ∙ ap (λ f. Err f) c.in-Err-Device.field-0-is) c.look.ensures.fares in
+      let b = breaks m d p s c.args.moment c.requires.order c.look.new.self c.look.new.store c.look.new.ends attaches (frame_of c.frame_back-frame.result) back c.in-Err-Device.faults comes fares c.look.ensures.images in
+      (b.end, [], b.breaks, sym (append-nil (lines_in c.args.out.now.items)), b.fails, b.fits);
+  works =
+      let m = g.D.Disk.told in
+      let d = c.args.self.now in
+      let frame = frame_of c.frame_back-frame.result in
+      let e = Device c.in-Err-Device.faults in
+      let fares = fared m (task_at d.high frame) d.high c.look.new.self d.high_store c.look.new.store c.look.result e (c.in-Err-Device.is ∙ ap (λ f. Err f) c.in-Err-Device.field-0-is) c.look.ensures.fares in
+      broken_works m d c.args.moment c.look.new.self c.look.new.store c.look.new.ends frame c.in-Err-Device.faults fares;
+  goes = search rules;
+  serve =
+      let m = g.D.Disk.told in
+      let d = c.args.self.now in
+      let frame = frame_of c.frame_back-frame.result in
+      let task = task_at d.high frame in
+      let fares = fared m task d.high c.look.new.self d.high_store c.look.new.store c.look.result (Device c.in-Err-Device.faults) (c.in-Err-Device.is ∙ ap (λ f. Err f) c.in-Err-Device.field-0-is) c.look.ensures.fares in
+      record {
+        low_goes = inl (refl, refl);
+        high_goes = broken_serves m d c.look.new.self c.look.new.store frame task c.in-Err-Device.faults fares (asks_no_fault d.high frame c.in-Err-Device.faults);
+        recv_goes = inl (refl, refl);
+        behind = removes_behind m d c.look.new.self c.look.new.store frame c.requires.able (λ p s. (let b = c.requires.back p s in (b.0, b.1, subst (λ f. ComesBack c.args.self.now.row.id p.world b.0 f b.1) (sym c.frame_back-frame.ensures) b.2))) c.look.ensures.images;
+      };
+  low = refl;
+  high = search rules;
+  recv = refl;
+  out = le-add_right (length c.args.out.now.items) _;
+  row = refl;
+  moment = refl;
+}
 
-pub returns-in-Ok-clause-out : goal.returns-in-Ok-clause-out
-returns-in-Ok-clause-out g c = ∥∥₁_elim c.requires.able.works le_prop (λ w.
-    let d = c.args.self.now in
-    let few = lines_by d w c.look.new.self c.look.new.ends c.args.moment (frame_of c.frame_back-frame.result) c.in-Ok.look c.in-Ok.ensures.looks in
-    omega (arith, few, ap most_lines c.frame_back-frame.ensures, ap length c.tell_high.ensures.out, length-append (lines_in c.args.out.now.items) (printed_look d.row.id c.args.moment c.in-Ok.look), length-map c.args.out.now.items event_of, length-map c.tell_high.new.out.items event_of))
+pub returns-in-Err-Ahead : goal.returns-in-Err-Ahead
+returns-in-Err-Ahead g c = record {
+  does =
+      λ p s attaches back given.
+      let m = g.D.Disk.told in
+      let comes = subst (λ f. ComesBack c.args.self.now.row.id p.world attaches f back) (sym c.frame_back-frame.ensures) given in
+      let d = c.args.self.now in
+      let task = task_at d.high (frame_of c.frame_back-frame.result) in
+      let fares = fared m task d.high c.look.new.self d.high_store c.look.new.store c.look.result (Ahead c.in-Err-Ahead.field-0-0 c.in-Err-Ahead.field-0-1) (c.in-Err-Ahead.is ∙ ap (λ f. Err f) c.in-Err-Ahead.field-0-is) c.look.ensures.fares in
+      let same = subst (λ r. OnErr r (c.look.new.ends ≡ d.ends)) c.in-Err-Ahead.is c.look.ensures.refused in
+      let b = refused m d p s c.args.moment c.requires.order c.look.new.self c.look.new.store c.look.new.ends attaches (frame_of c.frame_back-frame.result) back c.in-Err-Ahead.field-0-0 c.in-Err-Ahead.field-0-1 comes fares same in
+      (b.end, [], b.leads, sym (append-nil (lines_in c.args.out.now.items)), b.stand, b.fits);
+  works =
+      let m = g.D.Disk.told in
+      let d = c.args.self.now in
+      let frame = frame_of c.frame_back-frame.result in
+      let e = Ahead c.in-Err-Ahead.field-0-0 c.in-Err-Ahead.field-0-1 in
+      let fares = fared m (task_at d.high frame) d.high c.look.new.self d.high_store c.look.new.store c.look.result e (c.in-Err-Ahead.is ∙ ap (λ f. Err f) c.in-Err-Ahead.field-0-is) c.look.ensures.fares in
+      let same = subst (λ r. OnErr r (c.look.new.ends ≡ d.ends)) c.in-Err-Ahead.is c.look.ensures.refused in
+      refused_works m d c.args.moment c.look.new.self c.look.new.store c.look.new.ends c.requires.order c.requires.able
+      (refused_is m d c.args.moment c.look.new.self c.look.new.store c.look.new.ends (task_at d.high frame) e refl fares same);
+  goes =
+      let m = g.D.Disk.told in
+      let d = c.args.self.now in
+      let frame = frame_of c.frame_back-frame.result in
+      let e = Ahead c.in-Err-Ahead.field-0-0 c.in-Err-Ahead.field-0-1 in
+      let fares = fared m (task_at d.high frame) d.high c.look.new.self d.high_store c.look.new.store c.look.result e (c.in-Err-Ahead.is ∙ ap (λ f. Err f) c.in-Err-Ahead.field-0-is) c.look.ensures.fares in
+      let same = subst (λ r. OnErr r (c.look.new.ends ≡ d.ends)) c.in-Err-Ahead.is c.look.ensures.refused in
+      refused_goes m d c.args.moment c.look.new.self c.look.new.store c.look.new.ends
+      (refused_is m d c.args.moment c.look.new.self c.look.new.store c.look.new.ends (task_at d.high frame) e refl fares same);
+  serve =
+      let m = g.D.Disk.told in
+      let d = c.args.self.now in
+      let frame = frame_of c.frame_back-frame.result in
+      let task = task_at d.high frame in
+      let fares = fared m task d.high c.look.new.self d.high_store c.look.new.store c.look.result (Ahead c.in-Err-Ahead.field-0-0 c.in-Err-Ahead.field-0-1) (c.in-Err-Ahead.is ∙ ap (λ f. Err f) c.in-Err-Ahead.field-0-is) c.look.ensures.fares in
+      record {
+        low_goes = inl (refl, refl);
+        high_goes = refused_serves m d c.look.new.self c.look.new.store frame task (Ahead c.in-Err-Ahead.field-0-0 c.in-Err-Ahead.field-0-1) refl fares;
+        recv_goes = inl (refl, refl);
+        behind = removes_behind m d c.look.new.self c.look.new.store frame c.requires.able (λ p s. (let b = c.requires.back p s in (b.0, b.1, subst (λ f. ComesBack c.args.self.now.row.id p.world b.0 f b.1) (sym c.frame_back-frame.ensures) b.2))) c.look.ensures.images;
+      };
+  low = refl;
+  high = search rules;
+  recv = refl;
+  out = le-add_right (length c.args.out.now.items) _;
+  row = refl;
+  moment = refl;
+}
 
-pub returns-in-Err-Device-clause-does : goal.returns-in-Err-Device-clause-does
-returns-in-Err-Device-clause-does g c = λ p s attaches back given.
-    let m = g.D.Disk.told in
-    let comes = subst (λ f. ComesBack c.args.self.now.row.id p.world attaches f back) (sym c.frame_back-frame.ensures) given in
-    let d = c.args.self.now in
-    let task = task_at d.high (frame_of c.frame_back-frame.result) in
-    let fares = fared m task d.high c.look.new.self d.high_store c.look.new.store c.look.result (Device c.in-Err-Device.faults) (c.in-Err-Device.is ∙ ap (λ f. Err f) c.in-Err-Device.field-0-is) c.look.ensures.fares in
-    let b = breaks m d p s c.args.moment c.requires.order c.look.new.self c.look.new.store c.look.new.ends attaches (frame_of c.frame_back-frame.result) back c.in-Err-Device.faults comes fares c.look.ensures.images in
-    (b.end, [], b.breaks, sym (append-nil (lines_in c.args.out.now.items)), b.fails, b.fits)
-
-pub returns-in-Err-Device-clause-serve : goal.returns-in-Err-Device-clause-serve
-returns-in-Err-Device-clause-serve g c =
-    let m = g.D.Disk.told in
-    let d = c.args.self.now in
-    let frame = frame_of c.frame_back-frame.result in
-    let task = task_at d.high frame in
-    let fares = fared m task d.high c.look.new.self d.high_store c.look.new.store c.look.result (Device c.in-Err-Device.faults) (c.in-Err-Device.is ∙ ap (λ f. Err f) c.in-Err-Device.field-0-is) c.look.ensures.fares in
-    record {
-      low_goes = inl (refl, refl);
-      high_goes = broken_serves m d c.look.new.self c.look.new.store frame task c.in-Err-Device.faults fares (asks_no_fault d.high frame c.in-Err-Device.faults);
-      recv_goes = inl (refl, refl);
-      behind = removes_behind m d c.look.new.self c.look.new.store frame c.requires.able (λ p s. (let b = c.requires.back p s in (b.0, b.1, subst (λ f. ComesBack c.args.self.now.row.id p.world b.0 f b.1) (sym c.frame_back-frame.ensures) b.2))) c.look.ensures.images;
-    }
-
-pub returns-in-Err-Ahead-clause-does : goal.returns-in-Err-Ahead-clause-does
-returns-in-Err-Ahead-clause-does g c = λ p s attaches back given.
-    let m = g.D.Disk.told in
-    let comes = subst (λ f. ComesBack c.args.self.now.row.id p.world attaches f back) (sym c.frame_back-frame.ensures) given in
-    let d = c.args.self.now in
-    let task = task_at d.high (frame_of c.frame_back-frame.result) in
-    let fares = fared m task d.high c.look.new.self d.high_store c.look.new.store c.look.result (Ahead c.in-Err-Ahead.field-0-0 c.in-Err-Ahead.field-0-1) (c.in-Err-Ahead.is ∙ ap (λ f. Err f) c.in-Err-Ahead.field-0-is) c.look.ensures.fares in
-    let same = subst (λ r. OnErr r (c.look.new.ends ≡ d.ends)) c.in-Err-Ahead.is c.look.ensures.refused in
-    let b = refused m d p s c.args.moment c.requires.order c.look.new.self c.look.new.store c.look.new.ends attaches (frame_of c.frame_back-frame.result) back c.in-Err-Ahead.field-0-0 c.in-Err-Ahead.field-0-1 comes fares same in
-    (b.end, [], b.leads, sym (append-nil (lines_in c.args.out.now.items)), b.stand, b.fits)
-
-pub returns-in-Err-Ahead-clause-serve : goal.returns-in-Err-Ahead-clause-serve
-returns-in-Err-Ahead-clause-serve g c =
-    let m = g.D.Disk.told in
-    let d = c.args.self.now in
-    let frame = frame_of c.frame_back-frame.result in
-    let task = task_at d.high frame in
-    let fares = fared m task d.high c.look.new.self d.high_store c.look.new.store c.look.result (Ahead c.in-Err-Ahead.field-0-0 c.in-Err-Ahead.field-0-1) (c.in-Err-Ahead.is ∙ ap (λ f. Err f) c.in-Err-Ahead.field-0-is) c.look.ensures.fares in
-    record {
-      low_goes = inl (refl, refl);
-      high_goes = refused_serves m d c.look.new.self c.look.new.store frame task (Ahead c.in-Err-Ahead.field-0-0 c.in-Err-Ahead.field-0-1) refl fares;
-      recv_goes = inl (refl, refl);
-      behind = removes_behind m d c.look.new.self c.look.new.store frame c.requires.able (λ p s. (let b = c.requires.back p s in (b.0, b.1, subst (λ f. ComesBack c.args.self.now.row.id p.world b.0 f b.1) (sym c.frame_back-frame.ensures) b.2))) c.look.ensures.images;
-    }
-
-pub returns-in-Err-Behind-clause-does : goal.returns-in-Err-Behind-clause-does
-returns-in-Err-Behind-clause-does g c = λ p s attaches back given.
-    let m = g.D.Disk.told in
-    let d = c.args.self.now in
-    let frame = frame_of c.frame_back-frame.result in
-    let comes = subst (λ f. ComesBack c.args.self.now.row.id p.world attaches f back) (sym c.frame_back-frame.ensures) given in
-    let e = Behind c.in-Err-Behind.field-0-0 c.in-Err-Behind.field-0-1 in
-    let fares = fared m (task_at d.high frame) d.high c.look.new.self d.high_store c.look.new.store c.look.result e (c.in-Err-Behind.is ∙ ap (λ f. Err f) c.in-Err-Behind.field-0-is) c.look.ensures.fares in
-    absurd (never_behind m d p s c.args.moment c.requires.order c.look.new.self c.look.new.store c.look.new.ends attaches frame back c.in-Err-Behind.field-0-0 c.in-Err-Behind.field-0-1 comes fares)
-
-pub returns-in-Err-Behind-clause-serve : goal.returns-in-Err-Behind-clause-serve
-returns-in-Err-Behind-clause-serve g c =
-    let m = g.D.Disk.told in
-    let d = c.args.self.now in
-    let frame = frame_of c.frame_back-frame.result in
-    let e = Behind c.in-Err-Behind.field-0-0 c.in-Err-Behind.field-0-1 in
-    let fares = fared m (task_at d.high frame) d.high c.look.new.self d.high_store c.look.new.store c.look.result e (c.in-Err-Behind.is ∙ ap (λ f. Err f) c.in-Err-Behind.field-0-is) c.look.ensures.fares in
-    record {
-      low_goes = inl (refl, refl);
-      high_goes = refused_serves m d c.look.new.self c.look.new.store frame (task_at d.high frame) e refl fares;
-      recv_goes = inl (refl, refl);
-      behind = removes_behind m d c.look.new.self c.look.new.store frame c.requires.able (λ p s. (let b = c.requires.back p s in (b.0, b.1, subst (λ f. ComesBack c.args.self.now.row.id p.world b.0 f b.1) (sym c.frame_back-frame.ensures) b.2))) c.look.ensures.images;
-    }
-
--- ---- whatever the disks tell ----
-
-pub returns-in-Ok-clause-works : goal.returns-in-Ok-clause-works
-returns-in-Ok-clause-works g c =
-    let m = g.D.Disk.told in
-    let d = c.args.self.now in
-    let frame = frame_of c.frame_back-frame.result in
-    subst (λ (e : Parts _). ∥ Works m e ∥₁) (sym c.tell_high.ensures.rest)
-    (∥∥₁_map c.requires.able.works (λ w. high_works m d c.args.moment c.requires.order c.look.new.self c.look.new.store c.look.new.ends c.in-Ok.look c.in-Ok.ensures.store c.in-Ok.ensures.count c.in-Ok.ensures.up c.look.ensures.between c.look.ensures.row c.look.ensures.shape (task_at d.high frame) (attaches_at d.high frame) w
-    (c.in-Ok.ensures.looks w.ends.low w.ends.high w.past (w.ends.stand, w.ends.high_fits) w.high_ready.past)))
-
-pub returns-in-Ok-clause-goes : goal.returns-in-Ok-clause-goes
-returns-in-Ok-clause-goes g c = λ full.
-    let m = g.D.Disk.told in
-    let d = c.args.self.now in
-    let frame = frame_of c.frame_back-frame.result in
-    ∥∥₁_elim c.requires.able.works (hlevel props) (λ w. high_goes m d c.args.moment c.requires.order c.look.new.self c.look.new.store c.look.new.ends c.in-Ok.look c.in-Ok.ensures.store c.in-Ok.ensures.count c.in-Ok.ensures.up c.look.ensures.between c.look.ensures.row c.look.ensures.shape (task_at d.high frame) (attaches_at d.high frame) w
-    (c.in-Ok.ensures.looks w.ends.low w.ends.high w.past (w.ends.stand, w.ends.high_fits) w.high_ready.past)
-    (sym (ap (λ (t : Parts _). is_some (hand_of t.high)) c.tell_high.ensures.rest) ∙ full))
-
-pub returns-in-Err-Device-clause-works : goal.returns-in-Err-Device-clause-works
-returns-in-Err-Device-clause-works g c =
-    let m = g.D.Disk.told in
-    let d = c.args.self.now in
-    let frame = frame_of c.frame_back-frame.result in
-    let e = Device c.in-Err-Device.faults in
-    let fares = fared m (task_at d.high frame) d.high c.look.new.self d.high_store c.look.new.store c.look.result e (c.in-Err-Device.is ∙ ap (λ f. Err f) c.in-Err-Device.field-0-is) c.look.ensures.fares in
-    broken_works m d c.args.moment c.look.new.self c.look.new.store c.look.new.ends frame c.in-Err-Device.faults fares
-
-pub returns-in-Err-Ahead-clause-works : goal.returns-in-Err-Ahead-clause-works
-returns-in-Err-Ahead-clause-works g c =
-    let m = g.D.Disk.told in
-    let d = c.args.self.now in
-    let frame = frame_of c.frame_back-frame.result in
-    let e = Ahead c.in-Err-Ahead.field-0-0 c.in-Err-Ahead.field-0-1 in
-    let fares = fared m (task_at d.high frame) d.high c.look.new.self d.high_store c.look.new.store c.look.result e (c.in-Err-Ahead.is ∙ ap (λ f. Err f) c.in-Err-Ahead.field-0-is) c.look.ensures.fares in
-    let same = subst (λ r. OnErr r (c.look.new.ends ≡ d.ends)) c.in-Err-Ahead.is c.look.ensures.refused in
-    refused_works m d c.args.moment c.look.new.self c.look.new.store c.look.new.ends c.requires.order c.requires.able
-    (refused_is m d c.args.moment c.look.new.self c.look.new.store c.look.new.ends (task_at d.high frame) e refl fares same)
-
-pub returns-in-Err-Ahead-clause-goes : goal.returns-in-Err-Ahead-clause-goes
-returns-in-Err-Ahead-clause-goes g c =
-    let m = g.D.Disk.told in
-    let d = c.args.self.now in
-    let frame = frame_of c.frame_back-frame.result in
-    let e = Ahead c.in-Err-Ahead.field-0-0 c.in-Err-Ahead.field-0-1 in
-    let fares = fared m (task_at d.high frame) d.high c.look.new.self d.high_store c.look.new.store c.look.result e (c.in-Err-Ahead.is ∙ ap (λ f. Err f) c.in-Err-Ahead.field-0-is) c.look.ensures.fares in
-    let same = subst (λ r. OnErr r (c.look.new.ends ≡ d.ends)) c.in-Err-Ahead.is c.look.ensures.refused in
-    refused_goes m d c.args.moment c.look.new.self c.look.new.store c.look.new.ends
-    (refused_is m d c.args.moment c.look.new.self c.look.new.store c.look.new.ends (task_at d.high frame) e refl fares same)
-
-pub returns-in-Err-Behind-clause-works : goal.returns-in-Err-Behind-clause-works
-returns-in-Err-Behind-clause-works g c =
-    let m = g.D.Disk.told in
-    let d = c.args.self.now in
-    let frame = frame_of c.frame_back-frame.result in
-    let e = Behind c.in-Err-Behind.field-0-0 c.in-Err-Behind.field-0-1 in
-    let fares = fared m (task_at d.high frame) d.high c.look.new.self d.high_store c.look.new.store c.look.result e (c.in-Err-Behind.is ∙ ap (λ f. Err f) c.in-Err-Behind.field-0-is) c.look.ensures.fares in
-    let same = subst (λ r. OnErr r (c.look.new.ends ≡ d.ends)) c.in-Err-Behind.is c.look.ensures.refused in
-    refused_works m d c.args.moment c.look.new.self c.look.new.store c.look.new.ends c.requires.order c.requires.able
-    (refused_is m d c.args.moment c.look.new.self c.look.new.store c.look.new.ends (task_at d.high frame) e refl fares same)
-
-pub returns-in-Err-Behind-clause-goes : goal.returns-in-Err-Behind-clause-goes
-returns-in-Err-Behind-clause-goes g c =
-    let m = g.D.Disk.told in
-    let d = c.args.self.now in
-    let frame = frame_of c.frame_back-frame.result in
-    let e = Behind c.in-Err-Behind.field-0-0 c.in-Err-Behind.field-0-1 in
-    let fares = fared m (task_at d.high frame) d.high c.look.new.self d.high_store c.look.new.store c.look.result e (c.in-Err-Behind.is ∙ ap (λ f. Err f) c.in-Err-Behind.field-0-is) c.look.ensures.fares in
-    let same = subst (λ r. OnErr r (c.look.new.ends ≡ d.ends)) c.in-Err-Behind.is c.look.ensures.refused in
-    refused_goes m d c.args.moment c.look.new.self c.look.new.store c.look.new.ends
-    (refused_is m d c.args.moment c.look.new.self c.look.new.store c.look.new.ends (task_at d.high frame) e refl fares same)
+pub returns-in-Err-Behind : goal.returns-in-Err-Behind
+returns-in-Err-Behind g c = record {
+  does =
+      λ p s attaches back given.
+      let m = g.D.Disk.told in
+      let d = c.args.self.now in
+      let frame = frame_of c.frame_back-frame.result in
+      let comes = subst (λ f. ComesBack c.args.self.now.row.id p.world attaches f back) (sym c.frame_back-frame.ensures) given in
+      let e = Behind c.in-Err-Behind.field-0-0 c.in-Err-Behind.field-0-1 in
+      let fares = fared m (task_at d.high frame) d.high c.look.new.self d.high_store c.look.new.store c.look.result e (c.in-Err-Behind.is ∙ ap (λ f. Err f) c.in-Err-Behind.field-0-is) c.look.ensures.fares in
+      absurd (never_behind m d p s c.args.moment c.requires.order c.look.new.self c.look.new.store c.look.new.ends attaches frame back c.in-Err-Behind.field-0-0 c.in-Err-Behind.field-0-1 comes fares);
+  works =
+      let m = g.D.Disk.told in
+      let d = c.args.self.now in
+      let frame = frame_of c.frame_back-frame.result in
+      let e = Behind c.in-Err-Behind.field-0-0 c.in-Err-Behind.field-0-1 in
+      let fares = fared m (task_at d.high frame) d.high c.look.new.self d.high_store c.look.new.store c.look.result e (c.in-Err-Behind.is ∙ ap (λ f. Err f) c.in-Err-Behind.field-0-is) c.look.ensures.fares in
+      let same = subst (λ r. OnErr r (c.look.new.ends ≡ d.ends)) c.in-Err-Behind.is c.look.ensures.refused in
+      refused_works m d c.args.moment c.look.new.self c.look.new.store c.look.new.ends c.requires.order c.requires.able
+      (refused_is m d c.args.moment c.look.new.self c.look.new.store c.look.new.ends (task_at d.high frame) e refl fares same);
+  goes =
+      let m = g.D.Disk.told in
+      let d = c.args.self.now in
+      let frame = frame_of c.frame_back-frame.result in
+      let e = Behind c.in-Err-Behind.field-0-0 c.in-Err-Behind.field-0-1 in
+      let fares = fared m (task_at d.high frame) d.high c.look.new.self d.high_store c.look.new.store c.look.result e (c.in-Err-Behind.is ∙ ap (λ f. Err f) c.in-Err-Behind.field-0-is) c.look.ensures.fares in
+      let same = subst (λ r. OnErr r (c.look.new.ends ≡ d.ends)) c.in-Err-Behind.is c.look.ensures.refused in
+      refused_goes m d c.args.moment c.look.new.self c.look.new.store c.look.new.ends
+      (refused_is m d c.args.moment c.look.new.self c.look.new.store c.look.new.ends (task_at d.high frame) e refl fares same);
+  serve =
+      let m = g.D.Disk.told in
+      let d = c.args.self.now in
+      let frame = frame_of c.frame_back-frame.result in
+      let e = Behind c.in-Err-Behind.field-0-0 c.in-Err-Behind.field-0-1 in
+      let fares = fared m (task_at d.high frame) d.high c.look.new.self d.high_store c.look.new.store c.look.result e (c.in-Err-Behind.is ∙ ap (λ f. Err f) c.in-Err-Behind.field-0-is) c.look.ensures.fares in
+      record {
+        low_goes = inl (refl, refl);
+        high_goes = refused_serves m d c.look.new.self c.look.new.store frame (task_at d.high frame) e refl fares;
+        recv_goes = inl (refl, refl);
+        behind = removes_behind m d c.look.new.self c.look.new.store frame c.requires.able (λ p s. (let b = c.requires.back p s in (b.0, b.1, subst (λ f. ComesBack c.args.self.now.row.id p.world b.0 f b.1) (sym c.frame_back-frame.ensures) b.2))) c.look.ensures.images;
+      };
+  low = refl;
+  high = search rules;
+  recv = refl;
+  out = le-add_right (length c.args.out.now.items) _;
+  row = refl;
+  moment = refl;
+}

@@ -38,7 +38,7 @@ returns-in-Err g c = record {
   low = search rules;
   high = search rules;
   opens =
-          let e = c.in-Err.ensures in
+      let e = c.in-Err.ensures in
       let r = c.in-Err.refused in
       (rose_so g.D.Disk.told c.args.row.now r.role (is_device r.why) c.args.low c.args.high r.low r.high e.role e.calls_low e.calls_high, e.exact);
   wanting = search rules;
@@ -53,7 +53,7 @@ returns-in-Err g c = record {
 pub returns : goal.returns
 returns g c = record {
   low =
-          let e = c.in-Ok.ensures in
+      let e = c.in-Ok.ensures in
       let o = c.in-Ok.opened in
       let s = c.start_low-low.ensures in
       let served = c.serve_doors-served in
@@ -66,7 +66,7 @@ returns g c = record {
       (record new_low { forwarded = passing row.capacity (numbered o.removed messages) }) new_high refl
       (s.fits _ _ (dealt.fills new_low new_high c.requires.low_ends refl) (comes_next row.capacity o.removed o.next messages o.high_hand o.low_hand (row_capacity row c.requires.lawful).0 dealt.count dealt.places e.hands)));
   high =
-          let e = c.in-Ok.ensures in
+      let e = c.in-Ok.ensures in
       let o = c.in-Ok.opened in
       let s = c.start_high-high.ensures in
       let served = c.serve_doors-served in
@@ -95,7 +95,7 @@ returns g c = record {
         ap m.reading (c.into_disk-2.ensures ∙ ap high_disk (high ∙ c.start_high-high.ensures.store)) ∙ c.in-Ok.ensures.moves_high.reads told,
       );
   counts =
-          let e = c.in-Ok.ensures in
+      let e = c.in-Ok.ensures in
       let o = c.in-Ok.opened in
       let served = c.serve_doors-served in
       let row = c.args.row.now in

@@ -1,4 +1,4 @@
-use Rattle.std.proofs.Common.{◌≡◌, ◌∙◌, ap, inr, false, Err, List, ℕ, sym, subst, arith}
+use Rattle.std.proofs.Common.{rules, ◌≡◌, ◌∙◌, ap, inr, false, Err, List, ℕ, sym, subst, arith}
 use Rattle.std.proofs.lemmas.Result.{err_from_is_err_and}
 use Rattle.disk_model.proofs.Run.{each_after}
 use Rattle.disk_model.specs.declared.name.Role.TheVariants.{Low}
@@ -20,182 +20,155 @@ copy_messages-requires-clause-size g c = λ told.
     let d1 = c.begin_as.new.target in
     begun_length to Low k.accepted 0 (m.reading d1) (omega arith) (c.in_ok-begin_as.ensures.bytes told)
 
-pub returns-in_err-copy_messages-clause-made : goal.returns-in_err-copy_messages-clause-made
-returns-in_err-copy_messages-clause-made g c = λ live stands fits short start le so_far.
-    let m = g.D.Disk.told in
-    let k = c.args.counts.now in
-    let to = c.args.to.now in
-    let d1 = c.begin_as.new.target in
-    let d2 = c.copy_messages.new.target in
-    let began : LeavesFrom m start IsNone d1 = c.begin_as.ensures.during short start le so_far in
-    let copied : LeavesFrom m start IsNone d2 = zeros_leave m 80 start d1 d2 (omega arith) (omega (arith, le, c.begin_as.ensures.later)) began c.in_ok-begin_as.ensures.zeros c.copy_messages.ensures.moves in
-    none_leaves m (LowStands to k.accepted k.removed live) start d2 copied
+pub returns-in_err-copy_messages : goal.returns-in_err-copy_messages
+returns-in_err-copy_messages g c = record {
+  stands =
+      let (fault, was, same) = err_from_is_err_and c.from_residual-in_err-copy_messages.result c.from_residual-in_err-copy_messages.ensures.1 in
+      let is = was ∙ ap (λ d. Err d) same in
+      rw (is) tt;
+  settled =
+      let (fault, was, same) = err_from_is_err_and c.from_residual-in_err-copy_messages.result c.from_residual-in_err-copy_messages.ensures.1 in
+      let is = was ∙ ap (λ d. Err d) same in
+      rw (is) tt;
+  made =
+      λ live stands fits short start le so_far.
+      let m = g.D.Disk.told in
+      let k = c.args.counts.now in
+      let to = c.args.to.now in
+      let d1 = c.begin_as.new.target in
+      let d2 = c.copy_messages.new.target in
+      let began : LeavesFrom m start IsNone d1 = c.begin_as.ensures.during short start le so_far in
+      let copied : LeavesFrom m start IsNone d2 = zeros_leave m 80 start d1 d2 (omega arith) (omega (arith, le, c.begin_as.ensures.later)) began c.in_ok-begin_as.ensures.zeros c.copy_messages.ensures.moves in
+      none_leaves m (LowStands to k.accepted k.removed live) start d2 copied;
+  kept =
+      let m = g.D.Disk.told in
+      let e = c.in_err-copy_messages.ensures in
+      let (fault, was, same) = err_from_is_err_and c.from_residual-in_err-copy_messages.result c.from_residual-in_err-copy_messages.ensures.1 in
+      let is = was ∙ ap (λ d. Err d) same in
+      rw (is) e.kept;
+  counted =
+      let m = g.D.Disk.told in
+      let e = c.in_err-copy_messages.ensures in
+      let (fault, was, same) = err_from_is_err_and c.from_residual-in_err-copy_messages.result c.from_residual-in_err-copy_messages.ensures.1 in
+      let is = was ∙ ap (λ d. Err d) same in
+      rw (is) (counted_next m c.args.target.now c.begin_as.new.target c.copy_messages.new.target _ c.in_ok-begin_as.ensures.counted e.counted);
+  one =
+      let m = g.D.Disk.told in
+      let e = c.in_err-copy_messages.ensures in
+      let (fault, was, same) = err_from_is_err_and c.from_residual-in_err-copy_messages.result c.from_residual-in_err-copy_messages.ensures.1 in
+      let is = was ∙ ap (λ d. Err d) same in
+      rw (is) e.one;
+}
 
 pub finish_as-requires : goal.finish_as-requires
 finish_as-requires g c =
     let m = g.D.Disk.told in
     record { zeros = each_after m HasZeros HasZeros (KeepsFirst 80) c.begin_as.new.target c.copy_messages.new.target c.in_ok-begin_as.ensures.zeros (λ x y is keeps. zeros_stay 80 x y (omega arith) is keeps) c.copy_messages.ensures.moves }
 
-pub returns-in_err-finish_as-clause-made : goal.returns-in_err-finish_as-clause-made
-returns-in_err-finish_as-clause-made g c = λ live stands fits short start le so_far.
-    let m = g.D.Disk.told in
-    let k = c.args.counts.now in
-    let to = c.args.to.now in
-    let d1 = c.begin_as.new.target in
-    let d2 = c.copy_messages.new.target in
-    let began : LeavesFrom m start IsNone d1 = c.begin_as.ensures.during short start le so_far in
-    let copied : LeavesFrom m start IsNone d2 = zeros_leave m 80 start d1 d2 (omega arith) (omega (arith, le, c.begin_as.ensures.later)) began c.in_ok-begin_as.ensures.zeros c.copy_messages.ensures.moves in
-    let w = m.reading d2 in
-    let done = c.finish_as.ensures.during start (omega (arith, le, c.begin_as.ensures.later, c.copy_messages.ensures.moves.later)) (none_leaves m (λ x. x ≡ marked w) start d2 copied) in
-    whole_leaves m (LowStands to k.accepted k.removed live) start c.finish_as.new.target (marked w) (λ told. low_whole c.args.from.now to k.accepted k.removed live (m.reading c.args.source.now) (m.reading d1) (m.reading d2) c.requires.count c.requires.held.1 (stands told) (c.in_ok-begin_as.ensures.bytes told)
-    (c.copy_messages.ensures.moves.reads told).same (c.in_ok-copy_messages.ensures.size told) (c.in_ok-copy_messages.ensures.copied told live (stands told) (fits told))) done
+pub returns-in_err-finish_as : goal.returns-in_err-finish_as
+returns-in_err-finish_as g c = record {
+  stands =
+      let (fault, was, same) = err_from_is_err_and c.from_residual-in_err-finish_as.result c.from_residual-in_err-finish_as.ensures.1 in
+      let is = was ∙ ap (λ d. Err d) same in
+      rw (is) tt;
+  settled =
+      let (fault, was, same) = err_from_is_err_and c.from_residual-in_err-finish_as.result c.from_residual-in_err-finish_as.ensures.1 in
+      let is = was ∙ ap (λ d. Err d) same in
+      rw (is) tt;
+  made =
+      λ live stands fits short start le so_far.
+      let m = g.D.Disk.told in
+      let k = c.args.counts.now in
+      let to = c.args.to.now in
+      let d1 = c.begin_as.new.target in
+      let d2 = c.copy_messages.new.target in
+      let began : LeavesFrom m start IsNone d1 = c.begin_as.ensures.during short start le so_far in
+      let copied : LeavesFrom m start IsNone d2 = zeros_leave m 80 start d1 d2 (omega arith) (omega (arith, le, c.begin_as.ensures.later)) began c.in_ok-begin_as.ensures.zeros c.copy_messages.ensures.moves in
+      let w = m.reading d2 in
+      let done = c.finish_as.ensures.during start (omega (arith, le, c.begin_as.ensures.later, c.copy_messages.ensures.moves.later)) (none_leaves m (λ x. x ≡ marked w) start d2 copied) in
+      whole_leaves m (LowStands to k.accepted k.removed live) start c.finish_as.new.target (marked w) (λ told. low_whole c.args.from.now to k.accepted k.removed live (m.reading c.args.source.now) (m.reading d1) (m.reading d2) c.requires.count c.requires.held.1 (stands told) (c.in_ok-begin_as.ensures.bytes told)
+      (c.copy_messages.ensures.moves.reads told).same (c.in_ok-copy_messages.ensures.size told) (c.in_ok-copy_messages.ensures.copied told live (stands told) (fits told))) done;
+  kept =
+      let m = g.D.Disk.told in
+      let e = c.in_err-finish_as.ensures in
+      let (fault, was, same) = err_from_is_err_and c.from_residual-in_err-finish_as.result c.from_residual-in_err-finish_as.ensures.1 in
+      let is = was ∙ ap (λ d. Err d) same in
+      rw (is) (old_kept m Low c.in_err-finish_as.field-0.0 c.args.source.now c.copy_messages.new.source (λ _. ap (λ (x : MoveFault). x.new) e.device) c.in_ok-copy_messages.ensures.kept);
+  counted =
+      let m = g.D.Disk.told in
+      let e = c.in_err-finish_as.ensures in
+      let (fault, was, same) = err_from_is_err_and c.from_residual-in_err-finish_as.result c.from_residual-in_err-finish_as.ensures.1 in
+      let is = was ∙ ap (λ d. Err d) same in
+      rw (is) (counted_next m c.args.target.now c.copy_messages.new.target c.finish_as.new.target _ (counted_next m c.args.target.now c.begin_as.new.target c.copy_messages.new.target false c.in_ok-begin_as.ensures.counted c.in_ok-copy_messages.ensures.counted) e.counted);
+  one =
+      let m = g.D.Disk.told in
+      let e = c.in_err-finish_as.ensures in
+      let (fault, was, same) = err_from_is_err_and c.from_residual-in_err-finish_as.result c.from_residual-in_err-finish_as.ensures.1 in
+      let is = was ∙ ap (λ d. Err d) same in
+      rw (is) (inr e.device);
+}
 
-pub returns-clause-made : goal.returns-clause-made
-returns-clause-made g c = λ live stands fits short start le so_far.
-    let m = g.D.Disk.told in
-    let k = c.args.counts.now in
-    let to = c.args.to.now in
-    let d1 = c.begin_as.new.target in
-    let d2 = c.copy_messages.new.target in
-    let began : LeavesFrom m start IsNone d1 = c.begin_as.ensures.during short start le so_far in
-    let copied : LeavesFrom m start IsNone d2 = zeros_leave m 80 start d1 d2 (omega arith) (omega (arith, le, c.begin_as.ensures.later)) began c.in_ok-begin_as.ensures.zeros c.copy_messages.ensures.moves in
-    let w = m.reading d2 in
-    let done = c.finish_as.ensures.during start (omega (arith, le, c.begin_as.ensures.later, c.copy_messages.ensures.moves.later)) (none_leaves m (λ x. x ≡ marked w) start d2 copied) in
-    whole_leaves m (LowStands to k.accepted k.removed live) start c.finish_as.new.target (marked w) (λ told. low_whole c.args.from.now to k.accepted k.removed live (m.reading c.args.source.now) (m.reading d1) (m.reading d2) c.requires.count c.requires.held.1 (stands told) (c.in_ok-begin_as.ensures.bytes told)
-    (c.copy_messages.ensures.moves.reads told).same (c.in_ok-copy_messages.ensures.size told) (c.in_ok-copy_messages.ensures.copied told live (stands told) (fits told))) done
+pub returns : goal.returns
+returns g c = record {
+  stands =
+      λ told live stands fits.
+      let m = g.D.Disk.told in
+      let k = c.args.counts.now in
+      let to = c.args.to.now in
+      let d1 = c.begin_as.new.target in
+      let d2 = c.copy_messages.new.target in
+      subst (λ (z : List ℕ). LowStands to k.accepted k.removed live z) (sym (c.in_ok-finish_as.ensures.bytes told)) (low_whole c.args.from.now to k.accepted k.removed live (m.reading c.args.source.now) (m.reading d1) (m.reading d2) c.requires.count c.requires.held.1 stands (c.in_ok-begin_as.ensures.bytes told)
+      (c.copy_messages.ensures.moves.reads told).same (c.in_ok-copy_messages.ensures.size told) (c.in_ok-copy_messages.ensures.copied told live stands fits));
+  settled = c.in_ok-finish_as.ensures.settled;
+  made =
+      λ live stands fits short start le so_far.
+      let m = g.D.Disk.told in
+      let k = c.args.counts.now in
+      let to = c.args.to.now in
+      let d1 = c.begin_as.new.target in
+      let d2 = c.copy_messages.new.target in
+      let began : LeavesFrom m start IsNone d1 = c.begin_as.ensures.during short start le so_far in
+      let copied : LeavesFrom m start IsNone d2 = zeros_leave m 80 start d1 d2 (omega arith) (omega (arith, le, c.begin_as.ensures.later)) began c.in_ok-begin_as.ensures.zeros c.copy_messages.ensures.moves in
+      let w = m.reading d2 in
+      let done = c.finish_as.ensures.during start (omega (arith, le, c.begin_as.ensures.later, c.copy_messages.ensures.moves.later)) (none_leaves m (λ x. x ≡ marked w) start d2 copied) in
+      whole_leaves m (LowStands to k.accepted k.removed live) start c.finish_as.new.target (marked w) (λ told. low_whole c.args.from.now to k.accepted k.removed live (m.reading c.args.source.now) (m.reading d1) (m.reading d2) c.requires.count c.requires.held.1 (stands told) (c.in_ok-begin_as.ensures.bytes told)
+      (c.copy_messages.ensures.moves.reads told).same (c.in_ok-copy_messages.ensures.size told) (c.in_ok-copy_messages.ensures.copied told live (stands told) (fits told))) done;
+  kept = c.in_ok-copy_messages.ensures.kept;
+  counted =
+      let m = g.D.Disk.told in
+      counted_next m c.args.target.now c.copy_messages.new.target c.finish_as.new.target false (counted_next m c.args.target.now c.begin_as.new.target c.copy_messages.new.target false c.in_ok-begin_as.ensures.counted c.in_ok-copy_messages.ensures.counted) c.in_ok-finish_as.ensures.counted;
+  one = tt;
+}
 
-pub returns-clause-stands : goal.returns-clause-stands
-returns-clause-stands g c = λ told live stands fits.
-    let m = g.D.Disk.told in
-    let k = c.args.counts.now in
-    let to = c.args.to.now in
-    let d1 = c.begin_as.new.target in
-    let d2 = c.copy_messages.new.target in
-    subst (λ (z : List ℕ). LowStands to k.accepted k.removed live z) (sym (c.in_ok-finish_as.ensures.bytes told)) (low_whole c.args.from.now to k.accepted k.removed live (m.reading c.args.source.now) (m.reading d1) (m.reading d2) c.requires.count c.requires.held.1 stands (c.in_ok-begin_as.ensures.bytes told)
-    (c.copy_messages.ensures.moves.reads told).same (c.in_ok-copy_messages.ensures.size told) (c.in_ok-copy_messages.ensures.copied told live stands fits))
-
-pub returns-in_err-begin_as-clause-made : goal.returns-in_err-begin_as-clause-made
-returns-in_err-begin_as-clause-made g c = λ live stands fits short start le so_far.
-    none_leaves g.D.Disk.told (LowStands c.args.to.now c.args.counts.now.accepted c.args.counts.now.removed live) start c.begin_as.new.target (c.begin_as.ensures.during short start le so_far)
-
-pub returns-in_err-begin_as-clause-stands : goal.returns-in_err-begin_as-clause-stands
-returns-in_err-begin_as-clause-stands g c =
-    let (fault, was, same) = err_from_is_err_and c.from_residual.result c.from_residual.ensures.1 in
-    let is = was ∙ ap (λ d. Err d) same in
-    rw (is) tt
-
-pub returns-in_err-begin_as-clause-settled : goal.returns-in_err-begin_as-clause-settled
-returns-in_err-begin_as-clause-settled g c =
-    let (fault, was, same) = err_from_is_err_and c.from_residual.result c.from_residual.ensures.1 in
-    let is = was ∙ ap (λ d. Err d) same in
-    rw (is) tt
-
-pub returns-in_err-begin_as-clause-kept : goal.returns-in_err-begin_as-clause-kept
-returns-in_err-begin_as-clause-kept g c =
-    let m = g.D.Disk.told in
-    let e = c.in_err-begin_as.ensures in
-    let (fault, was, same) = err_from_is_err_and c.from_residual.result c.from_residual.ensures.1 in
-    let is = was ∙ ap (λ d. Err d) same in
-    rw (is) (old_kept m Low c.in_err-begin_as.field-0.0 c.args.source.now c.args.source.now (λ _. ap (λ (x : MoveFault). x.new) e.device) (kept_still m c.args.source.now))
-
-pub returns-in_err-begin_as-clause-counted : goal.returns-in_err-begin_as-clause-counted
-returns-in_err-begin_as-clause-counted g c =
-    let m = g.D.Disk.told in
-    let e = c.in_err-begin_as.ensures in
-    let (fault, was, same) = err_from_is_err_and c.from_residual.result c.from_residual.ensures.1 in
-    let is = was ∙ ap (λ d. Err d) same in
-    rw (is) e.counted
-
-pub returns-in_err-begin_as-clause-one : goal.returns-in_err-begin_as-clause-one
-returns-in_err-begin_as-clause-one g c =
-    let m = g.D.Disk.told in
-    let e = c.in_err-begin_as.ensures in
-    let (fault, was, same) = err_from_is_err_and c.from_residual.result c.from_residual.ensures.1 in
-    let is = was ∙ ap (λ d. Err d) same in
-    rw (is) (inr e.device)
-
-pub returns-in_err-copy_messages-clause-stands : goal.returns-in_err-copy_messages-clause-stands
-returns-in_err-copy_messages-clause-stands g c =
-    let (fault, was, same) = err_from_is_err_and c.from_residual-in_err-copy_messages.result c.from_residual-in_err-copy_messages.ensures.1 in
-    let is = was ∙ ap (λ d. Err d) same in
-    rw (is) tt
-
-pub returns-in_err-copy_messages-clause-settled : goal.returns-in_err-copy_messages-clause-settled
-returns-in_err-copy_messages-clause-settled g c =
-    let (fault, was, same) = err_from_is_err_and c.from_residual-in_err-copy_messages.result c.from_residual-in_err-copy_messages.ensures.1 in
-    let is = was ∙ ap (λ d. Err d) same in
-    rw (is) tt
-
-pub returns-in_err-copy_messages-clause-kept : goal.returns-in_err-copy_messages-clause-kept
-returns-in_err-copy_messages-clause-kept g c =
-    let m = g.D.Disk.told in
-    let e = c.in_err-copy_messages.ensures in
-    let (fault, was, same) = err_from_is_err_and c.from_residual-in_err-copy_messages.result c.from_residual-in_err-copy_messages.ensures.1 in
-    let is = was ∙ ap (λ d. Err d) same in
-    rw (is) e.kept
-
-pub returns-in_err-copy_messages-clause-counted : goal.returns-in_err-copy_messages-clause-counted
-returns-in_err-copy_messages-clause-counted g c =
-    let m = g.D.Disk.told in
-    let e = c.in_err-copy_messages.ensures in
-    let (fault, was, same) = err_from_is_err_and c.from_residual-in_err-copy_messages.result c.from_residual-in_err-copy_messages.ensures.1 in
-    let is = was ∙ ap (λ d. Err d) same in
-    rw (is) (counted_next m c.args.target.now c.begin_as.new.target c.copy_messages.new.target _ c.in_ok-begin_as.ensures.counted e.counted)
-
-pub returns-in_err-copy_messages-clause-one : goal.returns-in_err-copy_messages-clause-one
-returns-in_err-copy_messages-clause-one g c =
-    let m = g.D.Disk.told in
-    let e = c.in_err-copy_messages.ensures in
-    let (fault, was, same) = err_from_is_err_and c.from_residual-in_err-copy_messages.result c.from_residual-in_err-copy_messages.ensures.1 in
-    let is = was ∙ ap (λ d. Err d) same in
-    rw (is) e.one
-
-pub returns-in_err-finish_as-clause-stands : goal.returns-in_err-finish_as-clause-stands
-returns-in_err-finish_as-clause-stands g c =
-    let (fault, was, same) = err_from_is_err_and c.from_residual-in_err-finish_as.result c.from_residual-in_err-finish_as.ensures.1 in
-    let is = was ∙ ap (λ d. Err d) same in
-    rw (is) tt
-
-pub returns-in_err-finish_as-clause-settled : goal.returns-in_err-finish_as-clause-settled
-returns-in_err-finish_as-clause-settled g c =
-    let (fault, was, same) = err_from_is_err_and c.from_residual-in_err-finish_as.result c.from_residual-in_err-finish_as.ensures.1 in
-    let is = was ∙ ap (λ d. Err d) same in
-    rw (is) tt
-
-pub returns-in_err-finish_as-clause-kept : goal.returns-in_err-finish_as-clause-kept
-returns-in_err-finish_as-clause-kept g c =
-    let m = g.D.Disk.told in
-    let e = c.in_err-finish_as.ensures in
-    let (fault, was, same) = err_from_is_err_and c.from_residual-in_err-finish_as.result c.from_residual-in_err-finish_as.ensures.1 in
-    let is = was ∙ ap (λ d. Err d) same in
-    rw (is) (old_kept m Low c.in_err-finish_as.field-0.0 c.args.source.now c.copy_messages.new.source (λ _. ap (λ (x : MoveFault). x.new) e.device) c.in_ok-copy_messages.ensures.kept)
-
-pub returns-in_err-finish_as-clause-counted : goal.returns-in_err-finish_as-clause-counted
-returns-in_err-finish_as-clause-counted g c =
-    let m = g.D.Disk.told in
-    let e = c.in_err-finish_as.ensures in
-    let (fault, was, same) = err_from_is_err_and c.from_residual-in_err-finish_as.result c.from_residual-in_err-finish_as.ensures.1 in
-    let is = was ∙ ap (λ d. Err d) same in
-    rw (is) (counted_next m c.args.target.now c.copy_messages.new.target c.finish_as.new.target _ (counted_next m c.args.target.now c.begin_as.new.target c.copy_messages.new.target false c.in_ok-begin_as.ensures.counted c.in_ok-copy_messages.ensures.counted) e.counted)
-
-pub returns-in_err-finish_as-clause-one : goal.returns-in_err-finish_as-clause-one
-returns-in_err-finish_as-clause-one g c =
-    let m = g.D.Disk.told in
-    let e = c.in_err-finish_as.ensures in
-    let (fault, was, same) = err_from_is_err_and c.from_residual-in_err-finish_as.result c.from_residual-in_err-finish_as.ensures.1 in
-    let is = was ∙ ap (λ d. Err d) same in
-    rw (is) (inr e.device)
-
-pub returns-clause-settled : goal.returns-clause-settled
-returns-clause-settled g c = c.in_ok-finish_as.ensures.settled
-
-pub returns-clause-kept : goal.returns-clause-kept
-returns-clause-kept g c = c.in_ok-copy_messages.ensures.kept
-
-pub returns-clause-counted : goal.returns-clause-counted
-returns-clause-counted g c =
-    let m = g.D.Disk.told in
-    counted_next m c.args.target.now c.copy_messages.new.target c.finish_as.new.target false (counted_next m c.args.target.now c.begin_as.new.target c.copy_messages.new.target false c.in_ok-begin_as.ensures.counted c.in_ok-copy_messages.ensures.counted) c.in_ok-finish_as.ensures.counted
-
-pub returns-clause-one : goal.returns-clause-one
-returns-clause-one g c = tt
+pub returns-in_err-begin_as : goal.returns-in_err-begin_as
+returns-in_err-begin_as g c = record {
+  stands =
+      let (fault, was, same) = err_from_is_err_and c.from_residual.result c.from_residual.ensures.1 in
+      let is = was ∙ ap (λ d. Err d) same in
+      rw (is) tt;
+  settled =
+      let (fault, was, same) = err_from_is_err_and c.from_residual.result c.from_residual.ensures.1 in
+      let is = was ∙ ap (λ d. Err d) same in
+      rw (is) tt;
+  made =
+      λ live stands fits short start le so_far.
+      none_leaves g.D.Disk.told (LowStands c.args.to.now c.args.counts.now.accepted c.args.counts.now.removed live) start c.begin_as.new.target (c.begin_as.ensures.during short start le so_far);
+  kept =
+      let m = g.D.Disk.told in
+      let e = c.in_err-begin_as.ensures in
+      let (fault, was, same) = err_from_is_err_and c.from_residual.result c.from_residual.ensures.1 in
+      let is = was ∙ ap (λ d. Err d) same in
+      rw (is) (old_kept m Low c.in_err-begin_as.field-0.0 c.args.source.now c.args.source.now (λ _. ap (λ (x : MoveFault). x.new) e.device) (kept_still m c.args.source.now));
+  counted =
+      let m = g.D.Disk.told in
+      let e = c.in_err-begin_as.ensures in
+      let (fault, was, same) = err_from_is_err_and c.from_residual.result c.from_residual.ensures.1 in
+      let is = was ∙ ap (λ d. Err d) same in
+      rw (is) e.counted;
+  one =
+      let m = g.D.Disk.told in
+      let e = c.in_err-begin_as.ensures in
+      let (fault, was, same) = err_from_is_err_and c.from_residual.result c.from_residual.ensures.1 in
+      let is = was ∙ ap (λ d. Err d) same in
+      rw (is) (inr e.device);
+}

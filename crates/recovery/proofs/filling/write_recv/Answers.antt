@@ -1,4 +1,4 @@
-use Rattle.std.proofs.Common.{◌≡◌, ◌∙◌, ap, inr, false, Err, List, ℕ, length, sym, subst, arith}
+use Rattle.std.proofs.Common.{rules, ◌≡◌, ◌∙◌, ap, inr, false, Err, List, ℕ, length, sym, subst, arith}
 use Rattle.std.proofs.lemmas.Result.{err_from_is_err_and}
 use Rattle.disk_model.proofs.Run.{each_after}
 use Rattle.disk_model.specs.declared.name.Role.TheVariants.{Recv}
@@ -21,182 +21,155 @@ copy_bytes-requires-clause-starts g c = λ told.
     let size : length (m.reading d1) ≡ 80 = begun_length to Recv k.received k.end (m.reading d1) (omega arith) (c.in_ok-begin_as.ensures.bytes told) in
     omega (arith, size)
 
-pub returns-in_err-copy_bytes-clause-made : goal.returns-in_err-copy_bytes-clause-made
-returns-in_err-copy_bytes-clause-made g c = λ row received stands value fits short start le so_far.
-    let m = g.D.Disk.told in
-    let k = c.args.counts.now in
-    let to = c.args.to.now in
-    let d1 = c.begin_as.new.target in
-    let d2 = c.copy_bytes.new.target in
-    let began : LeavesFrom m start IsNone d1 = c.begin_as.ensures.during short start le so_far in
-    let copied : LeavesFrom m start IsNone d2 = zeros_leave m 80 start d1 d2 (omega arith) (omega (arith, le, c.begin_as.ensures.later)) began c.in_ok-begin_as.ensures.zeros c.copy_bytes.ensures.moves in
-    none_leaves m (RecvStands to received) start d2 copied
+pub returns-in_err-copy_bytes : goal.returns-in_err-copy_bytes
+returns-in_err-copy_bytes g c = record {
+  stands =
+      let (fault, was, same) = err_from_is_err_and c.from_residual-in_err-copy_bytes.result c.from_residual-in_err-copy_bytes.ensures.1 in
+      let is = was ∙ ap (λ d. Err d) same in
+      rw (is) tt;
+  settled =
+      let (fault, was, same) = err_from_is_err_and c.from_residual-in_err-copy_bytes.result c.from_residual-in_err-copy_bytes.ensures.1 in
+      let is = was ∙ ap (λ d. Err d) same in
+      rw (is) tt;
+  made =
+      λ row received stands value fits short start le so_far.
+      let m = g.D.Disk.told in
+      let k = c.args.counts.now in
+      let to = c.args.to.now in
+      let d1 = c.begin_as.new.target in
+      let d2 = c.copy_bytes.new.target in
+      let began : LeavesFrom m start IsNone d1 = c.begin_as.ensures.during short start le so_far in
+      let copied : LeavesFrom m start IsNone d2 = zeros_leave m 80 start d1 d2 (omega arith) (omega (arith, le, c.begin_as.ensures.later)) began c.in_ok-begin_as.ensures.zeros c.copy_bytes.ensures.moves in
+      none_leaves m (RecvStands to received) start d2 copied;
+  kept =
+      let m = g.D.Disk.told in
+      let e = c.in_err-copy_bytes.ensures in
+      let (fault, was, same) = err_from_is_err_and c.from_residual-in_err-copy_bytes.result c.from_residual-in_err-copy_bytes.ensures.1 in
+      let is = was ∙ ap (λ d. Err d) same in
+      rw (is) e.kept;
+  counted =
+      let m = g.D.Disk.told in
+      let e = c.in_err-copy_bytes.ensures in
+      let (fault, was, same) = err_from_is_err_and c.from_residual-in_err-copy_bytes.result c.from_residual-in_err-copy_bytes.ensures.1 in
+      let is = was ∙ ap (λ d. Err d) same in
+      rw (is) (counted_next m c.args.target.now c.begin_as.new.target c.copy_bytes.new.target _ c.in_ok-begin_as.ensures.counted e.counted);
+  one =
+      let m = g.D.Disk.told in
+      let e = c.in_err-copy_bytes.ensures in
+      let (fault, was, same) = err_from_is_err_and c.from_residual-in_err-copy_bytes.result c.from_residual-in_err-copy_bytes.ensures.1 in
+      let is = was ∙ ap (λ d. Err d) same in
+      rw (is) e.one;
+}
 
 pub finish_as-requires : goal.finish_as-requires
 finish_as-requires g c =
     let m = g.D.Disk.told in
     record { zeros = each_after m HasZeros HasZeros (KeepsFirst 80) c.begin_as.new.target c.copy_bytes.new.target c.in_ok-begin_as.ensures.zeros (λ x y is keeps. zeros_stay 80 x y (omega arith) is keeps) c.copy_bytes.ensures.moves }
 
-pub returns-in_err-finish_as-clause-made : goal.returns-in_err-finish_as-clause-made
-returns-in_err-finish_as-clause-made g c = λ row received stands value fits short start le so_far.
-    let m = g.D.Disk.told in
-    let k = c.args.counts.now in
-    let to = c.args.to.now in
-    let d1 = c.begin_as.new.target in
-    let d2 = c.copy_bytes.new.target in
-    let began : LeavesFrom m start IsNone d1 = c.begin_as.ensures.during short start le so_far in
-    let copied : LeavesFrom m start IsNone d2 = zeros_leave m 80 start d1 d2 (omega arith) (omega (arith, le, c.begin_as.ensures.later)) began c.in_ok-begin_as.ensures.zeros c.copy_bytes.ensures.moves in
-    let w = m.reading d2 in
-    let done = c.finish_as.ensures.during start (omega (arith, le, c.begin_as.ensures.later, c.copy_bytes.ensures.moves.later)) (none_leaves m (λ x. x ≡ marked w) start d2 copied) in
-    whole_leaves m (RecvStands to received) start c.finish_as.new.target (marked w) (λ told. recv_whole row to k.received k.end received (m.reading c.args.source.now) (m.reading d1) (m.reading d2) c.requires.count (stands told) (value told) (fits told) (c.in_ok-begin_as.ensures.bytes told)
-    (c.in_ok-copy_bytes.ensures.written told) c.requires.fits) done
+pub returns-in_err-finish_as : goal.returns-in_err-finish_as
+returns-in_err-finish_as g c = record {
+  stands =
+      let (fault, was, same) = err_from_is_err_and c.from_residual-in_err-finish_as.result c.from_residual-in_err-finish_as.ensures.1 in
+      let is = was ∙ ap (λ d. Err d) same in
+      rw (is) tt;
+  settled =
+      let (fault, was, same) = err_from_is_err_and c.from_residual-in_err-finish_as.result c.from_residual-in_err-finish_as.ensures.1 in
+      let is = was ∙ ap (λ d. Err d) same in
+      rw (is) tt;
+  made =
+      λ row received stands value fits short start le so_far.
+      let m = g.D.Disk.told in
+      let k = c.args.counts.now in
+      let to = c.args.to.now in
+      let d1 = c.begin_as.new.target in
+      let d2 = c.copy_bytes.new.target in
+      let began : LeavesFrom m start IsNone d1 = c.begin_as.ensures.during short start le so_far in
+      let copied : LeavesFrom m start IsNone d2 = zeros_leave m 80 start d1 d2 (omega arith) (omega (arith, le, c.begin_as.ensures.later)) began c.in_ok-begin_as.ensures.zeros c.copy_bytes.ensures.moves in
+      let w = m.reading d2 in
+      let done = c.finish_as.ensures.during start (omega (arith, le, c.begin_as.ensures.later, c.copy_bytes.ensures.moves.later)) (none_leaves m (λ x. x ≡ marked w) start d2 copied) in
+      whole_leaves m (RecvStands to received) start c.finish_as.new.target (marked w) (λ told. recv_whole row to k.received k.end received (m.reading c.args.source.now) (m.reading d1) (m.reading d2) c.requires.count (stands told) (value told) (fits told) (c.in_ok-begin_as.ensures.bytes told)
+      (c.in_ok-copy_bytes.ensures.written told) c.requires.fits) done;
+  kept =
+      let m = g.D.Disk.told in
+      let e = c.in_err-finish_as.ensures in
+      let (fault, was, same) = err_from_is_err_and c.from_residual-in_err-finish_as.result c.from_residual-in_err-finish_as.ensures.1 in
+      let is = was ∙ ap (λ d. Err d) same in
+      rw (is) (old_kept m Recv c.in_err-finish_as.field-0.0 c.args.source.now c.copy_bytes.new.source (λ _. ap (λ (x : MoveFault). x.new) e.device) c.in_ok-copy_bytes.ensures.kept);
+  counted =
+      let m = g.D.Disk.told in
+      let e = c.in_err-finish_as.ensures in
+      let (fault, was, same) = err_from_is_err_and c.from_residual-in_err-finish_as.result c.from_residual-in_err-finish_as.ensures.1 in
+      let is = was ∙ ap (λ d. Err d) same in
+      rw (is) (counted_next m c.args.target.now c.copy_bytes.new.target c.finish_as.new.target _ (counted_next m c.args.target.now c.begin_as.new.target c.copy_bytes.new.target false c.in_ok-begin_as.ensures.counted c.in_ok-copy_bytes.ensures.counted) e.counted);
+  one =
+      let m = g.D.Disk.told in
+      let e = c.in_err-finish_as.ensures in
+      let (fault, was, same) = err_from_is_err_and c.from_residual-in_err-finish_as.result c.from_residual-in_err-finish_as.ensures.1 in
+      let is = was ∙ ap (λ d. Err d) same in
+      rw (is) (inr e.device);
+}
 
-pub returns-clause-made : goal.returns-clause-made
-returns-clause-made g c = λ row received stands value fits short start le so_far.
-    let m = g.D.Disk.told in
-    let k = c.args.counts.now in
-    let to = c.args.to.now in
-    let d1 = c.begin_as.new.target in
-    let d2 = c.copy_bytes.new.target in
-    let began : LeavesFrom m start IsNone d1 = c.begin_as.ensures.during short start le so_far in
-    let copied : LeavesFrom m start IsNone d2 = zeros_leave m 80 start d1 d2 (omega arith) (omega (arith, le, c.begin_as.ensures.later)) began c.in_ok-begin_as.ensures.zeros c.copy_bytes.ensures.moves in
-    let w = m.reading d2 in
-    let done = c.finish_as.ensures.during start (omega (arith, le, c.begin_as.ensures.later, c.copy_bytes.ensures.moves.later)) (none_leaves m (λ x. x ≡ marked w) start d2 copied) in
-    whole_leaves m (RecvStands to received) start c.finish_as.new.target (marked w) (λ told. recv_whole row to k.received k.end received (m.reading c.args.source.now) (m.reading d1) (m.reading d2) c.requires.count (stands told) (value told) (fits told) (c.in_ok-begin_as.ensures.bytes told)
-    (c.in_ok-copy_bytes.ensures.written told) c.requires.fits) done
+pub returns : goal.returns
+returns g c = record {
+  stands =
+      λ told row received stands value fits.
+      let m = g.D.Disk.told in
+      let k = c.args.counts.now in
+      let to = c.args.to.now in
+      let d1 = c.begin_as.new.target in
+      let d2 = c.copy_bytes.new.target in
+      subst (λ (z : List ℕ). RecvStands to received z) (sym (c.in_ok-finish_as.ensures.bytes told)) (recv_whole row to k.received k.end received (m.reading c.args.source.now) (m.reading d1) (m.reading d2) c.requires.count stands value fits (c.in_ok-begin_as.ensures.bytes told)
+      (c.in_ok-copy_bytes.ensures.written told) c.requires.fits);
+  settled = c.in_ok-finish_as.ensures.settled;
+  made =
+      λ row received stands value fits short start le so_far.
+      let m = g.D.Disk.told in
+      let k = c.args.counts.now in
+      let to = c.args.to.now in
+      let d1 = c.begin_as.new.target in
+      let d2 = c.copy_bytes.new.target in
+      let began : LeavesFrom m start IsNone d1 = c.begin_as.ensures.during short start le so_far in
+      let copied : LeavesFrom m start IsNone d2 = zeros_leave m 80 start d1 d2 (omega arith) (omega (arith, le, c.begin_as.ensures.later)) began c.in_ok-begin_as.ensures.zeros c.copy_bytes.ensures.moves in
+      let w = m.reading d2 in
+      let done = c.finish_as.ensures.during start (omega (arith, le, c.begin_as.ensures.later, c.copy_bytes.ensures.moves.later)) (none_leaves m (λ x. x ≡ marked w) start d2 copied) in
+      whole_leaves m (RecvStands to received) start c.finish_as.new.target (marked w) (λ told. recv_whole row to k.received k.end received (m.reading c.args.source.now) (m.reading d1) (m.reading d2) c.requires.count (stands told) (value told) (fits told) (c.in_ok-begin_as.ensures.bytes told)
+      (c.in_ok-copy_bytes.ensures.written told) c.requires.fits) done;
+  kept = c.in_ok-copy_bytes.ensures.kept;
+  counted =
+      let m = g.D.Disk.told in
+      counted_next m c.args.target.now c.copy_bytes.new.target c.finish_as.new.target false (counted_next m c.args.target.now c.begin_as.new.target c.copy_bytes.new.target false c.in_ok-begin_as.ensures.counted c.in_ok-copy_bytes.ensures.counted) c.in_ok-finish_as.ensures.counted;
+  one = tt;
+}
 
-pub returns-clause-stands : goal.returns-clause-stands
-returns-clause-stands g c = λ told row received stands value fits.
-    let m = g.D.Disk.told in
-    let k = c.args.counts.now in
-    let to = c.args.to.now in
-    let d1 = c.begin_as.new.target in
-    let d2 = c.copy_bytes.new.target in
-    subst (λ (z : List ℕ). RecvStands to received z) (sym (c.in_ok-finish_as.ensures.bytes told)) (recv_whole row to k.received k.end received (m.reading c.args.source.now) (m.reading d1) (m.reading d2) c.requires.count stands value fits (c.in_ok-begin_as.ensures.bytes told)
-    (c.in_ok-copy_bytes.ensures.written told) c.requires.fits)
-
-pub returns-in_err-begin_as-clause-made : goal.returns-in_err-begin_as-clause-made
-returns-in_err-begin_as-clause-made g c = λ row received stands value fits short start le so_far.
-    none_leaves g.D.Disk.told (RecvStands c.args.to.now received) start c.begin_as.new.target (c.begin_as.ensures.during short start le so_far)
-
-pub returns-in_err-begin_as-clause-stands : goal.returns-in_err-begin_as-clause-stands
-returns-in_err-begin_as-clause-stands g c =
-    let (fault, was, same) = err_from_is_err_and c.from_residual.result c.from_residual.ensures.1 in
-    let is = was ∙ ap (λ d. Err d) same in
-    rw (is) tt
-
-pub returns-in_err-begin_as-clause-settled : goal.returns-in_err-begin_as-clause-settled
-returns-in_err-begin_as-clause-settled g c =
-    let (fault, was, same) = err_from_is_err_and c.from_residual.result c.from_residual.ensures.1 in
-    let is = was ∙ ap (λ d. Err d) same in
-    rw (is) tt
-
-pub returns-in_err-begin_as-clause-kept : goal.returns-in_err-begin_as-clause-kept
-returns-in_err-begin_as-clause-kept g c =
-    let m = g.D.Disk.told in
-    let e = c.in_err-begin_as.ensures in
-    let (fault, was, same) = err_from_is_err_and c.from_residual.result c.from_residual.ensures.1 in
-    let is = was ∙ ap (λ d. Err d) same in
-    rw (is) (old_kept m Recv c.in_err-begin_as.field-0.0 c.args.source.now c.args.source.now (λ _. ap (λ (x : MoveFault). x.new) e.device) (kept_still m c.args.source.now))
-
-pub returns-in_err-begin_as-clause-counted : goal.returns-in_err-begin_as-clause-counted
-returns-in_err-begin_as-clause-counted g c =
-    let m = g.D.Disk.told in
-    let e = c.in_err-begin_as.ensures in
-    let (fault, was, same) = err_from_is_err_and c.from_residual.result c.from_residual.ensures.1 in
-    let is = was ∙ ap (λ d. Err d) same in
-    rw (is) e.counted
-
-pub returns-in_err-begin_as-clause-one : goal.returns-in_err-begin_as-clause-one
-returns-in_err-begin_as-clause-one g c =
-    let m = g.D.Disk.told in
-    let e = c.in_err-begin_as.ensures in
-    let (fault, was, same) = err_from_is_err_and c.from_residual.result c.from_residual.ensures.1 in
-    let is = was ∙ ap (λ d. Err d) same in
-    rw (is) (inr e.device)
-
-pub returns-in_err-copy_bytes-clause-stands : goal.returns-in_err-copy_bytes-clause-stands
-returns-in_err-copy_bytes-clause-stands g c =
-    let (fault, was, same) = err_from_is_err_and c.from_residual-in_err-copy_bytes.result c.from_residual-in_err-copy_bytes.ensures.1 in
-    let is = was ∙ ap (λ d. Err d) same in
-    rw (is) tt
-
-pub returns-in_err-copy_bytes-clause-settled : goal.returns-in_err-copy_bytes-clause-settled
-returns-in_err-copy_bytes-clause-settled g c =
-    let (fault, was, same) = err_from_is_err_and c.from_residual-in_err-copy_bytes.result c.from_residual-in_err-copy_bytes.ensures.1 in
-    let is = was ∙ ap (λ d. Err d) same in
-    rw (is) tt
-
-pub returns-in_err-copy_bytes-clause-kept : goal.returns-in_err-copy_bytes-clause-kept
-returns-in_err-copy_bytes-clause-kept g c =
-    let m = g.D.Disk.told in
-    let e = c.in_err-copy_bytes.ensures in
-    let (fault, was, same) = err_from_is_err_and c.from_residual-in_err-copy_bytes.result c.from_residual-in_err-copy_bytes.ensures.1 in
-    let is = was ∙ ap (λ d. Err d) same in
-    rw (is) e.kept
-
-pub returns-in_err-copy_bytes-clause-counted : goal.returns-in_err-copy_bytes-clause-counted
-returns-in_err-copy_bytes-clause-counted g c =
-    let m = g.D.Disk.told in
-    let e = c.in_err-copy_bytes.ensures in
-    let (fault, was, same) = err_from_is_err_and c.from_residual-in_err-copy_bytes.result c.from_residual-in_err-copy_bytes.ensures.1 in
-    let is = was ∙ ap (λ d. Err d) same in
-    rw (is) (counted_next m c.args.target.now c.begin_as.new.target c.copy_bytes.new.target _ c.in_ok-begin_as.ensures.counted e.counted)
-
-pub returns-in_err-copy_bytes-clause-one : goal.returns-in_err-copy_bytes-clause-one
-returns-in_err-copy_bytes-clause-one g c =
-    let m = g.D.Disk.told in
-    let e = c.in_err-copy_bytes.ensures in
-    let (fault, was, same) = err_from_is_err_and c.from_residual-in_err-copy_bytes.result c.from_residual-in_err-copy_bytes.ensures.1 in
-    let is = was ∙ ap (λ d. Err d) same in
-    rw (is) e.one
-
-pub returns-in_err-finish_as-clause-stands : goal.returns-in_err-finish_as-clause-stands
-returns-in_err-finish_as-clause-stands g c =
-    let (fault, was, same) = err_from_is_err_and c.from_residual-in_err-finish_as.result c.from_residual-in_err-finish_as.ensures.1 in
-    let is = was ∙ ap (λ d. Err d) same in
-    rw (is) tt
-
-pub returns-in_err-finish_as-clause-settled : goal.returns-in_err-finish_as-clause-settled
-returns-in_err-finish_as-clause-settled g c =
-    let (fault, was, same) = err_from_is_err_and c.from_residual-in_err-finish_as.result c.from_residual-in_err-finish_as.ensures.1 in
-    let is = was ∙ ap (λ d. Err d) same in
-    rw (is) tt
-
-pub returns-in_err-finish_as-clause-kept : goal.returns-in_err-finish_as-clause-kept
-returns-in_err-finish_as-clause-kept g c =
-    let m = g.D.Disk.told in
-    let e = c.in_err-finish_as.ensures in
-    let (fault, was, same) = err_from_is_err_and c.from_residual-in_err-finish_as.result c.from_residual-in_err-finish_as.ensures.1 in
-    let is = was ∙ ap (λ d. Err d) same in
-    rw (is) (old_kept m Recv c.in_err-finish_as.field-0.0 c.args.source.now c.copy_bytes.new.source (λ _. ap (λ (x : MoveFault). x.new) e.device) c.in_ok-copy_bytes.ensures.kept)
-
-pub returns-in_err-finish_as-clause-counted : goal.returns-in_err-finish_as-clause-counted
-returns-in_err-finish_as-clause-counted g c =
-    let m = g.D.Disk.told in
-    let e = c.in_err-finish_as.ensures in
-    let (fault, was, same) = err_from_is_err_and c.from_residual-in_err-finish_as.result c.from_residual-in_err-finish_as.ensures.1 in
-    let is = was ∙ ap (λ d. Err d) same in
-    rw (is) (counted_next m c.args.target.now c.copy_bytes.new.target c.finish_as.new.target _ (counted_next m c.args.target.now c.begin_as.new.target c.copy_bytes.new.target false c.in_ok-begin_as.ensures.counted c.in_ok-copy_bytes.ensures.counted) e.counted)
-
-pub returns-in_err-finish_as-clause-one : goal.returns-in_err-finish_as-clause-one
-returns-in_err-finish_as-clause-one g c =
-    let m = g.D.Disk.told in
-    let e = c.in_err-finish_as.ensures in
-    let (fault, was, same) = err_from_is_err_and c.from_residual-in_err-finish_as.result c.from_residual-in_err-finish_as.ensures.1 in
-    let is = was ∙ ap (λ d. Err d) same in
-    rw (is) (inr e.device)
-
-pub returns-clause-settled : goal.returns-clause-settled
-returns-clause-settled g c = c.in_ok-finish_as.ensures.settled
-
-pub returns-clause-kept : goal.returns-clause-kept
-returns-clause-kept g c = c.in_ok-copy_bytes.ensures.kept
-
-pub returns-clause-counted : goal.returns-clause-counted
-returns-clause-counted g c =
-    let m = g.D.Disk.told in
-    counted_next m c.args.target.now c.copy_bytes.new.target c.finish_as.new.target false (counted_next m c.args.target.now c.begin_as.new.target c.copy_bytes.new.target false c.in_ok-begin_as.ensures.counted c.in_ok-copy_bytes.ensures.counted) c.in_ok-finish_as.ensures.counted
-
-pub returns-clause-one : goal.returns-clause-one
-returns-clause-one g c = tt
+pub returns-in_err-begin_as : goal.returns-in_err-begin_as
+returns-in_err-begin_as g c = record {
+  stands =
+      let (fault, was, same) = err_from_is_err_and c.from_residual.result c.from_residual.ensures.1 in
+      let is = was ∙ ap (λ d. Err d) same in
+      rw (is) tt;
+  settled =
+      let (fault, was, same) = err_from_is_err_and c.from_residual.result c.from_residual.ensures.1 in
+      let is = was ∙ ap (λ d. Err d) same in
+      rw (is) tt;
+  made =
+      λ row received stands value fits short start le so_far.
+      none_leaves g.D.Disk.told (RecvStands c.args.to.now received) start c.begin_as.new.target (c.begin_as.ensures.during short start le so_far);
+  kept =
+      let m = g.D.Disk.told in
+      let e = c.in_err-begin_as.ensures in
+      let (fault, was, same) = err_from_is_err_and c.from_residual.result c.from_residual.ensures.1 in
+      let is = was ∙ ap (λ d. Err d) same in
+      rw (is) (old_kept m Recv c.in_err-begin_as.field-0.0 c.args.source.now c.args.source.now (λ _. ap (λ (x : MoveFault). x.new) e.device) (kept_still m c.args.source.now));
+  counted =
+      let m = g.D.Disk.told in
+      let e = c.in_err-begin_as.ensures in
+      let (fault, was, same) = err_from_is_err_and c.from_residual.result c.from_residual.ensures.1 in
+      let is = was ∙ ap (λ d. Err d) same in
+      rw (is) e.counted;
+  one =
+      let m = g.D.Disk.told in
+      let e = c.in_err-begin_as.ensures in
+      let (fault, was, same) = err_from_is_err_and c.from_residual.result c.from_residual.ensures.1 in
+      let is = was ∙ ap (λ d. Err d) same in
+      rw (is) (inr e.device);
+}

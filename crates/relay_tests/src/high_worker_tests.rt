@@ -7,7 +7,7 @@ ghost use Rattle.high_process.specs.States.{last_of};
 use crate::fixtures::{Few, bytes, link};
 use crate::high_bench::{HighBench, high_bench};
 use disk_model::{Disk, MemDisk, PlainDisk};
-use pump_link::{Clock, Door, Link, MemLink, MemPorts, Ports, StepClock};
+use pump_link::{Clock, MemLink, MemPorts, Ports, StepClock};
 use relay_threads::{Gate, HighServed, HighWhy, Open, RoundsEnd, high_rounds, serve_high};
 use std::alloc::Global;
 use std::sync::Wait;
@@ -219,27 +219,32 @@ struct DoorCase {
     sent: &'static str,
 }
 
-// Serves the links of a door, and counts the readings of the clock.
-fn keep<D: Disk + Drop, P: Door, R: Wait>(
+// Serves the links of the high port, and counts the readings of the clock. None where it can't be listened
+// at.
+fn keep<D: Disk + Drop, P: Ports, R: Wait>(
     rt: &R,
     mut bench: HighBench<D>,
-    door: &mut P,
+    ports: &mut P,
     rounds: u32,
-) -> (RoundsEnd, u64)
+) -> Option<(RoundsEnd, u64)>
     requires ready { Ready D.told bench.process bench.store (EndsStandFor bench.ends.0) }
     requires last { last_of bench.process ≡ 0 }
 {
+    let Ok(mut door) = ports.listen(7002) else {
+        return None;
+    };
     let mut clock = StepClock::new(0, 10);
     let end = high_rounds(
         rt,
-        door,
+        &mut door,
         &mut clock,
         &mut bench.process,
         &mut bench.store,
         &mut bench.ends,
         rounds,
     );
-    (end, clock.readings())
+    ports.shut(door);
+    Some((end, clock.readings()))
 }
 
 // Whether a worker goes as the case says, over a link with ATTACH 0 and TAKEN 0.
@@ -247,19 +252,15 @@ fn is_kept_so<R: Wait>(rt: &R, alloc: Global, case: DoorCase) -> Result<bool, Fa
     let sent = bytes(alloc, case.sent)?;
     let coming = bytes(alloc, TAKES)?;
     let links = vec![in alloc; link(alloc, 0, coming.as_slice(), false)?]?;
-    let mut ports = MemPorts::new(links, Vec::new(alloc));
-    let Ok(mut door) = ports.listen(7002) else {
-        return Err(Fail::new("no door"));
-    };
     let disk = MemDisk::new(alloc, 80, 40, vec![in alloc; case.failing]?)?;
     let bench = high_bench(alloc, disk, 0, true)?;
-    let found = keep(rt, bench, &mut door, case.rounds);
-    ports.shut(door);
+    let mut ports = MemPorts::new(links, Vec::new(alloc));
+    let found = keep(rt, bench, &mut ports, case.rounds);
     let has_sent = match ports.given_back().first() {
         Some(back) => back.sent() == sent.as_slice(),
         None => false,
     };
-    Ok(found == (case.end, case.readings) && has_sent)
+    Ok(found == Some((case.end, case.readings)) && has_sent)
 }
 
 // A new disk takes three calls and its opening two, so the second call of a removal has number 6.

@@ -1,5 +1,4 @@
-// The low process by its own calls: what its looks do, one after another, and what a head is that
-// looks fill in turn.
+// The low process by its own calls: what its looks do, one after another.
 ghost use Rattle.std.specs.Prelude.{◌≡◌, ◌^◌, ◌≤◌, [], IfSome};
 ghost use Rattle.passage.specs.Plain.{StandsFor as EndsStandFor};
 ghost use Rattle.low_process.specs.Ready.{Ready};
@@ -8,8 +7,8 @@ ghost use Rattle.low_process.specs.Looks.{IsLawful, arrival_of, last_of};
 use crate::fixtures::data;
 use crate::low_bench::{LowBench, low_bench};
 use disk_model::{Disk, MemDisk, PlainDisk};
-use low_process::{Arrival, LookHead, LowLook};
-use pump_core::{Feedback, Refusal, Reply, Seen};
+use low_process::{Arrival, LowLook};
+use pump_core::{Feedback, Seen};
 use pump_frame::{Frame, Kind, Name};
 use std::alloc::Global;
 use std::process::Abort;
@@ -126,18 +125,6 @@ impl<D: Disk + Drop> LowBench<D> {
             .process
             .look_waiting(rt, moment, word, arrival, &mut self.store, &mut self.ends);
         Some(Told::of(&look))
-    }
-
-    // As `look`, into a head that may hold another look.
-    fn look_into(&mut self, moment: u64, frame: Option<&Frame>, head: &mut LookHead) -> bool
-        requires { Ready D.told self.old.process self.old.store (EndsStandFor self.old.ends.0) }
-        ensures { Ready D.told self.new.process self.new.store (EndsStandFor self.new.ends.0) }
-    {
-        let Some(arrival) = self.arrival(moment, frame) else {
-            return false;
-        };
-        self.process.look_into(moment, 0, arrival, &mut self.store, &mut self.ends.0, head);
-        true
     }
 }
 
@@ -347,99 +334,5 @@ fn a_store_that_fails_is_refused(rt: HostRuntime) -> Result<(), Fail> {
         let steps = [greets(10, 0), refuses(100, 0, 0), unanswered];
         assert_eq!(rt; run(&rt, alloc, disk, 0, &steps)?.is_down, true);
     }
-    Ok(())
-}
-
-/// What a look does to the head.
-#[derive(Clone, Copy)]
-struct HeadStep {
-    moment: u64,
-    coming: Coming,
-    taken: bool,
-    stored: Option<u64>,
-    reply: Option<Reply>,
-    feedback: Feedback,
-}
-
-const HEAD_STEP: HeadStep = HeadStep {
-    moment: 0,
-    coming: Coming::Nothing,
-    taken: false,
-    stored: None,
-    reply: None,
-    feedback: Feedback::Quiet,
-};
-
-// Makes these looks into one head, which held another look before.
-fn fill<D: Disk + Drop, R: Abort>(rt: &R, bench: &mut LowBench<D>, steps: &[HeadStep])
-    requires { Ready D.told bench.old.process bench.old.store (EndsStandFor bench.old.ends.0) }
-{
-    let mut head = LookHead {
-        taken: true,
-        stored: Some(9),
-        reply: Some(Reply::Ack { number: 9 }),
-        feedback: Feedback::Full,
-    };
-    for step in steps {
-        let moment = step.moment;
-        let frame = step.coming.frame();
-        assert!(rt;
-            bench.look_into(moment, frame.as_ref(), &mut head),
-            "at {moment}"
-        );
-        assert_eq!(rt;
-            (head.taken, head.stored, head.reply, head.feedback),
-            (step.taken, step.stored, step.reply, step.feedback),
-            "at {moment}"
-        );
-    }
-}
-
-#[test]
-fn a_head_holds_one_look(rt: HostRuntime) -> Result<(), Fail> {
-    let mut bench = low_bench(rt.alloc(), PlainDisk::new(rt.alloc(), 110)?, 0)?;
-    assert_eq!(rt; bench.process.row().id, 1);
-    let steps = [
-        HeadStep {
-            moment: 5,
-            ..HEAD_STEP
-        },
-        HeadStep {
-            // before the HELLO
-            moment: 6,
-            coming: Coming::Data(0),
-            taken: true,
-            reply: Some(Reply::Refuse {
-                why: Refusal::Frame,
-                number: 0,
-            }),
-            ..HEAD_STEP
-        },
-        HeadStep {
-            moment: 10,
-            coming: Coming::Hello,
-            taken: true,
-            reply: Some(Reply::Welcome { number: 0 }),
-            ..HEAD_STEP
-        },
-        HeadStep {
-            moment: 100,
-            coming: Coming::Data(0),
-            taken: true,
-            stored: Some(0),
-            ..HEAD_STEP
-        },
-        HeadStep {
-            moment: 100,
-            feedback: Feedback::Passed(SEEN),
-            ..HEAD_STEP
-        },
-        HeadStep {
-            moment: 178,
-            reply: Some(Reply::Ack { number: 0 }),
-            ..HEAD_STEP
-        },
-    ];
-    fill(&rt, &mut bench, &steps);
     Ok(())
 }

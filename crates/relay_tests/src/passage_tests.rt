@@ -1,11 +1,8 @@
-// The ends of each passage, which fill and empty alike: on one thread, and of a queue and of a ring.
+// The two ends of a queue and of a ring, which fill and empty alike.
 ghost use Rattle.std.specs.Prelude.{◌≡◌, ◌-◌, ◌^◌, ◌<◌, ◌≤◌, true};
 
 use crate::fixtures::{item, row};
-use passage::{
-    Calm, Forwarded, HighEnd, Joined, LowEnd, Next, PlainEnds, QueuePassage, WaitHighEnd,
-    WaitLowEnd,
-};
+use passage::{Calm, Forwarded, Joined, Next, QueuePassage, WaitHighEnd, WaitLowEnd};
 use pump_core::Seen;
 use relay_ring::RingPassage;
 use std::process::Abort;
@@ -43,13 +40,6 @@ struct Counts {
     published: u32,
 }
 
-/// The ends on one thread.
-#[derive(Drop)]
-struct Plain {
-    ends: PlainEnds,
-    counts: Counts,
-}
-
 /// Two ends that know nothing of each other.
 #[derive(Drop)]
 struct Apart<L, H> {
@@ -74,50 +64,6 @@ impl Counts {
         ensures { result ≡ true → (micros ≤ 10 ^ 9) × (self.now.published < 2 ^ 32 - 1) }
     {
         micros <= 1_000_000_000 && self.published < u32::MAX
-    }
-}
-
-impl Bench for Plain {
-    ghost use Rattle.passage.specs.Plain.{StandsFor};
-    ghost use Rattle.passage.specs.Ready.{Ready};
-
-    ghost ready = { λ b. Ready (StandsFor b.ends) b.counts.next b.counts.removed b.counts.published };
-
-    fn offer<R: Wait>(&mut self, _rt: &R) -> bool {
-        let Some(item) = item(self.counts.next) else {
-            return false;
-        };
-        match self.ends.forward(item) {
-            Forwarded::Passed => {
-                self.counts.next += 1;
-                true
-            }
-            Forwarded::Full(_) => false,
-        }
-    }
-
-    fn read<R: Wait>(&mut self, _rt: &R) -> Seen {
-        self.ends.average()
-    }
-
-    fn ask<R: Wait>(&mut self, _rt: &R) -> Option<u64> {
-        if self.counts.removed == u64::MAX {
-            return None;
-        }
-        match self.ends.next(self.counts.removed) {
-            Next::Got(item) => {
-                self.counts.removed += 1;
-                Some(item.number)
-            }
-            Next::Empty => None,
-        }
-    }
-
-    fn publish<R: Wait>(&mut self, _rt: &R, micros: u32) {
-        if self.counts.may_publish(micros) {
-            self.ends.publish(micros);
-            self.counts.published += 1;
-        }
     }
 }
 
@@ -206,22 +152,6 @@ const CALLS: [Call; 10] = [
     Call::Ask(Some(1)),
     Call::Ask(None),
 ];
-
-#[test]
-fn the_ends_on_one_thread_fill_and_empty(rt: HostRuntime) -> Result<(), Fail> {
-    let Some(row) = row() else {
-        return Err(Fail::new("no row"));
-    };
-    let mut bench = Plain {
-        ends: PlainEnds::new(rt.alloc(), &row)?,
-        counts: Counts::new(),
-    };
-    make(&rt, &mut bench, &CALLS[..8]);
-    assert_eq!(rt; bench.ends.held(), 1);
-    bench.ends.clear();
-    assert_eq!(rt; bench.ends.held(), 0);
-    Ok(())
-}
 
 const EMPTIED: Joined = Joined {
     forwarded: 2,

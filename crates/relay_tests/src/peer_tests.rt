@@ -1,4 +1,5 @@
-// The two parties at the ports: what a sender and a receiver make of the frames that come.
+// The two parties at the ports: what a sender and a receiver make of the frames that come. Their other ends
+// are in `dispatch_tests`.
 ghost use Rattle.std.specs.Prelude.{◌≡◌, ◌≤◌, [], IfSome};
 ghost use Rattle.pump_frame.specs.Rows.{IsLawfulRow};
 ghost use Rattle.high_receiver.specs.Receiving.{IsRecvReady, recv_row};
@@ -35,8 +36,6 @@ const ACK_1: &[u8] = b"NP\x01\x04\0\0\0\x01\0\0\0\0\0\0\0\x01\0\0";
 
 const OTHER_ACK_0: &[u8] = b"NP\x01\x04\0\0\0\x02\0\0\0\0\0\0\0\0\0\0";
 
-const REFUSE_4: &[u8] = b"NP\x01\x05\0\0\0\x01\0\0\0\0\0\0\0\x01\0\x01\x04";
-
 const ATTACH_0: &[u8] = b"NP\x01\x06\0\0\0\x01\0\0\0\0\0\0\0\0\0\0";
 
 const TAKEN_0: &[u8] = b"NP\x01\x07\0\0\0\x01\0\0\0\0\0\0\0\0\0\0";
@@ -63,9 +62,11 @@ struct SendRow<'a> {
 fn sends(alloc: Global, row: &SessionRow, case: &SendRow) -> Result<bool, Fail> {
     let sent = joined(alloc, case.sent)?;
     let coming = joined(alloc, case.frames)?;
+    let script = joined(alloc, &[case.script])?;
+    let room = vec![in alloc; 0; 64]?;
     let mut link = link(alloc, 0, coming.as_slice(), false)?;
-    let mut script = MemSource::new(joined(alloc, &[case.script])?, 3, Vec::new(alloc));
-    let mut out = MemSink::new(vec![in alloc; 0; 64]?, 3, Vec::new(alloc));
+    let mut script = MemSource::new(script, 3, Vec::new(alloc));
+    let mut out = MemSink::new(room, 3, Vec::new(alloc));
     let end = send_with(row, case.looks, &mut link, &mut script, &mut out);
     Ok(end == case.end && out.written() == case.printed && link.sent() == sent.as_slice())
 }
@@ -76,38 +77,6 @@ fn a_sender_sends_what_is_not_stored(rt: HostRuntime) -> Result<(), Fail> {
         return Err(Fail::new("no row"));
     };
     let rows = [
-        SendRow {
-            script: b"61\n",
-            frames: &[WELCOME_0, ACK_0],
-            looks: 100,
-            end: SendEnd::Done,
-            printed: b"ack 0\n",
-            sent: &[HELLO, DATA_0],
-        },
-        SendRow {
-            script: b"61\n",
-            frames: &[WELCOME_0],
-            looks: 100,
-            end: SendEnd::Unfinished { number: 0 },
-            printed: b"",
-            sent: &[HELLO, DATA_0],
-        },
-        SendRow {
-            script: b"61\n",
-            frames: &[WELCOME_0, REFUSE_4],
-            looks: 100,
-            end: SendEnd::Refused { code: 4, number: 1 },
-            printed: b"",
-            sent: &[HELLO, DATA_0],
-        },
-        SendRow {
-            script: b"6\n",
-            frames: &[WELCOME_0],
-            looks: 100,
-            end: SendEnd::Script { line: 1 },
-            printed: b"",
-            sent: &[HELLO],
-        },
         SendRow {
             script: b"61\n-\n62",
             frames: &[WELCOME_1, OTHER_ACK_0, ACK_0, ACK_1],
@@ -186,9 +155,10 @@ fn receives(alloc: Global, row: &SessionRow, case: &ReceiveRow) -> Result<bool, 
 {
     let sent = joined(alloc, case.sent)?;
     let coming = joined(alloc, case.frames)?;
-    let mut link = link(alloc, 0, coming.as_slice(), false)?;
-    let mut out = MemSink::new(vec![in alloc; 0; 64]?, 3, Vec::new(alloc));
+    let room = vec![in alloc; 0; 64]?;
     let disk = PlainDisk::new(alloc, 128)?;
+    let mut link = link(alloc, 0, coming.as_slice(), false)?;
+    let mut out = MemSink::new(room, 3, Vec::new(alloc));
     let end = receive(row, disk, case, &mut link, &mut out);
     Ok(end == Some(case.end) && out.written() == case.printed && link.sent() == sent.as_slice())
 }
@@ -199,14 +169,6 @@ fn a_receiver_takes_what_is_next(rt: HostRuntime) -> Result<(), Fail> {
         return Err(Fail::new("no row"));
     };
     let rows = [
-        ReceiveRow {
-            frames: &[DATA_0],
-            looks: 100,
-            size: 128,
-            end: ReceiveEnd::Ended,
-            printed: b"took 1 0\n",
-            sent: &[ATTACH_0, TAKEN_0],
-        },
         ReceiveRow {
             frames: &[OTHER_DATA_0, LONG_0, DATA_1],
             looks: 100,

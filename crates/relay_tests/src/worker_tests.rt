@@ -6,16 +6,14 @@ ghost use Rattle.low_process.specs.Looks.{arrival_of};
 ghost use Rattle.pump_core.specs.ReplyFrames.{IsLawfulReply};
 ghost use Rattle.relay_threads.specs.RecordLines.{HasLawfulFrame};
 
-use crate::fixtures::{Few, data, row};
+use crate::fixtures::{data, row};
 use arrayvec::ArrayVec;
 use low_process::{Arrival, LookHead};
 use passage::{Calm, Forwarded, Joined, Next, QueuePassage, WaitHighEnd, WaitLowEnd};
-use pump_core::{Feedback, Refusal, Reply, Seen};
-use pump_frame::{Frame, Item, OutOfMemory, Payload, SessionRow};
+use pump_core::{Feedback, Reply, Seen};
+use pump_frame::{Item, OutOfMemory, Payload, SessionRow};
 use relay_ring::RingPassage;
-use relay_threads::{
-    Gate, LookMade, Open, Work, append_look, append_opening, is_recorded, run_pair, try_run_pair,
-};
+use relay_threads::{LookMade, Work, append_look, is_recorded, run_pair, try_run_pair};
 use std::sync::Wait;
 use std::sync::atomic::{AtomicBool, Ordering};
 use std::test::Fail;
@@ -232,28 +230,12 @@ fn items_pass_through_the_ring(rt: HostRuntime) -> Result<(), Fail> {
     Ok(())
 }
 
-#[test]
-fn a_gate_counts_its_stops(rt: HostRuntime) {
-    let mut open = Open;
-    assert!(rt; open.pass(&rt, 0, 0) && open.pass(&rt, 1_000_000, 3));
-    assert_eq!(rt; open.stops(), 0);
-    let mut few = Few { looks: 1, stops: 0 };
-    assert_eq!(rt;
-        (few.pass(&rt, 0, 0), few.pass(&rt, 1, 0), few.stops()),
-        (true, false, 1)
-    );
-}
-
-fn hello(row: &SessionRow) -> Frame {
-    Frame::hello(row.id, &row.low, &row.high)
-}
-
-// What a look did that took this arrival or not.
-fn done(taken: bool, reply: Option<Reply>, feedback: Feedback) -> LookHead {
+// What a look did that took this arrival or not, and replied nothing.
+fn done(taken: bool, feedback: Feedback) -> LookHead {
     LookHead {
         taken,
         stored: None,
-        reply,
+        reply: None,
         feedback,
     }
 }
@@ -276,20 +258,18 @@ fn may_come(arrival: Arrival<'_>) -> bool
     }
 }
 
-fn may_reply(reply: &Option<Reply>) -> bool
+fn is_silent(reply: &Option<Reply>) -> bool
     ensures { result ≡ true → IfSome reply.now IsLawfulReply }
 {
     match reply {
-        Some(Reply::Welcome { number } | Reply::Ack { number } | Reply::Refuse { number, .. }) => {
-            *number < 1 << 48
-        }
+        Some(_) => false,
         None => true,
     }
 }
 
 // Whether the look is recorded by this text.
 fn is_told(row: &SessionRow, look: &LookMade, text: &[u8]) -> bool {
-    if !may_come(look.arrival) || !may_reply(&look.look.reply) {
+    if !may_come(look.arrival) || !is_silent(&look.look.reply) {
         return false;
     }
     let mut body = ArrayVec::new();
@@ -298,118 +278,40 @@ fn is_told(row: &SessionRow, look: &LookMade, text: &[u8]) -> bool {
     into.as_slice() == text
 }
 
+// What the records of `low_worker_tests` do not have.
 #[test]
 fn looks_are_told(rt: HostRuntime) -> Result<(), Fail> {
     let (Some(row), Some(data)) = (row(), data(0)) else {
         return Err(Fail::new("no row"));
     };
-    let hello = hello(&row);
     let seen = Seen {
         count: 2,
         average: 375,
     };
-    let welcome = Some(Reply::Welcome { number: 0 });
-    let ack = Some(Reply::Ack { number: 0 });
-    let bad = Some(Reply::Refuse {
-        why: Refusal::Frame,
-        number: 0,
-    });
-    let lost = Some(Reply::Refuse {
-        why: Refusal::Device,
-        number: 0,
-    });
-    let greets = made(
-        0,
-        Arrival::Frame(&hello),
-        done(true, welcome, Feedback::Quiet),
-    );
-    assert!(rt;
-        is_told(
-            &row,
-            &greets,
-            b"told 1 0 3c6ef35f fine - raw 4e500101000000010000000000000000000d776561746865723a7761746368\n# low 1 0 welcome 0\n"
-        )
-    );
-    let stores = made(1, Arrival::Frame(&data), done(true, None, Feedback::Quiet));
-    assert!(rt;
-        is_told(
-            &row,
-            &stores,
-            b"told 1 1 3c6ef35f fine - raw 4e500103000000010000000000000000000161\n"
-        )
-    );
-    let full = made(2, Arrival::Frame(&data), done(false, None, Feedback::Full));
-    assert!(rt; is_told(&row, &full, b"told 1 2 3c6ef35f fine full\n"));
-    let passes = made(
-        3,
-        Arrival::Nothing,
-        done(false, None, Feedback::Passed(seen)),
-    );
-    assert!(rt; is_told(&row, &passes, b"told 1 3 3c6ef35f fine 2/375\n"));
-    let acknowledges = made(4, Arrival::Nothing, done(false, ack, Feedback::Quiet));
-    assert!(rt;
-        is_told(
-            &row,
-            &acknowledges,
-            b"told 1 4 3c6ef35f fine -\n# low 1 4 ack 0\n"
-        )
-    );
-    let again = made(
-        5,
-        Arrival::Frame(&data),
-        done(true, None, Feedback::Repeat(seen)),
-    );
-    assert!(rt;
-        is_told(
-            &row,
-            &again,
-            b"told 1 5 3c6ef35f fine 2/375 raw 4e500103000000010000000000000000000161\n"
-        )
-    );
-    let broken = made(6, Arrival::Bad, done(true, bad, Feedback::Quiet));
-    assert!(rt;
-        is_told(
-            &row,
-            &broken,
-            b"told 1 6 3c6ef35f fine - raw 00\n# low 1 6 refuse 2 0\n"
-        )
-    );
-    let gone = made(7, Arrival::Gone, done(true, None, Feedback::Quiet));
-    assert!(rt; is_told(&row, &gone, b"gone 1 7\n"));
-    let releases = made(8, Arrival::Nothing, done(false, None, Feedback::Released));
-    assert!(rt; is_told(&row, &releases, b"told 1 8 3c6ef35f fine 0/20000\n"));
-    let fails = made(9, Arrival::Frame(&data), done(true, lost, Feedback::Quiet));
-    assert!(rt;
-        is_told(
-            &row,
-            &fails,
-            b"told 1 9 3c6ef35f fault - raw 4e500103000000010000000000000000000161\n# low 1 9 refuse 5 0\n"
-        )
-    );
-    Ok(())
-}
-
-#[test]
-fn a_record_begins_with_what_was_found(rt: HostRuntime) -> Result<(), Fail> {
-    let Some(row) = row() else {
-        return Err(Fail::new("no row"));
-    };
-    let row = SessionRow {
-        low_port: 7001,
-        high_port: 7002,
-        ..row
-    };
-    let mut into: ArrayVec<u8, 2700> = ArrayVec::new();
-    append_opening(&row, 3, true, &mut into);
-    let text = b"low-session 1 3 8 2 20000 100000 500000 weather watch 3 1\n";
-    assert_eq!(rt; into.as_slice(), text.as_slice());
+    let rows = [
+        (
+            made(2, Arrival::Frame(&data), done(false, Feedback::Full)),
+            b"told 1 2 3c6ef35f fine full\n".as_slice(),
+        ),
+        (
+            made(5, Arrival::Frame(&data), done(true, Feedback::Repeat(seen))),
+            b"told 1 5 3c6ef35f fine 2/375 raw 4e500103000000010000000000000000000161\n",
+        ),
+        (
+            made(8, Arrival::Nothing, done(false, Feedback::Released)),
+            b"told 1 8 3c6ef35f fine 0/20000\n",
+        ),
+    ];
+    for (look, text) in &rows {
+        assert!(rt; is_told(&row, look, text));
+    }
     Ok(())
 }
 
 #[test]
 fn a_quiet_look_is_not_recorded(rt: HostRuntime) {
-    let quiet = made(0, Arrival::Nothing, done(false, None, Feedback::Quiet));
-    let full = made(0, Arrival::Nothing, done(false, None, Feedback::Full));
+    let quiet = made(0, Arrival::Nothing, done(false, Feedback::Quiet));
+    let full = made(0, Arrival::Nothing, done(false, Feedback::Full));
     assert_eq!(rt;
         (
             is_recorded(&quiet, false),

@@ -1,4 +1,4 @@
-use Rattle.std.proofs.Common.{[], ◌∷◌, ◌++◌, length, arith, refl, sym, subst, length-append}
+use Rattle.std.proofs.Common.{rules, [], ◌∷◌, ◌++◌, length, arith, refl, sym, subst, length-append}
 use Rattle.pump_link.proofs.Known.{Appends-none}
 use Rattle.script_reader.specs.Heads.{line_with}
 use Rattle.script_reader.specs.Openings.{new_disks}
@@ -44,77 +44,109 @@ turns-init g c = (
 pub turn-requires-clause-lawful : goal.turn-requires-clause-lawful
 turn-requires-clause-lawful g c = let n = c.in-Line.ensures.next in lawful_line (line_with c.next_head.new.body c.in-Line.line) n.0 n.2
 
-pub returns-in-Err-clause-ends : goal.returns-in-Err-clause-ends
-returns-in-Err-clause-ends g c = λ told tells.
-    let i = c.turns.invariant in
-    let t = i.0 told tells in
-    unshown (lent g.S.Disk.Disk.told (g.S.Shelf.told.disk c.args.shelf.now) (g.S.Shelf.told.disk c.turns.shelf) c.turns.sessions.begun.items) t.3 _ _ _ _ _ _ _ _ t.0 t.1 t.2 t.4 (omega (arith, t.8, i.3)) (held_of c.turns.output) t.5 (keeps_so g.S.Disk.Disk.told (g.S.Shelf.told.disk c.args.shelf.now) (g.S.Shelf.told.disk c.turns.shelf) c.turns.sessions.begun.items t.3 t.2 t.1 i.1.0 t.7 t.6.each) (near_now c.turns.lines _ i.2) c.in-Err.ensures.err
+pub returns-in-Err : goal.returns-in-Err
+returns-in-Err g c = record {
+  ends =
+      λ told tells.
+      let i = c.turns.invariant in
+      let t = i.0 told tells in
+      unshown (lent g.S.Disk.Disk.told (g.S.Shelf.told.disk c.args.shelf.now) (g.S.Shelf.told.disk c.turns.shelf) c.turns.sessions.begun.items) t.3 _ _ _ _ _ _ _ _ t.0 t.1 t.2 t.4 (omega (arith, t.8, i.3)) (held_of c.turns.output) t.5 (keeps_so g.S.Disk.Disk.told (g.S.Shelf.told.disk c.args.shelf.now) (g.S.Shelf.told.disk c.turns.shelf) c.turns.sessions.begun.items t.3 t.2 t.1 i.1.0 t.7 t.6.each) (near_now c.turns.lines _ i.2) c.in-Err.ensures.err;
+  hands = hands_of _ g.S.Disk.Disk.told (g.S.Shelf.told.disk c.args.shelf.now) (g.S.Shelf.told.disk c.turns.shelf) c.turns.sessions.begun.items c.turns.invariant.1.0;
+  rise = c.turns.invariant.7.rise;
+  device = λ number failed. absurd failed;
+  memory = λ e. absurd (write_no_memory e);
+  later = c.turns.invariant.6;
+  write = λ e. omega (arith, c.turns.invariant.5, c.in-Err.ensures.cause.failed);
+  words = write_no_fault _;
+  read = λ e. absurd (write_no_fault _ e);
+}
 
-pub returns-in-Err-clause-hands : goal.returns-in-Err-clause-hands
-returns-in-Err-clause-hands g c = hands_of _ g.S.Disk.Disk.told (g.S.Shelf.told.disk c.args.shelf.now) (g.S.Shelf.told.disk c.turns.shelf) c.turns.sessions.begun.items c.turns.invariant.1.0
+pub returns-in-Unwritten : goal.returns-in-Unwritten
+returns-in-Unwritten g c = record {
+  ends =
+      λ told tells.
+      let i = c.turns.invariant in
+      let t = i.0 told tells in
+      let n = c.in-Line.ensures.next in
+      let m = c.in-Unwritten.ensures.does told tells (g.S.Shelf.told.disk c.args.shelf.now) i.1.0 t.2 t.6 in
+      let w = shown (held_of c.turns.output) (held_of c.show.new.output) _ _ _ _ t.5 c.in-Ok.ensures.ok in
+      cut_off _ g.S.Disk.Disk.told (g.S.Shelf.told.disk c.args.shelf.now) (g.S.Shelf.told.disk c.turn.new.shelf) c.turn.new.sessions.begun.items t.3 _ _ _ _ _ _ _ c.turns.lines c.next_head.new.self (line_with c.next_head.new.body c.in-Line.line) n t.0 t.1 t.2 t.4 (one_left c.turns.lines c.next_head.new.self _ _ (line_with c.next_head.new.body c.in-Line.line) t.0 n t.8 (c.in-Line.ensures.few (λ e. cc) (λ e. cc)))
+      (held_of c.show.new.output) w t.7 _ m.0 m.1 m.2 m.3;
+  hands = c.in-Unwritten.ensures.hands (g.S.Shelf.told.disk c.args.shelf.now) c.turns.invariant.1.0;
+  rise = c.turn.ensures.order.rise;
+  device = λ number failed. absurd failed;
+  memory = λ e. absurd (write_no_memory e);
+  later = omega (arith, c.turns.invariant.6, c.turn.ensures.disks_later);
+  write = λ e. omega (arith, c.turns.invariant.5, c.show.ensures.cause.later, c.in-Unwritten.ensures.cause refl);
+  words = write_no_fault _;
+  read = λ e. absurd (write_no_fault _ e);
+}
 
-pub returns-in-Unwritten-clause-ends : goal.returns-in-Unwritten-clause-ends
-returns-in-Unwritten-clause-ends g c = λ told tells.
-    let i = c.turns.invariant in
-    let t = i.0 told tells in
-    let n = c.in-Line.ensures.next in
-    let m = c.in-Unwritten.ensures.does told tells (g.S.Shelf.told.disk c.args.shelf.now) i.1.0 t.2 t.6 in
-    let w = shown (held_of c.turns.output) (held_of c.show.new.output) _ _ _ _ t.5 c.in-Ok.ensures.ok in
-    cut_off _ g.S.Disk.Disk.told (g.S.Shelf.told.disk c.args.shelf.now) (g.S.Shelf.told.disk c.turn.new.shelf) c.turn.new.sessions.begun.items t.3 _ _ _ _ _ _ _ c.turns.lines c.next_head.new.self (line_with c.next_head.new.body c.in-Line.line) n t.0 t.1 t.2 t.4 (one_left c.turns.lines c.next_head.new.self _ _ (line_with c.next_head.new.body c.in-Line.line) t.0 n t.8 (c.in-Line.ensures.few (λ e. cc) (λ e. cc)))
-    (held_of c.show.new.output) w t.7 _ m.0 m.1 m.2 m.3
+pub returns-in-Refused : goal.returns-in-Refused
+returns-in-Refused g c = record {
+  ends =
+      λ told tells.
+      let i = c.turns.invariant in
+      let t = i.0 told tells in
+      let n = c.in-Line.ensures.next in
+      let m = c.in-Refused.ensures.does told tells (g.S.Shelf.told.disk c.args.shelf.now) i.1.0 t.2 t.6 in
+      let w = shown (held_of c.turns.output) (held_of c.show.new.output) _ _ _ _ t.5 c.in-Ok.ensures.ok in
+      let v = barred _ _ _ (held_of c.show.new.output) (held_of c.turn.new.output) t.1 m.0 w m.1.1 m.2 in
+      refused (lent g.S.Disk.Disk.told (g.S.Shelf.told.disk c.args.shelf.now) (g.S.Shelf.told.disk c.turn.new.shelf) c.turn.new.sessions.begun.items) t.3 _ _ _ _ _ _ _ _ t.0 t.1 t.2 t.4 (omega (arith, t.8, i.3)) (held_of c.turn.new.output) v (keeps_so g.S.Disk.Disk.told (g.S.Shelf.told.disk c.args.shelf.now) (g.S.Shelf.told.disk c.turn.new.shelf) c.turn.new.sessions.begun.items t.3 t.2 t.1 m.1.3 t.7 m.1.2) c.refuse.result c.number.result _ _
+      (near_next c.turns.lines c.next_head.new.self _ _ (line_with c.next_head.new.body c.in-Line.line) n)
+      (faulty_line c.turns.lines c.next_head.new.self _ _ (line_with c.next_head.new.body c.in-Line.line) t.2 (length t.0) n m.1.0)
+      (line_number c.turns.lines c.next_head.new.self _ _ (line_with c.next_head.new.body c.in-Line.line) t.0 c.number.result n t.8 c.number.ensures (omega arith))
+      c.refuse.ensures;
+  hands = c.in-Refused.ensures.hands (g.S.Shelf.told.disk c.args.shelf.now) c.turns.invariant.1.0;
+  rise = c.turn.ensures.order.rise;
+  device = λ number failed. absurd (closed_device _ _ _ _ _ _ c.refuse.result number c.refuse.ensures failed);
+  memory = λ e. absurd (closed_no_memory _ _ _ _ _ _ c.refuse.result c.refuse.ensures e);
+  later = omega (arith, c.turns.invariant.6, c.turn.ensures.disks_later);
+  write = closed _ _ _ _ _ _ _ _ (omega (arith, c.turns.invariant.5, c.show.ensures.cause, c.turn.ensures.later)) (λ e. cc) c.refuse.ensures;
+  words = closed_not _ _ _ _ _ _ _ c.refuse.result c.refuse.ensures (λ e. cc);
+  read = λ e. absurd (closed_not _ _ _ _ _ _ _ c.refuse.result c.refuse.ensures (λ e. cc) e);
+}
 
-pub returns-in-Unwritten-clause-hands : goal.returns-in-Unwritten-clause-hands
-returns-in-Unwritten-clause-hands g c = c.in-Unwritten.ensures.hands (g.S.Shelf.told.disk c.args.shelf.now) c.turns.invariant.1.0
+pub returns-in-Stopped : goal.returns-in-Stopped
+returns-in-Stopped g c = record {
+  ends =
+      λ told tells.
+      let i = c.turns.invariant in
+      let t = i.0 told tells in
+      let n = c.in-Line.ensures.next in
+      let m = c.in-Stopped.ensures.does told tells (g.S.Shelf.told.disk c.args.shelf.now) i.1.0 t.2 t.6 in
+      let w = shown (held_of c.turns.output) (held_of c.show.new.output) _ _ _ _ t.5 c.in-Ok.ensures.ok in
+      stops _ g.S.Disk.Disk.told (g.S.Shelf.told.disk c.args.shelf.now) (g.S.Shelf.told.disk c.turn.new.shelf) c.turn.new.sessions.begun.items t.3 _ _ _ _ _ _ _ c.turns.lines c.next_head.new.self (line_with c.next_head.new.body c.in-Line.line) n t.0 t.1 t.2 t.4
+      (one_left c.turns.lines c.next_head.new.self _ _ (line_with c.next_head.new.body c.in-Line.line) t.0 n t.8 (c.in-Line.ensures.few (λ e. cc) (λ e. cc)))
+      (held_of c.show.new.output) w t.7 (held_of c.turn.new.output) _ _ _ _ m.0 c.in-Stopped.fault c.stop.result m.1 m.2 c.stop.ensures;
+  hands = c.in-Stopped.ensures.hands (g.S.Shelf.told.disk c.args.shelf.now) c.turns.invariant.1.0;
+  rise = c.turn.ensures.order.rise;
+  device =
+      λ number failed.
+      stop_device _ (g.S.Shelf.told.disk_faults c.turns.shelf) _ _ (omega (arith, c.turns.invariant.6)) (c.in-Stopped.ensures.device number (closed_device _ _ _ _ _ c.in-Stopped.fault c.stop.result number c.stop.ensures failed) (g.S.Shelf.told.disk c.args.shelf.now) c.turns.invariant.1.0);
+  memory = λ e. absurd (closed_no_memory _ _ _ _ _ _ c.stop.result c.stop.ensures e);
+  later = omega (arith, c.turns.invariant.6, c.turn.ensures.disks_later);
+  write = closed _ _ _ _ _ _ _ _ (omega (arith, c.turns.invariant.5, c.show.ensures.cause, c.turn.ensures.later)) (λ e. cc) c.stop.ensures;
+  words = closed_not _ _ _ _ _ _ _ c.stop.result c.stop.ensures (line_fault c.in-Stopped.fault _ c.in-Stopped.ensures.line (λ h. h));
+  read = λ e. absurd (closed_not _ _ _ _ _ _ _ c.stop.result c.stop.ensures (line_fault c.in-Stopped.fault _ c.in-Stopped.ensures.line (λ h. h)) e);
+}
 
-pub returns-in-Refused-clause-ends : goal.returns-in-Refused-clause-ends
-returns-in-Refused-clause-ends g c = λ told tells.
-    let i = c.turns.invariant in
-    let t = i.0 told tells in
-    let n = c.in-Line.ensures.next in
-    let m = c.in-Refused.ensures.does told tells (g.S.Shelf.told.disk c.args.shelf.now) i.1.0 t.2 t.6 in
-    let w = shown (held_of c.turns.output) (held_of c.show.new.output) _ _ _ _ t.5 c.in-Ok.ensures.ok in
-    let v = barred _ _ _ (held_of c.show.new.output) (held_of c.turn.new.output) t.1 m.0 w m.1.1 m.2 in
-    refused (lent g.S.Disk.Disk.told (g.S.Shelf.told.disk c.args.shelf.now) (g.S.Shelf.told.disk c.turn.new.shelf) c.turn.new.sessions.begun.items) t.3 _ _ _ _ _ _ _ _ t.0 t.1 t.2 t.4 (omega (arith, t.8, i.3)) (held_of c.turn.new.output) v (keeps_so g.S.Disk.Disk.told (g.S.Shelf.told.disk c.args.shelf.now) (g.S.Shelf.told.disk c.turn.new.shelf) c.turn.new.sessions.begun.items t.3 t.2 t.1 m.1.3 t.7 m.1.2) c.refuse.result c.number.result _ _
-    (near_next c.turns.lines c.next_head.new.self _ _ (line_with c.next_head.new.body c.in-Line.line) n)
-    (faulty_line c.turns.lines c.next_head.new.self _ _ (line_with c.next_head.new.body c.in-Line.line) t.2 (length t.0) n m.1.0)
-    (line_number c.turns.lines c.next_head.new.self _ _ (line_with c.next_head.new.body c.in-Line.line) t.0 c.number.result n t.8 c.number.ensures (omega arith))
-    c.refuse.ensures
-
-pub returns-in-Refused-clause-hands : goal.returns-in-Refused-clause-hands
-returns-in-Refused-clause-hands g c = c.in-Refused.ensures.hands (g.S.Shelf.told.disk c.args.shelf.now) c.turns.invariant.1.0
-
-pub returns-in-Refused-clause-write : goal.returns-in-Refused-clause-write
-returns-in-Refused-clause-write g c = closed _ _ _ _ _ _ _ _ (omega (arith, c.turns.invariant.5, c.show.ensures.cause, c.turn.ensures.later)) (λ e. cc) c.refuse.ensures
-
-pub returns-in-Stopped-clause-ends : goal.returns-in-Stopped-clause-ends
-returns-in-Stopped-clause-ends g c = λ told tells.
-    let i = c.turns.invariant in
-    let t = i.0 told tells in
-    let n = c.in-Line.ensures.next in
-    let m = c.in-Stopped.ensures.does told tells (g.S.Shelf.told.disk c.args.shelf.now) i.1.0 t.2 t.6 in
-    let w = shown (held_of c.turns.output) (held_of c.show.new.output) _ _ _ _ t.5 c.in-Ok.ensures.ok in
-    stops _ g.S.Disk.Disk.told (g.S.Shelf.told.disk c.args.shelf.now) (g.S.Shelf.told.disk c.turn.new.shelf) c.turn.new.sessions.begun.items t.3 _ _ _ _ _ _ _ c.turns.lines c.next_head.new.self (line_with c.next_head.new.body c.in-Line.line) n t.0 t.1 t.2 t.4
-    (one_left c.turns.lines c.next_head.new.self _ _ (line_with c.next_head.new.body c.in-Line.line) t.0 n t.8 (c.in-Line.ensures.few (λ e. cc) (λ e. cc)))
-    (held_of c.show.new.output) w t.7 (held_of c.turn.new.output) _ _ _ _ m.0 c.in-Stopped.fault c.stop.result m.1 m.2 c.stop.ensures
-
-pub returns-in-Stopped-clause-hands : goal.returns-in-Stopped-clause-hands
-returns-in-Stopped-clause-hands g c = c.in-Stopped.ensures.hands (g.S.Shelf.told.disk c.args.shelf.now) c.turns.invariant.1.0
-
-pub returns-in-Stopped-clause-device : goal.returns-in-Stopped-clause-device
-returns-in-Stopped-clause-device g c = λ number failed.
-    stop_device _ (g.S.Shelf.told.disk_faults c.turns.shelf) _ _ (omega (arith, c.turns.invariant.6)) (c.in-Stopped.ensures.device number (closed_device _ _ _ _ _ c.in-Stopped.fault c.stop.result number c.stop.ensures failed) (g.S.Shelf.told.disk c.args.shelf.now) c.turns.invariant.1.0)
-
-pub returns-in-Stopped-clause-write : goal.returns-in-Stopped-clause-write
-returns-in-Stopped-clause-write g c = closed _ _ _ _ _ _ _ _ (omega (arith, c.turns.invariant.5, c.show.ensures.cause, c.turn.ensures.later)) (λ e. cc) c.stop.ensures
-
-pub returns-in-Memory-clause-memory : goal.returns-in-Memory-clause-memory
-returns-in-Memory-clause-memory g c = λ is.
-    let i = c.turns.invariant in
-    quiet_memory c.turns.sessions c.turn.new.sessions (held_of c.show.new.output) (held_of c.turn.new.output) _ _ _ _ c.in-Memory.ensures.quiet
-    (λ way. let q = i.8 way in quiet_shown (held_of c.turns.output) (held_of c.show.new.output) _ _ _ q.0 q.1 c.in-Ok.ensures.ok) refl
-
-pub returns-in-Memory-clause-hands : goal.returns-in-Memory-clause-hands
-returns-in-Memory-clause-hands g c = c.in-Memory.ensures.hands (g.S.Shelf.told.disk c.args.shelf.now) c.turns.invariant.1.0
+pub returns-in-Memory : goal.returns-in-Memory
+returns-in-Memory g c = record {
+  ends = search rules;
+  hands = c.in-Memory.ensures.hands (g.S.Shelf.told.disk c.args.shelf.now) c.turns.invariant.1.0;
+  rise = c.turn.ensures.order.rise;
+  device = λ number failed. absurd failed;
+  memory =
+      λ is.
+      let i = c.turns.invariant in
+      quiet_memory c.turns.sessions c.turn.new.sessions (held_of c.show.new.output) (held_of c.turn.new.output) _ _ _ _ c.in-Memory.ensures.quiet
+      (λ way. let q = i.8 way in quiet_shown (held_of c.turns.output) (held_of c.show.new.output) _ _ _ q.0 q.1 c.in-Ok.ensures.ok) refl;
+  later = omega (arith, c.turns.invariant.6, c.turn.ensures.disks_later);
+  write = λ e. absurd (memory_no_write e);
+  words = memory_no_fault _;
+  read = λ e. absurd (memory_no_fault _ e);
+}
 
 pub turns-preserved : goal.turns-preserved
 turns-preserved g c =
@@ -146,198 +178,66 @@ turns-preserved g c =
           (λ way. let q = i.8 way in quiet_shown (held_of c.turns.output) (held_of c.show.new.output) _ _ _ q.0 q.1 c.in-Ok.ensures.ok) refl,
     )
 
-pub returns-in-Bad-clause-ends : goal.returns-in-Bad-clause-ends
-returns-in-Bad-clause-ends g c = λ told tells.
-    let n = c.in-Bad.ensures.next in
-    let i = c.turns.invariant in
-    let t = i.0 told tells in
-    let w = shown (held_of c.turns.output) (held_of c.show.new.output) _ _ _ _ t.5 c.in-Ok.ensures.ok in
-    refused (lent g.S.Disk.Disk.told (g.S.Shelf.told.disk c.args.shelf.now) (g.S.Shelf.told.disk c.turns.shelf) c.turns.sessions.begun.items) t.3 _ _ _ _ _ _ _ _ t.0 t.1 t.2 t.4 (omega (arith, t.8, i.3)) (held_of c.show.new.output) w (keeps_so g.S.Disk.Disk.told (g.S.Shelf.told.disk c.args.shelf.now) (g.S.Shelf.told.disk c.turns.shelf) c.turns.sessions.begun.items t.3 t.2 t.1 i.1.0 t.7 t.6.each) c.refuse-in-Bad.result c.number-in-Bad.result _ _
-    (near_bad c.turns.lines c.next_head.new.self _ _ n)
-    (faulty_bad c.turns.lines c.next_head.new.self _ _ t.0 t.2 n t.8)
-    (bad_number c.turns.lines c.next_head.new.self _ _ t.0 c.number-in-Bad.result n t.8 c.number-in-Bad.ensures)
-    c.refuse-in-Bad.ensures
+pub returns-in-Bad : goal.returns-in-Bad
+returns-in-Bad g c = record {
+  ends =
+      λ told tells.
+      let n = c.in-Bad.ensures.next in
+      let i = c.turns.invariant in
+      let t = i.0 told tells in
+      let w = shown (held_of c.turns.output) (held_of c.show.new.output) _ _ _ _ t.5 c.in-Ok.ensures.ok in
+      refused (lent g.S.Disk.Disk.told (g.S.Shelf.told.disk c.args.shelf.now) (g.S.Shelf.told.disk c.turns.shelf) c.turns.sessions.begun.items) t.3 _ _ _ _ _ _ _ _ t.0 t.1 t.2 t.4 (omega (arith, t.8, i.3)) (held_of c.show.new.output) w (keeps_so g.S.Disk.Disk.told (g.S.Shelf.told.disk c.args.shelf.now) (g.S.Shelf.told.disk c.turns.shelf) c.turns.sessions.begun.items t.3 t.2 t.1 i.1.0 t.7 t.6.each) c.refuse-in-Bad.result c.number-in-Bad.result _ _
+      (near_bad c.turns.lines c.next_head.new.self _ _ n)
+      (faulty_bad c.turns.lines c.next_head.new.self _ _ t.0 t.2 n t.8)
+      (bad_number c.turns.lines c.next_head.new.self _ _ t.0 c.number-in-Bad.result n t.8 c.number-in-Bad.ensures)
+      c.refuse-in-Bad.ensures;
+  hands = hands_of _ g.S.Disk.Disk.told (g.S.Shelf.told.disk c.args.shelf.now) (g.S.Shelf.told.disk c.turns.shelf) c.turns.sessions.begun.items c.turns.invariant.1.0;
+  rise = c.turns.invariant.7.rise;
+  device = λ number failed. absurd (closed_device _ _ _ _ _ _ c.refuse-in-Bad.result number c.refuse-in-Bad.ensures failed);
+  memory = λ e. absurd (closed_no_memory _ _ _ _ _ _ c.refuse-in-Bad.result c.refuse-in-Bad.ensures e);
+  later = c.turns.invariant.6;
+  write = closed _ _ _ _ _ _ _ _ (omega (arith, c.turns.invariant.5, c.show.ensures.cause)) (λ e. cc) c.refuse-in-Bad.ensures;
+  words = closed_not _ _ _ _ _ _ _ c.refuse-in-Bad.result c.refuse-in-Bad.ensures (λ e. cc);
+  read = λ e. absurd (closed_not _ _ _ _ _ _ _ c.refuse-in-Bad.result c.refuse-in-Bad.ensures (λ e. cc) e);
+}
 
-pub returns-in-Bad-clause-hands : goal.returns-in-Bad-clause-hands
-returns-in-Bad-clause-hands g c = hands_of _ g.S.Disk.Disk.told (g.S.Shelf.told.disk c.args.shelf.now) (g.S.Shelf.told.disk c.turns.shelf) c.turns.sessions.begun.items c.turns.invariant.1.0
+pub returns-in-Failed : goal.returns-in-Failed
+returns-in-Failed g c = record {
+  ends =
+      λ told tells.
+      let n = c.in-Failed.ensures.next in
+      let i = c.turns.invariant in
+      let t = i.0 told tells in
+      let w = shown (held_of c.turns.output) (held_of c.show.new.output) _ _ _ _ t.5 c.in-Ok.ensures.ok in
+      let s = so_far_kept t.3 _ _ _ t.0 t.1 t.2 t.4 n.0 in
+      failed (lent g.S.Disk.Disk.told (g.S.Shelf.told.disk c.args.shelf.now) (g.S.Shelf.told.disk c.turns.shelf) c.turns.sessions.begun.items) t.3 _ _ _ _ _ _ _ _ t.0 t.1 t.2 s (omega (arith, t.8, i.3)) (held_of c.show.new.output) w (keeps_so g.S.Disk.Disk.told (g.S.Shelf.told.disk c.args.shelf.now) (g.S.Shelf.told.disk c.turns.shelf) c.turns.sessions.begun.items t.3 t.2 t.1 i.1.0 t.7 t.6.each) c.stop-in-Failed.result _ _
+      (within_failed c.turns.lines c.next_head.new.self _ _ n) (omega (arith, c.in-Failed.ensures.failed refl, i.4)) c.stop-in-Failed.ensures;
+  hands = hands_of _ g.S.Disk.Disk.told (g.S.Shelf.told.disk c.args.shelf.now) (g.S.Shelf.told.disk c.turns.shelf) c.turns.sessions.begun.items c.turns.invariant.1.0;
+  rise = c.turns.invariant.7.rise;
+  device = λ number failed. absurd (closed_device _ _ _ _ _ _ c.stop-in-Failed.result number c.stop-in-Failed.ensures failed);
+  memory = λ e. absurd (closed_no_memory _ _ _ _ _ _ c.stop-in-Failed.result c.stop-in-Failed.ensures e);
+  later = c.turns.invariant.6;
+  write = closed _ _ _ _ _ _ _ _ (omega (arith, c.turns.invariant.5, c.show.ensures.cause)) (λ e. cc) c.stop-in-Failed.ensures;
+  words = closed_not _ _ _ _ _ _ _ c.stop-in-Failed.result c.stop-in-Failed.ensures (λ e. cc);
+  read = λ e. omega (arith, c.in-Failed.ensures.failed refl, c.turns.invariant.4);
+}
 
-pub returns-in-Bad-clause-write : goal.returns-in-Bad-clause-write
-returns-in-Bad-clause-write g c = closed _ _ _ _ _ _ _ _ (omega (arith, c.turns.invariant.5, c.show.ensures.cause)) (λ e. cc) c.refuse-in-Bad.ensures
-
-pub returns-in-Failed-clause-ends : goal.returns-in-Failed-clause-ends
-returns-in-Failed-clause-ends g c = λ told tells.
-    let n = c.in-Failed.ensures.next in
-    let i = c.turns.invariant in
-    let t = i.0 told tells in
-    let w = shown (held_of c.turns.output) (held_of c.show.new.output) _ _ _ _ t.5 c.in-Ok.ensures.ok in
-    let s = so_far_kept t.3 _ _ _ t.0 t.1 t.2 t.4 n.0 in
-    failed (lent g.S.Disk.Disk.told (g.S.Shelf.told.disk c.args.shelf.now) (g.S.Shelf.told.disk c.turns.shelf) c.turns.sessions.begun.items) t.3 _ _ _ _ _ _ _ _ t.0 t.1 t.2 s (omega (arith, t.8, i.3)) (held_of c.show.new.output) w (keeps_so g.S.Disk.Disk.told (g.S.Shelf.told.disk c.args.shelf.now) (g.S.Shelf.told.disk c.turns.shelf) c.turns.sessions.begun.items t.3 t.2 t.1 i.1.0 t.7 t.6.each) c.stop-in-Failed.result _ _
-    (within_failed c.turns.lines c.next_head.new.self _ _ n) (omega (arith, c.in-Failed.ensures.failed refl, i.4)) c.stop-in-Failed.ensures
-
-pub returns-in-Failed-clause-hands : goal.returns-in-Failed-clause-hands
-returns-in-Failed-clause-hands g c = hands_of _ g.S.Disk.Disk.told (g.S.Shelf.told.disk c.args.shelf.now) (g.S.Shelf.told.disk c.turns.shelf) c.turns.sessions.begun.items c.turns.invariant.1.0
-
-pub returns-in-Failed-clause-write : goal.returns-in-Failed-clause-write
-returns-in-Failed-clause-write g c = closed _ _ _ _ _ _ _ _ (omega (arith, c.turns.invariant.5, c.show.ensures.cause)) (λ e. cc) c.stop-in-Failed.ensures
-
-pub returns-in-End-clause-ends : goal.returns-in-End-clause-ends
-returns-in-End-clause-ends g c = λ told tells.
-    let n = c.in-End.ensures.next in
-    let i = c.turns.invariant in
-    let t = i.0 told tells in
-    let f = c.finish.ensures.ends t.2 t.6 in
-    let w = shown (held_of c.turns.output) (held_of c.show.new.output) _ _ _ _ t.5 c.in-Ok.ensures.ok in
-    finished (lent g.S.Disk.Disk.told (g.S.Shelf.told.disk c.args.shelf.now) (g.S.Shelf.told.disk c.turns.shelf) c.turns.sessions.begun.items) t.3 _ _ _ _ _ _ _ _ t.0 t.1 t.2 t.4 (omega (arith, t.8, i.3)) (held_of c.show.new.output) w c.finish.result _ _ f.0 n.1 f.1 (keeps_so g.S.Disk.Disk.told (g.S.Shelf.told.disk c.args.shelf.now) (g.S.Shelf.told.disk c.turns.shelf) c.turns.sessions.begun.items t.3 t.2 (t.1 ++ f.0) i.1.0 t.7 t.6.each) f.2
-
-pub returns-in-End-clause-hands : goal.returns-in-End-clause-hands
-returns-in-End-clause-hands g c = hands_of _ g.S.Disk.Disk.told (g.S.Shelf.told.disk c.args.shelf.now) (g.S.Shelf.told.disk c.turns.shelf) c.turns.sessions.begun.items c.turns.invariant.1.0
-
-pub returns-in-Refused-clause-words : goal.returns-in-Refused-clause-words
-returns-in-Refused-clause-words g c = closed_not _ _ _ _ _ _ _ c.refuse.result c.refuse.ensures (λ e. cc)
-
-pub returns-in-Refused-clause-read : goal.returns-in-Refused-clause-read
-returns-in-Refused-clause-read g c = λ e. absurd (closed_not _ _ _ _ _ _ _ c.refuse.result c.refuse.ensures (λ e. cc) e)
-
-pub returns-in-Stopped-clause-words : goal.returns-in-Stopped-clause-words
-returns-in-Stopped-clause-words g c = closed_not _ _ _ _ _ _ _ c.stop.result c.stop.ensures (line_fault c.in-Stopped.fault _ c.in-Stopped.ensures.line (λ h. h))
-
-pub returns-in-Stopped-clause-read : goal.returns-in-Stopped-clause-read
-returns-in-Stopped-clause-read g c = λ e. absurd (closed_not _ _ _ _ _ _ _ c.stop.result c.stop.ensures (line_fault c.in-Stopped.fault _ c.in-Stopped.ensures.line (λ h. h)) e)
-
-pub returns-in-Bad-clause-words : goal.returns-in-Bad-clause-words
-returns-in-Bad-clause-words g c = closed_not _ _ _ _ _ _ _ c.refuse-in-Bad.result c.refuse-in-Bad.ensures (λ e. cc)
-
-pub returns-in-Bad-clause-read : goal.returns-in-Bad-clause-read
-returns-in-Bad-clause-read g c = λ e. absurd (closed_not _ _ _ _ _ _ _ c.refuse-in-Bad.result c.refuse-in-Bad.ensures (λ e. cc) e)
-
-pub returns-in-Failed-clause-words : goal.returns-in-Failed-clause-words
-returns-in-Failed-clause-words g c = closed_not _ _ _ _ _ _ _ c.stop-in-Failed.result c.stop-in-Failed.ensures (λ e. cc)
-
-pub returns-in-Failed-clause-read : goal.returns-in-Failed-clause-read
-returns-in-Failed-clause-read g c = λ e. omega (arith, c.in-Failed.ensures.failed refl, c.turns.invariant.4)
-
-pub returns-in-End-clause-device : goal.returns-in-End-clause-device
-returns-in-End-clause-device g c = λ number failed. absurd (c.finish.ensures.other number failed)
-
-pub returns-in-Err-clause-rise : goal.returns-in-Err-clause-rise
-returns-in-Err-clause-rise g c = c.turns.invariant.7.rise
-
-pub returns-in-Err-clause-later : goal.returns-in-Err-clause-later
-returns-in-Err-clause-later g c = c.turns.invariant.6
-
-pub returns-in-Bad-clause-rise : goal.returns-in-Bad-clause-rise
-returns-in-Bad-clause-rise g c = c.turns.invariant.7.rise
-
-pub returns-in-Bad-clause-later : goal.returns-in-Bad-clause-later
-returns-in-Bad-clause-later g c = c.turns.invariant.6
-
-pub returns-in-Failed-clause-rise : goal.returns-in-Failed-clause-rise
-returns-in-Failed-clause-rise g c = c.turns.invariant.7.rise
-
-pub returns-in-Failed-clause-later : goal.returns-in-Failed-clause-later
-returns-in-Failed-clause-later g c = c.turns.invariant.6
-
-pub returns-in-End-clause-rise : goal.returns-in-End-clause-rise
-returns-in-End-clause-rise g c = c.turns.invariant.7.rise
-
-pub returns-in-End-clause-later : goal.returns-in-End-clause-later
-returns-in-End-clause-later g c = c.turns.invariant.6
-
-pub returns-in-Unwritten-clause-rise : goal.returns-in-Unwritten-clause-rise
-returns-in-Unwritten-clause-rise g c = c.turn.ensures.order.rise
-
-pub returns-in-Unwritten-clause-later : goal.returns-in-Unwritten-clause-later
-returns-in-Unwritten-clause-later g c = omega (arith, c.turns.invariant.6, c.turn.ensures.disks_later)
-
-pub returns-in-Refused-clause-rise : goal.returns-in-Refused-clause-rise
-returns-in-Refused-clause-rise g c = c.turn.ensures.order.rise
-
-pub returns-in-Refused-clause-later : goal.returns-in-Refused-clause-later
-returns-in-Refused-clause-later g c = omega (arith, c.turns.invariant.6, c.turn.ensures.disks_later)
-
-pub returns-in-Stopped-clause-rise : goal.returns-in-Stopped-clause-rise
-returns-in-Stopped-clause-rise g c = c.turn.ensures.order.rise
-
-pub returns-in-Stopped-clause-later : goal.returns-in-Stopped-clause-later
-returns-in-Stopped-clause-later g c = omega (arith, c.turns.invariant.6, c.turn.ensures.disks_later)
-
-pub returns-in-Memory-clause-rise : goal.returns-in-Memory-clause-rise
-returns-in-Memory-clause-rise g c = c.turn.ensures.order.rise
-
-pub returns-in-Memory-clause-later : goal.returns-in-Memory-clause-later
-returns-in-Memory-clause-later g c = omega (arith, c.turns.invariant.6, c.turn.ensures.disks_later)
-
-pub returns-in-Err-clause-device : goal.returns-in-Err-clause-device
-returns-in-Err-clause-device g c = λ number failed. absurd failed
-
-pub returns-in-Unwritten-clause-device : goal.returns-in-Unwritten-clause-device
-returns-in-Unwritten-clause-device g c = λ number failed. absurd failed
-
-pub returns-in-Memory-clause-device : goal.returns-in-Memory-clause-device
-returns-in-Memory-clause-device g c = λ number failed. absurd failed
-
-pub returns-in-Refused-clause-device : goal.returns-in-Refused-clause-device
-returns-in-Refused-clause-device g c = λ number failed. absurd (closed_device _ _ _ _ _ _ c.refuse.result number c.refuse.ensures failed)
-
-pub returns-in-Refused-clause-memory : goal.returns-in-Refused-clause-memory
-returns-in-Refused-clause-memory g c = λ e. absurd (closed_no_memory _ _ _ _ _ _ c.refuse.result c.refuse.ensures e)
-
-pub returns-in-Stopped-clause-memory : goal.returns-in-Stopped-clause-memory
-returns-in-Stopped-clause-memory g c = λ e. absurd (closed_no_memory _ _ _ _ _ _ c.stop.result c.stop.ensures e)
-
-pub returns-in-Bad-clause-device : goal.returns-in-Bad-clause-device
-returns-in-Bad-clause-device g c = λ number failed. absurd (closed_device _ _ _ _ _ _ c.refuse-in-Bad.result number c.refuse-in-Bad.ensures failed)
-
-pub returns-in-Bad-clause-memory : goal.returns-in-Bad-clause-memory
-returns-in-Bad-clause-memory g c = λ e. absurd (closed_no_memory _ _ _ _ _ _ c.refuse-in-Bad.result c.refuse-in-Bad.ensures e)
-
-pub returns-in-Failed-clause-device : goal.returns-in-Failed-clause-device
-returns-in-Failed-clause-device g c = λ number failed. absurd (closed_device _ _ _ _ _ _ c.stop-in-Failed.result number c.stop-in-Failed.ensures failed)
-
-pub returns-in-Failed-clause-memory : goal.returns-in-Failed-clause-memory
-returns-in-Failed-clause-memory g c = λ e. absurd (closed_no_memory _ _ _ _ _ _ c.stop-in-Failed.result c.stop-in-Failed.ensures e)
-
-pub returns-in-Err-clause-memory : goal.returns-in-Err-clause-memory
-returns-in-Err-clause-memory g c = λ e. absurd (write_no_memory e)
-
-pub returns-in-Err-clause-words : goal.returns-in-Err-clause-words
-returns-in-Err-clause-words g c = write_no_fault _
-
-pub returns-in-Err-clause-read : goal.returns-in-Err-clause-read
-returns-in-Err-clause-read g c = λ e. absurd (write_no_fault _ e)
-
-pub returns-in-Unwritten-clause-memory : goal.returns-in-Unwritten-clause-memory
-returns-in-Unwritten-clause-memory g c = λ e. absurd (write_no_memory e)
-
-pub returns-in-Unwritten-clause-words : goal.returns-in-Unwritten-clause-words
-returns-in-Unwritten-clause-words g c = write_no_fault _
-
-pub returns-in-Unwritten-clause-read : goal.returns-in-Unwritten-clause-read
-returns-in-Unwritten-clause-read g c = λ e. absurd (write_no_fault _ e)
-
-pub returns-in-Memory-clause-words : goal.returns-in-Memory-clause-words
-returns-in-Memory-clause-words g c = memory_no_fault _
-
-pub returns-in-Memory-clause-read : goal.returns-in-Memory-clause-read
-returns-in-Memory-clause-read g c = λ e. absurd (memory_no_fault _ e)
-
-pub returns-in-Memory-clause-write : goal.returns-in-Memory-clause-write
-returns-in-Memory-clause-write g c = λ e. absurd (memory_no_write e)
-
-pub returns-in-Err-clause-write : goal.returns-in-Err-clause-write
-returns-in-Err-clause-write g c = λ e. omega (arith, c.turns.invariant.5, c.in-Err.ensures.cause.failed)
-
-pub returns-in-Unwritten-clause-write : goal.returns-in-Unwritten-clause-write
-returns-in-Unwritten-clause-write g c = λ e. omega (arith, c.turns.invariant.5, c.show.ensures.cause.later, c.in-Unwritten.ensures.cause refl)
-
-pub returns-in-End-clause-write : goal.returns-in-End-clause-write
-returns-in-End-clause-write g c = λ e. omega (arith, c.turns.invariant.5, c.show.ensures.cause.later, c.finish.ensures.cause e)
-
-pub returns-in-End-clause-memory : goal.returns-in-End-clause-memory
-returns-in-End-clause-memory g c = λ e. absurd (c.finish.ensures.memory e)
-
-pub returns-in-End-clause-words : goal.returns-in-End-clause-words
-returns-in-End-clause-words g c = c.finish.ensures.words
-
-pub returns-in-End-clause-read : goal.returns-in-End-clause-read
-returns-in-End-clause-read g c = λ e. absurd (c.finish.ensures.read e)
+pub returns-in-End : goal.returns-in-End
+returns-in-End g c = record {
+  ends =
+      λ told tells.
+      let n = c.in-End.ensures.next in
+      let i = c.turns.invariant in
+      let t = i.0 told tells in
+      let f = c.finish.ensures.ends t.2 t.6 in
+      let w = shown (held_of c.turns.output) (held_of c.show.new.output) _ _ _ _ t.5 c.in-Ok.ensures.ok in
+      finished (lent g.S.Disk.Disk.told (g.S.Shelf.told.disk c.args.shelf.now) (g.S.Shelf.told.disk c.turns.shelf) c.turns.sessions.begun.items) t.3 _ _ _ _ _ _ _ _ t.0 t.1 t.2 t.4 (omega (arith, t.8, i.3)) (held_of c.show.new.output) w c.finish.result _ _ f.0 n.1 f.1 (keeps_so g.S.Disk.Disk.told (g.S.Shelf.told.disk c.args.shelf.now) (g.S.Shelf.told.disk c.turns.shelf) c.turns.sessions.begun.items t.3 t.2 (t.1 ++ f.0) i.1.0 t.7 t.6.each) f.2;
+  hands = hands_of _ g.S.Disk.Disk.told (g.S.Shelf.told.disk c.args.shelf.now) (g.S.Shelf.told.disk c.turns.shelf) c.turns.sessions.begun.items c.turns.invariant.1.0;
+  rise = c.turns.invariant.7.rise;
+  device = λ number failed. absurd (c.finish.ensures.other number failed);
+  memory = λ e. absurd (c.finish.ensures.memory e);
+  later = c.turns.invariant.6;
+  write = λ e. omega (arith, c.turns.invariant.5, c.show.ensures.cause.later, c.finish.ensures.cause e);
+  words = c.finish.ensures.words;
+  read = λ e. absurd (c.finish.ensures.read e);
+}

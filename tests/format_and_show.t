@@ -26,11 +26,22 @@ table.
   $ yes '' | head -c 65537 >large.toml
   $ anew() { rm -rf *.low *.high *.recv; }
 
-Empty files are no disks until they are formatted.
+Disks that are not there are empty, and no disks until they are formatted. What only reads makes no file, and neither does what is
+refused.
 
   $ netpump show t.toml 1
   fault disk 1 low 2 0 0
   [8]
+  $ netpump unwrap w.toml 1
+  [8]
+  $ netpump serve t.toml 1 1
+  fault disk 1 low 2 0 0
+  [8]
+  $ ls
+  large.toml
+  small.toml
+  t.toml
+  w.toml
   $ netpump format t.toml 1
   formatted 1
   $ netpump show t.toml 1

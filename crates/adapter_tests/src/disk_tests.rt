@@ -1,7 +1,7 @@
 //! A file of the machine as a disk.
 
 use crate::folders::enter;
-use adapters::{FileDisk, FileShelf};
+use adapters::{Access, FileDisk, FileShelf};
 use disk_model::{Disk, DiskFault, DiskName, Role, Shelf};
 use std::fs;
 use std::process::Abort;
@@ -14,7 +14,7 @@ fn new_disk(rt: &HostRuntime, name: &str) -> Result<FileDisk, Fail> {
         session: 7,
         role: Role::Low,
     };
-    let disk = FileShelf::new(rt.alloc(), rt).disk(low);
+    let disk = FileShelf::new(rt.alloc(), rt, Access::Write).disk(low);
     let is_gone = fs::remove_dir_all(rt, folder.as_str()).is_ok();
     match disk {
         Ok(disk) if is_gone => Ok(disk),

@@ -1,7 +1,7 @@
 //! The current folder as a shelf.
 
 use crate::folders::enter;
-use adapters::{FileDisk, FileShelf};
+use adapters::{Access, FileDisk, FileShelf};
 use disk_model::{Disk, DiskName, Role, Shelf, ShelfFault};
 use std::fs;
 use std::fs::{File, Files};
@@ -64,14 +64,32 @@ fn reads_whole_files<R: Files<File = File>>(rt: &impl Abort, shelf: &mut FileShe
     assert_eq!(rt; shelf.faults(), 1);
 }
 
+/// A disk that isn't there is empty, and leaves no file where nothing is written to it.
+fn leaves_no_file<R: Files<File = File>>(rt: &impl Abort, shelf: &mut FileShelf<R>, files: &R) {
+    match shelf.disk(HIGH) {
+        Ok(mut disk) => {
+            assert!(rt; disk.size() == Ok(0));
+            shelf.keep(HIGH, disk);
+        }
+        Err(_) => assert!(rt; false),
+    }
+    assert!(rt; fs::symlink_metadata(files, "7.high").is_err());
+}
+
 #[test]
 fn the_current_folder_is_a_shelf(rt: HostRuntime) -> Result<(), Fail> {
     let folder = enter(&rt, "shelf")?;
-    let mut shelf = FileShelf::new(rt.alloc(), &rt);
-    let mut second = FileShelf::new(rt.alloc(), &rt);
+    let mut shelf = FileShelf::new(rt.alloc(), &rt, Access::Write);
+    let mut second = FileShelf::new(rt.alloc(), &rt, Access::Write);
     is_taken_by_one(&rt, &mut shelf, &mut second);
     let mode = fs::metadata(&rt, "7.low")?.permissions().mode();
     assert_eq!(rt; mode & 0o777, 0o600);
+    leaves_no_file(&rt, &mut second, &&rt);
+    leaves_no_file(
+        &rt,
+        &mut FileShelf::new(rt.alloc(), &rt, Access::Read),
+        &&rt,
+    );
     fs::create_dir(&rt, "7.high")?;
     assert!(rt; size_of(&mut second, HIGH).is_none());
     assert!(rt; second.why() == Some(ErrorKind::InvalidInput));

@@ -12,16 +12,27 @@ use std::alloc::Global;
 use std::fmt::Write;
 use std::fs::{self, File, Files, OpenOptions};
 use std::io::{self, ErrorKind};
-use std::os::unix::fs::{FileExt, OpenOptionsExt};
+use std::os::unix::fs::{FileExt, MetadataExt, OpenOptionsExt};
+
+/// What is done with the disks of a shelf.
+#[derive(Clone, Copy, PartialEq, Eq)]
+pub enum Access {
+    /// They are read. No file is made, and none has to be the user's to write.
+    Read,
+    /// They are read and written. A file that isn't there is made, for its user alone, and goes again if
+    /// nothing was written to it when its disk is kept.
+    Write,
+}
 
 /// The current folder as a shelf. The disks of session S are its files `S.low`, `S.high` and
-/// `S.recv`. One that isn't there is made, for its user alone to read and write. A disk that is off
-/// the shelf is locked: until it is kept or this process ends, neither this process nor another can
-/// take it. A disk takes the memory in which it reads ahead; no other call takes any.
+/// `S.recv`; one that isn't there is an empty disk. Only regular files are taken, and no link is followed.
+/// A disk that is off the shelf is locked: until it is kept or this process ends, neither this process nor
+/// another can take it. A disk takes the memory in which it reads ahead; no other call takes any.
 #[derive(Drop)]
 pub struct FileShelf<R> {
     alloc: Global,
     files: R,
+    access: Access,
     faults: u64,
     disk_faults: u64,
     // Why the last file that failed did.
@@ -51,23 +62,65 @@ fn check_kind<R: Files<File = File>>(files: &R, name: &str) -> io::Result<()> {
     }
 }
 
+// A file that was there, or none, to be read.
+fn open_to_read<R: Files<File = File>>(files: &R, name: &str) -> io::Result<Option<File>> {
+    match File::open(files, name) {
+        Ok(file) => Ok(Some(file)),
+        Err(error) if error.kind() == ErrorKind::NotFound => Ok(None),
+        Err(error) => Err(error),
+    }
+}
+
+// A file to be read and written, and whether it was made now.
+fn open_to_write<R: Files<File = File>>(files: &R, name: &str) -> io::Result<(File, bool)> {
+    let mut how = OpenOptions::new();
+    how.read(true).write(true);
+    match how.open(files, name) {
+        Ok(file) => Ok((file, false)),
+        Err(error) if error.kind() == ErrorKind::NotFound => {
+            how.create_new(true).mode(0o600);
+            Ok((how.open(files, name)?, true))
+        }
+        Err(error) => Err(error),
+    }
+}
+
+// Locks the file, and gives its size. One that another process made and took away again before it was
+// locked is as good as in use.
+fn lock(file: &File) -> io::Result<u64> {
+    file.try_lock()?;
+    let metadata = file.metadata()?;
+    if metadata.nlink() == 0 {
+        return Err(io::Error::from(ErrorKind::WouldBlock));
+    }
+    Ok(metadata.len())
+}
+
 // The folder is synced before the file is handed out, so that a file that has bytes outlives a crash, also
 // one that was made, copied or moved there by others.
-fn open_disk<R: Files<File = File>>(alloc: Global, files: &R, name: &str) -> io::Result<FileDisk>
+fn open_disk<R: Files<File = File>>(
+    alloc: Global,
+    files: &R,
+    access: Access,
+    name: &str,
+) -> io::Result<FileDisk>
     ensures { IfOk result (λ disk. disk.faults ≡ 0) }
 {
     let ahead = FileAhead::new(alloc)?;
     check_kind(files, name)?;
-    let file = OpenOptions::new()
-        .read(true)
-        .write(true)
-        .create(true)
-        .mode(0o600)
-        .open(files, name)?;
-    file.try_lock()?;
-    let size = file.metadata()?.len();
+    let (file, is_new) = match access {
+        Access::Read => (open_to_read(files, name)?, false),
+        Access::Write => {
+            let (file, is_new) = open_to_write(files, name)?;
+            (Some(file), is_new)
+        }
+    };
+    let Some(file) = file else {
+        return Ok(FileDisk::absent(ahead));
+    };
+    let size = lock(&file)?;
     File::open(files, ".")?.sync_all()?;
-    Ok(FileDisk::new(file, size, ahead))
+    Ok(FileDisk::over(file, size, is_new, ahead))
 }
 
 fn read_whole<R: Files<File = File>>(files: &R, name: &str, into: &mut [u8]) -> io::Result<u64> {
@@ -80,10 +133,12 @@ fn read_whole<R: Files<File = File>>(files: &R, name: &str, into: &mut [u8]) -> 
 }
 
 impl<R: Files<File = File>> FileShelf<R> {
-    pub fn new(alloc: Global, files: R) -> FileShelf<R> {
+    /// The current folder, whose disks are used so.
+    pub fn new(alloc: Global, files: R, access: Access) -> FileShelf<R> {
         FileShelf {
             alloc,
             files,
+            access,
             faults: 0,
             disk_faults: 0,
             why: None,
@@ -115,7 +170,8 @@ impl<R: Files<File = File>> Shelf for FileShelf<R> {
     }
 
     fn disk(&mut self, name: DiskName) -> Result<FileDisk, ShelfFault> {
-        match open_disk(self.alloc, &self.files, file_name(name).as_str()) {
+        let file = file_name(name);
+        match open_disk(self.alloc, &self.files, self.access, file.as_str()) {
             Ok(disk) => Ok(disk),
             Err(error) if error.kind() == ErrorKind::OutOfMemory => Err(ShelfFault::Memory),
             Err(error) => {
@@ -126,8 +182,12 @@ impl<R: Files<File = File>> Shelf for FileShelf<R> {
         }
     }
 
-    // The file is closed, and so its lock is given up.
-    fn keep(&mut self, _name: DiskName, disk: FileDisk) {
+    // The file is closed, and so its lock is given up. One that was made and not written is taken away
+    // before that.
+    fn keep(&mut self, name: DiskName, disk: FileDisk) {
+        if disk.is_unwritten() {
+            let _ = fs::remove_file(&self.files, file_name(name).as_str());
+        }
         if disk.faults() > 0 {
             self.why = disk.why();
             self.disk_faults = raised(self.disk_faults);

@@ -19,7 +19,7 @@ mod tcp_ports;
 mod traffic;
 
 pub use file_disk::FileDisk;
-pub use file_shelf::FileShelf;
+pub use file_shelf::{Access, FileShelf};
 pub use key_source::KeySource;
 pub use real_clock::{RealClock, now};
 pub use shown_source::ShownSource;

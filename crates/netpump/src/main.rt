@@ -4,7 +4,7 @@
 mod explain;
 
 use adapters::{
-    FileShelf, KeySource, RealClock, ShownSource, StdSink, StdSource, TcpPorts, Traffic, now,
+    Access, FileShelf, KeySource, RealClock, ShownSource, StdSink, StdSource, TcpPorts, Traffic, now,
 };
 use disk_model::Shelf;
 use dispatch::{batch, live};
@@ -38,6 +38,15 @@ fn is_live(words: &[String]) -> bool {
     ["race", "serve", "receive", "send"]
         .iter()
         .any(|name| begin_with(words, name))
+}
+
+/// What the command does with disks.
+fn access(words: &[String]) -> Access {
+    if begin_with(words, "show") || begin_with(words, "unwrap") {
+        Access::Read
+    } else {
+        Access::Write
+    }
 }
 
 /// Runs the command with threads or over a socket that the words are, by two clocks. The ports tell what
@@ -100,7 +109,7 @@ fn main(rt: HostRuntime) -> ExitCode {
         // Words that can't be told are no command.
         Err(_) => Vec::new(rt.alloc()),
     };
-    let mut shelf = FileShelf::new(rt.alloc(), &rt);
+    let mut shelf = FileShelf::new(rt.alloc(), &rt, access(words.as_slice()));
     // A file that is sent takes its time, so a terminal is shown how far it is.
     let is_shown = begin_with(words.as_slice(), "wrap") && rt.stderr().is_terminal();
     let mut script = ShownSource::new(StdSource::new(rt.stdin()), rt.stderr(), is_shown);

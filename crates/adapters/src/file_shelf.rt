@@ -96,8 +96,8 @@ fn lock(file: &File) -> io::Result<u64> {
     Ok(metadata.len())
 }
 
-// The folder is synced before the file is handed out, so that a file that has bytes outlives a crash, also
-// one that was made, copied or moved there by others.
+// The folder is synced before a file that may be written is handed out, so that what is acknowledged
+// outlives a crash, also in a file that was copied or moved there by others.
 fn open_disk<R: Files<File = File>>(
     alloc: Global,
     files: &R,
@@ -119,7 +119,9 @@ fn open_disk<R: Files<File = File>>(
         return Ok(FileDisk::absent(ahead));
     };
     let size = lock(&file)?;
-    File::open(files, ".")?.sync_all()?;
+    if access == Access::Write {
+        File::open(files, ".")?.sync_all()?;
+    }
     Ok(FileDisk::over(file, size, is_new, ahead))
 }
 

@@ -4,7 +4,8 @@
 mod explain;
 
 use adapters::{
-    Access, FileShelf, KeySource, RealClock, ShownSource, StdSink, StdSource, TcpPorts, Traffic, now,
+    Access, FileShelf, KeySource, RealClock, ShownSource, StdSink, StdSource, TcpPorts, Traffic,
+    now,
 };
 use disk_model::Shelf;
 use dispatch::{batch, live};

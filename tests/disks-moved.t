@@ -76,12 +76,11 @@ Then message 2 is longer than the new row's messages.
   netpump: message 2 in the file 1.low has 3 bytes, which is more than the new row's message; make that at least as long as the longest message
   [8]
 
-A refused move leaves new disks that have no bytes, and the old ones as they were.
+A refused move leaves no new disks, and the old ones as they were.
 
-  $ wc -c 2.* | head -n 3
-  *0 2.high (glob)
-  *0 2.low (glob)
-  *0 2.recv (glob)
+  $ ls 2.*
+  ls: cannot access '2.*': No such file or directory
+  [2]
   $ netpump show of_3.toml 1
   show 1 3 1 2
   live 1 1 62

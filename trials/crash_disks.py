@@ -126,7 +126,9 @@ class Trace:
         """A command gives names without a folder; the files of this script have whole paths."""
         if path.startswith(self.folder + "/snapshots/"):
             return self.add(number, "snapshot", path[len(self.folder) + 1 :])
-        return self.add(number, "made", path) if is_made and "/" not in path else None
+        if is_made and "/" not in path:
+            return self.add(number, "made", path)
+        return self.add(number, "taken", path) if re.fullmatch(r"\d+\.(low|high|recv)", path) else None
 
     def strange(self, number, call, name, text):
         if name or text and b"/" not in text:
@@ -237,6 +239,9 @@ class Folder:
         if is_new:
             self.disks[event.name] = Disk(b"", False)
         return is_new
+
+    def on_taken(self, event):
+        return False
 
     def on_write(self, event):
         self.disks[event.name].writes.append((event.line, event.at, event.data))

@@ -8,7 +8,7 @@ import subprocess
 import sys
 import time
 
-from common import MOST_LOOKS, ROLES, Refused, Row, count, free_ports, read, received, slot
+from common import MOST_LOOKS, ROLES, Refused, Row, count, free_ports, read, received, slot, till
 from crash_disks import KNOWN, STRANGE, Folder, Trace, is_none, lines_of, messages_in, new_disk, stands_for, write_file
 
 HERE = os.path.dirname(os.path.realpath(__file__))
@@ -241,6 +241,7 @@ class Relay(Case):
                 kills += 1
         cls.start(player)
         time.sleep(0.2)
+        till(lambda: cls.is_done(player), player.end - time.monotonic())
         for name in cls.disks:
             player.kill(name, cls.disks[name])
         if not cls.is_done(player):
@@ -423,6 +424,8 @@ class Replay(Case):
                 running.stdin.flush()
                 time.sleep(0.0005)
             if number == 0:
+                # Once a line is printed the disks are formatted, as a killed format may leave what no command opens.
+                player.await_size("replay", 1)
                 player.pause(0.01, cls.names)
                 player.kill("replay", cls.names)
             else:

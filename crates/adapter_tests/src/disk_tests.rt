@@ -7,18 +7,15 @@ use std::fs;
 use std::process::Abort;
 use std::test::Fail;
 
-/// A new disk, whose file has no name any more.
-fn new_disk(rt: &HostRuntime, name: &str) -> Result<FileDisk, Fail> {
-    let folder = enter(rt, name)?;
+/// A disk that has no file yet.
+fn new_disk(rt: &HostRuntime) -> Result<FileDisk<'_, HostRuntime>, Fail> {
     let low = DiskName {
         session: 7,
         role: Role::Low,
     };
-    let disk = FileShelf::new(rt.alloc(), rt, Access::Write).disk(low);
-    let is_gone = fs::remove_dir_all(rt, folder.as_str()).is_ok();
-    match disk {
-        Ok(disk) if is_gone => Ok(disk),
-        _ => Err(Fail::new("no new disk")),
+    match FileShelf::new(rt.alloc(), rt, Access::Write).disk(low) {
+        Ok(disk) => Ok(disk),
+        Err(_) => Err(Fail::new("no new disk")),
     }
 }
 
@@ -27,7 +24,7 @@ fn byte_at(at: usize) -> u8 {
 }
 
 /// Whether the file has its bytes there, as many as the room.
-fn has_bytes(disk: &mut FileDisk, at: usize, into: &mut [u8]) -> bool {
+fn has_bytes(disk: &mut FileDisk<'_, HostRuntime>, at: usize, into: &mut [u8]) -> bool {
     if disk.read(at as u64, into).is_err() {
         return false;
     }
@@ -40,7 +37,7 @@ fn has_bytes(disk: &mut FileDisk, at: usize, into: &mut [u8]) -> bool {
 }
 
 // A walk over the lengths of records, then over the records, each behind its length, and elsewhere.
-fn reads_ahead(rt: &impl Abort, disk: &mut FileDisk) {
+fn reads_ahead(rt: &impl Abort, disk: &mut FileDisk<'_, HostRuntime>) {
     let (mut length, mut record) = ([0; 2], [0; 1026]);
     for at in [80, 1106, 2132, 65_900, 67_000] {
         assert!(rt; has_bytes(disk, at, &mut length));
@@ -59,17 +56,19 @@ fn what_is_read_ahead_is_what_the_file_has(rt: HostRuntime) -> Result<(), Fail> 
     for (at, byte) in bytes.iter_mut().enumerate() {
         *byte = byte_at(at);
     }
-    let mut disk = match new_disk(&rt, "ahead") {
+    let folder = enter(&rt, "ahead")?;
+    let mut disk = match new_disk(&rt) {
         Ok(disk) => disk,
         Err(fail) => return Err(fail),
     };
     assert!(rt; disk.write_at(0, &bytes).is_ok());
     reads_ahead(&rt, &mut disk);
+    fs::remove_dir_all(&rt, folder.as_str())?;
     Ok(())
 }
 
 /// Whether the disk has these bytes there, eight at most.
-fn has(disk: &mut FileDisk, at: u64, bytes: &[u8]) -> bool {
+fn has(disk: &mut FileDisk<'_, HostRuntime>, at: u64, bytes: &[u8]) -> bool {
     let mut room = [0; 8];
     match room.get_mut(..bytes.len()) {
         Some(into) => disk.read(at, into).is_ok() && &*into == bytes,
@@ -77,7 +76,7 @@ fn has(disk: &mut FileDisk, at: u64, bytes: &[u8]) -> bool {
     }
 }
 
-fn is_written(rt: &impl Abort, disk: &mut FileDisk) {
+fn is_written(rt: &impl Abort, disk: &mut FileDisk<'_, HostRuntime>) {
     for (at, bytes, size) in [(0, b"relay", 5), (3, b"pumps", 8), (1, b"elpum", 8)] {
         assert!(rt; disk.write_at(at, bytes).is_ok());
         assert!(rt; disk.sync().is_ok());
@@ -92,7 +91,8 @@ fn is_written(rt: &impl Abort, disk: &mut FileDisk) {
 
 #[test]
 fn a_file_is_a_disk(rt: HostRuntime) -> Result<(), Fail> {
-    let mut disk = match new_disk(&rt, "disk") {
+    let folder = enter(&rt, "disk")?;
+    let mut disk = match new_disk(&rt) {
         Ok(disk) => disk,
         Err(fail) => return Err(fail),
     };
@@ -102,5 +102,6 @@ fn a_file_is_a_disk(rt: HostRuntime) -> Result<(), Fail> {
     assert!(rt; disk.write_at(u64::MAX, b"relay") == Err(DiskFault));
     assert!(rt; disk.size() == Ok(8));
     assert!(rt; disk.faults() == 2);
+    fs::remove_dir_all(&rt, folder.as_str())?;
     Ok(())
 }

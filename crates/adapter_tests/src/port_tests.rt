@@ -1,6 +1,6 @@
 //! TCP ports of 127.0.0.1, their doors, and connections as links.
 
-use adapters::{TcpDoor, TcpLink, TcpPorts, Traffic};
+use adapters::{TcpDoor, TcpLink, TcpPorts, Traffic, stepping_side};
 use pump_link::{Accepted, Door, Link, Looked, Ports};
 use std::net::{Net, TcpListener, TcpStream};
 use std::process::{self, Abort};
@@ -81,8 +81,8 @@ fn see(link: &mut TcpLink<'_>) -> Looked {
 
 #[test]
 fn ports_of_this_machine(rt: HostRuntime) {
-    let (low, high) = (Traffic::new(), Traffic::new());
-    let mut ports = TcpPorts::new(&rt, &low, &high);
+    let mut traffic = Traffic::new();
+    let mut ports = stepping_side(&rt, &mut traffic).ports;
     let Some((mut door, port)) = open(&mut ports, process::id(rt.process())) else {
         panic!(rt; "no port is free");
     };
@@ -99,8 +99,8 @@ fn ports_of_this_machine(rt: HostRuntime) {
 
 #[test]
 fn a_listener_is_a_door(rt: HostRuntime) {
-    let (low, high) = (Traffic::new(), Traffic::new());
-    let mut ports = TcpPorts::new(&rt, &low, &high);
+    let mut traffic = Traffic::new();
+    let mut ports = stepping_side(&rt, &mut traffic).ports;
     let Some((mut door, port)) = open(&mut ports, process::id(rt.process())) else {
         panic!(rt; "no port is free");
     };
@@ -111,12 +111,11 @@ fn a_listener_is_a_door(rt: HostRuntime) {
     assert!(rt; door.faults() == 0);
 }
 
-/// Each end says something to the other. What came at the first door is Low's traffic.
-fn talk(rt: &impl Abort, near: &mut TcpLink<'_>, far: &mut TcpLink<'_>, low: &Traffic) {
+/// Each end says something to the other.
+fn talk(rt: &impl Abort, near: &mut TcpLink<'_>, far: &mut TcpLink<'_>) {
     assert!(rt; far.look() == Looked::NotYet);
     assert!(rt; near.send(b"ab").is_ok());
     assert!(rt; far.send(b"c").is_ok());
-    assert!(rt; low.count() == 2);
     assert!(rt; see(far) == Looked::Byte(b'a'));
     assert!(rt; see(far) == Looked::Byte(b'b'));
     assert!(rt; see(near) == Looked::Byte(b'c'));
@@ -134,19 +133,22 @@ fn fails_at_last(link: &mut TcpLink<'_>) -> u64 {
 
 #[test]
 fn a_connection_is_a_link(rt: HostRuntime) {
-    let (low, high) = (Traffic::new(), Traffic::new());
-    let mut ports = TcpPorts::new(&rt, &low, &high);
-    let Some((mut door, port)) = open(&mut ports, process::id(rt.process())) else {
+    let (mut at_low, mut at_high) = (Traffic::new(), Traffic::new());
+    let mut low = stepping_side(&rt, &mut at_low).ports;
+    let mut high = stepping_side(&rt, &mut at_high).ports;
+    let Some((mut door, port)) = open(&mut low, process::id(rt.process())) else {
         panic!(rt; "no port is free");
     };
-    let Ok(mut near) = ports.connect(port) else {
+    let Ok(mut near) = high.connect(port) else {
         panic!(rt; "nobody listens");
     };
+    // What one side does is no traffic of the other.
+    assert!(rt; (low.traffic().count(), high.traffic().count()) == (0, 1));
     let Some(mut far) = come(&mut door) else {
         panic!(rt; "nobody came");
     };
-    talk(&rt, &mut near, &mut far, &low);
-    ports.back(near);
+    talk(&rt, &mut near, &mut far);
+    high.back(near);
     assert!(rt; see(&mut far) == Looked::Ended);
     assert!(rt; far.faults() == 0);
     assert!(rt; fails_at_last(&mut far) == 1);

@@ -1,96 +1,32 @@
 //! A file as a disk.
 
-ghost use Rattle.std.specs.Prelude.{◌≡◌, ◌≤◌};
+ghost use Rattle.std.specs.Prelude.{◌≡◌, ◌≤◌, IfOk};
 ghost use Rattle.pump_frame.specs.Counts.{raised};
 ghost use Rattle.adapters.specs.Files.{count_alone};
 
 use crate::file_ahead::FileAhead;
-use disk_model::{Disk, DiskFault};
+use crate::file_place::{Access, FilePlace};
+use disk_model::{Disk, DiskFault, DiskName};
 use pump_frame::raised;
-use std::fs::File;
+use std::alloc::Global;
+use std::fs::{File, Files};
 use std::io::{self, ErrorKind};
-use std::os::unix::fs::FileExt;
 
 /// A file as a disk. It tells how often a call failed, and nothing of what it holds. Nobody else
 /// may write the file meanwhile: reads that follow one another are served from bytes read ahead.
-/// Where there is no file it is empty, and takes no write.
+/// Where there is no file the disk is empty, and its first write makes the file, if it may.
 #[derive(Drop)]
-pub struct FileDisk {
-    file: Option<File>,
-    // The file's size, where it is known without asking.
+pub struct FileDisk<'a, R> {
+    place: FilePlace<'a, R>,
+    // The size in bytes, where it is known without asking.
     size: Option<u64>,
     ahead: FileAhead,
     faults: u64,
     // Why the last failed call failed.
     why: Option<ErrorKind>,
-    // Whether the file was made for this disk.
-    is_new: bool,
 }
 
-// How many bytes the file has.
-fn length(file: &Option<File>) -> io::Result<u64> {
-    match file {
-        Some(file) => Ok(file.metadata()?.len()),
-        None => Ok(0),
-    }
-}
-
-fn read(file: &Option<File>, ahead: &mut FileAhead, at: u64, into: &mut [u8]) -> io::Result<()> {
-    match file {
-        Some(file) => ahead.read(file, at, into),
-        None if into.is_empty() => Ok(()),
-        None => Err(io::Error::from(ErrorKind::UnexpectedEof)),
-    }
-}
-
-fn write(file: &Option<File>, bytes: &[u8], at: u64) -> io::Result<()> {
-    match file {
-        Some(file) => file.write_all_at(bytes, at),
-        None => Err(io::Error::from(ErrorKind::NotFound)),
-    }
-}
-
-fn sync(file: &Option<File>) -> io::Result<()> {
-    match file {
-        Some(file) => file.sync_data(),
-        None => Ok(()),
-    }
-}
-
-impl FileDisk {
-    /// A disk over an open file that has this size in bytes, and was made for the disk or was there.
-    pub fn over(file: File, size: u64, is_new: bool, ahead: FileAhead) -> FileDisk
-        ensures { result.faults ≡ 0 }
-    {
-        FileDisk {
-            file: Some(file),
-            size: Some(size),
-            ahead,
-            faults: 0,
-            why: None,
-            is_new,
-        }
-    }
-
-    /// A disk where there is no file.
-    pub fn absent(ahead: FileAhead) -> FileDisk
-        ensures { result.faults ≡ 0 }
-    {
-        FileDisk {
-            file: None,
-            size: Some(0),
-            ahead,
-            faults: 0,
-            why: None,
-            is_new: false,
-        }
-    }
-
-    /// Was the file made for this disk, and never written?
-    pub fn is_unwritten(&self) -> bool {
-        self.is_new && self.size == Some(0)
-    }
-
+impl<'a, R> FileDisk<'a, R> {
     /// Why the last call that failed did, where one has.
     pub fn why(&self) -> Option<ErrorKind> {
         self.why
@@ -106,14 +42,35 @@ impl FileDisk {
     }
 }
 
-impl Disk for FileDisk {
+impl<'a, R: Files<File = File>> FileDisk<'a, R> {
+    /// The disk of this name. Where it has a file, that is locked from now on.
+    pub fn take(
+        alloc: Global,
+        files: &'a R,
+        name: DiskName,
+        access: Access,
+    ) -> io::Result<FileDisk<'a, R>>
+        ensures { IfOk result (λ disk. disk.faults ≡ 0) }
+    {
+        let ahead = FileAhead::new(alloc)?;
+        Ok(FileDisk {
+            place: FilePlace::take(files, name, access)?,
+            size: None,
+            ahead,
+            faults: 0,
+            why: None,
+        })
+    }
+}
+
+impl<'a, R: Files<File = File>> Disk for FileDisk<'a, R> {
     ghost told = { count_alone (λ d. d.faults) };
 
     fn size(&mut self) -> Result<u64, DiskFault> {
         if let Some(size) = self.size {
             return Ok(size);
         }
-        match length(&self.file) {
+        match self.place.length() {
             Ok(length) => {
                 self.size = Some(length);
                 Ok(length)
@@ -123,7 +80,7 @@ impl Disk for FileDisk {
     }
 
     fn read(&mut self, at: u64, into: &mut [u8]) -> Result<(), DiskFault> {
-        match read(&self.file, &mut self.ahead, at, into) {
+        match self.place.read(&mut self.ahead, at, into) {
             Ok(()) => Ok(()),
             Err(error) => Err(self.fault(&error)),
         }
@@ -131,7 +88,7 @@ impl Disk for FileDisk {
 
     fn write_at(&mut self, at: u64, bytes: &[u8]) -> Result<(), DiskFault> {
         self.ahead.clear();
-        match write(&self.file, bytes, at) {
+        match self.place.write(at, bytes) {
             Ok(()) => {
                 let end = at.saturating_add(bytes.len() as u64);
                 self.size = self.size.map(|size| size.max(end));
@@ -147,7 +104,7 @@ impl Disk for FileDisk {
 
     // The size is kept too, since a later read needs it.
     fn sync(&mut self) -> Result<(), DiskFault> {
-        match sync(&self.file) {
+        match self.place.sync() {
             Ok(()) => Ok(()),
             Err(error) => Err(self.fault(&error)),
         }

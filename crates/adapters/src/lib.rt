@@ -1,10 +1,13 @@
 //! The outside of the relay over what the machine has: disks and a shelf over the files of the current
 //! folder, a source and a sink over a reader and a writer, random bytes, TCP ports, doors and links, and
-//! the machine's clock. Each counts its failures, and tells nothing of what it holds or brings.
+//! the machine's clock. Each counts its failures, and tells nothing of what it holds or brings. The ports
+//! and the clock of one side of a relay come together.
 #![tactic(auto)]
 
+mod counted;
 mod file_ahead;
 mod file_disk;
+mod file_place;
 mod file_shelf;
 mod interruption;
 mod key_source;
@@ -12,17 +15,22 @@ mod read_ahead;
 mod readiness;
 mod real_clock;
 mod shown_source;
+mod sides;
 mod standard;
 mod tcp_door;
 mod tcp_link;
 mod tcp_ports;
 mod traffic;
 
+pub use counted::Counted;
 pub use file_disk::FileDisk;
-pub use file_shelf::{Access, FileShelf};
+pub use file_place::Access;
+pub use file_shelf::FileShelf;
 pub use key_source::KeySource;
+pub use readiness::is_writable;
 pub use real_clock::{RealClock, now};
 pub use shown_source::ShownSource;
+pub use sides::{machine_side, stepping_side};
 pub use standard::{StdSink, StdSource};
 pub use tcp_door::TcpDoor;
 pub use tcp_link::TcpLink;

@@ -1,6 +1,6 @@
 //! The machine's clock, which paces the worker that reads it.
 
-ghost use Rattle.std.specs.Prelude.{◌≡◌, ◌≤◌, ◌/◌, ℕ, min, ◌^◌};
+ghost use Rattle.std.specs.Prelude.{◌≡◌, ◌≤◌, ◌/◌, min, ◌^◌};
 
 use crate::traffic::Traffic;
 use pump_frame::raised;
@@ -66,7 +66,7 @@ fn gap(waited: u64) -> u64
 impl<'a, R: time::Clock> RealClock<'a, R> {
     /// A clock that has its 0 where the machine's clock said `start`, for the worker whose side has this
     /// traffic.
-    pub fn new(machine: &'a R, start: Duration, traffic: &'a Traffic) -> RealClock<'a, R> {
+    pub(crate) fn new(machine: &'a R, start: Duration, traffic: &'a Traffic) -> RealClock<'a, R> {
         RealClock {
             machine,
             start,

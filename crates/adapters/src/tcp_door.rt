@@ -27,7 +27,7 @@ pub struct TcpDoor<'a> {
 
 impl<'a> TcpDoor<'a> {
     /// A door at which the listener's connections come.
-    pub fn over(listener: TcpListener, traffic: &'a Traffic) -> io::Result<TcpDoor<'a>>
+    pub(crate) fn over(listener: TcpListener, traffic: &'a Traffic) -> io::Result<TcpDoor<'a>>
         ensures { IfOk result (λ door. door.faults ≡ 0) }
     {
         // A connection that is gone before it is taken in must not keep the call.

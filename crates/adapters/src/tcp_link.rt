@@ -66,7 +66,7 @@ impl Write for Patient<'_> {
 
 impl<'a> TcpLink<'a> {
     /// A link over this connection, whose bytes are sent at once and not gathered first.
-    pub fn over(stream: TcpStream, traffic: &'a Traffic) -> io::Result<TcpLink<'a>>
+    pub(crate) fn over(stream: TcpStream, traffic: &'a Traffic) -> io::Result<TcpLink<'a>>
         ensures { IfOk result (λ link. link.faults ≡ 0) }
     {
         stream.set_nodelay(true)?;
@@ -98,7 +98,10 @@ impl<'a> TcpLink<'a> {
         self.traffic.note();
         match self.ahead.next() {
             Some(byte) => Looked::Byte(byte),
-            None => Looked::Ended,
+            None => {
+                self.traffic.note_end();
+                Looked::Ended
+            }
         }
     }
 
@@ -111,6 +114,7 @@ impl<'a> TcpLink<'a> {
         match error.kind() {
             ErrorKind::WouldBlock | ErrorKind::Interrupted => Looked::NotYet,
             _ => {
+                self.traffic.note_end();
                 self.faults = raised(self.faults);
                 Looked::Failed
             }
@@ -158,6 +162,7 @@ impl Link for TcpLink<'_> {
                 Ok(())
             }
             Err(_) => {
+                self.traffic.note_end();
                 self.faults = raised(self.faults);
                 Err(SendFault)
             }

@@ -11,30 +11,29 @@ use pump_link::{Ports, PortsFault};
 use std::io::{self, ErrorKind};
 use std::net::{Ipv4Addr, Net, TcpListener, TcpStream};
 
-/// The TCP ports of 127.0.0.1. They tell how often a call failed, and nothing else.
+/// The TCP ports of 127.0.0.1 for one side of a relay. They tell how often a call failed, and nothing else.
 ///
-/// The first door that they open is Low's, and each further one is High's: what comes and goes at a door
-/// is the traffic of its side. A link that is asked for here has the traffic of High's side, of which no
-/// clock is told then.
+/// What comes and goes at their doors and over their links is the traffic of that side.
 #[derive(Drop)]
 pub struct TcpPorts<'a, R> {
     net: &'a R,
-    low: &'a Traffic,
-    high: &'a Traffic,
-    has_low_door: bool,
+    traffic: &'a Traffic,
     faults: u64,
 }
 
 impl<'a, R> TcpPorts<'a, R> {
     /// Ports of which none is listened at yet.
-    pub fn new(net: &'a R, low: &'a Traffic, high: &'a Traffic) -> TcpPorts<'a, R> {
+    pub(crate) fn new(net: &'a R, traffic: &'a Traffic) -> TcpPorts<'a, R> {
         TcpPorts {
             net,
-            low,
-            high,
-            has_low_door: false,
+            traffic,
             faults: 0,
         }
+    }
+
+    /// What came and went on this side.
+    pub fn traffic(&self) -> &Traffic {
+        self.traffic
     }
 
     fn fault(&mut self) -> PortsFault
@@ -51,12 +50,7 @@ impl<'a, R: Net<Listener = TcpListener, Stream = TcpStream>> TcpPorts<'a, R> {
     // SO_REUSEADDR.
     fn open(&self, port: u16) -> io::Result<TcpDoor<'a>> {
         let listener = TcpListener::bind(self.net, (Ipv4Addr::LOCALHOST, port))?;
-        let side = if self.has_low_door {
-            self.high
-        } else {
-            self.low
-        };
-        TcpDoor::over(listener, side)
+        TcpDoor::over(listener, self.traffic)
     }
 
     // A connection to a port at which nobody listens may meet itself, where the system gives it that very
@@ -66,7 +60,7 @@ impl<'a, R: Net<Listener = TcpListener, Stream = TcpStream>> TcpPorts<'a, R> {
         if stream.local_addr()?.port() == port {
             return Err(io::Error::from(ErrorKind::ConnectionRefused));
         }
-        TcpLink::over(stream, self.high)
+        TcpLink::over(stream, self.traffic)
     }
 }
 
@@ -84,10 +78,7 @@ impl<'a, R: Net<Listener = TcpListener, Stream = TcpStream>> Ports for TcpPorts<
 
     fn listen(&mut self, port: u16) -> Result<TcpDoor<'a>, PortsFault> {
         match self.open(port) {
-            Ok(door) => {
-                self.has_low_door = true;
-                Ok(door)
-            }
+            Ok(door) => Ok(door),
             Err(_) => Err(self.fault()),
         }
     }

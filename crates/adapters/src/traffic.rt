@@ -11,6 +11,7 @@ use std::sync::atomic::{AtomicBool, AtomicU64, Ordering};
 pub struct Traffic {
     count: AtomicU64,
     is_quiet: AtomicBool,
+    has_ended: AtomicBool,
 }
 
 impl Traffic {
@@ -19,12 +20,23 @@ impl Traffic {
         Traffic {
             count: AtomicU64::new(0),
             is_quiet: AtomicBool::new(true),
+            has_ended: AtomicBool::new(false),
         }
     }
 
     /// Bytes or a connection came, or bytes went.
     pub fn note(&self) {
         self.count.fetch_add(1, Ordering::SeqCst);
+    }
+
+    /// A connection ended or failed.
+    pub fn note_end(&self) {
+        self.has_ended.store(true, Ordering::SeqCst);
+    }
+
+    /// Has a connection ended or failed?
+    pub fn has_ended(&self) -> bool {
+        self.has_ended.load(Ordering::SeqCst)
     }
 
     /// How often something came or went.

@@ -1,16 +1,16 @@
 -- The disks of two sessions come off a shelf and back on it.
-use Rattle.std.proofs.Common.{◌≡◌, ◌∙◌, ℕ, sym, subst}
+use Rattle.std.proofs.Common.{◌≡◌, ◌∙◌, ℕ, subst}
 use Rattle.disk_model.specs.Disk.{Meaning}
 use Rattle.disk_model.specs.declared.name.Role.{Role}
 use Rattle.disk_model.specs.declared.name.Role.TheVariants as roles
-use Rattle.disk_model.specs.Shelf.{Whereabouts, OnShelf, IsOut}
+use Rattle.disk_model.specs.Shelf.{OnShelf, IsOut}
 use Rattle.pump_chain.specs.Opening.{disk_in}
 use Rattle.recovery.specs.declared.trio.Trio.{Trio}
-use Rattle.script_replay.specs.Lending.{ReadAt, AreOnShelf}
+use Rattle.script_replay.specs.Lending.{AreOnShelf}
 use Rattle.script_replay.specs.Shelves.{Places, disk_name, LeavesOtherSessions}
 use Rattle.script_replay.proofs.Shelving.{is_out}
 use Rattle.chain_replay.specs.Opened.{LeavesOthers}
-use Rattle.chain_replay.specs.Private.{AreReadAt, AreOutAt, AreBackAt, AreOut, AreHome}
+use Rattle.chain_replay.specs.Private.{AreOutAt, AreBackAt, AreOut, AreHome}
 
 pub by_role : (P : Role → Type 0) → P roles.Low → P roles.High → P roles.Recv → (role : Role) → P role
 by_role P low high recv roles.Low = low

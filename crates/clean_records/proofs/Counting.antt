@@ -1,20 +1,19 @@
 -- Where a race acknowledged all its messages, its life stored as many.
-use Rattle.std.proofs.Common.{◌≡◌, ℕ, ◌+◌, ◌-◌, ◌^◌, ◌<◌, ◌≤◌, Bool, true, false, List, [], ◌∷◌, ◌++◌, length, suc, Option, Some, None, refl, sym, ap, ◌∙◌, subst, append_assoc, append-nil, arith, length-append}
+use Rattle.std.proofs.Common.{◌≡◌, ℕ, ◌+◌, ◌-◌, ◌^◌, ◌≤◌, Bool, true, false, List, [], ◌∷◌, ◌++◌, length, suc, Option, Some, None, refl, sym, ap, ◌∙◌, subst, append_assoc, append-nil, arith, length-append}
 use Rattle.std.specs.Prelude.{if◌then◌else◌, ◌&&◌, ◌||◌, ◌==◌, not, nat_le, nat_lt, is_some, map}
 use Rattle.std.proofs.lemmas.Bool.{ltb-true}
 use Rattle.std.proofs.lemmas.List.{length-map}
 use Rattle.pump_frame.specs.declared.frame.Frame.{Frame}
 use Rattle.pump_frame.specs.declared.frame.Item.{Item}
 use Rattle.pump_frame.specs.declared.row.SessionRow.{SessionRow}
-use Rattle.pump_core.specs.declared.feedback.Feedback.{Feedback}
 use Rattle.pump_core.specs.Phases.{Phase}
 use Rattle.pump_core.specs.Phases.{Idle, Passing, Waiting as Waits, Down}
-use Rattle.pump_core.specs.History.{Arrival, Look, Opening}
+use Rattle.pump_core.specs.History.{Arrival, Look}
 use Rattle.pump_core.specs.History.{Nothing, Came, Bad, Gone}
-use Rattle.pump_core.specs.Exchanges.{is_gone, is_hello, is_data, is_fit, is_repeat, is_next, permits_frame, due, Part}
+use Rattle.pump_core.specs.Exchanges.{is_gone, is_hello, is_data, is_repeat, is_next, permits_frame, due, Part}
 use Rattle.pump_core.specs.Replies.{refusal, welcome, acknowledgement, answer}
 use Rattle.pump_core.specs.Standing.{State, end_of}
-use Rattle.pump_core.specs.Step.{after, after_in, reply_at, reply_in, is_full, passed}
+use Rattle.pump_core.specs.Step.{after_in, reply_at, reply_in, is_full, passed}
 use Rattle.pump_core.proofs.Cuts.{one_cut}
 use Rattle.script_reader.specs.Generated.{generated_row}
 use Rattle.relay_threads.specs.Records.{Made, life_made, AreMade, is_recorded, record_of}

@@ -11,27 +11,25 @@ use Rattle.pump_core.specs.Phases.{Phase}
 use Rattle.pump_core.specs.Phases.{Idle, Passing, Waiting as Waits, Down}
 use Rattle.pump_core.specs.History.{Arrival, Look, Opening, History, looked}
 use Rattle.pump_core.specs.History.{Nothing, Came, Bad, Gone}
-use Rattle.pump_core.specs.Exchanges.{is_gone, is_hello, is_data, is_repeat, is_next, permits_frame, Part}
+use Rattle.pump_core.specs.Exchanges.{is_gone, is_hello, is_data, is_repeat, is_next, permits_frame}
 use Rattle.pump_core.specs.Comings.{is_nothing}
-use Rattle.pump_core.specs.Replies.{Sent, sent, LowReplies, welcome, refusal, acknowledgement, answer}
+use Rattle.pump_core.specs.Replies.{Sent, sent, LowReplies, welcome, refusal, acknowledgement}
 use Rattle.pump_core.specs.ReplyFrames.{code_of, frame_of, IsLawfulReply}
 use Rattle.pump_core.specs.declared.reply.Refusal.{Refusal}
 use Rattle.pump_core.specs.declared.reply.Refusal.TheVariants as refusals
 use Rattle.pump_core.specs.declared.reply.Reply.{Reply}
 use Rattle.pump_core.specs.declared.reply.Reply.TheVariants as replies
 use Rattle.pump_frame.specs.Frames.{IsForm}
-use Rattle.pump_core.specs.Step.{after, after_in, reply_at, reply_in, takes_at, takes_in, fits_in, FeedbackFits, is_full, is_quiet}
+use Rattle.pump_core.specs.Step.{after, reply_at, reply_in, takes_at, takes_in, fits_in, FeedbackFits, is_full, is_quiet}
 use Rattle.pump_core.specs.Standing.{State, StandsAt, end_of, last_moment}
 use Rattle.pump_core.proofs.Standings.{stands_after, replies_after, newest_after}
 use Rattle.low_process.specs.Looks.{look_of}
 use Rattle.script_reader.proofs.Hearing.{quiet_is}
-use Rattle.script_reader.specs.declared.line.Arriving.{Arriving}
-use Rattle.script_reader.specs.declared.line.Line.{Line}
 use Rattle.script_reader.specs.declared.line.Line.TheVariants as lines
 use Rattle.script_reader.specs.declared.line.ToldFeedback.{ToldFeedback}
 use Rattle.script_reader.specs.declared.line.ToldFeedback.TheVariants as told
 use Rattle.script_reader.specs.Alone.{tells_level}
-use Rattle.relay_threads.specs.Records.{Made, looks_made, replies_made, life_made, history_made, AreMade, passes_on, was_full, is_recorded}
+use Rattle.relay_threads.specs.Records.{Made, looks_made, replies_made, history_made, AreMade, passes_on, was_full, is_recorded}
 use Rattle.relay_threads.specs.RecordLines.{is_reply_kind, IsReplyFrame, taken_by, tells_fault, told_of, arriving_of, line_of, without_ports, HasLawfulFrame}
 use Rattle.relay_threads.specs.Replays.{is_lost}
 use Rattle.relay_threads.proofs.Machine.{led, reply_led}

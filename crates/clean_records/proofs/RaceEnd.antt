@@ -1,24 +1,23 @@
 -- The record of a race, with its end, is clean.
-use Rattle.std.proofs.Common.{◌≡◌, ℕ, zero, suc, ◌+◌, ◌%◌, ◌^◌, ◌<◌, ◌≤◌, Bool, true, false, List, [], ◌∷◌, ◌++◌, length, codes, decimal, refl, sym, ap, ◌∙◌, subst, append-nil, append_assoc, arith, length-append}
+use Rattle.std.proofs.Common.{◌≡◌, ℕ, zero, suc, ◌+◌, ◌^◌, ◌<◌, ◌≤◌, true, List, [], ◌∷◌, ◌++◌, length, codes, decimal, refl, sym, ap, ◌∙◌, subst, append-nil, append_assoc, arith, length-append}
 use Rattle.std.specs.List.{All, AllByRecursion}
 use Rattle.pump_frame.specs.declared.row.SessionRow.{SessionRow}
 use Rattle.pump_core.specs.declared.feedback.Feedback.{Feedback}
 use Rattle.pump_core.specs.declared.feedback.Feedback.TheVariants.{Quiet, Full, Passed, Released, Repeat}
-use Rattle.pump_core.specs.History.{Look, Opening, Life}
-use Rattle.pump_core.specs.Exchanges.{Part, IsCut, count_after}
+use Rattle.pump_core.specs.History.{Opening, Life}
+use Rattle.pump_core.specs.Exchanges.{IsCut, count_after}
 use Rattle.pump_core.specs.Passage.{shape_of_row, IsAverage}
 use Rattle.pump_core.specs.Standing.{State}
 use Rattle.script_reader.specs.Alone.{tells_level}
 use Rattle.script_reader.specs.Generated.{generated_row}
 use Rattle.script_reader.proofs.FreeFields.{digits_without}
-use Rattle.relay_threads.specs.Records.{Made, AreMade, record_of}
+use Rattle.relay_threads.specs.Records.{Made, record_of}
 use Rattle.relay_threads.specs.RecordLines.{told_of, record_text}
 use Rattle.relay_threads.specs.Replays.{TellLevels}
 use Rattle.relay_threads.proofs.Kept.{thin_of}
 use Rattle.relay_threads.proofs.Scripting.{short_decimal}
-use Rattle.relay_threads.specs.PairsRead.{pairs_of}
 use Rattle.race.specs.Messages.{race_opening}
-use Rattle.race.specs.Race.{IsRaceRecord, number_line, time_lines, end_line, end_lines}
+use Rattle.race.specs.Race.{IsRaceRecord, number_line, time_lines, end_line}
 use Rattle.race.specs.Turns.{turn, turns, CanTurn}
 use Rattle.race.proofs.HighLooks.{turn_is_short}
 use Rattle.pump_audit.specs.Places.{takes_times}

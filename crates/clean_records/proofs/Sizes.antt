@@ -12,10 +12,10 @@ use Rattle.pump_core.specs.Phases.{Idle, Passing, Waiting as Waits, Down}
 use Rattle.pump_core.specs.History.{Arrival, Look, Opening}
 use Rattle.pump_core.specs.History.{Nothing, Came, Bad, Gone}
 use Rattle.pump_core.specs.Comings.{is_nothing}
-use Rattle.pump_core.specs.Exchanges.{is_gone, is_hello, is_repeat, is_next, has_average, permits_frame, due, Part}
+use Rattle.pump_core.specs.Exchanges.{is_gone, Part}
 use Rattle.pump_core.specs.Replies.{acknowledgement}
 use Rattle.pump_core.specs.Standing.{State, end_of}
-use Rattle.pump_core.specs.Step.{after, after_in, reply_at, reply_in, takes_at, takes_in, fits_in, fits_passing, FeedbackFits, is_full, is_quiet, passed}
+use Rattle.pump_core.specs.Step.{after_in, reply_in, takes_in, fits_in, fits_passing, is_full, is_quiet, passed}
 use Rattle.pump_core.proofs.Cuts.{one_cut}
 use Rattle.script_reader.specs.Generated.{generated_row}
 use Rattle.relay_threads.specs.Records.{Made, life_made, AreMade, passes_on, was_full, is_recorded, record_of}

@@ -1,28 +1,27 @@
 -- The record of the looks that were made, line by line, as the lines of a record that is checked.
-use Rattle.std.proofs.Common.{◌≡◌, ℕ, ◌+◌, ◌^◌, ◌<◌, ◌≤◌, Bool, true, false, List, [], ◌∷◌, ◌++◌, length, codes, Option, Some, None, inl, inr, refl, sym, ap, ◌∙◌, subst, append-nil, append_assoc, arith, length-append}
-use Rattle.std.specs.Prelude.{if◌then◌else◌, ◌||◌, IfSome, is_some, option_map}
+use Rattle.std.proofs.Common.{◌≡◌, ℕ, ◌+◌, ◌^◌, ◌<◌, ◌≤◌, Bool, true, false, List, [], ◌∷◌, ◌++◌, length, Option, Some, None, inl, inr, refl, sym, ap, ◌∙◌, subst, append-nil, append_assoc, arith, length-append}
+use Rattle.std.specs.Prelude.{if◌then◌else◌, IfSome}
 use Rattle.std.specs.List.{All, AllByRecursion}
-use Rattle.std.proofs.lemmas.List.Elements.{All-nil, All-cons, All-head, All-tail, All-pop, All-push}
+use Rattle.std.proofs.lemmas.List.Elements.{All-nil, All-cons, All-pop}
 use Rattle.pump_frame.specs.Rows.{IsLawfulRow}
 use Rattle.pump_frame.specs.declared.frame.Frame.{Frame}
 use Rattle.pump_frame.specs.declared.row.SessionRow.{SessionRow}
 use Rattle.pump_core.specs.declared.feedback.Feedback.{Feedback}
 use Rattle.pump_core.specs.declared.feedback.Feedback.TheVariants as feedbacks
 use Rattle.pump_core.specs.declared.reply.Reply.{Reply}
-use Rattle.pump_core.specs.History.{Look, Opening, History, looked, first_life}
+use Rattle.pump_core.specs.History.{Look, Opening, looked, first_life}
 use Rattle.pump_core.specs.Exchanges.{Part, is_gone}
 use Rattle.pump_core.specs.Passage.{NeverFall}
 use Rattle.pump_core.specs.ReplyFrames.{frame_of, IsLawfulReply}
 use Rattle.pump_core.specs.Replies.{Sent, sent, LowReplies}
 use Rattle.pump_core.specs.Standing.{State, StandsAt, end_of, last_moment}
-use Rattle.pump_core.specs.Step.{after}
 use Rattle.pump_core.proofs.Cuts.{one_cut}
 use Rattle.low_process.specs.Looks.{look_of}
 use Rattle.script_reader.specs.declared.line.Line.{Line}
 use Rattle.script_reader.specs.declared.line.Line.TheVariants as lines
 use Rattle.script_reader.specs.declared.event.Event.TheVariants.{Low}
 use Rattle.script_reader.specs.Alone.{tells_level}
-use Rattle.script_reader.specs.Grammar.{spaced, IsLine}
+use Rattle.script_reader.specs.Grammar.{IsLine}
 use Rattle.script_reader.specs.Lines.{IsUnended}
 use Rattle.script_reader.specs.Spelling.{line_spelling, line_text}
 use Rattle.script_reader.specs.Transcript.{event_fields}
@@ -38,7 +37,7 @@ use Rattle.pump_audit.specs.Places.{takes_looks}
 use Rattle.pump_audit.specs.Texts.{IsText, line_ends}
 use Rattle.pump_audit.specs.Verdicts.{IsClean}
 use Rattle.pump_audit.proofs.Writing.{ends_append, unended, Written, opened, coarsened, line_told, looked_at, comment_text, low_text, with_comment, commented, pairs_in, pairs_told, pairs_more, NeverRose, clean_looks}
-use Rattle.clean_records.proofs.LineEnds.{IsLined, AreLined, HasLines, has_lines}
+use Rattle.clean_records.proofs.LineEnds.{IsLined, AreLined, has_lines}
 use Rattle.clean_records.proofs.Goes.{counts, state, moves, not_lost, own_reply, reply_of, Tells, tells_made, counted}
 
 -- the pairs that looks tell, the newest first

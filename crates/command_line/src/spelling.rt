@@ -1,5 +1,5 @@
 // Whether words are a command, in its one spelling.
-ghost use Rattle.std.specs.Prelude.{◌≡◌, ℕ, List, [], ◌∷◌, ◌++◌, map, string_bytes, decimal, IfSome, IfNone, IsTrue, ◌↔◌};
+ghost use Rattle.std.specs.Prelude.{◌≡◌, ℕ, List, [], ◌∷◌, map, string_bytes, decimal, IfSome, IfNone, IsTrue, ◌↔◌};
 ghost use Rattle.command_line.specs.Commands.{IsCommand, words_of};
 ghost use Rattle.command_line.specs.TimeLists.{AreTimes, times_word};
 

@@ -1,5 +1,5 @@
 // The values of a command, as `clap` found them.
-ghost use Rattle.std.specs.Prelude.{◌≡◌, ℕ, ◌≤◌, ◌<◌, ◌^◌, List, [], ◌∷◌, true, codes, option_map, decimal, IfSome, IsSomeAnd, Some};
+ghost use Rattle.std.specs.Prelude.{◌≡◌, ℕ, ◌≤◌, ◌<◌, ◌^◌, List, true, codes, option_map, decimal, IfSome, Some};
 ghost use Rattle.clap.specs.Words.{found_of};
 ghost use Rattle.clap.specs.Walk.{rows_of, first_of};
 ghost use Rattle.command_line.specs.Commands.{IsCommand};

@@ -1,6 +1,6 @@
 //! A file that is sent over disks in memory while one of them fails, and sent on, and what is gathered of it.
 
-ghost use Rattle.std.specs.Prelude.{◌≡◌, ◌≤◌, IfSome, IsTrue};
+ghost use Rattle.std.specs.Prelude.{◌≡◌, IfSome};
 ghost use Rattle.pump_frame.specs.Rows.{IsLawfulRow};
 ghost use Rattle.high_receiver.specs.Receiving.{IsRecvReady};
 

@@ -16,7 +16,6 @@ use Rattle.two_worlds.specs.Openings.{StandForFound, IsRefused, failed_at, is_fo
 use Rattle.two_worlds.specs.Rooms.{is_role}
 use Rattle.two_worlds.specs.Surveys.{IsRead}
 use Rattle.two_worlds.specs.declared.not_open.NotOpen.{NotOpen}
-use Rattle.commands.specs.Formatting.{IsDiskEnd}
 use Rattle.script_replay.specs.Lending.{ReadAt, AreOnShelf}
 use Rattle.script_replay.specs.Shelves.{Places, OfDisks, disk_name, reading_at, LeavesOtherSessions, ReadsAlike}
 use Rattle.commands.specs.Showing.{live_messages, shown_counts, shown, IsShown, ShowStops, ShowsSo, end_at}

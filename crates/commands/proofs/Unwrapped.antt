@@ -1,13 +1,9 @@
 -- How writing the file of a session ends.
-use Rattle.std.proofs.Common.{◌≡◌, ℕ, Bool, true, false, List, Option, None, Result, Ok, Err, inl, inr, refl, sym, subst, arith}
+use Rattle.std.proofs.Common.{◌≡◌, ℕ, Bool, true, false, List, Option, None, Result, Ok, Err, inl, inr, refl, subst, arith}
 use Rattle.std.specs.Prelude.{if◌then◌else◌}
-use Rattle.disk_model.specs.declared.name.Role.{Role}
 use Rattle.disk_model.specs.declared.name.Role.TheVariants as roles
-use Rattle.pump_frame.specs.Counts.{Rose}
 use Rattle.pump_frame.specs.declared.row.SessionRow.{SessionRow}
-use Rattle.disk_model.specs.declared.shelf.ShelfFault.{ShelfFault}
-use Rattle.disk_model.specs.declared.shelf.ShelfFault.TheVariants as shelf_faults
-use Rattle.pump_wrapper.specs.Gathers.{Gathers, GatherCause}
+use Rattle.pump_wrapper.specs.Gathers.{Gathers}
 use Rattle.pump_wrapper.specs.declared.gathered.Gathered.{Gathered}
 use Rattle.pump_wrapper.specs.declared.gathered.GatherFault.{GatherFault}
 use Rattle.pump_wrapper.specs.declared.gathered.GatherFault.TheVariants.{Device, NotWrapped, Write}
@@ -16,11 +12,10 @@ use Rattle.recovery.specs.Refusals.{refused_receiver}
 use Rattle.stable_buffer.specs.Format.{receiver_size}
 use Rattle.stable_buffer.specs.Log.{RecvStands}
 use Rattle.commands.specs.CommandEnds.{end_status}
-use Rattle.commands.specs.Formatting.{IsDiskEnd}
 use Rattle.commands.specs.Unwrapping.{end_of_gather, unwrap_status, IsUnwrapStatus, UnwrapsOn, UnwrapsFrom, Unwraps}
 use Rattle.commands.specs.Tables.{HasRow, IsTableEnd}
 use Rattle.commands.specs.declared.command_end.CommandEnd.{CommandEnd}
-use Rattle.commands.specs.declared.command_end.CommandEnd.TheVariants.{Memory, Unread, NoRow, Failed, Refused, Unwritten}
+use Rattle.commands.specs.declared.command_end.CommandEnd.TheVariants.{Memory, Unread, NoRow}
 use Rattle.commands.specs.declared.unwrap.UnwrapEnd.{UnwrapEnd}
 use Rattle.commands.specs.declared.unwrap.UnwrapEnd.TheVariants.{Whole, Unfinished, Stopped}
 

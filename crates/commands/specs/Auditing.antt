@@ -44,18 +44,18 @@ compared_status (Differ item part) = 16
 compared_status (NotRecord line) = 5
 
 -- What holds of the input is said, in a line and with a status; or memory was wanting, and nothing was
--- written; or the input could not be read; or a front of what is to be said was written.
-abbrev pub EndsSaying : {A : Type 0} → (A → Type 0) → (A → List ℕ) → (A → ℕ) → Option (List ℕ) → Option (List ℕ) → ℕ → Type 0
-EndsSaying {A} Is line_of status_of old new status =
+-- written; or the input could not be read, and that is said; or of one of these lines a front was written.
+abbrev pub EndsSaying : {A : Type 0} → (A → Type 0) → (A → List ℕ) → (A → ℕ) → Type 0 → Option (List ℕ) → Option (List ℕ) → ℕ → Type 0
+EndsSaying {A} Is line_of status_of Unread old new status =
     ((x : A) × Is x × (status ≡ status_of x) × Appends old new (line_of x))
     ⊎ (((status ≡ 1) × Appends old new [])
-    ⊎ (((status ≡ 3) × Appends old new (fault_line faults.Read))
-    ⊎ ((status ≡ 4) × ((x : A) × Is x × AppendsFront old new (line_of x)) ⊎ AppendsFront old new (fault_line faults.Read))))
+    ⊎ (((status ≡ 3) × Unread × Appends old new (fault_line faults.Read))
+    ⊎ ((status ≡ 4) × (((x : A) × Is x × AppendsFront old new (line_of x)) ⊎ (Unread × AppendsFront old new (fault_line faults.Read))))))
 
 -- an audit of these bytes
-abbrev pub EndsAudit : List ℕ → Option (List ℕ) → Option (List ℕ) → ℕ → Type 0
-EndsAudit bytes old new status = EndsSaying (IsVerdict bytes) verdict_line verdict_status old new status
+abbrev pub EndsAudit : List ℕ → Type 0 → Option (List ℕ) → Option (List ℕ) → ℕ → Type 0
+EndsAudit bytes Unread old new status = EndsSaying (IsVerdict bytes) verdict_line verdict_status Unread old new status
 
 -- a comparison of the two records in these bytes
-abbrev pub EndsComparison : List ℕ → Option (List ℕ) → Option (List ℕ) → ℕ → Type 0
-EndsComparison bytes old new status = EndsSaying (IsCompared bytes) compared_line compared_status old new status
+abbrev pub EndsComparison : List ℕ → Type 0 → Option (List ℕ) → Option (List ℕ) → ℕ → Type 0
+EndsComparison bytes Unread old new status = EndsSaying (IsCompared bytes) compared_line compared_status Unread old new status

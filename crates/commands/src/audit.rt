@@ -2,7 +2,6 @@
 
 ghost use Rattle.std.specs.Prelude.{◌≡◌, ◌⊎◌, ◌≤◌, [], length, IfSome};
 ghost use Rattle.std.specs.Io.KnownBytes.{Appends};
-ghost use Rattle.arrayvec.specs.ArrayVec.{array_vec_len};
 ghost use Rattle.pump_frame.specs.Counts.{Rose};
 ghost use Rattle.pump_link.specs.Causes.{AppendsFront};
 ghost use Rattle.pump_audit.specs.declared.compared.Compared.TheVariants.{Differ};
@@ -96,7 +95,7 @@ fn say<O: Sink>(line: &[u8], status: u8, out: &mut O) -> u8
 /// Checks the record that the script is, and says what it found: status 0 where the record is clean, and
 /// 15 where a line of it is wrong (`docs/formats.md`, "Audits").
 pub fn audit_script<I: Source, O: Sink>(alloc: Global, script: &mut I, out: &mut O) -> u8
-    ensures ends { IfSome (I.left script.old) (λ bytes. EndsAudit bytes (O.written out.old) (O.written out.new) result) }
+    ensures ends { IfSome (I.left script.old) (λ bytes. EndsAudit bytes (Rose (I.faults script.old) (I.faults script.new)) (O.written out.old) (O.written out.new) result) }
     ensures memory { result ≡ 1 → Appends (O.written out.old) (O.written out.new) [] }
     ensures read { result ≡ 3 → Rose (I.faults script.old) (I.faults script.new) }
     ensures unwritten { result ≡ 4 → Rose (O.faults out.old) (O.faults out.new) }
@@ -120,7 +119,7 @@ pub fn audit_script<I: Source, O: Sink>(alloc: Global, script: &mut I, out: &mut
 /// Compares Low's side of the two records that the script has, and says what it found: status 0 where they
 /// agree, 16 where an item differs, and 5 where a line is none of a record (`docs/formats.md`, "Audits").
 pub fn compare_script<I: Source, O: Sink>(alloc: Global, script: &mut I, out: &mut O) -> u8
-    ensures ends { IfSome (I.left script.old) (λ bytes. EndsComparison bytes (O.written out.old) (O.written out.new) result) }
+    ensures ends { IfSome (I.left script.old) (λ bytes. EndsComparison bytes (Rose (I.faults script.old) (I.faults script.new)) (O.written out.old) (O.written out.new) result) }
     ensures memory { result ≡ 1 → Appends (O.written out.old) (O.written out.new) [] }
     ensures read { result ≡ 3 → Rose (I.faults script.old) (I.faults script.new) }
     ensures unwritten { result ≡ 4 → Rose (O.faults out.old) (O.faults out.new) }

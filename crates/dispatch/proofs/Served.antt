@@ -13,8 +13,8 @@ use Rattle.relay_threads.specs.declared.rounds_end.RoundsEnd.{RoundsEnd}
 use Rattle.relay_threads.specs.declared.rounds_end.RoundsEnd.TheVariants as rounds
 use Rattle.script_replay.specs.Lending.{IsOutAt, RisesAt}
 use Rattle.script_replay.specs.Shelves.{Places, ReadsAlike, reading_in}
-use Rattle.pump_link.specs.Ports.{PortsStep}
-use Rattle.serving.specs.Doors.{DoorsTell}
+use Rattle.relay_side.specs.Sides.{PortsTell, SideTells}
+use Rattle.serving.specs.Doors.{DoorsTell, WantDoor}
 use Rattle.serving.specs.declared.keys.KeyFault.{KeyFault}
 use Rattle.serving.specs.declared.keys.KeyFault.TheVariants as key_faults
 use Rattle.serving.specs.Sessions.{IfEnded, OpensBy, RoseAt, has_run}
@@ -114,6 +114,13 @@ if_ended session_ends.NoDoor P Q h f = tt
 if_ended session_ends.NoThread P Q h f = tt
 if_ended (session_ends.Ended ends) P Q h f = f ends h
 
+-- ---- a door that was wanting ----
+
+-- the ports of one side failed
+pub wanting_rose : {D L : Type 0} (low high : PortsTell D L) (low_port high_port : ℕ) → WantDoor low high low_port high_port → Rose low.faults low.now_faults ⊎ Rose high.faults high.now_faults
+wanting_rose low high low_port high_port (inl at_low) = inl at_low.0.1
+wanting_rose low high low_port high_port (inr at_high) = inr at_high.1.1
+
 -- ---- a disk that could not be taken ----
 
 pub pair_stops : (role : Role) (fault : ShelfFault) (end : CommandEnd) → (role ≡ roles.Low) ⊎ (role ≡ roles.High) → (fault ≡ shelf_faults.Memory → end ≡ Memory) → (fault ≡ shelf_faults.Failed → end ≡ Failed role) → StopsAtShelf end
@@ -141,16 +148,15 @@ pub no_key : (R Q : Type 0) (fault : KeyFault) → (fault ≡ key_faults.Failed 
 no_key R Q key_faults.Failed failed short = inl (failed refl)
 no_key R Q key_faults.Short failed short = inr (short refl)
 
-module _ {D L S : Type 0} (t : DoorsTell D L) (m : Meaning S) (looks : ℕ) (ports now_ports : List (PortsStep L D) → Type 0)
-    (low_reads now_low_reads high_reads now_high_reads : List ℕ → Type 0) (written : Option (List ℕ)) (out_faults : ℕ) (before between after : Places)
+module _ {D L S : Type 0} (t : DoorsTell D L) (m : Meaning S) (looks : ℕ) (low_side high_side : SideTells D L) (written : Option (List ℕ)) (out_faults : ℕ) (before between after : Places)
     (left now_left : Option (List ℕ)) (read_faults now_read_faults : ℕ) (file : Option (List ℕ)) (session : ℕ) (row : SessionRow) (end : CommandEnd) (mid : Option (List ℕ)) (mid_faults : ℕ) where
   pub serves_row : HasRow file session row → between ≡ before → LeavesBut between after row.id
-      → ServesFor t m looks ports now_ports low_reads now_low_reads high_reads now_high_reads written out_faults between after left now_left read_faults now_read_faults row end mid mid_faults
-      → ServeComes t m looks ports now_ports low_reads now_low_reads high_reads now_high_reads written out_faults before after left now_left read_faults now_read_faults file session end mid mid_faults
+      → ServesFor t m looks low_side high_side written out_faults between after left now_left read_faults now_read_faults row end mid mid_faults
+      → ServeComes t m looks low_side high_side written out_faults before after left now_left read_faults now_read_faults file session end mid mid_faults
   serves_row has same others h =
       inr (
         row,
         has,
         subst (λ (places : Places). LeavesBut places after row.id) same others,
-        subst (λ (places : Places). ServesFor t m looks ports now_ports low_reads now_low_reads high_reads now_high_reads written out_faults places after left now_left read_faults now_read_faults row end mid mid_faults) same h,
+        subst (λ (places : Places). ServesFor t m looks low_side high_side written out_faults places after left now_left read_faults now_read_faults row end mid mid_faults) same h,
       )

@@ -60,7 +60,14 @@ IsSend words = (table : List ℕ) × (session : ℕ) × (looks : ℕ) × AreWord
 abbrev pub IsOverTable : List (List ℕ) → Type 0
 IsOverTable words = IsServe words ⊎ (IsReceive words ⊎ IsSend words)
 
--- .. of a command that reads the low clock
+-- .. of one at the ports of the low side, and of the high side
+abbrev pub IsAtLow : List (List ℕ) → Type 0
+IsAtLow words = IsServe words ⊎ IsSend words
+
+abbrev pub IsAtHigh : List (List ℕ) → Type 0
+IsAtHigh words = IsServe words ⊎ IsReceive words
+
+-- .. of one that reads the low clock
 abbrev pub IsTimed : List (List ℕ) → Type 0
 IsTimed words = IsServe words ⊎ ((seed : ℕ) × (count : ℕ) × (times : List ℕ) × AreWordsOf words (Race seed count (record { items = times })))
 

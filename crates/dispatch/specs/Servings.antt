@@ -5,8 +5,8 @@ use Rattle.disk_model.specs.Disk.{Meaning}
 use Rattle.disk_model.specs.declared.name.Role.TheVariants as roles
 use Rattle.pump_frame.specs.Counts.{Rose}
 use Rattle.pump_frame.specs.declared.row.SessionRow.{SessionRow}
-use Rattle.pump_link.specs.Ports.{PortsStep}
-use Rattle.pump_link.specs.Tells.{Draws, Grows}
+use Rattle.pump_link.specs.Tells.{Draws}
+use Rattle.relay_side.specs.Sides.{SideTells, IsUnused}
 use Rattle.relay_threads.specs.declared.rounds_end.RoundsEnd.{RoundsEnd}
 use Rattle.relay_threads.specs.declared.rounds_end.RoundsEnd.TheVariants.{Rounds, Device, RecordFailed}
 use Rattle.script_replay.specs.Shelves.{Places, reading_at, ReadsAlike}
@@ -44,15 +44,13 @@ StopsAtShelf (Failed roles.Low) = Unit {0}
 StopsAtShelf (Failed roles.High) = Unit {0}
 StopsAtShelf end = ⊥
 
--- Of the ports' steps, the clocks' readings and the sink the second value is that at the end. `before` and `after` say
--- where each disk is.
-module _ {D L S : Type 0} (t : DoorsTell D L) (m : Meaning S) (looks : ℕ) (ports now_ports : List (PortsStep L D) → Type 0)
-    (low_reads now_low_reads high_reads now_high_reads : List ℕ → Type 0) (written : Option (List ℕ)) (out_faults : ℕ) (before after : Places) where
+-- `low_side` and `high_side` have what each side of the relay tells of the call, and `before` and `after` say where each
+-- disk is. Of the sink the second value is that at the end.
+module _ {D L S : Type 0} (t : DoorsTell D L) (m : Meaning S) (looks : ℕ) (low_side high_side : SideTells D L) (written : Option (List ℕ)) (out_faults : ℕ) (before after : Places) where
   -- nothing was opened, read off a clock, written or changed
   pub record IsIdle (now_written : Option (List ℕ)) : Type 0 where
-    pub unopened : Grows ports now_ports []
-    pub low_unread : Draws low_reads now_low_reads []
-    pub high_unread : Draws high_reads now_high_reads []
+    pub low_unused : IsUnused low_side
+    pub high_unused : IsUnused high_side
     pub unwritten : now_written ≡ written
     pub unchanged : ReadsAlike before after
 
@@ -68,13 +66,13 @@ module _ {D L S : Type 0} (t : DoorsTell D L) (m : Meaning S) (looks : ℕ) (por
     pub high_found : m.reading high ≡ reading_at before row.id roles.High
     pub high_left : m.reading now_high ≡ reading_at after row.id roles.High
     pub opens : OpensBy m row low high now_low now_high end
-    pub wanting : end ≡ session_ends.NoDoor → WantDoor ports now_ports row.low_port row.high_port
-    pub unstarted : end ≡ session_ends.NoThread → OpensAndShuts ports now_ports row.low_port row.high_port
-    pub low_worker : IfEnded end (λ ends. LowServed t m row looks key ports now_ports low_reads now_low_reads written now_written out_faults now_out_faults low now_low ends.low)
-    pub high_worker : IfEnded end (λ ends. HighServed t m row looks ports now_ports high_reads now_high_reads high now_high ends.high)
+    pub wanting : end ≡ session_ends.NoDoor → WantDoor low_side.ports high_side.ports row.low_port row.high_port
+    pub unstarted : end ≡ session_ends.NoThread → OpensAndShuts low_side.ports row.low_port × OpensAndShuts high_side.ports row.high_port
+    pub low_worker : IfEnded end (λ ends. LowServed t m row looks key low_side written now_written out_faults now_out_faults low now_low ends.low)
+    pub high_worker : IfEnded end (λ ends. HighServed t m row looks high_side high now_high ends.high)
     pub still : has_run end ≡ false → (m.reading now_low ≡ m.reading low) × (m.reading now_high ≡ m.reading high) × (now_written ≡ written)
-        × Draws low_reads now_low_reads [] × Draws high_reads now_high_reads []
-    pub closed : is_opened end ≡ false → Grows ports now_ports []
+        × Draws low_side.reads low_side.now_reads [] × Draws high_side.reads high_side.now_reads []
+    pub closed : is_opened end ≡ false → IsUnused low_side × IsUnused high_side
 
   -- with this key: a disk could not be taken, or the session was served
   abbrev pub ServesWith : SessionRow → List ℕ → CommandEnd → Option (List ℕ) → ℕ → Type 0

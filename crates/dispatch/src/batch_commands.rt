@@ -142,9 +142,9 @@ pub fn batch<S: Shelf, I: Source, O: Sink>(
         → (shelf.new ≡ shelf.old) × EndsExercise seed count (O.written out.old) (O.written out.new) result }
     // What is said of a record, and of two.
     ensures audit { IsAudit (map string_bytes words.now.items) → (shelf.new ≡ shelf.old)
-        × IfSome (I.left script.old) (λ bytes. EndsAudit bytes (O.written out.old) (O.written out.new) result) }
+        × IfSome (I.left script.old) (λ bytes. EndsAudit bytes (Rose (I.faults script.old) (I.faults script.new)) (O.written out.old) (O.written out.new) result) }
     ensures compare { IsCompare (map string_bytes words.now.items) → (shelf.new ≡ shelf.old)
-        × IfSome (I.left script.old) (λ bytes. EndsComparison bytes (O.written out.old) (O.written out.new) result) }
+        × IfSome (I.left script.old) (λ bytes. EndsComparison bytes (Rose (I.faults script.old) (I.faults script.new)) (O.written out.old) (O.written out.new) result) }
     ensures status { (result ≤ 8) ⊎ ((result ≡ 10) ⊎ ((13 ≤ result) × (result ≤ 16))) }
 {
     let asked = match command_of(alloc, words.as_slice()) {

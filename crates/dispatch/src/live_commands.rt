@@ -7,9 +7,10 @@ ghost use Rattle.command_line.specs.declared.command.Command.{Command as Asked};
 ghost use Rattle.command_line.specs.declared.command.Command.TheVariants as commands;
 ghost use Rattle.command_line.specs.TimeLists.{AreTimes};
 ghost use Rattle.pump_frame.specs.Counts.{Rose};
+ghost use Rattle.relay_side.specs.Sides.{side};
 ghost use Rattle.script_replay.specs.Shelves.{AllAreBack};
 ghost use Rattle.serving.specs.Doors.{doors, links};
-ghost use Rattle.dispatch.specs.Commands.{is_live, IsNoLiveCommand, IsOverTable, IsSend, IsServe, IsTimed, RefusesWords};
+ghost use Rattle.dispatch.specs.Commands.{is_live, IsNoLiveCommand, IsAtHigh, IsAtLow, IsOverTable, IsSend, IsServe, IsTimed, RefusesWords};
 ghost use Rattle.dispatch.specs.LiveEnds.{EndsLive};
 ghost use Rattle.dispatch.specs.Racing.{IsRecordOf, EndsRace};
 ghost use Rattle.dispatch.specs.Receptions.{ReceiveComes};
@@ -24,30 +25,33 @@ use command_line::{Command, WordsFault, command_of};
 use disk_model::Shelf;
 use pump_link::{Clock, Ports, Sink, Source};
 use race::race_with;
-use relay_threads::Open;
+use relay_side::RelaySide;
+use relay_threads::{Open, Watch};
 use std::alloc::Global;
 use std::sync::Wait;
 use std::thread::Threads;
 
-/// The status of a race.
-fn run_race<R: Threads + Wait + Sync, K: Clock + Send, O: Sink + Send>(
+/// The status of a race, whose looks go by the low clock.
+fn run_race<R: Threads + Wait + Sync, P, K: Clock + Send, O: Sink + Send>(
     rt: &R,
     alloc: Global,
     seed: u32,
     count: u32,
     times: &[u32],
-    low_clock: &mut K,
+    low: &mut RelaySide<P, K>,
     out: &mut O,
 ) -> u8
     requires some { 1 ≤ count }
     requires few { count ≤ 100000 }
     requires times { AreTimes times.now }
-    ensures ends { EndsRace (IsRecordOf seed count times.now (K.reads low_clock.old) (K.reads low_clock.new)) (O.written out.old) (O.written out.new) result }
+    ensures ends { EndsRace (IsRecordOf seed count times.now (K.reads low.old.clock) (K.reads low.new.clock)) (O.written out.old) (O.written out.new) result }
+    ensures ports { low.new.ports ≡ low.old.ports }
     ensures cause { result ≡ 4 → Rose (O.faults out.old) (O.faults out.new) }
     ensures status { (result ≡ 0) ⊎ ((result ≡ 1) ⊎ (result ≡ 4)) }
 {
+    let clock = &mut low.clock;
     match race_with(
-        rt, alloc, seed, count, times, low_clock, out, &mut Open, &mut Open,
+        rt, alloc, seed, count, times, clock, out, &mut Open, &mut Open,
     ) {
         Ok(end) => { if end.write_failed { 4 } else { 0 } }
         Err(_) => 1,
@@ -67,7 +71,7 @@ fn run_race<R: Threads + Wait + Sync, K: Clock + Send, O: Sink + Send>(
 /// - 6: the file of the table gives no row for the session.
 /// - 7: a disk of the session could not be taken off the shelf, or a call of it failed.
 /// - 8: a disk of the session is refused when it is opened.
-/// - 9: a port gave no door, or no link.
+/// - 9: a port gave no door, or no link: that of the side whose count of faults rose.
 /// - 10: a message that `receive` is given does not fit on the receiver's disk, or is ahead of it.
 /// - 11: the relay refused what `send` sent.
 /// - 12: `send` was not done when the link ended, or was looked at as often as it was to be.
@@ -76,31 +80,33 @@ fn run_race<R: Threads + Wait + Sync, K: Clock + Send, O: Sink + Send>(
 /// those of the disks, the ports and the lines in turn. The disks that a command takes off the shelf are back
 /// on it at the return, and so are links and doors at the ports.
 ///
-/// A race asks the low clock for the moment of each of its looks. It needs no shelf, port, key and script,
-/// and no clock of High's. Where the clock and the sink tell, `EndsRace` says that what is written is the
-/// record of the looks that had these moments, and what a record has. Where the shelf and its disks tell,
-/// `ServeComes` says how serving comes to its end: what each worker did, at which door, by which clock,
-/// with which words and over which disk (`LowServed`, `HighServed`); and `SendComes` and `ReceiveComes` what
-/// Low's sender and High's receiver did over the link that came. `docs/formats.md` has the lines.
+/// Each side has ports and a clock of its own. `serve` is at both, `send` at the low side alone and `receive` at
+/// the high one. A race asks the low clock for the moment of each of its looks. It needs no shelf, port, key and
+/// script, and nothing of the high side. Where the clock and the sink tell, `EndsRace` says that what is written
+/// is the record of the looks that had these moments, and what a record has. Where the shelf and its disks tell,
+/// `ServeComes` says how serving comes to its end: what each worker did, at which door, by which clock, with
+/// which words and over which disk (`LowServed`, `HighServed`); and `SendComes` and `ReceiveComes` what Low's
+/// sender and High's receiver did over the link that came. `docs/formats.md` has the lines.
 pub fn live<
     R: Threads + Wait + Sync,
     S: Shelf,
-    P: Ports,
+    P: Ports + Send,
     K: Clock + Send,
     Q: Source,
     I: Source,
     O: Sink + Send,
+    V: Watch + Sync,
 >(
     rt: &R,
     alloc: Global,
     words: &Vec<String>,
     shelf: &mut S,
-    ports: &mut P,
-    low_clock: &mut K,
-    high_clock: &mut K,
+    low: &mut RelaySide<P, K>,
+    high: &mut RelaySide<P, K>,
     keys: &mut Q,
     script: &mut I,
     out: &mut O,
+    watch: &V,
 ) -> u8
 where
     S::Disk: Send,
@@ -111,10 +117,11 @@ where
     ensures known { (c : Asked) → is_live c ≡ true → AreWordsOf (map string_bytes words.now.items) c → (result ≡ 2 → ⊥) }
     // What a command does not need is untouched.
     ensures shelf { (IsOverTable (map string_bytes words.now.items) → ⊥) → shelf.new ≡ shelf.old }
-    ensures ports { (IsOverTable (map string_bytes words.now.items) → ⊥) → ports.new ≡ ports.old }
+    ensures low_ports { (IsAtLow (map string_bytes words.now.items) → ⊥) → low.new.ports ≡ low.old.ports }
+    ensures high_ports { (IsAtHigh (map string_bytes words.now.items) → ⊥) → high.new.ports ≡ high.old.ports }
     ensures script { (IsSend (map string_bytes words.now.items) → ⊥) → script.new ≡ script.old }
-    ensures keys { (IsServe (map string_bytes words.now.items) → ⊥) → (keys.new ≡ keys.old) × (high_clock.new ≡ high_clock.old) }
-    ensures clock { (IsTimed (map string_bytes words.now.items) → ⊥) → low_clock.new ≡ low_clock.old }
+    ensures keys { (IsServe (map string_bytes words.now.items) → ⊥) → (keys.new ≡ keys.old) × (high.new.clock ≡ high.old.clock) }
+    ensures clock { (IsTimed (map string_bytes words.now.items) → ⊥) → low.new.clock ≡ low.old.clock }
     // Whatever the status is, every disk is back on the shelf.
     ensures back { S.told.tells → AllAreBack (S.told.disk shelf.old) (S.told.disk shelf.new) }
     // The statuses that come only where a count rose, or a source ended.
@@ -123,19 +130,19 @@ where
         ⊎ (Rose (Q.faults keys.old) (Q.faults keys.new) ⊎ IfSome (Q.left keys.old) (λ bytes. length bytes < 32))) }
     ensures unwritten { result ≡ 4 → Rose (O.faults out.old) (O.faults out.new) }
     ensures device { result ≡ 7 → Rose (S.told.disk_faults shelf.old) (S.told.disk_faults shelf.new) }
-    ensures link { result ≡ 9 → Rose (P.faults ports.old) (P.faults ports.new) }
+    ensures link { result ≡ 9 → Rose (P.faults low.old.ports) (P.faults low.new.ports) ⊎ Rose (P.faults high.old.ports) (P.faults high.new.ports) }
     // How each command ends.
     ensures race { (seed : ℕ) (count : ℕ) (times : List ℕ) → AreWordsOf (map string_bytes words.now.items) (commands.Race seed count (record { items = times }))
-        → EndsRace (IsRecordOf seed count times (K.reads low_clock.old) (K.reads low_clock.new)) (O.written out.old) (O.written out.new) result }
+        → EndsRace (IsRecordOf seed count times (K.reads low.old.clock) (K.reads low.new.clock)) (O.written out.old) (O.written out.new) result }
     ensures serve { (table : List ℕ) (session looks : ℕ) → AreWordsOf (map string_bytes words.now.items) (commands.Serve table session looks) → S.told.tells → S.Disk.told.tells
-        → EndsLive (ServeComes (doors P.Door.port P.Door.did P.Door.gives (links P.Link.gives P.Link.sent P.Link.faults)) S.Disk.told looks (P.did ports.old) (P.did ports.new)
-        (K.reads low_clock.old) (K.reads low_clock.new) (K.reads high_clock.old) (K.reads high_clock.new) (O.written out.old) (O.faults out.old) (S.told.disk shelf.old) (S.told.disk shelf.new)
+        → EndsLive (ServeComes (doors P.Door.port P.Door.did P.Door.gives (links P.Link.gives P.Link.sent P.Link.faults)) S.Disk.told looks
+        (side P.did P.faults K.reads low.old low.new) (side P.did P.faults K.reads high.old high.new) (O.written out.old) (O.faults out.old) (S.told.disk shelf.old) (S.told.disk shelf.new)
         (Q.left keys.old) (Q.left keys.new) (Q.faults keys.old) (Q.faults keys.new) (S.told.file shelf.old table) session) (O.written out.new) (O.faults out.new) session result }
     ensures receive { (table : List ℕ) (session looks : ℕ) → AreWordsOf (map string_bytes words.now.items) (commands.Receive table session looks) → S.told.tells → S.Disk.told.tells
-        → EndsLive (ReceiveComes (links P.Link.gives P.Link.sent P.Link.faults) looks (P.did ports.old) (P.did ports.new)
+        → EndsLive (ReceiveComes (links P.Link.gives P.Link.sent P.Link.faults) looks (P.did high.old.ports) (P.did high.new.ports)
         (O.written out.old) (O.faults out.old) (S.told.file shelf.old table) (S.told.disk shelf.old) (S.told.disk shelf.new) session) (O.written out.new) (O.faults out.new) session result }
     ensures send { (table : List ℕ) (session looks : ℕ) → AreWordsOf (map string_bytes words.now.items) (commands.Send table session looks) → S.told.tells
-        → EndsLive (SendComes (links P.Link.gives P.Link.sent P.Link.faults) looks (P.did ports.old) (P.did ports.new)
+        → EndsLive (SendComes (links P.Link.gives P.Link.sent P.Link.faults) looks (P.did low.old.ports) (P.did low.new.ports)
         (I.left script.old) (I.left script.new) (I.faults script.old) (I.faults script.new) (O.written out.old) (O.faults out.old) (S.told.file shelf.old table) session) (O.written out.new) (O.faults out.new) session result }
 {
     let asked = match command_of(alloc, words.as_slice()) {
@@ -145,25 +152,25 @@ where
     };
     match &asked {
         Command::Race { seed, count, times } => {
-            run_race(rt, alloc, *seed, *count, times.as_slice(), low_clock, out)
+            run_race(rt, alloc, *seed, *count, times.as_slice(), low, out)
         }
         Command::Serve {
             table,
             session,
             looks,
         } => serve_table(
-            rt, alloc, table, *session, *looks, shelf, ports, low_clock, high_clock, keys, out,
+            rt, alloc, table, *session, *looks, shelf, low, high, keys, out, watch,
         ),
         Command::Receive {
             table,
             session,
             looks,
-        } => receive_session(alloc, table, *session, *looks, shelf, ports, out),
+        } => receive_session(alloc, table, *session, *looks, shelf, high, out),
         Command::Send {
             table,
             session,
             looks,
-        } => send_session(alloc, table, *session, *looks, shelf, ports, script, out),
+        } => send_session(alloc, table, *session, *looks, shelf, low, script, out),
         _ => refuse_words(out),
     }
 }

@@ -1,6 +1,6 @@
 //! High's receiver, over a link to the high port of a session of the table.
 
-ghost use Rattle.std.specs.Prelude.{◌≡◌, ◌⊎◌, ◌≤◌, [], Err, IfOk, IfErr};
+ghost use Rattle.std.specs.Prelude.{◌≡◌, ◌≤◌, [], Err};
 ghost use Rattle.std.specs.Io.KnownBytes.{Appends};
 ghost use Rattle.disk_model.specs.declared.name.Role.{Role as DiskRole};
 ghost use Rattle.disk_model.specs.declared.name.Role.TheVariants as roles;
@@ -23,6 +23,7 @@ use peers::{ReceiveEnd, receive_with};
 use pump_frame::SessionRow;
 use pump_link::{Ports, Sink};
 use recovery::open_receiver;
+use relay_side::RelaySide;
 use script_replay::{put_disk_back, take_disk};
 use stable_buffer::RECEIVER_SIZE;
 use std::alloc::Global;
@@ -165,28 +166,30 @@ fn run_receive<S: Shelf, P: Ports, O: Sink>(
     }
 }
 
-/// Receives the messages of a session of the table, over a link to the high port of its row, on the
-/// receiver's disk, and prints them. The answer is the status of the program. The link goes back to the
-/// ports and the disk to the shelf, and the disk is not formatted.
-pub fn receive_session<S: Shelf, P: Ports, O: Sink>(
+/// Receives the messages of a session of the table, over a link to the high port of its row that the high
+/// side's ports give, on the receiver's disk, and prints them. The answer is the status of the program. The
+/// link goes back to the ports and the disk to the shelf, no clock is read, and the disk is not formatted.
+pub fn receive_session<S: Shelf, P: Ports, K, O: Sink>(
     alloc: Global,
     table: &TableName,
     session: u32,
     looks: u32,
     shelf: &mut S,
-    ports: &mut P,
+    high: &mut RelaySide<P, K>,
     out: &mut O,
 ) -> u8
-    ensures ends { S.told.tells → S.Disk.told.tells → EndsLive (ReceiveComes (links P.Link.gives P.Link.sent P.Link.faults) looks (P.did ports.old) (P.did ports.new)
+    ensures ends { S.told.tells → S.Disk.told.tells → EndsLive (ReceiveComes (links P.Link.gives P.Link.sent P.Link.faults) looks (P.did high.old.ports) (P.did high.new.ports)
         (O.written out.old) (O.faults out.old) (S.told.file shelf.old table.now) (S.told.disk shelf.old) (S.told.disk shelf.new) session) (O.written out.new) (O.faults out.new) session result }
     ensures back { S.told.tells → AllAreBack (S.told.disk shelf.old) (S.told.disk shelf.new) }
     ensures memory { result ≡ 1 → Appends (O.written out.old) (O.written out.new) [] }
     ensures read { result ≡ 3 → Rose (S.told.faults shelf.old) (S.told.faults shelf.new) }
     ensures unwritten { result ≡ 4 → Rose (O.faults out.old) (O.faults out.new) }
     ensures device { result ≡ 7 → Rose (S.told.disk_faults shelf.old) (S.told.disk_faults shelf.new) }
-    ensures link { result ≡ 9 → Rose (P.faults ports.old) (P.faults ports.new) }
+    ensures link { result ≡ 9 → Rose (P.faults high.old.ports) (P.faults high.new.ports) }
     ensures words { result ≡ 2 → ⊥ }
+    ensures clock { high.new.clock ≡ high.old.clock }
 {
+    let ports = &mut high.ports;
     let end = run_receive(alloc, table, session, looks, shelf, ports, out);
     finish(session, end, out)
 }

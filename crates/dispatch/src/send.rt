@@ -14,6 +14,7 @@ use disk_model::Shelf;
 use peers::{SendEnd, send_with};
 use pump_frame::SessionRow;
 use pump_link::{Ports, Sink, Source};
+use relay_side::RelaySide;
 use std::alloc::Global;
 
 fn end_of_sender(end: SendEnd) -> CommandEnd
@@ -82,29 +83,31 @@ fn run_send<S: Shelf, P: Ports, I: Source, O: Sink>(
     }
 }
 
-/// Sends the messages of the script to a session of the table, over a link to the low port of its row, and
-/// prints each acknowledgement. The answer is the status of the program. The link goes back to the ports,
-/// and no disk is touched.
-pub fn send_session<S: Shelf, P: Ports, I: Source, O: Sink>(
+/// Sends the messages of the script to a session of the table, over a link to the low port of its row that the
+/// low side's ports give, and prints each acknowledgement. The answer is the status of the program. The link
+/// goes back to the ports, no clock is read, and no disk is touched.
+pub fn send_session<S: Shelf, P: Ports, K, I: Source, O: Sink>(
     alloc: Global,
     table: &TableName,
     session: u32,
     looks: u32,
     shelf: &mut S,
-    ports: &mut P,
+    low: &mut RelaySide<P, K>,
     script: &mut I,
     out: &mut O,
 ) -> u8
-    ensures ends { S.told.tells → EndsLive (SendComes (links P.Link.gives P.Link.sent P.Link.faults) looks (P.did ports.old) (P.did ports.new)
+    ensures ends { S.told.tells → EndsLive (SendComes (links P.Link.gives P.Link.sent P.Link.faults) looks (P.did low.old.ports) (P.did low.new.ports)
         (I.left script.old) (I.left script.new) (I.faults script.old) (I.faults script.new) (O.written out.old) (O.faults out.old) (S.told.file shelf.old table.now) session) (O.written out.new) (O.faults out.new) session result }
     ensures disks { S.told.disk shelf.new ≡ S.told.disk shelf.old }
     ensures memory { result ≡ 1 → Appends (O.written out.old) (O.written out.new) [] }
     ensures read { result ≡ 3 → Rose (I.faults script.old) (I.faults script.new) ⊎ Rose (S.told.faults shelf.old) (S.told.faults shelf.new) }
     ensures unwritten { result ≡ 4 → Rose (O.faults out.old) (O.faults out.new) }
     ensures disk { (result ≡ 7 → ⊥) × (result ≡ 8 → ⊥) }
-    ensures link { result ≡ 9 → Rose (P.faults ports.old) (P.faults ports.new) }
+    ensures link { result ≡ 9 → Rose (P.faults low.old.ports) (P.faults low.new.ports) }
     ensures words { result ≡ 2 → ⊥ }
+    ensures clock { low.new.clock ≡ low.old.clock }
 {
+    let ports = &mut low.ports;
     let end = run_send(alloc, table, session, looks, shelf, ports, script, out);
     finish(session, end, out)
 }

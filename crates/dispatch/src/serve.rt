@@ -5,6 +5,7 @@ ghost use Rattle.std.specs.Io.KnownBytes.{Appends};
 ghost use Rattle.disk_model.specs.declared.name.Role.{Role as DiskRole};
 ghost use Rattle.pump_frame.specs.Counts.{Rose};
 ghost use Rattle.pump_frame.specs.Rows.{IsLawfulRow};
+ghost use Rattle.relay_side.specs.Sides.{side};
 ghost use Rattle.script_replay.specs.Shelves.{AllAreBack};
 ghost use Rattle.serving.specs.Doors.{doors, links};
 ghost use Rattle.dispatch.specs.LiveEnds.{EndsLive};
@@ -17,7 +18,8 @@ use commands::{CommandEnd, end_at, finish, put_pair_back, row_in_file, take_pair
 use disk_model::{Role, Shelf};
 use pump_frame::SessionRow;
 use pump_link::{Clock, Ports, Sink, Source};
-use relay_threads::RoundsEnd;
+use relay_side::RelaySide;
+use relay_threads::{RoundsEnd, Watch};
 use serving::{SessionEnd, WorkersEnd, read_key, serve_session};
 use std::alloc::Global;
 use std::sync::Wait;
@@ -48,25 +50,32 @@ fn end_of_session(end: &SessionEnd) -> CommandEnd
 }
 
 // Over the row of the session, with the key.
-fn serve_row<T: Threads + Wait + Sync, S: Shelf, P: Ports, K: Clock + Send, O: Sink + Send>(
+fn serve_row<
+    T: Threads + Wait + Sync,
+    S: Shelf,
+    P: Ports + Send,
+    K: Clock + Send,
+    O: Sink + Send,
+    V: Watch + Sync,
+>(
     rt: &T,
     alloc: Global,
     row: &SessionRow,
     looks: u32,
     shelf: &mut S,
-    ports: &mut P,
-    low_clock: &mut K,
-    high_clock: &mut K,
+    low: &mut RelaySide<P, K>,
+    high: &mut RelaySide<P, K>,
     key: [u8; 32],
     out: &mut O,
+    watch: &V,
 ) -> CommandEnd
 where
     S::Disk: Send,
     P::Link: Send,
     P::Door: Send,
     requires lawful { IsLawfulRow row.now }
-    ensures serves { S.told.tells → S.Disk.told.tells → ServesWith (doors P.Door.port P.Door.did P.Door.gives (links P.Link.gives P.Link.sent P.Link.faults)) S.Disk.told looks (P.did ports.old) (P.did ports.new)
-        (K.reads low_clock.old) (K.reads low_clock.new) (K.reads high_clock.old) (K.reads high_clock.new) (O.written out.old) (O.faults out.old) (S.told.disk shelf.old) (S.told.disk shelf.new)
+    ensures serves { S.told.tells → S.Disk.told.tells → ServesWith (doors P.Door.port P.Door.did P.Door.gives (links P.Link.gives P.Link.sent P.Link.faults)) S.Disk.told looks
+        (side P.did P.faults K.reads low.old low.new) (side P.did P.faults K.reads high.old high.new) (O.written out.old) (O.faults out.old) (S.told.disk shelf.old) (S.told.disk shelf.new)
         row.now key result (O.written out.new) (O.faults out.new) }
     ensures others { LeavesBut (S.told.disk shelf.old) (S.told.disk shelf.new) row.now.id }
     ensures readable { result ≡ ends.Unread → ⊥ }
@@ -74,7 +83,7 @@ where
     ensures memory { result ≡ ends.Memory → Appends (O.written out.old) (O.written out.new) [] }
     ensures unwritten { result ≡ ends.Unwritten → Rose (O.faults out.old) (O.faults out.new) }
     ensures device { (role : DiskRole) → result ≡ ends.Failed role → Rose (S.told.disk_faults shelf.old) (S.told.disk_faults shelf.new) }
-    ensures link { result ≡ ends.Unconnected → Rose (P.faults ports.old) (P.faults ports.new) }
+    ensures link { result ≡ ends.Unconnected → Rose (P.faults low.old.ports) (P.faults low.new.ports) ⊎ Rose (P.faults high.old.ports) (P.faults high.new.ports) }
     ensures later { O.faults out.old ≤ O.faults out.new }
 {
     let disks = match take_pair(shelf, row.id) {
@@ -82,7 +91,7 @@ where
         Err(not_taken) => return untaken(not_taken),
     };
     let served = serve_session(
-        rt, alloc, row, disks.low, disks.high, ports, low_clock, high_clock, key, out, looks,
+        rt, alloc, row, disks.low, disks.high, low, high, key, out, watch, looks,
     );
     put_pair_back(shelf, row.id, served.low, served.high);
     end_of_session(&served.end)
@@ -92,29 +101,30 @@ where
 fn serve_keyed<
     T: Threads + Wait + Sync,
     S: Shelf,
-    P: Ports,
+    P: Ports + Send,
     K: Clock + Send,
     Q: Source,
     O: Sink + Send,
+    V: Watch + Sync,
 >(
     rt: &T,
     alloc: Global,
     row: &SessionRow,
     looks: u32,
     shelf: &mut S,
-    ports: &mut P,
-    low_clock: &mut K,
-    high_clock: &mut K,
+    low: &mut RelaySide<P, K>,
+    high: &mut RelaySide<P, K>,
     keys: &mut Q,
     out: &mut O,
+    watch: &V,
 ) -> CommandEnd
 where
     S::Disk: Send,
     P::Link: Send,
     P::Door: Send,
     requires lawful { IsLawfulRow row.now }
-    ensures serves { S.told.tells → S.Disk.told.tells → ServesFor (doors P.Door.port P.Door.did P.Door.gives (links P.Link.gives P.Link.sent P.Link.faults)) S.Disk.told looks (P.did ports.old) (P.did ports.new)
-        (K.reads low_clock.old) (K.reads low_clock.new) (K.reads high_clock.old) (K.reads high_clock.new) (O.written out.old) (O.faults out.old) (S.told.disk shelf.old) (S.told.disk shelf.new)
+    ensures serves { S.told.tells → S.Disk.told.tells → ServesFor (doors P.Door.port P.Door.did P.Door.gives (links P.Link.gives P.Link.sent P.Link.faults)) S.Disk.told looks
+        (side P.did P.faults K.reads low.old low.new) (side P.did P.faults K.reads high.old high.new) (O.written out.old) (O.faults out.old) (S.told.disk shelf.old) (S.told.disk shelf.new)
         (Q.left keys.old) (Q.left keys.new) (Q.faults keys.old) (Q.faults keys.new) row.now result (O.written out.new) (O.faults out.new) }
     ensures others { LeavesBut (S.told.disk shelf.old) (S.told.disk shelf.new) row.now.id }
     ensures read { result ≡ ends.Unread → Rose (Q.faults keys.old) (Q.faults keys.new) ⊎ IfSome (Q.left keys.old) (λ bytes. length bytes < 32) }
@@ -122,13 +132,11 @@ where
     ensures memory { result ≡ ends.Memory → Appends (O.written out.old) (O.written out.new) [] }
     ensures unwritten { result ≡ ends.Unwritten → Rose (O.faults out.old) (O.faults out.new) }
     ensures device { (role : DiskRole) → result ≡ ends.Failed role → Rose (S.told.disk_faults shelf.old) (S.told.disk_faults shelf.new) }
-    ensures link { result ≡ ends.Unconnected → Rose (P.faults ports.old) (P.faults ports.new) }
+    ensures link { result ≡ ends.Unconnected → Rose (P.faults low.old.ports) (P.faults low.new.ports) ⊎ Rose (P.faults high.old.ports) (P.faults high.new.ports) }
     ensures later { O.faults out.old ≤ O.faults out.new }
 {
     match read_key(keys) {
-        Ok(key) => serve_row(
-            rt, alloc, row, looks, shelf, ports, low_clock, high_clock, key, out,
-        ),
+        Ok(key) => serve_row(rt, alloc, row, looks, shelf, low, high, key, out, watch),
         Err(_fault) => CommandEnd::Unread,
     }
 }
@@ -137,10 +145,11 @@ where
 fn run_serve<
     T: Threads + Wait + Sync,
     S: Shelf,
-    P: Ports,
+    P: Ports + Send,
     K: Clock + Send,
     Q: Source,
     O: Sink + Send,
+    V: Watch + Sync,
 >(
     rt: &T,
     alloc: Global,
@@ -148,18 +157,18 @@ fn run_serve<
     session: u32,
     looks: u32,
     shelf: &mut S,
-    ports: &mut P,
-    low_clock: &mut K,
-    high_clock: &mut K,
+    low: &mut RelaySide<P, K>,
+    high: &mut RelaySide<P, K>,
     keys: &mut Q,
     out: &mut O,
+    watch: &V,
 ) -> CommandEnd
 where
     S::Disk: Send,
     P::Link: Send,
     P::Door: Send,
-    ensures comes { S.told.tells → S.Disk.told.tells → ServeComes (doors P.Door.port P.Door.did P.Door.gives (links P.Link.gives P.Link.sent P.Link.faults)) S.Disk.told looks (P.did ports.old) (P.did ports.new)
-        (K.reads low_clock.old) (K.reads low_clock.new) (K.reads high_clock.old) (K.reads high_clock.new) (O.written out.old) (O.faults out.old) (S.told.disk shelf.old) (S.told.disk shelf.new)
+    ensures comes { S.told.tells → S.Disk.told.tells → ServeComes (doors P.Door.port P.Door.did P.Door.gives (links P.Link.gives P.Link.sent P.Link.faults)) S.Disk.told looks
+        (side P.did P.faults K.reads low.old low.new) (side P.did P.faults K.reads high.old high.new) (O.written out.old) (O.faults out.old) (S.told.disk shelf.old) (S.told.disk shelf.new)
         (Q.left keys.old) (Q.left keys.new) (Q.faults keys.old) (Q.faults keys.new) (S.told.file shelf.old table.now) session result (O.written out.new) (O.faults out.new) }
     ensures read { result ≡ ends.Unread → Rose (S.told.faults shelf.old) (S.told.faults shelf.new)
         ⊎ (Rose (Q.faults keys.old) (Q.faults keys.new) ⊎ IfSome (Q.left keys.old) (λ bytes. length bytes < 32)) }
@@ -167,28 +176,27 @@ where
     ensures memory { result ≡ ends.Memory → Appends (O.written out.old) (O.written out.new) [] }
     ensures unwritten { result ≡ ends.Unwritten → Rose (O.faults out.old) (O.faults out.new) }
     ensures device { (role : DiskRole) → result ≡ ends.Failed role → Rose (S.told.disk_faults shelf.old) (S.told.disk_faults shelf.new) }
-    ensures link { result ≡ ends.Unconnected → Rose (P.faults ports.old) (P.faults ports.new) }
+    ensures link { result ≡ ends.Unconnected → Rose (P.faults low.old.ports) (P.faults low.new.ports) ⊎ Rose (P.faults high.old.ports) (P.faults high.new.ports) }
     ensures later { O.faults out.old ≤ O.faults out.new }
 {
     match row_in_file(alloc, shelf, table.as_str(), session) {
-        Ok(row) => serve_keyed(
-            rt, alloc, &row, looks, shelf, ports, low_clock, high_clock, keys, out,
-        ),
+        Ok(row) => serve_keyed(rt, alloc, &row, looks, shelf, low, high, keys, out, watch),
         Err(end) => end,
     }
 }
 
 /// Serves a session of the table: both workers make `looks` rounds, each at the door of its own port of the
-/// row, over the low and the high disk, with the words of the first 32 bytes of the keys. The record goes
-/// to the output. The answer is the status of the program. The doors go back to the ports and the disks to
-/// the shelf, and no disk is formatted.
+/// row and by the clock of its own side, over the low and the high disk, with the words of the first 32 bytes
+/// of the keys. The record goes to the output. The answer is the status of the program. The doors go back to
+/// the ports and the disks to the shelf, and no disk is formatted.
 pub fn serve_table<
     T: Threads + Wait + Sync,
     S: Shelf,
-    P: Ports,
+    P: Ports + Send,
     K: Clock + Send,
     Q: Source,
     O: Sink + Send,
+    V: Watch + Sync,
 >(
     rt: &T,
     alloc: Global,
@@ -196,18 +204,18 @@ pub fn serve_table<
     session: u32,
     looks: u32,
     shelf: &mut S,
-    ports: &mut P,
-    low_clock: &mut K,
-    high_clock: &mut K,
+    low: &mut RelaySide<P, K>,
+    high: &mut RelaySide<P, K>,
     keys: &mut Q,
     out: &mut O,
+    watch: &V,
 ) -> u8
 where
     S::Disk: Send,
     P::Link: Send,
     P::Door: Send,
-    ensures ends { S.told.tells → S.Disk.told.tells → EndsLive (ServeComes (doors P.Door.port P.Door.did P.Door.gives (links P.Link.gives P.Link.sent P.Link.faults)) S.Disk.told looks (P.did ports.old) (P.did ports.new)
-        (K.reads low_clock.old) (K.reads low_clock.new) (K.reads high_clock.old) (K.reads high_clock.new) (O.written out.old) (O.faults out.old) (S.told.disk shelf.old) (S.told.disk shelf.new)
+    ensures ends { S.told.tells → S.Disk.told.tells → EndsLive (ServeComes (doors P.Door.port P.Door.did P.Door.gives (links P.Link.gives P.Link.sent P.Link.faults)) S.Disk.told looks
+        (side P.did P.faults K.reads low.old low.new) (side P.did P.faults K.reads high.old high.new) (O.written out.old) (O.faults out.old) (S.told.disk shelf.old) (S.told.disk shelf.new)
         (Q.left keys.old) (Q.left keys.new) (Q.faults keys.old) (Q.faults keys.new) (S.told.file shelf.old table.now) session) (O.written out.new) (O.faults out.new) session result }
     ensures back { S.told.tells → AllAreBack (S.told.disk shelf.old) (S.told.disk shelf.new) }
     ensures memory { result ≡ 1 → Appends (O.written out.old) (O.written out.new) [] }
@@ -215,11 +223,11 @@ where
         ⊎ (Rose (Q.faults keys.old) (Q.faults keys.new) ⊎ IfSome (Q.left keys.old) (λ bytes. length bytes < 32)) }
     ensures unwritten { result ≡ 4 → Rose (O.faults out.old) (O.faults out.new) }
     ensures device { result ≡ 7 → Rose (S.told.disk_faults shelf.old) (S.told.disk_faults shelf.new) }
-    ensures link { result ≡ 9 → Rose (P.faults ports.old) (P.faults ports.new) }
+    ensures link { result ≡ 9 → Rose (P.faults low.old.ports) (P.faults low.new.ports) ⊎ Rose (P.faults high.old.ports) (P.faults high.new.ports) }
     ensures words { result ≡ 2 → ⊥ }
 {
     let end = run_serve(
-        rt, alloc, table, session, looks, shelf, ports, low_clock, high_clock, keys, out,
+        rt, alloc, table, session, looks, shelf, low, high, keys, out, watch,
     );
     finish(session, end, out)
 }

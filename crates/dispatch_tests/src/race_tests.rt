@@ -13,6 +13,11 @@ fn bare_shelf(alloc: Global) -> MemShelf<PlainDisk> {
     MemShelf::new(Vec::new(alloc), Vec::new(alloc), Vec::new(alloc))
 }
 
+/// Ports without links.
+fn bare_ports(alloc: Global) -> MemPorts {
+    MemPorts::new(Vec::new(alloc), Vec::new(alloc))
+}
+
 /// The status and the output of a race. The writes with these numbers fail.
 fn run_race<R: Threads + Wait + Sync>(
     rt: &R,
@@ -28,7 +33,7 @@ fn run_race<R: Threads + Wait + Sync>(
         alloc,
         &words,
         bare_shelf(alloc),
-        MemPorts::new(Vec::new(alloc), Vec::new(alloc)),
+        (bare_ports(alloc), bare_ports(alloc)),
         MemSource::new(Vec::new(alloc), 1, Vec::new(alloc)),
         MemSource::new(Vec::new(alloc), 1, Vec::new(alloc)),
         MemSink::new(room, 4096, fails),

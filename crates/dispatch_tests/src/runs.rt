@@ -5,6 +5,8 @@ ghost use Rattle.std.specs.Prelude.{◌<◌};
 use disk_model::{DiskName, MemShelf, PlainDisk, Role};
 use dispatch::{batch, live};
 use pump_link::{Clock, MemPorts, MemSink, MemSource, StepClock};
+use relay_side::RelaySide;
+use relay_threads::Unwatched;
 use std::alloc::{AllocError, Global};
 use std::sync::Wait;
 use std::test::Fail;
@@ -18,9 +20,9 @@ pub const ROOM: usize = 1_000_000;
 pub struct Ran {
     pub status: u8,
     pub output: Vec<u8>,
-    /// What was sent over the links that came back.
+    /// What was sent over the links that came back, those of the low side first.
     pub sent: Vec<u8>,
-    /// How often each clock was read.
+    /// How often the low clock was read, and the high one.
     pub readings: (u64, u64),
 }
 
@@ -93,51 +95,63 @@ pub fn run_batch(
     batch_over(alloc, &words, shelf, script, out)
 }
 
-fn sent_over(alloc: Global, ports: &MemPorts) -> Result<Vec<u8>, AllocError> {
+fn sent_over(alloc: Global, low: &MemPorts, high: &MemPorts) -> Result<Vec<u8>, AllocError> {
     let mut sent = Vec::new(alloc);
-    for link in ports.given_back() {
-        sent.extend_from_slice(link.sent())?;
+    for ports in [low, high] {
+        for link in ports.given_back() {
+            sent.extend_from_slice(link.sent())?;
+        }
     }
     Ok(sent)
 }
 
-/// What comes of a command that `live` runs over these. They are let go before anything can fail.
+/// A side with these ports, whose clock goes on by a millisecond at each reading.
+fn side(ports: MemPorts) -> RelaySide<MemPorts, StepClock> {
+    RelaySide {
+        ports,
+        clock: StepClock::new(0, 1000),
+    }
+}
+
+/// What comes of a command that `live` runs over these, with the ports of each side. They are let go before
+/// anything can fail.
 pub fn run_live<R: Threads + Wait + Sync>(
     rt: &R,
     alloc: Global,
     words: &Vec<String>,
     mut shelf: MemShelf<PlainDisk>,
-    mut ports: MemPorts,
+    (low, high): (MemPorts, MemPorts),
     mut keys: MemSource,
     mut script: MemSource,
     mut out: MemSink,
 ) -> Result<Ran, AllocError> {
-    let mut low_clock = StepClock::new(0, 1000);
-    let mut high_clock = StepClock::new(0, 1000);
+    let (mut low, mut high) = (side(low), side(high));
     let status = live(
         rt,
         alloc,
         words,
         &mut shelf,
-        &mut ports,
-        &mut low_clock,
-        &mut high_clock,
+        &mut low,
+        &mut high,
         &mut keys,
         &mut script,
         &mut out,
+        &Unwatched,
     );
     drop(shelf);
     drop(keys);
     drop(script);
-    let sent = sent_over(alloc, &ports);
-    drop(ports);
+    let sent = sent_over(alloc, &low.ports, &high.ports);
+    let readings = (low.clock.readings(), high.clock.readings());
+    drop(low);
+    drop(high);
     let output = Vec::from_slice(alloc, out.written());
     drop(out);
     Ok(Ran {
         status,
         output: output?,
         sent: sent?,
-        readings: (low_clock.readings(), high_clock.readings()),
+        readings,
     })
 }
 

@@ -33,10 +33,12 @@ const OPENING: &str = "low-session 1 3 8 2 20000 100000 500000 weather watch 0 0
 #[derive(Clone, Copy)]
 struct Case<'a> {
     line: &'a str,
-    /// What the only link brings before it ends; without frames there is no link.
-    frames: &'a [&'a [u8]],
-    /// The calls of the ports that fail.
-    fails: &'a [u64],
+    /// What the only link of each side brings before it ends; without frames there is no link.
+    low: &'a [&'a [u8]],
+    high: &'a [&'a [u8]],
+    /// The calls of each side's ports that fail.
+    low_fails: &'a [u64],
+    high_fails: &'a [u64],
     script: &'a [u8],
     status: u8,
     output: &'a str,
@@ -44,7 +46,7 @@ struct Case<'a> {
     sent: &'a [&'a [u8]],
 }
 
-/// The links of a case.
+/// The links that bring these frames.
 fn links(alloc: Global, frames: &[&[u8]]) -> Result<Vec<MemLink>, AllocError> {
     let mut links = Vec::new(alloc);
     if frames.is_empty() {
@@ -56,6 +58,12 @@ fn links(alloc: Global, frames: &[&[u8]]) -> Result<Vec<MemLink>, AllocError> {
     }
     links.push(MemLink::new(looks, vec![in alloc; 0; 256]?, Vec::new(alloc)))?;
     Ok(links)
+}
+
+/// The ports of one side.
+fn ports(alloc: Global, frames: &[&[u8]], fails: &[u64]) -> Result<MemPorts, AllocError> {
+    let fails = Vec::from_slice(alloc, fails)?;
+    Ok(MemPorts::new(links(alloc, frames)?, fails))
 }
 
 /// A shelf with empty disks for session 1 and its table.
@@ -93,11 +101,13 @@ fn run<R: Threads + Wait + Sync>(
     keys: usize,
 ) -> Result<Ran, Fail> {
     let words = words(alloc, case.line)?;
-    let fails = Vec::from_slice(alloc, case.fails)?;
     let keys = vec![in alloc; 7; keys]?;
     let script = Vec::from_slice(alloc, case.script)?;
     let room = vec![in alloc; 0; ROOM]?;
-    let links = links(alloc, case.frames)?;
+    let sides = (
+        ports(alloc, case.low, case.low_fails)?,
+        ports(alloc, case.high, case.high_fails)?,
+    );
     let shelf = match formatted_shelf(alloc) {
         Ok(shelf) => shelf,
         Err(fault) => return Err(fault),
@@ -107,7 +117,7 @@ fn run<R: Threads + Wait + Sync>(
         alloc,
         &words,
         shelf,
-        MemPorts::new(links, fails),
+        sides,
         MemSource::new(keys, 5, Vec::new(alloc)),
         MemSource::new(script, 2, Vec::new(alloc)),
         MemSink::new(room, 4096, Vec::new(alloc)),
@@ -128,8 +138,10 @@ fn ends<R: Threads + Wait + Sync>(rt: &R, alloc: Global, case: &Case) -> Result<
 
 const SEND: Case<'static> = Case {
     line: "send t.toml 1 100",
-    frames: &[WELCOME_0, ACK_0],
-    fails: &[],
+    low: &[WELCOME_0, ACK_0],
+    high: &[],
+    low_fails: &[],
+    high_fails: &[],
     script: b"61\n",
     status: 0,
     output: "ack 0\n",
@@ -138,8 +150,10 @@ const SEND: Case<'static> = Case {
 
 const RECEIVE: Case<'static> = Case {
     line: "receive t.toml 1 100",
-    frames: &[DATA_0],
-    fails: &[],
+    low: &[],
+    high: &[DATA_0],
+    low_fails: &[],
+    high_fails: &[],
     script: b"",
     status: 0,
     output: "took 1 0\n",
@@ -148,8 +162,10 @@ const RECEIVE: Case<'static> = Case {
 
 const SERVE: Case<'static> = Case {
     line: "serve t.toml 1 5",
-    frames: &[],
-    fails: &[],
+    low: &[],
+    high: &[],
+    low_fails: &[],
+    high_fails: &[],
     script: b"",
     status: 0,
     output: OPENING,
@@ -161,19 +177,20 @@ fn a_sender_ends_as_its_relay_lets_it(rt: HostRuntime) -> Result<(), Fail> {
     for case in [
         SEND,
         Case {
-            frames: &[WELCOME_0],
+            low: &[WELCOME_0],
             status: 12,
             output: "fault unfinished 0\n",
             ..SEND
         },
         Case {
-            frames: &[WELCOME_0, REFUSE_4],
+            low: &[WELCOME_0, REFUSE_4],
             status: 11,
             output: "fault refused 4 1\n",
             ..SEND
         },
         Case {
-            fails: &[0],
+            low: &[],
+            low_fails: &[0],
             status: 9,
             output: "fault link\n",
             sent: &[],
@@ -204,14 +221,15 @@ fn a_receiver_takes_what_is_next(rt: HostRuntime) -> Result<(), Fail> {
     for case in [
         RECEIVE,
         Case {
-            frames: &[DATA_1],
+            high: &[DATA_1],
             status: 10,
             output: "fault ahead 1 1 0\n",
             sent: &[ATTACH_0],
             ..RECEIVE
         },
         Case {
-            fails: &[0],
+            high: &[],
+            high_fails: &[0],
             status: 9,
             output: "fault link\n",
             sent: &[],
@@ -247,7 +265,7 @@ fn a_served_record_replays_to_its_comments(rt: HostRuntime) -> Result<(), Fail> 
     let alloc = rt.alloc();
     let case = Case {
         line: "serve t.toml 1 200",
-        frames: &[HELLO, DATA_0],
+        low: &[HELLO, DATA_0],
         ..SERVE
     };
     let ran = run(&rt, alloc, &case, 32)?;
@@ -273,11 +291,16 @@ fn serving_makes_its_rounds(rt: HostRuntime) -> Result<(), Fail> {
     let ran = run(&rt, alloc, &SERVE, 31)?;
     assert_eq!(rt; (ran.status, ran.readings), (3, (0, 0)));
     assert_eq!(rt; ran.output.as_slice(), b"fault read\n".as_slice());
-    for fails in [[0], [1]] {
-        let case = Case {
-            fails: &fails,
+    for case in [
+        Case {
+            low_fails: &[0],
             ..SERVE
-        };
+        },
+        Case {
+            high_fails: &[0],
+            ..SERVE
+        },
+    ] {
         let ran = run(&rt, alloc, &case, 32)?;
         assert_eq!(rt; ran.status, 9);
         assert_eq!(rt; ran.output.as_slice(), b"fault link\n".as_slice());

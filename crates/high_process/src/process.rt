@@ -1,5 +1,5 @@
 // The high process of a session: its opening, what it holds, and the second half of a look.
-ghost use Rattle.std.specs.Prelude.{◌≡◌, ℕ, ◌+◌, ◌-◌, ◌^◌, ◌<◌, ◌≤◌, Bool, true, false, length, Option, Some, None, IsSome, IfSome, IfOk, IfErr, OnOk, OnErr, option_map};
+ghost use Rattle.std.specs.Prelude.{◌≡◌, ℕ, ◌+◌, ◌-◌, ◌^◌, ◌<◌, ◌≤◌, true, false, length, Option, Some, None, IfSome, IfOk, IfErr, OnOk, OnErr, option_map};
 
 use crate::ask::fetch;
 use crate::how::Asks;

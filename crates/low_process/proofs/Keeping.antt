@@ -13,7 +13,7 @@ use Rattle.low_process.specs.declared.values.Phase.{Phase}
 use Rattle.low_process.specs.declared.values.Phase.TheVariants.{Idle, Passing, Waiting, Down}
 use Rattle.low_process.specs.declared.process.LowProcess.{LowProcess}
 use Rattle.stable_buffer.proofs.Cells.{value-selects}
-use Rattle.low_process.specs.Looks.{is_down, is_down_in, row_of, next_of}
+use Rattle.low_process.specs.Looks.{is_down, row_of, next_of}
 use Rattle.low_process.specs.Storing.{wants, wants_in, wants_idle, message_of, message_in, StoreStep, counted}
 use Rattle.low_process.specs.Whole.{IsStoreOf, HasStore, FallsBy, HasOrGains, CountsBeyond}
 use Rattle.low_process.proofs.Effects.{Begun}

@@ -1,12 +1,12 @@
 // A look of the low process: its first half, and the whole over an end that waits for nobody.
-ghost use Rattle.std.specs.Prelude.{◌≡◌, ℕ, ◌+◌, ◌^◌, ◌<◌, ◌≤◌, Bool, true, false, Option, Some, None, IfSome};
+ghost use Rattle.std.specs.Prelude.{◌≡◌, ℕ, ◌+◌, ◌^◌, ◌<◌, ◌≤◌, Bool, true, false, Some, None, IfSome};
 ghost use Rattle.stable_buffer.specs.Low.{low_disk};
 ghost use Rattle.pump_frame.specs.Frames.{IsLawful as IsLawfulFrame};
 ghost use Rattle.pump_core.specs.ReplyFrames.{IsLawfulReply};
 ghost use Rattle.pump_core.specs.History.{Arrival as Offered};
 ghost use Rattle.pump_core.specs.Passage.{Low, High, ComesNext};
 ghost use Rattle.low_process.specs.declared.values.Asking.TheVariants.{Forward as AsksForward};
-ghost use Rattle.low_process.specs.Looks.{IsAnswerTo, IsInBounds, IsBetweenLooks, AsksToForward, AsksFor, IsLawful, Looks, HandBegins, arrival_of, look_of, row_of, next_of, last_of, is_down, owes, hand_of, item_in_hand, hand_after, hand_passed};
+ghost use Rattle.low_process.specs.Looks.{IsAnswerTo, IsInBounds, IsBetweenLooks, AsksToForward, AsksFor, IsLawful, Looks, HandBegins, arrival_of, look_of, row_of, next_of, last_of, is_down, hand_of, item_in_hand, hand_passed};
 ghost use Rattle.low_process.specs.Heads.{look_with, ask_with};
 ghost use Rattle.low_process.specs.Ends.{OfferStep, EndStep, FitsEnd, StandsFitting};
 ghost use Rattle.low_process.specs.Whole.{HasStore, BeginStep, WholeLook, KeepsAcknowledged, LeavesStored, reply_in};

@@ -1,13 +1,12 @@
 // A look over an end whose calls may wait: `look` with the handle.
-ghost use Rattle.std.specs.Prelude.{◌≡◌, ◌^◌, ◌<◌, ◌≤◌, Bool, true, None, IfSome};
-ghost use Rattle.stable_buffer.specs.Low.{low_disk};
+ghost use Rattle.std.specs.Prelude.{◌^◌, ◌<◌, ◌≤◌, IfSome};
 ghost use Rattle.pump_frame.specs.Frames.{IsLawful as IsLawfulFrame};
 ghost use Rattle.pump_core.specs.ReplyFrames.{IsLawfulReply};
 ghost use Rattle.pump_core.specs.Passage.{Low, High};
-ghost use Rattle.low_process.specs.Looks.{IsInBounds, IsBetweenLooks, IsLawful, arrival_of, row_of, last_of, is_down, hand_of, hand_after};
+ghost use Rattle.low_process.specs.Looks.{IsBetweenLooks, IsLawful, arrival_of, row_of, last_of};
 ghost use Rattle.low_process.specs.Heads.{look_with};
-ghost use Rattle.low_process.specs.Ends.{EndStep, StandsFitting};
-ghost use Rattle.low_process.specs.Whole.{HasStore, WholeLook, KeepsAcknowledged, LeavesStored};
+ghost use Rattle.low_process.specs.Ends.{StandsFitting};
+ghost use Rattle.low_process.specs.Whole.{HasStore, WholeLook};
 
 use crate::LowProcess;
 use crate::how::Waits;

@@ -1,5 +1,5 @@
 // The low process of a session: its opening, what it holds, and the second half of a look.
-ghost use Rattle.std.specs.Prelude.{◌≡◌, ℕ, ◌+◌, ◌^◌, ◌≤◌, ◌<◌, Option, Some, None, Bool, true, false, List, [], IsTrue, IfSome, option_map};
+ghost use Rattle.std.specs.Prelude.{◌≡◌, ℕ, ◌+◌, ◌^◌, ◌≤◌, ◌<◌, Option, Some, None, Bool, true, false, List, IsTrue, IfSome, option_map};
 ghost use Rattle.std.specs.Option.{option_copied};
 ghost use Rattle.pump_core.specs.Exchanges.{is_fit, is_gone as gone};
 ghost use Rattle.low_process.specs.Hands.{HasNumber, is_hand_of, is_asked_of};

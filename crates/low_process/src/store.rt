@@ -1,5 +1,5 @@
 // Storing the message of a look.
-ghost use Rattle.std.specs.Prelude.{◌≡◌, ◌^◌, ◌<◌, ◌≤◌, length, IfSome};
+ghost use Rattle.std.specs.Prelude.{◌^◌, ◌<◌, ◌≤◌, length, IfSome};
 ghost use Rattle.std.specs.Option.{option_copied};
 ghost use Rattle.stable_buffer.specs.Low.{IsLowReady, low_count, low_row};
 ghost use Rattle.low_process.specs.Storing.{StoreStep};

@@ -5,6 +5,7 @@ mod disks;
 mod files;
 mod link;
 mod moving;
+mod quiet;
 mod unwrapping;
 mod wrapping;
 
@@ -12,21 +13,31 @@ use auditing::{explain_audit, explain_difference, explain_unpaired};
 use command_line::USAGE;
 use disks::explain_refusal;
 use files::{explain_disk_file, explain_table_file, table_bytes};
-use link::{explain_ahead, explain_full, explain_port, explain_refused, explain_unfinished};
+pub use link::row;
+use link::{
+    explain_ahead, explain_full, explain_port, explain_refused, explain_unfinished,
+    explain_unwritten,
+};
 use moving::{explain_same, table_name};
+pub use quiet::Passed;
+use quiet::tell_left_out;
 use session_table::{Table, TableFault};
 use std::io::{self, ErrorKind};
 use std::str;
 use unwrapping::explain_unwrap;
 use wrapping::explain_wrap;
 
-/// What the shelf knows of the file that stopped a command with status 3 or 7.
+/// What is known of a file that stopped a command with status 3 or 7, or of a port that did with status 9.
 #[derive(Clone, Copy)]
 pub enum Trouble {
     /// The table's file could not be read, for this reason.
     Unread(ErrorKind),
     /// A call of the disk's file failed, for this reason.
     Failed(ErrorKind),
+    /// The ports of the low side failed.
+    LowPort,
+    /// Those of the high side did.
+    HighPort,
     /// No file failed: a line of the script told so, or something else was read.
     Told,
 }
@@ -81,7 +92,7 @@ fn explain_device(rt: &HostRuntime, last: &[u8], trouble: Trouble) -> io::Result
             why,
             "see that its disk has room and that the file is yours to write, and go on with what was not acknowledged. What was acknowledged is kept",
         ),
-        Trouble::Told => eprintln!(rt;
+        _ => eprintln!(rt;
             "netpump: the device of the low disk fails in a store, as a line with the word fault tells; write fine in its place to go on. What was said until then is answered above"
         ),
     }
@@ -141,23 +152,25 @@ fn explain_receiver(rt: &HostRuntime, words: &[String], last: &[u8]) -> io::Resu
     }
 }
 
-/// Says on standard error, in a sentence or two, why the program ends with this status and what to do.
-/// `last` is the end of what was written.
-pub fn explain(
-    rt: &HostRuntime,
-    words: &[String],
-    status: u8,
-    last: &[u8],
-    trouble: Trouble,
-) -> io::Result<()> {
+/// How the program ends, and what is known of it.
+#[derive(Clone, Copy)]
+pub struct Ending<'a> {
+    pub status: u8,
+    /// The end of what was written.
+    pub last: &'a [u8],
+    pub trouble: Trouble,
+    pub passed: Passed,
+}
+
+/// Says on standard error, in a sentence or two, why the program ends so and what to do; or what it left out.
+pub fn explain(rt: &HostRuntime, words: &[String], ending: &Ending<'_>) -> io::Result<()> {
+    let (status, last, trouble) = (ending.status, ending.last, ending.trouble);
     match status {
-        0 => Ok(()),
+        0 => tell_left_out(rt, words, ending.passed),
         1 => eprintln!(rt; "netpump: there is not enough memory; end other programs and try again"),
         2 => eprintln!(rt; "netpump: these words are no command; {USAGE}"),
         3 => explain_unread(rt, words, trouble),
-        4 => eprintln!(rt;
-            "netpump: standard output could not be written; see that its reader is there, or that its disk has room, and try again"
-        ),
+        4 => explain_unwritten(rt, words),
         5 if word(words, 0) == Some("send") => explain_message(rt, last),
         5 if word(words, 0) == Some("compare") => explain_unpaired(rt, last),
         10 | 13 | 14 if word(words, 0) == Some("wrap") => explain_wrap(rt, words, status, last),
@@ -167,10 +180,10 @@ pub fn explain(
         6 => explain_table(rt, words, last),
         7 => explain_device(rt, last, trouble),
         8 => explain_refusal(rt, words, last),
-        9 => explain_port(rt, words),
+        9 => explain_port(rt, words, trouble),
         10 => explain_receiver(rt, words, last),
         11 => explain_refused(rt, words, fault_line(last).unwrap_or("")),
-        12 => explain_unfinished(rt, fault_line(last).unwrap_or("")),
+        12 => explain_unfinished(rt, words, fault_line(last).unwrap_or(""), ending.passed),
         15 => explain_audit(rt, last),
         16 => explain_difference(rt, last),
         _ => explain_script(rt, last),

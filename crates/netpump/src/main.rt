@@ -1,24 +1,29 @@
 //! A verified one-way relay from a low party to a high party.
 #![tactic(auto)]
 
+mod door_log;
 mod explain;
 
 use adapters::{
-    Access, FileShelf, KeySource, RealClock, ShownSource, StdSink, StdSource, TcpPorts, Traffic,
-    now,
+    Access, Counted, FileShelf, KeySource, ShownSource, StdSink, StdSource, TcpPorts, Traffic,
+    machine_side, now, stepping_side,
 };
 use disk_model::Shelf;
 use dispatch::{batch, live};
-use explain::{Trouble, explain};
-use pump_link::{Clock, Sink, Source, StepClock};
+use door_log::DoorLog;
+use explain::{Ending, Passed, Trouble, explain, row};
+use pump_frame::SessionRow;
+use pump_link::{Clock, Ports, Sink, Source};
+use relay_side::RelaySide;
+use relay_threads::Watch;
 use std::alloc::Global;
-use std::env;
 use std::fs::{File, Files};
 use std::io::{self, IsTerminal};
 use std::net::{Net, TcpListener, TcpStream};
 use std::process::ExitCode;
 use std::sync::Wait;
 use std::thread::Threads;
+use std::{env, time};
 
 /// The words after the program's name.
 fn words(rt: &HostRuntime) -> io::Result<Vec<String>> {
@@ -50,45 +55,114 @@ fn access(words: &[String]) -> Access {
     }
 }
 
-/// Runs the command with threads or over a socket that the words are, by two clocks. The ports tell what
-/// comes and goes on either side.
-fn run_with<
+/// The row of the session that is to be served, if the words are for that and the table has it.
+fn served_row(rt: &HostRuntime, words: &[String]) -> Option<SessionRow> {
+    if begin_with(words, "serve") {
+        row(rt, words)
+    } else {
+        None
+    }
+}
+
+/// What a command came to, for the sentence about it.
+#[derive(Clone, Copy)]
+struct Came {
+    status: u8,
+    /// The ports that failed, if some did.
+    port: Option<Trouble>,
+    /// Whether a connection came to an end.
+    has_ended: bool,
+}
+
+impl Came {
+    /// Without ports.
+    fn alone(status: u8) -> Came {
+        Came {
+            status,
+            port: None,
+            has_ended: false,
+        }
+    }
+}
+
+/// Runs the command with threads or over a socket that the words are, at these two sides. The answer is its status,
+/// and which side's ports failed, if some did.
+fn run_at<
+    'a,
+    R: Threads + Wait + Sync + Net<Listener = TcpListener, Stream = TcpStream> + Files<File = File>,
+    S: Shelf,
+    K: Clock + Send + Drop,
+    I: Source,
+    O: Sink + Send,
+    V: Watch + Sync,
+>(
+    rt: &'a R,
+    alloc: Global,
+    words: &Vec<String>,
+    shelf: &mut S,
+    mut low: RelaySide<TcpPorts<'a, R>, K>,
+    mut high: RelaySide<TcpPorts<'a, R>, K>,
+    script: &mut I,
+    out: &mut O,
+    watch: &V,
+) -> (u8, Option<Trouble>)
+where
+    S::Disk: Send,
+{
+    let mut keys = KeySource::new(rt);
+    let status = live(
+        rt, alloc, words, shelf, &mut low, &mut high, &mut keys, script, out, watch,
+    );
+    let port = if low.ports.faults() > 0 {
+        Some(Trouble::LowPort)
+    } else if high.ports.faults() > 0 {
+        Some(Trouble::HighPort)
+    } else {
+        None
+    };
+    (status, port)
+}
+
+/// Runs the command with threads or over a socket that the words are.
+fn run_live<
     R: Threads
         + Wait
         + Sync
         + Net<Listener = TcpListener, Stream = TcpStream>
         + Files<File = File>
-        + std::time::Clock,
+        + time::Clock,
     S: Shelf,
-    K: Clock + Send + Drop,
     I: Source,
     O: Sink + Send,
+    V: Watch + Sync,
 >(
     rt: &R,
     alloc: Global,
     words: &Vec<String>,
     shelf: &mut S,
-    (mut low_clock, mut high_clock): (K, K),
-    low: &Traffic,
-    high: &Traffic,
     script: &mut I,
     out: &mut O,
-) -> u8
+    watch: &V,
+) -> Came
 where
     S::Disk: Send,
 {
-    live(
-        rt,
-        alloc,
-        words,
-        shelf,
-        &mut TcpPorts::new(rt, low, high),
-        &mut low_clock,
-        &mut high_clock,
-        &mut KeySource::new(rt),
-        script,
-        out,
-    )
+    let (mut at_low, mut at_high) = (Traffic::new(), Traffic::new());
+    let (status, port) = if begin_with(words.as_slice(), "race") {
+        let low = stepping_side(rt, &mut at_low);
+        let high = stepping_side(rt, &mut at_high);
+        run_at(rt, alloc, words, shelf, low, high, script, out, watch)
+    } else {
+        let start = now(rt);
+        let low = machine_side(rt, start, &mut at_low);
+        let high = machine_side(rt, start, &mut at_high);
+        run_at(rt, alloc, words, shelf, low, high, script, out, watch)
+    };
+    Came {
+        status,
+        port,
+        has_ended: at_low.has_ended() || at_high.has_ended(),
+    }
 }
 
 /// What the shelf knows of the file that stopped the command.
@@ -100,59 +174,58 @@ fn trouble_of<R: Files<File = File>>(shelf: &FileShelf<R>) -> Trouble {
     }
 }
 
+/// What is said where there is not even memory for the words.
+fn refuse_words(rt: &HostRuntime) -> ExitCode {
+    let ending = Ending {
+        status: 1,
+        last: b"",
+        trouble: Trouble::Told,
+        passed: Passed::default(),
+    };
+    let _ = explain(rt, &[], &ending);
+    ExitCode::from(1)
+}
+
 fn main(rt: HostRuntime) -> ExitCode {
     let words = match words(&rt) {
         Ok(words) => words,
-        Err(fault) if fault.kind() == io::ErrorKind::OutOfMemory => {
-            let _ = explain(&rt, &[], 1, b"", Trouble::Told);
-            return ExitCode::from(1);
-        }
+        Err(fault) if fault.kind() == io::ErrorKind::OutOfMemory => return refuse_words(&rt),
         // Words that can't be told are no command.
         Err(_) => Vec::new(rt.alloc()),
     };
     let mut shelf = FileShelf::new(rt.alloc(), &rt, access(words.as_slice()));
     // A file that is sent takes its time, so a terminal is shown how far it is.
     let is_shown = begin_with(words.as_slice(), "wrap") && rt.stderr().is_terminal();
-    let mut script = ShownSource::new(StdSource::new(rt.stdin()), rt.stderr(), is_shown);
-    let mut out = StdSink::new(rt.stdout());
-    let (low, high) = (Traffic::new(), Traffic::new());
-    let status = if begin_with(words.as_slice(), "race") {
-        // The looks of a race are a millisecond apart.
-        let clocks = (StepClock::new(0, 1000), StepClock::new(0, 1000));
-        run_with(
+    let source = ShownSource::new(StdSource::new(rt.stdin()), rt.stderr(), is_shown);
+    let mut script = Counted::new(source);
+    let mut out = Counted::new(StdSink::new(rt.stdout()));
+    let came = if is_live(words.as_slice()) {
+        let log = DoorLog::new(&rt, served_row(&rt, words.as_slice()));
+        run_live(
             &rt,
             rt.alloc(),
             &words,
             &mut shelf,
-            clocks,
-            &low,
-            &high,
             &mut script,
             &mut out,
-        )
-    } else if is_live(words.as_slice()) {
-        let start = now(&rt);
-        let clocks = (
-            RealClock::new(&rt, start, &low),
-            RealClock::new(&rt, start, &high),
-        );
-        run_with(
-            &rt,
-            rt.alloc(),
-            &words,
-            &mut shelf,
-            clocks,
-            &low,
-            &high,
-            &mut script,
-            &mut out,
+            &log,
         )
     } else {
-        batch(rt.alloc(), &words, &mut shelf, &mut script, &mut out)
+        let (script, out) = (script.inner_mut(), out.inner_mut());
+        Came::alone(batch(rt.alloc(), &words, &mut shelf, script, out))
     };
-    script.end();
-    let trouble = trouble_of(&shelf);
+    script.inner_mut().end();
+    let ending = Ending {
+        status: came.status,
+        last: out.inner().last(),
+        trouble: came.port.unwrap_or(trouble_of(&shelf)),
+        passed: Passed {
+            read: script.lines(),
+            written: out.lines(),
+            has_ended: came.has_ended,
+        },
+    };
     // The status tells it too, where standard error can't be written.
-    let _ = explain(&rt, words.as_slice(), status, out.last(), trouble);
-    ExitCode::from(status)
+    let _ = explain(&rt, words.as_slice(), &ending);
+    ExitCode::from(came.status)
 }

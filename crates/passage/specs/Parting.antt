@@ -1,5 +1,5 @@
 -- A passage between two threads before its ends are parted.
-use Rattle.std.specs.Prelude.{◌≡◌, ◌-◌, ◌^◌, ◌≤◌, [], MatchOption}
+use Rattle.std.specs.Prelude.{◌≡◌, ◌-◌, ◌≤◌, [], MatchOption}
 use Rattle.crossbeam_queue.specs.Passes.{view, IsPassOf}
 use Rattle.crossbeam_utils.specs.Seq.{cell_view}
 use Rattle.pump_frame.specs.Rows.{greatest_capacity}

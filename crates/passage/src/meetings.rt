@@ -1,5 +1,5 @@
 // What the two ends' passes say together: each object's two passes meet, and the object is looked at once.
-ghost use Rattle.std.specs.Prelude.{◌≡◌, ℕ, List, true};
+ghost use Rattle.std.specs.Prelude.{◌≡◌, List, true};
 ghost use Rattle.crossbeam_queue.specs.Passes.{view, IsPassOf};
 ghost use Rattle.crossbeam_queue.specs.Fifo.{Forks as ForksInQueue, Merges as MergesInQueue, Learns};
 ghost use Rattle.crossbeam_utils.specs.Register.{Turns, Forks, Merges};

@@ -1,5 +1,5 @@
 // The queue between the ends: the low end pushes, and the high end pops.
-ghost use Rattle.std.specs.Prelude.{◌≡◌, ◌++◌, ◌^◌, ◌<◌, ◌≤◌, [], ◌∷◌, true, false, length};
+ghost use Rattle.std.specs.Prelude.{◌≡◌, ◌^◌, ◌<◌, true, length};
 ghost use Rattle.crossbeam_queue.specs.Passes.{view, IsPassOf, IsSamePass};
 ghost use Rattle.pump_core.specs.Passage.{ComesNext};
 ghost use Rattle.passage.specs.QueueRule.{with_sent, with_got, QueueTies};

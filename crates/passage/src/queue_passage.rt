@@ -1,5 +1,5 @@
 // The passage between two threads.
-ghost use Rattle.std.specs.Prelude.{◌≡◌, ◌+◌, ◌≤◌, IfOk, length};
+ghost use Rattle.std.specs.Prelude.{◌≡◌, IfOk, length};
 ghost use Rattle.pump_frame.specs.Rows.{IsLawfulRow};
 ghost use Rattle.pump_core.specs.Passage.{Low, High, Fits, new_low, new_high, shape_of_row};
 ghost use Rattle.passage.specs.QueueEnds.{LowEndStands, HighEndStands, low_shape, high_shape, low_place, high_place};

@@ -1,5 +1,5 @@
 // Ends of a passage whose calls may wait for the other thread.
-ghost use Rattle.std.specs.Prelude.{◌≡◌, ◌+◌, ◌-◌, ◌^◌, ◌<◌, ◌≤◌, false, length, MatchBool};
+ghost use Rattle.std.specs.Prelude.{◌≡◌, ◌-◌, ◌^◌, ◌<◌, ◌≤◌, false, length, MatchBool};
 ghost use Rattle.pump_core.specs.Passage.{Low, High, ComesNext, publishes, Passes, Refuses, Reads, Gives, GivesNone};
 ghost use Rattle.passage.specs.Answers.{IfFull, MatchForwarded, MatchNext, MatchTaken};
 

@@ -1,5 +1,5 @@
 // A frame that a sender sends, and the answer that it awaits.
-ghost use Rattle.std.specs.Prelude.{◌≡◌, ℕ, ◌+◌, ◌<◌, ◌≤◌, true, List, [], length, slice_index};
+ghost use Rattle.std.specs.Prelude.{◌≡◌, ℕ, ◌+◌, ◌<◌, ◌≤◌, List, [], length, slice_index};
 ghost use Rattle.pump_frame.specs.Frames.{IsLawful};
 ghost use Rattle.pump_link.specs.Tells.{Draws, Grows};
 ghost use Rattle.peers.specs.Sending.{Wait, is_wanted, is_refusal};

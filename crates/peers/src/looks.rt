@@ -1,5 +1,5 @@
 // The wait for a frame, look by look.
-ghost use Rattle.std.specs.Prelude.{◌≡◌, ℕ, ◌+◌, ◌<◌, ◌≤◌, List, [], length};
+ghost use Rattle.std.specs.Prelude.{◌≡◌, ◌+◌, ◌<◌, ◌≤◌, List, [], length};
 ghost use Rattle.pump_link.specs.Tells.{Draws, Grows};
 ghost use Rattle.pump_link.specs.declared.link.Looked.{Looked};
 ghost use Rattle.peers.specs.Replies.{WaitsTo, IsFewer};

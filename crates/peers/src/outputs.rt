@@ -1,9 +1,9 @@
 // Sending a frame, and printing a line.
-ghost use Rattle.std.specs.Prelude.{◌≡◌, ℕ, ◌≤◌, true, false, [], length};
+ghost use Rattle.std.specs.Prelude.{◌≡◌, ◌≤◌, false, []};
 ghost use Rattle.pump_frame.specs.Counts.{Rose};
 ghost use Rattle.pump_frame.specs.Frames.{IsLawful};
 ghost use Rattle.pump_frame.specs.Spellings.{spelling};
-ghost use Rattle.pump_link.specs.Tells.{Draws, Grows};
+ghost use Rattle.pump_link.specs.Tells.{Draws};
 ghost use Rattle.peers.specs.Outputs.{SendsPart, PrintsPart, plain_frame};
 
 use arrayvec::ArrayVec;

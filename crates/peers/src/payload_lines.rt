@@ -1,6 +1,6 @@
 // A reader of the lines of a sender's script.
-ghost use Rattle.std.specs.Prelude.{◌≡◌, ℕ, ◌+◌, ◌-◌, ◌*◌, ◌≤◌, [], ◌∷◌, length, Some, None, if◌then◌else◌};
-ghost use Rattle.std.specs.Io.KnownBytes.{prepend_known, Consumes, IsAtEnd};
+ghost use Rattle.std.specs.Prelude.{◌≡◌, ℕ, ◌+◌, ◌-◌, ◌≤◌, [], length, Some, None, if◌then◌else◌};
+ghost use Rattle.std.specs.Io.KnownBytes.{prepend_known};
 ghost use Rattle.pump_frame.specs.Counts.{Rose};
 ghost use Rattle.script_reader.specs.Parsing.{hex};
 ghost use Rattle.peers.specs.Payloads.{IsNextByte, IsNextPayload, TakesAtMost};

@@ -1,17 +1,16 @@
 -- Two records compare in one way.
-use Rattle.std.proofs.Common.{◌≡◌, ◌≢◌, ◌⊎◌, inl, inr, ℕ, ◌+◌, ◌^◌, ◌<◌, ◌≤◌, Bool, true, false, List, [], ◌∷◌, ◌++◌, length, Option, Some, None, refl, sym, ap, ◌∙◌, subst, arith}
+use Rattle.std.proofs.Common.{◌≡◌, inl, inr, ℕ, ◌+◌, ◌^◌, ◌<◌, Bool, true, false, List, [], ◌∷◌, ◌++◌, Option, Some, None, refl, sym, ap, ◌∙◌, subst, arith}
 use Rattle.std.proofs.lemmas.Option.{same_Some}
 use Rattle.pump_audit.specs.declared.compared.What.{What}
-use Rattle.pump_audit.specs.declared.compared.What.TheVariants as what
 use Rattle.pump_audit.specs.declared.compared.Compared.{Compared}
 use Rattle.pump_audit.specs.declared.compared.Compared.TheVariants.{Agree, Differ, NotRecord}
 use Rattle.pump_audit.specs.declared.entry.Entry.{Entry}
 use Rattle.pump_audit.specs.declared.entry.Entry.TheVariants as entries
 use Rattle.pump_audit.specs.declared.form.Place.{Place}
-use Rattle.pump_audit.specs.Comparing.{ItemTold, SideTold, form_in, lines_in, with_entry, Lists, SideOf, joined, BeginsSide, separator, EndsSide, IsOutside, BreaksSide, AreSide, BreaksAt, ArePair, unlike, AreAlike, DifferAt, SameOpening, SidesAre, IsCompared}
+use Rattle.pump_audit.specs.Comparing.{ItemTold, SideTold, form_in, lines_in, with_entry, Lists, SideOf, joined, BeginsSide, separator, EndsSide, BreaksSide, AreSide, BreaksAt, ArePair, AreAlike, DifferAt, SidesAre, IsCompared}
 use Rattle.pump_audit.specs.Entries.{IsEntry}
-use Rattle.pump_audit.specs.Places.{behind, may_end}
-use Rattle.pump_audit.specs.Texts.{IsText, IsCut, line_ends}
+use Rattle.pump_audit.specs.Places.{behind}
+use Rattle.pump_audit.specs.Texts.{IsText, line_ends}
 use Rattle.pump_audit.proofs.OnceLaws.{entry_once, turned, ahead, split_once, nothing_left, lists_once, ends_there, separator_unended, side_once}
 use Rattle.pump_audit.proofs.Writing.{ends_append, one_more}
 

@@ -8,12 +8,11 @@ use Rattle.pump_audit.specs.declared.verdict.Verdict.{Verdict}
 use Rattle.pump_audit.specs.declared.verdict.Verdict.TheVariants.{Yes, No}
 use Rattle.pump_audit.specs.Auditing.{TextIs, EndIs, Reads, OpensAs}
 use Rattle.pump_audit.specs.Entries.{IsEntry}
-use Rattle.pump_audit.specs.Places.{behind}
 use Rattle.pump_audit.specs.Records.{Record, Follows}
 use Rattle.pump_audit.specs.declared.texts.Texted.{Texted}
 use Rattle.pump_audit.specs.declared.texts.Texted.TheVariants.{Cut, End}
 use Rattle.pump_audit.specs.Texts.{IsText, IsCut, IsNextText}
-use Rattle.pump_audit.specs.Verdicts.{Begins, IsVerdict, IsMisplaced, RestHasCause, HasCause}
+use Rattle.pump_audit.specs.Verdicts.{Begins, IsVerdict, RestHasCause, HasCause}
 
 -- one more line
 longer : (bytes : List ℕ) (was : Option Record) (text rest : List ℕ) (e : Entry) (q : Record) → Begins bytes was (text ++ 10 ∷ rest) → IsText text → IsEntry e text → Follows was e q → q.lines < 2 ^ 32 → Begins bytes (Some q) rest

@@ -1,10 +1,10 @@
 -- Bytes have one verdict.
-use Rattle.std.proofs.Common.{◌≡◌, ◌≢◌, ◌⊎◌, inl, inr, ℕ, ◌+◌, ◌^◌, ◌<◌, ◌≤◌, Bool, true, false, List, [], ◌∷◌, ◌++◌, length, Option, Some, None, refl, sym, ap, ◌∙◌, subst, arith}
+use Rattle.std.proofs.Common.{◌≡◌, ◌≢◌, inl, inr, ℕ, ◌+◌, ◌^◌, ◌<◌, ◌≤◌, Bool, true, false, List, [], ◌∷◌, ◌++◌, length, Option, Some, None, refl, sym, ap, ◌∙◌, subst, arith}
 use Rattle.std.specs.Prelude.{is_some}
 use Rattle.std.proofs.lemmas.Option.{same_Some}
 use Rattle.pump_frame.specs.declared.row.SessionRow.{SessionRow}
 use Rattle.pump_core.specs.declared.feedback.Feedback.{Feedback}
-use Rattle.pump_core.specs.Exchanges.{Part, looks_of, IsCut}
+use Rattle.pump_core.specs.Exchanges.{Part, IsCut}
 use Rattle.pump_core.specs.Phases.{Phase}
 use Rattle.pump_core.specs.Phases.{Idle, Passing, Waiting, Down}
 use Rattle.pump_core.specs.Standing.{State, end_of}
@@ -22,9 +22,9 @@ use Rattle.pump_audit.specs.declared.verdict.Verdict.TheVariants.{Yes, No}
 use Rattle.pump_audit.specs.Claims.{IsRight, AreRight, IsFirstWrong}
 use Rattle.pump_audit.specs.Entries.{IsEntry}
 use Rattle.pump_audit.specs.Places.{behind, may_end}
-use Rattle.pump_audit.specs.Records.{Record, form_in, lines_in, history_of, Means, look_of, GoesOn, told_by, AreTold, with_look, with_note, Follows}
-use Rattle.pump_audit.specs.Texts.{IsText, IsCut as IsCutOff}
-use Rattle.pump_audit.specs.Verdicts.{RecordOf, joined, Begins, IsBroken, IsMistold, IsPlaced, HasCause, EndHasCause, RestHasCause, IsWhole, IsRightEnd, IsClean, IsVerdict}
+use Rattle.pump_audit.specs.Records.{Record, form_in, lines_in, history_of, Means, look_of, GoesOn, with_look, with_note, Follows}
+use Rattle.pump_audit.specs.Texts.{IsText}
+use Rattle.pump_audit.specs.Verdicts.{RecordOf, joined, Begins, IsBroken, IsMistold, HasCause, EndHasCause, RestHasCause, IsWhole, IsRightEnd, IsClean, IsVerdict}
 use Rattle.pump_audit.proofs.Lives.{means_look}
 use Rattle.pump_audit.proofs.OnceLaws.{entry_once, turned, ahead, split_once, nothing_left}
 

@@ -1,5 +1,5 @@
 -- What a writer of lines makes of a record: each line, as text, and the record that it leaves.
-use Rattle.std.proofs.Common.{◌≡◌, ℕ, ◌+◌, ◌^◌, ◌<◌, ◌≤◌, Bool, true, false, List, [], ◌∷◌, ◌++◌, length, codes, decimal, Option, Some, None, refl, sym, ap, ◌∙◌, subst, append-nil, append_assoc, arith}
+use Rattle.std.proofs.Common.{◌≡◌, ℕ, ◌+◌, ◌^◌, ◌<◌, ◌≤◌, Bool, true, false, List, [], ◌∷◌, ◌++◌, codes, decimal, Some, None, refl, sym, ap, ◌∙◌, subst, append-nil, append_assoc, arith}
 use Rattle.std.specs.Prelude.{if◌then◌else◌, ◌&&◌, ◌==◌, is_some, map}
 use Rattle.std.specs.List.{All}
 use Rattle.std.proofs.lemmas.Bool.{eq-eqb}
@@ -12,11 +12,10 @@ use Rattle.pump_frame.specs.declared.row.SessionRow.{SessionRow}
 use Rattle.pump_core.specs.declared.feedback.Feedback.{Feedback}
 use Rattle.pump_core.specs.declared.feedback.Feedback.TheVariants as feedbacks
 use Rattle.pump_core.specs.declared.reply.Reply.{Reply}
-use Rattle.pump_core.specs.History.{Arrival, Look, Opening}
+use Rattle.pump_core.specs.History.{Arrival, Look}
 use Rattle.pump_core.specs.History.{Nothing, Came, Bad, Gone}
 use Rattle.pump_core.specs.Passage.{shape_of_row, IsAverage}
 use Rattle.pump_core.specs.ReplyFrames.{frame_of, IsLawfulReply}
-use Rattle.pump_core.specs.Replies.{Sent}
 use Rattle.script_reader.specs.declared.line.Arriving.{Arriving}
 use Rattle.script_reader.specs.declared.line.Arriving.TheVariants as arriving
 use Rattle.script_reader.specs.declared.line.Line.{Line}
@@ -31,16 +30,15 @@ use Rattle.pump_audit.specs.declared.claims.Claim.{Claim}
 use Rattle.pump_audit.specs.declared.entry.Coming.{Coming}
 use Rattle.pump_audit.specs.declared.entry.Coming.TheVariants as coming
 use Rattle.pump_audit.specs.declared.entry.LookLine.{LookLine}
-use Rattle.pump_audit.specs.declared.entry.Note.{Note}
 use Rattle.pump_audit.specs.declared.entry.Note.TheVariants as notes
 use Rattle.pump_audit.specs.declared.entry.Entry.{Entry}
 use Rattle.pump_audit.specs.declared.entry.Entry.TheVariants as entries
 use Rattle.pump_audit.specs.declared.form.Place.{Place}
 use Rattle.pump_audit.specs.declared.form.Place.TheVariants as places
 use Rattle.pump_audit.specs.Claims.{has_end, AreRight, pair_of}
-use Rattle.pump_audit.specs.Entries.{line_of, line_in, IsPlainIn, IsEntry, note_text}
-use Rattle.pump_audit.specs.Places.{at_place, takes_looks, takes_times, is_taken, is_opening, ends_at, may_end, has_end_at}
-use Rattle.pump_audit.specs.Records.{Record, form_of, history_of, Means, IsNextLook, look_of, AreTold, begun, with_line, claims_of, with_look, with_note, made_coarse, Follows}
+use Rattle.pump_audit.specs.Entries.{line_in, IsPlainIn, IsEntry}
+use Rattle.pump_audit.specs.Places.{at_place, takes_looks, takes_times, is_taken, is_opening, ends_at, has_end_at}
+use Rattle.pump_audit.specs.Records.{Record, form_of, history_of, Means, IsNextLook, look_of, AreTold, begun, claims_of, with_look, with_note, made_coarse, Follows}
 use Rattle.pump_audit.specs.Texts.{IsText, line_ends}
 use Rattle.pump_audit.specs.Verdicts.{RecordOf, joined, IsClean, IsRightEnd}
 

@@ -1,14 +1,11 @@
 // Checking a record, line by line.
-ghost use Rattle.std.specs.Prelude.{◌≡◌, ◌⊎◌, ℕ, ◌+◌, ◌-◌, ◌^◌, ◌<◌, ◌≤◌, [], ◌∷◌, true, false, length, is_some, Option, None, Some, IfOk, IfNone, MatchOption, MatchBool};
+ghost use Rattle.std.specs.Prelude.{◌≡◌, ℕ, ◌+◌, ◌-◌, ◌^◌, ◌<◌, ◌≤◌, true, false, is_some, Option, None, Some, IfOk, IfNone, MatchOption, MatchBool};
 ghost use Rattle.pump_frame.specs.Rows.{IsLawfulRow};
-ghost use Rattle.pump_core.specs.Step.{opened};
 ghost use Rattle.pump_core.specs.ReplyFrames.{frame_of};
 ghost use Rattle.script_reader.specs.Lawful.{IsLawfulFeedback};
-ghost use Rattle.moving_avg.specs.Windows.{HoldsTimes, averaging_in, count_of};
 ghost use Rattle.pump_audit.specs.Auditing.{Audits, LookIs, NoteIs, EntryIs, TextIs, EndIs, IsGood, form_of_audit};
 ghost use Rattle.pump_audit.specs.Claims.{has_end, AreRight, IsFirstWrong};
 ghost use Rattle.pump_audit.specs.Entries.{IsPlain, IsInRange};
-ghost use Rattle.pump_audit.specs.Machine.{state_of};
 ghost use Rattle.pump_audit.specs.Places.{is_opening, is_taken, takes_looks, takes_times, behind_note, behind_line};
 ghost use Rattle.pump_audit.specs.Verdicts.{is_ack, IsRightEnd};
 ghost use Rattle.pump_audit.specs.Records.{Record, begun, made_coarse, with_note};

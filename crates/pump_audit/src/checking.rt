@@ -1,9 +1,8 @@
 // Checking the record that a tape gives.
-ghost use Rattle.std.specs.Prelude.{◌≡◌, ℕ, ◌^◌, ◌<◌, ◌≤◌, List, Some, Err, IfOk, IfSome};
+ghost use Rattle.std.specs.Prelude.{◌≡◌, ℕ, ◌<◌, ◌≤◌, List, Some, Err, IfOk, IfSome};
 ghost use Rattle.std.specs.Io.KnownBytes.{prepend_known};
 ghost use Rattle.pump_frame.specs.Counts.{Rose};
-ghost use Rattle.pump_audit.specs.Auditing.{Audits, Reads};
-ghost use Rattle.pump_audit.specs.Records.{Record};
+ghost use Rattle.pump_audit.specs.Auditing.{Reads};
 ghost use Rattle.pump_audit.specs.Verdicts.{IsVerdict};
 ghost use Rattle.pump_audit.specs.Auditing.{OpensAs};
 

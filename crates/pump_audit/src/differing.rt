@@ -1,6 +1,5 @@
 // How two sides differ.
-ghost use Rattle.std.specs.Prelude.{◌≡◌, ℕ, ◌+◌, ◌^◌, ◌<◌, Bool, true, false, ◌&&◌, List, [], ◌∷◌, ◌++◌, Option, None, Some, length, OnOk, MatchOption, map};
-ghost use Rattle.std.specs.Str.{bytes_eq};
+ghost use Rattle.std.specs.Prelude.{◌≡◌, ◌+◌, ◌^◌, ◌<◌, true, false, ◌&&◌, List, [], ◌∷◌, ◌++◌, Option, None, Some, length, OnOk, MatchOption, map};
 ghost use Rattle.pump_audit.specs.Comparing.{ItemTold, SideTold, SidesAre, AreAlike, DifferAt, same_told, unlike};
 ghost use Rattle.pump_audit.specs.Siding.{tells, LooksTell, Matches, Opens, Stands, has_same_numbers, has_same_row, has_same_opening};
 

@@ -1,17 +1,15 @@
 // The low process of a record's life.
-ghost use Rattle.std.specs.Prelude.{◌≡◌, ℕ, ◌+◌, ◌^◌, ◌<◌, ◌≤◌, Bool, true, false, ◌&&◌, ◌==◌, IsTrue, IfSome, Option, Some, None, option_map, [], if◌then◌else◌};
-ghost use Rattle.pump_frame.specs.Averages.{averaging_of, average_of};
+ghost use Rattle.std.specs.Prelude.{◌≡◌, ◌+◌, ◌^◌, ◌<◌, ◌≤◌, false, ◌&&◌, ◌==◌, IsTrue, IfSome, Option, Some, None, option_map, if◌then◌else◌};
 ghost use Rattle.pump_frame.specs.Frames.{IsLawful};
 ghost use Rattle.pump_frame.specs.Rows.{IsLawfulRow};
 ghost use Rattle.pump_core.specs.Comings.{is_nothing as nothing_in};
 ghost use Rattle.pump_core.specs.Exchanges.{is_gone as gone_in, permits_frame, is_fit, is_repeat, is_next, average_told, due};
 ghost use Rattle.pump_core.specs.Replies.{refusal, answer_to};
 ghost use Rattle.pump_core.specs.ReplyFrames.{frame_of};
-ghost use Rattle.pump_core.specs.Step.{opened, after, after_in, after_idle, taken, reply_at, reply_in, reply_idle, reply_taken};
-ghost use Rattle.script_reader.specs.Alone.{tells_level};
+ghost use Rattle.pump_core.specs.Step.{opened, after, taken, reply_at, reply_taken};
 ghost use Rattle.script_reader.specs.Lawful.{IsLawfulFeedback};
 ghost use Rattle.pump_audit.specs.Entries.{arrival_of, IsPlain};
-ghost use Rattle.pump_audit.specs.Machine.{Lets, state_of, pair_in, of_nothing, of_release, of_offer, of_arrival, of_look, takes_all, stores_of, begins_store, IsInBounds, stored, answered};
+ghost use Rattle.pump_audit.specs.Machine.{Lets, state_of, pair_in, of_nothing, of_release, of_offer, of_arrival, of_look, takes_all, begins_store, IsInBounds, stored, answered};
 ghost use Rattle.pump_audit.specs.Records.{look_of};
 
 use crate::entry::{Coming, LookLine};

@@ -1,5 +1,5 @@
 // What the looks of a record tell of High's times, against the times at its end.
-ghost use Rattle.std.specs.Prelude.{◌≡◌, ℕ, ◌+◌, ◌<◌, ◌≤◌, [], ◌∷◌, ◌++◌, List, length, IfOk, IfSome, Option, None, Some, true, false, OnOk, option_map, slice_get};
+ghost use Rattle.std.specs.Prelude.{◌≡◌, ℕ, ◌+◌, ◌<◌, [], ◌∷◌, ◌++◌, List, length, Option, None, Some, true, false, OnOk, option_map, slice_get};
 ghost use Rattle.pump_frame.specs.declared.averaging.Averaging.{Averaging};
 ghost use Rattle.pump_frame.specs.Averages.{average_of};
 ghost use Rattle.pump_audit.specs.Pairs.{EndsLike, IsSettled, Keeps, Fell, Takes, Meets};

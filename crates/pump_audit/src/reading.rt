@@ -1,5 +1,5 @@
 // Reading the lines of a record.
-ghost use Rattle.std.specs.Prelude.{◌≡◌, ℕ, ◌+◌, IfSome, Some, List};
+ghost use Rattle.std.specs.Prelude.{◌≡◌, ◌+◌, IfSome, Some};
 ghost use Rattle.pump_frame.specs.Frames.{IsLawful};
 ghost use Rattle.pump_frame.specs.Spellings.{spelling};
 ghost use Rattle.pump_frame.specs.declared.frame.Frame.{Frame as FrameValue};

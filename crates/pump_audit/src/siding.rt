@@ -1,5 +1,5 @@
 // Reading low's side of a record.
-ghost use Rattle.std.specs.Prelude.{◌≡◌, ◌+◌, ◌≢◌, ◌⊎◌, List, [], Option, IfOk, OnOk, MatchOption, true, false};
+ghost use Rattle.std.specs.Prelude.{◌≡◌, ◌≢◌, ◌⊎◌, List, [], Option, IfOk, OnOk, MatchOption, true, false};
 ghost use Rattle.pump_audit.specs.Places.{ends_at};
 ghost use Rattle.pump_audit.specs.Comparing.{separator, ItemTold, SideTold, offered_bytes, uncounted, item_of, with_entry};
 ghost use Rattle.pump_audit.specs.Entries.{IsPlain};

@@ -1,14 +1,11 @@
 -- What the sender adds.
-use Rattle.std.proofs.Common.{◌≡◌, ℕ, ◌<◌, ◌≤◌, Bool, true, false, List, [], length, get_or, slice_get, Some, sym, ap, ◌∙◌, arith}
+use Rattle.std.proofs.Common.{◌≡◌, ℕ, ◌<◌, ◌≤◌, Bool, true, false, [], length, get_or, slice_get, Some, sym, ap, ◌∙◌}
 use Rattle.std.specs.Prelude.{if◌then◌else◌}
 use Rattle.std.proofs.lemmas.Option.{slice_get-get_or, slice_get_past}
 use Rattle.pump_frame.specs.declared.payload.Payload.{Payload}
 use Rattle.pump_frame.specs.declared.row.SessionRow.{SessionRow}
 use Rattle.script_reader.specs.declared.line.Arriving.{Arriving}
 use Rattle.script_reader.specs.declared.line.Arriving.TheVariants.{Nothing, Hello, Data}
-use Rattle.script_reader.specs.declared.head.ArrivingHead.{ArrivingHead}
-use Rattle.script_reader.specs.declared.head.ArrivingHead.TheVariants as heads
-use Rattle.script_reader.specs.Heads.{CanHold}
 use Rattle.pump_chain.specs.declared.sender.Sender.{Sender}
 use Rattle.pump_chain.specs.Chained.{Chained, accepted_of, received_of, message_of, added}
 

@@ -1,6 +1,6 @@
 //! The sender between two pumps.
 
-ghost use Rattle.std.specs.Prelude.{◌≡◌, if◌then◌else◌, ℕ, List, Bool, false, ◌&&◌, ◌||◌, not};
+ghost use Rattle.std.specs.Prelude.{◌≡◌, if◌then◌else◌, ℕ, List, false, ◌&&◌, ◌||◌, not};
 ghost use Rattle.std.specs.List.{list_any};
 ghost use Rattle.script_reader.specs.EventHeads.{event_of};
 ghost use Rattle.two_worlds.specs.Printing.{lines_in};

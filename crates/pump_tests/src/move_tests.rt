@@ -1,7 +1,7 @@
 //! The moving of a session to new disks that fail and crash. What is refused, and what is moved, is in
 //! `tests/disks-moved.t`.
 
-ghost use Rattle.std.specs.Prelude.{◌≡◌, IfOk};
+ghost use Rattle.std.specs.Prelude.{IfOk};
 ghost use Rattle.pump_frame.specs.Rows.{IsLawfulRow};
 
 use crate::held::Held;

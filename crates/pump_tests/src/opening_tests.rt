@@ -1,6 +1,6 @@
 //! The opening of disks of which one fails. What else is refused is in `tests/disks-refused.t`.
 
-ghost use Rattle.std.specs.Prelude.{◌≡◌, IfSome};
+ghost use Rattle.std.specs.Prelude.{IfSome};
 ghost use Rattle.pump_frame.specs.Rows.{IsLawfulRow};
 
 use crate::held::Held;

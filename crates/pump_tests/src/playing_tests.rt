@@ -1,7 +1,7 @@
 //! The pump that plays the lines of a script over a disk that fails. What it does with packets is in
 //! `tests/pump-packets.t`.
 
-ghost use Rattle.std.specs.Prelude.{◌≡◌, ◌<◌, ◌≤◌, [], false, IfSome, IfOk};
+ghost use Rattle.std.specs.Prelude.{◌≡◌, ◌<◌, false, IfSome, IfOk};
 ghost use Rattle.pump_frame.specs.Rows.{IsLawfulRow};
 ghost use Rattle.two_worlds.specs.LowPumps.{stops_at_disk};
 ghost use Rattle.two_worlds.specs.Pumps.{is_down};

@@ -11,7 +11,6 @@ use Rattle.pump_frame.specs.declared.row.SessionRow.{SessionRow}
 use Rattle.pump_core.specs.Events.{with_kept}
 use Rattle.recovery.specs.Moves.{disk_of}
 use Rattle.recovery.specs.declared.trio.Trio.{Trio}
-use Rattle.recovery.specs.declared.why.Why.TheVariants as whys
 use Rattle.script_reader.specs.Openings.{accepted_in}
 use Rattle.script_reader.specs.Past.{Past}
 use Rattle.two_worlds.specs.declared.applied.Stop.{Stop}
@@ -24,7 +23,7 @@ use Rattle.pump_wrapper.specs.Cutting.{Gave, to_come}
 use Rattle.pump_wrapper.specs.Halting.{Halts, HaltsBy}
 use Rattle.pump_wrapper.specs.Sending.{RoseBy}
 use Rattle.pump_wrapper.specs.Wraps.{AreFirst, AreToCome, HasAll, HasPassed, IsSent, Passes, SendCause, Sends, all_taken, end_of_sending, is_long_in, is_too_long}
-use Rattle.pump_wrapper.specs.WrapEnds.{BeginFile, Continues, CountOn, Ends, EndsAt, EndsOn, HasDiskCause, IsEarly, IsStopped, LeavesFront, LeavesFrontBy, RefusesDisks}
+use Rattle.pump_wrapper.specs.WrapEnds.{BeginFile, Continues, Ends, EndsAt, EndsOn, HasDiskCause, IsEarly, IsStopped, LeavesFront, LeavesFrontBy, RefusesDisks}
 use Rattle.pump_wrapper.specs.declared.cutter.Cutter.{Cutter}
 use Rattle.pump_wrapper.specs.declared.file_sender.WrapEnd.{WrapEnd}
 use Rattle.pump_wrapper.specs.declared.file_sender.WrapEnd.TheVariants as ends

@@ -1,6 +1,6 @@
 //! A file is cut into messages.
 
-ghost use Rattle.std.specs.Prelude.{◌≡◌, ◌≢◌, ℕ, ◌+◌, ◌<◌, ◌≤◌, ◌^◌, List, [], length};
+ghost use Rattle.std.specs.Prelude.{◌≡◌, ℕ, ◌+◌, ◌<◌, ◌≤◌, List, [], length};
 ghost use Rattle.std.specs.Io.KnownBytes.{Consumes};
 ghost use Rattle.pump_frame.specs.Counts.{Rose};
 ghost use Rattle.pump_wrapper.specs.Wrapped.{wrapped, length_message};

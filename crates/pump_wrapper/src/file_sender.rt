@@ -1,7 +1,6 @@
 //! A file is sent over a session's pump.
 
 ghost use Rattle.std.specs.Prelude.{◌≡◌, ◌⊎◌, ℕ, ◌≤◌, ◌++◌, false, List, Option, Some, Ok, Err, IfOk, IfErr, OnOk};
-ghost use Rattle.std.specs.Io.KnownBytes.{Consumes};
 ghost use Rattle.disk_model.specs.Disk.{Moves, Same};
 ghost use Rattle.disk_model.specs.declared.name.Role.{Role as DiskRole};
 ghost use Rattle.pump_frame.specs.Counts.{Rose};

@@ -1,11 +1,11 @@
 //! The laws of files as messages. Each is a function without parameters and without a result whose
 //! contract is the law; calling it does nothing.
 
-ghost use Rattle.std.specs.Prelude.{◌≡◌, ◌<◌, ◌≤◌, ◌++◌, ◌∷◌, [], ℕ, List, Option, Result, Ok, IsTrue, length, codes};
+ghost use Rattle.std.specs.Prelude.{◌≡◌, ◌≤◌, ◌++◌, ℕ, List, Option, Result, Ok, IsTrue, length};
 ghost use Rattle.std.specs.List.{AllByRecursion};
 ghost use Rattle.std.specs.Io.KnownBytes.{Appends};
 ghost use Rattle.pump_link.specs.Causes.{AppendsFront};
-ghost use Rattle.pump_wrapper.specs.Wrapped.{length_message, piece_message, unwrapped, wrapped};
+ghost use Rattle.pump_wrapper.specs.Wrapped.{unwrapped, wrapped};
 ghost use Rattle.pump_wrapper.specs.Gathers.{Gathers};
 ghost use Rattle.pump_wrapper.specs.declared.gathered.Gathered.{Gathered};
 ghost use Rattle.pump_wrapper.specs.declared.gathered.GatherFault.{GatherFault};

@@ -1,6 +1,6 @@
 //! The lines by which a pump is emptied and a file is sent over it.
 
-ghost use Rattle.std.specs.Prelude.{◌≡◌, ℕ, ◌+◌, ◌<◌, ◌≤◌, ◌^◌, ◌∷◌, [], false, length, List, Ok, Result, OnOk};
+ghost use Rattle.std.specs.Prelude.{◌≡◌, ◌+◌, ◌<◌, ◌≤◌, ◌^◌, ◌∷◌, [], false, Ok, Result, OnOk};
 ghost use Rattle.script_reader.specs.Heads.{arriving_with, line_with, CanHold, CanHoldLine};
 ghost use Rattle.script_reader.specs.Lawful.{IsLawfulArriving, IsLawfulLine};
 ghost use Rattle.script_reader.specs.declared.line.Line.TheVariants as lines;

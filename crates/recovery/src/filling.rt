@@ -1,5 +1,5 @@
 // Writing the new disks.
-ghost use Rattle.std.specs.Prelude.{◌≡◌, ◌⊎◌, ◌+◌, ◌-◌, ◌*◌, ◌^◌, ◌<◌, ◌≤◌, ℕ, List, [], length, take, drop, true, false, IfOk, OnOk, IfErr};
+ghost use Rattle.std.specs.Prelude.{◌≡◌, ◌+◌, ◌-◌, ◌^◌, ◌<◌, ◌≤◌, ℕ, List, [], length, take, drop, true, false, OnOk, IfErr};
 ghost use Rattle.pump_frame.specs.Rows.{IsLawfulRow};
 ghost use Rattle.disk_model.specs.Disk.{Moves, Torn, IsWritten, Each, Settled};
 ghost use Rattle.disk_model.specs.declared.name.Role.{Role};
@@ -8,10 +8,9 @@ ghost use Rattle.stable_buffer.specs.Making.{KeepsFirst, LeavesFrom, HasZeros, I
 ghost use Rattle.stable_buffer.specs.Format.{bare_bytes};
 ghost use Rattle.pump_frame.specs.declared.row.SessionRow.{SessionRow};
 ghost use Rattle.stable_buffer.specs.Register.{value_of};
-ghost use Rattle.stable_buffer.specs.Stands.{InSlot, LowStands, HighStands, low_size, slot_of};
+ghost use Rattle.stable_buffer.specs.Stands.{InSlot, LowStands, HighStands, low_size};
 ghost use Rattle.stable_buffer.specs.Log.{RecvStands};
 ghost use Rattle.std.specs.List.{All};
-ghost use Rattle.recovery.specs.Calls.{is_device};
 ghost use Rattle.recovery.specs.Deals.{InSlots};
 ghost use Rattle.recovery.specs.Moves.{IsKept, Counted, is_blamed};
 ghost use Rattle.recovery.specs.declared.why.Why.TheVariants.{Device};

@@ -1,7 +1,6 @@
 // Whether the new disks are empty, and what doesn't fit the new row.
-ghost use Rattle.std.specs.Prelude.{◌≡◌, ◌⊎◌, ◌+◌, ◌-◌, ◌^◌, ◌<◌, ◌≤◌, ℕ, List, [], length, drop, true, false, None, Some, Err, IfOk, OnOk, IfErr};
+ghost use Rattle.std.specs.Prelude.{◌≡◌, ◌+◌, ◌-◌, ◌^◌, ◌<◌, ◌≤◌, ℕ, List, [], length, drop, true, false, None, Some, Err, IfOk, OnOk, IfErr};
 ghost use Rattle.pump_frame.specs.Rows.{IsLawfulRow};
-ghost use Rattle.disk_model.specs.Disk.{Moves, Same, Answers};
 ghost use Rattle.disk_model.specs.declared.name.Role.TheVariants.{Low as LowRole, High as HighRole, Recv as RecvRole};
 ghost use Rattle.stable_buffer.specs.Numbers.{length_at};
 ghost use Rattle.stable_buffer.specs.Stands.{LowStands, slot_of};
@@ -10,7 +9,6 @@ ghost use Rattle.stable_buffer.specs.Register.{value_of};
 ghost use Rattle.recovery.specs.Refusals.{told_of};
 ghost use Rattle.recovery.specs.Calls.{is_device};
 ghost use Rattle.recovery.specs.Moves.{full, small, too_long, fault_of, first_full, first_unfit, IsKept, is_blamed, disk_of};
-ghost use Rattle.recovery.specs.Surveys.{IsSurveyed};
 ghost use Rattle.recovery.specs.declared.why.Why.TheVariants.{Device};
 
 use crate::survey::{Counts, old_fault};

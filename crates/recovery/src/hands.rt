@@ -1,10 +1,10 @@
 // The messages of an opened pump, dealt out to the hands and the passage.
-ghost use Rattle.std.specs.Prelude.{◌≡◌, ◌+◌, ◌-◌, ◌^◌, ◌<◌, ◌≤◌, ℕ, true, false, [], Some, None, List, length, IfOk, OnOk, IfErr};
+ghost use Rattle.std.specs.Prelude.{◌≡◌, ◌+◌, ◌-◌, ◌<◌, ◌≤◌, ℕ, true, false, [], Some, None, List, length, IfOk, OnOk, IfErr};
 ghost use Rattle.std.specs.List.{All};
 ghost use Rattle.disk_model.specs.Disk.{Moves, Same};
 ghost use Rattle.stable_buffer.specs.Stands.{InSlot};
 ghost use Rattle.stable_buffer.specs.Low.{IsLowReady, low_disk, low_row, low_count};
-ghost use Rattle.pump_core.specs.Passage.{Low, High, ComesNext, forwards};
+ghost use Rattle.pump_core.specs.Passage.{Low, High};
 ghost use Rattle.recovery.specs.Refusals.{bad_slot};
 ghost use Rattle.recovery.specs.Calls.{Calls, failed, is_device};
 ghost use Rattle.recovery.specs.Deals.{numbered, Fills, InSlots, IsDealt};

@@ -1,5 +1,5 @@
 // Low's disk and high's, each alone.
-ghost use Rattle.std.specs.Prelude.{◌≡◌, ◌≤◌, true, false, Some, None, [], length, take, IfOk, OnOk, IfErr};
+ghost use Rattle.std.specs.Prelude.{◌≡◌, true, false, Some, None, [], length, take, IfOk, OnOk, IfErr};
 ghost use Rattle.pump_frame.specs.Rows.{IsLawfulRow};
 ghost use Rattle.disk_model.specs.Disk.{Moves, Same, Settled};
 ghost use Rattle.disk_model.specs.declared.name.Role.TheVariants.{Low, High};

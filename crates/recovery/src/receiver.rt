@@ -1,5 +1,5 @@
 // A receiver's disk.
-ghost use Rattle.std.specs.Prelude.{◌≡◌, ◌≤◌, true, false, Some, None, length, IfOk, OnOk, IfErr};
+ghost use Rattle.std.specs.Prelude.{◌≡◌, true, false, Some, None, length, IfOk, OnOk, IfErr};
 ghost use Rattle.pump_frame.specs.Rows.{IsLawfulRow};
 ghost use Rattle.disk_model.specs.Disk.{Moves, Same};
 ghost use Rattle.high_receiver.specs.Receiving.{IsRecvReady, StandsForSome, recv_disk, recv_count, recv_end, recv_row, recv_size};

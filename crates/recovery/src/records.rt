@@ -1,6 +1,6 @@
 // The records of a receiver's disk.
-ghost use Rattle.std.specs.Prelude.{◌≡◌, ◌≤◌, true, false, length, is_err, IfOk, OnOk, OnErr, IfErr};
-ghost use Rattle.disk_model.specs.Disk.{Moves, Same, Answers};
+ghost use Rattle.std.specs.Prelude.{◌≡◌, ◌≤◌, false, length, is_err, IfOk, OnOk, IfErr};
+ghost use Rattle.disk_model.specs.Disk.{Moves, Same};
 ghost use Rattle.recovery.specs.Calls.{Calls};
 ghost use Rattle.stable_buffer.specs.Log.{is_log, log_of};
 ghost use Rattle.stable_buffer.specs.Register.{IsReady, register_disk, register_value};

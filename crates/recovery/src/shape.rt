@@ -5,7 +5,7 @@ ghost use Rattle.pump_frame.specs.Rows.{IsLawfulRow};
 ghost use Rattle.disk_model.specs.Disk.{Moves, Same};
 ghost use Rattle.stable_buffer.specs.Stands.{HasHeader};
 ghost use Rattle.stable_buffer.specs.Format.{role_byte};
-ghost use Rattle.recovery.specs.Refusals.{word_at, fields, wanted, mark, other_field, other_size, refused_front, refused_shape, HasFields};
+ghost use Rattle.recovery.specs.Refusals.{word_at, fields, wanted, other_field, other_size, refused_front, refused_shape, HasFields};
 ghost use Rattle.recovery.specs.Calls.{Calls, failed, is_device};
 ghost use Rattle.recovery.specs.declared.why.Why.TheVariants.{Device, WrongShape};
 

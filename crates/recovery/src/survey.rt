@@ -1,18 +1,16 @@
 // What the disks that are to be moved stand for.
-ghost use Rattle.std.specs.Prelude.{◌≡◌, ◌⊎◌, ◌+◌, ◌-◌, ◌≤◌, ℕ, List, length, true, false, None, Some, Err, IfOk, OnOk, IfErr};
+ghost use Rattle.std.specs.Prelude.{◌≡◌, ◌⊎◌, ◌+◌, ◌-◌, ◌≤◌, ℕ, List, true, false, None, Some, Err, IfOk, OnOk, IfErr};
 ghost use Rattle.pump_frame.specs.Rows.{IsLawfulRow};
-ghost use Rattle.disk_model.specs.Disk.{Moves, Same};
 ghost use Rattle.disk_model.specs.declared.name.Role.TheVariants.{Low as LowRole, High as HighRole, Recv as RecvRole};
 ghost use Rattle.stable_buffer.specs.Stands.{LowStands, HighStands};
-ghost use Rattle.stable_buffer.specs.Low.{IsLowReady, low_count, low_row, low_disk, low_is_open};
-ghost use Rattle.stable_buffer.specs.High.{IsHighReady, high_count, high_disk};
-ghost use Rattle.high_receiver.specs.Receiving.{IsRecvReady, recv_disk, recv_row, recv_count, recv_end};
+ghost use Rattle.stable_buffer.specs.Low.{IsLowReady, low_count, low_row, low_disk};
+ghost use Rattle.stable_buffer.specs.High.{high_count, high_disk};
+ghost use Rattle.high_receiver.specs.Receiving.{IsRecvReady, recv_disk, recv_row, recv_count};
 ghost use Rattle.recovery.specs.Refusals.{bad_slot, refused_pump};
-ghost use Rattle.recovery.specs.Deals.{InSlots};
 ghost use Rattle.recovery.specs.Calls.{is_device, failed};
 ghost use Rattle.recovery.specs.Agreement.{Disagrees};
 ghost use Rattle.stable_buffer.specs.Log.{RecvStands};
-ghost use Rattle.recovery.specs.Moves.{AreRefused, IsKept, Counted, is_blamed, disk_of};
+ghost use Rattle.recovery.specs.Moves.{AreRefused, IsKept, is_blamed, disk_of};
 ghost use Rattle.recovery.specs.Surveys.{IsSurveyed, FitsSurvey, SlotsTell};
 ghost use Rattle.recovery.specs.declared.why.Why.TheVariants.{Device};
 

@@ -1,5 +1,5 @@
 // What a slot holds is written and read where it lies.
-ghost use Rattle.std.specs.Prelude.{◌≡◌, Some, IsSome, IfSome};
+ghost use Rattle.std.specs.Prelude.{◌≡◌, Some, IsSome};
 
 use pump_frame::Item;
 

@@ -1,5 +1,5 @@
 // The high process by its own calls: until when a message is sent, and what its looks find fault with.
-ghost use Rattle.std.specs.Prelude.{◌≡◌, [], IfSome, OnOk};
+ghost use Rattle.std.specs.Prelude.{◌≡◌, [], IfSome};
 ghost use Rattle.passage.specs.Plain.{StandsFor as EndsStandFor};
 ghost use Rattle.high_process.specs.Ready.{Ready};
 

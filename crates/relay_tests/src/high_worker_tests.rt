@@ -8,7 +8,9 @@ use crate::fixtures::{Few, bytes, link};
 use crate::high_bench::{HighBench, high_bench};
 use disk_model::{Disk, MemDisk, PlainDisk};
 use pump_link::{Clock, MemLink, MemPorts, Ports, StepClock};
-use relay_threads::{Gate, HighServed, HighWhy, Open, RoundsEnd, high_rounds, serve_high};
+use relay_threads::{
+    Gate, HighServed, HighWhy, Open, RoundsEnd, Unwatched, high_rounds, serve_high,
+};
 use std::alloc::Global;
 use std::sync::Wait;
 use std::test::Fail;
@@ -241,6 +243,7 @@ fn keep<D: Disk + Drop, P: Ports, R: Wait>(
         &mut bench.process,
         &mut bench.store,
         &mut bench.ends,
+        &Unwatched,
         rounds,
     );
     ports.shut(door);

@@ -8,7 +8,9 @@ use crate::fixtures::{bytes, link, row};
 use crate::low_bench::{LowBench, low_bench};
 use disk_model::{Disk, MemDisk, PlainDisk};
 use pump_link::{Clock, ListWords, MemLink, MemPorts, MemSink, Ports, Sink, StepClock};
-use relay_threads::{LowServed, LowWhy, Open, RoundsEnd, low_rounds, serve_low, write_opening};
+use relay_threads::{
+    LowServed, LowWhy, Open, RoundsEnd, Unwatched, low_rounds, serve_low, write_opening,
+};
 use std::alloc::Global;
 use std::sync::Wait;
 use std::test::Fail;
@@ -295,6 +297,7 @@ fn keep<D: Disk + Drop, P: Ports, R: Wait>(
         &mut bench.store,
         &mut bench.ends,
         &mut desk.tape,
+        &Unwatched,
         7,
     );
     ports.shut(door);

@@ -13,7 +13,7 @@ use Rattle.pump_core.specs.Exchanges.{is_gone, Part, looks_of, IsCut}
 use Rattle.pump_core.specs.Replies.{Sent, sent, LowReplies}
 use Rattle.pump_core.specs.Phases.{Phase}
 use Rattle.pump_core.specs.Phases.{Idle, Passing, Waiting as Waits, Down}
-use Rattle.pump_core.specs.Step.{after, after_in, reply_at, reply_in, takes_at, takes_in, FeedbackFits, fits_in, fits_passing, is_quiet}
+use Rattle.pump_core.specs.Step.{after, after_in, reply_at, reply_in, takes_at, takes_in, FeedbackFits, fits_in, fits_passing}
 use Rattle.pump_core.specs.Standing.{State, StandsAt, end_of}
 use Rattle.pump_core.proofs.Runs.{run, ran, one_list_of_lives}
 use Rattle.pump_core.proofs.Cuts.{Newest, newest_of_cut}

@@ -17,7 +17,7 @@ use Rattle.pump_core.specs.History.{Arrival, Look, Opening, History, looked, fir
 use Rattle.pump_core.specs.History.{Nothing, Came, Bad, Gone}
 use Rattle.pump_core.specs.Exchanges.{is_gone, count_after, Part}
 use Rattle.pump_core.specs.Replies.{Sent, sent, LowReplies}
-use Rattle.pump_core.specs.Step.{after, after_in, reply_at, reply_in, takes_at, takes_in, fits_in, FeedbackFits, is_full, is_quiet}
+use Rattle.pump_core.specs.Step.{after, reply_at, reply_in, takes_at, takes_in, fits_in, FeedbackFits, is_full, is_quiet}
 use Rattle.pump_core.specs.Standing.{State, StandsAt, end_of, last_moment}
 use Rattle.pump_core.proofs.Cuts.{one_cut}
 use Rattle.low_process.specs.Looks.{look_of}
@@ -39,7 +39,7 @@ use Rattle.relay_threads.specs.RecordLines.{taken_by, tells_fault, told_of, arri
 use Rattle.relay_threads.specs.Replays.{is_reply, breaks, is_broken, has_bytes, AreConnected, TakeLawful, TellLevels, is_lost, low_events, reply_events, Replays, StopsAtLast}
 use Rattle.relay_threads.proofs.Machine.{led, reply_led}
 use Rattle.relay_threads.proofs.Kept.{thin_of, same_replies, recorded_at}
-use Rattle.relay_threads.proofs.Alike.{Same, same_gone, same_told, down_after}
+use Rattle.relay_threads.proofs.Alike.{same_gone, same_told, down_after}
 use Rattle.relay_threads.proofs.Alike as alike
 use Rattle.relay_threads.proofs.Telling.{low_of, replies_append, comes, waits_are, broken_is, unbroken_is, not_armed, armed_is, never_armed, hears_told, looked_past, stores_now, stood, replied, prints, told_look}
 

@@ -1,5 +1,5 @@
 // One round of the high worker on a connection.
-ghost use Rattle.std.specs.Prelude.{◌≡◌, ◌^◌, ◌<◌, ◌≤◌, ◌||◌, Bool, true, false, [], ◌∷◌, None, Some, IfSome, if◌then◌else◌, option_map};
+ghost use Rattle.std.specs.Prelude.{◌≡◌, ◌^◌, ◌<◌, ◌≤◌, ◌||◌, Bool, true, false, [], ◌∷◌, None, Some, IfSome, if◌then◌else◌};
 ghost use Rattle.pump_frame.specs.Counts.{Rose};
 ghost use Rattle.pump_frame.specs.Readings.{Within, HasBegun};
 ghost use Rattle.pump_frame.specs.Streams.{spellings};

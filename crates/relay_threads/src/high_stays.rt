@@ -12,6 +12,7 @@ use crate::gate::Open;
 use crate::high_serve::serve_high;
 use crate::high_served::HighWhy;
 use crate::rounds_end::{RoundsEnd, Stayed};
+use crate::watch::Watch;
 use disk_model::Disk;
 use high_process::HighProcess;
 use passage::WaitHighEnd;
@@ -31,13 +32,14 @@ fn end_by(why: HighWhy) -> Option<RoundsEnd>
 
 // One stay at the door, with at most `most` rounds. The first of them asks the door; a link that
 // comes is served, and then given back.
-fn stay<R: Wait, P: Door, K: Clock, D: Disk, H: WaitHighEnd>(
+fn stay<R: Wait, P: Door, K: Clock, D: Disk, H: WaitHighEnd, V: Watch>(
     rt: &R,
     door: &mut P,
     clock: &mut K,
     process: &mut HighProcess,
     store: &mut HighStore<D>,
     ends: &mut H,
+    watch: &V,
     most: u64,
 ) -> Stayed
     requires ready { Ready D.told process.old store.old (H.stands ends.old) }
@@ -60,6 +62,7 @@ fn stay<R: Wait, P: Door, K: Clock, D: Disk, H: WaitHighEnd>(
     clock.moment();
     match door.accept() {
         Accepted::Came(mut link) => {
+            watch.high_came();
             let served = serve_high(
                 rt,
                 &mut link,
@@ -70,6 +73,7 @@ fn stay<R: Wait, P: Door, K: Clock, D: Disk, H: WaitHighEnd>(
                 &mut Open,
                 most - 1,
             );
+            watch.high_left(served.why);
             door.back(link);
             Stayed {
                 end: end_by(served.why),
@@ -86,18 +90,20 @@ fn stay<R: Wait, P: Door, K: Clock, D: Disk, H: WaitHighEnd>(
 /// The high worker of a session over its door, with this many rounds (`docs/design.md`,
 /// "Serving"). A round without connection draws a moment, in microseconds, asks the door, and makes
 /// no look; a link that comes is served by `serve_high`, and given back to the door when its
-/// connection or the worker ends. A connection's failure ends that connection alone.
+/// connection or the worker ends. A connection's failure ends that connection alone. The watch is told of
+/// each link.
 ///
 /// `Rounds` comes exactly where all rounds were made and none of them ended the worker. `Device`
 /// comes only where the disk's count of faults rose; the process is then down. `RecordFailed` never
 /// comes.
-pub fn high_rounds<R: Wait, P: Door, K: Clock, D: Disk, H: WaitHighEnd>(
+pub fn high_rounds<R: Wait, P: Door, K: Clock, D: Disk, H: WaitHighEnd, V: Watch>(
     rt: &R,
     door: &mut P,
     clock: &mut K,
     process: &mut HighProcess,
     store: &mut HighStore<D>,
     ends: &mut H,
+    watch: &V,
     rounds: u32,
 ) -> RoundsEnd
     requires ready { Ready D.told process.old store.old (H.stands ends.old) }
@@ -120,7 +126,7 @@ pub fn high_rounds<R: Wait, P: Door, K: Clock, D: Disk, H: WaitHighEnd>(
     let most = u64::from(rounds);
     let mut made = 0;
     while made < most {
-        let turn = stay(rt, door, clock, process, store, ends, most - made);
+        let turn = stay(rt, door, clock, process, store, ends, watch, most - made);
         made += turn.looks;
         if let Some(end) = turn.end {
             return end;

@@ -15,6 +15,7 @@ mod pair;
 mod record;
 mod rounds_end;
 mod tape;
+mod watch;
 
 pub use gate::{Gate, Open};
 pub use high_serve::serve_high;
@@ -25,6 +26,7 @@ pub use low_round::LowWhy;
 pub use low_serving::{LowServed, serve_low};
 pub use low_stays::low_rounds;
 pub use pair::{Work, run_pair, try_run_pair};
-pub use record::{LookMade, append_look, append_opening, is_recorded};
+pub use record::{LookMade, append_coarse, append_look, append_opening, is_recorded};
 pub use rounds_end::RoundsEnd;
 pub use tape::write_opening;
+pub use watch::{Unwatched, Watch};

@@ -1,5 +1,5 @@
 // The low worker at its door.
-ghost use Rattle.std.specs.Prelude.{◌≡◌, ℕ, ◌<◌, ◌≤◌, Bool, true, false, List, [], ◌∷◌, ◌++◌, Option, None, Some, if◌then◌else◌};
+ghost use Rattle.std.specs.Prelude.{◌≡◌, ℕ, ◌<◌, ◌≤◌, Bool, false, List, [], ◌∷◌, ◌++◌, Option, None, Some, if◌then◌else◌};
 ghost use Rattle.std.specs.List.{AllByRecursion};
 ghost use Rattle.std.specs.Io.KnownBytes.{Appends};
 ghost use Rattle.pump_frame.specs.Counts.{Rose};
@@ -27,6 +27,7 @@ use crate::low_serving::serve_low;
 use crate::record::LookMade;
 use crate::rounds_end::{RoundsEnd, Stayed};
 use crate::tape::record_look;
+use crate::watch::Watch;
 use disk_model::Disk;
 use low_process::{Arrival, LookHead, LowProcess};
 use passage::WaitLowEnd;
@@ -101,7 +102,7 @@ fn end_kept(is_kept: bool) -> Option<RoundsEnd>
 }
 
 // Serves a link for at most so many rounds, and makes the look with Gone where one follows.
-fn visit<R: Wait, C: Link, K: Clock, W: Words, D: Disk, L: WaitLowEnd, O: Sink>(
+fn visit<R: Wait, C: Link, K: Clock, W: Words, D: Disk, L: WaitLowEnd, O: Sink, V: Watch>(
     rt: &R,
     link: &mut C,
     clock: &mut K,
@@ -110,6 +111,7 @@ fn visit<R: Wait, C: Link, K: Clock, W: Words, D: Disk, L: WaitLowEnd, O: Sink>(
     store: &mut LowStore<D>,
     ends: &mut L,
     tape: &mut O,
+    watch: &V,
     most: u64,
 ) -> Stayed
     requires ready { Ready D.told process.old store.old (L.stands ends.old) }
@@ -137,6 +139,7 @@ fn visit<R: Wait, C: Link, K: Clock, W: Words, D: Disk, L: WaitLowEnd, O: Sink>(
     let served = serve_low(
         rt, link, clock, words, process, store, ends, tape, &mut Open, most,
     );
+    watch.low_left(served.why);
     let looks = served.looks;
     if !is_left_so(served.why) {
         return Stayed {
@@ -153,7 +156,7 @@ fn visit<R: Wait, C: Link, K: Clock, W: Words, D: Disk, L: WaitLowEnd, O: Sink>(
 
 // One stay at the door, with at most `most` rounds. The first of them asks the door; a link that comes is
 // served, and then given back.
-fn stay<R: Wait, P: Door, K: Clock, W: Words, D: Disk, L: WaitLowEnd, O: Sink>(
+fn stay<R: Wait, P: Door, K: Clock, W: Words, D: Disk, L: WaitLowEnd, O: Sink, V: Watch>(
     rt: &R,
     door: &mut P,
     clock: &mut K,
@@ -162,6 +165,7 @@ fn stay<R: Wait, P: Door, K: Clock, W: Words, D: Disk, L: WaitLowEnd, O: Sink>(
     store: &mut LowStore<D>,
     ends: &mut L,
     tape: &mut O,
+    watch: &V,
     most: u64,
 ) -> Stayed
     requires ready { Ready D.told process.old store.old (L.stands ends.old) }
@@ -190,6 +194,7 @@ fn stay<R: Wait, P: Door, K: Clock, W: Words, D: Disk, L: WaitLowEnd, O: Sink>(
     clock.moment();
     match door.accept() {
         Accepted::Came(mut link) => {
+            watch.low_came();
             let visited = visit(
                 rt,
                 &mut link,
@@ -199,6 +204,7 @@ fn stay<R: Wait, P: Door, K: Clock, W: Words, D: Disk, L: WaitLowEnd, O: Sink>(
                 store,
                 ends,
                 tape,
+                watch,
                 most - 1,
             );
             door.back(link);
@@ -218,12 +224,13 @@ fn stay<R: Wait, P: Door, K: Clock, W: Words, D: Disk, L: WaitLowEnd, O: Sink>(
 /// A round without connection draws a moment, in microseconds, asks the door, and makes no look; a link
 /// that comes is served by `serve_low`, and given back to the door when its connection or the worker
 /// ends. After a link that failed or showed bad bytes the process makes a look with Gone, which counts as
-/// no round. A connection's failure ends that connection alone. The tape takes the record of all looks.
+/// no round. A connection's failure ends that connection alone. The tape takes the record of all looks, and
+/// the watch is told of each link.
 ///
 /// `Rounds` comes exactly where all rounds were made and nothing ended the worker. `Device` comes only
 /// where the disk's count of faults rose; the process is then down. `RecordFailed` comes only where the
 /// tape's count rose.
-pub fn low_rounds<R: Wait, P: Door, K: Clock, W: Words, D: Disk, L: WaitLowEnd, O: Sink>(
+pub fn low_rounds<R: Wait, P: Door, K: Clock, W: Words, D: Disk, L: WaitLowEnd, O: Sink, V: Watch>(
     rt: &R,
     door: &mut P,
     clock: &mut K,
@@ -232,6 +239,7 @@ pub fn low_rounds<R: Wait, P: Door, K: Clock, W: Words, D: Disk, L: WaitLowEnd, 
     store: &mut LowStore<D>,
     ends: &mut L,
     tape: &mut O,
+    watch: &V,
     rounds: u32,
 ) -> RoundsEnd
     requires ready { Ready D.told process.old store.old (L.stands ends.old) }
@@ -270,6 +278,7 @@ pub fn low_rounds<R: Wait, P: Door, K: Clock, W: Words, D: Disk, L: WaitLowEnd, 
             store,
             ends,
             tape,
+            watch,
             most - made,
         );
         made += turn.looks;

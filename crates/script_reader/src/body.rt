@@ -1,5 +1,5 @@
 // The bytes that come with a line.
-ghost use Rattle.std.specs.Prelude.{◌≡◌, ◌<◌, ◌≤◌, [], ◌∷◌, ◌++◌, length, Some, None, if◌then◌else◌};
+ghost use Rattle.std.specs.Prelude.{◌≡◌, ◌≤◌, [], length, Some, None, if◌then◌else◌};
 ghost use Rattle.script_reader.specs.Parsing.{bytes_from};
 ghost use Rattle.hex.specs.Hex.{decode_sized};
 

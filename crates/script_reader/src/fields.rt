@@ -1,5 +1,5 @@
 // The fields of a line, read one by one.
-ghost use Rattle.std.specs.Prelude.{◌≡◌, ℕ, ◌+◌, ◌^◌, ◌<◌, ◌≤◌, List, [], ◌∷◌, length, decimal, IsSome, IfSome, IfNone, MatchOption, IsTrue, ◌↔◌, option_map, position};
+ghost use Rattle.std.specs.Prelude.{◌≡◌, ℕ, ◌+◌, ◌^◌, ◌<◌, ◌≤◌, List, [], ◌∷◌, length, IsSome, IfSome, MatchOption, IsTrue, ◌↔◌, option_map, position};
 ghost use Rattle.std.specs.Option.{option_copied};
 ghost use Rattle.script_reader.specs.Fields.{is_space};
 ghost use Rattle.script_reader.specs.Parsing.{Reads, field_at, IsPlain, number, word, name, choice, is_slash, pair, feedback, hex, raw, held_from};

@@ -9,7 +9,7 @@ mod fault;
 mod fields;
 mod generator;
 mod head;
-mod laws;
+pub mod laws;
 mod line;
 mod line_printing;
 mod lines;

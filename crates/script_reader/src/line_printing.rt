@@ -1,12 +1,12 @@
 // Printing the lines of a script.
-ghost use Rattle.std.specs.Prelude.{◌≡◌, ℕ, ◌+◌, ◌*◌, ◌≤◌, ◌<◌, ◌^◌, [], ◌∷◌, ◌++◌, length, codes, decimal};
+ghost use Rattle.std.specs.Prelude.{◌≡◌, ◌+◌, ◌*◌, ◌≤◌, ◌<◌, ◌^◌, [], ◌∷◌, ◌++◌, length, codes, decimal};
 ghost use Rattle.arrayvec.specs.ArrayVec.{array_vec_len};
 ghost use Rattle.pump_frame.specs.Names.{IsName};
-ghost use Rattle.script_reader.specs.Grammar.{IsWord, IsLine, row_fields, outcome_field, held_field};
+ghost use Rattle.script_reader.specs.Grammar.{IsWord, IsLine, row_fields, outcome_field};
 ghost use Rattle.script_reader.specs.Lawful.{IsLawfulLine};
 ghost use Rattle.script_reader.specs.Heads.{arriving_with, line_with, CanHold, CanHoldLine};
-ghost use Rattle.script_reader.specs.Spelling.{word_field, hex_field, arriving_fields, feedback_field, line_spelling, line_text};
-ghost use Rattle.script_reader.specs.Typed.{behind, IsBehind, IsPrinted, IsTypedRow, IsTypedArriving, IsTypedFeedback, IsPutLine};
+ghost use Rattle.script_reader.specs.Spelling.{word_field, arriving_fields, feedback_field, line_spelling, line_text};
+ghost use Rattle.script_reader.specs.Typed.{behind, IsBehind, IsTypedRow, IsTypedArriving, IsTypedFeedback, IsPutLine};
 
 use crate::head::{ArrivingHead, LineHead};
 use crate::line::{Line, ToldFeedback};

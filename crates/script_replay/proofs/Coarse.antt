@@ -1,6 +1,6 @@
 -- A session that is made coarse.
-use Rattle.std.proofs.Common.{◌≡◌, ◌≤◌, ℕ, ◌==◌, arith, Bool, true, false, not, List, [], ◌∷◌, Option, Some, None, refl, sym, ap, ◌∙◌, subst}
-use Rattle.std.specs.Prelude.{◌&&◌, ◌||◌, if◌then◌else◌}
+use Rattle.std.proofs.Common.{◌≡◌, ◌≤◌, ℕ, arith, Bool, true, false, not, List, [], ◌∷◌, Some, refl, sym, ap, ◌∙◌, subst}
+use Rattle.std.specs.Prelude.{◌&&◌, if◌then◌else◌}
 use Rattle.std.proofs.lemmas.Bool.{eq-eqb}
 use Rattle.disk_model.specs.Disk.{Meaning}
 use Rattle.disk_model.specs.declared.disk.Disk.{Ghosts}
@@ -13,7 +13,7 @@ use Rattle.script_reader.specs.Alone.{PastAlone}
 use Rattle.script_reader.specs.Openings.{Openings, Found}
 use Rattle.script_reader.specs.Past.{Past}
 use Rattle.script_reader.specs.Scripts.{Begun, Whole, Alone, coarsened, made_coarse, may_coarsen}
-use Rattle.script_reader.specs.Sessions.{Sessions as Script, session_number, begins_session, stands_first, is_in_turn, is_from, moment_in}
+use Rattle.script_reader.specs.Sessions.{Sessions as Script, session_number, begins_session, stands_first, is_in_turn}
 use Rattle.script_reader.specs.declared.line.Line.{Line}
 use Rattle.script_reader.specs.declared.line.Line.TheVariants as lines
 use Rattle.two_worlds.specs.Openings.{readied, StandForFound}

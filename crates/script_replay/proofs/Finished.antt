@@ -1,23 +1,16 @@
 -- The end of a session is printed last.
-use Rattle.std.proofs.Common.{◌≡◌, ℕ, List, [], ◌∷◌, ◌++◌, option_to_list, Option, None, Some, Result, OnErr, refl, sym, ap, ◌∙◌, subst}
+use Rattle.std.proofs.Common.{◌≡◌, ℕ, [], ◌∷◌, None, Some, refl, sym, ap, ◌∙◌, subst}
 use Rattle.disk_model.specs.Disk.{Meaning}
 use Rattle.disk_model.specs.declared.disk.Disk.{Ghosts}
-use Rattle.pump_link.specs.Causes.{AppendsFront}
 use Rattle.script_reader.specs.declared.event.Event.{Event}
 use Rattle.script_reader.specs.declared.event.Event.TheVariants.{End}
-use Rattle.script_reader.specs.declared.event.EventHead.{EventHead}
-use Rattle.script_reader.specs.EventHeads.{event_of}
 use Rattle.script_reader.specs.Alone.{PastAlone}
 use Rattle.script_reader.specs.Scripts.{Begun, Whole, Alone, Ends, IsEndAlone}
-use Rattle.script_reader.specs.Transcript.{event_line, text}
 use Rattle.two_worlds.specs.LowPumps as low_pump
 use Rattle.two_worlds.specs.declared.low_pump.LowPump.{LowPump}
-use Rattle.two_worlds.specs.Printing.{lines_in}
 use Rattle.script_replay.specs.declared.session.Session.{Session}
 use Rattle.script_replay.specs.declared.session.Session.TheVariants as sessions
 use Rattle.script_replay.specs.Sessions.{StandsFor}
-use Rattle.script_replay.specs.Outputs.{Gathers}
-use Rattle.script_replay.proofs.Gathered.{text-one, held_front}
 
 module _ {D : Type 0} {g : Ghosts D} (d : Meaning D) where
   pub alone_ends : (before : Session D g) (id : ℕ) (p : LowPump) (next : ℕ) → before ≡ sessions.Alone id p

@@ -34,7 +34,7 @@ use Rattle.script_replay.specs.Lending.{IsOutAt}
 use Rattle.script_replay.specs.Shelves.{Places, disk_name, reading_in, reading_at, HasFound, IsRefusedFor, LeavesSession, LeavesOtherSessions, SparesSession, ReadiesSession, AllAreBack}
 use Rattle.script_replay.specs.Sessions.{id_of, is_coarse, IsUp, StandsFor, StandsForRunning, HasComeTo, IsCutShort, SessionApplies, LendsNew, Lends, GoesOnWith, FailedWith, HasFailed, found_at, with_begun, place_in, is_of_number, IsPlaced, Rise, EachStandsFor, AllStandFor, AllHaveComeTo, AllLend}
 use Rattle.script_replay.specs.Outputs.{Gathers}
-use Rattle.script_replay.specs.Runners.{AreUp, AllAreUp, outcome_of, Finds, LeadsFrom, OneLeadsFrom, IsNotOpened, Begins, GoesSo, BeginsNone, TurnGoes, TurnStops, IsInStep, BeginDoes, Adds, TurnDoes, HandsOver, AllHandOver, IsDeviceOutcomeOf}
+use Rattle.script_replay.specs.Runners.{AreUp, AllAreUp, outcome_of, Finds, LeadsFrom, OneLeadsFrom, IsNotOpened, Begins, GoesSo, BeginsNone, TurnGoes, TurnStops, IsInStep, BeginDoes, TurnDoes, HandsOver, AllHandOver, IsDeviceOutcomeOf}
 use Rattle.script_replay.proofs.Coarse.{coarse_leads, may_so}
 use Rattle.script_replay.proofs.Gathered.{gathers_none}
 use Rattle.script_replay.proofs.Going.{leads_from}

@@ -6,7 +6,7 @@ use Rattle.script_reader.specs.declared.event.Event.{Event}
 use Rattle.script_reader.specs.declared.line.Line.{Line}
 use Rattle.script_reader.specs.declared.line.Line.TheVariants as lines
 use Rattle.script_reader.specs.Openings.{Openings, Found, CanOpen, first_past}
-use Rattle.script_reader.specs.Scripts.{Begun, Whole, Alone, GoesOn, IsNew, made_coarse, may_coarsen, Leads}
+use Rattle.script_reader.specs.Scripts.{Begun, Whole, Alone, GoesOn, IsNew, may_coarsen, Leads}
 use Rattle.script_reader.specs.Sessions.{Sessions, no_sessions, session_number, session_in, stands_first, session_at, led_to, is_in_turn, LeadsOne, ScriptLeads, ScriptLeadsTo}
 use Rattle.script_reader.proofs.Apart.{session_at-own, session_at-other, found_number}
 use Rattle.script_reader.proofs.Beside.{beside, has_number}

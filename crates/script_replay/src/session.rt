@@ -8,7 +8,7 @@ ghost use Rattle.script_reader.specs.EventHeads.{event_of};
 ghost use Rattle.script_reader.specs.Heads.{line_with, CanHoldLine};
 ghost use Rattle.script_reader.specs.Grammar.{IsCount};
 ghost use Rattle.script_reader.specs.Alone.{fresh_alone};
-ghost use Rattle.script_reader.specs.Scripts.{Begun, RunningAlone, Alone, Ends, made_coarse};
+ghost use Rattle.script_reader.specs.Scripts.{Begun, Alone, Ends, made_coarse};
 ghost use Rattle.script_reader.specs.Sessions.{moment_of, stands_first};
 ghost use Rattle.two_worlds.specs.declared.applied.Stop.TheVariants as stops;
 ghost use Rattle.two_worlds.specs.Printing.{lines_in};

@@ -1,10 +1,9 @@
 -- What the high worker did, from the run of its half.
-use Rattle.std.proofs.Common.{◌≡◌, ℕ, ◌≤◌, false, List, Option, Some, IfSome, sym, ap, ◌∙◌, subst, arith}
+use Rattle.std.proofs.Common.{◌≡◌, ℕ, ◌≤◌, false, Option, Some, IfSome, sym, ap, ◌∙◌, subst, arith}
 use Rattle.std.specs.List.{AllByRecursion}
 use Rattle.disk_model.specs.Disk.{Meaning}
 use Rattle.pump_frame.specs.declared.frame.Item.{Item}
 use Rattle.pump_frame.specs.declared.row.SessionRow.{SessionRow}
-use Rattle.pump_link.specs.Ports.{PortsStep}
 use Rattle.pump_link.proofs.Grown.{Grows-all}
 use Rattle.stable_buffer.specs.High.{StandsForRemoved, high_disk}
 use Rattle.stable_buffer.specs.Stands.{HighStands}
@@ -13,51 +12,51 @@ use Rattle.high_process.specs.Looks.{StandsFor}
 use Rattle.high_process.specs.Past.{ProcessPast, fresh}
 use Rattle.high_process.specs.States.{row_of}
 use Rattle.high_process.specs.declared.process.HighProcess.{HighProcess}
-use Rattle.relay_threads.specs.HighStays.{AreStays, EndsStays, TellsVisit, is_broken, stayed}
+use Rattle.relay_threads.specs.HighStays.{AreStays, TellsVisit, is_broken, stayed}
 use Rattle.relay_threads.specs.Workers.{CountsEnd}
 use Rattle.relay_threads.specs.declared.rounds_end.RoundsEnd.{RoundsEnd}
 use Rattle.serving.specs.Doors.{DoorsTell}
 use Rattle.serving.specs.HighRuns.{HighLent}
 use Rattle.serving.specs.HighServing.{HighServed}
+use Rattle.relay_side.specs.Sides.{SideTells}
 use Rattle.serving.specs.declared.high_half.HighParts.{HighParts}
 use Rattle.serving.proofs.LowServes.{counts_from}
 
-module _ {D L S E : Type 0} (t : DoorsTell D L) (m : Meaning S) (row : SessionRow) (rounds : ℕ) (ports now_ports : List (PortsStep L D) → Type 0) (reads now_reads : List ℕ → Type 0)
+module _ {D L S E : Type 0} (t : DoorsTell D L) (m : Meaning S) (row : SessionRow) (rounds : ℕ) (side : SideTells D L)
     (removed : ℕ) (hand : Option Item) (parts : HighParts S E) (was store : HighStore S) (disk now_disk : S) (end : RoundsEnd)
-    (lent : HighLent t m ports now_ports reads now_reads row.high_port rounds parts store end)
+    (lent : HighLent t m side row.high_port rounds parts store end)
     (row_is : row_of parts.process ≡ row) (stands : StandsFor parts.process (fresh removed hand))
     (found : m.tells → HighStands row removed (m.reading disk)) (next : IfSome hand (λ item. item.number ≡ removed))
     (store_was : parts.store ≡ was) (now_is : now_disk ≡ high_disk store) (counts : m.count disk ≤ m.count (high_disk was)) where
   abbrev p : HighProcess
-  p = lent.v.parts.process
+  p = parts.process
 
   abbrev q : HighProcess
-  q = lent.w.parts.process
+  q = lent.now_parts.process
 
   row_before : row_of p ≡ row
-  row_before = ap (λ (x : HighParts S E). row_of x.process) lent.parts_are ∙ row_is
+  row_before = row_is
 
   stood : StandsFor p (fresh removed hand)
-  stood = subst (λ (x : HighParts S E). StandsFor x.process (fresh removed hand)) (sym lent.parts_are) stands
+  stood = stands
 
   -- the disk at the end is that of the half
-  now_disk_is : high_disk lent.w.parts.store ≡ now_disk
+  now_disk_is : high_disk lent.now_parts.store ≡ now_disk
   now_disk_is = ap high_disk lent.store_is ∙ sym now_is
 
-  first_counts : m.count disk ≤ m.count (high_disk lent.v.parts.store)
-  first_counts = subst (λ (x : HighStore S). m.count disk ≤ m.count (high_disk x)) (sym (ap (λ (x : HighParts S E). x.store) lent.parts_are ∙ store_was)) counts
+  first_counts : m.count disk ≤ m.count (high_disk parts.store)
+  first_counts = subst (λ (x : HighStore S). m.count disk ≤ m.count (high_disk x)) (sym store_was) counts
 
   abbrev past : ProcessPast
   past = stayed row (fresh removed hand) lent.ran.stays
 
   left_by : is_broken (Some end) ≡ false → m.tells → StandsForRemoved past.removed (m.reading now_disk)
   left_by sound told =
-      let up = ap (λ (e : RoundsEnd). is_broken (Some e)) lent.end_is ∙ sound in
-      let has = lent.ran.store up in
+      let has = lent.ran.store sound in
       let stands = subst (λ (r : SessionRow). StandsFor q (stayed r (fresh removed hand) lent.ran.stays)) row_before (lent.ran.so.past has.up (fresh removed hand) stood) in
       subst (λ (x : ℕ × S). StandsForRemoved x.0 (m.reading x.1)) (λ i. ((has.count ∙ stands.holds.removed) i, now_disk_is i)) (has.ready.stands told)
 
-  pub high_served : HighServed t m row rounds ports now_ports reads now_reads disk now_disk end
+  pub high_served : HighServed t m row rounds side disk now_disk end
   high_served = record {
     removed = removed;
     hand = hand;
@@ -65,10 +64,10 @@ module _ {D L S E : Type 0} (t : DoorsTell D L) (m : Meaning S) (row : SessionRo
     next = next;
     stays = lent.ran.stays;
     are = subst (λ (r : SessionRow). AreStays r (fresh removed hand) lent.ran.stays) row_before (lent.ran.so.rule (fresh removed hand) stood);
-    ends = subst (λ (e : RoundsEnd). EndsStays lent.ran.stays rounds e) lent.end_is lent.ran.ends;
+    ends = lent.ran.ends;
     at = record {
-      opened = lent.v.door;
-      shut = lent.w.door;
+      opened = lent.opened;
+      shut = lent.shut;
       in_call = lent.in_call;
       is_port = lent.ran.port row.high_port lent.is_port;
       did = Grows-all _ _ _ lent.fresh lent.ran.did;
@@ -77,8 +76,8 @@ module _ {D L S E : Type 0} (t : DoorsTell D L) (m : Meaning S) (row : SessionRo
     links = subst (λ (r : SessionRow). AllByRecursion (TellsVisit t.links.gives t.links.sent t.links.faults r.id) lent.ran.stays) row_before lent.ran.links;
     moments = lent.ran.moments;
     left = left_by;
-    device = counts_from (Some end) (m.count disk) (m.count (high_disk lent.v.parts.store)) (m.count now_disk) first_counts
-        (subst (λ (x : RoundsEnd × S). CountsEnd (Some x.0) (m.count (high_disk lent.v.parts.store)) (m.count x.1)) (λ i. (lent.end_is i, now_disk_is i)) lent.ran.device);
+    device = counts_from (Some end) (m.count disk) (m.count (high_disk parts.store)) (m.count now_disk) first_counts
+        (subst (λ (x : S). CountsEnd (Some end) (m.count (high_disk parts.store)) (m.count x)) now_disk_is lent.ran.device);
   }
 
   -- the disk has not failed less often

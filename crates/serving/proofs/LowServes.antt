@@ -9,7 +9,6 @@ use Rattle.pump_frame.specs.Rows.{IsLawfulRow}
 use Rattle.pump_frame.specs.declared.frame.Item.{Item}
 use Rattle.pump_frame.specs.declared.row.SessionRow.{SessionRow}
 use Rattle.pump_link.specs.Causes.{AppendsFront, HasCause}
-use Rattle.pump_link.specs.Ports.{PortsStep}
 use Rattle.pump_link.proofs.Grown.{Grows-all, Draws-all}
 use Rattle.pump_core.specs.Exchanges.{Part, IsCut, count_after}
 use Rattle.pump_core.specs.History.{Opening}
@@ -37,9 +36,9 @@ use Rattle.relay_threads.specs.declared.rounds_end.RoundsEnd.{RoundsEnd}
 use Rattle.relay_threads.specs.declared.rounds_end.RoundsEnd.TheVariants as ends
 use Rattle.relay_threads.proofs.LowReplays.{stays_readable}
 use Rattle.serving.specs.Doors.{DoorsTell}
-use Rattle.serving.specs.LowEnds.{EndsLow}
 use Rattle.serving.specs.LowRuns.{LowLent, found_in, opening_text}
 use Rattle.serving.specs.LowServing.{FindsLow, LowServed, is_lost}
+use Rattle.relay_side.specs.Sides.{SideTells}
 use Rattle.serving.specs.declared.low_half.LowParts.{LowParts}
 
 -- the words of a stream of ChaCha20
@@ -91,9 +90,9 @@ lost_is (phases.Passing false) hand = refl
 lost_is (phases.Waiting number due) hand = refl
 lost_is phases.Down hand = refl
 
-module _ {D L S E : Type 0} (t : DoorsTell D L) (m : Meaning S) (stands : E → Low → High → Type 0) (shape : E → Shape) (row : SessionRow) (rounds : ℕ) (key : List ℕ) (ports now_ports : List (PortsStep L D) → Type 0) (reads now_reads : List ℕ → Type 0)
+module _ {D L S E : Type 0} (t : DoorsTell D L) (m : Meaning S) (stands : E → Low → High → Type 0) (shape : E → Shape) (row : SessionRow) (rounds : ℕ) (key : List ℕ) (side : SideTells D L)
     (written now_written : Option (List ℕ)) (faults now_faults next : ℕ) (hand : Option Item) (parts : LowParts ChaCha S E) (was store : LowStore S) (disk now_disk : S) (end : RoundsEnd)
-    (lent : LowLent t m words_given stands shape ports now_ports reads now_reads written now_written faults now_faults row.low_port rounds parts store end)
+    (lent : LowLent t m words_given stands shape side written now_written faults now_faults row.low_port rounds parts store end)
     (row_is : row_of parts.process ≡ row) (next_is : next_of parts.process ≡ next) (held_is : parts.is_held ≡ is_some hand)
     (lives : Lives parts.process (opening_of next hand) []) (words_are : parts.words ≡ record { key = key_of key; stream = 0; word_pos = 0 })
     (store_was : parts.store ≡ was) (now_is : now_disk ≡ low_disk store)
@@ -102,41 +101,41 @@ module _ {D L S E : Type 0} (t : DoorsTell D L) (m : Meaning S) (stands : E → 
   o = opening_of next hand
 
   abbrev p : LowProcess
-  p = lent.v.parts.process
+  p = parts.process
 
   abbrev q : LowProcess
-  q = lent.w.parts.process
+  q = lent.now_parts.process
 
   row_before : row_of p ≡ row
-  row_before = ap (λ (x : LowParts ChaCha S E). row_of x.process) lent.parts_are ∙ row_is
+  row_before = row_is
 
   row_after : row_of q ≡ row
   row_after = lent.ran.so.row ∙ row_before
 
   lived : Lives p o []
-  lived = subst (λ (x : LowParts ChaCha S E). Lives x.process o []) (sym lent.parts_are) lives
+  lived = lives
 
   lives_on : Lives q o (stayed [] lent.ran.stays)
   lives_on = lent.ran.so.lives o [] lived
 
   next_before : next_of p ≡ next
-  next_before = ap (λ (x : LowParts ChaCha S E). next_of x.process) lent.parts_are ∙ next_is
+  next_before = next_is
 
-  held_before : lent.v.parts.is_held ≡ is_some hand
-  held_before = ap (λ (x : LowParts ChaCha S E). x.is_held) lent.parts_are ∙ held_is
+  held_before : parts.is_held ≡ is_some hand
+  held_before = held_is
 
-  words_before : lent.v.parts.words ≡ record { key = key_of key; stream = 0; word_pos = 0 }
-  words_before = ap (λ (x : LowParts ChaCha S E). x.words) lent.parts_are ∙ words_are
+  words_before : parts.words ≡ record { key = key_of key; stream = 0; word_pos = 0 }
+  words_before = words_are
 
-  stands_for : m.tells → is_down q ≡ false → StandsForCount row (next_of q) (m.reading (low_disk lent.w.parts.store))
+  stands_for : m.tells → is_down q ≡ false → StandsForCount row (next_of q) (m.reading (low_disk lent.now_parts.store))
   stands_for told up =
       let has = lent.ran.store up in
-      subst (λ (x : SessionRow × ℕ). StandsForCount x.0 x.1 (m.reading (low_disk lent.w.parts.store))) (λ i. ((has.row ∙ row_after) i, has.count i)) (has.ready.stands told)
+      subst (λ (x : SessionRow × ℕ). StandsForCount x.0 x.1 (m.reading (low_disk lent.now_parts.store))) (λ i. ((has.row ∙ row_after) i, has.count i)) (has.ready.stands told)
 
   -- what is to be written is the record of all looks
-  record_is : opening_text lent.v.parts ++ text_in (row_of p) lent.ran.stays ≡ record_text row o (stayed [] lent.ran.stays)
+  record_is : opening_text parts ++ text_in (row_of p) lent.ran.stays ≡ record_text row o (stayed [] lent.ran.stays)
   record_is =
-      ap (λ (b : List ℕ). opening_text lent.v.parts ++ b) (lent.ran.is_record o lived)
+      ap (λ (b : List ℕ). opening_text parts ++ b) (lent.ran.is_record o lived)
       ∙ ap (λ (x : SessionRow × ℕ × Bool). first_text x.0 (record { count = x.1; is_held = x.2 }) ++ looks_text x.0 (record_of (stayed [] lent.ran.stays))) (λ i. (row_before i, next_before i, held_before i))
       ∙ append_assoc (line_text (opening_line row o)) (coarse_text row) (looks_text row (record_of (stayed [] lent.ran.stays)))
 
@@ -148,11 +147,11 @@ module _ {D L S E : Type 0} (t : DoorsTell D L) (m : Meaning S) (stands : E → 
   are_stays = subst (λ (r : SessionRow). AreStays r o [] lent.ran.stays) row_before (lent.ran.so.rule o [] lived)
 
   -- the disk at the end is that of the half
-  now_disk_is : low_disk lent.w.parts.store ≡ now_disk
+  now_disk_is : low_disk lent.now_parts.store ≡ now_disk
   now_disk_is = ap low_disk lent.store_is ∙ sym now_is
 
-  first_counts : m.count disk ≤ m.count (low_disk lent.v.parts.store)
-  first_counts = subst (λ (x : LowStore S). m.count disk ≤ m.count (low_disk x)) (sym (ap (λ (x : LowParts ChaCha S E). x.store) lent.parts_are ∙ store_was)) counts
+  first_counts : m.count disk ≤ m.count (low_disk parts.store)
+  first_counts = subst (λ (x : LowStore S). m.count disk ≤ m.count (low_disk x)) (sym store_was) counts
 
   abbrev lived_parts : List Part
   lived_parts = lives_on.stands.stands.parts
@@ -168,18 +167,16 @@ module _ {D L S E : Type 0} (t : DoorsTell D L) (m : Meaning S) (stands : E → 
 
   levels : IsEndOf stands shape parts.ends (row_of parts.process) → TellLevels row (stayed [] lent.ran.stays)
   levels end =
-      let here : IsEndOf stands shape lent.v.parts.ends (row_of p) = subst (λ (x : LowParts ChaCha S E). IsEndOf stands shape x.ends (row_of x.process)) (sym lent.parts_are) end in
-      subst (λ (z : SessionRow). TellLevels z (stayed [] lent.ran.stays)) row_before (lent.ran.levels here)
+      subst (λ (z : SessionRow). TellLevels z (stayed [] lent.ran.stays)) row_before (lent.ran.levels end)
 
   -- the end had read nothing before
   rising : (l : Low) (h : High) → l.pairs ≡ [] → StandsFitting (stands parts.ends) parts.process l h → NeverFall (pairs_of (stayed [] lent.ran.stays))
   rising l h none fits =
-      let here : StandsFitting (stands lent.v.parts.ends) p l h = subst (λ (x : LowParts ChaCha S E). StandsFitting (stands x.ends) x.process l h) (sym lent.parts_are) fits in
-      let read = lent.ran.pairs l h here in
+      let read = lent.ran.pairs l h fits in
       subst NeverFall (read.pairs_are ∙ ap (λ (ps : List (ℕ × ℕ)). ps ++ pairs_of (stayed [] lent.ran.stays)) none) (read.falls (subst NeverFall (sym none) tt))
 
   pub low_served : IsLawfulRow row → IsCount next (is_some hand) → IsEndOf stands shape parts.ends (row_of parts.process) → (l : Low) (h : High) → l.pairs ≡ [] → StandsFitting (stands parts.ends) parts.process l h
-      → LowServed t m row rounds key ports now_ports reads now_reads written now_written faults now_faults disk now_disk end
+      → LowServed t m row rounds key side written now_written faults now_faults disk now_disk end
   low_served lawful counted end_is_rows l h none fits = record {
     opening = o;
     found = found;
@@ -187,10 +184,10 @@ module _ {D L S E : Type 0} (t : DoorsTell D L) (m : Meaning S) (stands : E → 
     stays = lent.ran.stays;
     are = are_stays;
     made = subst (λ (r : SessionRow). AreMade r o (stayed [] lent.ran.stays)) row_after lives_on.are_made;
-    ends = subst (λ (e : RoundsEnd). EndsLow lent.ran.is_opened lent.ran.stays rounds e) lent.end_is lent.ran.ends;
+    ends = lent.ran.ends;
     at = record {
-      opened = lent.v.door;
-      shut = lent.w.door;
+      opened = lent.opened;
+      shut = lent.shut;
       in_call = lent.in_call;
       is_port = lent.ran.port row.low_port lent.is_port;
       did = Grows-all _ _ _ lent.fresh lent.ran.did;
@@ -198,14 +195,14 @@ module _ {D L S E : Type 0} (t : DoorsTell D L) (m : Meaning S) (stands : E → 
     };
     links = lent.ran.links;
     moments = lent.ran.moments;
-    words = subst (λ (s : ChaCha). words_given s (words_in lent.ran.stays)) words_before (Draws-all (words_given lent.v.parts.words) (words_given lent.w.parts.words) (words_in lent.ran.stays) (no_words lent.w.parts.words) lent.ran.words);
-    tape = subst (λ (x : RoundsEnd × List ℕ). Reaches (Appends written now_written) faults now_faults (is_kept_by (Some x.0)) x.1) (λ i. (lent.end_is i, record_is i)) lent.ran.tape;
+    words = subst (λ (s : ChaCha). words_given s (words_in lent.ran.stays)) words_before (Draws-all (words_given parts.words) (words_given lent.now_parts.words) (words_in lent.ran.stays) (no_words lent.now_parts.words) lent.ran.words);
+    tape = subst (Reaches (Appends written now_written) faults now_faults (is_kept_by (Some end))) record_is lent.ran.tape;
     readable = record { opening = (begins counted).opening; coarse = (begins counted).coarse; looks = stays_readable row o lent.ran.stays lawful are_stays };
     levels = levels end_is_rows;
     rising = rising l h none fits;
     left = λ told. (lived_parts, subst (λ (r : SessionRow). IsCut r (life_made o (stayed [] lent.ran.stays)) lived_parts) row_after lives_on.stands.stands.cut, left_by told);
-    device = counts_from (Some end) (m.count disk) (m.count (low_disk lent.v.parts.store)) (m.count now_disk) first_counts
-        (subst (λ (x : RoundsEnd × S). CountsEnd (Some x.0) (m.count (low_disk lent.v.parts.store)) (m.count x.1)) (λ i. (lent.end_is i, now_disk_is i)) lent.ran.device);
+    device = counts_from (Some end) (m.count disk) (m.count (low_disk parts.store)) (m.count now_disk) first_counts
+        (subst (λ (x : S). CountsEnd (Some end) (m.count (low_disk parts.store)) (m.count x)) now_disk_is lent.ran.device);
   }
 
   -- the disk has not failed less often

@@ -1,9 +1,11 @@
 -- What doors and links tell, and the door of one port in a call.
-use Rattle.std.specs.Prelude.{ℕ, ◌⊎◌, List, [], ◌∷◌, ◌++◌}
+use Rattle.std.specs.Prelude.{ℕ, ◌⊎◌, List, [], ◌∷◌}
+use Rattle.pump_frame.specs.Counts.{Rose}
 use Rattle.pump_link.specs.Doors.{DoorStep}
-use Rattle.pump_link.specs.Ports.{PortsStep, Listened, NoDoor, ShutDoor}
+use Rattle.pump_link.specs.Ports.{Listened, NoDoor, ShutDoor}
 use Rattle.pump_link.specs.Tells.{Draws, Grows}
 use Rattle.pump_link.specs.declared.link.Looked.{Looked}
+use Rattle.relay_side.specs.Sides.{AreUnused, PortsTell}
 
 -- what a link gives next, what was sent over it, and how often it failed
 pub record LinksTell (L : Type 0) : Type 1 where
@@ -24,29 +26,30 @@ links gives sent faults = record { gives = gives; sent = sent; faults = faults }
 abbrev pub doors : {D L : Type 0} → (D → ℕ → Type 0) → (D → List (DoorStep L) → Type 0) → (D → List (DoorStep L) → Type 0) → LinksTell L → DoorsTell D L
 doors port did gives tell = record { port = port; did = did; gives = gives; links = tell }
 
--- In what the ports did, the door of this port was opened, and shut again.
-pub record IsOpenedAndShut {D L : Type 0} (ports now_ports : List (PortsStep L D) → Type 0) (port : ℕ) (opened shut : D) : Type 0 where
-  pub before : List (PortsStep L D)
-  pub between : List (PortsStep L D)
-  pub after : List (PortsStep L D)
-  pub did : Grows ports now_ports (before ++ Listened port opened ∷ between ++ ShutDoor shut ∷ after)
+-- The ports of a side did this alone: they opened a door of this port, and shut it again.
+abbrev pub IsOpenedAndShut : {D L : Type 0} → PortsTell D L → ℕ → D → D → Type 0
+IsOpenedAndShut ports port opened shut = Grows ports.did ports.now_did (Listened port opened ∷ ShutDoor shut ∷ [])
 
--- A door of this port was opened and shut. These are all its steps, and these its answers.
-pub record AtDoor {D L : Type 0} (t : DoorsTell D L) (ports now_ports : List (PortsStep L D) → Type 0) (port : ℕ) (steps answers : List (DoorStep L)) : Type 0 where
+-- .. with some door, and these are all its steps, and these its answers.
+pub record AtDoor {D L : Type 0} (t : DoorsTell D L) (ports : PortsTell D L) (port : ℕ) (steps answers : List (DoorStep L)) : Type 0 where
   pub opened : D
   pub shut : D
-  pub in_call : IsOpenedAndShut ports now_ports port opened shut
+  pub in_call : IsOpenedAndShut ports port opened shut
   pub is_port : t.port shut port
   pub did : t.did shut steps
   pub gave : Draws (t.gives opened) (t.gives shut) answers
 
--- The doors of both ports were opened, and shut again.
-abbrev pub OpensAndShuts : {D L : Type 0} → (List (PortsStep L D) → Type 0) → (List (PortsStep L D) → Type 0) → ℕ → ℕ → Type 0
-OpensAndShuts {D} {L} ports now_ports first second =
-    (low : D) × (high : D) × Grows ports now_ports (Listened first low ∷ Listened second high ∷ ShutDoor low ∷ ShutDoor high ∷ [])
+-- .. with some door that nobody used.
+abbrev pub OpensAndShuts : {D L : Type 0} → PortsTell D L → ℕ → Type 0
+OpensAndShuts {D} ports port = (door : D) × IsOpenedAndShut ports port door door
 
--- A door was wanting: that of the first port, or that of the second one, and then the first was shut.
-abbrev pub WantDoor : {D L : Type 0} → (List (PortsStep L D) → Type 0) → (List (PortsStep L D) → Type 0) → ℕ → ℕ → Type 0
-WantDoor {D} {L} ports now_ports first second =
-    Grows ports now_ports (NoDoor first ∷ [])
-    ⊎ ((door : D) × Grows ports now_ports (Listened first door ∷ NoDoor second ∷ ShutDoor door ∷ []))
+-- The ports of a side gave no door for this port, and they failed then.
+abbrev pub GiveNoDoor : {D L : Type 0} → PortsTell D L → ℕ → Type 0
+GiveNoDoor ports port = Grows ports.did ports.now_did (NoDoor port ∷ []) × Rose ports.faults ports.now_faults
+
+-- A door was wanting: that of the low port, and the high side's ports were not used; or that of the high port, and the low
+-- door was opened and shut.
+abbrev pub WantDoor : {D L : Type 0} → PortsTell D L → PortsTell D L → ℕ → ℕ → Type 0
+WantDoor low high low_port high_port =
+    (GiveNoDoor low low_port × AreUnused high)
+    ⊎ (OpensAndShuts low low_port × GiveNoDoor high high_port)

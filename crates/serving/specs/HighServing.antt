@@ -4,7 +4,6 @@ use Rattle.std.specs.List.{AllByRecursion}
 use Rattle.disk_model.specs.Disk.{Meaning}
 use Rattle.pump_frame.specs.declared.frame.Item.{Item}
 use Rattle.pump_frame.specs.declared.row.SessionRow.{SessionRow}
-use Rattle.pump_link.specs.Ports.{PortsStep}
 use Rattle.pump_link.specs.Tells.{Draws}
 use Rattle.stable_buffer.specs.High.{StandsForRemoved}
 use Rattle.stable_buffer.specs.Stands.{HighStands}
@@ -13,10 +12,11 @@ use Rattle.relay_threads.specs.Workers.{CountsEnd}
 use Rattle.relay_threads.specs.HighStays.{Stay, AreStays, EndsStays, TellsVisit, is_broken, stayed, steps, answers, moments_in}
 use Rattle.relay_threads.specs.declared.rounds_end.RoundsEnd.{RoundsEnd}
 use Rattle.serving.specs.Doors.{DoorsTell, AtDoor}
+use Rattle.relay_side.specs.Sides.{SideTells}
 
--- The high worker made its rounds, or ended before: at a door of the row's high port, by the readings of its
--- clock, over the high disk. Nothing here speaks of the low worker.
-pub record HighServed {D L S : Type 0} (t : DoorsTell D L) (m : Meaning S) (row : SessionRow) (rounds : ℕ) (ports now_ports : List (PortsStep L D) → Type 0) (reads now_reads : List ℕ → Type 0) (disk now_disk : S) (end : RoundsEnd) : Type 0 where
+-- The high worker made its rounds, or ended before: at a door of the row's high port, by the readings of the high
+-- side's clock, over the high disk. Nothing here speaks of the low side.
+pub record HighServed {D L S : Type 0} (t : DoorsTell D L) (m : Meaning S) (row : SessionRow) (rounds : ℕ) (side : SideTells D L) (disk now_disk : S) (end : RoundsEnd) : Type 0 where
   -- how many messages were found removed, and the next one in the hand, if there was one
   pub removed : ℕ
   pub hand : Option Item
@@ -26,9 +26,9 @@ pub record HighServed {D L S : Type 0} (t : DoorsTell D L) (m : Meaning S) (row 
   pub stays : List (Stay L)
   pub are : AreStays row (fresh removed hand) stays
   pub ends : EndsStays stays rounds end
-  pub at : AtDoor t ports now_ports row.high_port (steps stays) (answers stays)
+  pub at : AtDoor t side.ports row.high_port (steps stays) (answers stays)
   pub links : AllByRecursion (TellsVisit t.links.gives t.links.sent t.links.faults row.id) stays
-  pub moments : Draws reads now_reads (moments_in stays)
+  pub moments : Draws side.reads side.now_reads (moments_in stays)
   -- the disk counts what was removed, unless it failed
   pub left : is_broken (Some end) ≡ false → m.tells → StandsForRemoved (stayed row (fresh removed hand) stays).removed (m.reading now_disk)
   pub device : CountsEnd (Some end) (m.count disk) (m.count now_disk)

@@ -1,9 +1,9 @@
 -- What a run of the low worker makes of its half. It serves the private functions and the proofs.
-use Rattle.std.specs.Prelude.{◌≡◌, ℕ, ◌≤◌, Bool, List, [], ◌++◌, Option, Some}
+use Rattle.std.specs.Prelude.{◌≡◌, ℕ, ◌≤◌, Bool, List, [], ◌∷◌, ◌++◌, Option, Some, None}
 use Rattle.std.specs.List.{AllByRecursion}
 use Rattle.std.specs.Io.KnownBytes.{Appends}
 use Rattle.disk_model.specs.Disk.{Meaning}
-use Rattle.pump_link.specs.Ports.{PortsStep}
+use Rattle.pump_link.specs.Ports.{ShutDoor}
 use Rattle.pump_link.specs.Tells.{Draws, Grows}
 use Rattle.pump_core.specs.History.{Opening}
 use Rattle.pump_core.specs.Passage.{Shape, Low, High}
@@ -23,7 +23,7 @@ use Rattle.relay_threads.specs.Workers.{CountsEnd}
 use Rattle.relay_threads.specs.declared.rounds_end.RoundsEnd.{RoundsEnd}
 use Rattle.serving.specs.Doors.{DoorsTell, IsOpenedAndShut}
 use Rattle.serving.specs.LowEnds.{EndsLow}
-use Rattle.serving.specs.declared.low_half.LowHalf.{LowHalf}
+use Rattle.relay_side.specs.Sides.{SideTells}
 use Rattle.serving.specs.declared.low_half.LowParts.{LowParts}
 
 -- what was found at the opening
@@ -34,36 +34,46 @@ found_in parts = record { count = next_of parts.process; is_held = parts.is_held
 abbrev pub opening_text : {W S E : Type 0} → LowParts W S E → List ℕ
 opening_text parts = first_text (row_of parts.process) (found_in parts)
 
--- the stays at its door lead from v to w
-pub record LowRan {R L W S E : Type 0} (t : DoorsTell R L) (m : Meaning S) (gives : W → List ℕ → Type 0) (stands : E → Low → High → Type 0) (shape : E → Shape) (reads now_reads : List ℕ → Type 0) (written now_written : Option (List ℕ)) (faults now_faults rounds : ℕ) (v w : LowHalf R W S E) : Type 0 where
+-- the stays at its door, which was the one and is the other, lead from these parts to those
+pub record LowRan {R L W S E : Type 0} (t : DoorsTell R L) (m : Meaning S) (gives : W → List ℕ → Type 0) (stands : E → Low → High → Type 0) (shape : E → Shape) (reads now_reads : List ℕ → Type 0)
+    (written now_written : Option (List ℕ)) (faults now_faults rounds : ℕ) (opened shut : R) (v w : LowParts W S E) (end : RoundsEnd) : Type 0 where
   pub is_opened : Bool
   pub stays : List (Stay L)
-  pub so : StaysSo v.parts.process w.parts.process stays
-  pub ends : EndsLow is_opened stays rounds w.end
-  pub did : Grows (t.did v.door) (t.did w.door) (steps stays)
-  pub gave : Draws (t.gives v.door) (t.gives w.door) (answers stays)
-  pub port : (n : ℕ) → t.port v.door n → t.port w.door n
+  pub so : StaysSo v.process w.process stays
+  pub ends : EndsLow is_opened stays rounds end
+  pub did : Grows (t.did opened) (t.did shut) (steps stays)
+  pub gave : Draws (t.gives opened) (t.gives shut) (answers stays)
+  pub port : (n : ℕ) → t.port opened n → t.port shut n
   pub links : AllByRecursion (TellsVisit t.links.gives t.links.sent t.links.faults) stays
   pub moments : Draws reads now_reads (moments_in stays)
-  pub words : Draws (gives v.parts.words) (gives w.parts.words) (words_in stays)
-  pub tape : Reaches (Appends written now_written) faults now_faults (is_kept_by (Some w.end)) (opening_text v.parts ++ text_in (row_of v.parts.process) stays)
-  pub begins : IsCount (found_in v.parts).count (found_in v.parts).is_held → BeginsReadable (row_of v.parts.process) (found_in v.parts)
-  pub levels : IsEndOf stands shape v.parts.ends (row_of v.parts.process) → TellLevels (row_of v.parts.process) (stayed [] stays)
-  pub pairs : ReadsPairs stands v.parts.ends w.parts.ends v.parts.process w.parts.process (stayed [] stays)
-  pub is_record : (o : Opening) → Lives v.parts.process o [] → IsRecord (row_of v.parts.process) stays
-  pub store : HasStore m w.parts.process w.parts.store
-  pub counts : m.count (low_disk v.parts.store) ≤ m.count (low_disk w.parts.store)
-  pub device : CountsEnd (Some w.end) (m.count (low_disk v.parts.store)) (m.count (low_disk w.parts.store))
+  pub words : Draws (gives v.words) (gives w.words) (words_in stays)
+  pub tape : Reaches (Appends written now_written) faults now_faults (is_kept_by (Some end)) (opening_text v ++ text_in (row_of v.process) stays)
+  pub begins : IsCount (found_in v).count (found_in v).is_held → BeginsReadable (row_of v.process) (found_in v)
+  pub levels : IsEndOf stands shape v.ends (row_of v.process) → TellLevels (row_of v.process) (stayed [] stays)
+  pub pairs : ReadsPairs stands v.ends w.ends v.process w.process (stayed [] stays)
+  pub is_record : (o : Opening) → Lives v.process o [] → IsRecord (row_of v.process) stays
+  pub store : HasStore m w.process w.store
+  pub counts : m.count (low_disk v.store) ≤ m.count (low_disk w.store)
+  pub device : CountsEnd (Some end) (m.count (low_disk v.store)) (m.count (low_disk w.store))
+
+-- .. at the door that the half had, which it has no more: it was shut, and nothing else was done at the ports of the side
+pub record LowDone {R L W S E : Type 0} (t : DoorsTell R L) (m : Meaning S) (gives : W → List ℕ → Type 0) (stands : E → Low → High → Type 0) (shape : E → Shape) (side : SideTells R L)
+    (written now_written : Option (List ℕ)) (faults now_faults rounds : ℕ) (door now_door : Option R) (v w : LowParts W S E) (end : RoundsEnd) : Type 0 where
+  pub opened : R
+  pub shut : R
+  pub had : door ≡ Some opened
+  pub has_none : now_door ≡ None
+  pub did : Grows side.ports.did side.ports.now_did (ShutDoor shut ∷ [])
+  pub ran : LowRan t m gives stands shape side.reads side.now_reads written now_written faults now_faults rounds opened shut v w end
 
 -- .. of these parts, at a door of this port that was opened and shut
-pub record LowLent {R L W S E : Type 0} (t : DoorsTell R L) (m : Meaning S) (gives : W → List ℕ → Type 0) (stands : E → Low → High → Type 0) (shape : E → Shape) (ports now_ports : List (PortsStep L R) → Type 0) (reads now_reads : List ℕ → Type 0)
+pub record LowLent {R L W S E : Type 0} (t : DoorsTell R L) (m : Meaning S) (gives : W → List ℕ → Type 0) (stands : E → Low → High → Type 0) (shape : E → Shape) (side : SideTells R L)
     (written now_written : Option (List ℕ)) (faults now_faults port rounds : ℕ) (parts : LowParts W S E) (store : LowStore S) (end : RoundsEnd) : Type 0 where
-  pub v : LowHalf R W S E
-  pub w : LowHalf R W S E
-  pub parts_are : v.parts ≡ parts
-  pub store_is : w.parts.store ≡ store
-  pub end_is : w.end ≡ end
-  pub fresh : t.did v.door []
-  pub is_port : t.port v.door port
-  pub in_call : IsOpenedAndShut ports now_ports port v.door w.door
-  pub ran : LowRan t m gives stands shape reads now_reads written now_written faults now_faults rounds v w
+  pub opened : R
+  pub shut : R
+  pub now_parts : LowParts W S E
+  pub store_is : now_parts.store ≡ store
+  pub fresh : t.did opened []
+  pub is_port : t.port opened port
+  pub in_call : IsOpenedAndShut side.ports port opened shut
+  pub ran : LowRan t m gives stands shape side.reads side.now_reads written now_written faults now_faults rounds opened shut parts now_parts end

@@ -6,7 +6,6 @@ use Rattle.rand_chacha.specs.ChaCha.{key_of}
 use Rattle.delay_table.specs.Streams.{AreWords}
 use Rattle.disk_model.specs.Disk.{Meaning}
 use Rattle.pump_frame.specs.declared.row.SessionRow.{SessionRow}
-use Rattle.pump_link.specs.Ports.{PortsStep}
 use Rattle.pump_link.specs.Tells.{Draws}
 use Rattle.pump_core.specs.Exchanges.{Part, IsCut, count_after}
 use Rattle.pump_core.specs.History.{Opening}
@@ -25,6 +24,7 @@ use Rattle.relay_threads.specs.Workers.{CountsEnd}
 use Rattle.relay_threads.specs.declared.rounds_end.RoundsEnd.{RoundsEnd}
 use Rattle.serving.specs.Doors.{DoorsTell, AtDoor}
 use Rattle.serving.specs.LowEnds.{EndsLow}
+use Rattle.relay_side.specs.Sides.{SideTells}
 
 -- the low disk stands for the count of the opening, and for the messages from some number on; the last of
 -- them is held exactly where all slots are taken
@@ -37,9 +37,9 @@ abbrev pub is_lost : Phase → Bool
 is_lost Down = true
 is_lost _ = false
 
--- The low worker made its rounds, or ended before: at a door of the row's low port, by the readings of its
--- clock, with the words of the key, over the low disk. Nothing here speaks of the high worker.
-pub record LowServed {D L S : Type 0} (t : DoorsTell D L) (m : Meaning S) (row : SessionRow) (rounds : ℕ) (key : List ℕ) (ports now_ports : List (PortsStep L D) → Type 0) (reads now_reads : List ℕ → Type 0)
+-- The low worker made its rounds, or ended before: at a door of the row's low port, by the readings of the low
+-- side's clock, with the words of the key, over the low disk. Nothing here speaks of the high side.
+pub record LowServed {D L S : Type 0} (t : DoorsTell D L) (m : Meaning S) (row : SessionRow) (rounds : ℕ) (key : List ℕ) (side : SideTells D L)
     (written now_written : Option (List ℕ)) (faults now_faults : ℕ) (disk now_disk : S) (end : RoundsEnd) : Type 0 where
   -- what was found at the opening
   pub opening : Opening
@@ -50,9 +50,9 @@ pub record LowServed {D L S : Type 0} (t : DoorsTell D L) (m : Meaning S) (row :
   pub are : AreStays row opening [] stays
   pub made : AreMade row opening (stayed [] stays)
   pub ends : EndsLow is_opened stays rounds end
-  pub at : AtDoor t ports now_ports row.low_port (steps stays) (answers stays)
+  pub at : AtDoor t side.ports row.low_port (steps stays) (answers stays)
   pub links : AllByRecursion (TellsVisit t.links.gives t.links.sent t.links.faults) stays
-  pub moments : Draws reads now_reads (moments_in stays)
+  pub moments : Draws side.reads side.now_reads (moments_in stays)
   pub words : AreWords (key_of key) 0 0 (words_in stays)
   -- the record of these looks was written, or a front of it
   pub tape : Reaches (Appends written now_written) faults now_faults (is_kept_by (Some end)) (record_text row opening (stayed [] stays))

@@ -1,9 +1,6 @@
 // Both workers of a session, each at the door of its own port.
-ghost use Rattle.std.specs.Prelude.{◌≡◌, ◌≤◌, false, [], ◌∷◌, IfOk, IfErr, OnErr};
-ghost use Rattle.disk_model.specs.Disk.{Meaning};
-ghost use Rattle.pump_frame.specs.Counts.{Rose};
-ghost use Rattle.pump_link.specs.Causes.{HasCause};
-ghost use Rattle.pump_link.specs.Ports.{Listened};
+ghost use Rattle.std.specs.Prelude.{◌≡◌, ◌≤◌, false, [], ◌∷◌, None, IfOk, IfErr, IfSome, OnErr};
+ghost use Rattle.pump_link.specs.Ports.{Listened, ShutDoor};
 ghost use Rattle.pump_link.specs.Tells.{Grows};
 ghost use Rattle.low_process.specs.Ready.{Ready as LowReady};
 ghost use Rattle.low_process.specs.Looks.{last_of as low_last, is_down};
@@ -13,6 +10,7 @@ ghost use Rattle.serving.specs.Doors.{doors, links, WantDoor, OpensAndShuts};
 ghost use Rattle.serving.specs.declared.doors.NotServed.TheVariants.{NoDoor, NoThread};
 ghost use Rattle.serving.specs.HighRuns.{HighLent};
 ghost use Rattle.serving.specs.LowRuns.{LowLent};
+ghost use Rattle.relay_side.specs.Sides.{ports, side};
 ghost use Rattle.serving.specs.WorkerEnds.{workers_end};
 
 use crate::high_half::{HighHalf, HighParts};
@@ -22,7 +20,8 @@ use disk_model::Disk;
 use passage::{WaitHighEnd, WaitLowEnd};
 use pump_frame::{OutOfMemory, SessionRow};
 use pump_link::{Clock, Ports, PortsFault, Sink, Words};
-use relay_threads::RoundsEnd;
+use relay_side::RelaySide;
+use relay_threads::{RoundsEnd, Watch};
 use stable_buffer::{HighStore, LowStore};
 use std::sync::Wait;
 use std::thread::Threads;
@@ -51,20 +50,22 @@ pub struct ServedStores<D> {
     pub high: HighStore<D>,
 }
 
-// Opens the doors of both ports of the row, the low one first. Where the second is wanting, the first is
-// shut again.
-fn open_doors<P: Ports>(ports: &mut P, row: &SessionRow) -> Result<(P::Door, P::Door), PortsFault>
-    ensures opened { IfOk result (λ doors. Grows (P.did ports.old) (P.did ports.new) (Listened row.now.low_port doors.0 ∷ Listened row.now.high_port doors.1 ∷ [])) }
-    ensures low { IfOk result (λ doors. P.Door.port doors.0 row.now.low_port × P.Door.did doors.0 []) }
-    ensures high { IfOk result (λ doors. P.Door.port doors.1 row.now.high_port × P.Door.did doors.1 []) }
-    ensures wanting { OnErr result (WantDoor (P.did ports.old) (P.did ports.new) row.now.low_port row.now.high_port) }
-    ensures cause { HasCause (P.faults ports.old) (P.faults ports.new) result }
+// Opens the doors of both ports of the row, the low side's first. Where the high side's is wanting, the low
+// one is shut again.
+fn open_doors<P: Ports>(
+    low_ports: &mut P,
+    high_ports: &mut P,
+    row: &SessionRow,
+) -> Result<(P::Door, P::Door), PortsFault>
+    ensures low { IfOk result (λ doors. Grows (P.did low_ports.old) (P.did low_ports.new) (Listened row.now.low_port doors.0 ∷ []) × P.Door.port doors.0 row.now.low_port × P.Door.did doors.0 []) }
+    ensures high { IfOk result (λ doors. Grows (P.did high_ports.old) (P.did high_ports.new) (Listened row.now.high_port doors.1 ∷ []) × P.Door.port doors.1 row.now.high_port × P.Door.did doors.1 []) }
+    ensures wanting { OnErr result (WantDoor (ports P.did P.faults low_ports.old low_ports.new) (ports P.did P.faults high_ports.old high_ports.new) row.now.low_port row.now.high_port) }
 {
-    let low = ports.listen(row.low_port)?;
-    match ports.listen(row.high_port) {
+    let low = low_ports.listen(row.low_port)?;
+    match high_ports.listen(row.high_port) {
         Ok(high) => Ok((low, high)),
         Err(fault) => {
-            ports.shut(low);
+            low_ports.shut(low);
             Err(fault)
         }
     }
@@ -84,25 +85,37 @@ fn workers_end(
     }
 }
 
-/// Lets both workers serve, each at the door of its own port of the row, and shuts the doors.
+// Shuts a door that no worker has shut.
+fn shut_left<P: Ports>(ports: &mut P, door: Option<P::Door>)
+    ensures none { door ≡ None → ports.new ≡ ports.old }
+    ensures some { IfSome door (λ d. Grows (P.did ports.old) (P.did ports.new) (ShutDoor d ∷ [])) }
+{
+    if let Some(door) = door {
+        ports.shut(door);
+    }
+}
+
+/// Lets both workers serve, each at the door of its own port of the row and by the clock of its own side, and
+/// shuts its door when the worker ends.
 pub fn serve_doors<
     T: Threads + Wait + Sync,
-    P: Ports,
+    P: Ports + Send,
     K: Clock + Send,
     W: Words + Send + Drop,
     D: Disk + Send,
     L: WaitLowEnd + Send + Drop,
     H: WaitHighEnd + Send + Drop,
     O: Sink + Send,
+    V: Watch + Sync,
 >(
     rt: &T,
     row: &SessionRow,
-    ports: &mut P,
-    low_clock: &mut K,
-    high_clock: &mut K,
+    low_side: &mut RelaySide<P, K>,
+    high_side: &mut RelaySide<P, K>,
     low: LowParts<W, D, L>,
     high: HighParts<D, H>,
     tape: &mut O,
+    watch: &V,
     rounds: u32,
 ) -> ServedStores<D>
 where
@@ -110,21 +123,22 @@ where
     P::Door: Send,
     requires low { LowReady D.told low.process low.store (L.stands low.ends) }
     requires up { is_down low.process ≡ false }
-    requires low_order { low_last low.process ≤ K.floor low_clock.old }
+    requires low_order { low_last low.process ≤ K.floor low_side.old.clock }
     requires high { HighReady D.told high.process high.store (H.stands high.ends) }
-    requires high_order { high_last high.process ≤ K.floor high_clock.old }
+    requires high_order { high_last high.process ≤ K.floor high_side.old.clock }
     ensures low { IfOk result.ends (λ ends. LowLent (doors P.Door.port P.Door.did P.Door.gives (links P.Link.gives P.Link.sent P.Link.faults)) D.told W.gives L.stands L.shape
-        (P.did ports.old) (P.did ports.new) (K.reads low_clock.old) (K.reads low_clock.new) (O.written tape.old) (O.written tape.new) (O.faults tape.old) (O.faults tape.new)
+        (side P.did P.faults K.reads low_side.old low_side.new) (O.written tape.old) (O.written tape.new) (O.faults tape.old) (O.faults tape.new)
         row.now.low_port rounds low result.low ends.low) }
     ensures high { IfOk result.ends (λ ends. HighLent (doors P.Door.port P.Door.did P.Door.gives (links P.Link.gives P.Link.sent P.Link.faults)) D.told
-        (P.did ports.old) (P.did ports.new) (K.reads high_clock.old) (K.reads high_clock.new) row.now.high_port rounds high result.high ends.high) }
-    ensures wanting { IfErr result.ends (λ why. why ≡ NoDoor → WantDoor (P.did ports.old) (P.did ports.new) row.now.low_port row.now.high_port × Rose (P.faults ports.old) (P.faults ports.new)) }
-    ensures unstarted { IfErr result.ends (λ why. why ≡ NoThread → OpensAndShuts (P.did ports.old) (P.did ports.new) row.now.low_port row.now.high_port) }
+        (side P.did P.faults K.reads high_side.old high_side.new) row.now.high_port rounds high result.high ends.high) }
+    ensures wanting { IfErr result.ends (λ why. why ≡ NoDoor → WantDoor (ports P.did P.faults low_side.old.ports low_side.new.ports) (ports P.did P.faults high_side.old.ports high_side.new.ports) row.now.low_port row.now.high_port) }
+    ensures unstarted { IfErr result.ends (λ why. why ≡ NoThread → OpensAndShuts (ports P.did P.faults low_side.old.ports low_side.new.ports) row.now.low_port × OpensAndShuts (ports P.did P.faults high_side.old.ports high_side.new.ports) row.now.high_port) }
     ensures low_kept { OnErr result.ends (result.low ≡ low.store) }
     ensures high_kept { OnErr result.ends (result.high ≡ high.store) }
-    ensures unused { OnErr result.ends ((low_clock.new ≡ low_clock.old) × (high_clock.new ≡ high_clock.old) × (tape.new ≡ tape.old)) }
+    ensures unused { OnErr result.ends ((low_side.new.clock ≡ low_side.old.clock) × (high_side.new.clock ≡ high_side.old.clock) × (tape.new ≡ tape.old)) }
 {
-    let Ok((low_door, high_door)) = open_doors(ports, row) else {
+    let Ok((low_door, high_door)) = open_doors(&mut low_side.ports, &mut high_side.ports, row)
+    else {
         return ServedStores {
             ends: Err(NotServed::NoDoor),
             low: low.store,
@@ -132,22 +146,23 @@ where
         };
     };
     let mut low_half = LowHalf {
-        door: low_door,
+        door: Some(low_door),
         parts: low,
         end: RoundsEnd::Rounds,
     };
     let mut high_half = HighHalf {
-        door: high_door,
+        door: Some(high_door),
         parts: high,
         end: RoundsEnd::Rounds,
     };
     let served = serve_halves(
         rt,
         &mut low_half,
-        low_clock,
+        low_side,
         tape,
         &mut high_half,
-        high_clock,
+        high_side,
+        watch,
         rounds,
     );
     let LowHalf {
@@ -160,8 +175,8 @@ where
         parts: high,
         end: high_end,
     } = high_half;
-    ports.shut(low_door);
-    ports.shut(high_door);
+    shut_left(&mut low_side.ports, low_door);
+    shut_left(&mut high_side.ports, high_door);
     ServedStores {
         ends: workers_end(served, low_end, high_end),
         low: low.store,

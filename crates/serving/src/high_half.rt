@@ -1,17 +1,18 @@
 // The high half of a session: the high process with what it needs, and its door.
-ghost use Rattle.std.specs.Prelude.{◌≡◌, ◌≤◌, false};
+ghost use Rattle.std.specs.Prelude.{◌≡◌, ◌≤◌, true, is_some};
 ghost use Rattle.high_process.specs.Ready.{Ready};
-ghost use Rattle.high_process.specs.States.{last_of, is_down};
-ghost use Rattle.stable_buffer.specs.High.{high_disk};
+ghost use Rattle.high_process.specs.States.{last_of};
+ghost use Rattle.relay_side.specs.Sides.{side};
 ghost use Rattle.serving.specs.Doors.{doors, links};
-ghost use Rattle.serving.specs.HighRuns.{HighRan};
+ghost use Rattle.serving.specs.HighRuns.{HighRan, HighDone};
 
 use crate::works::ServesHigh;
 use disk_model::Disk;
 use high_process::HighProcess;
 use passage::WaitHighEnd;
-use pump_link::{Clock, Door};
-use relay_threads::{RoundsEnd, high_rounds};
+use pump_link::{Clock, Door, Ports};
+use relay_side::RelaySide;
+use relay_threads::{RoundsEnd, Watch, high_rounds};
 use stable_buffer::HighStore;
 use std::sync::Wait;
 
@@ -24,42 +25,58 @@ pub struct HighParts<D, H> {
 }
 
 /// What is the high worker's own: the parts, and the door of the high port.
-pub struct HighHalf<R, D, H> {
-    pub door: R,
+pub struct HighHalf<P: Ports, D, H> {
+    /// None once the worker has ended: it shuts the door.
+    pub door: Option<P::Door>,
     pub parts: HighParts<D, H>,
     /// How the worker ended.
     pub end: RoundsEnd,
 }
 
 // The rounds of the high worker.
-fn serve_high<T: Wait, R: Door, K: Clock, D: Disk, H: WaitHighEnd>(
+fn serve_high<T: Wait, R: Door, K: Clock, D: Disk, H: WaitHighEnd, V: Watch>(
     rt: &T,
-    half: &mut HighHalf<R, D, H>,
+    door: &mut R,
+    parts: &mut HighParts<D, H>,
     clock: &mut K,
+    watch: &V,
     rounds: u32,
-)
-    requires ready { Ready D.told half.old.parts.process half.old.parts.store (H.stands half.old.parts.ends) }
-    requires order { last_of half.old.parts.process ≤ K.floor clock.old }
-    ensures { HighRan (doors R.port R.did R.gives (links R.Link.gives R.Link.sent R.Link.faults)) D.told (K.reads clock.old) (K.reads clock.new) rounds half.old half.new }
+) -> RoundsEnd
+    requires ready { Ready D.told parts.old.process parts.old.store (H.stands parts.old.ends) }
+    requires order { last_of parts.old.process ≤ K.floor clock.old }
+    ensures { HighRan (doors R.port R.did R.gives (links R.Link.gives R.Link.sent R.Link.faults)) D.told (K.reads clock.old) (K.reads clock.new) rounds door.old door.new parts.old parts.new result }
 {
-    let parts = &mut half.parts;
-    half.end = high_rounds(
+    high_rounds(
         rt,
-        &mut half.door,
+        door,
         clock,
         &mut parts.process,
         &mut parts.store,
         &mut parts.ends,
+        watch,
         rounds,
-    );
+    )
 }
 
-impl<R: Door, K: Clock, D: Disk, H: WaitHighEnd> ServesHigh<K> for HighHalf<R, D, H> {
-    ghost can_serve = { λ v k. Ready D.told v.parts.process v.parts.store (H.stands v.parts.ends) × (last_of v.parts.process ≤ K.floor k) };
+impl<P: Ports, K: Clock, D: Disk, H: WaitHighEnd> ServesHigh<RelaySide<P, K>>
+    for HighHalf<P, D, H> {
+    ghost can_serve = { λ v k. (is_some v.door ≡ true) × Ready D.told v.parts.process v.parts.store (H.stands v.parts.ends) × (last_of v.parts.process ≤ K.floor k.clock) };
 
-    ghost served = { λ n v w k j. HighRan (doors R.port R.did R.gives (links R.Link.gives R.Link.sent R.Link.faults)) D.told (K.reads k) (K.reads j) n v w };
+    ghost served = { λ n v w k j. HighDone (doors P.Door.port P.Door.did P.Door.gives (links P.Link.gives P.Link.sent P.Link.faults)) D.told (side P.did P.faults K.reads k j) n v.door w.door v.parts w.parts w.end };
 
-    fn serve<T: Wait>(&mut self, rt: &T, clock: &mut K, rounds: u32) {
-        serve_high(rt, self, clock, rounds);
+    fn serve<T: Wait, V: Watch>(
+        &mut self,
+        rt: &T,
+        side: &mut RelaySide<P, K>,
+        watch: &V,
+        rounds: u32,
+    ) {
+        let Some(mut door) = self.door.take() else {
+            return;
+        };
+        let parts = &mut self.parts;
+        self.end = serve_high(rt, &mut door, parts, &mut side.clock, watch, rounds);
+        side.ports.shut(door);
+        watch.high_ended(self.end);
     }
 }

@@ -1,5 +1,5 @@
 // The key from which the words of a session come.
-ghost use Rattle.std.specs.Prelude.{◌≡◌, ℕ, ◌<◌, length, IfOk, IfSome, Err};
+ghost use Rattle.std.specs.Prelude.{◌≡◌, ◌<◌, length, IfOk, IfSome, Err};
 ghost use Rattle.std.specs.Io.KnownBytes.{Consumes};
 ghost use Rattle.pump_frame.specs.Counts.{Rose};
 ghost use Rattle.serving.specs.declared.keys.KeyFault.TheVariants.{Failed, Short};

@@ -1,16 +1,18 @@
 // The low half of a session: the low process with what it needs, and its door.
-ghost use Rattle.std.specs.Prelude.{◌≡◌, ◌≤◌, false};
+ghost use Rattle.std.specs.Prelude.{◌≡◌, ◌≤◌, true, false, is_some};
 ghost use Rattle.low_process.specs.Ready.{Ready};
-ghost use Rattle.low_process.specs.Looks.{row_of, last_of, is_down};
+ghost use Rattle.low_process.specs.Looks.{last_of, is_down};
+ghost use Rattle.relay_side.specs.Sides.{side};
 ghost use Rattle.serving.specs.Doors.{doors, links};
-ghost use Rattle.serving.specs.LowRuns.{LowRan};
+ghost use Rattle.serving.specs.LowRuns.{LowRan, LowDone};
 
 use crate::works::ServesLow;
 use disk_model::Disk;
 use low_process::LowProcess;
 use passage::WaitLowEnd;
-use pump_link::{Clock, Door, Sink, Words};
-use relay_threads::{RoundsEnd, low_rounds, write_opening};
+use pump_link::{Clock, Door, Ports, Sink, Words};
+use relay_side::RelaySide;
+use relay_threads::{RoundsEnd, Watch, low_rounds, write_opening};
 use stable_buffer::LowStore;
 use std::sync::Wait;
 
@@ -26,8 +28,9 @@ pub struct LowParts<W, D, L> {
 }
 
 /// What is the low worker's own: the parts, and the door of the low port.
-pub struct LowHalf<R, W, D, L> {
-    pub door: R,
+pub struct LowHalf<P: Ports, W, D, L> {
+    /// None once the worker has ended: it shuts the door.
+    pub door: Option<P::Door>,
     pub parts: LowParts<W, D, L>,
     /// How the worker ended.
     pub end: RoundsEnd,
@@ -35,46 +38,60 @@ pub struct LowHalf<R, W, D, L> {
 
 // Writes the line that opens the record, and then makes the rounds of the low worker. Where the line is not
 // written whole, no round is made.
-fn serve_low<T: Wait, R: Door, K: Clock, W: Words, D: Disk, L: WaitLowEnd, O: Sink>(
+fn serve_low<T: Wait, R: Door, K: Clock, W: Words, D: Disk, L: WaitLowEnd, O: Sink, V: Watch>(
     rt: &T,
-    half: &mut LowHalf<R, W, D, L>,
+    door: &mut R,
+    parts: &mut LowParts<W, D, L>,
     clock: &mut K,
     tape: &mut O,
+    watch: &V,
     rounds: u32,
-)
-    requires ready { Ready D.told half.old.parts.process half.old.parts.store (L.stands half.old.parts.ends) }
-    requires up { is_down half.old.parts.process ≡ false }
-    requires order { last_of half.old.parts.process ≤ K.floor clock.old }
+) -> RoundsEnd
+    requires ready { Ready D.told parts.old.process parts.old.store (L.stands parts.old.ends) }
+    requires up { is_down parts.old.process ≡ false }
+    requires order { last_of parts.old.process ≤ K.floor clock.old }
     ensures { LowRan (doors R.port R.did R.gives (links R.Link.gives R.Link.sent R.Link.faults)) D.told W.gives L.stands L.shape (K.reads clock.old) (K.reads clock.new)
-        (O.written tape.old) (O.written tape.new) (O.faults tape.old) (O.faults tape.new) rounds half.old half.new }
+        (O.written tape.old) (O.written tape.new) (O.faults tape.old) (O.faults tape.new) rounds door.old door.new parts.old parts.new result }
 {
-    let parts = &mut half.parts;
     let next = parts.process.next();
     if write_opening(tape, parts.process.row(), next, parts.is_held).is_err() {
-        half.end = RoundsEnd::RecordFailed;
-        return;
+        return RoundsEnd::RecordFailed;
     }
-    half.end = low_rounds(
+    low_rounds(
         rt,
-        &mut half.door,
+        door,
         clock,
         &mut parts.words,
         &mut parts.process,
         &mut parts.store,
         &mut parts.ends,
         tape,
+        watch,
         rounds,
-    );
+    )
 }
 
-impl<R: Door, K: Clock, W: Words, D: Disk, L: WaitLowEnd, O: Sink> ServesLow<K, O>
-    for LowHalf<R, W, D, L> {
-    ghost can_serve = { λ v k o. Ready D.told v.parts.process v.parts.store (L.stands v.parts.ends) × (is_down v.parts.process ≡ false) × (last_of v.parts.process ≤ K.floor k) };
+impl<P: Ports, K: Clock, W: Words, D: Disk, L: WaitLowEnd, O: Sink> ServesLow<RelaySide<P, K>, O>
+    for LowHalf<P, W, D, L> {
+    ghost can_serve = { λ v k o. (is_some v.door ≡ true) × Ready D.told v.parts.process v.parts.store (L.stands v.parts.ends) × (is_down v.parts.process ≡ false) × (last_of v.parts.process ≤ K.floor k.clock) };
 
-    ghost served = { λ n v w k j o t. LowRan (doors R.port R.did R.gives (links R.Link.gives R.Link.sent R.Link.faults)) D.told W.gives L.stands L.shape (K.reads k) (K.reads j)
-        (O.written o) (O.written t) (O.faults o) (O.faults t) n v w };
+    ghost served = { λ n v w k j o t. LowDone (doors P.Door.port P.Door.did P.Door.gives (links P.Link.gives P.Link.sent P.Link.faults)) D.told W.gives L.stands L.shape (side P.did P.faults K.reads k j)
+        (O.written o) (O.written t) (O.faults o) (O.faults t) n v.door w.door v.parts w.parts w.end };
 
-    fn serve<T: Wait>(&mut self, rt: &T, clock: &mut K, tape: &mut O, rounds: u32) {
-        serve_low(rt, self, clock, tape, rounds);
+    fn serve<T: Wait, V: Watch>(
+        &mut self,
+        rt: &T,
+        side: &mut RelaySide<P, K>,
+        tape: &mut O,
+        watch: &V,
+        rounds: u32,
+    ) {
+        let Some(mut door) = self.door.take() else {
+            return;
+        };
+        let parts = &mut self.parts;
+        self.end = serve_low(rt, &mut door, parts, &mut side.clock, tape, watch, rounds);
+        side.ports.shut(door);
+        watch.low_ended(self.end);
     }
 }

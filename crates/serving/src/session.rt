@@ -1,13 +1,13 @@
 // A session is served over its two disks.
-ghost use Rattle.std.specs.Prelude.{◌≡◌, ◌+◌, ◌-◌, ◌≤◌, ℕ, true, false};
-ghost use Rattle.pump_core.specs.Passage.{Low, High, new_low, new_high};
-ghost use Rattle.pump_frame.specs.Counts.{Rose};
+ghost use Rattle.std.specs.Prelude.{◌≡◌, ◌+◌, ◌-◌, ◌≤◌, false};
+ghost use Rattle.pump_core.specs.Passage.{Low, new_low, new_high};
 ghost use Rattle.pump_frame.specs.Rows.{IsLawfulRow};
 ghost use Rattle.relay_threads.specs.Levels.{IsEndOf};
 ghost use Rattle.serving.specs.Doors.{doors, links, WantDoor, OpensAndShuts};
 ghost use Rattle.serving.specs.HighServing.{HighServed};
 ghost use Rattle.serving.specs.LowServing.{LowServed};
 ghost use Rattle.serving.specs.Sessions.{IfEnded, end_of, has_run, is_opened, OpensBy};
+ghost use Rattle.relay_side.specs.Sides.{ports, side};
 
 use crate::doors::{NotServed, WorkersEnd, serve_doors};
 use crate::starting::{start_high, start_low};
@@ -17,6 +17,8 @@ use pump_frame::SessionRow;
 use pump_link::{Clock, Ports, Sink};
 use recovery::{Why, open_pump_waiting};
 use relay_ring::RingPassage;
+use relay_side::RelaySide;
+use relay_threads::Watch;
 use std::alloc::Global;
 use std::sync::Wait;
 use std::thread::Threads;
@@ -47,12 +49,13 @@ pub struct Served<D> {
 // Over the two ends of a passage in which nothing was forwarded yet.
 fn serve_over<
     T: Threads + Wait + Sync,
-    P: Ports,
+    P: Ports + Send,
     K: Clock + Send,
     D: Disk + Send,
     L: WaitLowEnd + Send + Drop,
     H: WaitHighEnd + Send + Drop,
     O: Sink + Send,
+    V: Watch + Sync,
 >(
     rt: &T,
     row: &SessionRow,
@@ -60,11 +63,11 @@ fn serve_over<
     high: D,
     mut low_ends: L,
     high_ends: H,
-    ports: &mut P,
-    low_clock: &mut K,
-    high_clock: &mut K,
+    low_side: &mut RelaySide<P, K>,
+    high_side: &mut RelaySide<P, K>,
     key: [u8; 32],
     tape: &mut O,
+    watch: &V,
     rounds: u32,
 ) -> Served<D>
 where
@@ -76,15 +79,15 @@ where
     requires low_ends { L.stands low_ends new_low new_high }
     requires high_ends { (l : Low) × H.stands high_ends l new_high }
     ensures low { IfEnded result.end (λ ends. LowServed (doors P.Door.port P.Door.did P.Door.gives (links P.Link.gives P.Link.sent P.Link.faults)) D.told row.now rounds key
-        (P.did ports.old) (P.did ports.new) (K.reads low_clock.old) (K.reads low_clock.new) (O.written tape.old) (O.written tape.new) (O.faults tape.old) (O.faults tape.new)
+        (side P.did P.faults K.reads low_side.old low_side.new) (O.written tape.old) (O.written tape.new) (O.faults tape.old) (O.faults tape.new)
         low result.low ends.low) }
     ensures high { IfEnded result.end (λ ends. HighServed (doors P.Door.port P.Door.did P.Door.gives (links P.Link.gives P.Link.sent P.Link.faults)) D.told row.now rounds
-        (P.did ports.old) (P.did ports.new) (K.reads high_clock.old) (K.reads high_clock.new) high result.high ends.high) }
+        (side P.did P.faults K.reads high_side.old high_side.new) high result.high ends.high) }
     ensures opens { OpensBy D.told row.now low high result.low result.high result.end }
-    ensures wanting { result.end ≡ SessionEnd.NoDoor → WantDoor (P.did ports.old) (P.did ports.new) row.now.low_port row.now.high_port × Rose (P.faults ports.old) (P.faults ports.new) }
-    ensures unstarted { result.end ≡ SessionEnd.NoThread → OpensAndShuts (P.did ports.old) (P.did ports.new) row.now.low_port row.now.high_port }
-    ensures closed { is_opened result.end ≡ false → ports.new ≡ ports.old }
-    ensures idle { has_run result.end ≡ false → (low_clock.new ≡ low_clock.old) × (high_clock.new ≡ high_clock.old) × (tape.new ≡ tape.old) }
+    ensures wanting { result.end ≡ SessionEnd.NoDoor → WantDoor (ports P.did P.faults low_side.old.ports low_side.new.ports) (ports P.did P.faults high_side.old.ports high_side.new.ports) row.now.low_port row.now.high_port }
+    ensures unstarted { result.end ≡ SessionEnd.NoThread → OpensAndShuts (ports P.did P.faults low_side.old.ports low_side.new.ports) row.now.low_port × OpensAndShuts (ports P.did P.faults high_side.old.ports high_side.new.ports) row.now.high_port }
+    ensures closed { is_opened result.end ≡ false → (low_side.new ≡ low_side.old) × (high_side.new ≡ high_side.old) }
+    ensures idle { has_run result.end ≡ false → (low_side.new.clock ≡ low_side.old.clock) × (high_side.new.clock ≡ high_side.old.clock) × (tape.new ≡ tape.old) }
     ensures still { has_run result.end ≡ false → D.told.tells → (D.told.reading result.low ≡ D.told.reading low) × (D.told.reading result.high ≡ D.told.reading high) }
     ensures counts { (D.told.count low ≤ D.told.count result.low) × (D.told.count high ≤ D.told.count result.high) }
     ensures some_memory { result.end ≡ SessionEnd.Memory → ⊥ }
@@ -110,9 +113,7 @@ where
         opened.high_hand,
         high_ends,
     );
-    let served = serve_doors(
-        rt, row, ports, low_clock, high_clock, low, high, tape, rounds,
-    );
+    let served = serve_doors(rt, row, low_side, high_side, low, high, tape, watch, rounds);
     Served {
         end: end_of(served.ends),
         low: served.low.into_disk(),
@@ -130,33 +131,34 @@ fn end_of(ends: Result<WorkersEnd, NotServed>) -> SessionEnd
     }
 }
 
-/// Serves a session: opens its two disks, listens on both ports of the row, the low one first, and lets
-/// the two workers make at most `rounds` rounds each, side by side in two threads, the low one at the door
-/// of the low port and the high one at that of the high port. The low worker writes the record, its opening
-/// line first, and draws its words from the stream of the key. Neither disk is formatted.
+/// Serves a session: opens its two disks, listens on both ports of the row, first at the low side and then at
+/// the high one, and lets the two workers make at most `rounds` rounds each, side by side in two threads, each
+/// at the door and by the clock of its own side. The low worker writes the record, its opening line first, and
+/// draws its words from the stream of the key. Neither disk is formatted.
 ///
 /// Both disks come back, and both doors are shut, however it ends. `Memory`, `Refused`, `NoDoor` and
 /// `NoThread` come before anything is written and before a clock is read, and leave what the disks hold: `Refused` for the
 /// first cause in the order of refusals, or where a call of that disk failed, and `NoDoor` only where the
-/// count of the ports rose. Otherwise both workers ended; `docs/design.md`, "Serving", has the rules
-/// of each.
+/// count of the low side's ports rose, or else that of the high side's. Otherwise both workers ended;
+/// `docs/design.md`, "Serving", has the rules of each.
 pub fn serve_session<
     T: Threads + Wait + Sync,
-    P: Ports,
+    P: Ports + Send,
     K: Clock + Send,
     D: Disk + Send,
     O: Sink + Send,
+    V: Watch + Sync,
 >(
     rt: &T,
     alloc: Global,
     row: &SessionRow,
     low: D,
     high: D,
-    ports: &mut P,
-    low_clock: &mut K,
-    high_clock: &mut K,
+    low_side: &mut RelaySide<P, K>,
+    high_side: &mut RelaySide<P, K>,
     key: [u8; 32],
     tape: &mut O,
+    watch: &V,
     rounds: u32,
 ) -> Served<D>
 where
@@ -165,16 +167,16 @@ where
     requires lawful { IsLawfulRow row.now }
     // The two workers, each by itself.
     ensures low { IfEnded result.end (λ ends. LowServed (doors P.Door.port P.Door.did P.Door.gives (links P.Link.gives P.Link.sent P.Link.faults)) D.told row.now rounds key
-        (P.did ports.old) (P.did ports.new) (K.reads low_clock.old) (K.reads low_clock.new) (O.written tape.old) (O.written tape.new) (O.faults tape.old) (O.faults tape.new)
+        (side P.did P.faults K.reads low_side.old low_side.new) (O.written tape.old) (O.written tape.new) (O.faults tape.old) (O.faults tape.new)
         low result.low ends.low) }
     ensures high { IfEnded result.end (λ ends. HighServed (doors P.Door.port P.Door.did P.Door.gives (links P.Link.gives P.Link.sent P.Link.faults)) D.told row.now rounds
-        (P.did ports.old) (P.did ports.new) (K.reads high_clock.old) (K.reads high_clock.new) high result.high ends.high) }
+        (side P.did P.faults K.reads high_side.old high_side.new) high result.high ends.high) }
     // The other ends, by their causes, and what they leave.
     ensures opens { OpensBy D.told row.now low high result.low result.high result.end }
-    ensures wanting { result.end ≡ SessionEnd.NoDoor → WantDoor (P.did ports.old) (P.did ports.new) row.now.low_port row.now.high_port × Rose (P.faults ports.old) (P.faults ports.new) }
-    ensures unstarted { result.end ≡ SessionEnd.NoThread → OpensAndShuts (P.did ports.old) (P.did ports.new) row.now.low_port row.now.high_port }
-    ensures closed { is_opened result.end ≡ false → ports.new ≡ ports.old }
-    ensures idle { has_run result.end ≡ false → (low_clock.new ≡ low_clock.old) × (high_clock.new ≡ high_clock.old) × (tape.new ≡ tape.old) }
+    ensures wanting { result.end ≡ SessionEnd.NoDoor → WantDoor (ports P.did P.faults low_side.old.ports low_side.new.ports) (ports P.did P.faults high_side.old.ports high_side.new.ports) row.now.low_port row.now.high_port }
+    ensures unstarted { result.end ≡ SessionEnd.NoThread → OpensAndShuts (ports P.did P.faults low_side.old.ports low_side.new.ports) row.now.low_port × OpensAndShuts (ports P.did P.faults high_side.old.ports high_side.new.ports) row.now.high_port }
+    ensures closed { is_opened result.end ≡ false → (low_side.new ≡ low_side.old) × (high_side.new ≡ high_side.old) }
+    ensures idle { has_run result.end ≡ false → (low_side.new.clock ≡ low_side.old.clock) × (high_side.new.clock ≡ high_side.old.clock) × (tape.new ≡ tape.old) }
     ensures still { has_run result.end ≡ false → D.told.tells → (D.told.reading result.low ≡ D.told.reading low) × (D.told.reading result.high ≡ D.told.reading high) }
     ensures counts { (D.told.count low ≤ D.told.count result.low) × (D.told.count high ≤ D.told.count result.high) }
 {
@@ -193,11 +195,11 @@ where
         high,
         Calm(low_end),
         Calm(high_end),
-        ports,
-        low_clock,
-        high_clock,
+        low_side,
+        high_side,
         key,
         tape,
+        watch,
         rounds,
     )
 }

@@ -1,5 +1,5 @@
 -- A pump of which a message was read is as before.
-use Rattle.std.proofs.Common.{◌≡◌, inl, inr, ℕ, ◌+◌, ◌-◌, ◌<◌, ◌≤◌, zero, suc, Bool, true, false, List, [], ◌∷◌, length, get_or, take, drop, Result, Ok, Err, OnOk, OnErr, refl, sym, ap, ◌∙◌, subst, arith}
+use Rattle.std.proofs.Common.{◌≡◌, inr, ℕ, ◌+◌, ◌-◌, ◌<◌, ◌≤◌, zero, suc, Bool, true, false, List, [], ◌∷◌, length, get_or, take, Result, Ok, Err, OnOk, OnErr, refl, sym, ap, ◌∙◌, subst, arith}
 use Rattle.std.specs.Prelude.{◌||◌, not, min}
 use Rattle.std.proofs.Math.Logic.{∥∥₁_elim, ∥∥₁_map}
 use Rattle.std.proofs.Props.{props}
@@ -17,25 +17,22 @@ use Rattle.stable_buffer.specs.Low.{IsLowReady, low_count, low_disk, low_row}
 use Rattle.stable_buffer.specs.Numbers.{length_at}
 use Rattle.stable_buffer.specs.Stands.{InSlot, LowStands, low_size, slot_of}
 use Rattle.stable_buffer.specs.declared.low.LowStore.{LowStore}
-use Rattle.stable_buffer.specs.declared.device.Device.{Device}
 use Rattle.high_process.specs.States as high
 use Rattle.high_receiver.specs.Receiving.{IsRecordAt, IsRecvReady, record_at, recv_count, recv_disk, recv_end, recv_is_open, recv_row, recv_size}
 use Rattle.high_receiver.specs.declared.receiver.Receiver.{Receiver}
 use Rattle.low_process.specs.Looks as low
-use Rattle.recovery.proofs.Rows.{row_message}
 use Rattle.recovery.proofs.Slots.{slot_length, slot_one}
 use Rattle.script_reader.specs.Highs.{log_end}
 use Rattle.script_reader.specs.Past.{Past}
 use Rattle.two_worlds.specs.declared.pump.parts.Parts.{Parts}
 use Rattle.two_worlds.specs.declared.pump.state.PumpState.{PumpState}
 use Rattle.two_worlds.specs.declared.pump.state.PumpState.TheVariants.{Open, Shut}
-use Rattle.world_laws.specs.Disks.{LowFits, RecvFits, DisksFit, live_messages}
-use Rattle.two_worlds.specs.Doing.{Fails}
+use Rattle.world_laws.specs.Disks.{LowFits, DisksFit, live_messages}
 use Rattle.two_worlds.specs.Keeping.{Keeps}
-use Rattle.two_worlds.specs.Reads.{ReadsAlone, ReadsIn, FailsToRead}
+use Rattle.two_worlds.specs.Reads.{ReadsIn, FailsToRead}
 use Rattle.two_worlds.specs.Rooms.{Serves, is_role}
 use Rattle.two_worlds.specs.Standing.{Stands, bare_of, bare_disk, is_down}
-use Rattle.two_worlds.specs.States.{disks_in, counts_in, is_down_in, kept_moment_in, IsOpenWith, StandsIn}
+use Rattle.two_worlds.specs.States.{disks_in, IsOpenWith, StandsIn}
 use Rattle.two_worlds.specs.Working.{Works, IsAble}
 use Rattle.two_worlds.proofs.Disks.LeavesWorld.{fits_row}
 use Rattle.two_worlds.proofs.Lines.Kept.{able_stands, stands_hold, works_up}

@@ -14,6 +14,7 @@ fn reason(why: ErrorKind) -> &'static str {
         ErrorKind::PermissionDenied => "this user may not use it so",
         ErrorKind::StorageFull | ErrorKind::QuotaExceeded => "its disk has no room left",
         ErrorKind::ReadOnlyFilesystem => "its file system is read-only",
+        ErrorKind::OutOfMemory => "the system has not enough memory",
         _ => "a call of the system failed",
     }
 }
@@ -44,6 +45,9 @@ pub fn explain_disk_file(
     match why {
         ErrorKind::WouldBlock => eprintln!(rt;
             "netpump: the file {session}.{role} is in use by another netpump; wait until that one has ended, and try again"
+        ),
+        ErrorKind::AlreadyExists => eprintln!(rt;
+            "netpump: the file {session}.{role} was made by another program meanwhile, and is left as it is; wait until that one has ended, and try again"
         ),
         ErrorKind::InvalidInput => eprintln!(rt;
             "netpump: what is called {session}.{role} in this folder is no regular file but a folder, a link, a device or a pipe; move it away, and put the disk of this name there"

@@ -1,35 +1,53 @@
 //! The sentences of commands over a socket.
 
 use super::files::table;
-use super::{field, word};
+use super::{Passed, Trouble, field, word};
 use pump_frame::SessionRow;
 use std::io;
 
 /// The row of the session that the words name, from the table that they name, which is read again for it.
-fn row(rt: &HostRuntime, words: &[String]) -> Option<SessionRow> {
+pub fn row(rt: &HostRuntime, words: &[String]) -> Option<SessionRow> {
     let session = word(words, 2)?.parse::<u32>().ok()?;
     table(rt, word(words, 1)?)?.row(session)
 }
 
-/// Ports that can't be listened at, or a port at which nobody answers.
-pub fn explain_port(rt: &HostRuntime, words: &[String]) -> io::Result<()> {
+/// A port that can't be listened at, or at which nobody answers.
+pub fn explain_port(rt: &HostRuntime, words: &[String], trouble: Trouble) -> io::Result<()> {
     let table = word(words, 1).unwrap_or("TABLE");
     let session = word(words, 2).unwrap_or("S");
     let (low, high) = match row(rt, words) {
         Some(row) => (row.low_port, row.high_port),
         None => (0, 0),
     };
+    let (side, port) = match trouble {
+        Trouble::LowPort => ("low", low),
+        _ => ("high", high),
+    };
     match word(words, 0) {
         Some("serve") => eprintln!(rt;
-            "netpump: port {low} or {high} of 127.0.0.1 could not be listened at; see that no other program has it, such as another netpump that serves this session, and that it is yours to take (those below 1024 are root's), or give the session other ports in {table}"
-        ),
-        Some("send") => eprintln!(rt;
-            "netpump: nobody answers at port {low} of 127.0.0.1, which is the low port of session {session}; start its relay in the folder of its disks by netpump serve {table} {session} LOOKS, and try again while it runs"
+            "netpump: port {port} of 127.0.0.1, which is the {side} port of session {session}, could not be listened at; see that no other program has it, such as another netpump that serves this session, and that it is yours to take (those below 1024 are root's), or give the session another {side}_port in {table}"
         ),
         _ => eprintln!(rt;
-            "netpump: nobody answers at port {high} of 127.0.0.1, which is the high port of session {session}; start its relay in the folder of its disks by netpump serve {table} {session} LOOKS, and try again while it runs"
+            "netpump: nobody answers at port {port} of 127.0.0.1, which is the {side} port of session {session}; start its relay in the folder of its disks by netpump serve {table} {session} LOOKS, and try again while it runs"
         ),
     }
+}
+
+/// An output that can't be written any more.
+pub fn explain_unwritten(rt: &HostRuntime, words: &[String]) -> io::Result<()> {
+    let then = match word(words, 0) {
+        Some("serve") => {
+            "start the relay again, with a new file for the record, since nothing was taken from Low any more. What was acknowledged is kept"
+        }
+        Some("send") => "send all lines again: those that are stored are passed over",
+        Some("receive") => {
+            "receive again. The message whose line could not be written is kept, and its line is not printed again"
+        }
+        _ => "try again",
+    };
+    eprintln!(rt;
+        "netpump: standard output could not be written; see that its reader is there, or that its disk has room, and {then}"
+    )
 }
 
 /// A message that is out of step with the receiver's disk.
@@ -83,9 +101,21 @@ pub fn explain_refused(rt: &HostRuntime, words: &[String], line: &str) -> io::Re
 }
 
 /// Messages that are not acknowledged.
-pub fn explain_unfinished(rt: &HostRuntime, line: &str) -> io::Result<()> {
+pub fn explain_unfinished(
+    rt: &HostRuntime,
+    words: &[String],
+    line: &str,
+    passed: Passed,
+) -> io::Result<()> {
     let number = field(line, 2);
-    eprintln!(rt;
-        "netpump: message {number} and those after it are not acknowledged: the connection to the relay ended, or no answer came in as many looks as were given; see that the relay runs and has rounds left, and send all lines again: those that are stored are passed over"
-    )
+    let looks = word(words, 3).unwrap_or("LOOKS");
+    if passed.has_ended {
+        eprintln!(rt;
+            "netpump: message {number} and those after it are not acknowledged: the connection to the relay ended, or took no bytes for a second; see that the relay runs, has rounds left and can write its record, and send all lines again: those that are stored are passed over"
+        )
+    } else {
+        eprintln!(rt;
+            "netpump: message {number} and those after it are not acknowledged: the {looks} looks are used up, of which each byte that comes takes one, and each wait for a byte; send all lines again with 4294967295 looks: those that are stored are passed over"
+        )
+    }
 }

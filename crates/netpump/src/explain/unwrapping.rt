@@ -24,7 +24,7 @@ fn explain_file(rt: &HostRuntime, session: &str, trouble: Trouble) -> io::Result
             why,
             "see that it is yours to read, and try again",
         ),
-        Trouble::Told => eprintln!(rt;
+        _ => eprintln!(rt;
             "netpump: the file {session}.recv in this folder could not be made, read or synced; see that it is yours to read, and try again"
         ),
     }

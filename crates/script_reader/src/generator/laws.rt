@@ -1,6 +1,6 @@
 //! The law that each line of a generated script can be applied.
 
-ghost use Rattle.std.specs.Prelude.{ℕ, ◌≤◌, List, drop};
+ghost use Rattle.std.specs.Prelude.{ℕ, ◌≤◌, drop};
 ghost use Rattle.script_reader.specs.Generated.{generated_row, generated};
 ghost use Rattle.script_reader.specs.Openings.{nothing_found, first_past};
 ghost use Rattle.script_reader.specs.Applying.{AllApply};

@@ -1,6 +1,6 @@
 //! The disks of a pump before they are opened.
 
-ghost use Rattle.std.specs.Prelude.{◌≡◌, ◌≤◌, [], false, is_err, IfOk, IfErr};
+ghost use Rattle.std.specs.Prelude.{◌≡◌, ◌≤◌, false, is_err, IfOk, IfErr};
 ghost use Rattle.disk_model.specs.Disk.{Answers};
 ghost use Rattle.disk_model.specs.declared.name.Role.TheVariants as roles;
 ghost use Rattle.pump_frame.specs.Rows.{IsLawfulRow};

@@ -1,6 +1,6 @@
 //! What the disks of a session stand for.
 
-ghost use Rattle.std.specs.Prelude.{◌≡◌, ◌≤◌, ◌<◌, ◌+◌, ◌^◌, [], ℕ, List, true, false, length, OnOk, IfOk, IfErr, IfSome};
+ghost use Rattle.std.specs.Prelude.{◌≡◌, ◌≤◌, ◌<◌, ◌+◌, ◌^◌, [], ℕ, true, false, length, OnOk, IfOk, IfErr, IfSome};
 ghost use Rattle.disk_model.specs.Disk.{Moves, Same};
 ghost use Rattle.disk_model.specs.declared.name.Role.TheVariants as roles;
 ghost use Rattle.pump_frame.specs.Counts.{Rose};

@@ -12,7 +12,7 @@ use Rattle.pump_core.specs.declared.event.Event.TheVariants as events
 use Rattle.pump_core.specs.Comings.{Timed, Comes, Looks}
 use Rattle.pump_core.specs.World.{World}
 use Rattle.pump_core.specs.Timed.{Step, Arrives, LowLook, HighLook, Offer, Read, Publish, Occurs, Point, LowLife, offered, seen, with_read, felt, after_event, StepsTo, LeadsTo}
-use Rattle.pump_core.specs.Runs.{LifeFeedback, feedbacks, feedback_of_side}
+use Rattle.pump_core.specs.Runs.{feedbacks}
 use Rattle.world_laws.specs.Classes.{class_from, class_of}
 
 -- ---- a class tells the level ----

@@ -12,7 +12,9 @@ use Rattle.dispatch.specs.Servings.{ServeComes}
 use Rattle.dispatch.proofs.Asked.{asks, asks_no_live, is_not, other, race_asked, serve_asked, receive_asked, send_asked}
 use Rattle.dispatch.proofs.Caused.{told_not, exercise_not, race_memory}
 use Rattle.commands.specs.declared.command_end.CommandEnd.TheVariants as ends
-use Rattle.pump_link.proofs.Grown.{Grows-nil, Draws-nil}
+use Rattle.pump_link.proofs.Grown.{Grows-nil}
+use Rattle.relay_side.specs.Sides.{side}
+use Rattle.relay_side.proofs.Unused.{is_unused}
 use Rattle.dispatch.proofs.live_commands.live.Goals as goal
 
 pub returns-in-Race : goal.returns-in-Race
@@ -24,7 +26,8 @@ returns-in-Race g c =
       words = λ none. elim (none call refl a.are) [ ];
       known = λ d live words. exercise_not _ 2 e.status refl refl refl;
       shelf = λ none. refl;
-      ports = λ none. refl;
+      low_ports = λ none. e.ports;
+      high_ports = λ none. refl;
       script = λ none. refl;
       keys = λ none. (refl, refl);
       clock = λ none. elim (none (inr (_, _, c.in-Race.times.items, a.are))) [ ];
@@ -34,7 +37,7 @@ returns-in-Race g c =
       unwritten = e.cause;
       device = λ seven. elim (exercise_not _ 7 e.status refl refl refl seven) [ ];
       link = λ nine. elim (exercise_not _ 9 e.status refl refl refl nine) [ ];
-      race = λ seed count times words. race_asked (λ s n ts. EndsRace (IsRecordOf s n ts (g.K.Clock.reads c.args.low_clock.now) (g.K.Clock.reads c.run_race.new.low_clock)) (g.O.Sink.written c.args.out.now) (g.O.Sink.written c.run_race.new.out) c.run_race.result)
+      race = λ seed count times words. race_asked (λ s n ts. EndsRace (IsRecordOf s n ts (g.K.Clock.reads c.args.low.now.clock) (g.K.Clock.reads c.run_race.new.low.clock)) (g.O.Sink.written c.args.out.now) (g.O.Sink.written c.run_race.new.out) c.run_race.result)
           _ seed _ count c.in-Race.times (record { items = times }) (rw (← c.as_slice-in-Race.ensures.value) e.ends) call refl (a.only (commands.Race seed count (record { items = times })) words);
       serve = λ table session looks words. elim (other _ call a (commands.Serve table session looks) refl words) [ ];
       receive = λ table session looks words. elim (other _ call a (commands.Receive table session looks) refl words) [ ];
@@ -50,7 +53,8 @@ returns-in-Serve g c =
       words = λ none. elim (none call refl a.are) [ ];
       known = λ d live words. e.words;
       shelf = λ none. elim (none (inl (_, _, _, a.are))) [ ];
-      ports = λ none. elim (none (inl (_, _, _, a.are))) [ ];
+      low_ports = λ none. elim (none (inl (_, _, _, a.are))) [ ];
+      high_ports = λ none. elim (none (inl (_, _, _, a.are))) [ ];
       script = λ none. refl;
       keys = λ none. elim (none (_, _, _, a.are)) [ ];
       clock = λ none. elim (none (inl (_, _, _, a.are))) [ ];
@@ -61,7 +65,7 @@ returns-in-Serve g c =
       device = e.device;
       link = e.link;
       race = λ seed count times words. elim (other _ call a (commands.Race seed count (record { items = times })) refl words) [ ];
-      serve = λ table session looks words told tells. serve_asked (λ (t : List ℕ) (n l : ℕ). EndsLive (ServeComes (doors g.P.Door.Door.port g.P.Door.Door.did g.P.Door.Door.gives (links g.P.Link.Link.gives g.P.Link.Link.sent g.P.Link.Link.faults)) g.S.Disk.Disk.told l (g.P.Ports.did c.args.ports.now) (g.P.Ports.did c.serve_table.new.ports) (g.K.Clock.reads c.args.low_clock.now) (g.K.Clock.reads c.serve_table.new.low_clock) (g.K.Clock.reads c.args.high_clock.now) (g.K.Clock.reads c.serve_table.new.high_clock) (g.O.Sink.written c.args.out.now) (g.O.Sink.faults c.args.out.now) (g.S.Shelf.told.disk c.args.shelf.now) (g.S.Shelf.told.disk c.serve_table.new.shelf) (g.Q.Source.left c.args.keys.now) (g.Q.Source.left c.serve_table.new.keys) (g.Q.Source.faults c.args.keys.now) (g.Q.Source.faults c.serve_table.new.keys) (g.S.Shelf.told.file c.args.shelf.now t) n) (g.O.Sink.written c.serve_table.new.out) (g.O.Sink.faults c.serve_table.new.out) n c.serve_table.result)
+      serve = λ table session looks words told tells. serve_asked (λ (t : List ℕ) (n l : ℕ). EndsLive (ServeComes (doors g.P.Door.Door.port g.P.Door.Door.did g.P.Door.Door.gives (links g.P.Link.Link.gives g.P.Link.Link.sent g.P.Link.Link.faults)) g.S.Disk.Disk.told l (side g.P.Ports.did g.P.Ports.faults g.K.Clock.reads c.args.low.now c.serve_table.new.low) (side g.P.Ports.did g.P.Ports.faults g.K.Clock.reads c.args.high.now c.serve_table.new.high) (g.O.Sink.written c.args.out.now) (g.O.Sink.faults c.args.out.now) (g.S.Shelf.told.disk c.args.shelf.now) (g.S.Shelf.told.disk c.serve_table.new.shelf) (g.Q.Source.left c.args.keys.now) (g.Q.Source.left c.serve_table.new.keys) (g.Q.Source.faults c.args.keys.now) (g.Q.Source.faults c.serve_table.new.keys) (g.S.Shelf.told.file c.args.shelf.now t) n) (g.O.Sink.written c.serve_table.new.out) (g.O.Sink.faults c.serve_table.new.out) n c.serve_table.result)
           _ table _ session _ looks (e.ends told tells) call refl (a.only (commands.Serve table session looks) words);
       receive = λ table session looks words. elim (other _ call a (commands.Receive table session looks) refl words) [ ];
       send = λ table session looks words. elim (other _ call a (commands.Send table session looks) refl words) [ ];
@@ -76,19 +80,20 @@ returns-in-Receive g c =
       words = λ none. elim (none call refl a.are) [ ];
       known = λ d live words. e.words;
       shelf = λ none. elim (none (inr (inl (_, _, _, a.are)))) [ ];
-      ports = λ none. elim (none (inr (inl (_, _, _, a.are)))) [ ];
+      low_ports = λ none. refl;
+      high_ports = λ none. elim (none (inr (_, _, _, a.are))) [ ];
       script = λ none. refl;
-      keys = λ none. (refl, refl);
+      keys = λ none. (refl, e.clock);
       clock = λ none. refl;
       back = e.back;
       memory = e.memory;
       read = λ three. inl (e.read three);
       unwritten = e.unwritten;
       device = e.device;
-      link = e.link;
+      link = λ nine. inr (e.link nine);
       race = λ seed count times words. elim (other _ call a (commands.Race seed count (record { items = times })) refl words) [ ];
       serve = λ table session looks words. elim (other _ call a (commands.Serve table session looks) refl words) [ ];
-      receive = λ table session looks words told tells. receive_asked (λ (t : List ℕ) (n l : ℕ). EndsLive (ReceiveComes (links g.P.Link.Link.gives g.P.Link.Link.sent g.P.Link.Link.faults) l (g.P.Ports.did c.args.ports.now) (g.P.Ports.did c.receive_session.new.ports) (g.O.Sink.written c.args.out.now) (g.O.Sink.faults c.args.out.now) (g.S.Shelf.told.file c.args.shelf.now t) (g.S.Shelf.told.disk c.args.shelf.now) (g.S.Shelf.told.disk c.receive_session.new.shelf) n) (g.O.Sink.written c.receive_session.new.out) (g.O.Sink.faults c.receive_session.new.out) n c.receive_session.result)
+      receive = λ table session looks words told tells. receive_asked (λ (t : List ℕ) (n l : ℕ). EndsLive (ReceiveComes (links g.P.Link.Link.gives g.P.Link.Link.sent g.P.Link.Link.faults) l (g.P.Ports.did c.args.high.now.ports) (g.P.Ports.did c.receive_session.new.high.ports) (g.O.Sink.written c.args.out.now) (g.O.Sink.faults c.args.out.now) (g.S.Shelf.told.file c.args.shelf.now t) (g.S.Shelf.told.disk c.args.shelf.now) (g.S.Shelf.told.disk c.receive_session.new.shelf) n) (g.O.Sink.written c.receive_session.new.out) (g.O.Sink.faults c.receive_session.new.out) n c.receive_session.result)
           _ table _ session _ looks (e.ends told tells) call refl (a.only (commands.Receive table session looks) words);
       send = λ table session looks words. elim (other _ call a (commands.Send table session looks) refl words) [ ];
     }
@@ -102,20 +107,21 @@ returns-in-Send g c =
       words = λ none. elim (none call refl a.are) [ ];
       known = λ d live words. e.words;
       shelf = λ none. elim (none (inr (inr (_, _, _, a.are)))) [ ];
-      ports = λ none. elim (none (inr (inr (_, _, _, a.are)))) [ ];
+      low_ports = λ none. elim (none (inr (_, _, _, a.are))) [ ];
+      high_ports = λ none. refl;
       script = λ none. elim (none (_, _, _, a.are)) [ ];
       keys = λ none. (refl, refl);
-      clock = λ none. refl;
+      clock = λ none. e.clock;
       back = λ told name out. subst (λ (places : Places). IsOut (places name)) e.disks out;
       memory = e.memory;
       read = λ three. elim (e.read three) [ inl script ↦ inr (inl script) | inr shelf ↦ inl shelf ];
       unwritten = e.unwritten;
       device = λ seven. elim (e.disk.0 seven) [ ];
-      link = e.link;
+      link = λ nine. inl (e.link nine);
       race = λ seed count times words. elim (other _ call a (commands.Race seed count (record { items = times })) refl words) [ ];
       serve = λ table session looks words. elim (other _ call a (commands.Serve table session looks) refl words) [ ];
       receive = λ table session looks words. elim (other _ call a (commands.Receive table session looks) refl words) [ ];
-      send = λ table session looks words told. send_asked (λ (t : List ℕ) (n l : ℕ). EndsLive (SendComes (links g.P.Link.Link.gives g.P.Link.Link.sent g.P.Link.Link.faults) l (g.P.Ports.did c.args.ports.now) (g.P.Ports.did c.send_session.new.ports) (g.I.Source.left c.args.script.now) (g.I.Source.left c.send_session.new.script) (g.I.Source.faults c.args.script.now) (g.I.Source.faults c.send_session.new.script) (g.O.Sink.written c.args.out.now) (g.O.Sink.faults c.args.out.now) (g.S.Shelf.told.file c.args.shelf.now t) n) (g.O.Sink.written c.send_session.new.out) (g.O.Sink.faults c.send_session.new.out) n c.send_session.result)
+      send = λ table session looks words told. send_asked (λ (t : List ℕ) (n l : ℕ). EndsLive (SendComes (links g.P.Link.Link.gives g.P.Link.Link.sent g.P.Link.Link.faults) l (g.P.Ports.did c.args.low.now.ports) (g.P.Ports.did c.send_session.new.low.ports) (g.I.Source.left c.args.script.now) (g.I.Source.left c.send_session.new.script) (g.I.Source.faults c.args.script.now) (g.I.Source.faults c.send_session.new.script) (g.O.Sink.written c.args.out.now) (g.O.Sink.faults c.args.out.now) (g.S.Shelf.told.file c.args.shelf.now t) n) (g.O.Sink.written c.send_session.new.out) (g.O.Sink.faults c.send_session.new.out) n c.send_session.result)
           _ table _ session _ looks (e.ends told) call refl (a.only (commands.Send table session looks) words);
     }
 
@@ -127,7 +133,8 @@ returns-in-Err-NoCommand g c =
       words = λ words. inl told;
       known = λ d live words. elim (none d live words) [ ];
       shelf = λ none. refl;
-      ports = λ none. refl;
+      low_ports = λ none. refl;
+      high_ports = λ none. refl;
       script = λ none. refl;
       keys = λ none. (refl, refl);
       clock = λ none. refl;
@@ -148,7 +155,8 @@ returns-in-Err-Memory g c = record {
   words = λ words. inr (refl, search rules);
   known = λ d live words two. is_not 1 2 1 refl refl two;
   shelf = λ none. refl;
-  ports = λ none. refl;
+  low_ports = λ none. refl;
+  high_ports = λ none. refl;
   script = λ none. refl;
   keys = λ none. (refl, refl);
   clock = λ none. refl;
@@ -163,7 +171,7 @@ returns-in-Err-Memory g c = record {
     end = ends.Memory;
     mid = g.O.Sink.written c.args.out.now;
     mid_faults = g.O.Sink.faults c.args.out.now;
-    comes = inl (tt, record { unopened = Grows-nil _; low_unread = Draws-nil _; high_unread = Draws-nil _; unwritten = refl; unchanged = λ name. refl });
+    comes = inl (tt, record { low_unused = is_unused _ _ _; high_unused = is_unused _ _ _; unwritten = refl; unchanged = λ name. refl });
     last = inl (refl, search rules);
     later = omega arith;
   };

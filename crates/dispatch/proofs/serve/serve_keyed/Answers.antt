@@ -1,5 +1,5 @@
 use Rattle.std.proofs.Common.{Err, inl, inr, refl, ap, rules}
-use Rattle.pump_link.proofs.Grown.{Grows-nil, Draws-nil}
+use Rattle.relay_side.proofs.Unused.{is_unused}
 use Rattle.dispatch.proofs.Served.{no_key}
 use Rattle.dispatch.proofs.serve.serve_keyed.Goals as goal
 
@@ -9,7 +9,7 @@ returns-in-Ok-clause-serves g c = λ told tells.
 
 pub returns-in-Err-clause-serves : goal.returns-in-Err-clause-serves
 returns-in-Err-clause-serves g c = λ told tells.
-    inl (refl, no_key _ _ c.in-Err._fault (λ e. c.in-Err.ensures.failed (ap Err e)) (λ e. c.in-Err.ensures.short (ap Err e)), record { unopened = Grows-nil _; low_unread = Draws-nil _; high_unread = Draws-nil _; unwritten = refl; unchanged = λ name. refl })
+    inl (refl, no_key _ _ c.in-Err._fault (λ e. c.in-Err.ensures.failed (ap Err e)) (λ e. c.in-Err.ensures.short (ap Err e)), record { low_unused = is_unused _ _ _; high_unused = is_unused _ _ _; unwritten = refl; unchanged = λ name. refl })
 
 pub returns-in-Err-clause-read : goal.returns-in-Err-clause-read
 returns-in-Err-clause-read g c = λ is. no_key _ _ c.in-Err._fault (λ e. c.in-Err.ensures.failed (ap Err e)) (λ e. c.in-Err.ensures.short (ap Err e))

@@ -1,21 +1,22 @@
 use Rattle.std.proofs.Common.{◌≤◌, [], inl, inr, refl, sym, ap, ◌∙◌, subst, arith}
 use Rattle.std.specs.Io.KnownBytes.{Appends}
 use Rattle.std.proofs.KnownBytes.{Appends-nil}
-use Rattle.pump_link.specs.Tells.{Draws, Grows}
-use Rattle.pump_link.proofs.Grown.{Grows-nil, Draws-nil}
+use Rattle.pump_link.specs.Tells.{Draws}
+use Rattle.pump_link.proofs.Grown.{Draws-nil}
+use Rattle.relay_side.proofs.Unused.{is_unused, still_unused}
 use Rattle.script_replay.specs.Shelves.{reading_in}
 use Rattle.script_replay.proofs.Shelving.{read_in, is_out}
 use Rattle.serving.specs.Sessions.{RoseAt}
 use Rattle.serving.specs.declared.doors.WorkersEnd.{WorkersEnd}
 use Rattle.commands.proofs.LentDisks.{both_others, both_back}
-use Rattle.dispatch.proofs.Served.{session_device, session_memory, session_readable, session_link, session_unwritten, either_way, if_ended, pair_stops, pair_rises}
+use Rattle.dispatch.proofs.Served.{session_device, session_memory, session_readable, session_link, session_unwritten, either_way, if_ended, pair_stops, pair_rises, wanting_rose}
 use Rattle.dispatch.proofs.serve.serve_row.Goals as goal
 
 pub returns-in-Err-clause-serves : goal.returns-in-Err-clause-serves
 returns-in-Err-clause-serves g c = λ told tells.
     inl (
       pair_stops c.in-Err.not_taken.role c.in-Err.not_taken.fault c.untaken.result c.in-Err.ensures.role c.untaken.ensures.memory c.untaken.ensures.failed,
-      record { unopened = Grows-nil _; low_unread = Draws-nil _; high_unread = Draws-nil _; unwritten = refl; unchanged = c.in-Err.ensures.alike told },
+      record { low_unused = is_unused _ _ _; high_unused = is_unused _ _ _; unwritten = refl; unchanged = c.in-Err.ensures.alike told },
     )
 
 pub put_pair_back-requires-clause-low : goal.put_pair_back-requires-clause-low
@@ -42,7 +43,7 @@ returns-clause-serves g c = λ told tells.
         high_found = sym (read_in _ _ (t.high told));
         high_left = sym (ap reading_in (b.high_back told));
         opens = s.ensures.opens;
-        wanting = λ none. (s.ensures.wanting none).0;
+        wanting = s.ensures.wanting;
         unstarted = s.ensures.unstarted;
         low_worker = s.ensures.low;
         high_worker = s.ensures.high;
@@ -52,10 +53,12 @@ returns-clause-serves g c = λ told tells.
               still.0,
               still.1,
               ap g.O.Sink.written idle.2,
-              subst (λ (k : g.row.K.Denot). Draws (g.K.Clock.reads c.args.low_clock.now) (g.K.Clock.reads k) []) (sym idle.0) (Draws-nil _),
-              subst (λ (k : g.row.K.Denot). Draws (g.K.Clock.reads c.args.high_clock.now) (g.K.Clock.reads k) []) (sym idle.1) (Draws-nil _),
+              subst (λ (k : g.row.K.Denot). Draws (g.K.Clock.reads c.args.low.now.clock) (g.K.Clock.reads k) []) (sym idle.0) (Draws-nil _),
+              subst (λ (k : g.row.K.Denot). Draws (g.K.Clock.reads c.args.high.now.clock) (g.K.Clock.reads k) []) (sym idle.1) (Draws-nil _),
             );
-        closed = λ none. subst (λ (p : g.row.P.Denot). Grows (g.P.Ports.did c.args.ports.now) (g.P.Ports.did p) []) (sym (s.ensures.closed none)) (Grows-nil _);
+        closed = λ none.
+            let same = s.ensures.closed none in
+            (still_unused g.P.Ports.did g.P.Ports.faults g.K.Clock.reads c.args.low.now _ same.0, still_unused g.P.Ports.did g.P.Ports.faults g.K.Clock.reads c.args.high.now _ same.1);
       },
     )
 
@@ -94,7 +97,7 @@ returns-clause-device g c = λ role is.
     pair_rises d (g.S.Shelf.told.disk c.take_pair.new.shelf) id c.in-Ok.disks.low c.in-Ok.disks.high s.result.low s.result.high _ _ _ t.low_out t.high_out c.take_pair.ensures.later b.low_rises b.high_rises role rose
 
 pub returns-clause-link : goal.returns-clause-link
-returns-clause-link g c = λ is. (c.serve_session-served.ensures.wanting (session_link c.serve_session-served.result.end (sym c.end_of_session.ensures ∙ is))).1
+returns-clause-link g c = λ is. wanting_rose _ _ _ _ (c.serve_session-served.ensures.wanting (session_link c.serve_session-served.result.end (sym c.end_of_session.ensures ∙ is)))
 
 pub returns-clause-later : goal.returns-clause-later
 returns-clause-later g c =

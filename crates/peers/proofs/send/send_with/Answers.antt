@@ -1,4 +1,4 @@
-use Rattle.std.proofs.Common.{◌≡◌, ◌≤◌, [], refl, arith}
+use Rattle.std.proofs.Common.{[], refl, arith}
 use Rattle.peers.proofs.SendingLines.{ungreeted, greeted}
 use Rattle.peers.proofs.send.send_with.Goals as goal
 

@@ -1,7 +1,7 @@
-use Rattle.std.proofs.Common.{◌≡◌, ◌<◌, length, false, true, refl, sym, ap, ◌∙◌, subst, arith, Some}
+use Rattle.std.proofs.Common.{◌≡◌, ◌<◌, length, false, refl, sym, ap, ◌∙◌, subst, arith}
 use Rattle.std.proofs.lemmas.Option.{same_Some}
 use Rattle.script_reader.specs.Heads.{line_with}
-use Rattle.script_replay.specs.Sessions.{is_coarse, IsUp}
+use Rattle.script_replay.specs.Sessions.{is_coarse}
 use Rattle.script_replay.proofs.Coarse.{coarse_line}
 use Rattle.script_replay.proofs.Listed.{at_slice, set_here, order_item}
 use Rattle.script_replay.proofs.Turns.{is_put, up_there, lends_last, up_last, rise_last, coarse_does, refused_begun, refused_coarse}

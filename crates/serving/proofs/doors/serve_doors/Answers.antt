@@ -1,60 +1,23 @@
-use Rattle.std.proofs.Common.{[], ◌∷◌, refl, ap, subst}
-use Rattle.pump_link.specs.Ports.{Listened, ShutDoor}
-use Rattle.pump_link.specs.Tells.{Grows}
-use Rattle.pump_link.proofs.Grown.{Grows-then}
-use Rattle.relay_threads.specs.declared.rounds_end.RoundsEnd.TheVariants.{Rounds}
+use Rattle.std.proofs.Common.{ap}
+use Rattle.serving.proofs.Lent.{shut_unused, low_lent, high_lent}
 use Rattle.serving.proofs.Unstarted.{ended, kept, unstarted, has_doors}
 use Rattle.serving.proofs.doors.serve_doors.Goals as goal
 
 pub returns-clause-low : goal.returns-clause-low
 returns-clause-low g c =
     let e = c.in-Ok.ensures in
-    let low_port = c.args.row.now.low_port in
-    let high_port = c.args.row.now.high_port in
     let served = c.serve_halves-served in
-    ended served.result _ _ c.workers_end.result c.workers_end.ensures _ _ served.ensures.low (λ ran.
-    record {
-      v = record { door = c.in-Ok.low_door; parts = c.args.low; end = Rounds };
-      w = c.serve_halves-served.new.low;
-      parts_are = refl;
-      store_is = refl;
-      end_is = refl;
-      fresh = e.low.1;
-      is_port = e.low.0;
-      in_call = record {
-        before = [];
-        between = Listened high_port c.in-Ok.high_door ∷ [];
-        after = ShutDoor c.serve_halves-served.new.high.door ∷ [];
-        did = Grows-then _ _ _ (Listened low_port c.in-Ok.low_door ∷ Listened high_port c.in-Ok.high_door ∷ ShutDoor c.serve_halves-served.new.low.door ∷ []) (ShutDoor c.serve_halves-served.new.high.door ∷ [])
-            (Grows-then _ _ _ (Listened low_port c.in-Ok.low_door ∷ Listened high_port c.in-Ok.high_door ∷ []) (ShutDoor c.serve_halves-served.new.low.door ∷ []) e.opened c.shut.ensures.did) c.shut-2.ensures.did;
-      };
-      ran = ran;
-    })
+    ended served.result _ _ c.workers_end.result c.workers_end.ensures _ _ served.ensures.low (λ done.
+    low_lent g.P.Ports.did g.P.Ports.faults c.args.low_side.now served.new.low_side c.open_doors.new.low_ports c.shut_left.new.ports _ c.in-Ok.low_door served.new.low.door e.low.0
+    _ g.D.Disk.told g.K.Clock.reads _ served.new.low.end e.low.1 e.low.2 c.shut_left.ensures.none _ _ _ _ _ _ _ c.args.low served.new.low.parts done)
 
 pub returns-clause-high : goal.returns-clause-high
 returns-clause-high g c =
     let e = c.in-Ok.ensures in
-    let low_port = c.args.row.now.low_port in
-    let high_port = c.args.row.now.high_port in
     let served = c.serve_halves-served in
-    ended served.result _ _ c.workers_end.result c.workers_end.ensures _ _ served.ensures.high (λ ran.
-    record {
-      v = record { door = c.in-Ok.high_door; parts = c.args.high; end = Rounds };
-      w = c.serve_halves-served.new.high;
-      parts_are = refl;
-      store_is = refl;
-      end_is = refl;
-      fresh = e.high.1;
-      is_port = e.high.0;
-      in_call = record {
-        before = Listened low_port c.in-Ok.low_door ∷ [];
-        between = ShutDoor c.serve_halves-served.new.low.door ∷ [];
-        after = [];
-        did = Grows-then _ _ _ (Listened low_port c.in-Ok.low_door ∷ Listened high_port c.in-Ok.high_door ∷ ShutDoor c.serve_halves-served.new.low.door ∷ []) (ShutDoor c.serve_halves-served.new.high.door ∷ [])
-            (Grows-then _ _ _ (Listened low_port c.in-Ok.low_door ∷ Listened high_port c.in-Ok.high_door ∷ []) (ShutDoor c.serve_halves-served.new.low.door ∷ []) e.opened c.shut.ensures.did) c.shut-2.ensures.did;
-      };
-      ran = ran;
-    })
+    ended served.result _ _ c.workers_end.result c.workers_end.ensures _ _ served.ensures.high (λ done.
+    high_lent g.P.Ports.did g.P.Ports.faults c.args.high_side.now served.new.high_side c.open_doors.new.high_ports c.shut_left-2.new.ports _ c.in-Ok.high_door served.new.high.door e.high.0
+    _ g.D.Disk.told g.K.Clock.reads _ served.new.high.end e.high.1 e.high.2 c.shut_left-2.ensures.none c.args.high served.new.high.parts done)
 
 pub returns-clause-wanting : goal.returns-clause-wanting
 returns-clause-wanting g c = has_doors c.serve_halves-served.result _ _ c.workers_end.result c.workers_end.ensures _
@@ -62,16 +25,12 @@ returns-clause-wanting g c = has_doors c.serve_halves-served.result _ _ c.worker
 pub returns-clause-unstarted : goal.returns-clause-unstarted
 returns-clause-unstarted g c =
     let e = c.in-Ok.ensures in
-    let low_port = c.args.row.now.low_port in
-    let high_port = c.args.row.now.high_port in
     let served = c.serve_halves-served in
     unstarted served.result _ _ c.workers_end.result c.workers_end.ensures _ _ served.ensures.kept (λ same. (
-      c.in-Ok.low_door,
-      c.in-Ok.high_door,
-      subst (λ (z : g.row.P-Door.Denot × g.row.P-Door.Denot). Grows (g.P.Ports.did c.args.ports.now) (g.P.Ports.did c.shut-2.new.self) (Listened low_port c.in-Ok.low_door ∷ Listened high_port c.in-Ok.high_door ∷ ShutDoor z.0 ∷ ShutDoor z.1 ∷ []))
-          (λ i. (ap (λ h. h.door) same.0 i, ap (λ h. h.door) same.3 i))
-          (Grows-then _ _ _ (Listened low_port c.in-Ok.low_door ∷ Listened high_port c.in-Ok.high_door ∷ ShutDoor served.new.low.door ∷ []) (ShutDoor served.new.high.door ∷ [])
-          (Grows-then _ _ _ (Listened low_port c.in-Ok.low_door ∷ Listened high_port c.in-Ok.high_door ∷ []) (ShutDoor served.new.low.door ∷ []) e.opened c.shut.ensures.did) c.shut-2.ensures.did),
+      shut_unused g.P.Ports.did g.P.Ports.faults c.args.low_side.now served.new.low_side c.open_doors.new.low_ports c.shut_left.new.ports _ c.in-Ok.low_door served.new.low.door e.low.0
+          (ap (λ h. h.door) same.0) (ap (λ s. s.ports) same.1) c.shut_left.ensures.some,
+      shut_unused g.P.Ports.did g.P.Ports.faults c.args.high_side.now served.new.high_side c.open_doors.new.high_ports c.shut_left-2.new.ports _ c.in-Ok.high_door served.new.high.door e.high.0
+          (ap (λ h. h.door) same.3) (ap (λ s. s.ports) same.4) c.shut_left-2.ensures.some,
     ))
 
 pub returns-clause-low_kept : goal.returns-clause-low_kept
@@ -83,3 +42,8 @@ pub returns-clause-high_kept : goal.returns-clause-high_kept
 returns-clause-high_kept g c =
     let served = c.serve_halves-served in
     kept served.result _ _ c.workers_end.result c.workers_end.ensures _ _ served.ensures.kept (λ same. ap (λ h. h.parts.store) same.3)
+
+pub returns-clause-unused : goal.returns-clause-unused
+returns-clause-unused g c =
+    let served = c.serve_halves-served in
+    kept served.result _ _ c.workers_end.result c.workers_end.ensures _ _ served.ensures.kept (λ same. (ap (λ s. s.clock) same.1, ap (λ s. s.clock) same.4, same.2))

@@ -13,7 +13,7 @@ use Rattle.serving.proofs.low_half.serve_low.Goals as goal
 pub returns-then-is_err : goal.returns-then-is_err
 returns-then-is_err g c =
     let w = c.write_opening.ensures in
-    let parts = c.args.half.now.parts in
+    let parts = c.args.parts.now in
     let O = g.O.Sink in
     let none : List (Stay g.row.R-Link.Denot) = [] in
     record {
@@ -40,10 +40,10 @@ returns-then-is_err g c =
 
 pub returns : goal.returns
 returns g c =
-    let r = c.low_rounds-half.ensures in
+    let r = c.low_rounds.ensures in
     let w = c.write_opening.ensures in
     let (stays, so, ends, did, gave, links, moments, words, tape, is_record, levels, pairs) = r.rounds in
-    let opening = opening_written _ _ _ _ _ c.args.half.now.parts c.row.ensures c.next-next.ensures (c.is_err.ensures.value) c.if-is_err.false w.ok in
+    let opening = opening_written _ _ _ _ _ c.args.parts.now c.row.ensures c.next-next.ensures (c.is_err.ensures.value) c.if-is_err.false w.ok in
     record {
       is_opened = true;
       stays = stays;
@@ -55,8 +55,8 @@ returns g c =
       links = links;
       moments = moments;
       words = words;
-      begins = opening_reads _ _ c.args.half.now.parts c.row.ensures c.next-next.ensures w.reads;
-      tape = reaches_behind (Appends (g.O.Sink.written c.args.tape.now) (g.O.Sink.written c.low_rounds-half.new.tape)) (Appends (g.O.Sink.written c.write_opening.new.tape) (g.O.Sink.written c.low_rounds-half.new.tape)) _ _ _ _ (opening_text c.args.half.now.parts) _ w.cause.later (λ rest more. Appends-trans _ _ _ _ rest opening more) tape;
+      begins = opening_reads _ _ c.args.parts.now c.row.ensures c.next-next.ensures w.reads;
+      tape = reaches_behind (Appends (g.O.Sink.written c.args.tape.now) (g.O.Sink.written c.low_rounds.new.tape)) (Appends (g.O.Sink.written c.write_opening.new.tape) (g.O.Sink.written c.low_rounds.new.tape)) _ _ _ _ (opening_text c.args.parts.now) _ w.cause.later (λ rest more. Appends-trans _ _ _ _ rest opening more) tape;
       levels = levels;
       pairs = pairs;
       is_record = is_record;

@@ -60,7 +60,7 @@ returns g c = record {
       let row = c.args.row.now in
       let (messages, stands, dealt) = e.dealt in
       ended_so served.result.ends c.end_of.result c.end_of.ensures _ _ served.ensures.low
-      (λ (ends : WorkersEnd) lent. low_served _ g.D.Disk.told g.L.LowSide.stands g.L.LowSide.shape row _ c.args.key _ _ _ _ _ _ _ _ o.next o.low_hand c.start_low-low.result o.low served.result.low c.args.low c.into_disk.result ends.low lent
+      (λ (ends : WorkersEnd) lent. low_served _ g.D.Disk.told g.L.LowSide.stands g.L.LowSide.shape row _ c.args.key _ _ _ _ _ o.next o.low_hand c.start_low-low.result o.low served.result.low c.args.low c.into_disk.result ends.low lent
       s.row s.next s.held s.lives s.words s.store c.into_disk.ensures (λ told. (o.removed, messages, stands told, held_is o.low_hand (o.next == o.removed + row.capacity) (o.next - 1) e.hands.last)) e.calls_low.counts c.requires.lawful s.counted
       (still_end g.L.LowSide.stands g.L.LowSide.shape c.args.low_ends c.start_low-low.result.ends row (row_of c.start_low-low.result.process) (ap g.L.LowSide.shape s.kept ∙ e.ends.0) s.row c.requires.averages)
       (record new_low { forwarded = passing row.capacity (numbered o.removed messages) }) new_high refl
@@ -72,7 +72,7 @@ returns g c = record {
       let served = c.serve_doors-served in
       let row = c.args.row.now in
       ended_so served.result.ends c.end_of.result c.end_of.ensures _ _ served.ensures.high
-      (λ (ends : WorkersEnd) lent. high_served _ g.D.Disk.told row _ _ _ _ _ o.removed o.high_hand c.start_high-high.result o.high served.result.high c.args.high c.into_disk-2.result ends.high lent
+      (λ (ends : WorkersEnd) lent. high_served _ g.D.Disk.told row _ _ o.removed o.high_hand c.start_high-high.result o.high served.result.high c.args.high c.into_disk-2.result ends.high lent
       s.row s.stands e.removed (first_number o.high_hand _ o.removed e.hands.first) s.store c.into_disk-2.ensures (high_calls g.D.Disk.told row c.args.low c.args.high (high_disk o.high) _ e.calls_high));
   opens = opens_so c.serve_doors-served.result.ends c.end_of.result c.end_of.ensures g.D.Disk.told c.args.row.now c.args.low c.args.high c.into_disk.result c.into_disk-2.result c.in-Ok.ensures.fine;
   wanting =
@@ -106,11 +106,11 @@ returns g c = record {
       let calls = high_calls m row c.args.low c.args.high (high_disk o.high) _ e.calls_high in (
         both_ways served.result.ends _ _ _ served.ensures.low_kept
             (λ low. subst (λ (d : g.row.D.Denot). m.count c.args.low ≤ m.count d) (sym (c.into_disk.ensures ∙ ap low_disk (low ∙ s.store))) e.calls_low.counts) served.ensures.low
-            (λ (ends : WorkersEnd) lent. low_counts _ m g.L.LowSide.stands g.L.LowSide.shape row _ c.args.key _ _ _ _ _ _ _ _ o.next o.low_hand c.start_low-low.result o.low served.result.low c.args.low c.into_disk.result ends.low lent
+            (λ (ends : WorkersEnd) lent. low_counts _ m g.L.LowSide.stands g.L.LowSide.shape row _ c.args.key _ _ _ _ _ o.next o.low_hand c.start_low-low.result o.low served.result.low c.args.low c.into_disk.result ends.low lent
             s.row s.next s.held s.lives s.words s.store c.into_disk.ensures (λ told. (o.removed, messages, stands told, held_is o.low_hand (o.next == o.removed + row.capacity) (o.next - 1) e.hands.last)) e.calls_low.counts),
         both_ways served.result.ends _ _ _ served.ensures.high_kept
             (λ high. subst (λ (d : g.row.D.Denot). m.count c.args.high ≤ m.count d) (sym (c.into_disk-2.ensures ∙ ap high_disk (high ∙ h.store))) calls) served.ensures.high
-            (λ (ends : WorkersEnd) lent. high_counts _ m row _ _ _ _ _ o.removed o.high_hand c.start_high-high.result o.high served.result.high c.args.high c.into_disk-2.result ends.high lent
+            (λ (ends : WorkersEnd) lent. high_counts _ m row _ _ o.removed o.high_hand c.start_high-high.result o.high served.result.high c.args.high c.into_disk-2.result ends.high lent
             h.row h.stands e.removed (first_number o.high_hand _ o.removed e.hands.first) h.store c.into_disk-2.ensures calls),
       );
   some_memory = search rules;

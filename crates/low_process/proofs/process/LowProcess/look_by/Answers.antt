@@ -1,5 +1,5 @@
 -- A look, from its first half and what the end answered.
-use Rattle.std.proofs.Common.{◌≡◌, Bool, false, Option, None, IfSome, sym, ◌∙◌, ap, subst, option_map, rules}
+use Rattle.std.proofs.Common.{◌≡◌, Bool, false, Option, IfSome, sym, ◌∙◌, ap, subst, option_map, rules}
 use Rattle.pump_frame.specs.declared.row.SessionRow.{SessionRow}
 use Rattle.pump_frame.specs.declared.frame.Item.{Item}
 use Rattle.pump_core.specs.ReplyFrames.{frame_of, IsLawfulReply}

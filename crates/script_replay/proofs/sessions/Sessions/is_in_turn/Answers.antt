@@ -1,4 +1,4 @@
-use Rattle.std.proofs.Common.{sym, ap, ◌∙◌, nat_lt}
+use Rattle.std.proofs.Common.{sym, ◌∙◌}
 use Rattle.script_reader.specs.Heads.{line_with}
 use Rattle.script_replay.proofs.Listed.{in_turn_first}
 use Rattle.script_replay.proofs.sessions.Sessions.is_in_turn.Goals as goal

@@ -1,5 +1,3 @@
-use Rattle.std.proofs.Common.{Result, Ok, Err, ⊎_elim}
-use Rattle.std.proofs.Math.Logic.{∥∥₁_map}
 use Rattle.disk_model.specs.declared.name.Role.TheVariants as roles
 use Rattle.two_worlds.proofs.Lines.Kept.{kept_able}
 use Rattle.two_worlds.proofs.Reading.{keeps_either}

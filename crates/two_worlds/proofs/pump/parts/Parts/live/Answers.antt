@@ -1,8 +1,8 @@
-use Rattle.std.proofs.Common.{◌≡◌, ◌<◌, ◌≤◌, length, Err, ap, arith}
+use Rattle.std.proofs.Common.{Err, ap, arith}
 use Rattle.pump_frame.specs.declared.row.SessionRow.{SessionRow}
 use Rattle.stable_buffer.specs.Low.{low_row}
 use Rattle.recovery.proofs.Rows.{row_message}
-use Rattle.two_worlds.proofs.Opening.Ready.{low_is_ready, low_has_store, low_reading}
+use Rattle.two_worlds.proofs.Opening.Ready.{low_is_ready, low_has_store}
 use Rattle.two_worlds.proofs.Reading.{reads_serve, message_is, still_kept, low_fits, store_row, low_length}
 use Rattle.two_worlds.proofs.pump.parts.Parts.live.Goals as goal
 

@@ -1,6 +1,4 @@
-use Rattle.std.proofs.Common.{ℕ, ◌+◌, arith, get_or}
-use Rattle.std.proofs.lemmas.Result.{IfOk-weaker}
-use Rattle.high_receiver.specs.Receiving.{IsRecordAt}
+use Rattle.std.proofs.Common.{◌+◌, arith}
 use Rattle.two_worlds.proofs.Opening.Ready.{recv_is_ready}
 use Rattle.two_worlds.proofs.Reading.{placed, told_message, told_next}
 use Rattle.two_worlds.proofs.pump.parts.Parts.received.Goals as goal

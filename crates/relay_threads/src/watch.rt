@@ -1,0 +1,44 @@
+// Who is told of what happens at the doors of a relay.
+
+use crate::high_served::HighWhy;
+use crate::low_round::LowWhy;
+use crate::rounds_end::RoundsEnd;
+
+/// Is told what happens at the doors of a relay, at once and by the worker of that door, in its own thread.
+/// Nothing that the relay does depends on it: it takes nothing back.
+pub trait Watch {
+    /// A link came at the low door.
+    fn low_came(&self);
+
+    /// The low worker left the link, for this reason.
+    fn low_left(&self, why: LowWhy);
+
+    /// The low worker has ended, and its door is shut.
+    fn low_ended(&self, end: RoundsEnd);
+
+    /// A link came at the high door.
+    fn high_came(&self);
+
+    /// The high worker left the link, for this reason.
+    fn high_left(&self, why: HighWhy);
+
+    /// The high worker has ended, and its door is shut.
+    fn high_ended(&self, end: RoundsEnd);
+}
+
+/// Tells nobody.
+pub struct Unwatched;
+
+impl Watch for Unwatched {
+    fn low_came(&self) {}
+
+    fn low_left(&self, _why: LowWhy) {}
+
+    fn low_ended(&self, _end: RoundsEnd) {}
+
+    fn high_came(&self) {}
+
+    fn high_left(&self, _why: HighWhy) {}
+
+    fn high_ended(&self, _end: RoundsEnd) {}
+}

@@ -1,0 +1,88 @@
+What a relay, its sender and its receiver say on standard error while they work, and what of it is left out.
+
+`peer PORT HEX` sends bytes to a port of the relay and waits until it is dropped. The ports are named LOW and HIGH here.
+
+  $ ports=($(python3 -c '
+  > import socket
+  > ends = [socket.create_server(("127.0.0.1", 0)) for _ in range(2)]
+  > print(*[end.getsockname()[1] for end in ends])'))
+  $ cat >t.toml <<.
+  > [[session]]
+  > id = 1
+  > low = "weather"
+  > high = "watch"
+  > capacity = 8
+  > message = 8
+  > window = 2
+  > start = 200
+  > longest = 1000
+  > resend = 500000
+  > low_port = ${ports[0]}
+  > high_port = ${ports[1]}
+  > .
+  $ peer() {
+  >   python3 -c '
+  > import socket, sys
+  > with socket.create_connection(("127.0.0.1", int(sys.argv[1])), timeout=10) as link:
+  >     link.sendall(bytes.fromhex(sys.argv[2]))
+  >     while link.recv(100):
+  >         pass' "$@"
+  > }
+  $ serve() { netpump serve t.toml 1 4294967295 2>said & relay=$!; sleep 0.5; }
+  $ stop() { kill $relay; wait $relay 2>/dev/null; sed "s/port ${ports[0]}/port LOW/; s/port ${ports[1]}/port HIGH/" said; }
+  $ all=4294967295
+  $ netpump format t.toml 1
+  formatted 1
+
+`send` says how many lines it passed over.
+
+  $ serve >record
+  $ printf '6869\n-\n' | netpump send t.toml 1 $all
+  ack 0
+  ack 1
+  $ printf '6e6577\n' | netpump send t.toml 1 $all
+  netpump: nothing was sent: all lines were passed over, 1 in number, since the relay has accepted as many messages before. Lines go by their numbers, whatever they say, so send one list from its first line on, and put what is new behind it
+  $ netpump send t.toml 1 $all </dev/null
+  $ timeout 5 netpump receive t.toml 1 200
+  took 1 0
+  took 1 1
+  $ printf '6869\n-\n6e6577\n' | netpump send t.toml 1 $all
+  ack 2
+  netpump: passed over the lines that the relay had accepted before, 2 in number, and sent those behind them
+
+Its looks may be used up, since each byte of an answer takes one. Then the sentence says so.
+
+  $ printf '6869\n-\n6e6577\n66\n' | netpump send t.toml 1 5
+  fault unfinished 0
+  netpump: message 0 and those after it are not acknowledged: the 5 looks are used up, of which each byte that comes takes one, and each wait for a byte; send all lines again with 4294967295 looks: those that are stored are passed over
+  [12]
+
+A receiver whose disk is too old is told, and so is who looks after the relay.
+
+  $ cp 1.recv older; timeout 5 netpump receive t.toml 1 200 >took; cut -d' ' -f1,2 took | sort -u
+  took 1
+  $ cp 1.recv newest; cp older 1.recv; netpump receive t.toml 1 $all
+  netpump: the relay ended the connection before a message came. If it still runs, it has removed more messages than the file 1.recv has, or has accepted fewer: put back the newest 1.recv, and see that no other receiver has this session
+  $ cp newest 1.recv
+  $ stop | sed 's/and [0-9]* are removed/and N are removed/'
+  netpump: the peer at the high port HIGH was dropped: it has 2 messages, and N are removed from the relay; put back the newest file of the receiver
+
+A relay says whom it drops and why, once a second at most for each port.
+
+  $ serve >record
+  $ peer ${ports[0]} 00; peer ${ports[1]} 00; sleep 1.1
+  $ peer ${ports[1]} 4e5001070000000100000000000000000000 2>&1 | tail -1
+  $ stop
+  netpump: the peer at the low port LOW was dropped: it sent bytes that are no frame; see that Low's sender keeps to the protocol
+  netpump: the peer at the high port HIGH was dropped: it sent bytes that are no frame; see that the receiver keeps to the protocol
+  netpump: the peer at the high port HIGH was dropped: its first frame was no ATTACH; see that it is a receiver
+
+A side that ends early says so at once and closes its port. The other side goes on.
+
+  $ serve >/dev/full
+  $ printf '6869\n' | netpump send t.toml 1 $all 2>/dev/null
+  fault link
+  [9]
+  $ timeout 5 netpump receive t.toml 1 100
+  $ stop
+  netpump: the low side of session 1 has ended: the record could not be written; see that its disk has room, or that its reader is there. Its port LOW is closed, and the high side goes on to its own end; stop this relay and start it again

@@ -1,6 +1,6 @@
-"""common: what the scripts of this folder share: finding the program and running it, a session table, free ports, a reader of
-the three disks, processes that are started and ended, and a count of what was tried. It is a module: run by itself it does
-nothing.
+"""common: what the scripts of this folder share: finding the program and running it, a session table, free ports, the commands
+of docs/running.md, a reader of the three disks, processes that are started and ended, and a count of what was tried. It is a
+module: run by itself it does nothing.
 
 The reader goes by docs/formats.md, "Disks", and has nothing of netpump's own code."""
 import atexit
@@ -12,6 +12,7 @@ import signal
 import socket
 import subprocess
 import sys
+import textwrap
 import time
 
 HERE = os.path.dirname(os.path.realpath(__file__))
@@ -50,8 +51,9 @@ def till(holds, seconds):
 
 
 def find_program(path=None):
-    """The program of this path, or the built one where none is given. Without a program the script ends."""
-    program = os.path.realpath(path or f"{TOP}/crates/netpump/out/netpump")
+    """The program of this path; where none is given, the one that the variable NETPUMP names, or the built one. Without a program
+    the script ends."""
+    program = os.path.realpath(path or os.environ.get("NETPUMP") or f"{TOP}/crates/netpump/out/netpump")
     if not os.access(program, os.X_OK):
         sys.exit(f"there is no program at {program}: examples/program builds it")
     return program
@@ -97,6 +99,28 @@ def free_ports(count=2):
     for door in doors:
         door.close()
     return ports
+
+
+# ---- the commands of docs/running.md ----
+
+FENCE = re.compile(r"^( *)```(\w*)\n(.*?)^ *```$", re.M | re.S)
+
+
+def sections():
+    """The sections of the page, each by its title and its text."""
+    with open(f"{TOP}/docs/running.md", encoding="utf-8") as page:
+        for section in re.split(r"^## ", page.read(), flags=re.M)[1:]:
+            yield section.split("\n", 1)[0], section
+
+
+def blocks(section):
+    """Each block of commands of a section, and each of what the commands before it print, in order: whether it is commands, and its
+    text."""
+    has_run = False
+    for _, language, body in FENCE.findall(section):
+        has_run = has_run or language == "sh"
+        if has_run and language in ("sh", ""):
+            yield language == "sh", textwrap.dedent(body)
 
 
 # ---- a reader of the three disks ----

@@ -230,6 +230,16 @@ def record(payload):
     return len(payload).to_bytes(2, "big") + payload
 
 
+FILE_MESSAGE = 1024  # the row's message size for a file
+
+
+def file_messages(file):
+    """The file as messages: each piece behind a byte 0, and then a byte 1 and its length."""
+    for at in range(0, len(file), FILE_MESSAGE - 1):
+        yield b"\0" + file[at : at + FILE_MESSAGE - 1]
+    yield b"\1" + len(file).to_bytes(8, "big")
+
+
 def fill(path, first, second=0, body=b""):
     """Gives a formatted disk this register, and these bytes behind it."""
     with open(path, "r+b") as disk:

@@ -82,7 +82,7 @@ fn see(link: &mut TcpLink<'_>) -> Looked {
 #[test]
 fn ports_of_this_machine(rt: HostRuntime) {
     let mut traffic = Traffic::new();
-    let mut ports = stepping_side(&rt, &mut traffic).ports;
+    let mut ports = stepping_side(rt.alloc(), &rt, &mut traffic).ports;
     let Some((mut door, port)) = open(&mut ports, process::id(rt.process())) else {
         panic!(rt; "no port is free");
     };
@@ -100,7 +100,7 @@ fn ports_of_this_machine(rt: HostRuntime) {
 #[test]
 fn a_listener_is_a_door(rt: HostRuntime) {
     let mut traffic = Traffic::new();
-    let mut ports = stepping_side(&rt, &mut traffic).ports;
+    let mut ports = stepping_side(rt.alloc(), &rt, &mut traffic).ports;
     let Some((mut door, port)) = open(&mut ports, process::id(rt.process())) else {
         panic!(rt; "no port is free");
     };
@@ -134,8 +134,8 @@ fn fails_at_last(link: &mut TcpLink<'_>) -> u64 {
 #[test]
 fn a_connection_is_a_link(rt: HostRuntime) {
     let (mut at_low, mut at_high) = (Traffic::new(), Traffic::new());
-    let mut low = stepping_side(&rt, &mut at_low).ports;
-    let mut high = stepping_side(&rt, &mut at_high).ports;
+    let mut low = stepping_side(rt.alloc(), &rt, &mut at_low).ports;
+    let mut high = stepping_side(rt.alloc(), &rt, &mut at_high).ports;
     let Some((mut door, port)) = open(&mut low, process::id(rt.process())) else {
         panic!(rt; "no port is free");
     };

@@ -3,40 +3,42 @@
 ghost use Rattle.std.specs.Prelude.{◌≡◌, ℕ, List, [], ◌∷◌, length, IfNone, IfSome, IfOk};
 ghost use Rattle.std.specs.Io.KnownBytes.{ReadConsumes};
 
+use std::alloc::{AllocError, Global};
 use std::io::{self, Read};
 use std::marker::Model;
 
 /// How many bytes one read takes in at most.
 const ROOM: usize = 2048;
 
-/// Bytes that were read and are not given yet. Contracts see the list of them.
+/// Bytes that were read and are not given yet. Contracts see the list of them. They have memory of their own, so a link is small
+/// where it is moved.
 #[derive(Drop)]
 pub struct ReadAhead {
-    bytes: [u8; ROOM],
+    bytes: Vec<u8>,
     at: usize,
     end: usize,
 }
 
 impl Model for ReadAhead {
-    ghost use Rattle.std.specs.Prelude.{ℕ, ◌≤◌, List, take, drop};
+    ghost use Rattle.std.specs.Prelude.{ℕ, ◌≤◌, List, length, take, drop};
 
     ghost Value = { List ℕ };
 
-    ghost view = { λ s. drop s.at (take s.end s.bytes) };
+    ghost view = { λ s. drop s.at (take s.end s.bytes.items) };
 
-    ghost invariant = { λ s. (s.at ≤ s.end) × (s.end ≤ 2048) };
+    ghost invariant = { λ s. (s.at ≤ s.end) × (s.end ≤ length s.bytes.items) };
 }
 
 impl ReadAhead {
-    /// No bytes.
-    pub fn new() -> ReadAhead
-        ensures { result ≡ [] }
+    /// No bytes. An error is want of memory.
+    pub fn new(alloc: Global) -> Result<ReadAhead, AllocError>
+        ensures { IfOk result (λ ahead. ahead ≡ []) }
     {
-        ReadAhead {
-            bytes: [0; ROOM],
+        Ok(ReadAhead {
+            bytes: vec![in alloc; 0; ROOM]?,
             at: 0,
             end: 0,
-        }
+        })
     }
 
     /// The next byte, where one is left.
@@ -58,7 +60,7 @@ impl ReadAhead {
         ensures count { IfOk result (λ count. length self.new ≡ count) }
         ensures bytes { ReadConsumes (R.remaining reader.old) (R.remaining reader.new) result self.new }
     {
-        let count = reader.read(&mut self.bytes)?;
+        let count = reader.read(self.bytes.as_mut_slice())?;
         self.at = 0;
         self.end = count;
         Ok(count)

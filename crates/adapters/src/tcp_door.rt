@@ -7,6 +7,7 @@ use crate::tcp_link::TcpLink;
 use crate::traffic::Traffic;
 use pump_frame::raised;
 use pump_link::{Accepted, Door};
+use std::alloc::Global;
 use std::io::{self, ErrorKind};
 use std::net::TcpListener;
 
@@ -19,6 +20,7 @@ const WAIT: i32 = 2;
 /// caller that asks again and again leaves the processor to others.
 #[derive(Drop)]
 pub struct TcpDoor<'a> {
+    alloc: Global,
     listener: TcpListener,
     // The traffic of the door's side.
     traffic: &'a Traffic,
@@ -27,12 +29,17 @@ pub struct TcpDoor<'a> {
 
 impl<'a> TcpDoor<'a> {
     /// A door at which the listener's connections come.
-    pub(crate) fn over(listener: TcpListener, traffic: &'a Traffic) -> io::Result<TcpDoor<'a>>
+    pub(crate) fn over(
+        alloc: Global,
+        listener: TcpListener,
+        traffic: &'a Traffic,
+    ) -> io::Result<TcpDoor<'a>>
         ensures { IfOk result (λ door. door.faults ≡ 0) }
     {
         // A connection that is gone before it is taken in must not keep the call.
         listener.set_nonblocking(true)?;
         Ok(TcpDoor {
+            alloc,
             listener,
             traffic,
             faults: 0,
@@ -41,7 +48,7 @@ impl<'a> TcpDoor<'a> {
 
     fn next(&self) -> io::Result<TcpLink<'a>> {
         let (stream, _) = self.listener.accept()?;
-        TcpLink::over(stream, self.traffic)
+        TcpLink::over(self.alloc, stream, self.traffic)
     }
 }
 

@@ -9,6 +9,7 @@ use crate::readiness::{is_readable, is_writable};
 use crate::traffic::Traffic;
 use pump_frame::raised;
 use pump_link::{Link, Looked, SendFault};
+use std::alloc::Global;
 use std::io::{self, ErrorKind, Write};
 use std::net::TcpStream;
 
@@ -65,16 +66,24 @@ impl Write for Patient<'_> {
 }
 
 impl<'a> TcpLink<'a> {
-    /// A link over this connection, whose bytes are sent at once and not gathered first.
-    pub(crate) fn over(stream: TcpStream, traffic: &'a Traffic) -> io::Result<TcpLink<'a>>
+    /// A link over this connection, whose bytes are sent at once and not gathered first. It takes memory for what is read
+    /// ahead.
+    pub(crate) fn over(
+        alloc: Global,
+        stream: TcpStream,
+        traffic: &'a Traffic,
+    ) -> io::Result<TcpLink<'a>>
         ensures { IfOk result (λ link. link.faults ≡ 0) }
     {
+        let Ok(ahead) = ReadAhead::new(alloc) else {
+            return Err(io::Error::from(ErrorKind::OutOfMemory));
+        };
         stream.set_nodelay(true)?;
         stream.set_nonblocking(true)?;
         traffic.note();
         Ok(TcpLink {
             stream,
-            ahead: ReadAhead::new(),
+            ahead,
             traffic,
             awaits: true,
             asks: 0,

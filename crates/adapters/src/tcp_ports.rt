@@ -8,6 +8,7 @@ use crate::tcp_link::TcpLink;
 use crate::traffic::Traffic;
 use pump_frame::raised;
 use pump_link::{Ports, PortsFault};
+use std::alloc::Global;
 use std::io::{self, ErrorKind};
 use std::net::{Ipv4Addr, Net, TcpListener, TcpStream};
 
@@ -16,6 +17,7 @@ use std::net::{Ipv4Addr, Net, TcpListener, TcpStream};
 /// What comes and goes at their doors and over their links is the traffic of that side.
 #[derive(Drop)]
 pub struct TcpPorts<'a, R> {
+    alloc: Global,
     net: &'a R,
     traffic: &'a Traffic,
     faults: u64,
@@ -23,8 +25,9 @@ pub struct TcpPorts<'a, R> {
 
 impl<'a, R> TcpPorts<'a, R> {
     /// Ports of which none is listened at yet.
-    pub(crate) fn new(net: &'a R, traffic: &'a Traffic) -> TcpPorts<'a, R> {
+    pub(crate) fn new(alloc: Global, net: &'a R, traffic: &'a Traffic) -> TcpPorts<'a, R> {
         TcpPorts {
+            alloc,
             net,
             traffic,
             faults: 0,
@@ -50,7 +53,7 @@ impl<'a, R: Net<Listener = TcpListener, Stream = TcpStream>> TcpPorts<'a, R> {
     // SO_REUSEADDR.
     fn open(&self, port: u16) -> io::Result<TcpDoor<'a>> {
         let listener = TcpListener::bind(self.net, (Ipv4Addr::LOCALHOST, port))?;
-        TcpDoor::over(listener, self.traffic)
+        TcpDoor::over(self.alloc, listener, self.traffic)
     }
 
     // A connection to a port at which nobody listens may meet itself, where the system gives it that very
@@ -60,7 +63,7 @@ impl<'a, R: Net<Listener = TcpListener, Stream = TcpStream>> TcpPorts<'a, R> {
         if stream.local_addr()?.port() == port {
             return Err(io::Error::from(ErrorKind::ConnectionRefused));
         }
-        TcpLink::over(stream, self.traffic)
+        TcpLink::over(self.alloc, stream, self.traffic)
     }
 }
 

@@ -149,13 +149,13 @@ where
 {
     let (mut at_low, mut at_high) = (Traffic::new(), Traffic::new());
     let (status, port) = if begin_with(words.as_slice(), "race") {
-        let low = stepping_side(rt, &mut at_low);
-        let high = stepping_side(rt, &mut at_high);
+        let low = stepping_side(alloc, rt, &mut at_low);
+        let high = stepping_side(alloc, rt, &mut at_high);
         run_at(rt, alloc, words, shelf, low, high, script, out, watch)
     } else {
         let start = now(rt);
-        let low = machine_side(rt, start, &mut at_low);
-        let high = machine_side(rt, start, &mut at_high);
+        let low = machine_side(alloc, rt, start, &mut at_low);
+        let high = machine_side(alloc, rt, start, &mut at_high);
         run_at(rt, alloc, words, shelf, low, high, script, out, watch)
     };
     Came {

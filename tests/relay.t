@@ -64,7 +64,7 @@ A receiver whose disk is too old is told, and so is who looks after the relay.
   $ cp 1.recv newest; cp older 1.recv; netpump receive t.toml 1 $all
   netpump: the relay ended the connection before a message came. If it still runs, it has removed more messages than the file 1.recv has, or has accepted fewer: put back the newest 1.recv, and see that no other receiver has this session
   $ cp newest 1.recv
-  $ stop | sed 's/and [0-9]* are removed/and N are removed/'
+  $ stop >printed; sed 's/and [0-9]* are removed/and N are removed/' printed
   netpump: the peer at the high port HIGH was dropped: it has 2 messages, and N are removed from the relay; put back the newest file of the receiver
 
 A relay says whom it drops and why, once a second at most for each port.

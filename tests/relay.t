@@ -72,10 +72,12 @@ A relay says whom it drops and why, once a second at most for each port.
   $ serve >record
   $ peer ${ports[0]} 00; peer ${ports[1]} 00; sleep 1.1
   $ peer ${ports[1]} 4e5001070000000100000000000000000000 2>&1 | tail -1
+  $ sleep 1.1; peer ${ports[1]} 4e5001060000000100000000000000ff0000
   $ stop
   netpump: the peer at the low port LOW was dropped: it sent bytes that are no frame; see that Low's sender keeps to the protocol
   netpump: the peer at the high port HIGH was dropped: it sent bytes that are no frame; see that the receiver keeps to the protocol
   netpump: the peer at the high port HIGH was dropped: its first frame was no ATTACH; see that it is a receiver
+  netpump: the peer at the high port HIGH was dropped: it says that it has message 254, and message 3 is the next to be sent; see that its file is of this session
 
 A side that ends early says so at once and closes its port. The other side goes on.
 
@@ -86,3 +88,19 @@ A side that ends early says so at once and closes its port. The other side goes 
   $ timeout 5 netpump receive t.toml 1 100
   $ stop
   netpump: the low side of session 1 has ended: the record could not be written; see that its disk has room, or that its reader is there. Its port LOW is closed, and the high side goes on to its own end; stop this relay and start it again
+
+So does the high side, here where no file may be written.
+
+  $ serve >record
+  $ printf '6869\n-\n6e6577\n66\n' | netpump send t.toml 1 $all 2>/dev/null
+  ack 3
+  $ stop
+  $ mkfifo out err; cat out >record & cat err >said &
+  $ (trap '' XFSZ; ulimit -f 0; exec netpump serve t.toml 1 $all >out 2>err) & relay=$!; sleep 0.5
+  $ timeout 5 netpump receive t.toml 1 200
+  took 1 3
+  $ netpump receive t.toml 1 $all 2>/dev/null
+  fault link
+  [9]
+  $ stop
+  netpump: the high side of session 1 has ended: a call of its file 1.high failed; see that the file's disk has room and works. Its port HIGH is closed, and the low side goes on to its own end; stop this relay and start it again

@@ -42,8 +42,8 @@ use Rattle.pump_audit.specs.Auditing.{history_in}
 use Rattle.pump_audit.specs.Comparing.{ItemTold, offered_bytes, uncounted, item_of, Lists, SideOf, BeginsSide, ArePair, separator, same_told, same_bool, unlike, AreAlike, SameOpening, joined as side_joined}
 use Rattle.pump_audit.specs.Entries.{IsEntry, IsPlainIn, arrival_of}
 use Rattle.pump_audit.specs.Places.{at_place, behind_line, is_opening, takes_looks, takes_times, is_taken}
-use Rattle.pump_audit.specs.Records.{Record, form_of, history_of, Means, look_of, IsNextLook, Follows, with_note}
-use Rattle.pump_audit.specs.Verdicts.{RecordOf, joined, Begins, IsWhole}
+use Rattle.pump_audit.specs.Records.{Record, form_of, history_of, Means, look_of, IsNextLook, Follows, Continues, with_note}
+use Rattle.pump_audit.specs.Verdicts.{RecordOf, LinesOf, joined, IsWhole, IsLife}
 
 -- ---- items that are alike are the same ----
 
@@ -255,6 +255,22 @@ module _ (row : SessionRow) (o : Opening) where
       let fits = subst (λ (t : State). FeedbackFits row t y) (sym (run_same xs ys older)) (fits_of y ys k) in
       (look_same x y (run row o xs) h.0 k.0 (fits_of x xs h) fits p.1, older)
 
+-- ---- whole records are lives ----
+
+continues : (was : Option Record) (e : Entry) (q : Record) → Follows was e q → Continues was e q
+continues None (entries.Opening row next is_held) q follows = follows
+continues None (entries.Coarse session) q follows = absurd follows
+continues None (entries.Look line) q follows = absurd follows
+continues None (entries.Comment note) q follows = absurd follows
+continues (Some r) e q follows = (follows.0, follows.2)
+
+lines_of : (texts : List (List ℕ)) (r : Option Record) → RecordOf texts r → LinesOf texts r
+lines_of [] r h = h
+lines_of (text ∷ before) r (was, of_was, is_text, e, is, q, follows, same) = (was, lines_of before was of_was, is_text, e, is, q, continues was e q follows, same)
+
+pub is_life : (bytes : List ℕ) (r : Record) → IsWhole bytes r → IsLife bytes r
+is_life bytes r h = record { texts = h.begins.texts; lines_of = lines_of h.begins.texts (Some r) h.begins.record_of; bytes_are = h.begins.whole; ends = h.ends }
+
 -- ---- the lines of a record ----
 
 -- the looks go on with one another, and none came yet where only the opening stands
@@ -278,25 +294,25 @@ noted r (notes.Time micros) h = record { next = h.next; none = λ e. absurd (cc)
 noted r (notes.Took count) h = record { next = h.next; none = λ e. absurd (cc) }
 noted r (notes.End accepted removed) h = record { next = h.next; none = λ e. absurd (cc) }
 
-lived_on : (r : Record) (e : Entry) (text : List ℕ) (q : Record) → IsEntry e text → Lived r → Follows (Some r) e q → Lived q
-lived_on r (entries.Opening row next is_held) text q is h follows = absurd follows.2
+lived_on : (r : Record) (e : Entry) (text : List ℕ) (q : Record) → IsEntry e text → Lived r → Continues (Some r) e q → Lived q
+lived_on r (entries.Opening row next is_held) text q is h follows = absurd follows.1
 lived_on r (entries.Coarse session) text q is h follows =
     let p = is_placed (form_of r) (session == r.row.id && is_opening r.place) places.Looks follows.0 in
     let none = h.none (and_parts (session == r.row.id) (is_opening r.place) p.0).1 in
-    subst Lived (sym follows.2)
+    subst Lived (sym follows.1)
     (record {
       next = subst (λ (xs : List Look). AreNext (record r.row { coarse = true }) r.opening xs) (sym none) tt;
       none = λ e. absurd (cc);
     })
 lived_on r (entries.Look line) text q is h follows =
-    subst Lived (sym follows.2.2)
+    subst Lived (sym follows.1.2)
     (record {
-      next = (came_lawful line line.coming is.1, follows.2.1.1, h.next);
+      next = (came_lawful line line.coming is.1, follows.1.1.1, h.next);
       none = λ e. absurd (cc);
     })
-lived_on r (entries.Comment note) text q is h follows = subst Lived (sym follows.2) (noted r note h)
+lived_on r (entries.Comment note) text q is h follows = subst Lived (sym follows.1) (noted r note h)
 
-lived_first : (e : Entry) (q : Record) → Follows None e q → Lived q
+lived_first : (e : Entry) (q : Record) → Continues None e q → Lived q
 lived_first (entries.Opening row next is_held) q follows = subst Lived (sym follows) (record { next = tt; none = λ e. refl })
 lived_first (entries.Coarse session) q follows = absurd follows
 lived_first (entries.Look line) q follows = absurd follows
@@ -306,11 +322,11 @@ abbrev LivedIn : Option Record → Type 0
 LivedIn None = Unit {0}
 LivedIn (Some r) = Lived r
 
-lived_next : (was : Option Record) (e : Entry) (text : List ℕ) (q : Record) → IsEntry e text → LivedIn was → Follows was e q → Lived q
+lived_next : (was : Option Record) (e : Entry) (text : List ℕ) (q : Record) → IsEntry e text → LivedIn was → Continues was e q → Lived q
 lived_next None e text q is h follows = lived_first e q follows
 lived_next (Some r) e text q is h follows = lived_on r e text q is h follows
 
-lived : (texts : List (List ℕ)) (r : Option Record) → RecordOf texts r → LivedIn r
+lived : (texts : List (List ℕ)) (r : Option Record) → LinesOf texts r → LivedIn r
 lived [] r h = subst LivedIn (sym h) tt
 lived (text ∷ before) r (was, of_was, is_text, e, is, q, follows, same) =
     subst LivedIn (sym same) (lived_next was e text q is (lived before was of_was) follows)
@@ -345,8 +361,8 @@ listed_note r (notes.Time micros) e = (_, (is_placed (form_of r) (takes_times r.
 listed_note r (notes.Took count) e = (_, (is_placed (form_of r) (takes_times r.place) places.Taken e).1, refl)
 listed_note r (notes.End accepted removed) e = (_, (is_placed (form_of r) (is_taken r.place) places.End e).1, refl)
 
-listed_on : (r : Record) (e : Entry) (q : Record) → Lived r → Follows (Some r) e q → Lists (Some (side_of r)) e (side_of q)
-listed_on r (entries.Opening row next is_held) q h follows = absurd follows.2
+listed_on : (r : Record) (e : Entry) (q : Record) → Lived r → Continues (Some r) e q → Lists (Some (side_of r)) e (side_of q)
+listed_on r (entries.Opening row next is_held) q h follows = absurd follows.1
 listed_on r (entries.Coarse session) q h follows =
     let p = is_placed (form_of r) (session == r.row.id && is_opening r.place) places.Looks follows.0 in
     let none = h.none (and_parts (session == r.row.id) (is_opening r.place) p.0).1 in
@@ -354,30 +370,30 @@ listed_on r (entries.Coarse session) q h follows =
     let items : items_in row r.looks ≡ items_in r.row r.looks = ap (items_in row) none ∙ sym (ap (items_in r.row) none) in (
       _,
       p.1,
-      ap side_of follows.2
+      ap side_of follows.1
           ∙ ap (λ (is : List ItemTold). record { row = row; opening = r.opening; place = places.Looks; lines = r.lines + 1; items = is }) items,
     )
 listed_on r (entries.Look line) q h follows =
     let p = is_placed (form_of r) (line.session == r.row.id && takes_looks r.place) places.Looks follows.0 in (
       _,
       p.1,
-      ap side_of follows.2.2
+      ap side_of follows.1.2
           ∙ ap (λ (i : ItemTold). record { row = r.row; opening = r.opening; place = places.Looks; lines = r.lines + 1; items = items_in r.row r.looks ++ i ∷ [] })
-          (item_line r.row line follows.2.0 follows.2.1.0),
+          (item_line r.row line follows.1.0 follows.1.1.0),
     )
-listed_on r (entries.Comment note) q h follows = subst (λ (t : Record). Lists (Some (side_of r)) (entries.Comment note) (side_of t)) (sym follows.2) (listed_note r note follows.0)
+listed_on r (entries.Comment note) q h follows = subst (λ (t : Record). Lists (Some (side_of r)) (entries.Comment note) (side_of t)) (sym follows.1) (listed_note r note follows.0)
 
-listed_first : (e : Entry) (q : Record) → Follows None e q → Lists None e (side_of q)
+listed_first : (e : Entry) (q : Record) → Continues None e q → Lists None e (side_of q)
 listed_first (entries.Opening row next is_held) q follows = ap side_of follows
 listed_first (entries.Coarse session) q follows = absurd follows
 listed_first (entries.Look line) q follows = absurd follows
 listed_first (entries.Comment note) q follows = absurd follows
 
-listed_next : (was : Option Record) (e : Entry) (q : Record) → LivedIn was → Follows was e q → Lists (option_map side_of was) e (side_of q)
+listed_next : (was : Option Record) (e : Entry) (q : Record) → LivedIn was → Continues was e q → Lists (option_map side_of was) e (side_of q)
 listed_next None e q h follows = listed_first e q follows
 listed_next (Some r) e q h follows = listed_on r e q h follows
 
-listed : (texts : List (List ℕ)) (r : Option Record) → RecordOf texts r → SideOf texts (option_map side_of r)
+listed : (texts : List (List ℕ)) (r : Option Record) → LinesOf texts r → SideOf texts (option_map side_of r)
 listed [] r h = ap (option_map side_of) h
 listed (text ∷ before) r (was, of_was, is_text, e, is, q, follows, same) =
     (option_map side_of was, listed before was of_was, is_text, e, is, side_of q, listed_next was e q (lived before was of_was) follows, ap (option_map side_of) same)
@@ -386,20 +402,20 @@ joins : (texts : List (List ℕ)) (a b : List ℕ) → joined texts a ++ b ≡ s
 joins [] a b = refl
 joins (text ∷ before) a b = joins before (text ++ 10 ∷ a) b ∙ ap (side_joined before) (append_assoc text (10 ∷ a) b)
 
-begins_side : (bytes rest : List ℕ) (r : Record) → Begins bytes (Some r) [] → BeginsSide (bytes ++ rest) (Some (side_of r)) rest
+begins_side : (bytes rest : List ℕ) (r : Record) → IsLife bytes r → BeginsSide (bytes ++ rest) (Some (side_of r)) rest
 begins_side bytes rest r h = record {
   texts = h.texts;
-  side_of = listed h.texts (Some r) h.record_of;
-  whole = ap (λ (l : List ℕ). l ++ rest) h.whole ∙ joins h.texts [] rest;
+  side_of = listed h.texts (Some r) h.lines_of;
+  whole = ap (λ (l : List ℕ). l ++ rest) h.bytes_are ∙ joins h.texts [] rest;
 }
 
-pub are_pair : (xs ys : List ℕ) (r q : Record) → IsWhole xs r → IsWhole ys q → ArePair (xs ++ (separator ++ 10 ∷ ys)) (side_of r) (side_of q)
+pub are_pair : (xs ys : List ℕ) (r q : Record) → IsLife xs r → IsLife ys q → ArePair (xs ++ (separator ++ 10 ∷ ys)) (side_of r) (side_of q)
 are_pair xs ys r q h k = record {
   left = ys;
-  first = record { rest = separator ++ 10 ∷ ys; begins = begins_side xs (separator ++ 10 ∷ ys) r h.begins; ends = (h.ends, refl) };
+  first = record { rest = separator ++ 10 ∷ ys; begins = begins_side xs (separator ++ 10 ∷ ys) r h; ends = (h.ends, refl) };
   second = record {
     rest = [];
-    begins = subst (λ (bytes : List ℕ). BeginsSide bytes (Some (side_of q)) []) (append-nil ys) (begins_side ys [] q k.begins);
+    begins = subst (λ (bytes : List ℕ). BeginsSide bytes (Some (side_of q)) []) (append-nil ys) (begins_side ys [] q k);
     ends = (k.ends, refl, refl);
   };
 }
@@ -412,12 +428,12 @@ same_lists row o xs ys ts us h k e a b =
     same_lives row (record { opening = o; looks = xs } ∷ []) (record { opening = o; looks = ys } ∷ []) ts us
     (record { opening = refl; looks = looks_same row o xs ys h k e }, tt) a b
 
-pub same_replies : (xs ys : List ℕ) (r q : Record) → IsWhole xs r → IsWhole ys q → SameOpening (side_of r) (side_of q) → AreAlike (side_of r).items (side_of q).items
+pub same_replies : (xs ys : List ℕ) (r q : Record) → IsLife xs r → IsLife ys q → SameOpening (side_of r) (side_of q) → AreAlike (side_of r).items (side_of q).items
     → (ts us : List Sent) → LowReplies r.row (history_of r) ts → LowReplies q.row (history_of q) us → ts ≡ us
 same_replies xs ys r q h k same alike ts us a b =
-    let other = lived k.begins.texts (Some q) k.begins.record_of in
+    let other = lived k.texts (Some q) k.lines_of in
     let row : q.row ≡ r.row = sym same.row in
     let o : q.opening ≡ r.opening = sym same.opening in
     let moved = subst (λ (p : SessionRow × Opening). AreNext p.0 p.1 q.looks × (items_in r.row r.looks ≡ items_in p.0 q.looks) × LowReplies p.0 (history_in p.1 q.looks) us)
     (λ i. (row i, o i)) (other.next, items_same _ _ alike, b) in
-    same_lists r.row r.opening r.looks q.looks ts us (lived h.begins.texts (Some r) h.begins.record_of).next moved.0 moved.1 a moved.2
+    same_lists r.row r.opening r.looks q.looks ts us (lived h.texts (Some r) h.lines_of).next moved.0 moved.1 a moved.2

@@ -184,3 +184,9 @@ abbrev pub Follows : Option Record → Entry → Record → Type 0
 Follows None (entries.Opening row next is_held) q = q ≡ begun row next is_held
 Follows None _ q = ⊥
 Follows (Some r) e q = (is_some (behind (Some (form_of r)) e) ≡ true) × AreTold r (told_by e) × Adds r e q
+
+-- .. in its place, and the life goes on with it, whatever the comments are
+abbrev pub Continues : Option Record → Entry → Record → Type 0
+Continues None (entries.Opening row next is_held) q = q ≡ begun row next is_held
+Continues None _ q = ⊥
+Continues (Some r) e q = (is_some (behind (Some (form_of r)) e) ≡ true) × Adds r e q

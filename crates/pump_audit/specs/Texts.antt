@@ -1,10 +1,12 @@
 -- The lines of a stream as texts. A text has no line end; the lines of a stream stand in a list with the
 -- newest first.
-use Rattle.std.specs.Prelude.{◌≢◌, ℕ, ◌≤◌, List, [], ◌∷◌, ◌++◌, length, count_by, Option, IfSome}
-use Rattle.std.specs.Io.KnownBytes.{Consumes, IsAtEnd}
+use Rattle.std.specs.Prelude.{◌≡◌, ◌≢◌, ℕ, ◌+◌, ◌<◌, ◌≤◌, List, [], ◌∷◌, ◌++◌, length, count_by, Option, IfSome}
+use Rattle.std.specs.Io.KnownBytes.{Consumes, Keeps, IsAtEnd}
 use Rattle.script_reader.specs.Lines.{is_end, IsUnended}
-use Rattle.pump_audit.specs.declared.texts.NextByte.{NextByte}
-use Rattle.pump_audit.specs.declared.texts.NextByte.TheVariants as next
+use Rattle.pump_audit.specs.declared.texts.Ahead.{Ahead}
+use Rattle.pump_audit.specs.declared.texts.Ahead.TheVariants as ahead
+use Rattle.pump_audit.specs.declared.texts.Gathered.{Gathered}
+use Rattle.pump_audit.specs.declared.texts.Gathered.TheVariants as gathered
 use Rattle.pump_audit.specs.declared.texts.Texted.{Texted}
 use Rattle.pump_audit.specs.declared.texts.Texted.TheVariants as texted
 
@@ -29,11 +31,22 @@ IsNextText old new text texted.Cut = IfSome old IsCut
 IsNextText old new text texted.End = IsAtEnd old
 IsNextText old new text texted.Failed = Unit {0}
 
--- .. and a reader of bytes
-abbrev pub IsNextByte : Option (List ℕ) → Option (List ℕ) → NextByte → Type 0
-IsNextByte old new (next.Byte byte) = Consumes old new (byte ∷ [])
-IsNextByte old new next.End = IsAtEnd old × Consumes old new []
-IsNextByte old new next.Failed = Consumes old new []
+-- what a reader has read ahead before it goes on with a line
+abbrev pub IsAhead : Option (List ℕ) → Option (List ℕ) → List ℕ → Ahead → Type 0
+IsAhead old new held ahead.Some = Keeps old new × (0 < length held)
+IsAhead old new held ahead.End = Keeps old new × IsAtEnd new
+IsAhead old new held ahead.Failed = Keeps old new
+
+-- what of the bytes held joins a text: they have its end, or no end, or more than fits
+abbrev pub IsGathered : List ℕ → List ℕ → List ℕ → List ℕ → Gathered → Type 0
+IsGathered old new text more gathered.End = (piece : List ℕ) × IsUnended piece × (old ≡ piece ++ 10 ∷ new) × (more ≡ text ++ piece) × (length more ≤ longest)
+IsGathered old new text more gathered.More = IsUnended old × (new ≡ []) × (more ≡ text ++ old) × (length more ≤ longest)
+IsGathered old new text more gathered.Long = (piece rest : List ℕ) × IsUnended piece × (old ≡ piece ++ rest) × (longest < length text + length piece)
+
+-- what comes at the end of a stream, behind this text
+abbrev pub IsTextAtEnd : List ℕ → Texted → Type 0
+IsTextAtEnd [] t = t ≡ texted.End
+IsTextAtEnd (byte ∷ more) t = t ≡ texted.Cut
 
 -- how many lines the bytes end
 abbrev pub line_ends : List ℕ → ℕ

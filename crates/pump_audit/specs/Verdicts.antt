@@ -19,7 +19,7 @@ use Rattle.pump_audit.specs.declared.verdict.Verdict.TheVariants.{Yes, No}
 use Rattle.pump_audit.specs.Claims.{has_end, AreRight, IsFirstWrong}
 use Rattle.pump_audit.specs.Entries.{IsEntry}
 use Rattle.pump_audit.specs.Places.{behind, may_end}
-use Rattle.pump_audit.specs.Records.{Record, form_of, form_in, lines_in, history_of, GoesOn, told_by, AreTold, Follows}
+use Rattle.pump_audit.specs.Records.{Record, form_of, form_in, lines_in, history_of, GoesOn, told_by, AreTold, Follows, Continues}
 use Rattle.pump_audit.specs.Texts.{IsText, IsCut as IsCutOff}
 
 -- ---- the lines that are right ----
@@ -103,6 +103,20 @@ pub record IsRightEnd (r : Record) : Type 0 where
   pub parts : List Part
   pub cut : IsCut r.row (history_of r).life parts
   pub stored : r.accepted ≡ count_after r.opening parts
+
+-- ---- records whose comments may be wrong ----
+
+-- the lines, without their ends, are those of this record, each with none of the causes 1 and 2
+abbrev pub LinesOf : List (List ℕ) → Option Record → Type 0
+LinesOf [] r = r ≡ None
+LinesOf (text ∷ before) r = (was : Option Record) × LinesOf before was × IsText text × (e : Entry) × IsEntry e text × (q : Record) × Continues was e q × (r ≡ Some q)
+
+-- the bytes are this record, to its end, with none of the causes 1 and 2
+pub record IsLife (bytes : List ℕ) (r : Record) : Type 0 where
+  pub texts : List (List ℕ)
+  pub lines_of : LinesOf texts (Some r)
+  pub bytes_are : bytes ≡ joined texts []
+  pub ends : may_end (Some (form_of r)) ≡ true
 
 -- ---- the verdict ----
 

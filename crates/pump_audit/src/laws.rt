@@ -12,7 +12,7 @@ ghost use Rattle.pump_audit.specs.Texts.{line_ends};
 ghost use Rattle.pump_audit.specs.declared.compared.Compared.{Compared};
 ghost use Rattle.pump_audit.specs.declared.compared.Compared.TheVariants.{Agree};
 ghost use Rattle.pump_audit.specs.declared.verdict.Verdict.{Verdict};
-ghost use Rattle.pump_audit.specs.Verdicts.{IsWhole, IsClean, IsVerdict};
+ghost use Rattle.pump_audit.specs.Verdicts.{IsWhole, IsLife, IsClean, IsVerdict};
 
 /// The comments of a clean record are the low process's replies, each with its moment, and all of them.
 pub fn clean_records_tell_all_replies()
@@ -39,9 +39,11 @@ pub fn comparisons_are_one()
     ensures { (bytes : List ℕ) (v w : Compared) → line_ends bytes < 2 ^ 32 → IsCompared bytes v → IsCompared bytes w → v ≡ w }
 {}
 
-/// Two whole records with the line between them are the pair of their sides.
+/// Two records without the causes 1 and 2, with the line between them, are the pair of their sides. A whole record is
+/// such a record.
 pub fn records_are_their_sides()
-    ensures { (xs ys : List ℕ) (r q : Record) → IsWhole xs r → IsWhole ys q → ArePair (xs ++ (separator ++ 10 ∷ ys)) (side_of r) (side_of q) }
+    ensures pair { (xs ys : List ℕ) (r q : Record) → IsLife xs r → IsLife ys q → ArePair (xs ++ (separator ++ 10 ∷ ys)) (side_of r) (side_of q) }
+    ensures whole { (bytes : List ℕ) (r : Record) → IsWhole bytes r → IsLife bytes r }
 {}
 
 /// Bytes are one pair of sides at most.
@@ -49,9 +51,9 @@ pub fn pairs_are_one()
     ensures { (bytes : List ℕ) (a b c d : SideTold) → ArePair bytes a b → ArePair bytes c d → (a ≡ c) × (b ≡ d) }
 {}
 
-/// Two whole records whose sides agree have the same replies, at the same moments. Two clean records that are
-/// found to agree have the same comments.
+/// Two records without the causes 1 and 2 whose sides agree have the same replies, at the same moments. Two clean
+/// records that are found to agree have the same comments.
 pub fn records_that_agree_reply_alike()
-    ensures replies { (xs ys : List ℕ) (r q : Record) (items : ℕ) → IsWhole xs r → IsWhole ys q → SidesAre (side_of r) (side_of q) (Agree items) → (ts us : List Sent) → LowReplies r.row (history_of r) ts → LowReplies q.row (history_of q) us → ts ≡ us }
+    ensures replies { (xs ys : List ℕ) (r q : Record) (items : ℕ) → IsLife xs r → IsLife ys q → SidesAre (side_of r) (side_of q) (Agree items) → (ts us : List Sent) → LowReplies r.row (history_of r) ts → LowReplies q.row (history_of q) us → ts ≡ us }
     ensures comments { (xs ys : List ℕ) (r q : Record) (items : ℕ) → IsClean xs r → IsClean ys q → IsCompared (xs ++ (separator ++ 10 ∷ ys)) (Agree items) → r.comments ≡ q.comments }
 {}

@@ -4,8 +4,8 @@ ghost use Rattle.std.specs.Prelude.{◌≡◌, ◌+◌, ◌^◌, ◌<◌, ◌≤
 ghost use Rattle.pump_core.specs.History.{Arrival as Offered};
 ghost use Rattle.script_reader.specs.Steps.{coming};
 ghost use Rattle.two_worlds.specs.Private.Arrivals.{added_of, IsFed, Gathers};
+ghost use Rattle.two_worlds.specs.declared.connection.Waiting.{Waiting as Waits};
 
-use arrayvec::ArrayVec;
 use low_process::Arrival;
 use pump_frame::{Fed, Frame, Kind, Name, OutOfMemory, Payload, Reader};
 use script_reader::ArrivingHead;
@@ -73,59 +73,6 @@ fn feed_raw(reader: &mut Reader, byte: u8) -> Option<Waiting>
     }
 }
 
-/// One more arrival goes onto a list of which the first 64 are held.
-fn hold(held: &mut ArrayVec<Waiting, 64>, next: Waiting)
-    ensures { held.new.items ≡ take 64 (held.old.items ++ next ∷ []) }
-{
-    if held.len() < 64 {
-        held.push(next);
-    }
-}
-
-/// One more raw byte: what it brings is held where there is room, and counted.
-fn read_byte(reader: &mut Reader, byte: u8, held: &mut ArrayVec<Waiting, 64>, count: usize) -> usize
-    requires { count < 2 ^ 32 }
-    ensures gathers { (added : List Offered) → Gathers added held.old.items count
-        → (more : List Offered) × IsFed reader.old (byte ∷ []) (coming more reader.new)
-        × Gathers (added ++ more) held.new.items result }
-    ensures count { result ≤ count + 1 }
-{
-    match feed_raw(reader, byte) {
-        None => count,
-        Some(next) => {
-            hold(held, next);
-            count + 1
-        }
-    }
-}
-
-/// What raw bytes bring: the first 64 arrivals, and how many there are.
-fn read_raw(reader: &mut Reader, bytes: &[u8], held: &mut ArrayVec<Waiting, 64>) -> usize
-    requires empty { held.old.items ≡ [] }
-    requires few { length bytes.now ≤ 1042 }
-    ensures { (added : List Offered) × IsFed reader.old bytes.now (coming added reader.new)
-        × Gathers added held.new.items result }
-{
-    let mut count = 0;
-    for byte in bytes {
-        count = read_byte(reader, *byte, held, count);
-    }
-    count
-}
-
-/// These join the list.
-fn append(list: &mut Vec<Waiting>, more: &ArrayVec<Waiting, 64>)
-    requires few { vec_len list.old + length more.now.items ≤ 64 }
-    requires room { 64 ≤ vec_capacity list.old }
-    ensures items { list.new.items ≡ list.old.items ++ more.now.items }
-    ensures few { vec_len list.new ≤ 64 }
-    ensures room { 64 ≤ vec_capacity list.new }
-{
-    if list.extend_from_slice(more.as_slice()).is_err() {
-        unreachable!();
-    }
-}
-
 /// How many wait.
 fn count_of(list: &Vec<Waiting>) -> usize
     requires { vec_len list.now ≤ 64 }
@@ -133,6 +80,57 @@ fn count_of(list: &Vec<Waiting>) -> usize
     ensures fits { result ≤ 64 }
 {
     list.len()
+}
+
+/// One more arrival waits, where there is room for it.
+fn hold(waits: &mut Vec<Waiting>, next: Waiting)
+    requires few { vec_len waits.old ≤ 64 }
+    requires room { 64 ≤ vec_capacity waits.old }
+    ensures items { waits.new.items ≡ take 64 (waits.old.items ++ next ∷ []) }
+    ensures few { vec_len waits.new ≤ 64 }
+    ensures room { 64 ≤ vec_capacity waits.new }
+{
+    if count_of(waits) < 64 {
+        waits.push_reserved(next);
+    }
+}
+
+/// One more raw byte: what it brings waits where there is room, and is counted.
+fn read_byte(reader: &mut Reader, byte: u8, waits: &mut Vec<Waiting>, count: usize) -> usize
+    requires count { count < 2 ^ 32 }
+    requires few { vec_len waits.old ≤ 64 }
+    requires room { 64 ≤ vec_capacity waits.old }
+    ensures gathers { (before : List Waits) (added : List Offered) → Gathers before added waits.old.items count
+        → (more : List Offered) × IsFed reader.old (byte ∷ []) (coming more reader.new)
+        × Gathers before (added ++ more) waits.new.items result }
+    ensures count { result ≤ count + 1 }
+    ensures few { vec_len waits.new ≤ 64 }
+    ensures room { 64 ≤ vec_capacity waits.new }
+{
+    match feed_raw(reader, byte) {
+        None => count,
+        Some(next) => {
+            hold(waits, next);
+            count + 1
+        }
+    }
+}
+
+/// What raw bytes bring waits as far as there is room; answers how many would wait with all of it.
+fn read_raw(reader: &mut Reader, bytes: &[u8], waits: &mut Vec<Waiting>) -> usize
+    requires bytes { length bytes.now ≤ 1042 }
+    requires few { vec_len waits.old ≤ 64 }
+    requires room { 64 ≤ vec_capacity waits.old }
+    ensures gathers { (added : List Offered) × IsFed reader.old bytes.now (coming added reader.new)
+        × Gathers waits.old.items added waits.new.items result }
+    ensures few { vec_len waits.new ≤ 64 }
+    ensures room { 64 ≤ vec_capacity waits.new }
+{
+    let mut count = count_of(waits);
+    for byte in bytes {
+        count = read_byte(reader, *byte, waits, count);
+    }
+    count
 }
 
 impl Connection {
@@ -175,13 +173,12 @@ impl Connection {
     {
         // What the reader holds is the front of a frame.
         let _stopped = self.reader.is_stopped();
+        let before = count_of(&self.waits);
         let mut reader = self.reader.duplicate();
-        let mut held = ArrayVec::new();
-        let count = read_raw(&mut reader, bytes, &mut held);
-        if count > 64 - count_of(&self.waits) {
+        if read_raw(&mut reader, bytes, &mut self.waits) > 64 {
+            self.waits.truncate(before);
             return false;
         }
-        append(&mut self.waits, &held);
         self.reader = reader;
         true
     }

@@ -96,30 +96,47 @@ take_fits (suc n) [] le = refl
 take_fits zero (x ∷ xs) le = absurd (omega (arith, le))
 take_fits (suc n) (x ∷ xs) le = ap (λ l. x ∷ l) (take_fits n xs (omega (arith, le)))
 
-pub gathers_none : (held : List Waiting) → held ≡ [] → Gathers [] held 0
-gathers_none held e = record { all = []; are = refl; held_are = e; counted = refl }
+take_front : {X : Type 0} (n : ℕ) (xs ys : List X) → length xs ≤ n → take (length xs) (take n (xs ++ ys)) ≡ xs
+take_front n [] ys le = refl
+take_front zero (x ∷ xs) ys le = absurd (omega (arith, le))
+take_front (suc n) (x ∷ xs) ys le = ap (λ l. x ∷ l) (take_front n xs ys (omega (arith, le)))
 
-pub gathers_more : (added : List Arrival) (held later : List Waiting) (count : ℕ) (w : Waiting) → Gathers added held count → later ≡ take 64 (held ++ w ∷ []) → Gathers (added ++ arrival_of w ∷ []) later (count + 1)
-gathers_more added held later count w g e = record {
-  all = g.all ++ w ∷ [];
-  are = map-append arrival_of g.all (w ∷ []) ∙ ap (λ l. l ++ arrival_of w ∷ []) g.are;
-  held_are = e ∙ ap (λ l. take 64 (l ++ w ∷ [])) g.held_are ∙ take_take 64 g.all (w ∷ []);
-  counted = ap (λ n. n + 1) g.counted ∙ sym (length-append g.all (w ∷ []));
-}
+module _ (before : List Waiting) where
+  pub gathers_none : length before ≤ 64 → Gathers before [] before (length before)
+  gathers_none few = record {
+    all = [];
+    are = refl;
+    held_are = sym (ap (λ l. take 64 l) (append-nil before) ∙ take_fits 64 before few);
+    counted = sym (ap length (append-nil before));
+  }
 
--- where all fit, all are held
-pub gathered : (added : List Arrival) (held : List Waiting) (count : ℕ) → Gathers added held count → count ≤ 64 → arrivals_of held ≡ added
-gathered added held count g few =
-    let le : length g.all ≤ 64 = (let n = g.counted in omega (arith, n, few)) in
-    ap arrivals_of (g.held_are ∙ take_fits 64 g.all le) ∙ g.are
+  pub gathers_more : (added : List Arrival) (held later : List Waiting) (count : ℕ) (w : Waiting)
+      → Gathers before added held count → later ≡ take 64 (held ++ w ∷ []) → Gathers before (added ++ arrival_of w ∷ []) later (count + 1)
+  gathers_more added held later count w g e =
+      let behind : (before ++ g.all) ++ w ∷ [] ≡ before ++ (g.all ++ w ∷ []) = append_assoc before g.all (w ∷ []) in
+      record {
+        all = g.all ++ w ∷ [];
+        are = map-append arrival_of g.all (w ∷ []) ∙ ap (λ l. l ++ arrival_of w ∷ []) g.are;
+        held_are = e ∙ ap (λ l. take 64 (l ++ w ∷ [])) g.held_are ∙ take_take 64 (before ++ g.all) (w ∷ []) ∙ ap (λ l. take 64 l) behind;
+        counted = ap (λ n. n + 1) g.counted ∙ sym (length-append (before ++ g.all) (w ∷ [])) ∙ ap length behind;
+      }
 
-pub gathered_length : (added : List Arrival) (held : List Waiting) (count : ℕ) → Gathers added held count → length added ≡ count
-gathered_length added held count g = ap length (sym g.are) ∙ length-map g.all arrival_of ∙ sym g.counted
+  module _ (added : List Arrival) (held : List Waiting) (count : ℕ) (g : Gathers before added held count) where
+    -- where all fit, all are held
+    pub gathered : count ≤ 64 → arrivals_of held ≡ arrivals_of before ++ added
+    gathered few =
+        let le : length (before ++ g.all) ≤ 64 = (let n = g.counted in omega (arith, n, few)) in
+        ap arrivals_of (g.held_are ∙ take_fits 64 (before ++ g.all) le) ∙ map-append arrival_of before g.all ∙ ap (λ (l : List Arrival). arrivals_of before ++ l) g.are
 
-pub held_length : (added : List Arrival) (held : List Waiting) (count : ℕ) → Gathers added held count → count ≤ 64 → length held ≡ count
-held_length added held count g few =
-    let le : length g.all ≤ 64 = (let n = g.counted in omega (arith, n, few)) in
-    ap length (g.held_are ∙ take_fits 64 g.all le) ∙ sym g.counted
+    pub gathered_length : length (arrivals_of before ++ added) ≡ count
+    gathered_length =
+        ap (λ (l : List Arrival). length (arrivals_of before ++ l)) (sym g.are)
+        ∙ ap length (sym (map-append arrival_of before g.all)) ∙ length-map (before ++ g.all) arrival_of ∙ sym g.counted
+
+    -- cut back to what waited before
+    pub cut_back : length before ≤ 64 → take (length before) held ≡ before
+    cut_back few =
+        ap (λ l. take (length before) l) g.held_are ∙ take_front 64 before g.all few
 
 pub push_fits : (xs : List Waiting) (x : Waiting) (n : ℕ) → n ≡ length xs → n < 64 → take 64 (xs ++ x ∷ []) ≡ xs ++ x ∷ []
 push_fits xs x n e less = take_fits 64 (xs ++ x ∷ []) (omega (arith, e, less, length-append xs (x ∷ [])))
@@ -129,12 +146,3 @@ push_full xs x n e most least =
     let many : 64 ≤ length xs = omega (arith, e, most) in
     let few : length xs ≤ 64 = omega (arith, e, least) in
     take-append-le 64 xs (x ∷ []) many ∙ take_fits 64 xs few
-
-pub crowded : (waits : List Waiting) (added : List Arrival) (count n : ℕ) → n ≡ length waits → length added ≡ count → 64 - n < count → 64 < length (arrivals_of waits ++ added)
-crowded waits added count n e f many = omega (arith, e, f, many, length-append (arrivals_of waits) added, length-map waits arrival_of)
-
-pub roomy : (waits : List Waiting) (added : List Arrival) (count n : ℕ) → n ≡ length waits → n ≤ 64 → length added ≡ count → count ≤ 64 - n → length (arrivals_of waits ++ added) ≤ 64
-roomy waits added count n e top f few = omega (arith, e, top, f, few, length-append (arrivals_of waits) added, length-map waits arrival_of)
-
-pub roomy_held : (waits held : List Waiting) (count n : ℕ) → n ≡ length waits → n ≤ 64 → length held ≡ count → count ≤ 64 - n → length (waits ++ held) ≤ 64
-roomy_held waits held count n e top f few = omega (arith, e, top, f, few, length-append waits held)

@@ -33,9 +33,9 @@ IsFed r bytes c =
     (frames : List Frame) × Reads r bytes frames c.reading
     × (c.added ≡ came frames ++ newly_bad r c.reading)
 
--- of these arrivals the first 64 are held, and all are counted
-pub record Gathers (added : List Arrival) (held : List Waiting) (count : ℕ) : Type 0 where
+-- these arrivals come behind what waited before; of all the first 64 are held, and all are counted
+pub record Gathers (before : List Waiting) (added : List Arrival) (held : List Waiting) (count : ℕ) : Type 0 where
   pub all : List Waiting
   pub are : arrivals_of all ≡ added
-  pub held_are : held ≡ take 64 all
-  pub counted : count ≡ length all
+  pub held_are : held ≡ take 64 (before ++ all)
+  pub counted : count ≡ length (before ++ all)

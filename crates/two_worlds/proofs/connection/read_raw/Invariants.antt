@@ -1,10 +1,14 @@
-use Rattle.std.proofs.Common.{◌≤◌, take, List}
+use Rattle.std.proofs.Common.{◌+◌, ◌≤◌, take, List}
+use Rattle.std.specs.Prelude.{vec_len, vec_capacity}
 use Rattle.pump_core.specs.History.{Arrival}
 use Rattle.script_reader.specs.Steps.{coming}
 use Rattle.two_worlds.specs.Private.Arrivals.{IsFed, Gathers}
 use Rattle.two_worlds.proofs.connection.read_raw.Given as goal
 
 abbrev pub invariant-loop-byte : goal.invariant-loop-byte
-invariant-loop-byte l =
-    ((added : List Arrival) × IsFed l.fn.reader (take l.byte-index l.bytes) (coming added l.reader) × Gathers added l.held.items l.count)
-    × (l.count ≤ l.byte-index)
+invariant-loop-byte l = record {
+  gathers : (added : List Arrival) × IsFed l.fn.reader (take l.byte-index l.bytes) (coming added l.reader) × Gathers l.fn.waits.items added l.waits.items l.count;
+  count : l.count ≤ 64 + l.byte-index;
+  few : vec_len l.waits ≤ 64;
+  room : 64 ≤ vec_capacity l.waits;
+}

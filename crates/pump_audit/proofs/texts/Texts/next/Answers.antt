@@ -1,63 +1,19 @@
-use Rattle.std.proofs.Common.{◌≡◌, ◌∙◌, ℕ, List, [], ◌∷◌, length, refl, sym, arith, false, ◌==◌}
-use Rattle.std.proofs.KnownBytes.{Consumes-trans}
-use Rattle.std.proofs.lemmas.Bool.{eqb-true}
-use Rattle.pump_audit.proofs.TextLaws.{long_line, last_line, no_line_left, not_zero}
+use Rattle.std.proofs.KnownBytes.{Consumes-kept}
+use Rattle.pump_audit.proofs.TextLaws.{at_end_is, never_failed, line_is_long}
 use Rattle.pump_audit.proofs.texts.Texts.next.Goals as goal
 
-nothing : (xs : List ℕ) → length xs ≡ 0 → xs ≡ []
-nothing [] none = refl
-nothing (x ∷ xs) none = absurd (omega (arith, none))
+pub returns-in-End-clause-next : goal.returns-in-End-clause-next
+returns-in-End-clause-next g c =
+    let was = c.pieces.invariant in
+    let ahead = c.in-End.ensures.ahead in
+    at_end_is _ _ _ c.pieces.text.items c.pieces.text.items c.at_end.result (Consumes-kept _ _ _ _ was.line ahead.0) ahead.1 was.unended c.at_end.ensures
 
-pub returns-in-Byte-eq10-clause-next : goal.returns-in-Byte-eq10-clause-next
-returns-in-Byte-eq10-clause-next g c =
-    let was = c.bytes.invariant in (
-      record { unended = was.unended; short = was.short },
-      Consumes-trans _ _ _ _ _ was.line (rw c.in-Byte-eq10.field-0-test at c.in-Byte-eq10.ensures.byte),
-    )
+pub returns-in-End-clause-failed : goal.returns-in-End-clause-failed
+returns-in-End-clause-failed g c = λ failed. absurd (never_failed c.pieces.text.items c.at_end.result c.at_end.ensures failed)
 
-pub returns-then-is_full-clause-next : goal.returns-then-is_full-clause-next
-returns-then-is_full-clause-next g c =
-    let was = c.bytes.invariant in
-    let full : length c.bytes.text.items ≡ 2400 = eqb-true _ _ (sym c.is_full.ensures.value ∙ c.if-is_full.true) in
-    long_line _ _ _ c.bytes.text.items c.in-Byte.byte was.line c.in-Byte.ensures.byte was.unended c.in-Byte.byte-test.1 (omega (arith, full))
-
-pub returns-else-is_empty-clause-next : goal.returns-else-is_empty-clause-next
-returns-else-is_empty-clause-next g c =
-    let was = c.bytes.invariant in
-    let test : (length c.bytes.text.items == 0) ≡ false = sym c.is_empty.ensures ∙ c.if-is_empty.false in
-    last_line _ _ c.bytes.text.items was.line c.in-End.ensures.byte.0 was.unended (not_zero _ test)
-
-pub returns-then-is_empty : goal.returns-then-is_empty
-returns-then-is_empty g c =
-    let was = c.bytes.invariant in
-    let none : length c.bytes.text.items ≡ 0 = eqb-true _ _ (sym c.is_empty.ensures ∙ c.if-is_empty.true) in
-    record {
-      next = no_line_left _ _ c.bytes.text.items was.line c.in-End.ensures.byte.0 (nothing c.bytes.text.items none);
-      later = omega (arith, was.later, c.in-End.ensures.later);
-      failed = λ is. cc;
-    }
-
-pub returns-in-Failed : goal.returns-in-Failed
-returns-in-Failed g c = record {
-  next = tt;
-  later = omega (arith, c.bytes.invariant.later, c.in-Failed.ensures.later);
-  failed = λ is. (let rose = c.in-Failed.ensures.failed refl in let before = c.bytes.invariant.later in omega (arith, rose, before));
-}
-
-pub returns-in-Byte-eq10-clause-later : goal.returns-in-Byte-eq10-clause-later
-returns-in-Byte-eq10-clause-later g c = omega (arith, c.bytes.invariant.later, c.in-Byte-eq10.ensures.later)
-
-pub returns-in-Byte-eq10-clause-failed : goal.returns-in-Byte-eq10-clause-failed
-returns-in-Byte-eq10-clause-failed g c = λ is. cc
-
-pub returns-then-is_full-clause-later : goal.returns-then-is_full-clause-later
-returns-then-is_full-clause-later g c = omega (arith, c.bytes.invariant.later, c.in-Byte.ensures.later)
-
-pub returns-then-is_full-clause-failed : goal.returns-then-is_full-clause-failed
-returns-then-is_full-clause-failed g c = λ is. cc
-
-pub returns-else-is_empty-clause-later : goal.returns-else-is_empty-clause-later
-returns-else-is_empty-clause-later g c = omega (arith, c.bytes.invariant.later, c.in-End.ensures.later)
-
-pub returns-else-is_empty-clause-failed : goal.returns-else-is_empty-clause-failed
-returns-else-is_empty-clause-failed g c = λ is. cc
+pub returns-in-Long-clause-next : goal.returns-in-Long-clause-next
+returns-in-Long-clause-next g c =
+    let was = c.pieces.invariant in
+    let long = c.in-Long.ensures in
+    line_is_long _ (g.I.Source.left c.read_ahead.new.tape) c.read_ahead.new.self c.pieces.text.items long.0 long.1
+    (Consumes-kept _ _ _ _ was.line c.in-Some.ensures.ahead.0) was.unended long.2 long.3 long.4

@@ -2,12 +2,14 @@
 use Rattle.std.proofs.Common.{◌≡◌, ◌≤◌, ℕ, Bool, true, List, Option, None, Some, inl, inr, refl, sym, ap, ◌∙◌, subst, arith}
 use Rattle.std.specs.Prelude.{◌⊎◌, ◌&&◌}
 use Rattle.disk_model.specs.Disk.{Meaning}
+use Rattle.disk_model.specs.Shelf.{Holdings}
 use Rattle.disk_model.specs.declared.disk.Disk.{Ghosts}
 use Rattle.disk_model.specs.declared.name.Role.{Role}
 use Rattle.disk_model.specs.declared.name.Role.TheVariants as roles
 use Rattle.pump_chain.specs.Failing.{FailNoLess}
 use Rattle.pump_chain.specs.Opening.{disk_in, trio_of, AreLeft, IsUnopened, IsApart, ComeBackFor}
-use Rattle.pump_chain.specs.Standing.{RoseAt, IsCounted}
+use Rattle.pump_chain.specs.Chained.{Share, Skipped, OfFirst, OfSecond, MakesFirst, MakesSecond, OfNone, share_by}
+use Rattle.pump_chain.specs.Standing.{FailsBy, IsCounted}
 use Rattle.pump_chain.specs.declared.chain.Chain.{Chain}
 use Rattle.pump_chain.specs.declared.not_chained.ChainWhy.{ChainWhy}
 use Rattle.pump_chain.specs.declared.not_chained.ChainWhy.TheVariants as reasons
@@ -20,7 +22,9 @@ use Rattle.recovery.specs.declared.why.Why.{Why}
 use Rattle.recovery.specs.declared.why.Why.TheVariants as whys
 use Rattle.script_reader.specs.declared.fault.Fault.{Fault}
 use Rattle.script_reader.specs.declared.fault.Fault.TheVariants as faults
+use Rattle.script_reader.specs.declared.line.Arriving.TheVariants.{Nothing}
 use Rattle.script_reader.specs.declared.line.Line.{Line}
+use Rattle.script_replay.specs.Failing.{CameBackFailed}
 use Rattle.script_replay.specs.Runners.{Closes, fault_of}
 use Rattle.script_replay.specs.Shelves.{Places, disk_name, LeavesOtherSessions}
 use Rattle.script_replay.specs.declared.ended.Ended.{Ended}
@@ -30,9 +34,9 @@ use Rattle.two_worlds.specs.declared.applied.Stop.{Stop}
 use Rattle.two_worlds.specs.declared.applied.Stop.TheVariants as stops
 use Rattle.two_worlds.specs.declared.pump.Pump.{Pump}
 use Rattle.two_worlds.specs.Openings.{LeavesDisk, ComeBack}
-use Rattle.two_worlds.specs.Pumps.{disk_at}
+use Rattle.two_worlds.specs.Pumps.{disk_at, row_of}
 use Rattle.chain_replay.specs.Faults.{chain_fault, IsHalted}
-use Rattle.chain_replay.specs.Private.{outcome_by, AllRiseAt, AreOutAt, HasFailedAt, HasFailed, IsDevice, IsDeviceEnd}
+use Rattle.chain_replay.specs.Private.{outcome_by, AllRiseAt, AreOutAt, AreBackAt, HasFailedAt, HasFailed, IsDevice, IsDeviceEnd}
 use Rattle.chain_replay.specs.Scripts.{Begun}
 use Rattle.chain_replay.specs.declared.turn.Outcome.{Outcome}
 use Rattle.chain_replay.specs.declared.turn.Outcome.TheVariants as outcomes
@@ -59,15 +63,18 @@ rose_back m places session old new first mid last low out rises (role, rose) =
 -- ---- no chain is opened ----
 
 module _ {D : Type 0} (m : Meaning D) (row : SessionRow) (old new : Trio D) where
-  rose_at : (role : Role) (failed : Bool) → failed ≡ true → LeavesDisk m row role (disk_in role old) (disk_in role new) failed → HasFailedAt m old new
-  rose_at role failed e l = (role, rises_more m _ _ _ failed e l.serves)
+  abbrev pub RoseIn : Role → Type 0
+  RoseIn role = Rose (m.count (disk_in role old)) (m.count (disk_in role new))
 
-  left_failed : (role : Role) → AreLeft m row old new (Some role) → HasFailedAt m old new
+  rose_at : (role : Role) (failed : Bool) → failed ≡ true → LeavesDisk m row role (disk_in role old) (disk_in role new) failed → RoseIn role
+  rose_at role failed e l = rises_more m _ _ _ failed e l.serves
+
+  pub left_failed : (role : Role) → AreLeft m row old new (Some role) → RoseIn role
   left_failed roles.Low l = rose_at roles.Low true refl l.low
   left_failed roles.High l = rose_at roles.High true refl l.high
   left_failed roles.Recv l = rose_at roles.Recv true refl l.recv
 
-  come_failed : (at : Role) (why : Why) → ComeBack m row old.low old.high old.recv (record { role = at; why = Some why; low = new.low; high = new.high; recv = new.recv }) → is_device why ≡ true → HasFailedAt m old new
+  pub come_failed : (at : Role) (why : Why) → ComeBack m row old.low old.high old.recv (record { role = at; why = Some why; low = new.low; high = new.high; recv = new.recv }) → is_device why ≡ true → RoseIn at
   come_failed roles.Low why e d = rose_at roles.Low (is_device why && true) (ap (λ (b : Bool). b && true) d) e.low_disk
   come_failed roles.High why e d = rose_at roles.High (is_device why && true) (ap (λ (b : Bool). b && true) d) e.high_disk
   come_failed roles.Recv why e d = rose_at roles.Recv (is_device why && true) (ap (λ (b : Bool). b && true) d) e.recv_disk
@@ -99,18 +106,18 @@ module _ {D : Type 0} (m : Meaning D) (one two : SessionRow) (old new : Six D) (
   by_first reasons.Memory h is = absurd (cc is)
   by_first (reasons.Link count bound) h is = absurd h
   by_first (reasons.Unlike number) h is = absurd h
-  by_first (reasons.Pump session role why) (id, e) is = inl (come_failed m one old.first new.first role why e (is_device_of session role why (of_why _ is)))
+  by_first (reasons.Pump session role why) (id, e) is = inl (role, come_failed m one old.first new.first role why e (is_device_of session role why (of_why _ is)))
 
   by_second : (why : ChainWhy) → IsUnopened m two old.second new.second why → chain_fault two.id why ≡ Some fault → Failed
   by_second reasons.Memory h is = absurd (cc is)
   by_second (reasons.Link count bound) h is = absurd h
   by_second (reasons.Unlike number) h is = absurd h
-  by_second (reasons.Pump session role why) (id, e) is = inr (come_failed m two old.second new.second role why e (is_device_of session role why (of_why _ is)))
+  by_second (reasons.Pump session role why) (id, e) is = inr (role, come_failed m two old.second new.second role why e (is_device_of session role why (of_why _ is)))
 
   by_apart : (why : ChainWhy) → IsApart m one two old new why → chain_fault two.id why ≡ Some fault → Failed
   by_apart reasons.Memory h is = absurd h
-  by_apart (reasons.Pump session role why) (inl (id, at, h, failed)) is = inl (left_failed m one old.first new.first role h.0.left)
-  by_apart (reasons.Pump session role why) (inr (id, at, h, failed)) is = inr (left_failed m two old.second new.second role h.1.left)
+  by_apart (reasons.Pump session role why) (inl (id, at, h, failed)) is = inl (role, left_failed m one old.first new.first role h.0.left)
+  by_apart (reasons.Pump session role why) (inr (id, at, h, failed)) is = inr (role, left_failed m two old.second new.second role h.1.left)
   by_apart (reasons.Link count bound) h is = absurd (of_why (faults.Disk two.id roles.Low 12 count bound) is)
   by_apart (reasons.Unlike number) h is = absurd (of_why (faults.Disk two.id roles.Low 13 number 0) is)
 
@@ -118,6 +125,20 @@ module _ {D : Type 0} (m : Meaning D) (one two : SessionRow) (old new : Six D) (
   device_rose why (inl h) is = by_first why h.0 is
   device_rose why (inr (inl h)) is = by_second why h.1 is
   device_rose why (inr (inr h)) is = by_apart why h is
+
+-- a disk of the session came back so
+pub came_back : {S D : Type 0} (h : Holdings S) (m : Meaning D) (lent : S) (last : Places) (session : ℕ) (old new : Trio D) → AreOutAt m (h.disk lent) session old → (h.tells → AreBackAt m last session new) → (role : Role) → Rose (m.count (disk_in role old)) (m.count (disk_in role new))
+    → CameBackFailed h m last session role
+came_back h m lent last session old new out back role rose =
+    let o = out role in
+    record {
+      lent = lent;
+      given = o.0;
+      disk = disk_in role new;
+      out = o.1;
+      rose = rose_more o.0 (m.count (disk_in role old)) (m.count (disk_in role new)) o.2 rose;
+      back = λ told. back told role;
+    }
 
 -- ---- a line stops the chain ----
 
@@ -128,23 +149,28 @@ since : {D : Type 0} (m : Meaning D) (s t u : Trio D) → ((role : Role) → m.c
 since m s t u low (role, rose) = (role, (let least = low role in omega (arith, least, rose)))
 
 module _ {D : Type 0} {g : Ghosts D} (m : Meaning D) where
-  trio_failed : (p q : Pump D g) (role : Role) → RoseAt m role p q → HasFailedAt m (trio_of p) (trio_of q)
+  trio_failed : (p q : Pump D g) (role : Role) → Rose (m.count (disk_at role p)) (m.count (disk_at role q)) → HasFailedAt m (trio_of p) (trio_of q)
   trio_failed p q roles.Low rose = (roles.Low, rose)
   trio_failed p q roles.High rose = (roles.High, rose)
   trio_failed p q roles.Recv rose = (roles.Recv, rose)
 
-  counted : (s t : Chain D g) (role : Role) → RoseAt m role s.first t.first ⊎ RoseAt m role s.second t.second → HasFailed m s t
-  counted s t role (inl rose) = inl (trio_failed s.first t.first role rose)
-  counted s t role (inr rose) = inr (trio_failed s.second t.second role rose)
+  counted : (s t : Chain D g) (share : Share) (role : Role) (faults : ℕ) → FailsBy m share role faults s.first t.first s.second t.second → HasFailed m s t
+  counted s t Skipped role faults h = absurd h
+  counted s t OfNone role faults h = absurd h
+  counted s t MakesFirst role faults h = absurd h
+  counted s t MakesSecond role faults h = absurd h
+  counted s t (OfFirst line) role faults h = inl (trio_failed s.first t.first role h.0)
+  counted s t (OfSecond line) role faults (inl h) = inr (trio_failed s.second t.second role h.0)
+  counted s t (OfSecond line) role faults (inr (look, is, h)) = inl (trio_failed s.first t.first role h.0)
 
-  by_stop : (s t : Chain D g) (first : ℕ) (line : Line) (stop : Option Stop) (fault : Fault) → IsCounted m s t stop → outcome_by first line stop ≡ outcomes.Stopped fault → IsDevice fault → HasFailed m s t
+  by_stop : (s t : Chain D g) (first : ℕ) (line : Line) (stop : Option Stop) (fault : Fault) → IsCounted m s t line stop → outcome_by first line stop ≡ outcomes.Stopped fault → IsDevice fault → HasFailed m s t
   by_stop s t first line None fault counts is device = absurd (cc is)
   by_stop s t first line (Some stops.Line) fault counts is device = absurd (cc is)
-  by_stop s t first line (Some (stops.Device role n)) fault counts is device = counted s t role counts
+  by_stop s t first line (Some (stops.Device role n)) fault counts is device = counted s t (share_by (row_of s.first).id (row_of s.second).id Nothing line) role n counts
   by_stop s t first line (Some (stops.Full end length size)) fault counts is device = absurd (subst IsDevice (stopped_is _ fault is) device)
   by_stop s t first line (Some (stops.Disk role why)) fault counts is device = absurd (subst IsDevice (stopped_is _ fault is) device)
 
-  pub line_failed : (s t : Chain D g) (first : ℕ) (line : Line) (stop : Option Stop) (outcome : Outcome) → outcome ≡ outcome_by first line stop → IsCounted m s t stop → (fault : Fault) → outcome ≡ outcomes.Stopped fault → IsDevice fault → HasFailed m s t
+  pub line_failed : (s t : Chain D g) (first : ℕ) (line : Line) (stop : Option Stop) (outcome : Outcome) → outcome ≡ outcome_by first line stop → IsCounted m s t line stop → (fault : Fault) → outcome ≡ outcomes.Stopped fault → IsDevice fault → HasFailed m s t
   line_failed s t first line stop outcome is counts fault e device = by_stop s t first line stop fault counts (sym is ∙ e) device
 
   by_trio : (p q : Pump D g) → ((role : Role) → m.count (disk_at role p) ≤ m.count (disk_at role q)) → (role : Role) → m.count (disk_in role (trio_of p)) ≤ m.count (disk_in role (trio_of q))

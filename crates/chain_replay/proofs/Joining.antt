@@ -13,6 +13,7 @@ use Rattle.pump_chain.specs.declared.chain.Chain.{Chain}
 use Rattle.pump_chain.specs.declared.not_chained.ChainWhy.{ChainWhy}
 use Rattle.pump_chain.specs.declared.not_chained.ChainWhy.TheVariants as reasons
 use Rattle.pump_chain.specs.declared.six.Six.{Six}
+use Rattle.pump_frame.specs.Counts.{Rose}
 use Rattle.pump_frame.specs.Rows.{IsLawfulRow}
 use Rattle.pump_frame.specs.declared.row.SessionRow.{SessionRow}
 use Rattle.recovery.specs.Calls.{is_device}
@@ -24,15 +25,16 @@ use Rattle.script_reader.specs.declared.fault.Fault.TheVariants as faults
 use Rattle.script_reader.specs.Openings.{Found, Openings}
 use Rattle.script_replay.specs.Lending.{IsOutAt}
 use Rattle.script_replay.specs.Runners.{fault_of, IsLineFault}
-use Rattle.script_replay.specs.Shelves.{Places, disk_name, reading_in, reading_at, HasFound, IsRefusedFor, AllAreBack, SparesSession, ReadiesSession, Spares}
+use Rattle.script_replay.specs.Shelves.{Places, disk_name, reading_in, reading_at, HasFound, IsRefusedFor, AllAreBack, SparesSession, ReadiesSession, ReadsAlike}
 use Rattle.script_replay.proofs.Shelving.{read_in, name_is, spared_by, left_by, counts_more, out_still}
 use Rattle.stable_buffer.specs.Format.{new_bytes}
 use Rattle.two_worlds.specs.Openings.{LeavesDisk, ComeBack, failed_at}
 use Rattle.two_worlds.specs.Rooms.{is_role}
 use Rattle.chain_replay.specs.Faults.{chain_fault}
-use Rattle.chain_replay.specs.Opened.{LeavesOthers, IsUnopened, IsBarred, IsUnchained, NotChained}
+use Rattle.chain_replay.specs.Opened.{LeavesOthers, AreReadied, NamesFailed, IsUnopened, IsBarred, IsUnchained, NotChained}
 use Rattle.chain_replay.specs.Private.{AreReadAt, AreOutAt, AreBackAt, AreHome, IsUntaken, IsOfLine, Joins}
 use Rattle.chain_replay.specs.Scripts.{MayFollow}
+use Rattle.chain_replay.proofs.Failed.{come_failed, left_failed}
 use Rattle.chain_replay.proofs.Taking.{by_role}
 
 -- ---- they begin ----
@@ -172,13 +174,14 @@ device_fault session role (whys.TooLong number size) e = cc
 some_same : (x y : Fault) → Some x ≡ Some y → y ≡ x
 some_same x y e = cc e
 
-module _ {D : Type 0} (m : Meaning D) (tells : m.tells) (before after : Places) (one two : SessionRow) (old new : Six D) (fault : Fault)
+module _ {D : Type 0} (m : Meaning D) (tells : m.tells) (before after : Places) (fails : ℕ → Role → Type 0) (one two : SessionRow) (old new : Six D) (fault : Fault)
+    (first_fails : (role : Role) → Rose (m.count (disk_in role old.first)) (m.count (disk_in role new.first)) → fails one.id role) (second_fails : (role : Role) → Rose (m.count (disk_in role old.second)) (m.count (disk_in role new.second)) → fails two.id role)
     (first_read : AreReadAt m before one.id old.first) (second_read : AreReadAt m before two.id old.second) (first_back : AreBackAt m after one.id new.first) (second_back : AreBackAt m after two.id new.second) where
   abbrev Not : Type 0
-  Not = IsUnopened before after one two fault ⊎ IsBarred before after one two fault
+  Not = IsUnopened before after fails one two fault ⊎ IsBarred before after one two fault
 
-  unopened : SparesSession before after one.id → SparesSession before after two.id → (role : Role) → (fault ≡ faults.Device one.id role) ⊎ (fault ≡ faults.Device two.id role) → Not
-  unopened first second role is = inl (record { first = first; second = second; role = role; fault_is = is })
+  unopened : SparesSession before after one.id → SparesSession before after two.id → NamesFailed fails one.id two.id fault → Not
+  unopened first second named = inl (record { first = first; second = second; named = named })
 
   barred : (why : ChainWhy) → ReadiesSession before after one → ReadiesSession before after two → is_by_device why ≡ false → IsUnchained before one two why → chain_fault two.id why ≡ Some fault → Not
   barred why first second fine cause is = inr (record { first = first; second = second; why = why; refused = fine; cause = cause; fault_is = is })
@@ -196,7 +199,7 @@ module _ {D : Type 0} (m : Meaning D) (tells : m.tells) (before after : Places) 
   by_first (reasons.Unlike number) h same is = absurd h
   by_first (reasons.Pump session role why) (id, e) same is = elim (is_device why) as (λ b. is_device why ≡ b → Not) [
     | true ↦ λ failed. unopened (spares_come m tells before after one old.first new.first first_read first_back role why e) (spares_same m tells before after two old.second new.second second_read second_back same)
-        role (inl (of_device session one.id role why failed id is))
+        (role, inl (of_device session one.id role why failed id is, first_fails role (come_failed m one old.first new.first role why e failed)))
     | false ↦ λ fine. barred (reasons.Pump session role why) (readies_come m tells before after one old.first new.first first_read first_back role why e fine)
         (readies_same m tells before after two old.second new.second second_read second_back same) fine
         (inl (id, refused_come m tells before after one old.first new.first first_read first_back role why e fine)) is
@@ -208,7 +211,7 @@ module _ {D : Type 0} (m : Meaning D) (tells : m.tells) (before after : Places) 
   by_second (reasons.Unlike number) h e is = absurd e
   by_second (reasons.Pump session role why) h (id, e) is = elim (is_device why) as (λ b. is_device why ≡ b → Not) [
     | true ↦ λ failed. unopened (spares_left m tells before after one old.first new.first first_read first_back None h.left) (spares_come m tells before after two old.second new.second second_read second_back role why e)
-        role (inr (of_device session two.id role why failed id is))
+        (role, inr (of_device session two.id role why failed id is, second_fails role (come_failed m two old.second new.second role why e failed)))
     | false ↦ λ fine. barred (reasons.Pump session role why) (readies_left m tells before after one old.first new.first first_read first_back h.left)
         (readies_come m tells before after two old.second new.second second_read second_back role why e fine) fine
         (inr (id, found_first h, refused_come m tells before after two old.second new.second second_read second_back role why e fine)) is
@@ -232,14 +235,14 @@ module _ {D : Type 0} (m : Meaning D) (tells : m.tells) (before after : Places) 
   by_apart reasons.Memory h is = absurd h
   by_apart (reasons.Pump session role why) (inl (id, at, h, failed)) is =
       let both = both_left (Some role) None h in
-      unopened both.0 both.1 role (inl (of_device session one.id role why (ap is_device failed) id is))
+      unopened both.0 both.1 (role, inl (of_device session one.id role why (ap is_device failed) id is, first_fails role (left_failed m one old.first new.first role h.0.left)))
   by_apart (reasons.Pump session role why) (inr (id, at, h, failed)) is =
       let both = both_left None (Some role) h in
-      unopened both.0 both.1 role (inr (of_device session two.id role why (ap is_device failed) id is))
+      unopened both.0 both.1 (role, inr (of_device session two.id role why (ap is_device failed) id is, second_fails role (left_failed m two old.second new.second role h.1.left)))
   by_apart (reasons.Link count bound) (h, cause) is = unlinked (reasons.Link count bound) h refl (λ f k stand next found other. (f, k, found, other, cause tells f k stand next)) is
   by_apart (reasons.Unlike number) (h, cause) is = unlinked (reasons.Unlike number) h refl (λ f k stand next found other. (f, k, found, other, cause tells f k stand next)) is
 
-  pub not_chained : (why : ChainWhy) → ComeBackFor m one two old new why → chain_fault two.id why ≡ Some fault → LeavesOthers before after one.id two.id → NotChained before after one two fault
+  pub not_chained : (why : ChainWhy) → ComeBackFor m one two old new why → chain_fault two.id why ≡ Some fault → LeavesOthers before after one.id two.id → NotChained before after fails one two fault
   not_chained why (inl h) is others = (others, by_first why h.0 h.1 is)
   not_chained why (inr (inl h)) is others = (others, by_second why h.0 h.1 is)
   not_chained why (inr (inr h)) is others = (others, by_apart why h is)
@@ -255,13 +258,42 @@ all_back before after one two others first second name out = elim (cases_eq name
   ]
 ]
 
-pub of_line : (one two : ℕ) (fault : Option Fault) → IsUntaken one two fault → IsOfLine fault
-of_line one two None h = tt
-of_line one two (Some fault) (role, inl is) = subst IsLineFault (sym is) tt
-of_line one two (Some fault) (role, inr is) = subst IsLineFault (sym is) tt
+pub of_line : (fails : ℕ → Role → Type 0) (one two : ℕ) (fault : Option Fault) → IsUntaken fails one two fault → IsOfLine fault
+of_line fails one two None h = tt
+of_line fails one two (Some fault) (role, inl is) = subst IsLineFault (sym is.0) tt
+of_line fails one two (Some fault) (role, inr is) = subst IsLineFault (sym is.0) tt
 
-pub not_taken : (before after : Places) (one two : SessionRow) (fault : Fault) → IsUntaken one.id two.id (Some fault) → Spares before after → LeavesOthers before after one.id two.id → NotChained before after one two fault
-not_taken before after one two fault (role, is) spared others = (
+-- a disk that fails so fails otherwise
+pub named_more : (fails more : ℕ → Role → Type 0) (one two : ℕ) (fault : Fault) → ((role : Role) → fails one role → more one role) → ((role : Role) → fails two role → more two role) → NamesFailed fails one two fault → NamesFailed more one two fault
+named_more fails more one two fault first second (role, inl (is, failed)) = (role, inl (is, first role failed))
+named_more fails more one two fault first second (role, inr (is, failed)) = (role, inr (is, second role failed))
+
+pub not_taken : (before after : Places) (fails : ℕ → Role → Type 0) (one two : SessionRow) (fault : Fault) → NamesFailed fails one.id two.id fault → ReadsAlike before after → LeavesOthers before after one.id two.id → NotChained before after fails one two fault
+not_taken before after fails one two fault named alike others = (
   others,
-  inl (record { first = λ r. spared (disk_name one.id r); second = λ r. spared (disk_name two.id r); role = role; fault_is = is }),
+  inl (record { first = λ r some. alike (disk_name one.id r); second = λ r some. alike (disk_name two.id r); named = named }),
 )
+
+-- ---- memory was wanting ----
+
+pub alike_readied : (before after : Places) (one two : SessionRow) → ReadsAlike before after → LeavesOthers before after one.id two.id → AreReadied before after one two
+alike_readied before after one two alike others = record { first = λ r. inl (alike (disk_name one.id r)); second = λ r. inl (alike (disk_name two.id r)); others = others }
+
+module _ {D : Type 0} (m : Meaning D) (tells : m.tells) (before after : Places) (one two : SessionRow) (old new : Six D)
+    (first_read : AreReadAt m before one.id old.first) (second_read : AreReadAt m before two.id old.second) (first_back : AreBackAt m after one.id new.first) (second_back : AreBackAt m after two.id new.second) where
+  readied_by : (why : ChainWhy) → chain_fault two.id why ≡ None → ComeBackFor m one two old new why → ReadiesSession before after one × ReadiesSession before after two
+  readied_by reasons.Memory none (inl h) = (
+    readies_same m tells before after one old.first new.first first_read first_back h.0,
+    readies_same m tells before after two old.second new.second second_read second_back h.1,
+  )
+  readied_by reasons.Memory none (inr (inl h)) = (
+    readies_left m tells before after one old.first new.first first_read first_back h.0.left,
+    readies_same m tells before after two old.second new.second second_read second_back h.1,
+  )
+  readied_by reasons.Memory none (inr (inr h)) = absurd h
+  readied_by (reasons.Pump session role why) none h = absurd (cc none)
+  readied_by (reasons.Link count bound) none h = absurd (cc none)
+  readied_by (reasons.Unlike number) none h = absurd (cc none)
+
+  pub readied : (why : ChainWhy) → ComeBackFor m one two old new why → chain_fault two.id why ≡ None → LeavesOthers before after one.id two.id → AreReadied before after one two
+  readied why back none others = let r = readied_by why none back in record { first = r.0; second = r.1; others = others }

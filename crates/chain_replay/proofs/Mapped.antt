@@ -9,12 +9,12 @@ use Rattle.script_replay.specs.declared.ended.Ended.{Ended}
 use Rattle.script_replay.specs.declared.ended.Ended.TheVariants as ended
 use Rattle.chain_replay.specs.Ends.{EndsChain}
 use Rattle.chain_replay.specs.Opened.{Shelved}
-use Rattle.chain_replay.specs.Replays.{Replayed, IsKept, IsFinished, IsCutShort, IsUnbegun, IsStopped, EndsWith, IsOutput}
+use Rattle.chain_replay.specs.Replays.{Replayed, IsKept, IsFinished, IsCutShort, IsUnbegun, IsWanting, IsStopped, EndsWith, IsOutput}
 use Rattle.chain_replay.specs.Scripts.{Begun, NoPump, OnePump, BothPumps}
 use Rattle.chain_replay.proofs.Reading.{halted_since}
 
 module _ (k l : Shelved) (waits : k.waits → l.waits) (keeps : (o : Openings) (one two : SessionRow) (c : Chained) → k.keeps o one two c → l.keeps o one two c)
-    (outlives : (one two : SessionRow) (c : Chained) (printed : List Event) → k.outlives one two c printed → l.outlives one two c printed) (refuses : (one two : SessionRow) (fault : Fault) → k.refuses one two fault → l.refuses one two fault) where
+    (outlives : (one two : SessionRow) (c : Chained) (printed : List Event) → k.outlives one two c printed → l.outlives one two c printed) (readies : (one two : SessionRow) → k.readies one two → l.readies one two) (refuses : (one two : SessionRow) (fault : Fault) → k.refuses one two fault → l.refuses one two fault) where
   kept : (o : Openings) (b : Begun) (printed : List Event) → IsKept k o b printed → IsKept l o b printed
   kept o NoPump printed h = waits h
   kept o (OnePump one) printed h = waits h
@@ -29,6 +29,9 @@ module _ (k l : Shelved) (waits : k.waits → l.waits) (keeps : (o : Openings) (
 
     unbegun : (fault : Fault) → IsUnbegun k left fault r output → IsUnbegun l left fault r output
     unbegun fault h = record { one = h.one; two = h.two; begun_is = h.begun_is; next = h.next; follows = h.follows; output_is = h.output_is; disks = refuses h.one h.two fault h.disks }
+
+    wanting : IsWanting k left r output → IsWanting l left r output
+    wanting h = record { one = h.one; two = h.two; begun_is = h.begun_is; next = h.next; follows = h.follows; output_is = h.output_is; disks = readies h.one h.two h.disks }
 
     stopped : (fault : Fault) → IsStopped k left fault r output → IsStopped l left fault r output
     stopped fault h = record {
@@ -58,6 +61,6 @@ module _ (k l : Shelved) (waits : k.waits → l.waits) (keeps : (o : Openings) (
   -- .. also where reads are counted from earlier on
   pub mapped : (all left old new : Option (List ℕ)) (first was now : ℕ) → first ≤ was → (result : Ended) → EndsChain k all left old new was now result → EndsChain l all left old new first now result
   mapped all left old new first was now low ended.Done (r, output, e, w) = (r, output, finished all left first was now low r output e, w)
-  mapped all left old new first was now low ended.Memory h = tt
+  mapped all left old new first was now low ended.Memory (r, output, e, w) = (r, output, wanting all left first was now low r output e, w)
   mapped all left old new first was now low ended.Write (r, output, e, w) = (r, output, is_output all left first was now low r output e, w)
   mapped all left old new first was now low (ended.Stopped fault) (r, output, e, w) = (r, output, ends_with all left first was now low r output fault e, w)

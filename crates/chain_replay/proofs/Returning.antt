@@ -5,7 +5,7 @@ use Rattle.disk_model.specs.Disk.{Meaning}
 use Rattle.disk_model.specs.declared.disk.Disk.{Ghosts}
 use Rattle.disk_model.specs.declared.name.Role.TheVariants as roles
 use Rattle.pump_chain.specs.Chained.{Chained}
-use Rattle.pump_chain.specs.Standing.{IsLinked, TellFronts, ChainStandsOrFails}
+use Rattle.pump_chain.specs.Standing.{IsLinked, TellFronts, IsAllTold, ChainStandsOrFails}
 use Rattle.pump_chain.specs.declared.chain.Chain.{Chain}
 use Rattle.pump_chain.proofs.Crashing.{pump_lawful}
 use Rattle.pump_chain.proofs.Fronts.{front_then, kept_front, kept_most}
@@ -27,7 +27,7 @@ use Rattle.world_laws.specs.Laws.{KeepMessages, AckOutlives}
 use Rattle.two_worlds.specs.Pumps.{StandsOrFails}
 use Rattle.two_worlds.specs.declared.pump.Pump.{Pump}
 use Rattle.world_laws.proofs.Runs.Outliving.{keeps_messages, run_keeps}
-use Rattle.chain_replay.specs.Opened.{LeavesOthers, KeepsChain, shelved}
+use Rattle.chain_replay.specs.Opened.{LeavesOthers, KeepsChain, AcknowledgedOutliveBoth}
 use Rattle.chain_replay.specs.Private.{AreBackAt, AreLeftAt, AreOf, IsSoundTimed, lent}
 
 -- what is read of the disks of one session
@@ -36,24 +36,27 @@ pub left_so : {D : Type 0} (m : Meaning D) (after : Places) (id : ℕ) (t : Trio
 left_so m after id t row s back is h =
     rw (ap reading_in (back roles.Low), ap reading_in (back roles.High), ap reading_in (back roles.Recv)) (subst (λ (r : SessionRow). StandForLeft r s.past.world (m.reading t.low) (m.reading t.high) (m.reading t.recv)) is h)
 
--- .. and of both tells four lists of which each is a front of the next
+-- .. and of both tells four lists of which each is a prefix of the next, and all of each
 tell_fronts : (one two : SessionRow) (w v : World) (low high recv next_low next_high next_recv : List ℕ) → StandForLeft one w low high recv → StandForLeft two v next_low next_high next_recv → IsLinked w v
-    → TellFronts one two low recv next_low next_recv
+    → (f : TellFronts one two low high recv next_low next_high next_recv) × IsAllTold f.tell × IsAllTold f.next_tell
 tell_fronts one two w v low high recv next_low next_high next_recv (a, b, c, s) (x, y, z, t) linked =
     let below = s.lawful.bounded.within.below in
-    let next_below = t.lawful.bounded.within.below in
-    record {
-      accepted = with_kept a w.storing w.accepted;
-      received = with_kept (c && w.taking) w.packet w.received;
-      next_accepted = with_kept x v.storing v.accepted;
-      next_received = with_kept (z && v.taking) v.packet v.received;
-      tell = record { from = _; few = omega (arith, below); low_is = s.low_is; recv_is = s.recv_is };
-      next_tell = record { from = _; few = omega (arith, next_below); low_is = t.low_is; recv_is = t.recv_is };
-      next_taken = t.lawful.delivered.prefix;
-      sent_on = front_then _ (with_kept true v.storing v.accepted) _ (kept_most x v.storing v.accepted)
-          (front_then _ w.received _ linked (kept_front (c && w.taking) w.packet w.received));
-      taken = s.lawful.delivered.prefix;
-    }
+    let next_below = t.lawful.bounded.within.below in (
+      record {
+        accepted = with_kept a w.storing w.accepted;
+        received = with_kept (c && w.taking) w.packet w.received;
+        next_accepted = with_kept x v.storing v.accepted;
+        next_received = with_kept (z && v.taking) v.packet v.received;
+        tell = record { from = _; few = omega (arith, below); low_is = s.low_is; removed = _; high_is = s.high_is; recv_is = s.recv_is };
+        next_tell = record { from = _; few = omega (arith, next_below); low_is = t.low_is; removed = _; high_is = t.high_is; recv_is = t.recv_is };
+        next_taken = t.lawful.delivered.prefix;
+        sent_on = front_then _ (with_kept true v.storing v.accepted) _ (kept_most x v.storing v.accepted)
+            (front_then _ w.received _ linked (kept_front (c && w.taking) w.packet w.received));
+        taken = s.lawful.delivered.prefix;
+      },
+      record { removed = s.lawful.delivered.removed; rest = s.lawful.delivered.removed },
+      record { removed = t.lawful.delivered.removed; rest = t.lawful.delivered.removed },
+    )
 
 -- what a pump has come to is lawful
 came_lawfully : {D : Type 0} {g : Ghosts D} (m : Meaning D) (p : Pump D g) (q : Past) → StandsOrFails m p q → IsLawful q.world
@@ -92,13 +95,13 @@ module _ {D : Type 0} {g : Ghosts D} (m : Meaning D) (chain : Chain D g) (before
         others = others;
       }
 
-  pub keeps_so : (p : Openings) (row other : SessionRow) (c : Chained) → (lent m chain o one two).keeps p row other c → (shelved before after).keeps p row other c
+  pub keeps_so : (p : Openings) (row other : SessionRow) (c : Chained) → (lent m chain o one two).keeps p row other c → KeepsChain before after p row other c
   keeps_so p row other c (is, is_one, is_two, stands, are) =
       subst (λ q. KeepsChain before after q row other c) (sym is)
       (subst (λ r. KeepsChain before after o r other c) (sym is_one)
       (subst (λ r. KeepsChain before after o one r c) (sym is_two) (keeps_chain c stands are)))
 
-  pub outlives_so : (row other : SessionRow) (c : Chained) (printed : List Event) → (lent m chain o one two).outlives row other c printed → (shelved before after).outlives row other c printed
+  pub outlives_so : (row other : SessionRow) (c : Chained) (printed : List Event) → (lent m chain o one two).outlives row other c printed → AcknowledgedOutliveBoth after c printed
   outlives_so row other c printed (is_one, is_two, stands, are, sound) =
       let l = left c stands in (
         acks_outlive after c.first (events_of c.first.row.id printed) (subst (λ (i : ℕ). OfDisks after i (StandForLeft c.first.row c.first.past.world)) (sym are.0) l.0) sound.0,

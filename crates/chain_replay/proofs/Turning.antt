@@ -18,8 +18,8 @@ use Rattle.chain_replay.specs.declared.turn.Outcome.TheVariants as outcomes
 
 module _ {D : Type 0} {g : Ghosts D} (m : Meaning D) (s t : Chain D g) (first : ℕ) (line : Line) (c : Chained) (printed : List Event) where
   pub turn_goes : (stop : Option Stop) → ChainApplies m s t line c printed stop → TurnGoes m first c line t printed (outcome_by first line stop)
-  turn_goes None h = h
-  turn_goes (Some stops.Line) h = h
+  turn_goes None h = (h.0, h.1, h.2)
+  turn_goes (Some stops.Line) h = (h.0, h.1, h.2)
   turn_goes (Some (stops.Device role count)) h = (h.0, (h.1, refl), h.2)
   turn_goes (Some (stops.Full end length size)) h = (h.0, (h.1, refl), h.2)
   turn_goes (Some (stops.Disk role why)) h = absurd h

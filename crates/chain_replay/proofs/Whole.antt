@@ -1,5 +1,6 @@
 -- A whole script, by what became of its first lines.
 use Rattle.std.proofs.Common.{◌≡◌, ℕ, ◌^◌, ◌<◌, List, [], Option, inl, inr, refl, sym, ◌∙◌, subst, arith}
+use Rattle.std.specs.Io.KnownBytes.{Appends}
 use Rattle.pump_chain.specs.Scripted.{chain_of}
 use Rattle.pump_frame.specs.Counts.{Rose}
 use Rattle.pump_frame.specs.declared.row.SessionRow.{SessionRow}
@@ -49,6 +50,24 @@ no_pumps shelf o all left old new was now reading one two fault result rose rise
       output_is = refl;
       disks = refuses;
     }))) c
+
+-- .. or memory was wanting for it
+pub no_memory : (shelf : Shelved) (o : Openings) (all left old new : Option (List ℕ)) (was now : ℕ) (reading : LineReading) (one two : SessionRow) → MayFollow one two → shelf.readies one two
+    → ReadsRow o all left reading (OnePump one) two → reading.number < 2 ^ 32 → Appends old new [] → EndsChain shelf all left old new was now ended.Memory
+no_memory shelf o all left old new was now reading one two follows readies r few w = (
+  record { openings = o; lines = r.lines; events = []; begun = OnePump one; rest = r.rest; so_far = r.so_far },
+  [],
+  record {
+    one = one;
+    two = two;
+    begun_is = refl;
+    next = record { few = (let n = r.number in omega (arith, n, few)); later = to_come reading left; spelled = r.spelled; taken = r.near };
+    follows = follows;
+    output_is = refl;
+    disks = readies;
+  },
+  w,
+)
 
 -- both have begun
 pub both_begin : (o : Openings) (all left : Option (List ℕ)) (reading : LineReading) (one two : SessionRow) → MayFollow one two → AreLinked o one two → ReadsRow o all left reading (OnePump one) two → reading.number < 2 ^ 32

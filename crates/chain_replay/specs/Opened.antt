@@ -6,7 +6,7 @@ use Rattle.disk_model.specs.declared.name.Role.TheVariants as roles
 use Rattle.pump_chain.specs.Chained.{Chained}
 use Rattle.pump_chain.specs.Comparing.{IsUnlinked}
 use Rattle.pump_chain.specs.Opening.{is_by_device}
-use Rattle.pump_chain.specs.Standing.{TellFronts}
+use Rattle.pump_chain.specs.Standing.{TellFronts, IsAllTold}
 use Rattle.pump_chain.specs.declared.not_chained.ChainWhy.{ChainWhy}
 use Rattle.pump_chain.specs.declared.not_chained.ChainWhy.TheVariants as reasons
 use Rattle.pump_frame.specs.declared.row.SessionRow.{SessionRow}
@@ -39,13 +39,23 @@ IsUnchained before one two (reasons.Pump session role why) =
     ⊎ ((session ≡ two.id) × ((f : Found) × HasFound before one f) × IsRefusedFor before two role why)
 IsUnchained before one two why = (f h : Found) × HasFound before one f × HasFound before two h × IsUnlinked (accepted_in h) f.received why
 
--- a disk of one of the two can't be taken off the shelf, or fails when it is opened or read: each that was not empty
--- reads as it did
-pub record IsUnopened (before after : Places) (one two : SessionRow) (fault : Fault) : Type 0 where
+-- memory was wanting: each of their disks is under its name, and reads as it did, or was empty and is a new one of its row
+pub record AreReadied (before after : Places) (one two : SessionRow) : Type 0 where
+  pub first : ReadiesSession before after one
+  pub second : ReadiesSession before after two
+  pub others : LeavesOthers before after one.id two.id
+
+-- the fault names a disk of one of two sessions, which fails so
+abbrev pub NamesFailed : (ℕ → Role → Type 0) → ℕ → ℕ → Fault → Type 0
+NamesFailed fails one two fault =
+    (role : Role) × (((fault ≡ faults.Device one role) × fails one role) ⊎ ((fault ≡ faults.Device two role) × fails two role))
+
+-- a disk of one of the two can't be taken off the shelf, or fails when it is opened or read, and is named: each that was not
+-- empty reads as it did
+pub record IsUnopened (before after : Places) (fails : ℕ → Role → Type 0) (one two : SessionRow) (fault : Fault) : Type 0 where
   pub first : SparesSession before after one.id
   pub second : SparesSession before after two.id
-  pub role : Role
-  pub fault_is : (fault ≡ faults.Device one.id role) ⊎ (fault ≡ faults.Device two.id role)
+  pub named : NamesFailed fails one.id two.id fault
 
 -- or the two make no chain for this cause: each disk reads as it did, or it was empty, and is a new one
 pub record IsBarred (before after : Places) (one two : SessionRow) (fault : Fault) : Type 0 where
@@ -56,16 +66,17 @@ pub record IsBarred (before after : Places) (one two : SessionRow) (fault : Faul
   pub cause : IsUnchained before one two why
   pub fault_is : chain_fault two.id why ≡ Some fault
 
-abbrev pub NotChained : Places → Places → SessionRow → SessionRow → Fault → Type 0
-NotChained before after one two fault = LeavesOthers before after one.id two.id
-    × (IsUnopened before after one two fault ⊎ IsBarred before after one two fault)
+abbrev pub NotChained : Places → Places → (ℕ → Role → Type 0) → SessionRow → SessionRow → Fault → Type 0
+NotChained before after fails one two fault = LeavesOthers before after one.id two.id
+    × (IsUnopened before after fails one two fault ⊎ IsBarred before after one two fault)
 
 -- ---- they are a chain ----
 
--- four lists that what is read of the disks tells, of which each is a front of the next
+-- four lists that what is read of the disks tells, of which each is a prefix of the next; and it tells all of each
 abbrev pub ReadFronts : Places → SessionRow → SessionRow → Type 0
-ReadFronts after one two = TellFronts one two (reading_at after one.id roles.Low) (reading_at after one.id roles.Recv)
-    (reading_at after two.id roles.Low) (reading_at after two.id roles.Recv)
+ReadFronts after one two = (f : TellFronts one two (reading_at after one.id roles.Low) (reading_at after one.id roles.High) (reading_at after one.id roles.Recv)
+    (reading_at after two.id roles.Low) (reading_at after two.id roles.High) (reading_at after two.id roles.Recv))
+    × IsAllTold f.tell × IsAllTold f.next_tell
 
 -- The six disks were found to hold what the chain began on, and hold what it has come to, in which each call that is
 -- unfinished was kept or lost. In each session every message that was accepted or acknowledged outlives, and the receiver
@@ -94,8 +105,10 @@ pub record Shelved : Type 1 where
   pub keeps : Openings → SessionRow → SessionRow → Chained → Type 0
   -- .. and has printed this, by lines that could all be applied
   pub outlives : SessionRow → SessionRow → Chained → List Event → Type 0
+  -- memory was wanting when these two were to be joined
+  pub readies : SessionRow → SessionRow → Type 0
   -- the two make no chain, with this fault
   pub refuses : SessionRow → SessionRow → Fault → Type 0
 
-abbrev pub shelved : Places → Places → Shelved
-shelved before after = record { waits = LeavesAll before after; keeps = KeepsChain before after; outlives = λ one two. AcknowledgedOutliveBoth after; refuses = NotChained before after }
+abbrev pub shelved : Places → Places → (ℕ → Role → Type 0) → Shelved
+shelved before after fails = record { waits = LeavesAll before after; keeps = KeepsChain before after; outlives = λ one two. AcknowledgedOutliveBoth after; readies = AreReadied before after; refuses = NotChained before after fails }

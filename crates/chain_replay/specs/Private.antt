@@ -31,7 +31,7 @@ use Rattle.script_replay.specs.Runners.{IsLineFault}
 use Rattle.script_replay.specs.Shelves.{Places, disk_name, OfDisks, HasFound}
 use Rattle.world_laws.specs.Disks.{StandForLeft}
 use Rattle.chain_replay.specs.Faults.{IsHalted, ChainStops, session_or, broken_in, refusal_of}
-use Rattle.chain_replay.specs.Opened.{Shelved}
+use Rattle.chain_replay.specs.Opened.{Shelved, NamesFailed}
 use Rattle.chain_replay.specs.Replays.{IsSoFar}
 use Rattle.chain_replay.specs.Scripts.{Begun, Refuses, LacksPump, AreLinked}
 use Rattle.chain_replay.specs.declared.rows.Opens.{Opens}
@@ -106,14 +106,14 @@ AreHome places session = (role : Role) → IsOut (places (disk_name session role
 abbrev pub AreLeftAt : Places → ℕ → Running → Type 0
 AreLeftAt places session s = OfDisks places session (StandForLeft s.row s.past.world)
 
--- a disk of a session failed, or memory was wanting; so of two sessions
-abbrev pub IsUntakenAt : ℕ → Option Fault → Type 0
-IsUntakenAt session None = Unit {0}
-IsUntakenAt session (Some fault) = (role : Role) × (fault ≡ faults.Device session role)
+-- a disk of a session was not given, which is named, or memory was wanting; so of two sessions
+abbrev pub IsUntakenAt : (ℕ → Role → Type 0) → ℕ → Option Fault → Type 0
+IsUntakenAt fails session None = Unit {0}
+IsUntakenAt fails session (Some fault) = (role : Role) × (fault ≡ faults.Device session role) × fails session role
 
-abbrev pub IsUntaken : ℕ → ℕ → Option Fault → Type 0
-IsUntaken one two None = Unit {0}
-IsUntaken one two (Some fault) = (role : Role) × ((fault ≡ faults.Device one role) ⊎ (fault ≡ faults.Device two role))
+abbrev pub IsUntaken : (ℕ → Role → Type 0) → ℕ → ℕ → Option Fault → Type 0
+IsUntaken fails one two None = Unit {0}
+IsUntaken fails one two (Some fault) = NamesFailed fails one two fault
 
 -- the chain of two rows begins on what is read of their disks
 pub record Joins {D : Type 0} {g : _} (m : Meaning D) (before : Places) (one two : SessionRow) (chain : Chain D g) : Type 0 where
@@ -183,5 +183,6 @@ lent m chain o one two = record {
   waits = ⊥;
   keeps = λ p row other c. (p ≡ o) × (row ≡ one) × (other ≡ two) × ChainStandsOrFails m chain c × AreOf one two c;
   outlives = λ row other c printed. (row ≡ one) × (other ≡ two) × ChainStandsOrFails m chain c × AreOf one two c × AreSoundTimed c printed;
+  readies = λ row other. ⊥;
   refuses = λ row other fault. ⊥;
 }

@@ -79,6 +79,16 @@ pub record IsUnbegun (shelf : Shelved) {all : Option (List ℕ)} (left : Option 
   pub output_is : output ≡ fault_line fault
   pub disks : shelf.refuses one two fault
 
+-- .. so, but memory was wanting for it: nothing is written
+pub record IsWanting (shelf : Shelved) {all : Option (List ℕ)} (left : Option (List ℕ)) (r : Replayed all) (output : List ℕ) : Type 0 where
+  pub one : SessionRow
+  pub two : SessionRow
+  pub begun_is : r.begun ≡ OnePump one
+  pub next : IsNext left r (Session two)
+  pub follows : MayFollow one two
+  pub output_is : output ≡ []
+  pub disks : shelf.readies one two
+
 -- .. stops the chain: the output is what the lines before it print, what it prints up to its stop, and the fault
 pub record IsStopped (shelf : Shelved) {all : Option (List ℕ)} (left : Option (List ℕ)) (fault : Fault) (r : Replayed all) (output : List ℕ) : Type 0 where
   pub one : SessionRow

@@ -4,7 +4,8 @@ ghost use Rattle.std.specs.Prelude.{◌≡◌, ◌≤◌, IfOk, IfErr, Some};
 ghost use Rattle.chain_replay.specs.Opened.{LeavesOthers};
 ghost use Rattle.chain_replay.specs.Private.{AreReadAt, AreOutAt, AreBackAt, AreOut, AllRiseAt, IsUntaken, IsUntakenAt};
 ghost use Rattle.pump_frame.specs.Counts.{Rose};
-ghost use Rattle.script_replay.specs.Shelves.{AllAreBack, LeavesOtherSessions, Spares};
+ghost use Rattle.script_replay.specs.Failing.{IsNotGiven};
+ghost use Rattle.script_replay.specs.Shelves.{AllAreBack, LeavesOtherSessions, ReadsAlike};
 
 use disk_model::{Shelf, ShelfFault};
 use pump_chain::Six;
@@ -14,7 +15,7 @@ use script_replay::{NotTaken, put_disks_back, take_disks};
 
 // The fault of a disk that can't be taken; `None` where memory was wanting.
 fn untaken(session: u32, not_taken: NotTaken) -> Option<Fault>
-    ensures of { IsUntakenAt session result }
+    ensures of { IsUntakenAt (λ id role. (not_taken.fault ≡ ShelfFault.Failed) × (role ≡ not_taken.role)) session result }
     ensures failed { (fault : _) → result ≡ Some fault → not_taken.fault ≡ ShelfFault.Failed }
 {
     match not_taken.fault {
@@ -30,8 +31,8 @@ fn take_trio<S: Shelf>(shelf: &mut S, session: u32) -> Result<Trio<S::Disk>, Opt
     ensures read { IfOk result (λ t. S.told.tells → AreReadAt S.Disk.told (S.told.disk shelf.old) session t) }
     ensures out { IfOk result (λ t. AreOutAt S.Disk.told (S.told.disk shelf.new) session t) }
     ensures others { LeavesOtherSessions (S.told.disk shelf.old) (S.told.disk shelf.new) session }
-    ensures spared { IfErr result (λ e. S.told.tells → Spares (S.told.disk shelf.old) (S.told.disk shelf.new) × AllAreBack (S.told.disk shelf.old) (S.told.disk shelf.new)) }
-    ensures of { IfErr result (λ e. IsUntakenAt session e) }
+    ensures alike { IfErr result (λ e. S.told.tells → ReadsAlike (S.told.disk shelf.old) (S.told.disk shelf.new) × AllAreBack (S.told.disk shelf.old) (S.told.disk shelf.new)) }
+    ensures of { IfErr result (λ e. IsUntakenAt (IsNotGiven S.told (S.told.disk shelf.old)) session e) }
     ensures later { S.told.disk_faults shelf.old ≤ S.told.disk_faults shelf.new }
     ensures cause { IfErr result (λ e. (fault : _) → e ≡ Some fault → Rose (S.told.disk_faults shelf.old) (S.told.disk_faults shelf.new)) }
 {
@@ -64,8 +65,8 @@ pub fn take_six<S: Shelf>(shelf: &mut S, one: u32, two: u32) -> Result<Six<S::Di
     ensures first_out { IfOk result (λ six. AreOutAt S.Disk.told (S.told.disk shelf.new) one six.first) }
     ensures second_out { IfOk result (λ six. AreOutAt S.Disk.told (S.told.disk shelf.new) two six.second) }
     ensures others { LeavesOthers (S.told.disk shelf.old) (S.told.disk shelf.new) one two }
-    ensures spared { IfErr result (λ e. S.told.tells → Spares (S.told.disk shelf.old) (S.told.disk shelf.new) × AllAreBack (S.told.disk shelf.old) (S.told.disk shelf.new)) }
-    ensures of { IfErr result (λ e. IsUntaken one two e) }
+    ensures alike { IfErr result (λ e. S.told.tells → ReadsAlike (S.told.disk shelf.old) (S.told.disk shelf.new) × AllAreBack (S.told.disk shelf.old) (S.told.disk shelf.new)) }
+    ensures of { IfErr result (λ e. IsUntaken (IsNotGiven S.told (S.told.disk shelf.old)) one two e) }
     ensures later { S.told.disk_faults shelf.old ≤ S.told.disk_faults shelf.new }
     ensures cause { IfErr result (λ e. (fault : _) → e ≡ Some fault → Rose (S.told.disk_faults shelf.old) (S.told.disk_faults shelf.new)) }
 {

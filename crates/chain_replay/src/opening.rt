@@ -2,7 +2,7 @@
 
 ghost use Rattle.std.specs.Prelude.{◌≡◌, ◌≤◌, false, None, Some, IfOk, IfErr};
 ghost use Rattle.chain_replay.specs.Faults.{chain_fault, refusal_of};
-ghost use Rattle.chain_replay.specs.Opened.{LeavesOthers, NotChained};
+ghost use Rattle.chain_replay.specs.Opened.{LeavesOthers, AreReadied, NotChained};
 ghost use Rattle.chain_replay.specs.Private.{AreOutAt, IsDevice, IsOfLine, Joins};
 ghost use Rattle.chain_replay.specs.Scripts.{MayFollow};
 ghost use Rattle.disk_model.specs.declared.name.Role.TheVariants as roles;
@@ -10,6 +10,7 @@ ghost use Rattle.pump_chain.specs.Opening.{trio_of};
 ghost use Rattle.pump_chain.specs.Standing.{chain_is_down};
 ghost use Rattle.pump_frame.specs.Counts.{Rose};
 ghost use Rattle.pump_frame.specs.Rows.{IsLawfulRow};
+ghost use Rattle.script_replay.specs.Failing.{FailsAt};
 ghost use Rattle.script_replay.specs.Runners.{fault_of, IsLineFault};
 ghost use Rattle.script_replay.specs.Shelves.{AllAreBack};
 
@@ -89,7 +90,8 @@ pub fn open<S: Shelf>(
     ensures others { LeavesOthers (S.told.disk shelf.old) (S.told.disk shelf.new) one.now.id two.now.id }
     ensures back { IfErr result (λ e. S.told.tells → AllAreBack (S.told.disk shelf.old) (S.told.disk shelf.new)) }
     ensures not { IfErr result (λ e. S.told.tells → S.Disk.told.tells → (fault : _) → e ≡ Some fault
-        → NotChained (S.told.disk shelf.old) (S.told.disk shelf.new) one.now two.now fault) }
+        → NotChained (S.told.disk shelf.old) (S.told.disk shelf.new) (FailsAt S.told S.Disk.told shelf.old shelf.new) one.now two.now fault) }
+    ensures readies { IfErr result (λ e. S.told.tells → S.Disk.told.tells → e ≡ None → AreReadied (S.told.disk shelf.old) (S.told.disk shelf.new) one.now two.now) }
     ensures line { IfErr result (λ e. IsOfLine e) }
     ensures device { IfErr result (λ e. (fault : _) → e ≡ Some fault → IsDevice fault → Rose (S.told.disk_faults shelf.old) (S.told.disk_faults shelf.new)) }
     ensures later { S.told.disk_faults shelf.old ≤ S.told.disk_faults shelf.new }

@@ -10,6 +10,7 @@ ghost use Rattle.pump_chain.specs.Chained.{Chained};
 ghost use Rattle.pump_chain.specs.Opening.{trio_of};
 ghost use Rattle.pump_chain.specs.Standing.{ChainStandsOrFails};
 ghost use Rattle.pump_frame.specs.Counts.{Rose};
+ghost use Rattle.script_replay.specs.Failing.{FailsAt};
 ghost use Rattle.script_replay.specs.Shelves.{AllAreBack};
 
 use crate::disks::put_six_back;
@@ -45,7 +46,7 @@ fn leave<S: Shelf>(chain: Chain<S::Disk>, one: u32, two: u32, shelf: &mut S)
 /// return, however it ends:
 ///
 /// - `Done`: the script was read to its end, and its transcript was written.
-/// - `Memory`: there was not enough memory; nothing was written.
+/// - `Memory`: there was not enough memory; nothing was written, and a disk that was empty may be a new one.
 /// - `Write`: the output could not be written; a front of what is to be written was.
 /// - `Stopped`: what the lines before printed was written, what this line printed, and the fault: the
 ///   script could not be read; a line is outside the grammar or can't be applied, the end of the script
@@ -60,7 +61,7 @@ pub fn replay_chain<S: Shelf, I: Source, O: Sink>(
     script: &mut I,
     out: &mut O,
 ) -> Ended
-    ensures ends { S.told.tells → S.Disk.told.tells → EndsChain (shelved (S.told.disk shelf.old) (S.told.disk shelf.new)) (I.left script.old) (I.left script.new)
+    ensures ends { S.told.tells → S.Disk.told.tells → EndsChain (shelved (S.told.disk shelf.old) (S.told.disk shelf.new) (FailsAt S.told S.Disk.told shelf.old shelf.new)) (I.left script.old) (I.left script.new)
         (O.written out.old) (O.written out.new) (I.faults script.old) (I.faults script.new) result }
     ensures memory { result ≡ Ended.Memory → Appends (O.written out.old) (O.written out.new) [] }
     ensures words { result ≡ Ended.Stopped Fault.Words → ⊥ }

@@ -1,9 +1,10 @@
 -- How a command that closes with these bytes ends.
-use Rattle.std.proofs.Common.{ℕ, List, Option, inl, inr, sym, subst}
+use Rattle.std.proofs.Common.{◌≡◌, ℕ, List, Option, inl, inr, sym, ◌∙◌, subst}
 use Rattle.std.specs.Io.KnownBytes.{Appends}
+use Rattle.disk_model.specs.declared.name.Role.{Role}
 use Rattle.commands.specs.CommandEnds.{EndsSo, ClosesSo}
 use Rattle.commands.specs.declared.command_end.CommandEnd.{CommandEnd}
-use Rattle.commands.specs.declared.command_end.CommandEnd.TheVariants.{Unwritten}
+use Rattle.commands.specs.declared.command_end.CommandEnd.TheVariants.{Failed, Unwritten}
 
 module _ (Writes : CommandEnd → List ℕ → Type 0) (never : (output : List ℕ) → Writes Unwritten output → ⊥) (old new : Option (List ℕ)) where
   written_so : (end : CommandEnd) (bytes : List ℕ) → Writes end bytes → Appends old new bytes → EndsSo Writes old new end
@@ -13,3 +14,8 @@ module _ (Writes : CommandEnd → List ℕ → Type 0) (never : (output : List �
   pub ends_so : (before now : ℕ) (bytes : List ℕ) (end result : CommandEnd) → ClosesSo old new before now bytes end result → Writes end bytes → EndsSo Writes old new result
   ends_so before now bytes end result (inl h) w = subst (EndsSo Writes old new) (sym h.0) (written_so end bytes w h.1)
   ends_so before now bytes end result (inr h) w = subst (EndsSo Writes old new) (sym h.0) (end, bytes, w, h.1)
+
+-- a command that ends with a failed disk was to end so
+pub closed_end : (old new : Option (List ℕ)) (before now : ℕ) (bytes : List ℕ) (end result : CommandEnd) (role : Role) → ClosesSo old new before now bytes end result → result ≡ Failed role → end ≡ Failed role
+closed_end old new before now bytes end result role (inl h) is = sym h.0 ∙ is
+closed_end old new before now bytes end result role (inr h) is = let other = h.0 in cc (sym other ∙ is)

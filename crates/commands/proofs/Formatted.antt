@@ -1,5 +1,5 @@
 -- Disks that are formatted, and back on the shelf.
-use Rattle.std.proofs.Common.{◌≡◌, ℕ, List, [], None, Some, Result, Ok, Err, IfErr, OnOk, inl, inr, refl, sym, ap, ◌∙◌, subst}
+use Rattle.std.proofs.Common.{◌≡◌, ℕ, List, [], Option, None, Some, Result, Ok, Err, IfErr, OnOk, inl, inr, refl, sym, ap, ◌∙◌, subst}
 use Rattle.std.proofs.lemmas.Bool.{cases_eq}
 use Rattle.disk_model.specs.Disk.{Meaning}
 use Rattle.disk_model.specs.declared.name.Role.{Role}
@@ -11,12 +11,13 @@ use Rattle.script_reader.specs.Openings.{nothing_found}
 use Rattle.stable_buffer.specs.Format.{new_bytes}
 use Rattle.two_worlds.specs.Openings.{StandForFound}
 use Rattle.two_worlds.proofs.Opening.NewDisks.{nothing_stands}
-use Rattle.commands.specs.Formatting.{IsSpared, first_full, IsFormatted, FormatStops, IsDiskEnd}
+use Rattle.commands.specs.Formatting.{IsSpared, first_full, IsFormatted, FormatStops, FormatsSo, IsDiskEnd}
+use Rattle.commands.specs.Tables.{HasRow}
 use Rattle.script_replay.specs.Lending.{ReadAt, IsOutAt, RisesAt, AreOnShelf}
 use Rattle.script_replay.specs.Shelves.{Places, reading_in, reading_at, LeavesOtherSessions, ReadsAlike}
 use Rattle.commands.specs.TakenDisks.{HasBytes, RoseAt, StopsFormat}
 use Rattle.commands.specs.declared.command_end.CommandEnd.{CommandEnd}
-use Rattle.commands.specs.declared.command_end.CommandEnd.TheVariants.{Failed, Refused}
+use Rattle.commands.specs.declared.command_end.CommandEnd.TheVariants.{Memory, Failed, Refused}
 use Rattle.script_replay.specs.declared.disks.TakenDisks.{TakenDisks}
 use Rattle.script_replay.proofs.Shelving.{read_in, name_is, rose_more, others_so, spares_so}
 
@@ -123,3 +124,17 @@ pub disk_end : {D : Type 0} (d : Meaning D) (old new : TakenDisks D) (end : Comm
 disk_end d old new (Failed role) h = tt
 disk_end d old new (Refused role why) h = tt
 disk_end d old new end h = absurd h
+
+-- what a row's disks are formatted to is what the table's file gives for the session
+pub formats_so : (told tells : Type 0) (file : Option (List ℕ)) (before mid after : Places) (fails : ℕ → Role → Type 0) (session : ℕ) (row : SessionRow) (r : Result (Unit {0}) CommandEnd)
+    → HasRow file session row → row.id ≡ session → mid ≡ before → OnOk r (told → tells → IsFormatted mid after row) → IfErr r (λ end. told → tells → FormatStops mid after row end)
+    → ((role : Role) → r ≡ Err (Failed role) → fails session role) → told → tells → FormatsSo file before after fails session r
+formats_so told tells file before mid after fails session row (Ok done) has id same ok stops names t u =
+    (row, has, subst (λ (p : Places). IsFormatted p after row) same (ok t u), refl)
+formats_so told tells file before mid after fails session row (Err Memory) has id same ok stops names t u =
+    (subst (λ (n : ℕ). IsSpared before after n) id (subst (λ (p : Places). FormatStops p after row Memory) same (stops t u)), refl)
+formats_so told tells file before mid after fails session row (Err (Failed role)) has id same ok stops names t u =
+    (row, has, names role refl, subst (λ (p : Places). FormatStops p after row (Failed role)) same (stops t u), refl)
+formats_so told tells file before mid after fails session row (Err (Refused role why)) has id same ok stops names t u =
+    (row, has, subst (λ (p : Places). FormatStops p after row (Refused role why)) same (stops t u), refl)
+formats_so told tells file before mid after fails session row (Err end) has id same ok stops names t u = absurd (stops t u)

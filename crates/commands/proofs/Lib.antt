@@ -1,4 +1,5 @@
 pub mod CommandEnds
+pub mod Failing
 pub mod Formatted
 pub mod LentDisks
 pub mod Migrated

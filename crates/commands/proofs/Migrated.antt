@@ -185,6 +185,15 @@ fails_by role other why e = elim (ends_at role why) [
   | inr refused ↦ absurd (not_failed role other why (sym refused.1 ∙ e))
 ]
 
+pub role_by : (role other : Role) (why : Why) → end_at role (Some why) ≡ Failed other → role ≡ other
+role_by role other why e = elim (ends_at role why) [
+  | inl failed ↦ same (sym failed.1 ∙ e)
+  | inr refused ↦ absurd (not_failed role other why (sym refused.1 ∙ e))
+]
+  where
+    same : Failed role ≡ Failed other → role ≡ other
+    same e = cc
+
 pub untaken_stops : (before after : Places) (row new_row : SessionRow) (is_new : Bool) (end : CommandEnd) → IsUntaken end → ReadsAlike before after → MigrateStops before after row new_row is_new end
 untaken_stops before after row new_row is_new Memory h alike = alike
 untaken_stops before after row new_row is_new (Failed role) h alike = ((λ name other. alike name), (λ role some. alike (disk_name new_row.id role)))
@@ -192,22 +201,22 @@ untaken_stops before after row new_row is_new end h alike = absurd h
 
 -- ---- the tables, and the whole ----
 
-halts_to : (file new_file : Option (List ℕ)) (before after : Places) (session new_session : ℕ) (row new_row : SessionRow) (is_new : Bool) (end : CommandEnd) (named : ℕ)
-    → AreRows file new_file session new_session row new_row → named ≡ session_at session new_session is_new → MigrateStops before after row new_row is_new end
-    → Migrates file new_file before after session new_session end (end_line named end)
-halts_to file new_file before after session new_session row new_row is_new Memory named rows is h = (h, refl)
-halts_to file new_file before after session new_session row new_row is_new (Failed role) named rows is h = (row, new_row, is_new, rows, h, ap (λ n. end_line n (Failed role)) is)
-halts_to file new_file before after session new_session row new_row is_new (Refused role why) named rows is h = (row, new_row, is_new, rows, h, ap (λ n. end_line n (Refused role why)) is)
-halts_to file new_file before after session new_session row new_row is_new end named rows is h = absurd h
+halts_to : (file new_file : Option (List ℕ)) (before after : Places) (fails : ℕ → Role → Type 0) (session new_session : ℕ) (row new_row : SessionRow) (is_new : Bool) (end : CommandEnd) (named : ℕ)
+    → AreRows file new_file session new_session row new_row → named ≡ session_at session new_session is_new → ((role : Role) → end ≡ Failed role → fails named role) → MigrateStops before after row new_row is_new end
+    → Migrates file new_file before after fails session new_session end (end_line named end)
+halts_to file new_file before after fails session new_session row new_row is_new Memory named rows is names h = (h, refl)
+halts_to file new_file before after fails session new_session row new_row is_new (Failed role) named rows is names h = (row, new_row, is_new, rows, subst (λ (n : ℕ). fails n role) is (names role refl), h, ap (λ n. end_line n (Failed role)) is)
+halts_to file new_file before after fails session new_session row new_row is_new (Refused role why) named rows is names h = (row, new_row, is_new, rows, tt, h, ap (λ n. end_line n (Refused role why)) is)
+halts_to file new_file before after fails session new_session row new_row is_new end named rows is names h = absurd h
 
 -- .. and where they give none
-pub rowless_so : (file new_file : Option (List ℕ)) (before after : Places) (session new_session : ℕ) (end : CommandEnd) → IsTableEnd end
+pub rowless_so : (file new_file : Option (List ℕ)) (before after : Places) (fails : ℕ → Role → Type 0) (session new_session : ℕ) (end : CommandEnd) → IsTableEnd end
     → ((number place : ℕ) → end ≡ NoRow number place → HasNoRows file new_file session new_session number place) → after ≡ before
-    → MigratesSo file new_file before after session new_session (Err (record { session = session; end = end }))
-rowless_so file new_file before after session new_session Memory only none same = ((λ name. ap (λ (p : Places). reading_in (p name)) same), refl)
-rowless_so file new_file before after session new_session Unread only none same = (same, refl)
-rowless_so file new_file before after session new_session (NoRow number place) only none same = (none number place refl, same, refl)
-rowless_so file new_file before after session new_session end only none same = absurd only
+    → MigratesSo file new_file before after fails session new_session (Err (record { session = session; end = end }))
+rowless_so file new_file before after fails session new_session Memory only none same = ((λ name. ap (λ (p : Places). reading_in (p name)) same), refl)
+rowless_so file new_file before after fails session new_session Unread only none same = (same, refl)
+rowless_so file new_file before after fails session new_session (NoRow number place) only none same = (none number place refl, same, refl)
+rowless_so file new_file before after fails session new_session end only none same = absurd only
 
 -- both tables have a row, for one session
 pub same_session : {T : Type 0} (file new_file : Option (List ℕ)) (session new_session : ℕ) (row new_row : SessionRow) → HasRow file session row → HasRow new_file new_session new_row → session ≡ new_session
@@ -218,14 +227,15 @@ same_session file new_file session new_session row new_row has has_new same numb
     inr (inr (row, new_row, has, has_new, same, sym number_is, sym place_is))
 
 -- what the rows lead to is what the two tables' files give
-pub migrates_so : (told tells : Type 0) (file new_file : Option (List ℕ)) (before mid after : Places) (session new_session : ℕ) (row new_row : SessionRow) (r : Result Counts Halt)
+pub migrates_so : (told tells : Type 0) (file new_file : Option (List ℕ)) (before mid after : Places) (fails : ℕ → Role → Type 0) (session new_session : ℕ) (row new_row : SessionRow) (r : Result Counts Halt)
     → AreRows file new_file session new_session row new_row → mid ≡ before → IfOk r (λ counts. told → tells → MigratesTo mid after row new_row counts)
-    → IfErr r (λ halt. told → tells → HaltsSo mid after row new_row halt) → told → tells → MigratesSo file new_file before after session new_session r
-migrates_so told tells file new_file before mid after session new_session row new_row (Ok counts) rows same ok stops t u =
+    → IfErr r (λ halt. told → tells → HaltsSo mid after row new_row halt) → IfErr r (λ halt. (role : Role) → halt.end ≡ Failed role → fails halt.session role) → told → tells
+    → MigratesSo file new_file before after fails session new_session r
+migrates_so told tells file new_file before mid after fails session new_session row new_row (Ok counts) rows same ok stops names t u =
     let m : MigratesTo before after row new_row counts = subst (λ (p : Places). MigratesTo p after row new_row counts) same (ok t u) in
     let c = m.2 in
     (row, new_row, m.0, rows, m.1, λ i. counted_line session new_session (record { accepted = c.0 i; removed = c.1 i; received = c.2 i }))
-migrates_so told tells file new_file before mid after session new_session row new_row (Err halt) rows same ok stops t u =
+migrates_so told tells file new_file before mid after fails session new_session row new_row (Err halt) rows same ok stops names t u =
     let h = stops t u in
-    halts_to file new_file before after session new_session row new_row h.0 halt.end halt.session rows
-    (h.1 ∙ ap₂ (λ a b. session_at a b h.0) rows.id rows.new_id) (subst (λ (p : Places). MigrateStops p after row new_row h.0 halt.end) same h.2)
+    halts_to file new_file before after fails session new_session row new_row h.0 halt.end halt.session rows
+    (h.1 ∙ ap₂ (λ a b. session_at a b h.0) rows.id rows.new_id) names (subst (λ (p : Places). MigrateStops p after row new_row h.0 halt.end) same h.2)

@@ -131,11 +131,12 @@ pub shown_same : (session : ℕ) (f : Found) (a b r : ℕ) (live : List Payload)
 shown_same session f a b r live ea eb er el = ap (λ (t : ℕ × ℕ × ℕ × List Payload). shown_counts session t.0 t.1 t.2 t.3) (λ i. (ea i, eb i, er i, el i))
 
 -- what the disks of a row show is what the table's file gives for the session
-pub shows_so : {T : Type 0} (told tells : Type 0) (bytes : T → List ℕ) (file : Option (List ℕ)) (before mid after : Places) (session : ℕ) (row : SessionRow) (r : Result T CommandEnd)
+pub shows_so : {T : Type 0} (told tells : Type 0) (bytes : T → List ℕ) (file : Option (List ℕ)) (before mid after : Places) (fails : ℕ → Role → Type 0) (session : ℕ) (row : SessionRow) (r : Result T CommandEnd)
     → HasRow file session row → row.id ≡ session → mid ≡ before → IfOk r (λ text. told → tells → IsShown mid after row (bytes text)) → IfErr r (λ end. told → tells → ShowStops mid after row end)
-    → told → tells → ShowsSo bytes file before after session r
-shows_so told tells bytes file before mid after session row (Ok text) has id same ok stops t u = (row, has, id, subst (λ (p : Places). IsShown p after row (bytes text)) same (ok t u))
-shows_so told tells bytes file before mid after session row (Err Memory) has id same ok stops t u = (subst (λ (p : Places). ShowStops p after row Memory) same (stops t u), refl)
-shows_so told tells bytes file before mid after session row (Err (Failed role)) has id same ok stops t u = (row, has, subst (λ (p : Places). ShowStops p after row (Failed role)) same (stops t u), refl)
-shows_so told tells bytes file before mid after session row (Err (Refused role why)) has id same ok stops t u = (row, has, subst (λ (p : Places). ShowStops p after row (Refused role why)) same (stops t u), refl)
-shows_so told tells bytes file before mid after session row (Err end) has id same ok stops t u = absurd (stops t u)
+    → ((role : Role) → r ≡ Err (Failed role) → fails session role) → told → tells → ShowsSo bytes file before after fails session r
+shows_so told tells bytes file before mid after fails session row (Ok text) has id same ok stops names t u = (row, has, id, subst (λ (p : Places). IsShown p after row (bytes text)) same (ok t u))
+shows_so told tells bytes file before mid after fails session row (Err Memory) has id same ok stops names t u = (subst (λ (p : Places). ShowStops p after row Memory) same (stops t u), refl)
+shows_so told tells bytes file before mid after fails session row (Err (Failed role)) has id same ok stops names t u =
+    (row, has, names role refl, subst (λ (p : Places). ShowStops p after row (Failed role)) same (stops t u), refl)
+shows_so told tells bytes file before mid after fails session row (Err (Refused role why)) has id same ok stops names t u = (row, has, subst (λ (p : Places). ShowStops p after row (Refused role why)) same (stops t u), refl)
+shows_so told tells bytes file before mid after fails session row (Err end) has id same ok stops names t u = absurd (stops t u)

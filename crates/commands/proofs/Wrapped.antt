@@ -1,12 +1,14 @@
 -- What sending a file over a session leaves on the shelf.
-use Rattle.std.proofs.Common.{◌≡◌, ◌⊎◌, inl, inr, ℕ, List, Option, Some, None, refl, sym, ◌∙◌, subst, arith}
+use Rattle.std.proofs.Common.{◌≡◌, ◌⊎◌, inl, inr, ℕ, false, List, [], Option, Some, None, refl, sym, ◌∙◌, subst, arith}
 use Rattle.std.specs.Io.KnownBytes.{Appends}
+use Rattle.std.proofs.KnownBytes.{Consumes-nil}
 use Rattle.disk_model.specs.Disk.{Meaning}
 use Rattle.disk_model.specs.declared.name.Role.{Role}
 use Rattle.disk_model.specs.declared.name.Role.TheVariants as roles
 use Rattle.disk_model.specs.declared.shelf.ShelfFault.{ShelfFault}
 use Rattle.disk_model.specs.declared.shelf.ShelfFault.TheVariants as shelf_faults
 use Rattle.pump_frame.specs.declared.row.SessionRow.{SessionRow}
+use Rattle.pump_wrapper.specs.Cutting.{Gave}
 use Rattle.pump_wrapper.specs.Wraps.{HoldAll, IsWhole, is_too_long}
 use Rattle.pump_wrapper.specs.Wrapped.{wrapped}
 use Rattle.pump_wrapper.specs.WrapEnds.{Ends, HasDiskCause, HasFailed, IsNotOpened, RefusesDisks, Stand}
@@ -21,7 +23,8 @@ use Rattle.script_replay.specs.Lending.{ReadAt, AreOnShelf}
 use Rattle.script_replay.specs.Shelves.{Places, LeavesOtherSessions, reading_at}
 use Rattle.script_replay.specs.declared.disks.TakenDisks.{TakenDisks}
 use Rattle.script_replay.proofs.Shelving.{others_so}
-use Rattle.two_worlds.specs.Openings.{IsRefused, StandForFound, readied}
+use Rattle.stable_buffer.specs.Format.{new_bytes}
+use Rattle.two_worlds.specs.Openings.{IsLeft, IsRefused, StandForFound, readied}
 use Rattle.two_worlds.specs.declared.applied.Stop.{Stop}
 use Rattle.two_worlds.specs.declared.applied.Stop.TheVariants as stops
 use Rattle.commands.specs.CommandEnds.{end_status}
@@ -197,9 +200,23 @@ module _ {D : Type 0} (m : Meaning D) (tells : m.tells) (before mid now : Places
   abbrev FindsIn : Found → Three → Type 0
   FindsIn f t = StandForFound row f (readied row roles.Low t.0) (readied row roles.High t.1) (readied row roles.Recv t.2)
 
-  holds : (left : Option (List ℕ)) (answer : WrapEnd) (f : Found) → Ends m row left (accepted_in f) old answer new → FailsAtFormat before row answer ⊎ HoldsOn now row left (accepted_in f) answer
-  holds left answer f (inl (role, faults, e, none)) = inl (role, faults, e, was_at role ∙ none)
-  holds left answer f (inr e) = inr (record { now = e.now; found = of_new (FindsIn e.now) e.stand; grows = e.grows; sent = e.sent; ends = e.ends })
+  -- a disk that is as it was, or was empty and is new
+  kept : (at : Role) → IsLeft m row at (disk_of old at) (disk_of new at) false
+      → (reading_at now row.id at ≡ reading_at before row.id at) ⊎ ((reading_at before row.id at ≡ []) × (reading_at now row.id at ≡ new_bytes row at 0))
+  kept at (inl moves) = inl (is_at at ∙ moves.reads tells ∙ sym (was_at at))
+  kept at (inr made) = inr (was_at at ∙ (made tells).0, is_at at ∙ (made tells).1 refl)
+
+  holds : (left now_left : Option (List ℕ)) (answer : WrapEnd) (f : Found) → Ends m row left now_left (accepted_in f) old answer new
+      → FailsAtFormat before now row left now_left answer ⊎ HoldsOn now row left (accepted_in f) answer
+  holds left now_left answer f (inl fails) = inl (record {
+    role = fails.role;
+    faults = fails.faults;
+    answer_is = fails.end_is;
+    empty = was_at fails.role ∙ fails.empty;
+    unread = fails.unread;
+    others = λ other differ. kept other (fails.others other differ);
+  })
+  holds left now_left answer f (inr e) = inr (record { now = e.now; found = of_new (FindsIn e.now) e.stand; grows = e.grows; sent = e.sent; ends = e.ends })
 
   file_held : (left : Option (List ℕ)) (answer : WrapEnd) → ((bytes : List ℕ) → left ≡ Some bytes → IsWhole m row bytes answer new) → HoldsFile now row left answer
   file_held None answer h = tt
@@ -217,10 +234,7 @@ module _ {D : Type 0} (m : Meaning D) (tells : m.tells) (before mid now : Places
   refuses (answers.Refused role why) h = λ other.
       let r = h tells other in (
         of_old (λ t. IsRefused row (readied row roles.Low t.0) (readied row roles.High t.1) (readied row roles.Recv t.2) role why) r.first,
-        λ at. elim (r.left at) [
-          | inl moves ↦ inl (is_at at ∙ moves.reads tells ∙ sym (was_at at))
-          | inr made ↦ inr (was_at at ∙ (made tells).0, is_at at ∙ (made tells).1 refl)
-        ],
+        λ at. kept at (r.left at),
       )
   refuses (answers.Done bytes messages) h = tt
   refuses answers.Memory h = tt
@@ -229,21 +243,25 @@ module _ {D : Type 0} (m : Meaning D) (tells : m.tells) (before mid now : Places
   refuses (answers.Differs number) h = tt
   refuses (answers.Stopped stop) h = tt
 
-  pub leaves : (left : Option (List ℕ)) (answer : WrapEnd) → ((bytes : List ℕ) → left ≡ Some bytes → IsWhole m row bytes answer new) → ((f : Found) → Stand m row old f → Ends m row left (accepted_in f) old answer new)
-      → IsNotOpened answer ⊎ ((f : Found) × Stand m row old f) → RefusesDisks m row old answer new → Leaves before now row left answer
-  leaves left answer whole ends opened refused = record {
+  pub leaves : (left now_left : Option (List ℕ)) (answer : WrapEnd) → ((bytes : List ℕ) → left ≡ Some bytes → IsWhole m row bytes answer new) → ((f : Found) → Stand m row old f → Ends m row left now_left (accepted_in f) old answer new)
+      → IsNotOpened answer ⊎ ((f : Found) × Stand m row old f) → RefusesDisks m row old answer new → Leaves before now row left now_left answer
+  leaves left now_left answer whole ends opened refused = record {
     others = others_so before mid now row.id lent returned;
     opened = elim opened [ inl e ↦ inl e | inr some ↦ inr (some.0, of_old (FindsIn some.0) some.1) ];
-    holds = λ f found. holds left answer f (ends f (to_old (FindsIn f) found));
+    holds = λ f found. holds left now_left answer f (ends f (to_old (FindsIn f) found));
     file = file_held left answer whole;
     refused = refuses answer refused;
   }
 
 -- ---- the command ----
 
-pub wraps_row : (file : Option (List ℕ)) (before between after : Places) (session : ℕ) (row : SessionRow) (left : Option (List ℕ)) (end : SendEnd) → HasRow file session row → between ≡ before → WrapsFrom between after row left end
-    → Wraps file before after session left end
-wraps_row file before between after session row left end has same h = inr (row, has, subst (λ (places : Places). WrapsFrom places after row left end) same h)
+pub wraps_row : (file : Option (List ℕ)) (before between after : Places) (session : ℕ) (row : SessionRow) (left now_left : Option (List ℕ)) (end : SendEnd) → HasRow file session row → between ≡ before
+    → WrapsFrom between after row left now_left end → Wraps file before after session left now_left end
+wraps_row file before between after session row left now_left end has same h = inr (row, has, subst (λ (places : Places). WrapsFrom places after row left now_left end) same h)
+
+-- the source was not read
+pub nothing_given : (left : Option (List ℕ)) → Gave 0 left left false
+nothing_given left = ([], Consumes-nil left, (λ e. absurd (cc)), λ e. omega arith)
 
 pub writes : (Ends : SendEnd → Type 0) (session : ℕ) (old new : Option (List ℕ)) (end : SendEnd) → (end ≡ Stopped Unwritten → ⊥) → Ends end → Appends old new (send_line session end) → WritesSend Ends session old new end
 writes Ends session old new (Sent bytes messages) other h a = (h, a)

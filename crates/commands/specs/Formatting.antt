@@ -45,20 +45,21 @@ FormatStops before after row end = ⊥
 abbrev pub formatted_line : ℕ → List ℕ
 formatted_line session = line_with_end (codes "formatted" ∷ decimal session ∷ [])
 
--- what formatting the disks of a session is to write, and what it leaves, by how it ends. `file` is the table's
-abbrev pub Formats : Option (List ℕ) → Places → Places → ℕ → CommandEnd → List ℕ → Type 0
-Formats file before after session Done output = (row : SessionRow) × HasRow file session row × IsFormatted before after row × (output ≡ formatted_line session)
-Formats file before after session Memory output = IsSpared before after session × (output ≡ [])
-Formats file before after session Unread output = (after ≡ before) × (output ≡ end_line session Unread)
-Formats file before after session (NoRow number row) output = HasNoRow file session number row × (after ≡ before) × (output ≡ end_line session (NoRow number row))
-Formats file before after session (Failed role) output = (row : SessionRow) × HasRow file session row × FormatStops before after row (Failed role) × (output ≡ end_line session (Failed role))
-Formats file before after session (Refused role why) output = (row : SessionRow) × HasRow file session row × FormatStops before after row (Refused role why) × (output ≡ end_line session (Refused role why))
-Formats file before after session end output = ⊥
+-- what formatting the disks of a session is to write, and what it leaves, by how it ends. `file` is the table's, and `fails`
+-- says which disk failed
+abbrev pub Formats : Option (List ℕ) → Places → Places → (ℕ → Role → Type 0) → ℕ → CommandEnd → List ℕ → Type 0
+Formats file before after fails session Done output = (row : SessionRow) × HasRow file session row × IsFormatted before after row × (output ≡ formatted_line session)
+Formats file before after fails session Memory output = IsSpared before after session × (output ≡ [])
+Formats file before after fails session Unread output = (after ≡ before) × (output ≡ end_line session Unread)
+Formats file before after fails session (NoRow number row) output = HasNoRow file session number row × (after ≡ before) × (output ≡ end_line session (NoRow number row))
+Formats file before after fails session (Failed role) output = (row : SessionRow) × HasRow file session row × fails session role × FormatStops before after row (Failed role) × (output ≡ end_line session (Failed role))
+Formats file before after fails session (Refused role why) output = (row : SessionRow) × HasRow file session row × FormatStops before after row (Refused role why) × (output ≡ end_line session (Refused role why))
+Formats file before after fails session end output = ⊥
 
 -- before anything is written
-abbrev pub FormatsSo : Option (List ℕ) → Places → Places → ℕ → Result (Unit {0}) CommandEnd → Type 0
-FormatsSo file before after session (Ok done) = Formats file before after session Done (formatted_line session)
-FormatsSo file before after session (Err end) = Formats file before after session end (end_line session end)
+abbrev pub FormatsSo : Option (List ℕ) → Places → Places → (ℕ → Role → Type 0) → ℕ → Result (Unit {0}) CommandEnd → Type 0
+FormatsSo file before after fails session (Ok done) = Formats file before after fails session Done (formatted_line session)
+FormatsSo file before after fails session (Err end) = Formats file before after fails session end (end_line session end)
 
 -- why disks are not formatted
 abbrev pub IsDiskEnd : CommandEnd → Type 0

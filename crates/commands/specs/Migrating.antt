@@ -81,24 +81,24 @@ abbrev pub migrated_line : ℕ → ℕ → Found → List ℕ
 migrated_line session new_session f =
     line_with_end (codes "migrated" ∷ decimal session ∷ decimal new_session ∷ decimal (length (accepted_in f)) ∷ decimal f.removed ∷ decimal (length f.received) ∷ [])
 
--- the disks are not moved
-abbrev pub StopsSo : Option (List ℕ) → Option (List ℕ) → Places → Places → ℕ → ℕ → CommandEnd → List ℕ → Type 0
-StopsSo file new_file before after session new_session end output =
+-- the disks are not moved, and this holds of the session that the fault names
+abbrev pub StopsSo : Option (List ℕ) → Option (List ℕ) → Places → Places → (ℕ → Type 0) → ℕ → ℕ → CommandEnd → List ℕ → Type 0
+StopsSo file new_file before after Named session new_session end output =
     (row : SessionRow) × (new_row : SessionRow) × (is_new : Bool) × AreRows file new_file session new_session row new_row
-    × MigrateStops before after row new_row is_new end × (output ≡ end_line (session_at session new_session is_new) end)
+    × Named (session_at session new_session is_new) × MigrateStops before after row new_row is_new end × (output ≡ end_line (session_at session new_session is_new) end)
 
--- what moving a session is to write, and what it leaves, by how it ends
-abbrev pub Migrates : Option (List ℕ) → Option (List ℕ) → Places → Places → ℕ → ℕ → CommandEnd → List ℕ → Type 0
-Migrates file new_file before after session new_session Done output =
+-- what moving a session is to write, and what it leaves, by how it ends. `fails` says which disk failed
+abbrev pub Migrates : Option (List ℕ) → Option (List ℕ) → Places → Places → (ℕ → Role → Type 0) → ℕ → ℕ → CommandEnd → List ℕ → Type 0
+Migrates file new_file before after fails session new_session Done output =
     (row : SessionRow) × (new_row : SessionRow) × (f : Found) × AreRows file new_file session new_session row new_row
     × IsMigrated before after row new_row f × (output ≡ migrated_line session new_session f)
-Migrates file new_file before after session new_session Memory output = ReadsAlike before after × (output ≡ [])
-Migrates file new_file before after session new_session Unread output = (after ≡ before) × (output ≡ end_line session Unread)
-Migrates file new_file before after session new_session (NoRow number place) output =
+Migrates file new_file before after fails session new_session Memory output = ReadsAlike before after × (output ≡ [])
+Migrates file new_file before after fails session new_session Unread output = (after ≡ before) × (output ≡ end_line session Unread)
+Migrates file new_file before after fails session new_session (NoRow number place) output =
     HasNoRows file new_file session new_session number place × (after ≡ before) × (output ≡ table_line number place)
-Migrates file new_file before after session new_session (Failed role) output = StopsSo file new_file before after session new_session (Failed role) output
-Migrates file new_file before after session new_session (Refused role why) output = StopsSo file new_file before after session new_session (Refused role why) output
-Migrates file new_file before after session new_session end output = ⊥
+Migrates file new_file before after fails session new_session (Failed role) output = StopsSo file new_file before after (λ named. fails named role) session new_session (Failed role) output
+Migrates file new_file before after fails session new_session (Refused role why) output = StopsSo file new_file before after (λ named. Unit {0}) session new_session (Refused role why) output
+Migrates file new_file before after fails session new_session end output = ⊥
 
 -- ---- for the private functions and the proofs ----
 
@@ -164,8 +164,8 @@ pub record StopsMove {D : Type 0} (d : Meaning D) (row new_row : SessionRow) (ol
       (d.reading new.low) (d.reading new.high) (d.reading new.recv) fault
 
 -- before anything is written
-abbrev pub MigratesSo : Option (List ℕ) → Option (List ℕ) → Places → Places → ℕ → ℕ → Result Counts Halt → Type 0
-MigratesSo file new_file before after session new_session (Ok counts) =
-    Migrates file new_file before after session new_session Done (counted_line session new_session counts)
-MigratesSo file new_file before after session new_session (Err halt) =
-    Migrates file new_file before after session new_session halt.end (end_line halt.session halt.end)
+abbrev pub MigratesSo : Option (List ℕ) → Option (List ℕ) → Places → Places → (ℕ → Role → Type 0) → ℕ → ℕ → Result Counts Halt → Type 0
+MigratesSo file new_file before after fails session new_session (Ok counts) =
+    Migrates file new_file before after fails session new_session Done (counted_line session new_session counts)
+MigratesSo file new_file before after fails session new_session (Err halt) =
+    Migrates file new_file before after fails session new_session halt.end (end_line halt.session halt.end)

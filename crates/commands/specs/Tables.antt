@@ -1,5 +1,6 @@
 -- The row of a session in the file of a table.
 use Rattle.std.specs.Prelude.{◌≡◌, ⊤, ℕ, nat_le, ◌==◌, if◌then◌else◌, List, length, find, Option, Some, None, Result, Ok, Err}
+use Rattle.pump_frame.specs.Counts.{Rose}
 use Rattle.pump_frame.specs.declared.row.SessionRow.{SessionRow}
 use Rattle.session_table.specs.declared.fault.TableFault.{TableFault}
 use Rattle.session_table.specs.Documents.{table_of}
@@ -53,3 +54,7 @@ StopsAtTable file session Memory = Unit {0}
 StopsAtTable file session Unread = Unit {0}
 StopsAtTable file session (NoRow number row) = HasNoRow file session number row
 StopsAtTable file session end = ⊥
+
+-- .. where only a read that failed counts as one; the counts are those of the shelf's files
+abbrev pub StopsAtFile : ℕ → ℕ → Option (List ℕ) → ℕ → CommandEnd → Type 0
+StopsAtFile faults now_faults file session end = StopsAtTable file session end × (end ≡ Unread → Rose faults now_faults)

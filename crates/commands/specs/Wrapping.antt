@@ -6,6 +6,7 @@ use Rattle.pump_frame.specs.declared.payload.Payload.{Payload}
 use Rattle.pump_frame.specs.declared.row.SessionRow.{SessionRow}
 use Rattle.pump_link.specs.Causes.{AppendsFront}
 use Rattle.pump_wrapper.specs.Comparing.{Begins}
+use Rattle.pump_wrapper.specs.Cutting.{Gave}
 use Rattle.pump_wrapper.specs.Wrapped.{wrapped}
 use Rattle.pump_wrapper.specs.WrapEnds.{BeginFile, EndsAt, IsNotOpened}
 use Rattle.pump_wrapper.specs.Wraps.{HoldAll}
@@ -15,6 +16,7 @@ use Rattle.recovery.specs.Calls.{is_device}
 use Rattle.recovery.specs.declared.why.Why.TheVariants as whys
 use Rattle.script_reader.specs.Openings.{Found, accepted_in}
 use Rattle.script_reader.specs.Transcript.{line_with_end}
+use Rattle.stable_buffer.specs.Format.{new_bytes}
 use Rattle.script_replay.specs.Shelves.{Places, OfDisks, HasFound, IsRefusedFor, LeavesOtherSessions, ReadiesSession, ReadsAlike, reading_at}
 use Rattle.two_worlds.specs.declared.applied.Stop.{Stop}
 use Rattle.two_worlds.specs.declared.applied.Stop.TheVariants as stops
@@ -79,10 +81,16 @@ pub record HoldsOn (after : Places) (row : SessionRow) (left : Option (List ℕ)
   pub sent : (accepted_in now ≡ accepted) ⊎ BeginFile row left (accepted_in now)
   pub ends : EndsAt row left accepted now answer
 
--- an empty disk could not be formatted
-abbrev pub FailsAtFormat : Places → SessionRow → WrapEnd → Type 0
-FailsAtFormat before row answer =
-    (role : Role) × (faults : ℕ) × (answer ≡ answers.Refused role (whys.Device faults)) × (reading_at before row.id role ≡ [])
+-- The formatting of an empty disk failed: nothing of the file was read, of which these bytes were left before and after; and each of
+-- the other two disks reads as it did, or was empty and is new.
+pub record FailsAtFormat (before after : Places) (row : SessionRow) (left now_left : Option (List ℕ)) (answer : WrapEnd) : Type 0 where
+  pub role : Role
+  pub faults : ℕ
+  pub answer_is : answer ≡ answers.Refused role (whys.Device faults)
+  pub empty : reading_at before row.id role ≡ []
+  pub unread : now_left ≡ left
+  pub others : (other : Role) → (other ≡ role → ⊥) → (reading_at after row.id other ≡ reading_at before row.id other)
+      ⊎ ((reading_at before row.id other ≡ []) × (reading_at after row.id other ≡ new_bytes row other 0))
 
 -- the whole file is with the receiver, where its bytes are told
 abbrev pub HoldsFile : Places → SessionRow → Option (List ℕ) → WrapEnd → Type 0
@@ -97,10 +105,10 @@ RefusesSession before after row (answers.Refused role why) =
 RefusesSession before after row answer = Unit {0}
 
 -- what a sending that ends with this answer leaves
-pub record Leaves (before after : Places) (row : SessionRow) (left : Option (List ℕ)) (answer : WrapEnd) : Type 0 where
+pub record Leaves (before after : Places) (row : SessionRow) (left now_left : Option (List ℕ)) (answer : WrapEnd) : Type 0 where
   pub others : LeavesOtherSessions before after row.id
   pub opened : IsNotOpened answer ⊎ ((f : Found) × HasFound before row f)
-  pub holds : (f : Found) → HasFound before row f → FailsAtFormat before row answer ⊎ HoldsOn after row left (accepted_in f) answer
+  pub holds : (f : Found) → HasFound before row f → FailsAtFormat before after row left now_left answer ⊎ HoldsOn after row left (accepted_in f) answer
   pub file : HoldsFile after row left answer
   pub refused : RefusesSession before after row answer
 
@@ -113,22 +121,32 @@ StopsAtShelf (Failed role) = Unit {0}
 StopsAtShelf end = ⊥
 
 -- over the disks of a row
-abbrev pub WrapsOn : Places → Places → SessionRow → Option (List ℕ) → SendEnd → Type 0
-WrapsOn before after row left end =
+abbrev pub WrapsOn : Places → Places → SessionRow → Option (List ℕ) → Option (List ℕ) → SendEnd → Type 0
+WrapsOn before after row left now_left end =
     ((stop : CommandEnd) × StopsAtShelf stop × (end ≡ Stopped stop) × ReadsAlike before after)
-    ⊎ ((answer : WrapEnd) × (end ≡ end_of_wrap answer) × Leaves before after row left answer)
+    ⊎ ((answer : WrapEnd) × (end ≡ end_of_wrap answer) × Leaves before after row left now_left answer)
 
 -- the row's messages are too short for a length
-abbrev pub WrapsFrom : Places → Places → SessionRow → Option (List ℕ) → SendEnd → Type 0
-WrapsFrom before after row left end =
+abbrev pub WrapsFrom : Places → Places → SessionRow → Option (List ℕ) → Option (List ℕ) → SendEnd → Type 0
+WrapsFrom before after row left now_left end =
     ((row.message < 9) × (end ≡ Stopped (NoRow 12 row.id)) × (after ≡ before))
-    ⊎ ((9 ≤ row.message) × WrapsOn before after row left end)
+    ⊎ ((9 ≤ row.message) × WrapsOn before after row left now_left end)
 
--- with the row of the session, if the table has one; `file` is the table's, and `left` the bytes to send
-abbrev pub Wraps : Option (List ℕ) → Places → Places → ℕ → Option (List ℕ) → SendEnd → Type 0
-Wraps file before after session left end =
+-- with the row of the session, if the table has one; `file` is the table's, and `left` and `now_left` are the bytes to send that the
+-- source has before and after
+abbrev pub Wraps : Option (List ℕ) → Places → Places → ℕ → Option (List ℕ) → Option (List ℕ) → SendEnd → Type 0
+Wraps file before after session left now_left end =
     ((stop : CommandEnd) × StopsAtTable file session stop × (end ≡ Stopped stop) × (after ≡ before))
-    ⊎ ((row : SessionRow) × HasRow file session row × WrapsFrom before after row left end)
+    ⊎ ((row : SessionRow) × HasRow file session row × WrapsFrom before after row left now_left end)
+
+-- the file is too long
+abbrev pub is_long : SendEnd → Bool
+is_long TooLong = true
+is_long end = false
+
+-- .. and it is too long just where the source gave 2^48 bytes
+abbrev pub WrapsAll : Option (List ℕ) → Places → Places → ℕ → Option (List ℕ) → Option (List ℕ) → SendEnd → Type 0
+WrapsAll file before after session left now_left end = Wraps file before after session left now_left end × Gave 0 left now_left (is_long end)
 
 -- it ends so, and its line was written; or a front of that was
 abbrev pub WritesSend : (SendEnd → Type 0) → ℕ → Option (List ℕ) → Option (List ℕ) → SendEnd → Type 0
@@ -136,14 +154,9 @@ WritesSend Ends session old new (Stopped Unwritten) = (end : SendEnd) × Ends en
 WritesSend Ends session old new end = Ends end × Appends old new (send_line session end)
 
 -- .. with this status
-abbrev pub EndsWrap : Option (List ℕ) → Places → Places → ℕ → Option (List ℕ) → Option (List ℕ) → Option (List ℕ) → ℕ → Type 0
-EndsWrap file before after session left old new status =
-    (end : SendEnd) × (send_status end ≡ status) × WritesSend (Wraps file before after session left) session old new end
-
--- the file is too long
-abbrev pub is_long : SendEnd → Bool
-is_long TooLong = true
-is_long end = false
+abbrev pub EndsWrap : Option (List ℕ) → Places → Places → ℕ → Option (List ℕ) → Option (List ℕ) → Option (List ℕ) → Option (List ℕ) → ℕ → Type 0
+EndsWrap file before after session left now_left old new status =
+    (end : SendEnd) × (send_status end ≡ status) × WritesSend (WrapsAll file before after session left now_left) session old new end
 
 -- one of its statuses
 abbrev pub IsSendStatus : ℕ → Type 0

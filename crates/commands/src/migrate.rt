@@ -5,6 +5,7 @@ ghost use Rattle.disk_model.specs.Shelf.{IsOut};
 ghost use Rattle.disk_model.specs.declared.name.Role.{Role as DiskRole};
 ghost use Rattle.pump_frame.specs.Counts.{Rose};
 ghost use Rattle.pump_frame.specs.Rows.{IsLawfulRow};
+ghost use Rattle.script_replay.specs.Failing.{FailsAt};
 ghost use Rattle.script_replay.specs.Lending.{AreOnShelf};
 ghost use Rattle.script_replay.specs.Shelves.{disk_name, AllAreBack, ReadsAlike};
 ghost use Rattle.commands.specs.CommandEnds.{EndsSo, end_status};
@@ -113,7 +114,7 @@ fn take_both<S: Shelf>(
     ensures back { IfErr result (λ halt. S.told.tells → AllAreBack (S.told.disk shelf.old) (S.told.disk shelf.new)) }
     ensures untaken { IfErr result (λ halt. IsUntaken halt.end × ((is_new : Bool) × (halt.session ≡ session_at session new_session is_new))) }
     ensures later { S.told.disk_faults shelf.old ≤ S.told.disk_faults shelf.new }
-    ensures cause { IfErr result (λ halt. (role : DiskRole) → halt.end ≡ ends.Failed role → Rose (S.told.disk_faults shelf.old) (S.told.disk_faults shelf.new)) }
+    ensures device { IfErr result (λ halt. (role : DiskRole) → halt.end ≡ ends.Failed role → FailsAt S.told S.Disk.told shelf.old shelf.new halt.session role) }
 {
     let old = match take_disks(shelf, session) {
         Ok(old) => old,
@@ -237,7 +238,7 @@ fn migrate_disks<S: Shelf>(
     ensures moved { IfOk result (λ counts. S.told.tells → S.Disk.told.tells → MigratesTo (S.told.disk shelf.old) (S.told.disk shelf.new) row.now new_row.now counts) }
     ensures stops { IfErr result (λ halt. S.told.tells → S.Disk.told.tells → HaltsSo (S.told.disk shelf.old) (S.told.disk shelf.new) row.now new_row.now halt) }
     ensures back { S.told.tells → AllAreBack (S.told.disk shelf.old) (S.told.disk shelf.new) }
-    ensures device { IfErr result (λ halt. (role : DiskRole) → halt.end ≡ ends.Failed role → Rose (S.told.disk_faults shelf.old) (S.told.disk_faults shelf.new)) }
+    ensures device { IfErr result (λ halt. (role : DiskRole) → halt.end ≡ ends.Failed role → FailsAt S.told S.Disk.told shelf.old shelf.new halt.session role) }
     ensures only { IfErr result (λ halt. IsDiskEnd halt.end) }
 {
     let both = take_both(shelf, row.id, new_row.id)?;
@@ -255,9 +256,9 @@ fn migrate_rows<S: Shelf>(
     shelf: &mut S,
 ) -> Result<Counts, Halt>
     ensures migrates { S.told.tells → S.Disk.told.tells → MigratesSo (S.told.file shelf.old table.now) (S.told.file shelf.old new_table.now)
-        (S.told.disk shelf.old) (S.told.disk shelf.new) session new_session result }
+        (S.told.disk shelf.old) (S.told.disk shelf.new) (FailsAt S.told S.Disk.told shelf.old shelf.new) session new_session result }
     ensures back { S.told.tells → AllAreBack (S.told.disk shelf.old) (S.told.disk shelf.new) }
-    ensures device { IfErr result (λ halt. (role : DiskRole) → halt.end ≡ ends.Failed role → Rose (S.told.disk_faults shelf.old) (S.told.disk_faults shelf.new)) }
+    ensures device { IfErr result (λ halt. (role : DiskRole) → halt.end ≡ ends.Failed role → FailsAt S.told S.Disk.told shelf.old shelf.new halt.session role) }
     ensures read { IfErr result (λ halt. halt.end ≡ ends.Unread → Rose (S.told.faults shelf.old) (S.told.faults shelf.new)) }
     ensures unwritten { IfErr result (λ halt. halt.end ≡ ends.Unwritten → ⊥) }
     ensures status { IfErr result (λ halt. end_status halt.end ≤ 8) }
@@ -295,7 +296,7 @@ pub fn migrate_session<S: Shelf, O: Sink>(
     out: &mut O,
 ) -> CommandEnd
     ensures ends { S.told.tells → S.Disk.told.tells → EndsSo (Migrates (S.told.file shelf.old table.now) (S.told.file shelf.old new_table.now)
-        (S.told.disk shelf.old) (S.told.disk shelf.new) session new_session) (O.written out.old) (O.written out.new) result }
+        (S.told.disk shelf.old) (S.told.disk shelf.new) (FailsAt S.told S.Disk.told shelf.old shelf.new) session new_session) (O.written out.old) (O.written out.new) result }
     ensures back { S.told.tells → AllAreBack (S.told.disk shelf.old) (S.told.disk shelf.new) }
     ensures device { (role : DiskRole) → result ≡ ends.Failed role → Rose (S.told.disk_faults shelf.old) (S.told.disk_faults shelf.new) }
     ensures read { result ≡ ends.Unread → Rose (S.told.faults shelf.old) (S.told.faults shelf.new) }

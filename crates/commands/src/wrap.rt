@@ -6,7 +6,7 @@ ghost use Rattle.pump_frame.specs.Counts.{Rose};
 ghost use Rattle.pump_frame.specs.Rows.{IsLawfulRow};
 ghost use Rattle.pump_wrapper.specs.Cutting.{Gave};
 ghost use Rattle.script_replay.specs.Shelves.{AllAreBack};
-ghost use Rattle.commands.specs.Wrapping.{IsSendStatus, Wraps, WrapsFrom, WrapsOn, WritesSend, end_of_stop, end_of_wrap, is_long, send_line, send_status};
+ghost use Rattle.commands.specs.Wrapping.{IsSendStatus, Wraps, WrapsAll, WrapsFrom, WrapsOn, WritesSend, end_of_stop, end_of_wrap, is_long, send_line, send_status};
 ghost use Rattle.commands.specs.declared.command_end.CommandEnd.TheVariants as ends;
 ghost use Rattle.commands.specs.declared.wrap.SendEnd.TheVariants.{Stopped};
 
@@ -94,7 +94,7 @@ fn wrap_disks<S: Shelf, I: Source>(
 ) -> SendEnd
     requires lawful { IsLawfulRow row.now }
     requires long { 9 ≤ row.now.message }
-    ensures wraps { S.told.tells → S.Disk.told.tells → WrapsOn (S.told.disk shelf.old) (S.told.disk shelf.new) row.now (I.left file.old) result }
+    ensures wraps { S.told.tells → S.Disk.told.tells → WrapsOn (S.told.disk shelf.old) (S.told.disk shelf.new) row.now (I.left file.old) (I.left file.new) result }
     ensures back { S.told.tells → AllAreBack (S.told.disk shelf.old) (S.told.disk shelf.new) }
     ensures device { (role : DiskRole) → result ≡ Stopped (ends.Failed role) → Rose (S.told.disk_faults shelf.old) (S.told.disk_faults shelf.new) }
     ensures read { result ≡ Stopped ends.Unread → Rose (I.faults file.old) (I.faults file.new) }
@@ -123,7 +123,7 @@ fn wrap_row<S: Shelf, I: Source>(
     file: &mut I,
 ) -> SendEnd
     requires lawful { IsLawfulRow row.now }
-    ensures wraps { S.told.tells → S.Disk.told.tells → WrapsFrom (S.told.disk shelf.old) (S.told.disk shelf.new) row.now (I.left file.old) result }
+    ensures wraps { S.told.tells → S.Disk.told.tells → WrapsFrom (S.told.disk shelf.old) (S.told.disk shelf.new) row.now (I.left file.old) (I.left file.new) result }
     ensures back { S.told.tells → AllAreBack (S.told.disk shelf.old) (S.told.disk shelf.new) }
     ensures device { (role : DiskRole) → result ≡ Stopped (ends.Failed role) → Rose (S.told.disk_faults shelf.old) (S.told.disk_faults shelf.new) }
     ensures read { result ≡ Stopped ends.Unread → Rose (I.faults file.old) (I.faults file.new) }
@@ -151,7 +151,7 @@ fn wrap_in_table<S: Shelf, I: Source>(
     file: &mut I,
 ) -> SendEnd
     ensures wraps { S.told.tells → S.Disk.told.tells
-        → Wraps (S.told.file shelf.old table.now) (S.told.disk shelf.old) (S.told.disk shelf.new) session (I.left file.old) result }
+        → Wraps (S.told.file shelf.old table.now) (S.told.disk shelf.old) (S.told.disk shelf.new) session (I.left file.old) (I.left file.new) result }
     ensures back { S.told.tells → AllAreBack (S.told.disk shelf.old) (S.told.disk shelf.new) }
     ensures device { (role : DiskRole) → result ≡ Stopped (ends.Failed role) → Rose (S.told.disk_faults shelf.old) (S.told.disk_faults shelf.new) }
     ensures read { result ≡ Stopped ends.Unread → Rose (S.told.faults shelf.old) (S.told.faults shelf.new) ⊎ Rose (I.faults file.old) (I.faults file.new) }
@@ -193,7 +193,7 @@ pub fn wrap_session<S: Shelf, I: Source, O: Sink>(
     out: &mut O,
 ) -> SendEnd
     ensures ends { S.told.tells → S.Disk.told.tells
-        → WritesSend (Wraps (S.told.file shelf.old table.now) (S.told.disk shelf.old) (S.told.disk shelf.new) session (I.left file.old)) session
+        → WritesSend (WrapsAll (S.told.file shelf.old table.now) (S.told.disk shelf.old) (S.told.disk shelf.new) session (I.left file.old) (I.left file.new)) session
         (O.written out.old) (O.written out.new) result }
     ensures back { S.told.tells → AllAreBack (S.told.disk shelf.old) (S.told.disk shelf.new) }
     ensures device { (role : DiskRole) → result ≡ Stopped (ends.Failed role) → Rose (S.told.disk_faults shelf.old) (S.told.disk_faults shelf.new) }

@@ -7,6 +7,7 @@ use Rattle.command_line.specs.declared.command.Command.{Command}
 use Rattle.command_line.specs.declared.command.Command.TheVariants.{Replay, Format, Show, Exercise, Race, Serve, Receive, Send, Migrate, Wrap, Unwrap, Audit, Compare, Chain}
 use Rattle.command_line.specs.declared.command.WordsFault.{WordsFault}
 use Rattle.command_line.specs.declared.command.WordsFault.TheVariants.{NoCommand, Memory}
+use Rattle.disk_model.specs.declared.name.Role.{Role}
 use Rattle.commands.specs.CommandEnds.{EndsSo, EndsWithStatus, end_status}
 use Rattle.dispatch.specs.Commands.{IsNoCommand, IsNoLiveCommand, IsWrap, ReadsScript, is_live}
 use Rattle.exercises.specs.Exercises.{EndsExercise}
@@ -16,9 +17,10 @@ use Rattle.commands.specs.Showing.{Shows}
 use Rattle.commands.specs.Unwrapping.{EndsUnwrap, Unwraps, unwrap_status}
 use Rattle.commands.specs.declared.unwrap.UnwrapEnd.{UnwrapEnd}
 use Rattle.commands.specs.declared.unwrap.UnwrapEnd.TheVariants.{Stopped}
-use Rattle.commands.specs.Wrapping.{EndsWrap, Wraps, WritesSend, send_status}
+use Rattle.commands.specs.Wrapping.{EndsWrap, WrapsAll, WritesSend, send_status}
 use Rattle.commands.specs.declared.wrap.SendEnd.{SendEnd}
 use Rattle.commands.specs.declared.wrap.SendEnd.TheVariants.{Stopped as SentStop}
+use Rattle.commands.proofs.Wrapped.{nothing_given}
 use Rattle.script_replay.specs.Shelves.{Places}
 use Rattle.commands.specs.declared.command_end.CommandEnd.{CommandEnd}
 use Rattle.commands.specs.declared.command_end.CommandEnd.TheVariants as ends
@@ -38,16 +40,16 @@ table_is t u n m e = cc
 session_is : (t u : List ℕ) (n m : ℕ) → Format t n ≡ Format u m → n ≡ m
 session_is t u n m e = cc
 
-pub formats_asked : (file : List ℕ → Option (List ℕ)) (before after : Places) (old new : Option (List ℕ)) (t u : List ℕ) (n m : ℕ) (end : CommandEnd) (status : ℕ)
-    → EndsSo (Formats (file t) before after n) old new end → status ≡ end_status end → (b : Command) → b ≡ Format t n → b ≡ Format u m
-    → EndsWithStatus (Formats (file u) before after m) old new status
-formats_asked file before after old new t u n m end status ends is b one other =
+pub formats_asked : (file : List ℕ → Option (List ℕ)) (before after : Places) (fails : ℕ → Role → Type 0) (old new : Option (List ℕ)) (t u : List ℕ) (n m : ℕ) (end : CommandEnd) (status : ℕ)
+    → EndsSo (Formats (file t) before after fails n) old new end → status ≡ end_status end → (b : Command) → b ≡ Format t n → b ≡ Format u m
+    → EndsWithStatus (Formats (file u) before after fails m) old new status
+formats_asked file before after fails old new t u n m end status ends is b one other =
     let same = sym one ∙ other in
-    (end, sym is, subst (λ (p : List ℕ × ℕ). EndsSo (Formats (file p.0) before after p.1) old new end) (λ i. (table_is t u n m same i, session_is t u n m same i)) ends)
+    (end, sym is, subst (λ (p : List ℕ × ℕ). EndsSo (Formats (file p.0) before after fails p.1) old new end) (λ i. (table_is t u n m same i, session_is t u n m same i)) ends)
 
 -- want of memory, before anything was done
-pub formats_nothing : (file : Option (List ℕ)) (places : Places) (old new : Option (List ℕ)) (session : ℕ) → Appends old new [] → EndsWithStatus (Formats file places places session) old new 1
-formats_nothing file places old new session a = (ends.Memory, refl, ([], (record { spares = λ name some. refl; others = λ name other. refl }, refl), a))
+pub formats_nothing : (file : Option (List ℕ)) (places : Places) (fails : ℕ → Role → Type 0) (old new : Option (List ℕ)) (session : ℕ) → Appends old new [] → EndsWithStatus (Formats file places places fails session) old new 1
+formats_nothing file places fails old new session a = (ends.Memory, refl, ([], (record { spares = λ name some. refl; others = λ name other. refl }, refl), a))
 
 shown_table_is : (t u : List ℕ) (n m : ℕ) → Show t n ≡ Show u m → t ≡ u
 shown_table_is t u n m e = cc
@@ -55,15 +57,15 @@ shown_table_is t u n m e = cc
 shown_session_is : (t u : List ℕ) (n m : ℕ) → Show t n ≡ Show u m → n ≡ m
 shown_session_is t u n m e = cc
 
-pub shows_asked : (file : List ℕ → Option (List ℕ)) (before after : Places) (old new : Option (List ℕ)) (t u : List ℕ) (n m : ℕ) (end : CommandEnd) (status : ℕ)
-    → EndsSo (Shows (file t) before after n) old new end → status ≡ end_status end → (b : Command) → b ≡ Show t n → b ≡ Show u m
-    → EndsWithStatus (Shows (file u) before after m) old new status
-shows_asked file before after old new t u n m end status ends is b one other =
+pub shows_asked : (file : List ℕ → Option (List ℕ)) (before after : Places) (fails : ℕ → Role → Type 0) (old new : Option (List ℕ)) (t u : List ℕ) (n m : ℕ) (end : CommandEnd) (status : ℕ)
+    → EndsSo (Shows (file t) before after fails n) old new end → status ≡ end_status end → (b : Command) → b ≡ Show t n → b ≡ Show u m
+    → EndsWithStatus (Shows (file u) before after fails m) old new status
+shows_asked file before after fails old new t u n m end status ends is b one other =
     let same = sym one ∙ other in
-    (end, sym is, subst (λ (p : List ℕ × ℕ). EndsSo (Shows (file p.0) before after p.1) old new end) (λ i. (shown_table_is t u n m same i, shown_session_is t u n m same i)) ends)
+    (end, sym is, subst (λ (p : List ℕ × ℕ). EndsSo (Shows (file p.0) before after fails p.1) old new end) (λ i. (shown_table_is t u n m same i, shown_session_is t u n m same i)) ends)
 
-pub shows_nothing : (file : Option (List ℕ)) (places : Places) (old new : Option (List ℕ)) (session : ℕ) → Appends old new [] → EndsWithStatus (Shows file places places session) old new 1
-shows_nothing file places old new session a = (ends.Memory, refl, ([], ((λ name. refl), refl), a))
+pub shows_nothing : (file : Option (List ℕ)) (places : Places) (fails : ℕ → Role → Type 0) (old new : Option (List ℕ)) (session : ℕ) → Appends old new [] → EndsWithStatus (Shows file places places fails session) old new 1
+shows_nothing file places fails old new session a = (ends.Memory, refl, ([], ((λ name. refl), refl), a))
 
 moved_table_is : (t u v w : List ℕ) (n m k j : ℕ) → Migrate t n v k ≡ Migrate u m w j → t ≡ u
 moved_table_is t u v w n m k j e = cc
@@ -77,20 +79,20 @@ new_table_is t u v w n m k j e = cc
 new_session_is : (t u v w : List ℕ) (n m k j : ℕ) → Migrate t n v k ≡ Migrate u m w j → k ≡ j
 new_session_is t u v w n m k j e = cc
 
-pub migrates_asked : (file : List ℕ → Option (List ℕ)) (before after : Places) (old new : Option (List ℕ)) (t u v w : List ℕ) (n m k j : ℕ) (end : CommandEnd) (status : ℕ)
-    → EndsSo (Migrates (file t) (file v) before after n k) old new end → status ≡ end_status end → (b : Command) → b ≡ Migrate t n v k → b ≡ Migrate u m w j
-    → EndsWithStatus (Migrates (file u) (file w) before after m j) old new status
-migrates_asked file before after old new t u v w n m k j end status ends is b one other =
+pub migrates_asked : (file : List ℕ → Option (List ℕ)) (before after : Places) (fails : ℕ → Role → Type 0) (old new : Option (List ℕ)) (t u v w : List ℕ) (n m k j : ℕ) (end : CommandEnd) (status : ℕ)
+    → EndsSo (Migrates (file t) (file v) before after fails n k) old new end → status ≡ end_status end → (b : Command) → b ≡ Migrate t n v k → b ≡ Migrate u m w j
+    → EndsWithStatus (Migrates (file u) (file w) before after fails m j) old new status
+migrates_asked file before after fails old new t u v w n m k j end status ends is b one other =
     let same = sym one ∙ other in (
       end,
       sym is,
-      subst (λ (p : List ℕ × ℕ × List ℕ × ℕ). EndsSo (Migrates (file p.0) (file p.2) before after p.1 p.3) old new end)
+      subst (λ (p : List ℕ × ℕ × List ℕ × ℕ). EndsSo (Migrates (file p.0) (file p.2) before after fails p.1 p.3) old new end)
           (λ i. (moved_table_is t u v w n m k j same i, moved_session_is t u v w n m k j same i, new_table_is t u v w n m k j same i, new_session_is t u v w n m k j same i)) ends,
     )
 
-pub migrates_nothing : (file new_file : Option (List ℕ)) (places : Places) (old new : Option (List ℕ)) (session new_session : ℕ) → Appends old new []
-    → EndsWithStatus (Migrates file new_file places places session new_session) old new 1
-migrates_nothing file new_file places old new session new_session a = (ends.Memory, refl, ([], ((λ name. refl), refl), a))
+pub migrates_nothing : (file new_file : Option (List ℕ)) (places : Places) (fails : ℕ → Role → Type 0) (old new : Option (List ℕ)) (session new_session : ℕ) → Appends old new []
+    → EndsWithStatus (Migrates file new_file places places fails session new_session) old new 1
+migrates_nothing file new_file places fails old new session new_session a = (ends.Memory, refl, ([], ((λ name. refl), refl), a))
 
 unwrapped_table_is : (t u : List ℕ) (n m : ℕ) → Unwrap t n ≡ Unwrap u m → t ≡ u
 unwrapped_table_is t u n m e = cc
@@ -114,15 +116,18 @@ wrapped_table_is t u n m e = cc
 wrapped_session_is : (t u : List ℕ) (n m : ℕ) → Wrap t n ≡ Wrap u m → n ≡ m
 wrapped_session_is t u n m e = cc
 
-pub wraps_asked : (file : List ℕ → Option (List ℕ)) (before after : Places) (left old new : Option (List ℕ)) (t u : List ℕ) (n m : ℕ) (end : SendEnd) (status : ℕ)
-    → WritesSend (Wraps (file t) before after n left) n old new end → status ≡ send_status end → (b : Command) → b ≡ Wrap t n → b ≡ Wrap u m
-    → EndsWrap (file u) before after m left old new status
-wraps_asked file before after left old new t u n m end status ends is b one other =
-    let same = sym one ∙ other in
-    (end, sym is, subst (λ (p : List ℕ × ℕ). WritesSend (Wraps (file p.0) before after p.1 left) p.1 old new end) (λ i. (wrapped_table_is t u n m same i, wrapped_session_is t u n m same i)) ends)
+pub wraps_asked : (file : List ℕ → Option (List ℕ)) (before after : Places) (left now_left old new : Option (List ℕ)) (t u : List ℕ) (n m : ℕ) (end : SendEnd) (status : ℕ)
+    → WritesSend (WrapsAll (file t) before after n left now_left) n old new end → status ≡ send_status end → (b : Command) → b ≡ Wrap t n → b ≡ Wrap u m
+    → EndsWrap (file u) before after m left now_left old new status
+wraps_asked file before after left now_left old new t u n m end status ends is b one other =
+    let same = sym one ∙ other in (
+      end,
+      sym is,
+      subst (λ (p : List ℕ × ℕ). WritesSend (WrapsAll (file p.0) before after p.1 left now_left) p.1 old new end) (λ i. (wrapped_table_is t u n m same i, wrapped_session_is t u n m same i)) ends,
+    )
 
-pub wraps_nothing : (file : Option (List ℕ)) (places : Places) (left old new : Option (List ℕ)) (session : ℕ) → Appends old new [] → EndsWrap file places places session left old new 1
-wraps_nothing file places left old new session a = (SentStop ends.Memory, refl, (inl (ends.Memory, tt, refl, refl), a))
+pub wraps_nothing : (file : Option (List ℕ)) (places : Places) (left old new : Option (List ℕ)) (session : ℕ) → Appends old new [] → EndsWrap file places places session left left old new 1
+wraps_nothing file places left old new session a = (SentStop ends.Memory, refl, ((inl (ends.Memory, tt, refl, refl), nothing_given left), a))
 
 seed_is : (a b n m : ℕ) → Exercise a n ≡ Exercise b m → a ≡ b
 seed_is a b n m e = cc

@@ -149,10 +149,10 @@ no_key R Q key_faults.Failed failed short = inl (failed refl)
 no_key R Q key_faults.Short failed short = inr (short refl)
 
 module _ {D L S : Type 0} (t : DoorsTell D L) (m : Meaning S) (looks : ℕ) (low_side high_side : SideTells D L) (written : Option (List ℕ)) (out_faults : ℕ) (before between after : Places)
-    (left now_left : Option (List ℕ)) (read_faults now_read_faults : ℕ) (file : Option (List ℕ)) (session : ℕ) (row : SessionRow) (end : CommandEnd) (mid : Option (List ℕ)) (mid_faults : ℕ) where
+    (left now_left : Option (List ℕ)) (read_faults now_read_faults : ℕ) (file : Option (List ℕ)) (file_faults now_file_faults session : ℕ) (row : SessionRow) (end : CommandEnd) (mid : Option (List ℕ)) (mid_faults : ℕ) where
   pub serves_row : HasRow file session row → between ≡ before → LeavesBut between after row.id
       → ServesFor t m looks low_side high_side written out_faults between after left now_left read_faults now_read_faults row end mid mid_faults
-      → ServeComes t m looks low_side high_side written out_faults before after left now_left read_faults now_read_faults file session end mid mid_faults
+      → ServeComes t m looks low_side high_side written out_faults before after left now_left read_faults now_read_faults file file_faults now_file_faults session end mid mid_faults
   serves_row has same others h =
       inr (
         row,

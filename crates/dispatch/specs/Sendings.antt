@@ -8,7 +8,7 @@ use Rattle.peers.specs.Sending.{Sending, Sends, all_looks, all_sent, all_printed
 use Rattle.peers.specs.declared.send.SendEnd.{SendEnd}
 use Rattle.peers.specs.declared.send.SendEnd.TheVariants as sender
 use Rattle.serving.specs.Doors.{LinksTell}
-use Rattle.commands.specs.Tables.{StopsAtTable, HasRow}
+use Rattle.commands.specs.Tables.{StopsAtFile, HasRow}
 use Rattle.commands.specs.declared.command_end.CommandEnd.{CommandEnd}
 use Rattle.commands.specs.declared.command_end.CommandEnd.TheVariants.{Done, Unread, Unwritten, BadLine, Unconnected, Denied, Unfinished}
 
@@ -41,8 +41,8 @@ module _ {D L : Type 0} (t : LinksTell L) (looks : ℕ) (ports now_ports : List 
       ((end ≡ Unconnected) × Grows ports now_ports (NoConnection row.low_port ∷ []) × (mid ≡ written))
       ⊎ ((sent : SendEnd) × (end ≡ end_of_sender sent) × HasSent row sent mid mid_faults)
 
-  -- .. over the row of the session, if the table has one; `file` is the table's
-  abbrev pub SendComes : Option (List ℕ) → ℕ → CommandEnd → Option (List ℕ) → ℕ → Type 0
-  SendComes file session end mid mid_faults =
-      (StopsAtTable file session end × Grows ports now_ports [] × (mid ≡ written))
+  -- .. over the row of the session, if the table has one; `file` is the table's, and the counts behind it are those of the files
+  abbrev pub SendComes : Option (List ℕ) → ℕ → ℕ → ℕ → CommandEnd → Option (List ℕ) → ℕ → Type 0
+  SendComes file file_faults now_file_faults session end mid mid_faults =
+      (StopsAtFile file_faults now_file_faults file session end × Grows ports now_ports [] × (mid ≡ written))
       ⊎ ((row : SessionRow) × HasRow file session row × SendsFor row end mid mid_faults)

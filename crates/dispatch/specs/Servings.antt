@@ -17,7 +17,7 @@ use Rattle.serving.specs.Sessions.{IfEnded, OpensBy, has_run, is_opened}
 use Rattle.serving.specs.declared.session.SessionEnd.{SessionEnd}
 use Rattle.serving.specs.declared.session.SessionEnd.TheVariants as session_ends
 use Rattle.commands.specs.LentDisks.{LeavesBut}
-use Rattle.commands.specs.Tables.{StopsAtTable, HasRow}
+use Rattle.commands.specs.Tables.{StopsAtFile, HasRow}
 use Rattle.commands.specs.Showing.{end_at}
 use Rattle.commands.specs.declared.command_end.CommandEnd.{CommandEnd}
 use Rattle.commands.specs.declared.command_end.CommandEnd.TheVariants.{Done, Memory, Unread, Failed, Unwritten, Unconnected}
@@ -86,9 +86,9 @@ module _ {D L S : Type 0} (t : DoorsTell D L) (m : Meaning S) (looks : ℕ) (low
       ((end ≡ Unread) × (Rose key_faults now_key_faults ⊎ IfSome left (λ bytes. length bytes < 32)) × IsIdle mid)
       ⊎ ((key : List ℕ) × (length key ≡ 32) × Consumes left now_left key × ServesWith row key end mid mid_faults)
 
-  -- .. with the row of the session, if the table has one; `file` is the table's
-  abbrev pub ServeComes : Option (List ℕ) → Option (List ℕ) → ℕ → ℕ → Option (List ℕ) → ℕ → CommandEnd → Option (List ℕ) → ℕ → Type 0
-  ServeComes left now_left key_faults now_key_faults file session end mid mid_faults =
-      (StopsAtTable file session end × IsIdle mid)
+  -- .. with the row of the session, if the table has one; `file` is the table's, and the counts behind it are those of the files
+  abbrev pub ServeComes : Option (List ℕ) → Option (List ℕ) → ℕ → ℕ → Option (List ℕ) → ℕ → ℕ → ℕ → CommandEnd → Option (List ℕ) → ℕ → Type 0
+  ServeComes left now_left key_faults now_key_faults file file_faults now_file_faults session end mid mid_faults =
+      (StopsAtFile file_faults now_file_faults file session end × IsIdle mid)
       ⊎ ((row : SessionRow) × HasRow file session row × LeavesBut before after row.id
       × ServesFor left now_left key_faults now_key_faults row end mid mid_faults)

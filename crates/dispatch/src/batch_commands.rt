@@ -7,6 +7,7 @@ ghost use Rattle.command_line.specs.declared.command.Command.TheVariants as comm
 ghost use Rattle.std.specs.Io.KnownBytes.{Appends};
 ghost use Rattle.pump_frame.specs.Counts.{Rose};
 ghost use Rattle.script_replay.specs.Ends.{EndsReplay};
+ghost use Rattle.script_replay.specs.Failing.{FailsAt};
 ghost use Rattle.script_replay.specs.Replays.{IsFailed, Wrote};
 ghost use Rattle.script_replay.specs.Shelves.{AllAreBack, shelved};
 ghost use Rattle.commands.specs.CommandEnds.{EndsWithStatus};
@@ -67,7 +68,8 @@ fn run_exercise<O: Sink>(alloc: Global, seed: u32, count: u32, out: &mut O) -> u
 /// or over a socket is for `live`, and none of those that run here. The answer is the status of the program:
 ///
 /// - 0: the command was done, and what it prints was written; a replay read the script to its end.
-/// - 1: there was not enough memory; nothing was written.
+/// - 1: there was not enough memory; nothing was written. After a replay each disk reads as it did, or it was
+///   empty and is a new one of its session's row.
 /// - 2: the words are no command, which is what the output says. The script was not read.
 /// - 3: the script could not be read; the transcript of all whole lines that were read was written. Or
 ///   the file of a table could not be read.
@@ -75,14 +77,16 @@ fn run_exercise<O: Sink>(alloc: Global, seed: u32, count: u32, out: &mut O) -> u
 /// - 5: a line is outside the grammar or can't be applied; the transcript of the lines before was
 ///   written.
 /// - 6: the file of a table gives no row for its session, or a session is to be moved to itself.
-/// - 7: a disk of a session could not be taken off the shelf, or a call of it failed; or a line told
+/// - 7: the disk that the output names could not be taken off the shelf, or a call of it failed; or a line told
 ///   that the device of a low side alone fails, in a store. The transcript of the lines before was
 ///   written, and what this line printed.
 /// - 8: the disks of a session are refused when they are opened, are not empty when they are to be
 ///   formatted or moved to, or can't take what is to be moved.
 /// - 10: a line's message does not fit on the receiver's disk; the same was written.
 /// - 13: the receiver's messages are no file from some message on; the file's bytes before it were written.
-/// - 14: the receiver's messages begin a file, and are not all of it; what they have of it was written.
+///   Or they are not the first ones of the file that is to be sent.
+/// - 14: the receiver's messages begin a file, and are not all of it; what they have of it was written. Or
+///   the file that is to be sent has 2^48 bytes or more.
 /// - 15: a line of a record is wrong, which is what the output says.
 /// - 16: two records differ, which is what the output says.
 ///
@@ -122,20 +126,20 @@ pub fn batch<S: Shelf, I: Source, O: Sink>(
     ensures unwritten { result ≡ 4 → Rose (O.faults out.old) (O.faults out.new) }
     // A command that reads the script has written nothing where memory was wanting; of how a replay ends with another status see `EndsReplay`.
     ensures memory { ReadsScript (map string_bytes words.now.items) → result ≡ 1 → Appends (O.written out.old) (O.written out.new) [] }
-    ensures replay { IsReplay (map string_bytes words.now.items) → S.told.tells → S.Disk.told.tells → EndsReplay result (S.told.disk shelf.old) (S.told.disk shelf.new)
+    ensures replay { IsReplay (map string_bytes words.now.items) → S.told.tells → S.Disk.told.tells → EndsReplay result (S.told.disk shelf.old) (S.told.disk shelf.new) (FailsAt S.told S.Disk.told shelf.old shelf.new)
         (I.left script.old) (I.left script.new) (O.written out.old) (O.written out.new) (I.faults script.old) (I.faults script.new) }
-    ensures chain { IsChain (map string_bytes words.now.items) → S.told.tells → S.Disk.told.tells → EndsChainWith result (S.told.disk shelf.old) (S.told.disk shelf.new)
+    ensures chain { IsChain (map string_bytes words.now.items) → S.told.tells → S.Disk.told.tells → EndsChainWith result (S.told.disk shelf.old) (S.told.disk shelf.new) (FailsAt S.told S.Disk.told shelf.old shelf.new)
         (I.left script.old) (I.left script.new) (O.written out.old) (O.written out.new) (I.faults script.old) (I.faults script.new) }
     // How formatting, showing, moving, sending and writing a file and an exercise end.
     ensures format { (table : List ℕ) (session : ℕ) → AreWordsOf (map string_bytes words.now.items) (commands.Format table session) → S.told.tells → S.Disk.told.tells
-        → EndsWithStatus (Formats (S.told.file shelf.old table) (S.told.disk shelf.old) (S.told.disk shelf.new) session) (O.written out.old) (O.written out.new) result }
+        → EndsWithStatus (Formats (S.told.file shelf.old table) (S.told.disk shelf.old) (S.told.disk shelf.new) (FailsAt S.told S.Disk.told shelf.old shelf.new) session) (O.written out.old) (O.written out.new) result }
     ensures show { (table : List ℕ) (session : ℕ) → AreWordsOf (map string_bytes words.now.items) (commands.Show table session) → S.told.tells → S.Disk.told.tells
-        → EndsWithStatus (Shows (S.told.file shelf.old table) (S.told.disk shelf.old) (S.told.disk shelf.new) session) (O.written out.old) (O.written out.new) result }
+        → EndsWithStatus (Shows (S.told.file shelf.old table) (S.told.disk shelf.old) (S.told.disk shelf.new) (FailsAt S.told S.Disk.told shelf.old shelf.new) session) (O.written out.old) (O.written out.new) result }
     ensures migrate { (table : List ℕ) (session : ℕ) (new_table : List ℕ) (new_session : ℕ) → AreWordsOf (map string_bytes words.now.items) (commands.Migrate table session new_table new_session)
-        → S.told.tells → S.Disk.told.tells → EndsWithStatus (Migrates (S.told.file shelf.old table) (S.told.file shelf.old new_table) (S.told.disk shelf.old) (S.told.disk shelf.new) session new_session)
-        (O.written out.old) (O.written out.new) result }
+        → S.told.tells → S.Disk.told.tells → EndsWithStatus (Migrates (S.told.file shelf.old table) (S.told.file shelf.old new_table) (S.told.disk shelf.old) (S.told.disk shelf.new)
+        (FailsAt S.told S.Disk.told shelf.old shelf.new) session new_session) (O.written out.old) (O.written out.new) result }
     ensures wrap { (table : List ℕ) (session : ℕ) → AreWordsOf (map string_bytes words.now.items) (commands.Wrap table session) → S.told.tells → S.Disk.told.tells
-        → EndsWrap (S.told.file shelf.old table) (S.told.disk shelf.old) (S.told.disk shelf.new) session (I.left script.old) (O.written out.old) (O.written out.new) result }
+        → EndsWrap (S.told.file shelf.old table) (S.told.disk shelf.old) (S.told.disk shelf.new) session (I.left script.old) (I.left script.new) (O.written out.old) (O.written out.new) result }
     ensures unwrap { (table : List ℕ) (session : ℕ) → AreWordsOf (map string_bytes words.now.items) (commands.Unwrap table session) → S.told.tells → S.Disk.told.tells
         → EndsUnwrap (S.told.file shelf.old table) (S.told.disk shelf.old) (S.told.disk shelf.new) session (O.written out.old) (O.written out.new) result }
     ensures exercise { (seed : ℕ) (count : ℕ) → AreWordsOf (map string_bytes words.now.items) (commands.Exercise seed count)

@@ -68,7 +68,7 @@ fn run_send<S: Shelf, P: Ports, I: Source, O: Sink>(
     out: &mut O,
 ) -> CommandEnd
     ensures comes { S.told.tells → SendComes (links P.Link.gives P.Link.sent P.Link.faults) looks (P.did ports.old) (P.did ports.new)
-        (I.left script.old) (I.left script.new) (I.faults script.old) (I.faults script.new) (O.written out.old) (O.faults out.old) (S.told.file shelf.old table.now) session result (O.written out.new) (O.faults out.new) }
+        (I.left script.old) (I.left script.new) (I.faults script.old) (I.faults script.new) (O.written out.old) (O.faults out.old) (S.told.file shelf.old table.now) (S.told.faults shelf.old) (S.told.faults shelf.new) session result (O.written out.new) (O.faults out.new) }
     ensures disks { S.told.disk shelf.new ≡ S.told.disk shelf.old }
     ensures memory { result ≡ ends.Memory → Appends (O.written out.old) (O.written out.new) [] }
     ensures read { result ≡ ends.Unread → Rose (I.faults script.old) (I.faults script.new) ⊎ Rose (S.told.faults shelf.old) (S.told.faults shelf.new) }
@@ -97,7 +97,7 @@ pub fn send_session<S: Shelf, P: Ports, K, I: Source, O: Sink>(
     out: &mut O,
 ) -> u8
     ensures ends { S.told.tells → EndsLive (SendComes (links P.Link.gives P.Link.sent P.Link.faults) looks (P.did low.old.ports) (P.did low.new.ports)
-        (I.left script.old) (I.left script.new) (I.faults script.old) (I.faults script.new) (O.written out.old) (O.faults out.old) (S.told.file shelf.old table.now) session) (O.written out.new) (O.faults out.new) session result }
+        (I.left script.old) (I.left script.new) (I.faults script.old) (I.faults script.new) (O.written out.old) (O.faults out.old) (S.told.file shelf.old table.now) (S.told.faults shelf.old) (S.told.faults shelf.new) session) (O.written out.new) (O.faults out.new) session result }
     ensures disks { S.told.disk shelf.new ≡ S.told.disk shelf.old }
     ensures memory { result ≡ 1 → Appends (O.written out.old) (O.written out.new) [] }
     ensures read { result ≡ 3 → Rose (I.faults script.old) (I.faults script.new) ⊎ Rose (S.told.faults shelf.old) (S.told.faults shelf.new) }

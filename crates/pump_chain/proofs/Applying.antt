@@ -27,13 +27,15 @@ use Rattle.two_worlds.specs.declared.pump.Pump.{Pump}
 use Rattle.two_worlds.specs.declared.pump.state.PumpState.{PumpState}
 use Rattle.two_worlds.specs.declared.pump.state.PumpState.TheVariants.{Open, Shut}
 use Rattle.two_worlds.specs.LowPumps.{stops_at_disk}
-use Rattle.two_worlds.specs.Pumps.{StandsFor, StandsOrFails, row_of, disk_at, Applies}
+use Rattle.two_worlds.specs.Doing.{LeavesFit}
+use Rattle.two_worlds.specs.Pumps.{StandsFor, StandsOrFails, disks_of, row_of, disk_at, Applies}
 use Rattle.two_worlds.specs.States.{kept_moment_in, StandsIn}
 use Rattle.pump_chain.specs.declared.chain.Chain.{Chain}
 use Rattle.pump_chain.specs.declared.sender.Sender.{Sender}
 use Rattle.pump_chain.specs.Chained.{Chained, OfFirst, OfSecond, MakesFirst, MakesSecond, is_in_order, received_of, first_led, second_led, sender_after, with_coarse}
 use Rattle.pump_chain.specs.Private.{order_by}
-use Rattle.pump_chain.specs.Standing.{ChainStands, ChainStandsOrFails, AppliesBy, LeaveFronts, LeavesFronts, IsSentOn, IsLinked, with_first, with_second}
+use Rattle.pump_chain.specs.Standing.{ChainStands, ChainStandsOrFails, AppliesBy, FailsWith, LeaveBoth, LeaveFronts, LeavesFronts, IsSentOn, IsLinked, with_first, with_second}
+use Rattle.pump_chain.proofs.Counting.{Goes, rose_in, fails_own}
 use Rattle.pump_chain.proofs.Crashing.{Left, pump_lawful, left_alone, left_same, left_going, left_broken, left_full, left_by_line, fronts}
 use Rattle.pump_chain.proofs.Fronts.{front_same, front_then, in_longer}
 use Rattle.pump_chain.proofs.Linking.{CountsAccepted, pump_counts, AddsOf, line_sent, breaks_sent}
@@ -88,12 +90,16 @@ module _ {D : Type 0} {g : _} (m : Meaning D) (s t : Chain D g) (c : Chained) (l
   second_row : row_of t.second ≡ c.second.row
   second_row = ap (λ (x : Pump D g). row_of x) second ∙ S.second_row
 
+  -- the second pump's disks are as they were
+  both_left : (q : Past) → LeavesFit m (disks_of s.first) (disks_of t.first) p q → LeaveBoth m s t c (with_first c q)
+  both_left q leaves = record { first = leaves; second = (left_alone m s.second t.second c.second.past S.second second).leaves }
+
   fails : (q : Past) → StandsOrFails m t.first q → IsPrefixOf p.world.received q.world.received → ChainStandsOrFails m t (with_first c q)
   fails q either front = record { first = either; first_row = row ∙ S.first_row; second = inl second_stands; second_row = second_row; linked = still q front }
 
   pub first_applies : (stop : Option Stop) → (stop ≡ None → t.is_under_way ≡ true) → (stop ≡ Some Line → t.is_under_way ≡ s.is_under_way)
-      → Applies m s.first t.first line p printed stop → AppliesBy m s t c (OfFirst line) printed stop
-  first_applies None way same (timely, (q, step, stands, leaves, timed)) =
+      → Goes m s.first t.first stop → Applies m s.first t.first line p printed stop → AppliesBy m s t c (OfFirst line) printed stop
+  first_applies None way same go (timely, (q, step, stands, leaves, timed)) =
       let front = moves_on p q (line_moves (row_of s.first) p line q printed step) in (
         first_led c q,
         (order, (q, (at_row (λ r. is_timely r p line ≡ true) timely, at_row (λ r. LineStep r p line q printed) step), refl)),
@@ -107,8 +113,9 @@ module _ {D : Type 0} {g : _} (m : Meaning D) (s t : Chain D g) (c : Chained) (l
           linked = still q front;
           waits = still_sent p.world.received q.world.received c.second.past.waits front S.waits;
         },
+        record { first = leaves; second = (both_left q leaves).second },
       )
-  first_applies (Some Line) way same (refused, none, e) = (
+  first_applies (Some Line) way same go (refused, none, e) = (
     inr (at_row (λ r. IsRefusedWhole r p line) refused),
     none,
     record {
@@ -121,18 +128,22 @@ module _ {D : Type 0} {g : _} (m : Meaning D) (s t : Chain D g) (c : Chained) (l
       linked = S.linked;
       waits = S.waits;
     },
+    record { first = (left_alone m s.first t.first p S.first e).leaves; second = (left_alone m s.second t.second c.second.past S.second second).leaves },
   )
-  first_applies (Some (Device role faults)) way same (timely, (q, breaks, failed, leaves)) = (
+  first_applies (Some (Device role faults)) way same go (timely, (q, breaks, failed, leaves)) = (
     with_first c q,
     (order, (q, (at_row (λ r. is_timely r p line ≡ true) timely, at_row (λ r. Breaks r p line role q printed) breaks), refl)),
     fails q (inr (role, faults, failed)) (moves_on p q (breaks_move (row_of s.first) p line role q printed breaks)),
+    both_left q leaves,
+    (rose_in m s.first t.first role faults go, failed.1.counted),
   )
-  first_applies (Some (Full end k size)) way same (timely, (q, over, stands, leaves)) = (
+  first_applies (Some (Full end k size)) way same go (timely, (q, over, stands, leaves)) = (
     with_first c q,
     (order, (q, (at_row (λ r. is_timely r p line ≡ true) timely, at_row (λ r. Overfills r p line q printed end k size) over), refl)),
     fails q (inl stands) (overfills_move (row_of s.first) p line q printed end k size over).world.received,
+    both_left q leaves,
   )
-  first_applies (Some (Disk role why)) way same a = absurd a
+  first_applies (Some (Disk role why)) way same go a = absurd a
 
 -- ---- a line of the second session ----
 
@@ -175,7 +186,7 @@ module _ {D : Type 0} {g : _} (m : Meaning D) (u : Chain D g) (two : Pump D g) (
 
 -- the first receiver may have been read before it
 module _ {D : Type 0} {g : _} (m : Meaning D) (s u t : Chain D g) (c : Chained) (line : ScriptLine) (printed : List Printed) (S : ChainStands m u c)
-    (row : row_of t.second ≡ row_of u.second) (first : t.first ≡ u.first) (adds : AddsOf (received_of c) line) where
+    (row : row_of t.second ≡ row_of u.second) (first : t.first ≡ u.first) (adds : AddsOf (received_of c) line) (second : u.second ≡ s.second) (left : Left m s.first t.first c.first.past c.first.past) where
   abbrev rest : Past
   rest = c.second.past
 
@@ -194,9 +205,12 @@ module _ {D : Type 0} {g : _} (m : Meaning D) (s u t : Chain D g) (c : Chained) 
   ends : (q : Past) → StandsOrFails m t.second q → IsLinked c.first.past.world q.world → ChainStandsOrFails m t (with_second c q)
   ends q either linked = record { first = inl first_stands; first_row = first_row; second = either; second_row = row ∙ S.second_row; linked = linked }
 
+  second_left_both : (q : Past) → LeavesFit m (disks_of u.second) (disks_of t.second) rest q → LeaveBoth m s t c (with_second c q)
+  second_left_both q leaves = record { first = left.leaves; second = subst (λ (x : Pump D g). LeavesFit m (disks_of x) (disks_of t.second) rest q) second leaves }
+
   pub second_applies : (stop : Option Stop) → is_in_order c line ≡ true → (stop ≡ None → (t.is_under_way ≡ true) × (t.sender ≡ sender_after c.sender line printed)) → (stop ≡ Some Line → (t.is_under_way ≡ u.is_under_way) × (t.sender ≡ u.sender))
-      → Applies m u.second t.second line rest printed stop → AppliesBy m s t c (OfSecond line) printed stop
-  second_applies None order way same (timely, (q, step, stands, leaves, timed)) =
+      → Goes m u.second t.second stop → Applies m u.second t.second line rest printed stop → AppliesBy m s t c (OfSecond line) printed stop
+  second_applies None order way same go (timely, (q, step, stands, leaves, timed)) =
       let sent = line_sent sent_on (row_of u.second) rest line q printed adds step in (
         second_led c line printed q,
         (order, (q, (in_row (λ x. is_timely x rest line ≡ true) timely, in_row (λ x. LineStep x rest line q printed) step), refl)),
@@ -210,8 +224,9 @@ module _ {D : Type 0} {g : _} (m : Meaning D) (s u t : Chain D g) (c : Chained) 
           linked = linked_at_rest m u t.second c line printed S adds q stands (sent.accepted (counts m u t.second c line printed S adds) S.waits (accepted_front m u t.second c line printed S adds));
           waits = sent.waits S.waits;
         },
+        record { first = left.leaves; second = (second_left_both q leaves).second },
       )
-  second_applies (Some Line) order way same (refused, none, e) = (
+  second_applies (Some Line) order way same go (refused, none, e) = (
     inr (in_row (λ x. IsRefusedWhole x rest line) refused),
     none,
     record {
@@ -224,18 +239,23 @@ module _ {D : Type 0} {g : _} (m : Meaning D) (s u t : Chain D g) (c : Chained) 
       linked = S.linked;
       waits = S.waits;
     },
+    record { first = left.leaves; second = (second_left_both rest (left_alone m u.second t.second rest S.second e).leaves).second },
   )
-  second_applies (Some (Device role faults)) order way same (timely, (q, breaks, failed, leaves)) = (
+  second_applies (Some (Device role faults)) order way same go (timely, (q, breaks, failed, leaves)) = (
     with_second c q,
     (order, inl (q, (in_row (λ x. is_timely x rest line ≡ true) timely, in_row (λ x. Breaks x rest line role q printed) breaks), refl)),
     ends q (inr (role, faults, failed)) (breaks_sent sent_on (row_of u.second) rest line role q printed adds breaks (counts m u t.second c line printed S adds) S.waits (accepted_front m u t.second c line printed S adds) S.linked),
+    second_left_both q leaves,
+    fails_own m (row_of u.second) rest line role q printed faults breaks s.first t.first s.second t.second
+        (subst (λ (x : Pump D g). FailsWith m (disk_at role x) (disk_at role t.second) faults) second (rose_in m u.second t.second role faults go, failed.1.counted)),
   )
-  second_applies (Some (Full end k size)) order way same (timely, (q, over, stands, leaves)) = (
+  second_applies (Some (Full end k size)) order way same go (timely, (q, over, stands, leaves)) = (
     with_second c q,
     (order, (q, (in_row (λ x. is_timely x rest line ≡ true) timely, in_row (λ x. Overfills x rest line q printed end k size) over), refl)),
     ends q (inl stands) (linked_at_rest m u t.second c line printed S adds q stands (front_then q.world.accepted rest.world.accepted sent_on (front_same _ _ (overfills_move (row_of u.second) rest line q printed end k size over).world.accepted) (accepted_front m u t.second c line printed S adds))),
+    second_left_both q leaves,
   )
-  second_applies (Some (Disk role why)) order way same a = absurd a
+  second_applies (Some (Disk role why)) order way same go a = absurd a
 
 -- ---- the six disks ----
 
@@ -269,9 +289,20 @@ read_fronts m s one two c S l second =
 pub still_fronts : {D : Type 0} {g : _} (m : Meaning D) (s : Chain D g) (c : Chained) → ChainStands m s c → LeavesFronts m s s
 still_fronts m s c S = read_fronts m s s.first s.second c S (left_alone m s.first s.first c.first.past S.first refl) refl
 
+-- of each disk what was left
+pub still_both : {D : Type 0} {g : _} (m : Meaning D) (s : Chain D g) (c : Chained) → ChainStands m s c → LeaveBoth m s s c c
+still_both m s c S = record { first = (left_alone m s.first s.first c.first.past S.first refl).leaves; second = (left_alone m s.second s.second c.second.past S.second refl).leaves }
+
 -- ---- a session is made coarse ----
 
-module _ {D : Type 0} {g : _} (m : Meaning D) (s t : Chain D g) (c : Chained) (S : ChainStands m s c) (new : s.is_under_way ≡ false) (sender : t.sender ≡ s.sender) (under_way : t.is_under_way ≡ s.is_under_way) where
+module _ {D : Type 0} {g : _} (m : Meaning D) (s t : Chain D g) (c : Chained) (S : ChainStands m s c) (new : s.is_under_way ≡ false) (sender : t.sender ≡ s.sender) (under_way : t.is_under_way ≡ s.is_under_way)
+    (first_same : (role : Role) → disk_at role t.first ≡ disk_at role s.first) (second_same : (role : Role) → disk_at role t.second ≡ disk_at role s.second) where
+  coarse_first : LeavesFit m (disks_of s.first) (disks_of t.first) c.first.past c.first.past
+  coarse_first = (left_same m s.first t.first c.first.past S.first first_same).leaves
+
+  coarse_second : LeavesFit m (disks_of s.second) (disks_of t.second) c.second.past c.second.past
+  coarse_second = (left_same m s.second t.second c.second.past S.second second_same).leaves
+
   still_new : c.is_under_way ≡ false
   still_new = sym S.under_way ∙ new
 
@@ -289,6 +320,7 @@ module _ {D : Type 0} {g : _} (m : Meaning D) (s t : Chain D g) (c : Chained) (S
       linked = S.linked;
       waits = S.waits;
     },
+    record { first = coarse_first; second = coarse_second },
   )
 
   pub second_coarse : t.first ≡ s.first → (row_of s.second).coarse ≡ false → row_of t.second ≡ record (row_of s.second) { coarse = true } → ((p : Past) → StandsFor m s.second p → StandsFor m t.second p) → AppliesBy m s t c MakesSecond [] None
@@ -305,6 +337,7 @@ module _ {D : Type 0} {g : _} (m : Meaning D) (s t : Chain D g) (c : Chained) (S
       linked = S.linked;
       waits = S.waits;
     },
+    record { first = coarse_first; second = coarse_second },
   )
 
 -- with all disks as they were

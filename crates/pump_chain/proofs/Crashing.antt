@@ -1,6 +1,6 @@
 -- What crashes leave of the six disks while one of the two pumps is given a line.
-use Rattle.std.proofs.Common.{◌≡◌, ◌⊎◌, inl, inr, ⊎_elim, ℕ, Bool, List, Option, Some, None, refl, sym, ap, subst, arith}
-use Rattle.std.specs.Prelude.{◌&&◌}
+use Rattle.std.proofs.Common.{◌≡◌, ◌⊎◌, inl, inr, ⊎_elim, ℕ, ◌+◌, ◌≤◌, Bool, true, false, List, length, Option, Some, None, refl, sym, ap, subst, arith}
+use Rattle.std.specs.Prelude.{◌&&◌, if◌then◌else◌}
 use Rattle.disk_model.specs.Disk.{Meaning, Each, Moves as DiskMoves, Same}
 use Rattle.disk_model.specs.declared.name.Role.{Role}
 use Rattle.disk_model.specs.declared.name.Role.TheVariants as roles
@@ -18,17 +18,19 @@ use Rattle.script_reader.specs.Breaks.{Breaks}
 use Rattle.script_reader.specs.Past.{Past}
 use Rattle.script_reader.specs.Steps.{LineStep, Overfills}
 use Rattle.stable_buffer.specs.Log.{RecvStands}
+use Rattle.stable_buffer.specs.Register.{value_of}
+use Rattle.stable_buffer.specs.Stands.{HighStands}
 use Rattle.two_worlds.specs.declared.applied.Stop.{Stop}
 use Rattle.two_worlds.specs.declared.applied.Stop.TheVariants.{Line, Device, Full, Disk}
 use Rattle.two_worlds.specs.declared.pump.Pump.{Pump}
 use Rattle.two_worlds.specs.declared.pump.state.PumpState.{PumpState}
 use Rattle.two_worlds.specs.declared.pump.state.PumpState.TheVariants.{Open, Shut}
-use Rattle.world_laws.specs.Disks.{LowFits, RecvFits, DisksFit}
+use Rattle.world_laws.specs.Disks.{LowFits, HighFits, RecvFits, DisksFit}
 use Rattle.two_worlds.specs.Doing.{LeavesFit}
 use Rattle.two_worlds.specs.Pumps.{StandsFor, FailsAt, disks_of, row_of, disk_at, Applies}
 use Rattle.two_worlds.specs.Reads.{ReadsAlone}
 use Rattle.two_worlds.specs.States.{disks_in, StandsIn}
-use Rattle.two_worlds.proofs.Disks.Crashes.{LowAt, low_case, recv_case, kept_longer}
+use Rattle.two_worlds.proofs.Disks.Crashes.{LowAt, low_case, high_case, recv_case, and_right, kept_longer, prefix_length}
 use Rattle.pump_chain.specs.Standing.{IsLinked, Tell, LeaveFronts}
 use Rattle.pump_chain.proofs.Fronts.{front_same, front_then, kept_front, kept_most}
 use Rattle.pump_chain.proofs.Moving.{Above, Below, Moves, line_moves, breaks_move, overfills_move}
@@ -74,14 +76,19 @@ module _ (p q : World) (lawful_p : IsLawful p) (lawful_q : IsLawful q) (moves : 
 
 -- ---- what is left of a pump ----
 
--- whatever crashes since s left of the low disk and of the receiver's fits one of two worlds
-pub record LeavesPump {D : Type 0} {g : _} (m : Meaning D) (s t : Pump D g) (p q : World) : Type 0 where
-  pub low : m.tells_images → (disk : List ℕ) → m.since (disk_at roles.Low t) (m.moment (disk_at roles.Low s)) disk → LowFits (row_of s) p disk ⊎ LowFits (row_of s) q disk
-  pub recv : m.tells_images → (disk : List ℕ) → m.since (disk_at roles.Recv t) (m.moment (disk_at roles.Recv s)) disk → RecvFits (row_of s) p disk ⊎ RecvFits (row_of s) q disk
+-- whatever crashes leave of a receiver's disk that fits a world tells all that the world has received
+last_told : {D : Type 0} (m : Meaning D) (row : SessionRow) (w : World) (disk : D) → Each m (RecvFits row w) disk → m.tells_images → (c : List ℕ) → m.images disk c → length w.received ≤ (value_of c).0
+last_told m row w disk each told c image =
+    let r = recv_case row w c (each.images told c image) in
+    let count = ap (λ (v : ℕ × ℕ). v.0) r.1.value in
+    let longer = kept_longer (r.0 && w.taking) w.packet w.received in
+    omega (arith, count, longer)
 
--- .. and these are lawful, and a line led from the one to the other
+-- whatever crashes since s left of each disk fits one of two worlds; these are lawful, a line led from the one to the other,
+-- and at the end the receiver's disk tells all that the second one has received
 pub record Left {D : Type 0} {g : _} (m : Meaning D) (s t : Pump D g) (p q : Past) : Type 0 where
-  pub leaves : LeavesPump m s t p.world q.world
+  pub leaves : LeavesFit m (disks_of s) (disks_of t) p q
+  pub last : m.tells_images → (c : List ℕ) → m.images (disk_at roles.Recv t) c → length q.world.received ≤ (value_of c).0
   pub lawful : IsLawful q.world
   pub moves : Moves p q
 
@@ -99,69 +106,78 @@ state_fits : {D : Type 0} (m : Meaning D) (s : PumpState D) (p : Past) → Stand
 state_fits m (Open c) p s = s.disks
 state_fits m (Shut d) p s = absurd s
 
-module _ {D : Type 0} {g : _} (m : Meaning D) (s t : Pump D g) (p : Past) (stands : StandsFor m s p) where
-  fits : DisksFit m (row_of s) (disk_at roles.Low s) (disk_at roles.High s) (disk_at roles.Recv s) p.world
-  fits = state_fits m s.state p stands
+fits : {D : Type 0} {g : _} (m : Meaning D) (s : Pump D g) (p : Past) → StandsFor m s p → DisksFit m (row_of s) (disk_at roles.Low s) (disk_at roles.High s) (disk_at roles.Recv s) p.world
+fits m s p stands = state_fits m s.state p stands
 
+-- no byte of its disks is changed
+abbrev pub AreSame : {D : Type 0} {g : _} → Meaning D → Pump D g → Pump D g → Type 0
+AreSame m s t = (role : Role) → DiskMoves m Same (disk_at role s) (disk_at role t)
+
+module _ {D : Type 0} {g : _} (m : Meaning D) (s t : Pump D g) (p : Past) (stands : StandsFor m s p) (same : AreSame m s t) where
   -- a disk that is read, or is as it was, leaves what it left
   unmoved : (P : List ℕ → Type 0) (old new : D) → Each m P old → DiskMoves m Same old new → m.tells_images → (disk : List ℕ) → m.since new (m.moment old) disk → P disk ⊎ P disk
   unmoved P old new each same = leaves m P (λ x. P x ⊎ P x) Same old new each (λ x fit. inl fit) (λ x y fit is. inl (subst P (sym is) fit)) same
 
-  pub leaves_by_reading : DiskMoves m Same (disk_at roles.Low s) (disk_at roles.Low t) → DiskMoves m Same (disk_at roles.Recv s) (disk_at roles.Recv t) → LeavesPump m s t p.world p.world
-  leaves_by_reading low recv = record {
-    low = unmoved (LowFits (row_of s) p.world) _ _ fits.low_disk low;
-    recv = unmoved (RecvFits (row_of s) p.world) _ _ fits.recv_disk recv;
+  still_last : m.tells_images → (c : List ℕ) → m.images (disk_at roles.Recv t) c → length p.world.received ≤ (value_of c).0
+  still_last told c image =
+      let (d, was, e) = (same roles.Recv).now told c image in
+      subst (λ (x : List ℕ). length p.world.received ≤ (value_of x).0) (sym e) (last_told m (row_of s) p.world (disk_at roles.Recv s) (fits m s p stands).recv_disk told d was)
+
+  pub left_still : Left m s t p p
+  left_still = record {
+    leaves = record {
+      low = unmoved (LowFits (row_of s) p.world) _ _ (fits m s p stands).low_disk (same roles.Low);
+      high = unmoved (HighFits (row_of s) p.world) _ _ (fits m s p stands).high_disk (same roles.High);
+      recv = unmoved (RecvFits (row_of s) p.world) _ _ (fits m s p stands).recv_disk (same roles.Recv);
+    };
+    last = still_last;
+    lawful = pump_lawful m s p stands;
+    moves = inl (stays_above p.world);
   }
 
--- nothing is done
-leaves_unmoved : {D : Type 0} {g : _} (m : Meaning D) (s : Pump D g) (p : Past) → StandsFor m s p → LeavesPump m s s p.world p.world
-leaves_unmoved m s p stands = leaves_by_reading m s s p stands (started m Same (λ c. refl) (disk_at roles.Low s)) (started m Same (λ c. refl) (disk_at roles.Recv s))
-
--- the other pump is as it was
-pub left_alone : {D : Type 0} {g : _} (m : Meaning D) (s t : Pump D g) (p : Past) → StandsFor m s p → t ≡ s → Left m s t p p
-left_alone {D} {g} m s t p stands e = record {
-  leaves = subst (λ (x : Pump D g). LeavesPump m s x p.world p.world) (sym e) (leaves_unmoved m s p stands);
-  lawful = pump_lawful m s p stands;
-  moves = inl (stays_above p.world);
-}
+same_alone : {D : Type 0} {g : _} (m : Meaning D) (s t : Pump D g) → ((role : Role) → disk_at role t ≡ disk_at role s) → AreSame m s t
+same_alone {D} m s t same role = subst (λ (x : D). DiskMoves m Same (disk_at role s) x) (sym (same role)) (started m Same (λ c. refl) (disk_at role s))
 
 -- its disks are as they were
 pub left_same : {D : Type 0} {g : _} (m : Meaning D) (s t : Pump D g) (p : Past) → StandsFor m s p → ((role : Role) → disk_at role t ≡ disk_at role s) → Left m s t p p
-left_same {D} m s t p stands same = record {
-  leaves = leaves_by_reading m s t p stands (subst (λ (x : D). DiskMoves m Same (disk_at roles.Low s) x) (sym (same roles.Low)) (started m Same (λ c. refl) (disk_at roles.Low s)))
-      (subst (λ (x : D). DiskMoves m Same (disk_at roles.Recv s) x) (sym (same roles.Recv)) (started m Same (λ c. refl) (disk_at roles.Recv s)));
-  lawful = pump_lawful m s p stands;
-  moves = inl (stays_above p.world);
-}
+left_same m s t p stands same = left_still m s t p stands (same_alone m s t same)
+
+-- the other pump is as it was
+pub left_alone : {D : Type 0} {g : _} (m : Meaning D) (s t : Pump D g) (p : Past) → StandsFor m s p → t ≡ s → Left m s t p p
+left_alone {D} {g} m s t p stands e = left_same m s t p stands (λ role. ap (λ (x : Pump D g). disk_at role x) e)
 
 -- its receiver was read, whether that failed or not
+same_read : {D : Type 0} {g : _} (m : Meaning D) (s t : Pump D g) (is_fault : Bool) → ReadsAlone m roles.Recv s.state t.state is_fault → AreSame m s t
+same_read {D} m s t is_fault r roles.Low = subst (λ (x : D). DiskMoves m Same (disk_at roles.Low s) x) (sym (r.others roles.Low refl)) (started m Same (λ c. refl) (disk_at roles.Low s))
+same_read {D} m s t is_fault r roles.High = subst (λ (x : D). DiskMoves m Same (disk_at roles.High s) x) (sym (r.others roles.High refl)) (started m Same (λ c. refl) (disk_at roles.High s))
+same_read {D} m s t is_fault r roles.Recv = r.same
+
 pub left_read : {D : Type 0} {g : _} (m : Meaning D) (s t : Pump D g) (p : Past) (is_fault : Bool) → StandsFor m s p → ReadsAlone m roles.Recv s.state t.state is_fault → Left m s t p p
-left_read {D} m s t p is_fault stands r = record {
-  leaves = leaves_by_reading m s t p stands (subst (λ (x : D). DiskMoves m Same (disk_at roles.Low s) x) (sym (r.others roles.Low refl)) (started m Same (λ c. refl) (disk_at roles.Low s))) r.same;
-  lawful = pump_lawful m s p stands;
-  moves = inl (stays_above p.world);
-}
+left_read m s t p is_fault stands r = left_still m s t p stands (same_read m s t is_fault r)
 
 -- ---- a line ----
 
 module _ {D : Type 0} {g : _} (m : Meaning D) (s t : Pump D g) (line : ScriptLine) (printed : List Printed) (p q : Past) where
   pub left_going : LineStep (row_of s) p line q printed → StandsFor m t q → LeavesFit m (disks_of s) (disks_of t) p q → Left m s t p q
   left_going step is leaves = record {
-    leaves = record { low = leaves.low; recv = leaves.recv };
+    leaves = leaves;
+    last = last_told m (row_of t) q.world (disk_at roles.Recv t) (fits m t q is).recv_disk;
     lawful = pump_lawful m t q is;
     moves = line_moves (row_of s) p line q printed step;
   }
 
   pub left_broken : (role : Role) (faults : ℕ) → Breaks (row_of s) p line role q printed → FailsAt m t q role faults → LeavesFit m (disks_of s) (disks_of t) p q → Left m s t p q
   left_broken role faults breaks (down, fails) leaves = record {
-    leaves = record { low = leaves.low; recv = leaves.recv };
+    leaves = leaves;
+    last = last_told m (row_of t) q.world (disk_at roles.Recv t) fails.disks.recv_disk;
     lawful = fails.lawful;
     moves = breaks_move (row_of s) p line role q printed breaks;
   }
 
   pub left_full : (end k size : ℕ) → Overfills (row_of s) p line q printed end k size → StandsFor m t q → LeavesFit m (disks_of s) (disks_of t) p q → Left m s t p q
   left_full end k size over is leaves = record {
-    leaves = record { low = leaves.low; recv = leaves.recv };
+    leaves = leaves;
+    last = last_told m (row_of t) q.world (disk_at roles.Recv t) (fits m t q is).recv_disk;
     lawful = pump_lawful m t q is;
     moves = inl (overfills_move (row_of s) p line q printed end k size over).world;
   }
@@ -182,16 +198,38 @@ module _ (Fits : World → List ℕ → Type 0) (p q : World) (disk : List ℕ) 
   which (inl f) = (p, inl refl, f)
   which (inr f) = (q, inr refl, f)
 
--- the lists that two disks of a pump tell, by the worlds that they fit
-tell_lists : (row : SessionRow) (w v : World) (low recv : List ℕ) → IsLawful w → (a : (kept : Bool) × LowAt row w.removed (with_kept kept w.storing w.accepted) low)
-    → (r : (kept : Bool) × RecvStands row (with_kept (kept && v.taking) v.packet v.received) recv)
-    → Tell row (with_kept a.0 w.storing w.accepted) (with_kept (r.0 && v.taking) v.packet v.received) low recv
-tell_lists row w v low recv lawful a r = record {
-  from = w.removed;
-  few = (let below = lawful.bounded.within.below in let more = kept_longer a.0 w.storing w.accepted in omega (arith, below, more));
-  low_is = a.1;
-  recv_is = r.1;
-}
+-- the lists that the disks of a pump tell, by the worlds that they fit
+module _ (row : SessionRow) (w x v : World) (low high recv : List ℕ) (a : (kept : Bool) × LowAt row w.removed (with_kept kept w.storing w.accepted) low)
+    (b : (kept : Bool) × HighStands row (if kept && x.removing then x.removed + 1 else x.removed) high) (r : (kept : Bool) × RecvStands row (with_kept (kept && v.taking) v.packet v.received) recv) where
+  abbrev Lists : Type 0
+  Lists = Tell row (with_kept a.0 w.storing w.accepted) (with_kept (r.0 && v.taking) v.packet v.received) low high recv
+
+  tell_lists : IsLawful w → Lists
+  tell_lists lawful = record {
+    from = w.removed;
+    few = (let below = lawful.bounded.within.below in let more = kept_longer a.0 w.storing w.accepted in omega (arith, below, more));
+    low_is = a.1;
+    removed = if b.0 && x.removing then x.removed + 1 else x.removed;
+    high_is = b.1;
+    recv_is = r.1;
+  }
+
+-- what is removed, or is being removed, was received
+removed_by : (x : World) (kept : Bool) → IsLawful x → (if kept && x.removing then x.removed + 1 else x.removed) ≤ length x.received
+removed_by x kept lawful = by (kept && x.removing) (and_right kept x.removing)
+  where
+    by : (b : Bool) → (b ≡ true → x.removing ≡ true) → (if b then x.removed + 1 else x.removed) ≤ length x.received
+    by true is = (let less = lawful.delivered.due (lawful.bounded.removal.cause (is refl)) in omega (arith, less))
+    by false is = lawful.delivered.removed
+
+-- all is told where the receiver's list is no shorter than that of the world after the line
+module _ (p q : World) (moves : Above p q ⊎ Below p q) (lawful_p : IsLawful p) (lawful_q : IsLawful q) where
+  grows : length p.received ≤ length q.received
+  grows = (let front = received_grows p q lawful_p lawful_q moves in prefix_length p.received front.0 q.received front.1)
+
+  within : (w : World) (n : ℕ) → (w ≡ p) ⊎ (w ≡ q) → (told : ℕ) → length q.received ≤ told → n ≤ length w.received → n ≤ told
+  within w n (inl e) told last few = (let long = grows in let same = ap (λ (x : World). length x.received) e in omega (arith, long, same, last, few))
+  within w n (inr e) told last few = (let same = ap (λ (x : World). length x.received) e in omega (arith, same, last, few))
 
 module _ {D : Type 0} {g : _} (m : Meaning D) (s t s' t' : Pump D g) (p q p' q' : Past) (l : Left m s t p q) (l' : Left m s' t' p' q')
     (lawful : IsLawful p.world) (lawful' : IsLawful p'.world) (before : IsLinked p.world p'.world) (after : IsLinked p.world q'.world) where
@@ -203,25 +241,49 @@ module _ {D : Type 0} {g : _} (m : Meaning D) (s t s' t' : Pump D g) (p q p' q' 
   lawful_of v x w one other either = ⊎_elim (λ (e : w ≡ v). subst IsLawful (sym e) one) (λ (e : w ≡ x). subst IsLawful (sym e) other) either
 
   pub fronts : LeaveFronts m s t s' t'
-  fronts told low recv low' recv' since_low since_recv since_low' since_recv' =
+  unfolding tell_lists
+  fronts told low high recv low' high' recv' since_low since_high since_recv since_low' since_high' since_recv' =
       let (w, is_w, fit_w) = which (LowFits (row_of s)) p.world q.world low (l.leaves.low told low since_low) in
+      let (x, is_x, fit_x) = which (HighFits (row_of s)) p.world q.world high (l.leaves.high told high since_high) in
       let (v, is_v, fit_v) = which (RecvFits (row_of s)) p.world q.world recv (l.leaves.recv told recv since_recv) in
       let (w', is_w', fit_w') = which (LowFits (row_of s')) p'.world q'.world low' (l'.leaves.low told low' since_low') in
+      let (x', is_x', fit_x') = which (HighFits (row_of s')) p'.world q'.world high' (l'.leaves.high told high' since_high') in
       let (v', is_v', fit_v') = which (RecvFits (row_of s')) p'.world q'.world recv' (l'.leaves.recv told recv' since_recv') in
       let lawful_w = lawful_of p.world q.world w lawful l.lawful is_w in
+      let lawful_x = lawful_of p.world q.world x lawful l.lawful is_x in
       let lawful_w' = lawful_of p'.world q'.world w' lawful' l'.lawful is_w' in
+      let lawful_x' = lawful_of p'.world q'.world x' lawful' l'.lawful is_x' in
       let a = low_case (row_of s) w low lawful_w.bounded.within.below fit_w in
+      let b = high_case (row_of s) x high fit_x in
       let r = recv_case (row_of s) v recv fit_v in
       let a' = low_case (row_of s') w' low' lawful_w'.bounded.within.below fit_w' in
-      let r' = recv_case (row_of s') v' recv' fit_v' in
-      record {
-        accepted = with_kept a.0 w.storing w.accepted;
-        received = with_kept (r.0 && v.taking) v.packet v.received;
-        next_accepted = with_kept a'.0 w'.storing w'.accepted;
-        next_received = with_kept (r'.0 && v'.taking) v'.packet v'.received;
-        tell = tell_lists (row_of s) w v low recv lawful_w a r;
-        next_tell = tell_lists (row_of s') w' v' low' recv' lawful_w' a' r';
-        taken = front_then _ p.world.accepted _ (received_to p.world q.world lawful l.lawful l.moves v r.0 is_v) (accepted_from p.world q.world lawful l.lawful l.moves w a.0 is_w);
-        next_taken = front_then _ p'.world.accepted _ (received_to p'.world q'.world lawful' l'.lawful l'.moves v' r'.0 is_v') (accepted_from p'.world q'.world lawful' l'.lawful l'.moves w' a'.0 is_w');
-        sent_on = front_then _ p.world.received _ (linked_to w' is_w' a'.0) (received_from p.world q.world lawful l.lawful l.moves v r.0 is_v);
-      }
+      let b' = high_case (row_of s') x' high' fit_x' in
+      let r' = recv_case (row_of s') v' recv' fit_v' in (
+        record {
+          accepted = with_kept a.0 w.storing w.accepted;
+          received = with_kept (r.0 && v.taking) v.packet v.received;
+          next_accepted = with_kept a'.0 w'.storing w'.accepted;
+          next_received = with_kept (r'.0 && v'.taking) v'.packet v'.received;
+          tell = tell_lists (row_of s) w x v low high recv a b r lawful_w;
+          next_tell = tell_lists (row_of s') w' x' v' low' high' recv' a' b' r' lawful_w';
+          taken = front_then _ p.world.accepted _ (received_to p.world q.world lawful l.lawful l.moves v r.0 is_v) (accepted_from p.world q.world lawful l.lawful l.moves w a.0 is_w);
+          next_taken = front_then _ p'.world.accepted _ (received_to p'.world q'.world lawful' l'.lawful l'.moves v' r'.0 is_v') (accepted_from p'.world q'.world lawful' l'.lawful l'.moves w' a'.0 is_w');
+          sent_on = front_then _ p.world.received _ (linked_to w' is_w' a'.0) (received_from p.world q.world lawful l.lawful l.moves v r.0 is_v);
+        },
+        (λ image.
+            let last = l.last told recv image in
+            let count = ap (λ (n : ℕ × ℕ). n.0) r.1.value in
+            let enough : length q.world.received ≤ length (with_kept (r.0 && v.taking) v.packet v.received) = omega (arith, last, count) in
+            record {
+              removed = within p.world q.world l.moves lawful l.lawful x _ is_x _ enough (removed_by x b.0 lawful_x);
+              rest = within p.world q.world l.moves lawful l.lawful w _ is_w _ enough lawful_w.delivered.removed;
+            }),
+        (λ image.
+            let last = l'.last told recv' image in
+            let count = ap (λ (n : ℕ × ℕ). n.0) r'.1.value in
+            let enough : length q'.world.received ≤ length (with_kept (r'.0 && v'.taking) v'.packet v'.received) = omega (arith, last, count) in
+            record {
+              removed = within p'.world q'.world l'.moves lawful' l'.lawful x' _ is_x' _ enough (removed_by x' b'.0 lawful_x');
+              rest = within p'.world q'.world l'.moves lawful' l'.lawful w' _ is_w' _ enough lawful_w'.delivered.removed;
+            }),
+      )

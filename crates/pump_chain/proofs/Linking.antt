@@ -33,8 +33,7 @@ use Rattle.two_worlds.specs.declared.pump.state.PumpState.TheVariants.{Open, Shu
 use Rattle.two_worlds.specs.Standing.{Stands}
 use Rattle.two_worlds.specs.States.{disks_in, StandsIn}
 use Rattle.two_worlds.proofs.Low.Grows.{look_grows, payloads}
-use Rattle.pump_chain.specs.Chained.{message_of}
-use Rattle.pump_chain.specs.Private.{is_look}
+use Rattle.pump_chain.specs.Chained.{message_of, is_look}
 use Rattle.pump_chain.specs.Standing.{IsSentOn, IsLinked}
 use Rattle.pump_chain.proofs.Fronts.{front_same, front_then, front_next}
 use Rattle.pump_chain.proofs.Moving.{Above, Upper, IsLostBy, look_goes, return_goes, carry_goes, done_goes, receiver_restart_goes, breaks_case}

@@ -18,6 +18,7 @@ use Rattle.pump_chain.specs.declared.whose.Whose.TheVariants as whose
 use Rattle.pump_chain.specs.Chained.{Chained, Share, Skipped, OfFirst, OfSecond, MakesFirst, MakesSecond, OfNone, added, share, share_by}
 use Rattle.pump_chain.specs.Private.{share_for, IsWhose}
 use Rattle.pump_chain.specs.Standing.{ChainStands, AppliesBy, ChainApplies}
+use Rattle.pump_chain.proofs.Applying.{still_both}
 
 -- ---- the moment of a look that the sender adds to ----
 
@@ -78,7 +79,7 @@ module _ {D : Type 0} {g : _} (m : Meaning D) (s : Chain D g) (c : Chained) (S :
       subst (λ (x : Share). AppliesBy m s t c x printed stop) (sym (share_is ∙ ap (share_for (row_of s.second).id (added c) line) e)) applies
 
   pub skipped_applies : (printed : List Printed) → printed ≡ [] → AppliesBy m s s c Skipped printed None
-  skipped_applies printed none = (c, (refl, none), S)
+  skipped_applies printed none = (c, (refl, none), S, still_both m s c S)
 
   pub none_applies : (printed : List Printed) → printed ≡ [] → AppliesBy m s s c OfNone printed (Some Line)
-  none_applies printed none = (tt, none, S)
+  none_applies printed none = (tt, none, S, still_both m s c S)

@@ -14,7 +14,7 @@ use Rattle.two_worlds.specs.declared.applied.Stop.{Stop}
 use Rattle.two_worlds.specs.declared.applied.Stop.TheVariants.{Line, Device}
 use Rattle.two_worlds.specs.declared.pump.Pump.{Pump}
 use Rattle.two_worlds.specs.Printing.{lines_in}
-use Rattle.two_worlds.specs.Pumps.{StandsFor, row_of, Applies}
+use Rattle.two_worlds.specs.Pumps.{StandsFor, row_of, disk_at, Applies}
 use Rattle.two_worlds.specs.Reads.{ReadsOn, FailsReading}
 use Rattle.pump_chain.specs.declared.chain.Chain.{Chain}
 use Rattle.pump_chain.specs.declared.sender.Sender.{Sender}
@@ -22,7 +22,8 @@ use Rattle.pump_chain.specs.Chained.{Chained, OfSecond, added, accepted_of, rece
 use Rattle.pump_chain.specs.Private.{AddsMessage}
 use Rattle.pump_chain.specs.Standing.{ChainStands, ChainStandsOrFails, AppliesBy, LeaveFronts}
 use Rattle.pump_chain.proofs.Applying.{second_applies, second_fronts, read_fronts}
-use Rattle.pump_chain.proofs.Crashing.{left_read}
+use Rattle.pump_chain.proofs.Counting.{Goes, serves_rose}
+use Rattle.pump_chain.proofs.Crashing.{Left, left_alone, left_read}
 use Rattle.pump_chain.proofs.Linking.{AddsOf, IsAddedOf, message_added}
 
 -- what the sender adds is sent on
@@ -77,9 +78,18 @@ module _ {D : Type 0} {g : _} (m : Meaning D) (s : Chain D g) (c : Chained) (S :
   }
 
   -- the first receiver can't be read
-  pub unread_applies : (t : Chain D g) (line : ScriptLine) (printed : List Printed) (faults : ℕ) → is_in_order c line ≡ true → AddsMessage c → printed ≡ [] → FailsReading m roles.Recv s.first t.first → t.second ≡ s.second
-      → AppliesBy m s t c (OfSecond line) printed (Some (Device roles.Recv faults))
-  unread_applies t line printed faults order adds none fails second = (c, (order, inr (refl, adds, refl, none)), unread_stands t fails second)
+  pub unread_applies : (t : Chain D g) (session moment word : ℕ) (a : Arriving) (printed : List Printed) (faults : ℕ) → is_in_order c (lines.Look session moment word a) ≡ true → AddsMessage c → printed ≡ [] → FailsReading m roles.Recv s.first t.first
+      → t.second ≡ s.second → faults ≡ m.count (disk_at roles.Recv t.first) → AppliesBy m s t c (OfSecond (lines.Look session moment word a)) printed (Some (Device roles.Recv faults))
+  unread_applies t session moment word a printed faults order adds none fails second count = (
+    c,
+    (order, inr (refl, adds, refl, none)),
+    unread_stands t fails second,
+    record {
+      first = (left_read m s.first t.first c.first.past true S.first fails.alone).leaves;
+      second = (left_alone m s.second t.second c.second.past S.second second).leaves;
+    },
+    (serves_rose m _ _ _ fails.alone.serves, count),
+  )
 
   pub unread_fronts : (t : Chain D g) → FailsReading m roles.Recv s.first t.first → t.second ≡ s.second → LeaveFronts m s.first t.first s.second t.second
   unread_fronts t fails second = read_fronts m s t.first t.second c S (left_read m s.first t.first c.first.past true S.first fails.alone) second
@@ -93,11 +103,12 @@ module _ {D : Type 0} {g : _} (m : Meaning D) (s : Chain D g) (c : Chained) (S :
     abbrev look : ScriptLine
     look = lines.Look session moment word (added c)
 
-    pub look_applies : (t : Chain D g) → Applies m u.second t.second given c.second.past printed stop → row_of t.second ≡ row_of u.second → t.first ≡ u.first → is_in_order c look ≡ true
+    pub look_applies : (t : Chain D g) → Goes m u.second t.second stop → Applies m u.second t.second given c.second.past printed stop → row_of t.second ≡ row_of u.second → t.first ≡ u.first → is_in_order c look ≡ true
         → (stop ≡ None → (t.is_under_way ≡ true) × (t.sender ≡ looked_from c.sender (is_frame (added c)) printed)) → (stop ≡ Some Line → (t.is_under_way ≡ u.is_under_way) × (t.sender ≡ u.sender))
         → AppliesBy m s t c (OfSecond look) printed stop
-    look_applies t applies row first order made refused =
-        second_applies m s u t c look printed U row first (adds_of c session moment word) stop order made refused
+    look_applies t go applies row first order made refused =
+        second_applies m s u t c look printed U row first (adds_of c session moment word) second
+        (subst (λ (x : Pump D g). Left m s.first x c.first.past c.first.past) (sym first) (left_read m s.first u.first c.first.past false S.first reads.alone)) stop order made refused go
         (subst (λ (line : ScriptLine). Applies m u.second t.second line c.second.past printed stop) same applies)
 
     pub look_fronts : (two : Pump D g) → Applies m u.second two given c.second.past printed stop → row_of two ≡ row_of u.second → LeaveFronts m s.first u.first s.second two

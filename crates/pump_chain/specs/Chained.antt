@@ -75,6 +75,11 @@ abbrev pub is_frame : Arriving → Bool
 is_frame Nothing = false
 is_frame _ = true
 
+-- before such a line the sender may read the first receiver's disk
+abbrev pub is_look : Line → Bool
+is_look (lines.Look session m w a) = true
+is_look line = false
+
 -- after a line of the second session that printed this: what it added is under way until a reply comes;
 -- with the connection, or the pump, all of it is over
 abbrev pub sender_after : Sender → Line → List Event → Sender

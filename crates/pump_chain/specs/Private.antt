@@ -1,5 +1,5 @@
 -- Words of private clauses.
-use Rattle.std.specs.Prelude.{◌≡◌, ℕ, Bool, true, false, max}
+use Rattle.std.specs.Prelude.{◌≡◌, ℕ, Bool, max}
 use Rattle.script_reader.specs.declared.line.Arriving.{Arriving}
 use Rattle.script_reader.specs.declared.line.Arriving.TheVariants.{Data}
 use Rattle.pump_frame.specs.declared.payload.Payload.{Payload}
@@ -25,10 +25,6 @@ share_for second adds line whose.NoChains = OfNone
 -- .. whatever it adds
 abbrev pub IsWhose : ℕ → ℕ → Line → Whose → Type 0
 IsWhose first second line who = (adds : Arriving) → share_by first second adds line ≡ share_for second adds line who
-
-abbrev pub is_look : Line → Bool
-is_look (lines.Look session m w a) = true
-is_look line = false
 
 -- whether the line comes in its order, by what the pumps keep
 abbrev pub order_by : {D : Type 0} {g : _} → Chain D g → Line → Bool

@@ -14,19 +14,21 @@ use Rattle.pump_frame.specs.Counts.{Rose}
 use Rattle.pump_frame.specs.declared.payload.Payload.{Payload}
 use Rattle.pump_frame.specs.declared.row.SessionRow.{SessionRow}
 use Rattle.script_reader.specs.declared.event.Event.{Event}
-use Rattle.script_reader.specs.declared.line.Arriving.TheVariants.{Data}
+use Rattle.script_reader.specs.declared.line.Arriving.TheVariants.{Nothing, Data}
 use Rattle.script_reader.specs.declared.line.Line.{Line as ScriptLine}
+use Rattle.script_reader.specs.declared.line.Line.TheVariants as lines
 use Rattle.script_reader.specs.Breaks.{Breaks}
 use Rattle.script_reader.specs.Past.{Past}
 use Rattle.script_reader.specs.Scripts.{Running}
 use Rattle.script_reader.specs.Steps.{is_timely, Overfills}
 use Rattle.stable_buffer.specs.Log.{RecvStands}
-use Rattle.stable_buffer.specs.Stands.{LowStands}
+use Rattle.stable_buffer.specs.Stands.{LowStands, HighStands}
 use Rattle.two_worlds.specs.declared.applied.Stop.{Stop}
 use Rattle.two_worlds.specs.declared.applied.Stop.TheVariants.{Line, Device, Full, Disk}
 use Rattle.two_worlds.specs.declared.pump.Pump.{Pump}
+use Rattle.two_worlds.specs.Doing.{LeavesFit}
 use Rattle.two_worlds.specs.Pumps as pumps
-use Rattle.pump_chain.specs.Chained.{Chained, Share, Skipped, OfFirst, OfSecond, MakesFirst, MakesSecond, OfNone, with_past, added, share, is_in_order, received_of, LeadsBy, RefusesBy}
+use Rattle.pump_chain.specs.Chained.{Chained, Share, Skipped, OfFirst, OfSecond, MakesFirst, MakesSecond, OfNone, with_past, added, share, share_by, is_look, is_in_order, received_of, LeadsBy, RefusesBy}
 use Rattle.pump_chain.specs.declared.chain.Chain.{Chain}
 
 -- ---- what ties the two pumps ----
@@ -108,62 +110,107 @@ ChainOverfills c (OfFirst line) d printed end size_of_message size =
 ChainOverfills c (OfSecond line) d printed end size_of_message size =
     (is_in_order c line ≡ true) × ((q : Past) × OverfillsIn c.second line q printed end size_of_message size × (d ≡ with_second c q))
 
+-- ---- the disk that fails ----
+
+-- a call of the disk failed, and this is the count of its failed calls
+abbrev pub FailsWith : {D : Type 0} → Meaning D → D → D → ℕ → Type 0
+FailsWith m old new faults = Rose (m.count old) (m.count new) × (faults ≡ m.count new)
+
+-- of two pumps, the disk of this role that fails in a line of this share: its session's; but at a look of the second one the
+-- receiver's is the first one's, from which the message is read that is to be sent on
+abbrev pub broken_disk : {D : Type 0} {g : _} → Share → Role → Pump D g → Pump D g → D
+broken_disk (OfFirst line) role first second = pumps.disk_at role first
+broken_disk (OfSecond (lines.Look session m w a)) roles.Recv first second = pumps.disk_at roles.Recv first
+broken_disk share role first second = pumps.disk_at role second
+
+-- whatever the disks tell, it is a disk of the session whose line it is, or it may be the first receiver's at a look of the
+-- second session
+abbrev pub FailsBy : {D : Type 0} {g : _} → Meaning D → Share → Role → ℕ → Pump D g → Pump D g → Pump D g → Pump D g → Type 0
+FailsBy m (OfFirst line) role faults first first_now second second_now = FailsWith m (pumps.disk_at role first) (pumps.disk_at role first_now) faults
+FailsBy m (OfSecond line) role faults first first_now second second_now =
+    FailsWith m (pumps.disk_at role second) (pumps.disk_at role second_now) faults
+    ⊎ ((is_look line ≡ true) × (role ≡ roles.Recv) × FailsWith m (pumps.disk_at role first) (pumps.disk_at role first_now) faults)
+FailsBy m share role faults first first_now second second_now = ⊥
+
+-- a device stops a line of this share only so
+abbrev pub AreCounted : {D : Type 0} {g : _} → Meaning D → Share → Pump D g → Pump D g → Pump D g → Pump D g → Option Stop → Type 0
+AreCounted m share first first_now second second_now (Some (Device role faults)) = FailsBy m share role faults first first_now second second_now
+AreCounted m share first first_now second second_now stop = Unit {0}
+
+abbrev pub IsCountedBy : {D : Type 0} {g : _} → Meaning D → Chain D g → Chain D g → Share → Option Stop → Type 0
+IsCountedBy m s t share stop = AreCounted m share s.first t.first s.second t.second stop
+
+-- .. whatever the sender adds
+abbrev pub IsCounted : {D : Type 0} {g : _} → Meaning D → Chain D g → Chain D g → ScriptLine → Option Stop → Type 0
+IsCounted m s t line stop = IsCountedBy m s t (share_by (pumps.row_of s.first).id (pumps.row_of s.second).id Nothing line) stop
+
+-- ---- what a line does ----
+
+-- a crash at any moment from s to t leaves of each of the six disks what fits its session's world before or the one after
+pub record LeaveBoth {D : Type 0} {g : _} (m : Meaning D) (s t : Chain D g) (c d : Chained) : Type 0 where
+  pub first : LeavesFit m (pumps.disks_of s.first) (pumps.disks_of t.first) c.first.past d.first.past
+  pub second : LeavesFit m (pumps.disks_of s.second) (pumps.disks_of t.second) c.second.past d.second.past
+
 -- A line of this share was given to s, which stood for c, and left it as t. It can be applied, and leads to what t stands
--- for and prints this; or it can't be, and nothing is printed, and t stands for c still; or a disk fails in it; or its
--- message does not fit at a receiver. No disk is refused.
+-- for and prints this; or it can't be, and nothing is printed, and t stands for c still; or a disk fails in it, whose count
+-- is told; or its message does not fit at a receiver. No disk is refused.
 abbrev pub AppliesBy : {D : Type 0} {g : _} → Meaning D → Chain D g → Chain D g → Chained → Share → List Event → Option Stop → Type 0
-AppliesBy m s t c share printed None = (d : Chained) × LeadsBy c share d printed × ChainStands m t d
-AppliesBy m s t c share printed (Some Line) = RefusesBy c share × (printed ≡ []) × ChainStands m t c
-AppliesBy m s t c share printed (Some (Device role faults)) = (d : Chained) × ChainBreaks c share role d printed × ChainStandsOrFails m t d
+AppliesBy m s t c share printed None = (d : Chained) × LeadsBy c share d printed × ChainStands m t d × LeaveBoth m s t c d
+AppliesBy m s t c share printed (Some Line) = RefusesBy c share × (printed ≡ []) × ChainStands m t c × LeaveBoth m s t c c
+AppliesBy m s t c share printed (Some (Device role faults)) =
+    (d : Chained) × ChainBreaks c share role d printed × ChainStandsOrFails m t d × LeaveBoth m s t c d
+    × FailsWith m (broken_disk share role s.first s.second) (broken_disk share role t.first t.second) faults
 AppliesBy m s t c share printed (Some (Full end size_of_message size)) =
-    (d : Chained) × ChainOverfills c share d printed end size_of_message size × ChainStandsOrFails m t d
+    (d : Chained) × ChainOverfills c share d printed end size_of_message size × ChainStandsOrFails m t d × LeaveBoth m s t c d
 AppliesBy m s t c share printed (Some (Disk role why)) = ⊥
 
 abbrev pub ChainApplies : {D : Type 0} {g : _} → Meaning D → Chain D g → Chain D g → ScriptLine → Chained → List Event → Option Stop → Type 0
 ChainApplies m s t line c printed stop = AppliesBy m s t c (share c line) printed stop
 
--- a device stops a line only where the count of failed calls of a disk of that role rose
-abbrev pub RoseAt : {D : Type 0} {g : _} → Meaning D → Role → Pump D g → Pump D g → Type 0
-RoseAt m role s t = Rose (m.count (pumps.disk_at role s)) (m.count (pumps.disk_at role t))
-
-abbrev pub AreCounted : {D : Type 0} {g : _} → Meaning D → Pump D g → Pump D g → Pump D g → Pump D g → Option Stop → Type 0
-AreCounted m first first_now second second_now (Some (Device role faults)) = RoseAt m role first first_now ⊎ RoseAt m role second second_now
-AreCounted m first first_now second second_now stop = Unit {0}
-
-abbrev pub IsCounted : {D : Type 0} {g : _} → Meaning D → Chain D g → Chain D g → Option Stop → Type 0
-IsCounted m s t stop = AreCounted m s.first t.first s.second t.second stop
-
 -- ---- the six disks at every moment ----
 
--- a low disk and a receiver's tell that these messages are accepted, of which the low disk has the last ones, and these
--- received
-pub record Tell (row : SessionRow) (accepted received : List Payload) (low recv : List ℕ) : Type 0 where
+-- the disks of a pump tell that these messages are accepted, of which the low disk has the last ones, that so many are
+-- removed, and that these are received
+pub record Tell (row : SessionRow) (accepted received : List Payload) (low high recv : List ℕ) : Type 0 where
   pub from : ℕ
   pub few : from ≤ length accepted
   pub low_is : LowStands row (length accepted) from (drop from accepted) low
+  pub removed : ℕ
+  pub high_is : HighStands row removed high
   pub recv_is : RecvStands row received recv
 
--- four lists that the disks of two pumps tell, of which each is a front of the next: what the second receiver has, what
+-- the receiver has every message that is removed, and the low disk every accepted one that the receiver has not: all that is
+-- accepted is the receiver's list, and then what stands in the live slots of the low disk
+pub record IsAllTold {row : SessionRow} {accepted received : List Payload} {low high recv : List ℕ} (t : Tell row accepted received low high recv) : Type 0 where
+  pub removed : t.removed ≤ length received
+  pub rest : t.from ≤ length received
+
+-- four lists that the disks of two pumps tell, of which each is a prefix of the next: what the second receiver has, what
 -- the second pump has accepted, what the first receiver has, and what the first pump has accepted
-pub record TellFronts (first second : SessionRow) (low recv next_low next_recv : List ℕ) : Type 0 where
+pub record TellFronts (first second : SessionRow) (low high recv next_low next_high next_recv : List ℕ) : Type 0 where
   pub accepted : List Payload
   pub received : List Payload
   pub next_accepted : List Payload
   pub next_received : List Payload
-  pub tell : Tell first accepted received low recv
-  pub next_tell : Tell second next_accepted next_received next_low next_recv
+  pub tell : Tell first accepted received low high recv
+  pub next_tell : Tell second next_accepted next_received next_low next_high next_recv
   pub next_taken : IsPrefixOf next_received next_accepted
   pub sent_on : IsPrefixOf next_accepted received
   pub taken : IsPrefixOf received accepted
 
--- whatever crashes at any moment since the two pumps were these left of their disks tells such lists
+-- whatever crashes at any moment since the two pumps were these left of their disks tells such lists; and beside what a
+-- crash leaves of a receiver's disk at the end, those of its session are all told
 abbrev pub LeaveFronts : {D : Type 0} {g : _} → Meaning D → Pump D g → Pump D g → Pump D g → Pump D g → Type 0
-LeaveFronts m first first_now second second_now = m.tells_images → (low recv next_low next_recv : List ℕ)
+LeaveFronts m first first_now second second_now = m.tells_images → (low high recv next_low next_high next_recv : List ℕ)
     → m.since (pumps.disk_at roles.Low first_now) (m.moment (pumps.disk_at roles.Low first)) low
+    → m.since (pumps.disk_at roles.High first_now) (m.moment (pumps.disk_at roles.High first)) high
     → m.since (pumps.disk_at roles.Recv first_now) (m.moment (pumps.disk_at roles.Recv first)) recv
     → m.since (pumps.disk_at roles.Low second_now) (m.moment (pumps.disk_at roles.Low second)) next_low
+    → m.since (pumps.disk_at roles.High second_now) (m.moment (pumps.disk_at roles.High second)) next_high
     → m.since (pumps.disk_at roles.Recv second_now) (m.moment (pumps.disk_at roles.Recv second)) next_recv
-    → TellFronts (pumps.row_of first) (pumps.row_of second) low recv next_low next_recv
+    → (f : TellFronts (pumps.row_of first) (pumps.row_of second) low high recv next_low next_high next_recv)
+    × (m.images (pumps.disk_at roles.Recv first_now) recv → IsAllTold f.tell)
+    × (m.images (pumps.disk_at roles.Recv second_now) next_recv → IsAllTold f.next_tell)
 
 -- .. since the chain was s
 abbrev pub LeavesFronts : {D : Type 0} {g : _} → Meaning D → Chain D g → Chain D g → Type 0

@@ -51,7 +51,7 @@ impl<D: Disk> Chain<D> {
         ensures applies { D.told.tells → (c : Chained) → ChainStands D.told self.old c
             → ChainApplies D.told self.old self.new line.now c result.events.items result.stop }
         ensures crashes { D.told.tells → (c : Chained) → ChainStands D.told self.old c → LeavesFronts D.told self.old self.new }
-        ensures device { IsCounted D.told self.old self.new result.stop }
+        ensures device { IsCounted D.told self.old self.new line.now result.stop }
         ensures later { FailNoLess D.told self.old self.new }
         ensures down { chain_is_down self.new ≡ stops_at_disk result.stop }
     {
@@ -77,7 +77,7 @@ impl<D: Disk> Chain<D> {
         ensures applies { D.told.tells → (c : Chained) → ChainStands D.told self.old c
             → ChainApplies D.told self.old self.new (line_with bytes.now line.now) c (lines_in events.new.items) result }
         ensures crashes { D.told.tells → (c : Chained) → ChainStands D.told self.old c → LeavesFronts D.told self.old self.new }
-        ensures device { IsCounted D.told self.old self.new result }
+        ensures device { IsCounted D.told self.old self.new (line_with bytes.now line.now) result }
         ensures later { FailNoLess D.told self.old self.new }
         ensures down { chain_is_down self.new ≡ stops_at_disk result }
     {

@@ -6,8 +6,7 @@ ghost use Rattle.script_reader.specs.EventHeads.{event_of};
 ghost use Rattle.two_worlds.specs.Printing.{lines_in};
 ghost use Rattle.script_reader.specs.declared.event.Event.{Event as Printed};
 ghost use Rattle.script_reader.specs.Heads.{line_with};
-ghost use Rattle.pump_chain.specs.Chained.{is_reply as replies, is_welcome as welcomes, sender_after, unsent};
-ghost use Rattle.pump_chain.specs.Private.{is_look};
+ghost use Rattle.pump_chain.specs.Chained.{is_look, is_reply as replies, is_welcome as welcomes, sender_after, unsent};
 
 use pump_core::Reply;
 use script_reader::{EventHead, LineHead};

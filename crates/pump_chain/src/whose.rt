@@ -2,7 +2,8 @@
 
 ghost use Rattle.std.specs.Prelude.{◌≡◌, ◌==◌, if◌then◌else◌, ℕ, List, false};
 ghost use Rattle.script_reader.specs.Heads.{line_with};
-ghost use Rattle.pump_chain.specs.Private.{IsWhose, is_look};
+ghost use Rattle.pump_chain.specs.Chained.{is_look};
+ghost use Rattle.pump_chain.specs.Private.{IsWhose};
 
 use script_reader::LineHead;
 

@@ -174,10 +174,10 @@ pub early_read : (end : WrapEnd) → IsEarly end → end ≡ ends.Read → ⊥
 early_read end early e = subst IsEarly e early
 
 -- disks that hold all messages are not empty
-pub all_end : {D : Type 0} (m : Meaning D) (row : SessionRow) (messages : List Payload) (whole : Option (List ℕ)) (old new : Trio D) (end : WrapEnd) → HasAll m row messages old → Ends m row whole (accepted_in (all_taken messages)) old end new
+pub all_end : {D : Type 0} (m : Meaning D) (row : SessionRow) (messages : List Payload) (whole : Option (List ℕ)) (old new : Trio D) (end : WrapEnd) → HasAll m row messages old → Ends m row whole whole (accepted_in (all_taken messages)) old end new
     → EndsOn m row whole messages end new
 all_end m row messages whole old new end has (inr on) = subst (λ (l : List Payload). EndsOn m row whole l end new) (append-nil messages) on
-all_end m row messages whole old new end has (inl (role, faults, e, none)) = by role none
+all_end m row messages whole old new end has (inl fails) = by fails.role fails.empty
   where
     by : (role : Role) → m.reading (disk_of old role) ≡ [] → EndsOn m row whole messages end new
     by roles.Low none = absurd (let size = has.hold.low_is.size in omega (arith, ap length none, size))

@@ -15,7 +15,7 @@ use Rattle.recovery.specs.declared.why.Why.TheVariants as whys
 use Rattle.script_reader.specs.Openings.{Found, accepted_in}
 use Rattle.stable_buffer.specs.Format.{new_bytes}
 use Rattle.stable_buffer.specs.Log.{RecvStands}
-use Rattle.two_worlds.specs.Openings.{ComeBack, IsLeft, LeavesDisk, StandForFound, readied}
+use Rattle.two_worlds.specs.Openings.{ComeBack, IsLeft, LeavesDisk, StandForFound, disk_back, readied}
 use Rattle.two_worlds.specs.Rooms.{is_role}
 use Rattle.pump_wrapper.specs.Wraps.{end_of_opening}
 use Rattle.pump_wrapper.specs.WrapEnds.{Ends, EndsEarly, EndsOn, FailsFormat, HasDiskCause, LeavesFront, RefusesDisks, Stand}
@@ -42,6 +42,21 @@ right_true false b e = absurd (cc)
 left_false : (a b : Bool) → a ≡ false → (a && b) ≡ false
 left_false false b e = refl
 left_false true b e = absurd (cc)
+
+right_false : (a b : Bool) → b ≡ false → (a && b) ≡ false
+right_false true b e = e
+right_false false b e = refl
+
+two_roles : (a b : Role) → (a ≡ b → ⊥) → is_role a b ≡ false
+two_roles roles.Low roles.Low differ = absurd (differ refl)
+two_roles roles.Low roles.High differ = refl
+two_roles roles.Low roles.Recv differ = refl
+two_roles roles.High roles.Low differ = refl
+two_roles roles.High roles.High differ = absurd (differ refl)
+two_roles roles.High roles.Recv differ = refl
+two_roles roles.Recv roles.Low differ = refl
+two_roles roles.Recv roles.High differ = refl
+two_roles roles.Recv roles.Recv differ = absurd (differ refl)
 
 module _ {D : Type 0} (m : Meaning D) (row : SessionRow) where
   -- a disk that stood for something once it was formatted does so still, or it was empty and its own call failed
@@ -108,23 +123,36 @@ module _ {D : Type 0} (m : Meaning D) (row : SessionRow) where
         left roles.High = subst (IsLeft m row roles.High old.high high) (left_false (is_device why) (is_role roles.High role) other) c.high_disk.left
         left roles.Recv = subst (IsLeft m row roles.Recv old.recv recv) (left_false (is_device why) (is_role roles.Recv role) other) c.recv_disk.left
 
-    -- the empty disk of this role failed
-    fails : (why : Why) (r : Role) → Back (Some why) → is_device why ≡ true → m.reading (disk_of old r) ≡ [] → (is_device why && is_role r role) ≡ true → FailsFormat m old (ends.Refused role why)
-    fails why r c dev none e =
-        let same : r ≡ role = both_roles r role (right_true (is_device why) (is_role r role) e) in
-        (role, _, ap (ends.Refused role) (c.counted dev), subst (λ (x : Role). m.reading (disk_of old x) ≡ []) same none)
+    -- a disk of another role than the failed one's
+    other_left : (why : Why) → Back (Some why) → (r : Role) → (r ≡ role → ⊥) → IsLeft m row r (disk_of old r) (disk_of new r) false
+    other_left why c roles.Low differ = subst (IsLeft m row roles.Low old.low low) (right_false (is_device why) (is_role roles.Low role) (two_roles roles.Low role differ)) c.low_disk.left
+    other_left why c roles.High differ = subst (IsLeft m row roles.High old.high high) (right_false (is_device why) (is_role roles.High role) (two_roles roles.High role differ)) c.high_disk.left
+    other_left why c roles.Recv differ = subst (IsLeft m row roles.Recv old.recv recv) (right_false (is_device why) (is_role roles.Recv role) (two_roles roles.Recv role differ)) c.recv_disk.left
 
-    stands : (why : Why) (left : Option (List ℕ)) (f : Found) → Back (Some why) → is_device why ≡ true → m.tells → Stand m row old f → Ends m row left (accepted_in f) old (ends.Refused role why) new
+    -- the empty disk of this role failed
+    fails : (why : Why) (left : Option (List ℕ)) (r : Role) → Back (Some why) → is_device why ≡ true → m.reading (disk_of old r) ≡ [] → (is_device why && is_role r role) ≡ true → FailsFormat m row left left old (ends.Refused role why) new
+    fails why left r c dev none e =
+        let same : r ≡ role = both_roles r role (right_true (is_device why) (is_role r role) e) in
+        record {
+          role = role;
+          faults = m.count (disk_back role (record { role = role; why = Some why; low = low; high = high; recv = recv }));
+          end_is = ap (ends.Refused role) (c.counted dev);
+          empty = subst (λ (x : Role). m.reading (disk_of old x) ≡ []) same none;
+          unread = refl;
+          others = other_left why c;
+        }
+
+    stands : (why : Why) (left : Option (List ℕ)) (f : Found) → Back (Some why) → is_device why ≡ true → m.tells → Stand m row old f → Ends m row left left (accepted_in f) old (ends.Refused role why) new
     stands why left f c dev told stand =
         let same_low = still roles.Low old.low low _ c.low_disk.left told (low_some row _ _ _ _ stand.low_is) in
         let same_high = still roles.High old.high high _ c.high_disk.left told (high_some row _ _ stand.high_is) in
         let same_recv = still roles.Recv old.recv recv _ c.recv_disk.left told (recv_some row _ _ stand.recv_is) in
         elim same_low [
-          | inr x ↦ inl (fails why roles.Low c dev x.0 x.1)
+          | inr x ↦ inl (fails why left roles.Low c dev x.0 x.1)
           | inl a ↦ elim same_high [
-            | inr x ↦ inl (fails why roles.High c dev x.0 x.1)
+            | inr x ↦ inl (fails why left roles.High c dev x.0 x.1)
             | inl b ↦ elim same_recv [
-              | inr x ↦ inl (fails why roles.Recv c dev x.0 x.1)
+              | inr x ↦ inl (fails why left roles.Recv c dev x.0 x.1)
               | inl d ↦ inr (record {
                 now = f;
                 stand = subst (λ (l : List ℕ). StandForFound row f l (readied row roles.High (m.reading high)) (readied row roles.Recv (m.reading recv))) (sym a)

@@ -90,13 +90,19 @@ pub record EndsOn {D : Type 0} (m : Meaning D) (row : SessionRow) (left : Option
   pub sent : (accepted_in now ≡ accepted) ⊎ BeginFile row left (accepted_in now)
   pub ends : EndsAt row left accepted now end
 
--- a call of this role's disk, which was empty, failed, so that it may be half formatted
-abbrev pub FailsFormat : {D : Type 0} → Meaning D → Trio D → WrapEnd → Type 0
-FailsFormat m disks end = (role : Role) × (faults : ℕ) × (end ≡ ends.Refused role (whys.Device faults)) × (m.reading (disk_of disks role) ≡ [])
+-- The formatting of this role's disk, which was empty, failed, so that it may be half formatted. Nothing of the file was read, of
+-- which these bytes were left before and after; and each of the other two disks is as it was, or was empty and is new.
+pub record FailsFormat {D : Type 0} (m : Meaning D) (row : SessionRow) (left rest : Option (List ℕ)) (old : Trio D) (end : WrapEnd) (new : Trio D) : Type 0 where
+  pub role : Role
+  pub faults : ℕ
+  pub end_is : end ≡ ends.Refused role (whys.Device faults)
+  pub empty : m.reading (disk_of old role) ≡ []
+  pub unread : rest ≡ left
+  pub others : (other : Role) → (other ≡ role → ⊥) → IsLeft m row other (disk_of old other) (disk_of new other) false
 
 -- .. or the three stand for a session again
-abbrev pub Ends : {D : Type 0} → Meaning D → SessionRow → Option (List ℕ) → List Payload → Trio D → WrapEnd → Trio D → Type 0
-Ends m row left accepted old end new = FailsFormat m old end ⊎ EndsOn m row left accepted end new
+abbrev pub Ends : {D : Type 0} → Meaning D → SessionRow → Option (List ℕ) → Option (List ℕ) → List Payload → Trio D → WrapEnd → Trio D → Type 0
+Ends m row left rest accepted old end new = FailsFormat m row left rest old end new ⊎ EndsOn m row left accepted end new
 
 -- the three disks stand for this
 abbrev pub Stand : {D : Type 0} → Meaning D → SessionRow → Trio D → Found → Type 0
@@ -144,7 +150,7 @@ pub record EndsEarly {D : Type 0} (m : Meaning D) (row : SessionRow) (old : Trio
   pub cause : HasDiskCause m old new end
   pub refused : RefusesDisks m row old end new
   pub opened : m.tells → IsNotOpened end ⊎ ((f : Found) × Stand m row old f)
-  pub ends : m.tells → (left : Option (List ℕ)) (f : Found) → Stand m row old f → Ends m row left (accepted_in f) old end new
+  pub ends : m.tells → (left : Option (List ℕ)) (f : Found) → Stand m row old f → Ends m row left left (accepted_in f) old end new
   pub images : m.tells_images → (f : Found) → Stand m row old f → (all : List Payload) → Begins (accepted_in f) all → LeavesFrontBy m row old end new all
 
 -- a pump was opened over these disks, and they are emptied

@@ -225,7 +225,8 @@ fn send_further<D: Disk, I: Source>(
 /// part goes on where it was. It takes no memory but what the pump is opened with.
 ///
 /// However it ends, disks that stood for a session stand for one again, unless an empty one could not be
-/// formatted. No message is lost, and where one was added, all are the first messages of the file. That
+/// formatted: then nothing of the file was read, and the other two disks are as they were, or were empty
+/// and are new. No message is lost, and where one was added, all are the first messages of the file. That
 /// holds of the receiver's list in whatever a crash then leaves, too.
 pub fn wrap<D: Disk, I: Source>(
     alloc: Global,
@@ -237,7 +238,7 @@ pub fn wrap<D: Disk, I: Source>(
     requires least { 9 ≤ row.now.message }
     ensures whole { D.told.tells → (bytes : List ℕ) → I.left file.old ≡ Some bytes → IsWhole D.told row.now bytes result.end result.disks }
     ensures ends { D.told.tells → (f : Found) → Stand D.told row.now disks f
-        → Ends D.told row.now (I.left file.old) (accepted_in f) disks result.end result.disks }
+        → Ends D.told row.now (I.left file.old) (I.left file.new) (accepted_in f) disks result.end result.disks }
     ensures opened { D.told.tells → IsNotOpened result.end ⊎ ((f : Found) × Stand D.told row.now disks f) }
     ensures refused { RefusesDisks D.told row.now disks result.end result.disks }
     ensures images { D.told.tells_images → (f : Found) → Stand D.told row.now disks f → (bytes : List ℕ) → I.left file.old ≡ Some bytes

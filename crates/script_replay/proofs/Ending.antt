@@ -3,7 +3,7 @@ use Rattle.std.proofs.Common.{◌≡◌, ◌≤◌, ◌==◌, arith, ℕ, true, 
 use Rattle.std.specs.Prelude.{◌⊎◌, nat_le}
 use Rattle.std.proofs.lemmas.Bool.{and_parts, eqb-true, eqb-false}
 use Rattle.disk_model.specs.Disk.{Meaning}
-use Rattle.disk_model.specs.Shelf.{IsOut}
+use Rattle.disk_model.specs.Shelf.{Holdings, IsOut}
 use Rattle.disk_model.specs.declared.disk.Disk.{Ghosts}
 use Rattle.disk_model.specs.declared.name.Role.{Role}
 use Rattle.pump_frame.specs.Counts.{Rose}
@@ -20,13 +20,16 @@ use Rattle.script_reader.specs.Scripts.{Running, Begun, Whole, Alone, Stops}
 use Rattle.world_laws.proofs.Timeline.Scripts.{HasRun, script_runs}
 use Rattle.script_reader.specs.Sessions.{Sessions as Script, session_in, session_at, events_of, StopsOne}
 use Rattle.script_replay.specs.Shelves.{Places, disk_name, reading_in, reading_at, Shelved, shelved, LeavesSession, SparesSession, ReadiesSession, AreKept, AreOthersKept, AllAreBack}
+use Rattle.script_replay.specs.Failing.{CameBackFailed, FailsBetween, FailsAt}
 use Rattle.script_replay.specs.Sessions.{id_of, found_at, HasComeTo, HasFailed}
-use Rattle.script_replay.specs.Runners.{lent, AllLent, OthersLent, HandsOver, AllHandOver, AreOut, AllAreOut, LeftAs, AllLeftAs, IsAloneOr, EndsAs, IsDeviceFaultOf}
-use Rattle.script_replay.specs.Replays.{IsEachSound, IsTimed, Replayed, IsFinished, IsUnread, IsFaulted, IsStopped, IsFailedAt, IsFailed, IsOverfilled, IsBroken, IsUnopened, IsBarred, IsDownAt, IsDown, IsOutput, Wrote}
+use Rattle.two_worlds.specs.Pumps as pump
+use Rattle.script_replay.specs.Runners.{lent, AllLent, OthersLent, HandsOver, AllHandOver, AreOut, AllAreOut, LeftAs, AllLeftAs, IsAloneOr, EndsAs, DeviceFails}
+use Rattle.script_replay.specs.Replays.{IsEachSound, IsTimed, Replayed, IsFinished, IsUnread, IsFaulted, IsStopped, IsFailedAt, IsFailed, IsOverfilled, IsBroken, IsUnopened, IsBarred, IsDiskDown, IsDownAt, IsDown, IsOutput, Wrote}
 use Rattle.script_replay.specs.declared.session.Session.{Session}
 use Rattle.script_replay.specs.declared.session.Session.TheVariants as sessions
 use Rattle.script_replay.specs.declared.ended.Ended.{Ended}
 use Rattle.script_replay.specs.declared.ended.Ended.TheVariants as ended
+use Rattle.script_replay.proofs.Fresh.{readied_all}
 use Rattle.script_replay.proofs.Left.{keeps_one, breaks_one}
 use Rattle.script_replay.proofs.Numbered.{found_id}
 use Rattle.script_replay.proofs.Stops.{stop_number}
@@ -149,12 +152,13 @@ module _ {D : Type 0} {g : Ghosts D} (d : Meaning D) (told : Type 0) (is_told : 
     failed_to : (session : ℕ) → IsFailedAt from rest session r output → IsFailedAt to rest session r output
     failed_to session h = stopped_to _ h
 
-    broken_to : (session : ℕ) → IsBroken from rest session r output → IsBroken to rest session r output
-    broken_to session h =
+    broken_to : (session : ℕ) (role : Role) → IsBroken from rest session role r output → IsBroken to rest session role r output
+    broken_to session role h =
         let id = h.next.off.session.row.id in
         record {
           next = h.next;
           session_is = h.session_is;
+          role_is = h.role_is;
           taken = h.taken;
           output_is = h.output_is;
           replies = h.replies;
@@ -164,10 +168,9 @@ module _ {D : Type 0} {g : Ghosts D} (d : Meaning D) (told : Type 0) (is_told : 
           );
         }
 
-    unopened_to : (session : ℕ) → IsUnopened from rest session r output → IsUnopened to rest session r output
-    unopened_to session h = record {
+    unopened_to : (session : ℕ) (role : Role) → IsUnopened from rest session role r output → IsUnopened to rest session role r output
+    unopened_to session role h = record {
       row = h.row;
-      role = h.role;
       next = h.next;
       session_is = h.session_is;
       taken = h.taken;
@@ -186,10 +189,13 @@ module _ {D : Type 0} {g : Ghosts D} (d : Meaning D) (told : Type 0) (is_told : 
       disks = (h.disks.1, readies_to h.row h.disks.0 h.disks.2, others_to h.row.id r.openings r.sessions.begun r.events runs r.laws.sound h.disks.3);
     }
 
-    down_to : (session : ℕ) → IsDownAt from rest session r output → IsDownAt to rest session r output
-    down_to session (inl h) = inl (failed_to session h)
-    down_to session (inr (inl h)) = inr (inl (broken_to session h))
-    down_to session (inr (inr h)) = inr (inr (unopened_to session h))
+    disk_down_to : (session : ℕ) (role : Role) → IsDiskDown from rest session role r output → IsDiskDown to rest session role r output
+    disk_down_to session role (inl h) = inl (broken_to session role h)
+    disk_down_to session role (inr h) = inr (unopened_to session role h)
+
+    down_to : (session : ℕ) (role : Role) → IsDownAt from rest session role r output → IsDownAt to rest session role r output
+    down_to session role (inl h) = inl (failed_to session h)
+    down_to session role (inr h) = inr (disk_down_to session role h)
 
     output_to : IsOutput from rest first last r output → IsOutput to rest first last r output
     output_to (inl (e, h)) = inl (e, kept h)
@@ -197,47 +203,81 @@ module _ {D : Type 0} {g : Ghosts D} (d : Meaning D) (told : Type 0) (is_told : 
     output_to (inr (inr (inl h))) = inr (inr (inl (faulted_to h)))
     output_to (inr (inr (inr (inl h)))) = inr (inr (inr (inl (unread_to h))))
     output_to (inr (inr (inr (inr (inl h))))) = inr (inr (inr (inr (inl (overfilled_to h)))))
-    output_to (inr (inr (inr (inr (inr (inl (session, h))))))) = inr (inr (inr (inr (inr (inl (session, down_to session h))))))
+    output_to (inr (inr (inr (inr (inr (inl (session, role, h))))))) = inr (inr (inr (inr (inr (inl (session, role, down_to session role h))))))
     output_to (inr (inr (inr (inr (inr (inr h)))))) = inr (inr (inr (inr (inr (inr (barred_to h))))))
 
   module _ (all rest old new : Option (List ℕ)) (first last : ℕ) where
     pub ends_to : (result : Ended) → EndsAs from all rest old new first last result → EndsAs to all rest old new first last result
     ends_to ended.Done (r, o, h, w) = (r, o, finished_to rest first last r o h, w)
-    ends_to ended.Memory h = tt
+    ends_to ended.Memory (r, o, h, w) =
+        (r, o, record { taken = h.taken; output_is = h.output_is; disks = readied_all d told is_told before mid now begun left r.sessions.begun h.disks.1 h.disks.0 }, w)
     ends_to ended.Write (r, o, (near, h), w) = (r, o, (near, output_to rest first last r o h), w)
     ends_to (ended.Stopped faults.Words) h = absurd h
     ends_to (ended.Stopped faults.Read) (r, o, h, w) = (r, o, unread_to rest first last r o h, w)
     ends_to (ended.Stopped (faults.Script number)) (r, o, h, w) = (r, o, faulted_to rest first last r o h, w)
-    ends_to (ended.Stopped (faults.Device s role)) (r, o, h, w) = (r, o, down_to rest first last r o s h, w)
+    ends_to (ended.Stopped (faults.Device s role)) (r, o, h, w) = (r, o, down_to rest first last r o s role h, w)
     ends_to (ended.Stopped (faults.Disk s role number a b)) (r, o, h, w) = (r, o, barred_to rest first last r o h, w)
     ends_to (ended.Stopped (faults.Full s end n size)) (r, o, h, w) = (r, o, overfilled_to rest first last r o h, w)
 
-    -- a low side alone fails only where a line tells so
-    alone_failed : (number id : ℕ) (p : _) → found_at number begun ≡ Some (sessions.Alone id p) → (r : Replayed all) (output : List ℕ) → IsDownAt from rest number r output → IsFailed to rest r output
-    alone_failed number id p e r output (inl h) = (number, failed_to rest first last r output number h)
-    alone_failed number id p e r output (inr (inl h)) =
+    -- no disk of a low side alone fails
+    alone_no_disk : (number id : ℕ) (role : Role) (p : _) → found_at number begun ≡ Some (sessions.Alone id p) → (r : Replayed all) (output : List ℕ) → IsDiskDown from rest number role r output → ⊥
+    alone_no_disk number id role p e r output (inl h) =
         absurd (subst (λ (s : Option (Session D g)). HasComeTo d s (Some (Whole (record { row = h.next.off.session.row; past = h.next.off.past })))) (ap (λ (n : ℕ). found_at n begun) (sym h.session_is) ∙ e) h.disks.1)
-    alone_failed number id p e r output (inr (inr h)) = let none = h.disks.0 in cc (sym e ∙ ap (λ (n : ℕ). found_at n begun) h.session_is ∙ none)
+    alone_no_disk number id role p e r output (inr h) = let none = h.disks.0 in cc (sym e ∙ ap (λ (n : ℕ). found_at n begun) h.session_is ∙ none)
 
-    pub told_to_fail : (number id : ℕ) (p : _) → found_at number begun ≡ Some (sessions.Alone id p) → (result : Ended) → IsDeviceFaultOf number result → EndsAs from all rest old new first last result → Wrote all old new (λ r output. IsFailed to rest r output)
-    told_to_fail number id p e ended.Done f h = absurd f
-    told_to_fail number id p e ended.Memory f h = absurd f
-    told_to_fail number id p e ended.Write f h = absurd f
-    told_to_fail number id p e (ended.Stopped faults.Words) f h = absurd f
-    told_to_fail number id p e (ended.Stopped faults.Read) f h = absurd f
-    told_to_fail number id p e (ended.Stopped (faults.Script line)) f h = absurd f
-    told_to_fail number id p e (ended.Stopped (faults.Device s role)) f (r, o, h, w) = (r, o, alone_failed number id p e r o (subst (λ (n : ℕ). IsDownAt from rest n r o) f h), w)
-    told_to_fail number id p e (ended.Stopped (faults.Disk s role n a b)) f h = absurd f
-    told_to_fail number id p e (ended.Stopped (faults.Full s end n size)) f h = absurd f
+    -- a low side alone fails only where a line tells so
+    alone_failed : (number id : ℕ) (role : Role) (p : _) → found_at number begun ≡ Some (sessions.Alone id p) → (r : Replayed all) (output : List ℕ) → IsDownAt from rest number role r output → IsFailed to rest r output
+    alone_failed number id role p e r output (inl h) = (number, failed_to rest first last r output number h)
+    alone_failed number id role p e r output (inr h) = absurd (alone_no_disk number id role p e r output h)
+
+    pub told_to_fail : (number id : ℕ) (role : Role) (p : _) → found_at number begun ≡ Some (sessions.Alone id p) → (result : Ended) → result ≡ ended.Stopped (faults.Device number role) → EndsAs from all rest old new first last result
+        → Wrote all old new (λ r output. IsFailed to rest r output)
+    told_to_fail number id role p e result is h =
+        let (r, o, down, w) = subst (EndsAs from all rest old new first last) is h in (r, o, alone_failed number id role p e r o down, w)
+
+    -- the fault names the disk that failed, unless a line told it of a low side alone
+    down_one : (fails : ℕ → Role → Type 0) (number : ℕ) (role : Role) → fails number role ⊎ ((id : ℕ) × (p : _) × (found_at number begun ≡ Some (sessions.Alone id p)))
+        → (r : Replayed all) (output : List ℕ) → IsDownAt from rest number role r output → IsDown to fails rest r output
+    down_one fails number role cause r output (inl h) = inl (number, failed_to rest first last r output number h)
+    down_one fails number role (inl failed) r output (inr h) = inr (number, role, disk_down_to rest first last r output number role h, failed)
+    down_one fails number role (inr (id, p, e)) r output (inr h) = absurd (alone_no_disk number id role p e r output h)
+
+    pub downs : (fails : ℕ → Role → Type 0) (number : ℕ) (role : Role) → fails number role ⊎ ((id : ℕ) × (p : _) × (found_at number begun ≡ Some (sessions.Alone id p)))
+        → (result : Ended) → result ≡ ended.Stopped (faults.Device number role) → EndsAs from all rest old new first last result → Wrote all old new (λ r output. IsDown to fails rest r output)
+    downs fails number role cause result is h =
+        let (r, o, down, w) = subst (EndsAs from all rest old new first last) is h in (r, o, down_one fails number role cause r o down, w)
 
 -- ---- the cause of status 7 ----
 
-pub device_so : {D : Type 0} {g : Ghosts D} (d : Meaning D) (mid : Places) (session : Option (Session D g)) (first middle last : ℕ) (P : Type 0) → Rose first middle ⊎ HasFailed d mid session → first ≤ middle → middle ≤ last
-    → (HasFailed d mid session → IsAloneOr session (Rose middle last)) → ((id : ℕ) (p : _) → session ≡ Some (sessions.Alone id p) → P) → Rose first last ⊎ P
-device_so d mid session first middle last P (inl rose) low high back told = inl (omega (arith, rose, high))
-device_so d mid None first middle last P (inr failed) low high back told = absurd failed
-device_so d mid (Some (sessions.Whole id p)) first middle last P (inr failed) low high back told = inl (let rose = back failed in omega (arith, rose, low))
-device_so d mid (Some (sessions.Alone id p)) first middle last P (inr failed) low high back told = inr (told id p refl)
+-- the disk failed while it was out, or when its session was to begin; or the session is a low side alone
+pub named_so : {S D : Type 0} {g : Ghosts D} (m : Holdings S) (d : Meaning D) (before : Places) (first middle last : S) (begun : List (Session D g)) (number : ℕ) (role : Role) → before ≡ m.disk first
+    → DeviceFails m d before first middle begun number role → m.disk_faults first ≤ m.disk_faults middle → m.disk_faults middle ≤ m.disk_faults last → AllLeftAs m.tells d (m.disk middle) (m.disk last) begun
+    → (HasFailed d (m.disk middle) role (found_at number begun) → IsAloneOr (found_at number begun) (Rose (m.disk_faults middle) (m.disk_faults last)))
+    → FailsAt m d first last number role ⊎ ((id : ℕ) × (p : _) × (found_at number begun ≡ Some (sessions.Alone id p)))
+named_so {S} {D} {g} m d before first middle last begun number role is h low high left back = elim h [
+  | inl (none, rose, fails) ↦
+      let same : LeavesSession (m.disk middle) (m.disk last) number = subst (λ (s : Option (Session D g)). LeftAs m.tells d (m.disk middle) (m.disk last) number s) none (left number) in
+      inl (
+        omega (arith, rose, high),
+        subst (λ (p : Places). FailsBetween m d p (m.disk last) number role) is (elim fails [
+          | inl given ↦ inl given
+          | inr out ↦ inr (record { lent = out.lent; given = out.given; disk = out.disk; out = out.out; rose = out.rose; back = λ told. same role ∙ out.back told })
+        ]),
+      )
+  | inr failed ↦ of (found_at number begun) refl failed (back failed) (left number)
+]
+  where
+    of : (s : Option (Session D g)) → found_at number begun ≡ s → HasFailed d (m.disk middle) role (found_at number begun) → IsAloneOr (found_at number begun) (Rose (m.disk_faults middle) (m.disk_faults last))
+        → LeftAs m.tells d (m.disk middle) (m.disk last) number (found_at number begun) → FailsAt m d first last number role ⊎ ((id : ℕ) × (p : _) × (found_at number begun ≡ Some (sessions.Alone id p)))
+    of None e failed rose left = absurd (subst (λ (s : Option (Session D g)). HasFailed d (m.disk middle) role s) e failed)
+    of (Some (sessions.Alone id p)) e failed rose left = inr (id, p, e)
+    of (Some (sessions.Whole id p)) e failed rose left =
+        let mine : id ≡ number = found_id number begun (sessions.Whole id p) e in
+        let (given, out, risen) = subst (λ (s : Option (Session D g)). HasFailed d (m.disk middle) role s) e failed in
+        let later = subst (λ (s : Option (Session D g)). IsAloneOr s (Rose (m.disk_faults middle) (m.disk_faults last))) e rose in
+        let on = (subst (λ (s : Option (Session D g)). LeftAs m.tells d (m.disk middle) (m.disk last) number s) e left).0 in
+        let there : CameBackFailed m d (m.disk last) id role = record { lent = middle; given = given; disk = pump.disk_at role p; out = out; rose = risen; back = λ told. on told role } in
+        inl (omega (arith, low, later), inr (subst (λ (n : ℕ). CameBackFailed m d (m.disk last) n role) mine there))
 
 -- ---- the disks are back ----
 
@@ -246,7 +286,7 @@ back_one : {D : Type 0} {g : Ghosts D} (d : Meaning D) (told : Type 0) (before m
 back_one d told before mid now number None t of hands left role out = hands t role (subst IsOut (left role) out)
 back_one d told before mid now number (Some (sessions.Alone id p)) t of hands left role out = subst IsOut (left role ∙ hands role) out
 back_one d told before mid now number (Some (sessions.Whole id p)) t of hands left role out =
-    absurd (left.0 t role (subst (λ (n : ℕ). IsOut (now (disk_name n role))) (sym (of (sessions.Whole id p) refl)) out))
+    absurd (subst IsOut (left.0 t role) (subst (λ (n : ℕ). IsOut (now (disk_name n role))) (sym (of (sessions.Whole id p) refl)) out))
 
 pub all_are_back : {D : Type 0} {g : Ghosts D} (d : Meaning D) (told : Type 0) (before mid now : Places) (begun : List (Session D g)) → told → AllHandOver told d before mid begun → AllLeftAs told d mid now begun → AllAreBack before now
 all_are_back d told before mid now begun t hands left = λ name out.
@@ -260,8 +300,3 @@ out_one d told before mid number (Some (sessions.Whole id p)) hands = λ role. l
 
 pub all_are_out : {D : Type 0} {g : Ghosts D} (d : Meaning D) (told : Type 0) (before mid : Places) (begun : List (Session D g)) → AllHandOver told d before mid begun → AllAreOut mid begun
 all_are_out d told before mid begun hands number = out_one d told before mid number (found_at number begun) (hands number)
-
--- ---- the session of status 7 ----
-
-pub down_some : (shelf : Shelved) (all old new left : Option (List ℕ)) (session : ℕ) → Wrote all old new (IsDownAt shelf left session) → Wrote all old new (IsDown shelf left)
-down_some shelf all old new left session (r, output, h, w) = (r, output, (session, h), w)

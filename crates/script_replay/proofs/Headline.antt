@@ -1,6 +1,7 @@
 -- The headline's sentences on the disks, from what a replay says of them by how it ends.
 use Rattle.std.proofs.Common.{◌≡◌, ℕ, ◌==◌, true, false, List, ◌++◌, Option, Some, None, inl, inr, refl, sym, ap, ◌∙◌, subst}
 use Rattle.std.proofs.lemmas.Bool.{eqb-true, eqb-false}
+use Rattle.disk_model.specs.declared.name.Role.{Role}
 use Rattle.script_reader.specs.declared.event.Event.{Event}
 use Rattle.script_reader.specs.Openings.{Openings}
 use Rattle.script_reader.specs.Readouts.{Sound}
@@ -44,9 +45,9 @@ others_front before after o one t printed none others = λ number.
     ] refl
 
 -- where a line of one was cut short by the device of a disk, of all
-broken_front : (before after : Places) (all left : Option (List ℕ)) (session : ℕ) (r : Replayed all) (output : List ℕ) (end : IsBroken (shelved before after) left session r output)
+broken_front : (before after : Places) (all left : Option (List ℕ)) (session : ℕ) (role : Role) (r : Replayed all) (output : List ℕ) (end : IsBroken (shelved before after) left session role r output)
     → HaveReceived after (led_to r.sessions end.next.line (Whole (record { row = end.next.off.session.row; past = end.next.off.past }))) (r.events ++ end.next.printed)
-broken_front before after all left session r output end =
+broken_front before after all left session role r output end =
     let one = end.next.off.session.row.id in
     let last : Begun = Whole (record { row = end.next.off.session.row; past = end.next.off.past }) in
     let kept = end.disks.0.prefix in
@@ -58,9 +59,9 @@ broken_front before after all left session r output end =
           (kept_front before after number r.openings (session_at number r.sessions.begun) (events_of number r.events) (end.disks.1 number apart))
     ] refl
 
-broken_outlives : (before after : Places) (all left : Option (List ℕ)) (session : ℕ) (r : Replayed all) (output : List ℕ) (end : IsBroken (shelved before after) left session r output)
+broken_outlives : (before after : Places) (all left : Option (List ℕ)) (session : ℕ) (role : Role) (r : Replayed all) (output : List ℕ) (end : IsBroken (shelved before after) left session role r output)
     → HaveOutlived after (led_to r.sessions end.next.line (Whole (record { row = end.next.off.session.row; past = end.next.off.past }))) (r.events ++ end.next.printed)
-broken_outlives before after all left session r output end =
+broken_outlives before after all left session role r output end =
     let off = end.next.off in
     let one = off.session.row.id in
     let last : Begun = Whole (record { row = off.session.row; past = off.past }) in
@@ -85,7 +86,7 @@ broken_outlives before after all left session r output end =
 pub record HoldsAtEnds (before after : Places) (Holds : Sessions → List Event → Type 0) : Type 0 where
   pub kept : (o : Openings) (t : Sessions) (printed : List Event) → AreKept before after o t.begun printed → Holds t printed
   pub others : (o : Openings) (one : ℕ) (t : Sessions) (printed : List Event) → session_at one t.begun ≡ None → AreOthersKept before after one o t.begun printed → Holds t printed
-  pub broken : (all left : Option (List ℕ)) (session : ℕ) (r : Replayed all) (output : List ℕ) (end : IsBroken (shelved before after) left session r output)
+  pub broken : (all left : Option (List ℕ)) (session : ℕ) (role : Role) (r : Replayed all) (output : List ℕ) (end : IsBroken (shelved before after) left session role r output)
       → Holds (led_to r.sessions end.next.line (Whole (record { row = end.next.off.session.row; past = end.next.off.past }))) (r.events ++ end.next.printed)
 
 pub outlives : (before after : Places) → HoldsAtEnds before after (HaveOutlived after)
@@ -108,21 +109,21 @@ module _ (before after : Places) (all left : Option (List ℕ)) (was now : ℕ) 
   faulted : (r : Replayed all) (output : List ℕ) → IsFaulted (shelved before after) left r output → Ends 5 r output
   faulted r output end = (r.sessions, r.events, inr (inr (inl (refl, end, refl, refl))), h.kept r.openings r.sessions r.events end.disks)
 
-  down : (session : ℕ) (r : Replayed all) (output : List ℕ) → IsDownAt (shelved before after) left session r output → Ends 7 r output
-  down session r output (inl end) = (
+  down : (session : ℕ) (role : Role) (r : Replayed all) (output : List ℕ) → IsDownAt (shelved before after) left session role r output → Ends 7 r output
+  down session role r output (inl end) = (
     end.next.after,
     r.events ++ end.next.printed,
     inr (inr (inr (inl (refl, inl (session, end, refl, refl))))),
     h.kept r.openings end.next.after (r.events ++ end.next.printed) end.disks,
   )
-  down session r output (inr (inl end)) = (
+  down session role r output (inr (inl end)) = (
     led_to r.sessions end.next.line (Whole (record { row = end.next.off.session.row; past = end.next.off.past })),
     r.events ++ end.next.printed,
-    inr (inr (inr (inl (refl, inr (inl (session, end, refl, refl)))))),
-    h.broken all left session r output end,
+    inr (inr (inr (inl (refl, inr (inl (session, role, end, refl, refl)))))),
+    h.broken all left session role r output end,
   )
-  down session r output (inr (inr end)) =
-      (r.sessions, r.events, inr (inr (inr (inl (refl, inr (inr (session, end, refl, refl)))))), h.others r.openings end.row.id r.sessions r.events end.next.none end.disks.1)
+  down session role r output (inr (inr end)) =
+      (r.sessions, r.events, inr (inr (inr (inl (refl, inr (inr (session, role, end, refl, refl)))))), h.others r.openings end.row.id r.sessions r.events end.next.none end.disks.1)
 
   barred : (r : Replayed all) (output : List ℕ) → IsBarred (shelved before after) left r output → Ends 8 r output
   barred r output end = (r.sessions, r.events, inr (inr (inr (inr (inl (refl, end, refl, refl))))), h.others r.openings end.row.id r.sessions r.events end.next.none end.disks.2)
@@ -148,7 +149,7 @@ module _ (before after : Places) (all left : Option (List ℕ)) (was now : ℕ) 
   cut_off r output (near, inr (inr (inl end))) = short r output near 5 (faulted r output end)
   cut_off r output (near, inr (inr (inr (inl end)))) = short r output near 3 (unread r output end)
   cut_off r output (near, inr (inr (inr (inr (inl end))))) = short r output near 10 (full r output end)
-  cut_off r output (near, inr (inr (inr (inr (inr (inl (session, end))))))) = short r output near 7 (down session r output end)
+  cut_off r output (near, inr (inr (inr (inr (inr (inl (session, role, end))))))) = short r output near 7 (down session role r output end)
   cut_off r output (near, inr (inr (inr (inr (inr (inr end)))))) = short r output near 8 (barred r output end)
 
   -- ---- what was written ----
@@ -172,8 +173,8 @@ module _ (before after : Places) (all left : Option (List ℕ)) (was now : ℕ) 
     pub wrote_faulted : Wrote all old new (IsFaulted (shelved before after) left) → Ended 5
     wrote_faulted = written 5 (IsFaulted (shelved before after) left) faulted
 
-    pub wrote_down : (session : ℕ) → Wrote all old new (IsDownAt (shelved before after) left session) → Ended 7
-    wrote_down session = written 7 (IsDownAt (shelved before after) left session) (down session)
+    pub wrote_down : (session : ℕ) (role : Role) → Wrote all old new (IsDownAt (shelved before after) left session role) → Ended 7
+    wrote_down session role = written 7 (IsDownAt (shelved before after) left session role) (down session role)
 
     pub wrote_barred : Wrote all old new (IsBarred (shelved before after) left) → Ended 8
     wrote_barred = written 8 (IsBarred (shelved before after) left) barred

@@ -8,7 +8,7 @@ use Rattle.disk_model.specs.Disk.{Meaning}
 use Rattle.disk_model.specs.declared.disk.Disk.{Ghosts}
 use Rattle.disk_model.specs.declared.name.Role.{Role}
 use Rattle.disk_model.specs.declared.name.Role.TheVariants as roles
-use Rattle.disk_model.specs.Shelf.{IsOut}
+use Rattle.disk_model.specs.Shelf.{OnShelf, IsOut}
 use Rattle.pump_frame.specs.declared.row.SessionRow.{SessionRow}
 use Rattle.pump_frame.specs.declared.payload.Payload.{Payload}
 use Rattle.pump_core.specs.Events.{with_kept}
@@ -44,11 +44,6 @@ use Rattle.script_replay.proofs.Numbered.{found_id, without_last, rise_without, 
 
 -- ---- they are put back ----
 
-on_shelf_at : (now : Places) (id : ℕ) (low high recv : List ℕ) → AreOnShelf now id low high recv → (role : Role) → IsOut (now (disk_name id role)) → ⊥
-on_shelf_at now id low high recv on roles.Low out = subst IsOut on.low_on out
-on_shelf_at now id low high recv on roles.High out = subst IsOut on.high_on out
-on_shelf_at now id low high recv on roles.Recv out = subst IsOut on.recv_on out
-
 module _ {D : Type 0} {g : Ghosts D} (d : Meaning D) (told : Type 0) (mid now : Places) (session : Session D g) (id : ℕ) (p : Pump D g) (is : session ≡ sessions.Whole id p) where
   pub out_of : AreOut mid (Some session) → (role : Role) → IsOut (mid (disk_name id role))
   out_of out = subst (λ (s : Session D g). AreOut mid (Some s)) is out
@@ -56,24 +51,31 @@ module _ {D : Type 0} {g : Ghosts D} (d : Meaning D) (told : Type 0) (mid now : 
   pub others_of : LeavesOtherSessions mid now id → LeavesOtherSessions mid now (id_of session)
   others_of h = subst (λ (n : ℕ). LeavesOtherSessions mid now n) (sym (ap id_of is)) h
 
-  pub left_of : (low high recv : List ℕ) → (told → AreOnShelf now id low high recv) → (d.tells → (q : Past) → pump.StandsOrFails d p q → StandForLeft (pump.row_of p) q.world low high recv)
+  on_shelf_at : (low high recv : D) → low ≡ pump.disk_at roles.Low p → high ≡ pump.disk_at roles.High p → recv ≡ pump.disk_at roles.Recv p → AreOnShelf now id (d.reading low) (d.reading high) (d.reading recv)
+      → (role : Role) → now (disk_name id role) ≡ OnShelf (d.reading (pump.disk_at role p))
+  on_shelf_at low high recv e f h on roles.Low = on.low_on ∙ ap (λ (x : D). OnShelf (d.reading x)) e
+  on_shelf_at low high recv e f h on roles.High = on.high_on ∙ ap (λ (x : D). OnShelf (d.reading x)) f
+  on_shelf_at low high recv e f h on roles.Recv = on.recv_on ∙ ap (λ (x : D). OnShelf (d.reading x)) h
+
+  pub left_of : (low high recv : D) → low ≡ pump.disk_at roles.Low p → high ≡ pump.disk_at roles.High p → recv ≡ pump.disk_at roles.Recv p → (told → AreOnShelf now id (d.reading low) (d.reading high) (d.reading recv))
+      → (d.tells → (q : Past) → pump.StandsOrFails d p q → StandForLeft (pump.row_of p) q.world (d.reading low) (d.reading high) (d.reading recv))
       → LeftAs told d mid now (id_of session) (Some session)
-  left_of low high recv on left =
+  left_of low high recv low_is high_is recv_is on left =
       subst (λ (s : Session D g). LeftAs told d mid now (id_of s) (Some s)) (sym is) (
-        λ t. on_shelf_at now id low high recv (on t),
+        λ t. on_shelf_at low high recv low_is high_is recv_is (on t),
         λ t tells q stands. let h = on t in rw (ap reading_in h.low_on, ap reading_in h.high_on, ap reading_in h.recv_on) (left tells q stands),
       )
 
   pub failed_of : (first last : ℕ) (low high recv : ℕ) → low ≡ d.count (pump.disk_at roles.Low p) → high ≡ d.count (pump.disk_at roles.High p) → recv ≡ d.count (pump.disk_at roles.Recv p)
       → RisesAt mid id roles.Low low first last → RisesAt mid id roles.High high first last → RisesAt mid id roles.Recv recv first last
-      → HasFailed d mid (Some session) → IsAloneOr (Some session) (Rose first last)
-  failed_of first last low high recv e f h low_rises high_rises recv_rises failed =
-      subst (λ (s : Session D g). IsAloneOr (Some s) (Rose first last)) (sym is) (rises (subst (λ (s : Session D g). HasFailed d mid (Some s)) is failed))
+      → (role : Role) → HasFailed d mid role (Some session) → IsAloneOr (Some session) (Rose first last)
+  failed_of first last low high recv e f h low_rises high_rises recv_rises role failed =
+      subst (λ (s : Session D g). IsAloneOr (Some s) (Rose first last)) (sym is) (rises role (subst (λ (s : Session D g). HasFailed d mid role (Some s)) is failed))
     where
-      rises : HasFailed d mid (Some (sessions.Whole id p)) → Rose first last
-      rises (roles.Low, given, out, rose) = low_rises given out (subst (λ (n : ℕ). Rose given n) (sym e) rose)
-      rises (roles.High, given, out, rose) = high_rises given out (subst (λ (n : ℕ). Rose given n) (sym f) rose)
-      rises (roles.Recv, given, out, rose) = recv_rises given out (subst (λ (n : ℕ). Rose given n) (sym h) rose)
+      rises : (at : Role) → HasFailed d mid at (Some (sessions.Whole id p)) → Rose first last
+      rises roles.Low (given, out, rose) = low_rises given out (subst (λ (n : ℕ). Rose given n) (sym e) rose)
+      rises roles.High (given, out, rose) = high_rises given out (subst (λ (n : ℕ). Rose given n) (sym f) rose)
+      rises roles.Recv (given, out, rose) = recv_rises given out (subst (λ (n : ℕ). Rose given n) (sym h) rose)
 
 -- ---- one after another ----
 
@@ -85,7 +87,7 @@ StillOr told d mid now number session None = LeftAs told d mid now number sessio
 pub record LeftSoFar {D : Type 0} {g : Ghosts D} (told : Type 0) (d : Meaning D) (mid now : Places) (first last : ℕ) (all rest : List (Session D g)) : Type 0 where
   pub rise : Rise rest
   pub each : (number : ℕ) → StillOr told d mid now number (found_at number all) (found_at number rest)
-  pub failed : (number : ℕ) → found_at number rest ≡ None → HasFailed d mid (found_at number all) → IsAloneOr (found_at number all) (Rose first last)
+  pub failed : (number : ℕ) (role : Role) → found_at number rest ≡ None → HasFailed d mid role (found_at number all) → IsAloneOr (found_at number all) (Rose first last)
   pub later : first ≤ last
 
 left_same : (mid now gone : Places) (number other : ℕ) → (number ≡ other → ⊥) → LeavesOtherSessions now gone other → LeavesSession mid now number → LeavesSession mid gone number
@@ -96,7 +98,7 @@ module _ {D : Type 0} {g : Ghosts D} (told : Type 0) (d : Meaning D) (mid : Plac
   none_left rise = record {
     rise = rise;
     each = λ number. still number (found_at number all);
-    failed = λ number none failed. absurd (subst (λ (x : Option (Session D g)). HasFailed d mid x) none failed);
+    failed = λ number role none failed. absurd (subst (λ (x : Option (Session D g)). HasFailed d mid role x) none failed);
     later = omega arith;
   }
     where
@@ -115,7 +117,7 @@ module _ {D : Type 0} {g : Ghosts D} (told : Type 0) (d : Meaning D) (mid : Plac
     pub is_out_now : AllAreOut mid all → AreOut now (Some s)
     is_out_now out = out_one s its_own.1 (subst (λ (x : Option (Session D g)). AreOut mid x) its_own.0 (out (id_of s)))
 
-    module _ (returned : LeavesOtherSessions now gone (id_of s)) (left : LeftAs told d now gone (id_of s) (Some s)) (rises : HasFailed d now (Some s) → IsAloneOr (Some s) (Rose last end)) (more : last ≤ end) where
+    module _ (returned : LeavesOtherSessions now gone (id_of s)) (left : LeftAs told d now gone (id_of s) (Some s)) (rises : (role : Role) → HasFailed d now role (Some s) → IsAloneOr (Some s) (Rose last end)) (more : last ≤ end) where
       own_left : (x : Session D g) → LeavesSession mid now (id_of x) → LeftAs told d now gone (id_of x) (Some x) → LeftAs told d mid gone (id_of x) (Some x)
       own_left (sessions.Whole id p) same h = h
       own_left (sessions.Alone id p) same h = λ role. h role ∙ same role
@@ -125,7 +127,7 @@ module _ {D : Type 0} {g : Ghosts D} (told : Type 0) (d : Meaning D) (mid : Plac
       other_left number (Some (sessions.Alone id p)) of apart h = left_same mid now gone number (id_of s) apart returned h
       other_left number (Some (sessions.Whole id p)) of apart h =
           let same : (role : Role) → gone (disk_name id role) ≡ now (disk_name id role) = λ role. returned (disk_name id role) (λ e. apart (sym (of (sessions.Whole id p) refl) ∙ e)) in (
-            λ t role out. h.0 t role (subst IsOut (same role) out),
+            λ t role. same role ∙ h.0 t role,
             λ t tells q stands. rw (ap reading_in (same roles.Low), ap reading_in (same roles.High), ap reading_in (same roles.Recv)) (h.1 t tells q stands),
           )
 
@@ -146,9 +148,9 @@ module _ {D : Type 0} {g : Ghosts D} (told : Type 0) (d : Meaning D) (mid : Plac
             (subst (λ (x : Option (Session D g)). StillOr told d mid now number (found_at number all) x) (without_last number rest s apart) (h.each number))
       ] refl
 
-      same_failed : (x : Session D g) → LeavesSession mid now (id_of x) → HasFailed d mid (Some x) → HasFailed d now (Some x)
-      same_failed (sessions.Whole id p) same (role, given, out, rose) = (role, given, same role ∙ out, rose)
-      same_failed (sessions.Alone id p) same f = tt
+      same_failed : (role : Role) (x : Session D g) → LeavesSession mid now (id_of x) → HasFailed d mid role (Some x) → HasFailed d now role (Some x)
+      same_failed role (sessions.Whole id p) same (given, out, rose) = (given, same role ∙ out, rose)
+      same_failed role (sessions.Alone id p) same f = tt
 
       rose_from : (x : Session D g) → IsAloneOr (Some x) (Rose last end) → IsAloneOr (Some x) (Rose first end)
       rose_from (sessions.Whole id p) rose = let low = h.later in omega (arith, low, rose)
@@ -159,16 +161,16 @@ module _ {D : Type 0} {g : Ghosts D} (told : Type 0) (d : Meaning D) (mid : Plac
       rose_on (Some (sessions.Alone id p)) rose = tt
       rose_on None rose = omega (arith, rose, more)
 
-      failed_left : (number : ℕ) → found_at number rest ≡ None → HasFailed d mid (found_at number all) → IsAloneOr (found_at number all) (Rose first end)
-      failed_left number none failed = elim (number == id_of s) as (λ b. (number == id_of s) ≡ b → IsAloneOr (found_at number all) (Rose first end)) [
+      failed_left : (number : ℕ) (role : Role) → found_at number rest ≡ None → HasFailed d mid role (found_at number all) → IsAloneOr (found_at number all) (Rose first end)
+      failed_left number role none failed = elim (number == id_of s) as (λ b. (number == id_of s) ≡ b → IsAloneOr (found_at number all) (Rose first end)) [
         | true ↦ λ e.
             let is = eqb-true number (id_of s) e in
             let at : found_at number all ≡ Some s = ap (λ (n : ℕ). found_at n all) is ∙ its_own.0 in
             subst (λ (x : Option (Session D g)). IsAloneOr x (Rose first end)) (sym at)
-            (rose_from s (rises (same_failed s its_own.1 (subst (λ (x : Option (Session D g)). HasFailed d mid x) at failed))))
+            (rose_from s (rises role (same_failed role s its_own.1 (subst (λ (x : Option (Session D g)). HasFailed d mid role x) at failed))))
         | false ↦ λ e.
             let apart = eqb-false number (id_of s) e in
-            rose_on (found_at number all) (h.failed number (without_last number rest s apart ∙ none) failed)
+            rose_on (found_at number all) (h.failed number role (without_last number rest s apart ∙ none) failed)
       ] refl
 
       pub one_left : LeftSoFar told d mid gone first end all rest
@@ -176,10 +178,10 @@ module _ {D : Type 0} {g : Ghosts D} (told : Type 0) (d : Meaning D) (mid : Plac
 
   -- and none is left out
   pub all_left : (now : Places) (last : ℕ) (rest : List (Session D g)) → rest ≡ [] → LeftSoFar told d mid now first last all rest
-      → AllLeftAs told d mid now all × ((number : ℕ) → HasFailed d mid (found_at number all) → IsAloneOr (found_at number all) (Rose first last))
+      → AllLeftAs told d mid now all × ((number : ℕ) (role : Role) → HasFailed d mid role (found_at number all) → IsAloneOr (found_at number all) (Rose first last))
   all_left now last rest none h = (
     λ number. subst (λ (l : List (Session D g)). StillOr told d mid now number (found_at number all) (found_at number l)) none (h.each number),
-    λ number failed. h.failed number (ap (λ (l : List (Session D g)). found_at number l) none) failed,
+    λ number role failed. h.failed number role (ap (λ (l : List (Session D g)). found_at number l) none) failed,
   )
 
 -- ---- what is read gone ----

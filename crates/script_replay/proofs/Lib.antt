@@ -5,6 +5,7 @@ pub mod Coarse
 pub mod Compared
 pub mod Ending
 pub mod Finished
+pub mod Fresh
 pub mod Gathered
 pub mod Going
 pub mod Headline

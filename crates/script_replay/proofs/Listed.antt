@@ -24,7 +24,6 @@ use Rattle.script_replay.specs.declared.sessions.Sessions.{Sessions}
 use Rattle.script_replay.specs.declared.outcome.Outcome.{Outcome}
 use Rattle.script_replay.specs.declared.outcome.Outcome.TheVariants as outcomes
 use Rattle.script_reader.specs.declared.fault.Fault.TheVariants as faults
-use Rattle.script_replay.specs.Runners.{IsDeviceOutcome, IsDeviceOutcomeOf}
 use Rattle.script_replay.specs.Sessions.{id_of, StandsFor, is_of_number, Rise, AreInOrder, EachStandsFor, AllStandFor}
 use Rattle.script_replay.proofs.Numbered.{same_length}
 
@@ -74,18 +73,6 @@ module _ {D : Type 0} {g : Ghosts D} where
 pub under_way_so : (was begins is : Bool) → is ≡ (was || not begins) → begins ≡ false → is ≡ true
 under_way_so true begins is e f = e
 under_way_so false begins is e f = e ∙ ap not f
-
-pub is_device : (number : ℕ) (outcome : Outcome) → IsDeviceOutcomeOf number outcome → IsDeviceOutcome outcome
-is_device number outcomes.Applied h = absurd h
-is_device number outcomes.Refused h = absurd h
-is_device number outcomes.Memory h = absurd h
-is_device number outcomes.Unwritten h = absurd h
-is_device number (outcomes.Stopped faults.Words) h = absurd h
-is_device number (outcomes.Stopped faults.Read) h = absurd h
-is_device number (outcomes.Stopped (faults.Script line)) h = absurd h
-is_device number (outcomes.Stopped (faults.Device session role)) h = tt
-is_device number (outcomes.Stopped (faults.Disk session role n a b)) h = absurd h
-is_device number (outcomes.Stopped (faults.Full session end n size)) h = absurd h
 
 -- ---- the end of each ----
 

@@ -1,15 +1,17 @@
 -- A script that tells its bytes has one status.
 use Rattle.std.proofs.Common.{◌≡◌, inl, inr, ℕ, ◌+◌, ◌^◌, ◌<◌, List, [], Option, None, Some, length, refl, sym, ap, ◌∙◌, subst, arith}
 use Rattle.std.specs.Io.KnownBytes.{IsAtEnd}
+use Rattle.disk_model.specs.declared.name.Role.{Role}
+use Rattle.disk_model.specs.declared.name.Role.TheVariants as roles
 use Rattle.script_reader.specs.declared.line.Line.{Line}
 use Rattle.script_reader.specs.declared.event.Event.{Event}
 use Rattle.script_reader.specs.declared.fault.Fault.{Fault}
-use Rattle.script_reader.specs.declared.fault.Fault.TheVariants.{Full}
+use Rattle.script_reader.specs.declared.fault.Fault.TheVariants.{Device, Full}
 use Rattle.script_reader.specs.Faults.{IsScriptFaulty}
 use Rattle.script_reader.specs.Openings.{Openings}
 use Rattle.script_reader.specs.Sessions.{Sessions, no_sessions, ScriptRefuses, ScriptStops}
 use Rattle.script_reader.proofs.OneWhole.{script_refused_leads, script_stops_leads, script_stops_one}
-use Rattle.script_replay.specs.Replays.{IsSoFar, Replayed, IsFaultyAt, fault_after, Stopping, IsFinished, IsFaulted, IsStopped, IsOverfilled, Wrote}
+use Rattle.script_replay.specs.Replays.{IsSoFar, Replayed, IsFaultyAt, fault_after, Stopping, IsFinished, IsFaulted, IsStopped, IsOverfilled, IsFailed, IsDown, Wrote}
 use Rattle.script_replay.specs.Shelves.{Shelved}
 use Rattle.script_replay.specs.Statuses.{IsEnd, EndsWith, status_of, HasStatus}
 use Rattle.script_replay.proofs.Stopping.{script_stops_refused}
@@ -139,3 +141,8 @@ module _ (shelf : Shelved) (all old new : Option (List ℕ)) where
 
   pub full_only : (left : Option (List ℕ)) → Wrote all old new (IsOverfilled shelf left) → Wrote all old new (λ r output. IsOverfilled shelf left r output × HasStatus 10 r output)
   full_only left (r, output, (s, at, n, size, is), wrote) = (r, output, ((s, at, n, size, is), stopped_at left (Full s at n size) r output is), wrote)
+
+  -- where a line tells that a device fails
+  pub told_only : (left : Option (List ℕ)) (fails : ℕ → Role → Type 0) → Wrote all old new (IsDown shelf fails left)
+      → Wrote all old new (λ r output. IsDown shelf fails left r output × (IsFailed shelf left r output → HasStatus 7 r output))
+  told_only left fails (r, output, is, wrote) = (r, output, (is, λ failed. stopped_at left (Device failed.0 roles.Low) r output failed.1), wrote)

@@ -1,7 +1,10 @@
 -- A whole session is opened over its disks, or it is not, and they are back on the shelf.
-use Rattle.std.proofs.Common.{◌≡◌, ℕ, Bool, true, false, List, [], Option, None, Some, Ok, Err, inl, inr, refl, sym, ap, ◌∙◌, subst}
+use Rattle.std.proofs.Common.{◌≡◌, ℕ, Bool, true, false, List, [], Option, None, Some, Result, Ok, Err, IfErr, inl, inr, refl, sym, ap, ◌∙◌, subst}
 use Rattle.std.specs.Prelude.{◌⊎◌, ◌&&◌, IfSome}
 use Rattle.disk_model.specs.Disk.{Meaning}
+use Rattle.disk_model.specs.Shelf.{Holdings}
+use Rattle.disk_model.specs.declared.shelf.ShelfFault.{ShelfFault}
+use Rattle.disk_model.specs.declared.shelf.ShelfFault.TheVariants as shelf
 use Rattle.disk_model.specs.declared.disk.Disk.{Ghosts}
 use Rattle.disk_model.specs.declared.name.Role.{Role}
 use Rattle.disk_model.specs.declared.name.Role.TheVariants as roles
@@ -23,10 +26,11 @@ use Rattle.two_worlds.specs.Rooms.{is_role}
 use Rattle.two_worlds.specs.Pumps as pump
 use Rattle.two_worlds.specs.declared.not_open.NotOpen.{NotOpen}
 use Rattle.two_worlds.specs.declared.pump.Pump.{Pump}
+use Rattle.script_replay.specs.Failing.{IsNotGiven, CameBackFailed, FailsAt}
 use Rattle.script_replay.specs.Lending.{ReadAt, IsOutAt, RisesAt, AreOnShelf, Readies}
 use Rattle.script_replay.specs.Shelves.{Places, disk_name, reading_in, reading_at, HasFound, IsRefusedFor, LeavesOtherSessions, AllAreBack, SparesSession, ReadiesSession, Spares}
 use Rattle.script_replay.specs.Sessions.{LendsNew}
-use Rattle.script_replay.specs.Runners.{fault_of, outcome_at, Begins, IsDeviceOutcome, IsOfBeginning}
+use Rattle.script_replay.specs.Runners.{fault_of, outcome_at, Begins, IsDeviceOutcomeOf, IsOfBeginning}
 use Rattle.script_replay.specs.declared.session.Session.{Session}
 use Rattle.script_replay.specs.declared.session.Session.TheVariants as sessions
 use Rattle.script_replay.specs.declared.outcome.Outcome.{Outcome}
@@ -95,18 +99,18 @@ disk_fault id role (whys.NotEmpty size) e = refl
 disk_fault id role (whys.Small held capacity) e = refl
 disk_fault id role (whys.TooLong number size) e = refl
 
-is_device_fault : (id : ℕ) (role : Role) (why : Why) → IsDeviceOutcome (outcomes.Stopped (fault_of id role why)) → is_device why ≡ true
-is_device_fault id role (whys.Device n) h = refl
-is_device_fault id role (whys.NotABuffer size bytes) h = absurd h
-is_device_fault id role (whys.WrongShape field found wanted) h = absurd h
-is_device_fault id role (whys.BadRegister first second) h = absurd h
-is_device_fault id role (whys.Mismatch removed accepted) h = absurd h
-is_device_fault id role (whys.BadSlot number length) h = absurd h
-is_device_fault id role (whys.Apart count bound) h = absurd h
-is_device_fault id role (whys.Differs number) h = absurd h
-is_device_fault id role (whys.NotEmpty size) h = absurd h
-is_device_fault id role (whys.Small held capacity) h = absurd h
-is_device_fault id role (whys.TooLong number size) h = absurd h
+is_device_fault : (id number : ℕ) (at role : Role) (why : Why) → IsDeviceOutcomeOf number role (outcomes.Stopped (fault_of id at why)) → (is_device why ≡ true) × (id ≡ number) × (at ≡ role)
+is_device_fault id number at role (whys.Device n) h = (refl, h.0, h.1)
+is_device_fault id number at role (whys.NotABuffer size bytes) h = absurd h
+is_device_fault id number at role (whys.WrongShape field found wanted) h = absurd h
+is_device_fault id number at role (whys.BadRegister first second) h = absurd h
+is_device_fault id number at role (whys.Mismatch removed accepted) h = absurd h
+is_device_fault id number at role (whys.BadSlot number_of length) h = absurd h
+is_device_fault id number at role (whys.Apart count bound) h = absurd h
+is_device_fault id number at role (whys.Differs number_of) h = absurd h
+is_device_fault id number at role (whys.NotEmpty size) h = absurd h
+is_device_fault id number at role (whys.Small held capacity) h = absurd h
+is_device_fault id number at role (whys.TooLong number_of size) h = absurd h
 
 none_failed : {D : Type 0} (role : Role) (e : NotOpen D) (why : Why) → e.why ≡ Some why → is_device why ≡ false → failed_at role e ≡ false
 none_failed role e why is fine = ap (λ (w : Option Why). is_for_device w && is_role role e.role) is ∙ ap (λ (b : Bool). b && is_role role e.role) fine
@@ -188,17 +192,58 @@ module _ {D : Type 0} (g : Ghosts D) (d : Meaning D) (before mid now : Places) (
     unopened_goes None lawful is = tt
     unopened_goes (Some why) lawful is = unopened_some why lawful is (is_device why) refl
 
-module _ {D : Type 0} (d : Meaning D) (mid : Places) (row : SessionRow) (low high recv : D) (e : NotOpen D) (back : ComeBack d row low high recv e) where
-  module _ (first last : ℕ) (low_out : IsOutAt mid row.id roles.Low (d.count low)) (high_out : IsOutAt mid row.id roles.High (d.count high)) (recv_out : IsOutAt mid row.id roles.Recv (d.count recv))
-      (low_rises : RisesAt mid row.id roles.Low (d.count e.low) first last) (high_rises : RisesAt mid row.id roles.High (d.count e.high) first last) (recv_rises : RisesAt mid row.id roles.Recv (d.count e.recv) first last) where
-    rises_at : (role : Role) → failed_at role e ≡ true → Rose first last
-    rises_at roles.Low failed = low_rises low_out.0 low_out.1 (rose_more low_out.0 _ _ low_out.2 (rises_more d _ _ _ _ failed back.low_disk.serves))
-    rises_at roles.High failed = high_rises high_out.0 high_out.1 (rose_more high_out.0 _ _ high_out.2 (rises_more d _ _ _ _ failed back.high_disk.serves))
-    rises_at roles.Recv failed = recv_rises recv_out.0 recv_out.1 (rose_more recv_out.0 _ _ recv_out.2 (rises_more d _ _ _ _ failed back.recv_disk.serves))
+-- the disk whose call failed came back, and the shelf's count rose
+module _ {S D : Type 0} (m : Holdings S) (d : Meaning D) (lent : S) (now : Places) (row : SessionRow) (low high recv : D) (e : NotOpen D) (back : ComeBack d row low high recv e)
+    (low_out : IsOutAt (m.disk lent) row.id roles.Low (d.count low)) (high_out : IsOutAt (m.disk lent) row.id roles.High (d.count high)) (recv_out : IsOutAt (m.disk lent) row.id roles.Recv (d.count recv)) where
+  low_rose : failed_at roles.Low e ≡ true → Rose low_out.0 (d.count e.low)
+  low_rose failed = rose_more low_out.0 _ _ low_out.2 (rises_more d _ _ _ _ failed back.low_disk.serves)
 
-    pub unopened_rises : (why : Option Why) → e.why ≡ why → IsDeviceOutcome (outcome_at row.id e.role why) → Rose first last
-    unopened_rises None is h = absurd h
-    unopened_rises (Some why) is h = rises_at e.role (some_failed e why is (is_device_fault row.id e.role why h))
+  high_rose : failed_at roles.High e ≡ true → Rose high_out.0 (d.count e.high)
+  high_rose failed = rose_more high_out.0 _ _ high_out.2 (rises_more d _ _ _ _ failed back.high_disk.serves)
+
+  recv_rose : failed_at roles.Recv e ≡ true → Rose recv_out.0 (d.count e.recv)
+  recv_rose failed = rose_more recv_out.0 _ _ recv_out.2 (rises_more d _ _ _ _ failed back.recv_disk.serves)
+
+  module _ (on : m.tells → AreOnShelf now row.id (d.reading e.low) (d.reading e.high) (d.reading e.recv)) (first last : ℕ)
+      (low_rises : RisesAt (m.disk lent) row.id roles.Low (d.count e.low) first last) (high_rises : RisesAt (m.disk lent) row.id roles.High (d.count e.high) first last)
+      (recv_rises : RisesAt (m.disk lent) row.id roles.Recv (d.count e.recv) first last) where
+    fails_at : (role : Role) → failed_at role e ≡ true → Rose first last × CameBackFailed m d now row.id role
+    fails_at roles.Low failed = (
+      low_rises low_out.0 low_out.1 (low_rose failed),
+      record { lent = lent; given = low_out.0; disk = e.low; out = low_out.1; rose = low_rose failed; back = λ told. (on told).low_on },
+    )
+    fails_at roles.High failed = (
+      high_rises high_out.0 high_out.1 (high_rose failed),
+      record { lent = lent; given = high_out.0; disk = e.high; out = high_out.1; rose = high_rose failed; back = λ told. (on told).high_on },
+    )
+    fails_at roles.Recv failed = (
+      recv_rises recv_out.0 recv_out.1 (recv_rose failed),
+      record { lent = lent; given = recv_out.0; disk = e.recv; out = recv_out.1; rose = recv_rose failed; back = λ told. (on told).recv_on },
+    )
+
+    pub unopened_fails : (why : Option Why) → e.why ≡ why → (number : ℕ) (role : Role) → IsDeviceOutcomeOf number role (outcome_at row.id e.role why)
+        → (number ≡ row.id) × Rose first last × CameBackFailed m d now number role
+    unopened_fails None is number role h = absurd h
+    unopened_fails (Some why) is number role h =
+        let f = is_device_fault row.id number e.role role why h in
+        let fails = fails_at e.role (some_failed e why is f.0) in
+        (sym f.1, fails.0, subst (λ (r : Role). CameBackFailed m d now number r) f.2 (subst (λ (n : ℕ). CameBackFailed m d now n e.role) f.1 fails.1))
+
+pub if_err : {T E : Type 0} (r : Result T E) (P Q : E → Type 0) → IfErr r P → ((e : E) → P e → Q e) → IfErr r Q
+if_err (Ok x) P Q h f = tt
+if_err (Err e) P Q h f = f e h
+
+-- a disk could not be taken off the shelf
+pub untaken_fails : {S D : Type 0} (m : Holdings S) (d : Meaning D) (old new : S) (id : ℕ) (role : Role) (fault : ShelfFault) (outcome : Outcome)
+    → (fault ≡ shelf.Memory → outcome ≡ outcomes.Memory) → (fault ≡ shelf.Failed → outcome ≡ outcomes.Stopped (faults.Device id role))
+    → (fault ≡ shelf.Failed → Rose (m.disk_faults old) (m.disk_faults new)) → (fault ≡ shelf.Failed → IsNotGiven m (m.disk old) id role)
+    → (number : ℕ) (other : Role) → IsDeviceOutcomeOf number other outcome → (number ≡ id) × FailsAt m d old new number other
+untaken_fails m d old new id role shelf.Memory outcome memory failed rose asked number other h = absurd (subst (IsDeviceOutcomeOf number other) (memory refl) h)
+untaken_fails m d old new id role shelf.Failed outcome memory failed rose asked number other h =
+    let same = subst (IsDeviceOutcomeOf number other) (failed refl) h in (
+      sym same.0,
+      (rose refl, inl (subst (λ (r : Role). IsNotGiven m (m.disk old) number r) same.1 (subst (λ (n : ℕ). IsNotGiven m (m.disk old) n role) same.0 (asked refl)))),
+    )
 
 pub never_refused : (id : ℕ) (role : Role) (why : Option Why) (outcome : Outcome) → outcome ≡ outcome_at id role why → outcome ≡ outcomes.Refused → ⊥
 never_refused id role None outcome is e = cc

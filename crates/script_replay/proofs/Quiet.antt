@@ -20,7 +20,7 @@ quiet_shown held later a b c none first (written, second, e) =
     let both = no_front written later nothing in
     (both.1, subst (λ (l : List ℕ). Appends a c l) both.0 (Appends-then a b c [] written first second))
 
-by_way : (was is : Bool) → (was ≡ true → is ≡ true) → is ≡ false → was ≡ false
+pub by_way : (was is : Bool) → (was ≡ true → is ≡ true) → is ≡ false → was ≡ false
 by_way true is h e = cc (sym (h refl) ∙ e)
 by_way false is h e = refl
 

@@ -3,6 +3,7 @@ use Rattle.std.proofs.Common.{◌≡◌, ℕ, ◌+◌, ◌^◌, ◌<◌, ◌≤�
 use Rattle.std.specs.Prelude.{◌⊎◌}
 use Rattle.std.proofs.lemmas.Bool.{eqb-true, eqb-false}
 use Rattle.disk_model.specs.Disk.{Meaning}
+use Rattle.disk_model.specs.Shelf.{Holdings}
 use Rattle.disk_model.specs.declared.disk.Disk.{Ghosts}
 use Rattle.pump_link.specs.Causes.{AppendsFront}
 use Rattle.pump_frame.specs.Counts.{Rose}
@@ -29,7 +30,7 @@ use Rattle.script_replay.proofs.Broken.{breaks_grows}
 use Rattle.script_replay.specs.Outputs.{Gathers}
 use Rattle.script_replay.specs.Shelves.{Places, Shelved}
 use Rattle.script_replay.specs.Sessions.{StandsForRunning, HasComeTo, Lends, found_at, EachStandsFor, AllHaveComeTo, AllLend}
-use Rattle.script_replay.specs.Runners.{Finds, AllFind, IsWhere, LentAt, AllLent, OthersLent, lent, TurnGoes, TurnStops, Closes, EndsAs, IsDeviceFaultAt, IsDeviceFaultOf, IsLineFault}
+use Rattle.script_replay.specs.Runners.{Finds, AllFind, IsWhere, LentAt, AllLent, OthersLent, lent, TurnGoes, TurnStops, Closes, EndsAs, IsDeviceFaultAt, IsDeviceFaultOf, DeviceFails, IsLineFault}
 use Rattle.script_replay.specs.declared.session.Session.{Session}
 use Rattle.script_replay.specs.declared.session.Session.TheVariants as sessions
 use Rattle.script_replay.specs.declared.outcome.Outcome.{Outcome}
@@ -89,7 +90,7 @@ abbrev EndOf : Shelved → {all : Option (List ℕ)} → Option (List ℕ) → F
 EndOf shelf left Words r output = ⊥
 EndOf shelf left Read r output = ⊥
 EndOf shelf left (Faulty number) r output = ⊥
-EndOf shelf left (Device session role) r output = IsDownAt shelf left session r output
+EndOf shelf left (Device session role) r output = IsDownAt shelf left session role r output
 EndOf shelf left (Disk session role number first second) r output = IsBarred shelf left r output
 EndOf shelf left (Full session end size_of_message size) r output = IsOverfilled shelf left r output
 
@@ -105,7 +106,7 @@ end_output : (shelf : Shelved) (all left : Option (List ℕ)) (before after : �
 end_output shelf all left before after Words r output h = absurd h
 end_output shelf all left before after Read r output h = absurd h
 end_output shelf all left before after (Faulty number) r output h = absurd h
-end_output shelf all left before after (Device session role) r output h = inr (inr (inr (inr (inr (inl (session, h))))))
+end_output shelf all left before after (Device session role) r output h = inr (inr (inr (inr (inr (inl (session, role, h))))))
 end_output shelf all left before after (Disk session role number first second) r output h = inr (inr (inr (inr (inr (inr h)))))
 end_output shelf all left before after (Full session end size_of_message size) r output h = inr (inr (inr (inr (inl h))))
 
@@ -194,13 +195,14 @@ module _ {D : Type 0} (g : Ghosts D) (d : Meaning D) (bef mid : Places) (begun :
   output_of printed fault = text events ++ (text printed ++ fault_line fault)
 
   broken_of : (printed : List Event) (b : BreaksLine t line printed) → AllHaveComeTo d begun (with_session (Whole (record { row = b.session.row; past = b.past })) t.begun) → AllLend d bef mid begun
-      → IsBroken shelf rest b.session.row.id before_it (output_of printed (Device b.session.row.id b.role))
+      → IsBroken shelf rest b.session.row.id b.role before_it (output_of printed (Device b.session.row.id b.role))
   broken_of printed b come lends =
       let id = b.session.row.id in
       let last : Begun = Whole (record { row = b.session.row; past = b.past }) in
       record {
         next = record { few = few; line = line; left = to_come to rest; spelled = spelled; printed = printed; off = b };
         session_is = refl;
+        role_is = refl;
         taken = near;
         output_is = sym (stopped_text events printed (Device id b.role));
         replies = subst (LowReplies b.session.row b.past.history) (sym (low-append (events_of id events) printed))
@@ -234,7 +236,7 @@ module _ {D : Type 0} (g : Ghosts D) (d : Meaning D) (bef mid : Places) (begun :
       λ k apart. lent_one d bef mid k (found_at k begun) o (session_at k t.begun) (b.others k apart) (found k) (b.come k) in
       elim b.cause [
         | inl c ↦ subst (λ (x : Fault). EndOf shelf rest x before_it (output_of printed x)) (sym c.1)
-            (inr (inr (record { row = b.row; role = c.0; next = next; session_is = refl; taken = near; output_is = quiet (Device b.row.id c.0); disks = (absent, c.2, others) })))
+            (inr (inr (record { row = b.row; next = next; session_is = refl; taken = near; output_is = quiet (Device b.row.id c.0); disks = (absent, c.2, others) })))
         | inr c ↦ subst (λ (x : Fault). EndOf shelf rest x before_it (output_of printed x)) (sym c.2)
             (record { row = b.row; next = next; taken = near; role = c.0; why = c.1; output_is = quiet (Disk b.row.id c.0 (why_number c.1) (why_values c.1).0 (why_values c.1).1); disks = (absent, c.3, c.4, others) })
       ]
@@ -269,14 +271,16 @@ module _ {D : Type 0} (g : Ghosts D) (d : Meaning D) (bef mid : Places) (begun :
 
 -- ---- the cause of a failed device ----
 
-pub closed_device : (old new : Option (List ℕ)) (before now : ℕ) (bytes : List ℕ) (fault : Fault) (result : Ended) (number : ℕ) → Closes old new before now bytes (ended.Stopped fault) result → IsDeviceFaultOf number result → IsDeviceFaultAt number fault
-closed_device old new before now bytes fault result number c h = elim c [
-  | inl is ↦ subst (IsDeviceFaultOf number) is.0 h
-  | inr is ↦ absurd (subst (IsDeviceFaultOf number) is.0 h)
+pub closed_device : (old new : Option (List ℕ)) (before now : ℕ) (bytes : List ℕ) (fault : Fault) (result : Ended) (number : ℕ) (role : Role) → Closes old new before now bytes (ended.Stopped fault) result → IsDeviceFaultOf number role result → IsDeviceFaultAt number role fault
+closed_device old new before now bytes fault result number role c h = elim c [
+  | inl is ↦ subst (IsDeviceFaultOf number role) is.0 h
+  | inr is ↦ absurd (subst (IsDeviceFaultOf number role) is.0 h)
 ]
 
-pub stop_device : (first mid last : ℕ) (P : Type 0) → first ≤ mid → Rose mid last ⊎ P → Rose first last ⊎ P
-stop_device first mid last P low h = elim h [ inl rose ↦ inl (omega (arith, low, rose)) | inr p ↦ inr p ]
+pub stop_device : {S D : Type 0} {g : Ghosts D} (m : Holdings S) (d : Meaning D) (before : Places) (first mid last : S) (begun : List (Session D g)) (number : ℕ) (role : Role)
+    → m.disk_faults first ≤ m.disk_faults mid → DeviceFails m d before mid last begun number role → DeviceFails m d before first last begun number role
+stop_device m d before first mid last begun number role low (inl (none, rose, fails)) = inl (none, omega (arith, low, rose), fails)
+stop_device m d before first mid last begun number role low (inr failed) = inr failed
 
 -- ---- the other faults ----
 

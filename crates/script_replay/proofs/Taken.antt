@@ -1,11 +1,13 @@
 -- Disks that are taken off a shelf, and put back where the others of their session can't be taken.
-use Rattle.std.proofs.Common.{◌≡◌, ℕ, List, Some, inl, inr, refl, sym, ap, ◌∙◌, subst}
+use Rattle.std.proofs.Common.{◌≡◌, ℕ, true, false, List, Some, inl, inr, refl, sym, ap, ◌∙◌, subst}
 use Rattle.std.specs.Prelude.{◌⊎◌}
 use Rattle.std.proofs.lemmas.Bool.{cases_eq}
 use Rattle.disk_model.specs.declared.name.DiskName.{DiskName}
 use Rattle.disk_model.specs.declared.name.Role.{Role}
 use Rattle.disk_model.specs.declared.name.Role.TheVariants as roles
-use Rattle.disk_model.specs.Shelf.{OnShelf, IsOut, reading_given}
+use Rattle.disk_model.specs.Shelf.{Holdings, OnShelf, IsOut, reading_given}
+use Rattle.pump_frame.specs.Counts.{Rose}
+use Rattle.script_replay.specs.Failing.{is_earlier, IsNotGiven}
 use Rattle.script_replay.specs.Lending.{IsOutAt, ReadAt}
 use Rattle.script_replay.specs.Shelves.{Places, disk_name, reading_in, LeavesOtherSessions, AllAreBack, ReadsAlike, Spares}
 use Rattle.script_replay.proofs.Shelving.{read_in, is_out, name_is}
@@ -108,3 +110,50 @@ two_back before mid out less now id a b read_a read_b differ takes_a takes_b ret
         | inr not_a ↦ stays_there before now name (returns_b name not_b ∙ returns_a name not_a ∙ takes_b name not_b ∙ takes_a name not_a)
       ]
 ])
+
+-- ---- which one was asked for ----
+
+module _ {S : Type 0} (m : Holdings S) (id : ℕ) (asked answered : S) (still : m.disk answered ≡ m.disk asked) (rose : Rose (m.disk_faults asked) (m.disk_faults answered)) where
+  abbrev Taken : Role → Type 0
+  Taken role = (other : Role) → is_earlier other role ≡ true → IsOut (m.disk asked (disk_name id other))
+
+  abbrev There : Places → Role → Type 0
+  There first role = (other : Role) → is_earlier other role ≡ false → m.disk asked (disk_name id other) ≡ first (disk_name id other)
+
+  not_given : (first : Places) (role is : Role) → is ≡ role → Taken role → There first role → IsNotGiven m first id is
+  not_given first role is e taken there = subst (λ (r : Role). IsNotGiven m first id r) (sym e) (record { asked = asked; answered = answered; still = still; rose = rose; taken = taken; there = there })
+
+  pub low_not_given : (is : Role) → is ≡ roles.Low → IsNotGiven m (m.disk asked) id is
+  low_not_given is e = not_given (m.disk asked) roles.Low is e none (λ other later. refl)
+    where
+      none : Taken roles.Low
+      none roles.Low before = cc
+      none roles.High before = cc
+      none roles.Recv before = cc
+
+  pub high_not_given : (first : Places) (low : ℕ) (is : Role) → is ≡ roles.High → IsOutAt (m.disk asked) id roles.Low low → MovesOnly first (m.disk asked) id roles.Low → IsNotGiven m first id is
+  high_not_given first low is e out moved = not_given first roles.High is e taken there
+    where
+      taken : Taken roles.High
+      taken roles.Low before = is_out_at (m.disk asked) id roles.Low low out
+      taken roles.High before = cc
+      taken roles.Recv before = cc
+
+      there : There first roles.High
+      there roles.Low later = cc
+      there roles.High later = role_kept first (m.disk asked) id roles.Low moved roles.High (λ i. cc)
+      there roles.Recv later = role_kept first (m.disk asked) id roles.Low moved roles.Recv (λ i. cc)
+
+  pub recv_not_given : (first mid : Places) (low high : ℕ) (is : Role) → is ≡ roles.Recv → IsOutAt (m.disk asked) id roles.Low low → IsOutAt (m.disk asked) id roles.High high
+      → MovesOnly first mid id roles.Low → MovesOnly mid (m.disk asked) id roles.High → IsNotGiven m first id is
+  recv_not_given first mid low high is e low_out high_out low_moved high_moved = not_given first roles.Recv is e taken there
+    where
+      taken : Taken roles.Recv
+      taken roles.Low before = is_out_at (m.disk asked) id roles.Low low low_out
+      taken roles.High before = is_out_at (m.disk asked) id roles.High high high_out
+      taken roles.Recv before = cc
+
+      there : There first roles.Recv
+      there roles.Low later = cc
+      there roles.High later = cc
+      there roles.Recv later = role_kept mid (m.disk asked) id roles.High high_moved roles.Recv (λ i. cc) ∙ role_kept first mid id roles.Low low_moved roles.Recv (λ i. cc)

@@ -5,7 +5,7 @@ use Rattle.std.specs.List.{insert}
 use Rattle.std.proofs.lemmas.Bool.{eqb-true, eqb-false}
 use Rattle.std.proofs.lemmas.Option.{same_Some}
 use Rattle.disk_model.specs.Disk.{Meaning}
-use Rattle.disk_model.specs.Shelf.{IsOut}
+use Rattle.disk_model.specs.Shelf.{Holdings, IsOut}
 use Rattle.disk_model.specs.declared.disk.Disk.{Ghosts}
 use Rattle.disk_model.specs.declared.name.Role.{Role}
 use Rattle.disk_model.specs.declared.name.Role.TheVariants as roles
@@ -30,11 +30,12 @@ use Rattle.script_replay.specs.declared.session.Session.TheVariants as sessions
 use Rattle.script_replay.specs.declared.sessions.Sessions.{Sessions}
 use Rattle.script_replay.specs.declared.outcome.Outcome.{Outcome}
 use Rattle.script_replay.specs.declared.outcome.Outcome.TheVariants as outcomes
+use Rattle.script_replay.specs.Failing.{FailsAt}
 use Rattle.script_replay.specs.Lending.{IsOutAt}
 use Rattle.script_replay.specs.Shelves.{Places, disk_name, reading_in, reading_at, HasFound, IsRefusedFor, LeavesSession, LeavesOtherSessions, SparesSession, ReadiesSession, AllAreBack}
 use Rattle.script_replay.specs.Sessions.{id_of, is_coarse, IsUp, StandsFor, StandsForRunning, HasComeTo, IsCutShort, SessionApplies, LendsNew, Lends, GoesOnWith, FailedWith, HasFailed, found_at, with_begun, place_in, is_of_number, IsPlaced, Rise, EachStandsFor, AllStandFor, AllHaveComeTo, AllLend}
 use Rattle.script_replay.specs.Outputs.{Gathers}
-use Rattle.script_replay.specs.Runners.{AreUp, AllAreUp, outcome_of, Finds, LeadsFrom, OneLeadsFrom, IsNotOpened, Begins, GoesSo, BeginsNone, TurnGoes, TurnStops, IsInStep, BeginDoes, TurnDoes, HandsOver, AllHandOver, IsDeviceOutcomeOf}
+use Rattle.script_replay.specs.Runners.{AreUp, AllAreUp, outcome_of, Finds, LeadsFrom, OneLeadsFrom, IsNotOpened, Begins, GoesSo, BeginsNone, TurnGoes, TurnStops, IsInStep, BeginDoes, TurnDoes, HandsOver, AllHandOver, IsDeviceOutcomeOf, DeviceFails}
 use Rattle.script_replay.proofs.Coarse.{coarse_leads, may_so}
 use Rattle.script_replay.proofs.Gathered.{gathers_none}
 use Rattle.script_replay.proofs.Going.{leads_from}
@@ -79,12 +80,13 @@ remembers id (Some (stops.Disk role why)) outcome is e = cc
 
 -- it stops for a device
 pub failed_so : {D : Type 0} {g : Ghosts D} (d : Meaning D) (s t : Session D g) (id : ℕ) (stop : Option Stop) (outcome : Outcome) → ((role : Role) (count : ℕ) → stop ≡ Some (stops.Device role count) → FailedWith d s t role)
-    → id ≡ id_of t → outcome ≡ outcome_of id stop → (number : ℕ) → IsDeviceOutcomeOf number outcome → (id_of t ≡ number) × (role : Role) × FailedWith d s t role
-failed_so d s t id None outcome failed same is number h = absurd (subst (IsDeviceOutcomeOf number) is h)
-failed_so d s t id (Some stops.Line) outcome failed same is number h = absurd (subst (IsDeviceOutcomeOf number) is h)
-failed_so d s t id (Some (stops.Device role count)) outcome failed same is number h = (sym same ∙ subst (IsDeviceOutcomeOf number) is h, role, failed role count refl)
-failed_so d s t id (Some (stops.Full end length size)) outcome failed same is number h = absurd (subst (IsDeviceOutcomeOf number) is h)
-failed_so d s t id (Some (stops.Disk role why)) outcome failed same is number h = absurd (subst (IsDeviceOutcomeOf number) is h)
+    → id ≡ id_of t → outcome ≡ outcome_of id stop → (number : ℕ) (role : Role) → IsDeviceOutcomeOf number role outcome → (id_of t ≡ number) × FailedWith d s t role
+failed_so d s t id None outcome failed same is number role h = absurd (subst (IsDeviceOutcomeOf number role) is h)
+failed_so d s t id (Some stops.Line) outcome failed same is number role h = absurd (subst (IsDeviceOutcomeOf number role) is h)
+failed_so d s t id (Some (stops.Device other count)) outcome failed same is number role h =
+    let of = subst (IsDeviceOutcomeOf number role) is h in (sym same ∙ of.0, subst (FailedWith d s t) of.1 (failed other count refl))
+failed_so d s t id (Some (stops.Full end length size)) outcome failed same is number role h = absurd (subst (IsDeviceOutcomeOf number role) is h)
+failed_so d s t id (Some (stops.Disk other why)) outcome failed same is number role h = absurd (subst (IsDeviceOutcomeOf number role) is h)
 
 -- ---- the line that begins one ----
 
@@ -117,15 +119,15 @@ module _ {D : Type 0} {g : Ghosts D} (d : Meaning D) where
   lends_on before now number (sessions.Whole id p) (sessions.Alone other q) h l = absurd h
   lends_on before now number (sessions.Alone id p) (sessions.Whole other q) h l = absurd h
 
-  failed_on : (before now : Places) (number : ℕ) (s t : Session D g) (role : Role) → GoesOnWith d s t → FailedWith d s t role → Lends d before now number (Some s) → HasFailed d now (Some t)
+  failed_on : (before now : Places) (number : ℕ) (s t : Session D g) (role : Role) → GoesOnWith d s t → FailedWith d s t role → Lends d before now number (Some s) → HasFailed d now role (Some t)
   failed_on before now number (sessions.Whole id p) (sessions.Whole other q) role h f l =
       let out : IsOutAt now id role _ = l role in
-      subst (λ (i : ℕ). HasFailed d now (Some (sessions.Whole i q))) (sym h.0) (role, out.0, out.1, rose_more out.0 _ _ out.2 f)
+      subst (λ (i : ℕ). HasFailed d now role (Some (sessions.Whole i q))) (sym h.0) (out.0, out.1, rose_more out.0 _ _ out.2 f)
   failed_on before now number (sessions.Alone id p) (sessions.Alone other q) role h f l = tt
   failed_on before now number (sessions.Whole id p) (sessions.Alone other q) role h f l = absurd h
   failed_on before now number (sessions.Alone id p) (sessions.Whole other q) role h f l = absurd h
 
-  same_id : (s t : Session D g) → GoesOnWith d s t → id_of t ≡ id_of s
+  pub same_id : (s t : Session D g) → GoesOnWith d s t → id_of t ≡ id_of s
   same_id (sessions.Whole id p) (sessions.Whole other q) h = h.0
   same_id (sessions.Alone id p) (sessions.Alone other q) h = h
   same_id (sessions.Whole id p) (sessions.Alone other q) h = absurd h
@@ -137,7 +139,7 @@ module _ {D : Type 0} {g : Ghosts D} (d : Meaning D) where
   running_there s None h = absurd h
 
   -- one is put in the place of its number: of each number this holds still, where it holds of the one
-  at_put : (P : ℕ → Option (Session D g) → Type 0) (t : Session D g) (xs : List (Session D g)) → P (id_of t) (Some t) → ((k : ℕ) → (k ≡ id_of t → ⊥) → P k (found_at k xs)) → (k : ℕ) → P k (found_at k (with_begun t xs))
+  pub at_put : (P : ℕ → Option (Session D g) → Type 0) (t : Session D g) (xs : List (Session D g)) → P (id_of t) (Some t) → ((k : ℕ) → (k ≡ id_of t → ⊥) → P k (found_at k xs)) → (k : ℕ) → P k (found_at k (with_begun t xs))
   at_put P t xs own others k = elim (k == id_of t) as (λ b. (k == id_of t) ≡ b → P k (found_at k (with_begun t xs))) [
     | true ↦ λ e.
         let is = sym (eqb-true k (id_of t) e) in
@@ -179,6 +181,9 @@ module _ {D : Type 0} {g : Ghosts D} (d : Meaning D) (line : Line) (number place
   there_t : found_at (id_of t) first.begun.items ≡ Some x
   there_t = ap (λ (k : ℕ). found_at k first.begun.items) id_t ∙ there
 
+  pub there_own : found_at (id_of x) first.begun.items ≡ Some x
+  there_own = ap (λ (k : ℕ). found_at k first.begun.items) id_x ∙ there
+
   pub is_put : set first.begun.items place t ≡ with_begun t first.begun.items
   is_put =
       let here : place ≡ place_in (id_of t) first.begun.items = placed.0 ∙ ap (λ (k : ℕ). place_in k first.begun.items) (sym id_t) in
@@ -194,10 +199,10 @@ module _ {D : Type 0} {g : Ghosts D} (d : Meaning D) (line : Line) (number place
   up_put : IsUp t → AllAreUp first.begun.items → AllAreUp (with_begun t first.begun.items)
   up_put up ups = at_put d (λ k y. AreUp y) t first.begun.items up (λ k apart. ups k)
 
-  failed_put : (before now : Places) → AllLend d before now first.begun.items → (k : ℕ) → (id_of t ≡ k) × (role : Role) × FailedWith d x t role → HasFailed d now (found_at k (with_begun t first.begun.items))
-  failed_put before now lends k (is, role, failed) =
-      subst (λ (n : ℕ). HasFailed d now (found_at n (with_begun t first.begun.items))) is
-      (subst (λ (o : Option (Session D g)). HasFailed d now o) (sym (found_put t first.begun.items))
+  failed_put : (before now : Places) → AllLend d before now first.begun.items → (k : ℕ) (role : Role) → (id_of t ≡ k) × FailedWith d x t role → HasFailed d now role (found_at k (with_begun t first.begun.items))
+  failed_put before now lends k role (is, failed) =
+      subst (λ (n : ℕ). HasFailed d now role (found_at n (with_begun t first.begun.items))) is
+      (subst (λ (o : Option (Session D g)). HasFailed d now role o) (sym (found_put t first.begun.items))
       (failed_on d before now number x t role goes failed (subst (λ (o : Option (Session D g)). Lends d before now number o) there (lends number))))
 
   module _ (last : Sessions D g) (items : last.begun.items ≡ with_begun t first.begun.items) where
@@ -207,8 +212,8 @@ module _ {D : Type 0} {g : Ghosts D} (d : Meaning D) (line : Line) (number place
     pub up_last : IsUp t → AllAreUp first.begun.items → AllAreUp last.begun.items
     up_last up ups = subst (λ (l : List (Session D g)). AllAreUp l) (sym items) (up_put up ups)
 
-    pub failed_last : (before now : Places) → AllLend d before now first.begun.items → (k : ℕ) → (id_of t ≡ k) × (role : Role) × FailedWith d x t role → HasFailed d now (found_at k last.begun.items)
-    failed_last before now lends k h = subst (λ (l : List (Session D g)). HasFailed d now (found_at k l)) (sym items) (failed_put before now lends k h)
+    pub failed_last : (before now : Places) → AllLend d before now first.begun.items → (k : ℕ) (role : Role) → (id_of t ≡ k) × FailedWith d x t role → HasFailed d now role (found_at k last.begun.items)
+    failed_last before now lends k role h = subst (λ (l : List (Session D g)). HasFailed d now role (found_at k l)) (sym items) (failed_put before now lends k role h)
 
     pub rise_last : Rise last.begun.items
     rise_last = subst (λ (l : List (Session D g)). Rise l) (sym items) (rise_put t first.begun.items rise)
@@ -409,6 +414,24 @@ skips d before now t line s held a none lends stand =
 
 -- ---- a line of a session that isn't there ----
 
+-- there is none of its number
+pub none_of : {D : Type 0} {g : Ghosts D} (number place : ℕ) (begun : List (Session D g)) → IsPlaced number place begun false → Rise begun → found_at number begun ≡ None
+none_of number place begun placed rise = none_there number begun rise (subst (λ (k : ℕ). is_of_number number (slice_get begun k) ≡ false) placed.0 placed.1)
+
+-- so the disks of the number were where they were at first, and what failed of them failed between then and now
+pub fails_from : {S D : Type 0} {g : Ghosts D} (m : Holdings S) (d : Meaning D) (before : Places) (old new : S) (first last : List (Session D g)) (number : ℕ) (role : Role)
+    → found_at number first ≡ None → found_at number last ≡ None → AllLend d before (m.disk old) first → FailsAt m d old new number role → DeviceFails m d before old new last number role
+fails_from {S} {D} {g} m d before old new first last number role was none lends (rose, fails) =
+    let home : LeavesSession before (m.disk old) number = subst (λ (o : Option (Session D g)). Lends d before (m.disk old) number o) was (lends number) in
+    inl (
+      none,
+      rose,
+      elim fails [
+        | inl given ↦ inl (record { asked = given.asked; answered = given.answered; still = given.still; rose = given.rose; taken = given.taken; there = λ other later. given.there other later ∙ home other })
+        | inr back ↦ inr back
+      ],
+    )
+
 reads_same : (before mid : Places) (id : ℕ) → LeavesSession before mid id → (role : Role) → reading_at mid id role ≡ reading_at before id role
 reads_same before mid id same role = ap reading_in (same role)
 
@@ -496,7 +519,7 @@ module _ {D : Type 0} {g : Ghosts D} (d : Meaning D) (line : Line) (number place
       pub not_begun : (outcome : Outcome) → Begins {g = g} d mid now line (Err outcome) → (outcome ≡ outcomes.Refused → now ≡ mid) → BeginDoes d before now script line first outcome
       not_begun outcomes.Applied h same = absurd h
       not_begun outcomes.Unwritten h same = absurd h
-      not_begun outcomes.Memory h same = tt
+      not_begun outcomes.Memory h same = stand.each
       not_begun outcomes.Refused h same = (
         refuses_named script line number named (inr (subst (λ (y : Option Begun). IsRefused y line) (sym not_running) h)),
         refl,
@@ -556,7 +579,7 @@ pub begin_turn : {D : Type 0} {g : Ghosts D} (d : Meaning D) (before now : Place
     → TurnDoes d before now t line s held held a a outcome
 begin_turn d before now t line s held a outcomes.Applied h = (([], h.0, gathers_none held a), h.1)
 begin_turn d before now t line s held a outcomes.Refused h = ([], h, gathers_none held a)
-begin_turn d before now t line s held a outcomes.Memory h = tt
+begin_turn d before now t line s held a outcomes.Memory h = h
 begin_turn d before now t line s held a outcomes.Unwritten h = absurd h
 begin_turn d before now t line s held a (outcomes.Stopped fault) h = ([], h, gathers_none held a)
 

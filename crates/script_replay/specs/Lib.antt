@@ -1,4 +1,5 @@
 pub mod Ends
+pub mod Failing
 pub mod Lending
 pub mod Outputs
 pub mod Replays

@@ -180,6 +180,12 @@ pub record IsFinished (shelf : Shelved) {all : Option (List ℕ)} (r : Replayed 
   pub output_is : output ≡ text printed
   pub disks : shelf.keeps r.openings r.sessions.begun printed
 
+-- there was no memory for the next line: nothing is written. At most 4,096 bytes were taken from that line on
+pub record IsWaiting (shelf : Shelved) {all : Option (List ℕ)} (left : Option (List ℕ)) (r : Replayed all) (output : List ℕ) : Type 0 where
+  pub taken : IsNear r.rest left
+  pub output_is : output ≡ []
+  pub disks : shelf.waits r.sessions.begun
+
 -- a read failed, and every whole line that was taken was replayed: the output is what they print, and the fault
 pub record IsUnread (shelf : Shelved) {all : Option (List ℕ)} (left : Option (List ℕ)) (before now : ℕ) (r : Replayed all) (output : List ℕ) : Type 0 where
   pub rose : Rose before now
@@ -215,21 +221,22 @@ IsFailed shelf left r output = (session : ℕ) × IsFailedAt shelf left session 
 abbrev pub IsOverfilled : Shelved → {all : Option (List ℕ)} → Option (List ℕ) → Replayed all → List ℕ → Type 0
 IsOverfilled shelf left r output = (session end size_of_message size : ℕ) × IsStopped shelf left (Full session end size_of_message size) r output
 
--- a disk of this session fails in the next line: the output is what the lines before it print, what it prints up to then,
--- and the fault; the session's `low` lines are the replies of its low history, the refusal of a look whose store failed
--- with them
-pub record IsBroken (shelf : Shelved) {all : Option (List ℕ)} (left : Option (List ℕ)) (session : ℕ) (r : Replayed all) (output : List ℕ) : Type 0 where
+-- the disk of this role of this session fails in the next line: the output is what the lines before it print, what it prints
+-- up to then, and the fault; the session's `low` lines are the replies of its low history, the refusal of a look whose store
+-- failed with them
+pub record IsBroken (shelf : Shelved) {all : Option (List ℕ)} (left : Option (List ℕ)) (session : ℕ) (role : Role) (r : Replayed all) (output : List ℕ) : Type 0 where
   pub next : Breaking r.rest (length r.lines) r.sessions
   pub session_is : session ≡ next.off.session.row.id
+  pub role_is : role ≡ next.off.role
   pub taken : IsNear r.rest left
   pub output_is : output ≡ text (r.events ++ next.printed) ++ fault_line (Device next.off.session.row.id next.off.role)
   pub replies : LowReplies next.off.session.row next.off.past.history (low_lines (events_of next.off.session.row.id r.events ++ next.printed))
   pub disks : shelf.breaks r.openings r.sessions.begun (record { row = next.off.session.row; past = next.off.past }) r.events
 
--- a disk can't be taken off the shelf, or fails when it is opened for this session, which the next line is to begin
-pub record IsUnopened (shelf : Shelved) {all : Option (List ℕ)} (left : Option (List ℕ)) (session : ℕ) (r : Replayed all) (output : List ℕ) : Type 0 where
+-- the disk of this role can't be taken off the shelf, or fails when it is opened for this session, which the next line is to
+-- begin
+pub record IsUnopened (shelf : Shelved) {all : Option (List ℕ)} (left : Option (List ℕ)) (session : ℕ) (role : Role) (r : Replayed all) (output : List ℕ) : Type 0 where
   pub row : SessionRow
-  pub role : Role
   pub next : Beginning r.rest (length r.lines) r.sessions row
   pub session_is : session ≡ row.id
   pub taken : IsNear r.rest left
@@ -246,14 +253,18 @@ pub record IsBarred (shelf : Shelved) {all : Option (List ℕ)} (left : Option (
   pub output_is : output ≡ text r.events ++ fault_line (Disk row.id role (why_number why) (why_values why).0 (why_values why).1)
   pub disks : shelf.refuses r.openings r.sessions.begun row role why r.events
 
--- a device of this session stops the script: as a line tells, in a line of a whole session, or when its disks are opened
-abbrev pub IsDownAt : Shelved → {all : Option (List ℕ)} → Option (List ℕ) → ℕ → Replayed all → List ℕ → Type 0
-IsDownAt shelf left session r output = IsFailedAt shelf left session r output
-    ⊎ (IsBroken shelf left session r output
-    ⊎ IsUnopened shelf left session r output)
+-- this disk fails: in a line of a whole session, or when its disks are opened
+abbrev pub IsDiskDown : Shelved → {all : Option (List ℕ)} → Option (List ℕ) → ℕ → Role → Replayed all → List ℕ → Type 0
+IsDiskDown shelf left session role r output = IsBroken shelf left session role r output ⊎ IsUnopened shelf left session role r output
 
-abbrev pub IsDown : Shelved → {all : Option (List ℕ)} → Option (List ℕ) → Replayed all → List ℕ → Type 0
-IsDown shelf left r output = (session : ℕ) × IsDownAt shelf left session r output
+-- a device of this session stops the script: as a line tells, or this disk fails
+abbrev pub IsDownAt : Shelved → {all : Option (List ℕ)} → Option (List ℕ) → ℕ → Role → Replayed all → List ℕ → Type 0
+IsDownAt shelf left session role r output = IsFailedAt shelf left session r output ⊎ IsDiskDown shelf left session role r output
+
+-- so of some session: the fault names the disk that fails, by `fails`
+abbrev pub IsDown : Shelved → (ℕ → Role → Type 0) → {all : Option (List ℕ)} → Option (List ℕ) → Replayed all → List ℕ → Type 0
+IsDown shelf fails left r output = IsFailed shelf left r output
+    ⊎ ((session : ℕ) × (role : Role) × IsDiskDown shelf left session role r output × fails session role)
 
 -- the output is what a replay that has come so far writes, or begins with
 abbrev pub IsOutput : Shelved → {all : Option (List ℕ)} → Option (List ℕ) → ℕ → ℕ → Replayed all → List ℕ → Type 0
@@ -262,7 +273,7 @@ IsOutput shelf left before now r output = ((output ≡ text r.events) × shelf.k
     ⊎ (IsFaulted shelf left r output
     ⊎ (IsUnread shelf left before now r output
     ⊎ (IsOverfilled shelf left r output
-    ⊎ (IsDown shelf left r output
+    ⊎ (((session : ℕ) × (role : Role) × IsDownAt shelf left session role r output)
     ⊎ IsBarred shelf left r output)))))
 
 -- a front of what a replay writes that has taken no more than this of the script
@@ -286,10 +297,10 @@ WroteFront all old new End = (r : Replayed all) × (output : List ℕ) × End r 
 abbrev pub EndsDown : Shelved → {all : Option (List ℕ)} → Option (List ℕ) → Replayed all → List ℕ → Sessions → List Event → Type 0
 EndsDown shelf left r output t printed =
     ((session : ℕ) × (end : IsFailedAt shelf left session r output) × (t ≡ end.next.after) × (printed ≡ r.events ++ end.next.printed))
-    ⊎ (((session : ℕ) × (end : IsBroken shelf left session r output)
+    ⊎ (((session : ℕ) × (role : Role) × (end : IsBroken shelf left session role r output)
     × (t ≡ led_to r.sessions end.next.line (Whole (record { row = end.next.off.session.row; past = end.next.off.past })))
     × (printed ≡ r.events ++ end.next.printed))
-    ⊎ ((session : ℕ) × IsUnopened shelf left session r output × (t ≡ r.sessions) × (printed ≡ r.events)))
+    ⊎ ((session : ℕ) × (role : Role) × IsUnopened shelf left session role r output × (t ≡ r.sessions) × (printed ≡ r.events)))
 
 -- so of a replay that has this status where its output is written
 abbrev pub EndsBy : ℕ → Shelved → {all : Option (List ℕ)} → Option (List ℕ) → ℕ → ℕ → Replayed all → List ℕ → Sessions → List Event → Type 0

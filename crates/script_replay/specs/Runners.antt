@@ -8,9 +8,10 @@ use Rattle.pump_frame.specs.Rows.{IsLawfulRow}
 use Rattle.pump_frame.specs.declared.row.SessionRow.{SessionRow}
 use Rattle.pump_link.specs.Causes.{AppendsFront}
 use Rattle.recovery.specs.Faults.{why_number, why_values}
+use Rattle.stable_buffer.specs.Format.{new_bytes}
 use Rattle.recovery.specs.declared.why.Why.{Why}
 use Rattle.recovery.specs.declared.why.Why.TheVariants as whys
-use Rattle.disk_model.specs.Shelf.{IsOut}
+use Rattle.disk_model.specs.Shelf.{Holdings, OnShelf, IsOut}
 use Rattle.script_reader.specs.Openings.{Openings}
 use Rattle.script_reader.specs.Past.{Past}
 use Rattle.script_reader.specs.declared.event.Event.{Event}
@@ -25,10 +26,11 @@ use Rattle.two_worlds.specs.declared.applied.Stop.{Stop}
 use Rattle.two_worlds.specs.declared.applied.Stop.TheVariants as stops
 use Rattle.world_laws.specs.Disks.{StandForLeft}
 use Rattle.two_worlds.specs.Pumps as pump
-use Rattle.script_replay.specs.Sessions.{id_of, IsUp, StandsFor, HasComeTo, SessionApplies, Lends, found_at, EachStandsFor, AllHaveComeTo, AllLend}
-use Rattle.script_replay.specs.Shelves.{Places, disk_name, Shelved, HasFound, IsRefusedFor, LeavesSession, SparesSession, ReadiesSession, OfDisks}
+use Rattle.script_replay.specs.Failing.{FailsBetween}
+use Rattle.script_replay.specs.Sessions.{id_of, IsUp, StandsFor, HasComeTo, HasFailed, SessionApplies, Lends, found_at, EachStandsFor, AllHaveComeTo, AllLend}
+use Rattle.script_replay.specs.Shelves.{Places, disk_name, reading_at, Shelved, HasFound, IsRefusedFor, LeavesSession, ReadsSessionAlike, SparesSession, ReadiesSession, OfDisks}
 use Rattle.script_replay.specs.Outputs.{Gathers}
-use Rattle.script_replay.specs.Replays.{BreaksLine, IsFinished, IsUnread, IsFaulted, IsDownAt, IsBarred, IsOverfilled, IsCutOff, Wrote, WroteFront}
+use Rattle.script_replay.specs.Replays.{BreaksLine, IsFinished, IsWaiting, IsUnread, IsFaulted, IsDownAt, IsBarred, IsOverfilled, IsCutOff, Wrote, WroteFront}
 use Rattle.script_replay.specs.declared.session.Session.{Session}
 use Rattle.script_replay.specs.declared.session.Session.TheVariants as sessions
 use Rattle.script_replay.specs.declared.sessions.Sessions.{Sessions}
@@ -112,10 +114,23 @@ AllLent d before now begun o running = (number : ℕ) → LentAt d before now nu
 abbrev pub OthersLent : {D : Type 0} {g : _} → Meaning D → Places → Places → ℕ → List (Session D g) → Openings → List Begun → Type 0
 OthersLent d before now one begun o running = (number : ℕ) → (number ≡ one → ⊥) → LentAt d before now number (found_at number begun) o (session_at number running)
 
+-- before any line came that needs not stand first: each disk of the session reads what was read of it at first, or it was
+-- empty, and is a new one of its row
+abbrev pub IsFresh : {D : Type 0} {g : _} → Meaning D → Places → Places → ℕ → Option (Session D g) → Type 0
+IsFresh d before now number (Some (sessions.Whole id p)) =
+    (role : Role) → (d.reading (pump.disk_at role p) ≡ reading_at before id role)
+    ⊎ ((reading_at before id role ≡ []) × (d.reading (pump.disk_at role p) ≡ new_bytes (pump.row_of p) role 0))
+IsFresh d before now number (Some (sessions.Alone id p)) = ReadsSessionAlike before now number
+IsFresh d before now number None = ReadsSessionAlike before now number
+
+abbrev pub AllFresh : {D : Type 0} {g : _} → Meaning D → Places → Places → List (Session D g) → Type 0
+AllFresh d before now begun = (number : ℕ) → IsFresh d before now number (found_at number begun)
+
 -- what is known of all disks then, by how a replay ends
 abbrev pub lent : {D : Type 0} {g : _} → Meaning D → Places → Places → List (Session D g) → Shelved
 lent d before now begun = record {
   keeps = λ o running printed. AllLent d before now begun o running;
+  waits = λ running. AllFresh d before now begun × AllHaveComeTo d begun running;
   breaks = λ o running s printed. Finds before o (Some (Whole s)) × HasComeTo d (found_at s.row.id begun) (Some (Whole s)) × OthersLent d before now s.row.id begun o running;
   spares = λ o running number printed. (found_at number begun ≡ None) × SparesSession before now number × OthersLent d before now number begun o running;
   refuses = λ o running row role why printed. (found_at row.id begun ≡ None) × IsRefusedFor before row role why × ReadiesSession before now row × OthersLent d before now row.id begun o running;
@@ -150,6 +165,18 @@ Begins d before now line (Err (outcomes.Stopped fault)) = (row : SessionRow) × 
 Begins d before now line (Err outcomes.Memory) = Unit {0}
 Begins d before now line (Err outcomes.Applied) = ⊥
 Begins d before now line (Err outcomes.Unwritten) = ⊥
+
+-- so of the disks of this number after a line that was to begin its session
+abbrev pub StartsFresh : {D : Type 0} {g : _} → Meaning D → Places → Places → ℕ → Result (Session D g) Outcome → Type 0
+StartsFresh d before now number (Ok session) = IsFresh d before now number (Some session)
+StartsFresh d before now number (Err outcomes.Memory) = ReadsSessionAlike before now number
+StartsFresh d before now number (Err outcome) = Unit {0}
+
+-- .. and of all disks after a line
+abbrev pub FreshAfter : {D : Type 0} {g : _} → Meaning D → Places → Places → Sessions D g → Outcome → Type 0
+FreshAfter d before now sessions outcomes.Applied = sessions.is_under_way ≡ false → AllFresh d before now sessions.begun.items
+FreshAfter d before now sessions outcomes.Memory = AllFresh d before now sessions.begun.items
+FreshAfter d before now sessions outcome = Unit {0}
 
 -- a line of the running session, which leaves it as this: what it prints was added to what was held, or could not be written
 abbrev pub GoesSo : {D : Type 0} {g : _} → Meaning D → Begun → Line → Session D g → List ℕ → List ℕ → Option (List ℕ) → Option (List ℕ) → Outcome → Type 0
@@ -192,12 +219,13 @@ TurnGoes d before now t line begun printed outcomes.Unwritten = ⊥
 abbrev pub IsInStep : {D : Type 0} {g : _} → Sessions D g → Script → Type 0
 IsInStep sessions u = (sessions.moment ≡ u.moment) × (sessions.is_under_way ≡ u.is_under_way)
 
--- a line where its session isn't there, or one that stands first: it prints nothing; of want of memory nothing is said
+-- a line where its session isn't there, or one that stands first: it prints nothing; where memory is wanting the sessions are
+-- those before it
 abbrev pub BeginDoes : {D : Type 0} {g : _} → Meaning D → Places → Places → Script → Line → Sessions D g → Outcome → Type 0
 BeginDoes d before now t line sessions outcomes.Applied = (goes : TurnGoes d before now t line sessions.begun.items [] outcomes.Applied) × IsInStep sessions goes.0
 BeginDoes d before now t line sessions outcomes.Refused = TurnGoes d before now t line sessions.begun.items [] outcomes.Refused
 BeginDoes d before now t line sessions (outcomes.Stopped fault) = TurnGoes d before now t line sessions.begun.items [] (outcomes.Stopped fault)
-BeginDoes d before now t line sessions outcomes.Memory = Unit {0}
+BeginDoes d before now t line sessions outcomes.Memory = EachStandsFor d sessions.begun.items t.begun
 BeginDoes d before now t line sessions outcomes.Unwritten = ⊥
 
 -- it goes so, and what it prints was added to what was held
@@ -205,14 +233,15 @@ abbrev pub Adds : {D : Type 0} {g : _} → Meaning D → Places → Places → S
 Adds d before now t line begun held later old new outcome =
     (printed : List Event) × TurnGoes d before now t line begun printed outcome × Gathers held later old new (text printed)
 
--- so, or what was held and what it prints could not be written; of a line for which memory is wanting see `TurnIsQuiet`
+-- so, or what was held and what it prints could not be written; of a line for which memory is wanting see `TurnIsQuiet` and
+-- `FreshAfter` too
 abbrev pub TurnDoes : {D : Type 0} {g : _} → Meaning D → Places → Places → Script → Line → Sessions D g → List ℕ → List ℕ → Option (List ℕ) → Option (List ℕ) → Outcome → Type 0
 TurnDoes d before now t line sessions held later old new outcomes.Unwritten =
     (printed : List Event) × (outcome : Outcome) × TurnGoes d before now t line sessions.begun.items printed outcome × AppendsFront old new (held ++ text printed)
 TurnDoes d before now t line sessions held later old new outcomes.Applied =
     (adds : Adds d before now t line sessions.begun.items held later old new outcomes.Applied) × IsInStep sessions adds.1.0
 TurnDoes d before now t line sessions held later old new outcomes.Refused = Adds d before now t line sessions.begun.items held later old new outcomes.Refused
-TurnDoes d before now t line sessions held later old new outcomes.Memory = Unit {0}
+TurnDoes d before now t line sessions held later old new outcomes.Memory = EachStandsFor d sessions.begun.items t.begun
 TurnDoes d before now t line sessions held later old new (outcomes.Stopped fault) = Adds d before now t line sessions.begun.items held later old new (outcomes.Stopped fault)
 
 -- before any line came that needs not stand first nothing is printed, and only then is memory wanting
@@ -229,12 +258,12 @@ Closes old new before now bytes end result =
 -- how a replay ends
 abbrev pub EndsAs : Shelved → Option (List ℕ) → Option (List ℕ) → Option (List ℕ) → Option (List ℕ) → ℕ → ℕ → Ended → Type 0
 EndsAs shelf all left old new before now ended.Done = Wrote all old new (IsFinished shelf)
-EndsAs shelf all left old new before now ended.Memory = Unit {0}
+EndsAs shelf all left old new before now ended.Memory = Wrote all old new (IsWaiting shelf left)
 EndsAs shelf all left old new before now ended.Write = WroteFront all old new (IsCutOff shelf left before now)
 EndsAs shelf all left old new before now (ended.Stopped faults.Words) = ⊥
 EndsAs shelf all left old new before now (ended.Stopped faults.Read) = Wrote all old new (IsUnread shelf left before now)
 EndsAs shelf all left old new before now (ended.Stopped (faults.Script number)) = Wrote all old new (IsFaulted shelf left)
-EndsAs shelf all left old new before now (ended.Stopped (faults.Device session role)) = Wrote all old new (IsDownAt shelf left session)
+EndsAs shelf all left old new before now (ended.Stopped (faults.Device session role)) = Wrote all old new (IsDownAt shelf left session role)
 EndsAs shelf all left old new before now (ended.Stopped (faults.Disk session role number first second)) = Wrote all old new (IsBarred shelf left)
 EndsAs shelf all left old new before now (ended.Stopped (faults.Full session end size_of_message size)) = Wrote all old new (IsOverfilled shelf left)
 
@@ -258,11 +287,11 @@ AreOut now None = Unit {0}
 abbrev pub AllAreOut : {D : Type 0} {g : _} → Places → List (Session D g) → Type 0
 AllAreOut now begun = (number : ℕ) → AreOut now (found_at number begun)
 
--- the session was left: its disks are on the shelf, where whatever they stand for when it has come to some past is read;
--- a number that has no session with disks has them where they were
+-- the session was left: its disks are on the shelf, where what they read is read, and whatever they stand for when it has
+-- come to some past; a number that has no session with disks has them where they were
 abbrev pub LeftAs : {D : Type 0} {g : _} → Type 0 → Meaning D → Places → Places → ℕ → Option (Session D g) → Type 0
 LeftAs tells d mid after number (Some (sessions.Whole id p)) =
-    (tells → (role : Role) → IsOut (after (disk_name id role)) → ⊥)
+    (tells → (role : Role) → after (disk_name id role) ≡ OnShelf (d.reading (pump.disk_at role p)))
     × (tells → d.tells → (q : Past) → pump.StandsOrFails d p q → OfDisks after id (StandForLeft (pump.row_of p) q.world))
 LeftAs tells d mid after number (Some (sessions.Alone id p)) = LeavesSession mid after number
 LeftAs tells d mid after number None = LeavesSession mid after number
@@ -275,20 +304,22 @@ abbrev pub IsAloneOr : {D : Type 0} {g : _} → Option (Session D g) → Type 0 
 IsAloneOr (Some (sessions.Alone id p)) P = Unit {0}
 IsAloneOr session P = P
 
--- a disk of a session failed, or a low side alone is told so
-abbrev pub IsDeviceOutcome : Outcome → Type 0
-IsDeviceOutcome (outcomes.Stopped (faults.Device session role)) = Unit {0}
-IsDeviceOutcome outcome = ⊥
+-- the disk of this role of the session of this number failed, or its low side alone is told so
+abbrev pub IsDeviceFaultAt : ℕ → Role → Fault → Type 0
+IsDeviceFaultAt number role (faults.Device session other) = (session ≡ number) × (other ≡ role)
+IsDeviceFaultAt number role fault = ⊥
 
--- .. of the session of this number
-abbrev pub IsDeviceFaultAt : ℕ → Fault → Type 0
-IsDeviceFaultAt number (faults.Device session role) = session ≡ number
-IsDeviceFaultAt number fault = ⊥
+abbrev pub IsDeviceOutcomeOf : ℕ → Role → Outcome → Type 0
+IsDeviceOutcomeOf number role (outcomes.Stopped fault) = IsDeviceFaultAt number role fault
+IsDeviceOutcomeOf number role outcome = ⊥
 
-abbrev pub IsDeviceOutcomeOf : ℕ → Outcome → Type 0
-IsDeviceOutcomeOf number (outcomes.Stopped fault) = IsDeviceFaultAt number fault
-IsDeviceOutcomeOf number outcome = ⊥
+abbrev pub IsDeviceFaultOf : ℕ → Role → Ended → Type 0
+IsDeviceFaultOf number role (ended.Stopped fault) = IsDeviceFaultAt number role fault
+IsDeviceFaultOf number role end = ⊥
 
-abbrev pub IsDeviceFaultOf : ℕ → Ended → Type 0
-IsDeviceFaultOf number (ended.Stopped fault) = IsDeviceFaultAt number fault
-IsDeviceFaultOf number end = ⊥
+-- it failed when the session was to begin, so that none has, and the shelf's count rose; or the session has begun, and the
+-- disk has failed since it was given
+abbrev pub DeviceFails : {S D : Type 0} {g : _} → Holdings S → Meaning D → Places → S → S → List (Session D g) → ℕ → Role → Type 0
+DeviceFails m d before old new begun number role =
+    ((found_at number begun ≡ None) × Rose (m.disk_faults old) (m.disk_faults new) × FailsBetween m d before (m.disk new) number role)
+    ⊎ HasFailed d (m.disk new) role (found_at number begun)

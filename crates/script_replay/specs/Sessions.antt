@@ -135,12 +135,12 @@ abbrev pub FailedWith : {D : Type 0} {g : _} → Meaning D → Session D g → S
 FailedWith d (sessions.Whole id p) (sessions.Whole other q) role = Rose (d.count (pump.disk_at role p)) (d.count (pump.disk_at role q))
 FailedWith d s t role = Unit {0}
 
--- one of its disks has failed since it was given, if it has any
-abbrev pub HasFailed : {D : Type 0} {g : _} → Meaning D → Places → Option (Session D g) → Type 0
-HasFailed d now (Some (sessions.Whole id p)) =
-    (role : Role) × (given : ℕ) × (now (disk_name id role) ≡ Out given) × Rose given (d.count (pump.disk_at role p))
-HasFailed d now (Some (sessions.Alone id p)) = Unit {0}
-HasFailed d now None = ⊥
+-- its disk of this role has failed since it was given, if it has any
+abbrev pub HasFailed : {D : Type 0} {g : _} → Meaning D → Places → Role → Option (Session D g) → Type 0
+HasFailed d now role (Some (sessions.Whole id p)) =
+    (given : ℕ) × (now (disk_name id role) ≡ Out given) × Rose given (d.count (pump.disk_at role p))
+HasFailed d now role (Some (sessions.Alone id p)) = Unit {0}
+HasFailed d now role None = ⊥
 
 -- ---- all sessions ----
 

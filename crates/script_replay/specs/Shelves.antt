@@ -96,6 +96,10 @@ abbrev pub ReadiesSession : Places → Places → SessionRow → Type 0
 ReadiesSession before after row = (role : Role) → (reading_at after row.id role ≡ reading_at before row.id role)
     ⊎ ((reading_at before row.id role ≡ []) × (reading_at after row.id role ≡ new_bytes row role 0))
 
+-- every disk of the session of this number reads as it did
+abbrev pub ReadsSessionAlike : Places → Places → ℕ → Type 0
+ReadsSessionAlike before after session = (role : Role) → reading_at after session role ≡ reading_at before session role
+
 -- Of a session that began on what its disks were found to hold: they stand for the world that it came to; the receiver's
 -- list is a front of the accepted one, and every accepted message is in it or in the live slots of the low disk; so is, with
 -- the payload that was accepted, every message whose acknowledgement was printed
@@ -143,6 +147,17 @@ abbrev pub AreOthersKept : Places → Places → ℕ → Openings → List Begun
 AreOthersKept before after one o begun printed =
     (number : ℕ) → (number ≡ one → ⊥) → IsKept before after number o (session_at number begun) (events_of number printed)
 
+-- where the session of this number has begun and has disks of the shelf, each reads as it did, or it was empty, and is a new
+-- disk of the session's row; else each reads as it did
+abbrev pub IsReadied : Places → Places → ℕ → Option Begun → Type 0
+IsReadied before after number (Some (Whole s)) = (number ≡ s.row.id) × ReadiesSession before after s.row
+IsReadied before after number (Some (Alone s)) = ReadsSessionAlike before after number
+IsReadied before after number None = ReadsSessionAlike before after number
+
+-- .. of each number, of all these sessions
+abbrev pub AreReadied : Places → Places → List Begun → Type 0
+AreReadied before after begun = (number : ℕ) → IsReadied before after number (session_at number begun)
+
 -- of a session whose last line was cut short by the device of a disk: its world keeps all bounds, the unfinished call was
 -- kept or lost, and no message that was accepted or acknowledged is lost
 pub record BreaksSession (before after : Places) (s : Running) (f : Found) : Type 0 where
@@ -157,6 +172,8 @@ pub record BreaksSession (before after : Places) (s : Running) (f : Found) : Typ
 pub record Shelved : Type 1 where
   -- each has come to this
   pub keeps : Openings → List Begun → List Event → Type 0
+  -- no line has come yet that needs not stand first, and memory was wanting for the next one
+  pub waits : List Begun → Type 0
   -- the last line of this one was cut short by the device of a disk
   pub breaks : Openings → List Begun → Running → List Event → Type 0
   -- a disk of the session of this number could not be taken off the shelf, or failed when it was to be opened
@@ -167,6 +184,7 @@ pub record Shelved : Type 1 where
 abbrev pub shelved : Places → Places → Shelved
 shelved before after = record {
   keeps = AreKept before after;
+  waits = AreReadied before after;
   breaks = λ o begun s printed. BreaksSession before after s (o s.row.id) × AreOthersKept before after s.row.id o begun printed;
   spares = λ o begun number printed. SparesSession before after number × AreOthersKept before after number o begun printed;
   refuses = λ o begun row role why printed. IsRefusedFor before row role why × ReadiesSession before after row × AreOthersKept before after row.id o begun printed;

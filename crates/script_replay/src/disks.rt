@@ -7,6 +7,7 @@ ghost use Rattle.disk_model.specs.declared.shelf.ShelfFault.TheVariants.{Failed}
 ghost use Rattle.pump_frame.specs.Counts.{Rose};
 ghost use Rattle.script_replay.specs.Shelves.{disk_name, LeavesOtherSessions, AllAreBack, ReadsAlike, Spares};
 ghost use Rattle.script_replay.specs.Lending.{IsOutAt, ReadAt, RisesAt, AreOnShelf};
+ghost use Rattle.script_replay.specs.Failing.{IsNotGiven};
 
 use disk_model::{Disk, DiskName, Role, Shelf, ShelfFault};
 
@@ -55,6 +56,7 @@ pub fn take_disks<S: Shelf>(shelf: &mut S, session: u32) -> Result<TakenDisks<S:
     ensures alike { IfErr result (λ e. S.told.tells → ReadsAlike (S.told.disk shelf.old) (S.told.disk shelf.new)) }
     ensures later { S.told.disk_faults shelf.old ≤ S.told.disk_faults shelf.new }
     ensures cause { IfErr result (λ e. e.fault ≡ Failed → Rose (S.told.disk_faults shelf.old) (S.told.disk_faults shelf.new)) }
+    ensures asked { IfErr result (λ e. e.fault ≡ Failed → IsNotGiven S.told (S.told.disk shelf.old) session e.role) }
 {
     let low = take_disk(shelf, session, Role::Low)?;
     let high = match take_disk(shelf, session, Role::High) {

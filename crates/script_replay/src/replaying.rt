@@ -2,6 +2,7 @@
 
 ghost use Rattle.std.specs.Prelude.{◌≡◌, ◌<◌, ◌≤◌, ◌⊎◌, ℕ, [], ◌++◌, List, Some, OnOk, OnErr};
 ghost use Rattle.std.specs.Io.KnownBytes.{Appends};
+ghost use Rattle.disk_model.specs.declared.name.Role.{Role as DiskRole};
 ghost use Rattle.pump_frame.specs.Counts.{Rose};
 ghost use Rattle.pump_link.specs.Causes.{HasCause, AppendsFront};
 ghost use Rattle.script_reader.specs.Lines.{LineIsReady};
@@ -12,9 +13,10 @@ ghost use Rattle.two_worlds.specs.Printing.{lines_in};
 ghost use Rattle.script_replay.specs.Sessions.{id_of, HasFailed, found_at, Rise, AreInOrder, AllStandFor};
 ghost use Rattle.script_replay.specs.Outputs.{held_of, Gathers};
 ghost use Rattle.script_replay.specs.Ends.{end_status, EndsReplay};
+ghost use Rattle.script_replay.specs.Failing.{FailsAt};
 ghost use Rattle.script_replay.specs.Replays.{IsFailed, Wrote};
 ghost use Rattle.script_replay.specs.Shelves.{AllAreBack, LeavesOtherSessions, shelved};
-ghost use Rattle.script_replay.specs.Runners.{AllHandOver, AreOut, AllAreOut, LeftAs, AllLeftAs, IsAloneOr, lent, Closes, EndsAs, IsDeviceFaultOf};
+ghost use Rattle.script_replay.specs.Runners.{AllHandOver, AreOut, AllAreOut, LeftAs, AllLeftAs, IsAloneOr, lent, Closes, EndsAs, IsDeviceFaultOf, DeviceFails};
 
 use crate::disks::put_disks_back;
 use crate::ended::Ended;
@@ -48,7 +50,7 @@ fn finish<D: Disk, O: Sink>(sessions: &Sessions<D>, output: &mut Output, out: &m
     ensures ends { (t : Script) → AllStandFor D.told sessions.now t → (last : List Printed) × AllEnd t.begun last
         × Closes (O.written out.old) (O.written out.new) (O.faults out.old) (O.faults out.new) (held_of output.old ++ text last) Ended.Done result }
     ensures cause { result ≡ Ended.Write → Rose (O.faults out.old) (O.faults out.new) }
-    ensures other { (number : ℕ) → IsDeviceFaultOf number result → ⊥ }
+    ensures other { (number : ℕ) (role : DiskRole) → IsDeviceFaultOf number role result → ⊥ }
     ensures memory { result ≡ Ended.Memory → ⊥ }
     ensures words { result ≡ Ended.Stopped Fault.Words → ⊥ }
     ensures read { result ≡ Ended.Stopped Fault.Read → ⊥ }
@@ -105,7 +107,7 @@ fn run<S: Shelf, I: Source, O: Sink>(
         (I.left script.old) (I.left script.new) (O.written out.old) (O.written out.new) (I.faults script.old) (I.faults script.new) result }
     ensures hands { AllHandOver S.told.tells S.Disk.told (S.told.disk shelf.old) (S.told.disk shelf.new) sessions.new.begun.items }
     ensures rise { Rise sessions.new.begun.items }
-    ensures device { (number : ℕ) → IsDeviceFaultOf number result → Rose (S.told.disk_faults shelf.old) (S.told.disk_faults shelf.new) ⊎ HasFailed S.Disk.told (S.told.disk shelf.new) (found_at number sessions.new.begun.items) }
+    ensures device { (number : ℕ) (role : DiskRole) → IsDeviceFaultOf number role result → DeviceFails S.told S.Disk.told (S.told.disk shelf.old) shelf.old shelf.new sessions.new.begun.items number role }
     ensures memory { result ≡ Ended.Memory → Appends (O.written out.old) (O.written out.new) [] }
     ensures later { S.told.disk_faults shelf.old ≤ S.told.disk_faults shelf.new }
     ensures write { result ≡ Ended.Write → Rose (O.faults out.old) (O.faults out.new) }
@@ -150,7 +152,7 @@ fn leave<S: Shelf>(session: Session<S::Disk>, shelf: &mut S)
     requires { AreOut (S.told.disk shelf.old) (Some session) }
     ensures others { LeavesOtherSessions (S.told.disk shelf.old) (S.told.disk shelf.new) (id_of session) }
     ensures left { LeftAs S.told.tells S.Disk.told (S.told.disk shelf.old) (S.told.disk shelf.new) (id_of session) (Some session) }
-    ensures failed { HasFailed S.Disk.told (S.told.disk shelf.old) (Some session) → IsAloneOr (Some session) (Rose (S.told.disk_faults shelf.old) (S.told.disk_faults shelf.new)) }
+    ensures failed { (role : DiskRole) → HasFailed S.Disk.told (S.told.disk shelf.old) role (Some session) → IsAloneOr (Some session) (Rose (S.told.disk_faults shelf.old) (S.told.disk_faults shelf.new)) }
     ensures later { S.told.disk_faults shelf.old ≤ S.told.disk_faults shelf.new }
 {
     if let Session::Whole { id, pump } = session {
@@ -164,7 +166,7 @@ fn leave_all<S: Shelf>(sessions: Sessions<S::Disk>, shelf: &mut S)
     requires out { AllAreOut (S.told.disk shelf.old) sessions.begun.items }
     requires rise { Rise sessions.begun.items }
     ensures left { AllLeftAs S.told.tells S.Disk.told (S.told.disk shelf.old) (S.told.disk shelf.new) sessions.begun.items }
-    ensures failed { (number : ℕ) → HasFailed S.Disk.told (S.told.disk shelf.old) (found_at number sessions.begun.items)
+    ensures failed { (number : ℕ) (role : DiskRole) → HasFailed S.Disk.told (S.told.disk shelf.old) role (found_at number sessions.begun.items)
         → IsAloneOr (found_at number sessions.begun.items) (Rose (S.told.disk_faults shelf.old) (S.told.disk_faults shelf.new)) }
     ensures later { S.told.disk_faults shelf.old ≤ S.told.disk_faults shelf.new }
 {
@@ -183,7 +185,8 @@ fn leave_all<S: Shelf>(sessions: Sessions<S::Disk>, shelf: &mut S)
 /// `session` lines take off the shelf are back on it at the return, however it ends:
 ///
 /// - `Done`: the script was read to its end, and its transcript was written.
-/// - `Memory`: there was not enough memory; nothing was written.
+/// - `Memory`: there was not enough memory; nothing was written, and each disk reads as it did, or it was
+///   empty and is a new one of its session's row.
 /// - `Write`: the output could not be written; a front of what is to be written was.
 /// - `Stopped`: the transcript of the lines before was written, what this line printed, and the fault:
 ///   the script could not be read; a line is outside the grammar or can't be applied; a disk of a session
@@ -198,7 +201,7 @@ pub fn replay<S: Shelf, I: Source, O: Sink>(
     script: &mut I,
     out: &mut O,
 ) -> Ended
-    ensures ends { S.told.tells → S.Disk.told.tells → EndsReplay (end_status result) (S.told.disk shelf.old) (S.told.disk shelf.new)
+    ensures ends { S.told.tells → S.Disk.told.tells → EndsReplay (end_status result) (S.told.disk shelf.old) (S.told.disk shelf.new) (FailsAt S.told S.Disk.told shelf.old shelf.new)
         (I.left script.old) (I.left script.new) (O.written out.old) (O.written out.new) (I.faults script.old) (I.faults script.new) }
     ensures memory { end_status result ≡ 1 → Appends (O.written out.old) (O.written out.new) [] }
     ensures words { end_status result ≡ 2 → ⊥ }

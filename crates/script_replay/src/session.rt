@@ -12,6 +12,8 @@ ghost use Rattle.script_reader.specs.Scripts.{Begun, Alone, Ends, made_coarse};
 ghost use Rattle.script_reader.specs.Sessions.{moment_of, stands_first};
 ghost use Rattle.two_worlds.specs.declared.applied.Stop.TheVariants as stops;
 ghost use Rattle.two_worlds.specs.Printing.{lines_in};
+ghost use Rattle.script_replay.specs.Runners.{IsFresh};
+ghost use Rattle.script_replay.specs.Shelves.{Places};
 ghost use Rattle.script_replay.specs.Sessions.{id_of, is_coarse, IsUp, IsAlone, StandsFor, SessionApplies, GoesOnWith, FailedWith};
 
 use arrayvec::ArrayVec;
@@ -69,6 +71,7 @@ impl<D: Disk> Session<D> {
         ensures stands { (running : Begun) → StandsFor D.told self.old running → StandsFor D.told self.new (made_coarse running) }
         ensures up { IsUp self.old → IsUp self.new }
         ensures with { GoesOnWith D.told self.old self.new }
+        ensures fresh { (before now : Places) (number : ℕ) → IsFresh D.told before now number (Some self.old) → IsFresh D.told before now number (Some self.new) }
     {
         match self {
             Session::Whole { pump, .. } => pump.make_coarse(),

@@ -1,6 +1,6 @@
 //! A line of a script: of the session that it names, or that it begins.
 
-ghost use Rattle.std.specs.Prelude.{◌≡◌, ◌≢◌, ◌<◌, ◌≤◌, ◌⊎◌, ℕ, true, false, length, Some, IfOk, IfErr, vec_len};
+ghost use Rattle.std.specs.Prelude.{◌≡◌, ◌≢◌, ◌<◌, ◌≤◌, ℕ, true, false, length, None, Some, IfOk, IfErr, vec_len};
 ghost use Rattle.disk_model.specs.declared.name.Role.{Role as DiskRole};
 ghost use Rattle.pump_frame.specs.Counts.{Rose};
 ghost use Rattle.pump_frame.specs.Rows.{IsLawfulRow};
@@ -11,8 +11,9 @@ ghost use Rattle.script_reader.specs.Scripts.{Begun};
 ghost use Rattle.script_reader.specs.Sessions.{Sessions as Script, session_in, begins_session as begins, stands_first as is_first, is_in_turn};
 ghost use Rattle.script_replay.specs.Sessions.{id_of, IsUp, StandsFor, LendsNew, GoesOnWith, FailedWith, HasFailed, found_at, IsPlaced, AreInOrder, AllStandFor, AllLend};
 ghost use Rattle.script_replay.specs.Outputs.{held_of};
+ghost use Rattle.script_replay.specs.Failing.{FailsAt};
 ghost use Rattle.script_replay.specs.Shelves.{Places, AllAreBack, LeavesOtherSessions};
-ghost use Rattle.script_replay.specs.Runners.{AllAreUp, outcome_of, outcome_at, Begins, GoesSo, TurnDoes, BeginDoes, TurnIsQuiet, AllHandOver, IsDeviceOutcome, IsDeviceOutcomeOf, StopsByLine, IsOfBeginning};
+ghost use Rattle.script_replay.specs.Runners.{AllAreUp, outcome_of, outcome_at, Begins, GoesSo, TurnDoes, BeginDoes, TurnIsQuiet, AllHandOver, IsDeviceOutcomeOf, DeviceFails, AllFresh, StartsFresh, FreshAfter, StopsByLine, IsOfBeginning};
 
 use crate::disks::{put_disks_back, take_disks};
 use crate::outcome::{Outcome, outcome_at, outcome_of, untaken};
@@ -37,6 +38,7 @@ fn begin_whole<S: Shelf>(
     requires lawful { IsLawfulRow row.now }
     ensures begins { S.told.tells → S.Disk.told.tells
         → Begins S.Disk.told (S.told.disk shelf.old) (S.told.disk shelf.new) (Line.Session row.now) result }
+    ensures fresh { S.told.tells → S.Disk.told.tells → StartsFresh S.Disk.told (S.told.disk shelf.old) (S.told.disk shelf.new) row.now.id result }
     ensures lends { IfOk result (λ session. LendsNew S.Disk.told (S.told.disk shelf.old) (S.told.disk shelf.new) session) }
     ensures up { IfOk result (λ session. IsUp session) }
     ensures id { IfOk result (λ session. id_of session ≡ row.now.id) }
@@ -44,7 +46,8 @@ fn begin_whole<S: Shelf>(
     ensures others { LeavesOtherSessions (S.told.disk shelf.old) (S.told.disk shelf.new) row.now.id }
     ensures line { IfErr result (λ outcome. StopsByLine outcome × IsOfBeginning outcome) }
     ensures refused { IfErr result (λ outcome. outcome ≡ Outcome.Refused → ⊥) }
-    ensures device { IfErr result (λ outcome. IsDeviceOutcome outcome → Rose (S.told.disk_faults shelf.old) (S.told.disk_faults shelf.new)) }
+    ensures device { IfErr result (λ outcome. (number : ℕ) (role : DiskRole) → IsDeviceOutcomeOf number role outcome
+        → (number ≡ row.now.id) × FailsAt S.told S.Disk.told shelf.old shelf.new number role) }
     ensures later { S.told.disk_faults shelf.old ≤ S.told.disk_faults shelf.new }
 {
     let disks = match take_disks(shelf, row.id) {
@@ -69,6 +72,7 @@ fn begin_alone<D: Disk>(
     requires lawful { IsLawfulRow row.now }
     requires count { IsCount next held }
     ensures begins { (before : Places) → Begins D.told before before (Line.LowSession row.now next held) result }
+    ensures fresh { (before : Places) → StartsFresh D.told before before row.now.id result }
     ensures lends { (before : Places) → IfOk result (λ session. LendsNew D.told before before session) }
     ensures up { IfOk result (λ session. IsUp session) }
     ensures id { IfOk result (λ session. id_of session ≡ row.now.id) }
@@ -91,6 +95,8 @@ fn begin<S: Shelf>(
     requires some { line_with body.now line.now ≢ Line.Skip }
     ensures begins { S.told.tells → S.Disk.told.tells
         → Begins S.Disk.told (S.told.disk shelf.old) (S.told.disk shelf.new) (line_with body.now line.now) result }
+    ensures fresh { S.told.tells → S.Disk.told.tells → (number : ℕ) → session_in (line_with body.now line.now) ≡ Some number
+        → StartsFresh S.Disk.told (S.told.disk shelf.old) (S.told.disk shelf.new) number result }
     ensures lends { IfOk result (λ session. LendsNew S.Disk.told (S.told.disk shelf.old) (S.told.disk shelf.new) session) }
     ensures up { IfOk result (λ session. IsUp session) }
     ensures id { IfOk result (λ session. session_in (line_with body.now line.now) ≡ Some (id_of session)) }
@@ -100,7 +106,8 @@ fn begin<S: Shelf>(
     ensures line { IfErr result (λ outcome. StopsByLine outcome × IsOfBeginning outcome) }
     ensures memory { IfErr result (λ outcome. outcome ≡ Outcome.Memory → begins (line_with body.now line.now) ≡ true) }
     ensures refused { IfErr result (λ outcome. outcome ≡ Outcome.Refused → S.told.disk shelf.new ≡ S.told.disk shelf.old) }
-    ensures device { IfErr result (λ outcome. IsDeviceOutcome outcome → Rose (S.told.disk_faults shelf.old) (S.told.disk_faults shelf.new)) }
+    ensures device { IfErr result (λ outcome. (number : ℕ) (role : DiskRole) → IsDeviceOutcomeOf number role outcome
+        → (session_in (line_with body.now line.now) ≡ Some number) × FailsAt S.told S.Disk.told shelf.old shelf.new number role) }
     ensures later { S.told.disk_faults shelf.old ≤ S.told.disk_faults shelf.new }
 {
     // What begins a session has no body.
@@ -138,7 +145,7 @@ fn go_on<D: Disk, O: Sink>(
     ensures with { GoesOnWith D.told session.old session.new }
     ensures line { StopsByLine result }
     ensures memory { result ≡ Outcome.Memory → ⊥ }
-    ensures device { (number : ℕ) → IsDeviceOutcomeOf number result → (id_of session.new ≡ number) × (role : DiskRole) × FailedWith D.told session.old session.new role }
+    ensures device { (number : ℕ) (role : DiskRole) → IsDeviceOutcomeOf number role result → (id_of session.new ≡ number) × FailedWith D.told session.old session.new role }
     ensures later { O.faults out.old ≤ O.faults out.new }
     ensures cause { result ≡ Outcome.Unwritten → Rose (O.faults out.old) (O.faults out.new) }
 {
@@ -170,6 +177,8 @@ fn begin_at<S: Shelf>(
     ensures does { S.told.tells → S.Disk.told.tells → (before : Places) → AllLend S.Disk.told before (S.told.disk shelf.old) sessions.old.begun.items
         → (t : Script) → AllStandFor S.Disk.told sessions.old t → is_in_turn t (line_with body.now line.now) ≡ true
         → BeginDoes S.Disk.told before (S.told.disk shelf.new) t (line_with body.now line.now) sessions.new result }
+    ensures fresh { S.told.tells → S.Disk.told.tells → (before : Places) → AllFresh S.Disk.told before (S.told.disk shelf.old) sessions.old.begun.items
+        → FreshAfter S.Disk.told before (S.told.disk shelf.new) sessions.new result }
     ensures hands { (before : Places) → AllLend S.Disk.told before (S.told.disk shelf.old) sessions.old.begun.items
         → AllHandOver S.told.tells S.Disk.told before (S.told.disk shelf.new) sessions.new.begun.items }
     ensures goes { result ≡ Outcome.Applied → (before : Places) → AllLend S.Disk.told before (S.told.disk shelf.old) sessions.old.begun.items
@@ -178,7 +187,8 @@ fn begin_at<S: Shelf>(
     ensures memory { result ≡ Outcome.Memory → sessions.old.is_under_way ≡ false }
     ensures line { StopsByLine result }
     ensures written { result ≡ Outcome.Unwritten → ⊥ }
-    ensures device { (number : ℕ) → IsDeviceOutcomeOf number result → Rose (S.told.disk_faults shelf.old) (S.told.disk_faults shelf.new) }
+    ensures device { (number : ℕ) (role : DiskRole) → IsDeviceOutcomeOf number role result
+        → (found_at number sessions.old.begun.items ≡ None) × (found_at number sessions.new.begun.items ≡ None) × FailsAt S.told S.Disk.told shelf.old shelf.new number role }
     ensures disks_later { S.told.disk_faults shelf.old ≤ S.told.disk_faults shelf.new }
 {
     match begin(alloc, shelf, line, body) {
@@ -209,13 +219,14 @@ fn coarsen_at<D: Disk>(
     ensures does { (before now : Places) → AllLend D.told before now sessions.old.begun.items
         → (t : Script) → AllStandFor D.told sessions.old t → is_in_turn t (line_with body.now line.now) ≡ true
         → BeginDoes D.told before now t (line_with body.now line.now) sessions.new result }
+    ensures fresh { (before now : Places) → AllFresh D.told before now sessions.old.begun.items → FreshAfter D.told before now sessions.new result }
     ensures lends { (before now : Places) → AllLend D.told before now sessions.old.begun.items → AllLend D.told before now sessions.new.begun.items }
     ensures up { AllAreUp sessions.new.begun.items }
     ensures waits { sessions.old.is_under_way ≡ true → sessions.new.is_under_way ≡ true }
     ensures line { StopsByLine result }
     ensures memory { result ≡ Outcome.Memory → ⊥ }
     ensures written { result ≡ Outcome.Unwritten → ⊥ }
-    ensures device { (number : ℕ) → IsDeviceOutcomeOf number result → ⊥ }
+    ensures device { (number : ℕ) (role : DiskRole) → IsDeviceOutcomeOf number role result → ⊥ }
 {
     // What makes a session coarse has no body.
     let _bytes = body;
@@ -252,12 +263,13 @@ fn go_on_at<D: Disk, O: Sink>(
     ensures does { D.told.tells → (before now : Places) → AllLend D.told before now sessions.old.begun.items
         → (t : Script) → AllStandFor D.told sessions.old t → is_in_turn t (line_with body.now line.now) ≡ true
         → TurnDoes D.told before now t (line_with body.now line.now) sessions.new (held_of output.old) (held_of output.new) (O.written out.old) (O.written out.new) result }
+    ensures fresh { (before now : Places) → AllFresh D.told before now sessions.old.begun.items → FreshAfter D.told before now sessions.new result }
     ensures lends { (before now : Places) → AllLend D.told before now sessions.old.begun.items → AllLend D.told before now sessions.new.begun.items }
     ensures up { result ≡ Outcome.Applied → AllAreUp sessions.new.begun.items }
     ensures quiet { TurnIsQuiet sessions.old sessions.new (held_of output.old) (held_of output.new) (O.written out.old) (O.written out.new) result }
     ensures line { StopsByLine result }
-    ensures device { (number : ℕ) → IsDeviceOutcomeOf number result → (before now : Places) → AllLend D.told before now sessions.old.begun.items
-        → HasFailed D.told now (found_at number sessions.new.begun.items) }
+    ensures device { (number : ℕ) (role : DiskRole) → IsDeviceOutcomeOf number role result → (before now : Places) → AllLend D.told before now sessions.old.begun.items
+        → HasFailed D.told now role (found_at number sessions.new.begun.items) }
     ensures later { O.faults out.old ≤ O.faults out.new }
     ensures cause { result ≡ Outcome.Unwritten → Rose (O.faults out.old) (O.faults out.new) }
 {
@@ -294,14 +306,16 @@ fn turn_of<S: Shelf, O: Sink>(
     ensures does { S.told.tells → S.Disk.told.tells → (before : Places) → AllLend S.Disk.told before (S.told.disk shelf.old) sessions.old.begun.items
         → (t : Script) → AllStandFor S.Disk.told sessions.old t
         → TurnDoes S.Disk.told before (S.told.disk shelf.new) t (line_with body.now line.now) sessions.new (held_of output.old) (held_of output.new) (O.written out.old) (O.written out.new) result }
+    ensures fresh { S.told.tells → S.Disk.told.tells → (before : Places) → AllFresh S.Disk.told before (S.told.disk shelf.old) sessions.old.begun.items
+        → FreshAfter S.Disk.told before (S.told.disk shelf.new) sessions.new result }
     ensures hands { (before : Places) → AllLend S.Disk.told before (S.told.disk shelf.old) sessions.old.begun.items
         → AllHandOver S.told.tells S.Disk.told before (S.told.disk shelf.new) sessions.new.begun.items }
     ensures goes { result ≡ Outcome.Applied → (before : Places) → AllLend S.Disk.told before (S.told.disk shelf.old) sessions.old.begun.items
         → AllLend S.Disk.told before (S.told.disk shelf.new) sessions.new.begun.items × AllAreUp sessions.new.begun.items }
     ensures quiet { TurnIsQuiet sessions.old sessions.new (held_of output.old) (held_of output.new) (O.written out.old) (O.written out.new) result }
     ensures line { StopsByLine result }
-    ensures device { (number : ℕ) → IsDeviceOutcomeOf number result → (before : Places) → AllLend S.Disk.told before (S.told.disk shelf.old) sessions.old.begun.items
-        → Rose (S.told.disk_faults shelf.old) (S.told.disk_faults shelf.new) ⊎ HasFailed S.Disk.told (S.told.disk shelf.new) (found_at number sessions.new.begun.items) }
+    ensures device { (number : ℕ) (role : DiskRole) → IsDeviceOutcomeOf number role result → (before : Places) → AllLend S.Disk.told before (S.told.disk shelf.old) sessions.old.begun.items
+        → DeviceFails S.told S.Disk.told before shelf.old shelf.new sessions.new.begun.items number role }
     ensures disks_later { S.told.disk_faults shelf.old ≤ S.told.disk_faults shelf.new }
     ensures later { O.faults out.old ≤ O.faults out.new }
     ensures cause { result ≡ Outcome.Unwritten → Rose (O.faults out.old) (O.faults out.new) }
@@ -336,14 +350,16 @@ pub fn turn<S: Shelf, O: Sink>(
     ensures does { S.told.tells → S.Disk.told.tells → (before : Places) → AllLend S.Disk.told before (S.told.disk shelf.old) sessions.old.begun.items
         → (t : Script) → AllStandFor S.Disk.told sessions.old t
         → TurnDoes S.Disk.told before (S.told.disk shelf.new) t (line_with body.now line.now) sessions.new (held_of output.old) (held_of output.new) (O.written out.old) (O.written out.new) result }
+    ensures fresh { S.told.tells → S.Disk.told.tells → (before : Places) → AllFresh S.Disk.told before (S.told.disk shelf.old) sessions.old.begun.items
+        → FreshAfter S.Disk.told before (S.told.disk shelf.new) sessions.new result }
     ensures hands { (before : Places) → AllLend S.Disk.told before (S.told.disk shelf.old) sessions.old.begun.items
         → AllHandOver S.told.tells S.Disk.told before (S.told.disk shelf.new) sessions.new.begun.items }
     ensures goes { result ≡ Outcome.Applied → (before : Places) → AllLend S.Disk.told before (S.told.disk shelf.old) sessions.old.begun.items
         → AllLend S.Disk.told before (S.told.disk shelf.new) sessions.new.begun.items × AllAreUp sessions.new.begun.items }
     ensures quiet { TurnIsQuiet sessions.old sessions.new (held_of output.old) (held_of output.new) (O.written out.old) (O.written out.new) result }
     ensures line { StopsByLine result }
-    ensures device { (number : ℕ) → IsDeviceOutcomeOf number result → (before : Places) → AllLend S.Disk.told before (S.told.disk shelf.old) sessions.old.begun.items
-        → Rose (S.told.disk_faults shelf.old) (S.told.disk_faults shelf.new) ⊎ HasFailed S.Disk.told (S.told.disk shelf.new) (found_at number sessions.new.begun.items) }
+    ensures device { (number : ℕ) (role : DiskRole) → IsDeviceOutcomeOf number role result → (before : Places) → AllLend S.Disk.told before (S.told.disk shelf.old) sessions.old.begun.items
+        → DeviceFails S.told S.Disk.told before shelf.old shelf.new sessions.new.begun.items number role }
     ensures disks_later { S.told.disk_faults shelf.old ≤ S.told.disk_faults shelf.new }
     ensures later { O.faults out.old ≤ O.faults out.new }
     ensures cause { result ≡ Outcome.Unwritten → Rose (O.faults out.old) (O.faults out.new) }

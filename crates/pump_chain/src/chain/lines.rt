@@ -2,10 +2,11 @@
 
 ghost use Rattle.std.specs.Prelude.{◌≡◌, ◌^◌, ◌<◌, ◌≤◌, ℕ, List, max, false, [], length, is_none, IfOk, IfErr, OnOk, OnErr};
 ghost use Rattle.disk_model.specs.declared.name.Role.TheVariants as roles;
-ghost use Rattle.pump_chain.specs.Chained.{Chained, OfFirst, OfSecond, MakesFirst, MakesSecond, added, is_frame as adds_frame};
+ghost use Rattle.pump_chain.specs.Chained.{Chained, OfFirst, OfSecond, MakesFirst, MakesSecond, added, is_frame as adds_frame, is_look};
 ghost use Rattle.pump_chain.specs.Failing.{FailNoLess};
-ghost use Rattle.pump_chain.specs.Private.{order_by, is_look, AddsMessage};
-ghost use Rattle.pump_chain.specs.Standing.{ChainStands, AppliesBy, LeavesFronts, IsCounted, chain_is_down};
+ghost use Rattle.pump_chain.specs.Private.{order_by, AddsMessage};
+ghost use Rattle.pump_chain.specs.Standing.{ChainStands, AppliesBy, LeavesFronts, IsCountedBy, chain_is_down};
+ghost use Rattle.script_reader.specs.declared.line.Arriving.TheVariants as arriving;
 ghost use Rattle.script_reader.specs.declared.line.Line.TheVariants as lines;
 ghost use Rattle.script_reader.specs.Heads.{arriving_with, line_with, CanHoldLine};
 ghost use Rattle.script_reader.specs.Lawful.{IsLawfulArriving, IsLawfulLine};
@@ -50,7 +51,7 @@ impl<D: Disk> Chain<D> {
         ensures applies { D.told.tells → (c : Chained) → ChainStands D.told self.old c → AppliesBy D.told self.old self.new c MakesFirst [] result }
         ensures crashes { D.told.tells → (c : Chained) → ChainStands D.told self.old c → LeavesFronts D.told self.old self.new }
         ensures down { chain_is_down self.new ≡ stops_at_disk result }
-        ensures device { IsCounted D.told self.old self.new result }
+        ensures device { IsCountedBy D.told self.old self.new MakesFirst result }
         ensures later { FailNoLess D.told self.old self.new }
     {
         if self.is_under_way || self.first.is_coarse() {
@@ -66,7 +67,7 @@ impl<D: Disk> Chain<D> {
         ensures applies { D.told.tells → (c : Chained) → ChainStands D.told self.old c → AppliesBy D.told self.old self.new c MakesSecond [] result }
         ensures crashes { D.told.tells → (c : Chained) → ChainStands D.told self.old c → LeavesFronts D.told self.old self.new }
         ensures down { chain_is_down self.new ≡ stops_at_disk result }
-        ensures device { IsCounted D.told self.old self.new result }
+        ensures device { IsCountedBy D.told self.old self.new MakesSecond result }
         ensures later { FailNoLess D.told self.old self.new }
     {
         if self.is_under_way || self.second.is_coarse() {
@@ -108,7 +109,7 @@ impl<D: Disk> Chain<D> {
             → AppliesBy D.told self.old self.new c (OfFirst (line_with bytes.now line.now)) (lines_in events.new.items) result }
         ensures crashes { D.told.tells → (c : Chained) → ChainStands D.told self.old c → LeavesFronts D.told self.old self.new }
         ensures down { chain_is_down self.new ≡ stops_at_disk result }
-        ensures device { IsCounted D.told self.old self.new result }
+        ensures device { IsCountedBy D.told self.old self.new (OfFirst (line_with bytes.now line.now)) result }
         ensures later { FailNoLess D.told self.old self.new }
     {
         if !self.is_in_order(line) {
@@ -136,7 +137,7 @@ impl<D: Disk> Chain<D> {
             → AppliesBy D.told self.old self.new c (OfSecond (line_with bytes.now line.now)) (lines_in events.new.items) result }
         ensures crashes { D.told.tells → (c : Chained) → ChainStands D.told self.old c → LeavesFronts D.told self.old self.new }
         ensures down { chain_is_down self.new ≡ stops_at_disk result }
-        ensures device { IsCounted D.told self.old self.new result }
+        ensures device { IsCountedBy D.told self.old self.new (OfSecond (line_with bytes.now line.now)) result }
         ensures later { FailNoLess D.told self.old self.new }
     {
         if !self.is_in_order(line) {
@@ -199,7 +200,7 @@ impl<D: Disk> Chain<D> {
             → AppliesBy D.told self.old self.new c (OfSecond (lines.Look (row_of self.old.second).id moment word (added c))) (lines_in events.new.items) result }
         ensures crashes { D.told.tells → (c : Chained) → ChainStands D.told self.old c → LeavesFronts D.told self.old self.new }
         ensures down { chain_is_down self.new ≡ stops_at_disk result }
-        ensures device { IsCounted D.told self.old self.new result }
+        ensures device { IsCountedBy D.told self.old self.new (OfSecond (lines.Look (row_of self.old.second).id moment word arriving.Nothing)) result }
         ensures later { FailNoLess D.told self.old self.new }
     {
         if moment < self.moment() {

@@ -1,8 +1,10 @@
 use Rattle.std.proofs.Common.{inl, inr, length, refl, sym, subst}
+use Rattle.pump_link.proofs.Known.{Appends-none}
 use Rattle.pump_chain.specs.Opening.{trio_of}
 use Rattle.pump_chain.specs.Scripted.{chain_of}
 use Rattle.script_reader.specs.Openings.{new_disks}
 use Rattle.script_reader.specs.Transcript.{fault_line}
+use Rattle.script_replay.specs.Failing.{FailsAt}
 use Rattle.script_replay.specs.Runners.{Closes}
 use Rattle.script_replay.specs.declared.ended.Ended.TheVariants.{Stopped}
 use Rattle.script_replay.proofs.Stops.{closed_not}
@@ -12,14 +14,14 @@ use Rattle.chain_replay.proofs.Joining.{all_back}
 use Rattle.chain_replay.proofs.Mapped.{mapped}
 use Rattle.chain_replay.proofs.Returning.{keeps_so, outlives_so}
 use Rattle.chain_replay.proofs.Taking.{are_out, others_more}
-use Rattle.chain_replay.proofs.Whole.{no_rows, no_pumps, both_begin, not_words, read_rose, stopped_same}
+use Rattle.chain_replay.proofs.Whole.{no_rows, no_pumps, no_memory, both_begin, not_words, read_rose, stopped_same}
 use Rattle.chain_replay.proofs.Failed.{rose_back, not_device}
 use Rattle.chain_replay.proofs.replaying.replay_chain.Goals as goal
 
 pub returns-in-Err-clause-ends : goal.returns-in-Err-clause-ends
 returns-in-Err-clause-ends g c = λ told tells.
     let h = c.in-Err.ensures.halted new_disks in
-    no_rows (shelved (g.S.Shelf.told.disk c.args.shelf.now) (g.S.Shelf.told.disk c.args.shelf.now)) new_disks _ _ _ _ (g.I.Source.faults c.args.script.now) (g.I.Source.faults c.read_rows.new.script) h.0 c.in-Err.fault c.stop.result _ _ h.1 (λ name. refl) h.2 c.stop.ensures
+    no_rows (shelved (g.S.Shelf.told.disk c.args.shelf.now) (g.S.Shelf.told.disk c.args.shelf.now) (FailsAt g.S.Shelf.told g.S.Disk.Disk.told c.args.shelf.now c.args.shelf.now)) new_disks _ _ _ _ (g.I.Source.faults c.args.script.now) (g.I.Source.faults c.read_rows.new.script) h.0 c.in-Err.fault c.stop.result _ _ h.1 (λ name. refl) h.2 c.stop.ensures
 
 pub returns-in-Err-clause-words : goal.returns-in-Err-clause-words
 returns-in-Err-clause-words g c =
@@ -36,9 +38,15 @@ pub returns-in-Err-Some-clause-ends : goal.returns-in-Err-Some-clause-ends
 returns-in-Err-Some-clause-ends g c = λ told tells.
     let closes = subst (λ fault. Closes (g.O.Sink.written c.args.out.now) (g.O.Sink.written c.stop-in-Err-Some.new.out) (g.O.Sink.faults c.args.out.now) (g.O.Sink.faults c.stop-in-Err-Some.new.out) (fault_line fault) (Stopped fault) c.stop-in-Err-Some.result)
     c.in-Err-Some.fault-is c.stop-in-Err-Some.ensures in
-    no_pumps (shelved (g.S.Shelf.told.disk c.args.shelf.now) (g.S.Shelf.told.disk c.open.new.shelf)) new_disks (g.I.Source.left c.args.script.now) (g.I.Source.left c.read_rows.new.script) _ _
+    no_pumps (shelved (g.S.Shelf.told.disk c.args.shelf.now) (g.S.Shelf.told.disk c.open.new.shelf) (FailsAt g.S.Shelf.told g.S.Disk.Disk.told c.args.shelf.now c.open.new.shelf)) new_disks (g.I.Source.left c.args.script.now) (g.I.Source.left c.read_rows.new.script) _ _
     (g.I.Source.faults c.args.script.now) (g.I.Source.faults c.read_rows.new.script) c.read_rows.new.lines c.in-Ok.rows.0 c.in-Ok.rows.1 c.in-Err-Some.fault c.stop-in-Err-Some.result _ _
     c.in-Ok.ensures.follows (c.in-Err-Some.ensures.not told tells c.in-Err-Some.fault c.in-Err-Some.field-0-is) (c.in-Ok.ensures.rows new_disks) c.read_rows.ensures.number closes
+
+pub returns-in-Err-None-clause-ends : goal.returns-in-Err-None-clause-ends
+returns-in-Err-None-clause-ends g c = λ told tells.
+    no_memory (shelved (g.S.Shelf.told.disk c.args.shelf.now) (g.S.Shelf.told.disk c.open.new.shelf) (FailsAt g.S.Shelf.told g.S.Disk.Disk.told c.args.shelf.now c.open.new.shelf)) new_disks (g.I.Source.left c.args.script.now) (g.I.Source.left c.read_rows.new.script) _ _
+    (g.I.Source.faults c.args.script.now) (g.I.Source.faults c.read_rows.new.script) c.read_rows.new.lines c.in-Ok.rows.0 c.in-Ok.rows.1
+    c.in-Ok.ensures.follows (c.in-Err-None.ensures.readies told tells c.in-Err-None.field-0-is) (c.in-Ok.ensures.rows new_disks) c.read_rows.ensures.number (Appends-none _)
 
 pub leave-requires-clause-first : goal.leave-requires-clause-first
 leave-requires-clause-first g c = are_out g.S.Disk.Disk.told (g.S.Shelf.told.disk c.open.new.shelf) c.in-Ok.rows.0.id (trio_of c.in-Ok-open.chain.first) c.in-Ok-open.ensures.first_out
@@ -56,9 +64,9 @@ returns-clause-ends g c = λ told tells.
     let j = c.in-Ok-open.ensures.joins told tells in
     let read = both_begin j.openings all (g.I.Source.left c.read_rows.new.script) c.read_rows.new.lines one two c.in-Ok.ensures.follows j.linked (c.in-Ok.ensures.rows j.openings) c.read_rows.ensures.number in
     let others = others_more before (g.S.Shelf.told.disk c.open.new.shelf) after one.id two.id c.open.ensures.others c.leave.ensures.others in
-    mapped (lent g.S.Disk.Disk.told c.run-ended.new.chain j.openings one two) (shelved before after) (λ h. absurd h)
+    mapped (lent g.S.Disk.Disk.told c.run-ended.new.chain j.openings one two) (shelved before after (FailsAt g.S.Shelf.told g.S.Disk.Disk.told c.args.shelf.now c.leave.new.shelf)) (λ h. absurd h)
     (keeps_so g.S.Disk.Disk.told c.run-ended.new.chain before after j.openings one two j.first_found j.second_found (c.leave.ensures.left told tells) others)
-    (outlives_so g.S.Disk.Disk.told c.run-ended.new.chain before after j.openings one two j.first_found j.second_found (c.leave.ensures.left told tells) others) (λ row other fault h. absurd h)
+    (outlives_so g.S.Disk.Disk.told c.run-ended.new.chain before after j.openings one two j.first_found j.second_found (c.leave.ensures.left told tells) others) (λ row other h. absurd h) (λ row other fault h. absurd h)
     all (g.I.Source.left c.run-ended.new.script) (g.O.Sink.written c.args.out.now) (g.O.Sink.written c.run-ended.new.out) (g.I.Source.faults c.args.script.now) (g.I.Source.faults c.read_rows.new.script) (g.I.Source.faults c.run-ended.new.script)
     c.read_rows.ensures.later c.run-ended.result (c.run-ended.ensures.ends tells j.openings all one two (chain_of j.openings one two) refl j.stands (refl, refl) read)
 

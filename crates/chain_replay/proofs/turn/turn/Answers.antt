@@ -1,5 +1,5 @@
 use Rattle.std.proofs.Common.{List, ℕ, subst}
-use Rattle.pump_chain.specs.Standing.{ChainApplies}
+use Rattle.pump_chain.specs.Standing.{ChainApplies, IsCounted}
 use Rattle.script_reader.specs.Heads.{line_with}
 use Rattle.script_reader.specs.Transcript.{text}
 use Rattle.std.specs.Io.KnownBytes.{Appends}
@@ -36,4 +36,8 @@ returns-in-Err-clause-does g c = λ tells s stands.
 
 pub returns-in-Ok-clause-device : goal.returns-in-Ok-clause-device
 returns-in-Ok-clause-device g c =
-    line_failed g.D.Disk.told c.args.chain.now c.apply_head-stop.new.self c.args.first (line_with c.args.body.now c.args.line.now) c.apply_head-stop.result c.outcome_of.result (c.outcome_of.ensures.is c.args.body.now) c.apply_head-stop.ensures.device
+    let m = g.D.Disk.told in
+    let t = c.apply_head-stop.new.self in
+    let stop = c.apply_head-stop.result in
+    let counts = subst (λ (bytes : List ℕ). IsCounted m c.args.chain.now t (line_with bytes c.args.line.now) stop) c.as_slice.ensures.value c.apply_head-stop.ensures.device in
+    line_failed m c.args.chain.now t c.args.first (line_with c.args.body.now c.args.line.now) stop c.outcome_of.result (c.outcome_of.ensures.is c.args.body.now) counts

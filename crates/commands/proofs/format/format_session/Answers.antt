@@ -1,15 +1,19 @@
-use Rattle.std.proofs.Common.{◌≡◌, List, ℕ, sym, ◌∙◌, subst}
+use Rattle.std.proofs.Common.{◌≡◌, List, ℕ, Err, sym, ap, ◌∙◌, subst}
 use Rattle.commands.specs.Formatting.{Formats, formatted_line}
 use Rattle.commands.specs.declared.command_end.CommandEnd.TheVariants as ends
-use Rattle.commands.proofs.CommandEnds.{ends_so}
+use Rattle.commands.proofs.CommandEnds.{ends_so, closed_end}
+use Rattle.script_replay.specs.Failing.{FailsAt}
 use Rattle.commands.proofs.format.format_session.Goals as goal
 
 pub returns-in-Ok-clause-ends : goal.returns-in-Ok-clause-ends
 returns-in-Ok-clause-ends g c = λ told tells.
-    let Writes = Formats (g.S.Shelf.told.file c.args.shelf.now c.args.table.now) (g.S.Shelf.told.disk c.args.shelf.now) (g.S.Shelf.told.disk c.format_row.new.shelf) c.args.session in
+    let Writes = Formats (g.S.Shelf.told.file c.args.shelf.now c.args.table.now) (g.S.Shelf.told.disk c.args.shelf.now) (g.S.Shelf.told.disk c.format_row.new.shelf) (FailsAt g.S.Shelf.told g.S.Disk.Disk.told c.args.shelf.now c.format_row.new.shelf) c.args.session in
     let line : c.as_slice.result.now ≡ formatted_line c.args.session = c.as_slice.ensures.value ∙ c.put_formatted.ensures in
     ends_so Writes (λ output h. h) _ _ _ _ _ ends.Done c.close.result c.close.ensures (subst (λ (b : List ℕ). Writes ends.Done b) (sym line) (c.in-Ok.ensures.formats told tells))
 
 pub returns-in-Err-clause-ends : goal.returns-in-Err-clause-ends
 returns-in-Err-clause-ends g c = λ told tells.
-    ends_so (Formats (g.S.Shelf.told.file c.args.shelf.now c.args.table.now) (g.S.Shelf.told.disk c.args.shelf.now) (g.S.Shelf.told.disk c.format_row.new.shelf) c.args.session) (λ output h. h) _ _ _ _ _ c.in-Err.end c.fail.result c.fail.ensures (c.in-Err.ensures.formats told tells)
+    ends_so (Formats (g.S.Shelf.told.file c.args.shelf.now c.args.table.now) (g.S.Shelf.told.disk c.args.shelf.now) (g.S.Shelf.told.disk c.format_row.new.shelf) (FailsAt g.S.Shelf.told g.S.Disk.Disk.told c.args.shelf.now c.format_row.new.shelf) c.args.session) (λ output h. h) _ _ _ _ _ c.in-Err.end c.fail.result c.fail.ensures (c.in-Err.ensures.formats told tells)
+
+pub returns-in-Err-clause-device : goal.returns-in-Err-clause-device
+returns-in-Err-clause-device g c = λ role is. (c.in-Err.ensures.device role (ap Err (closed_end _ _ _ _ _ c.in-Err.end c.fail.result role c.fail.ensures is))).0

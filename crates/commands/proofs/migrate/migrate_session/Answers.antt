@@ -1,18 +1,22 @@
 use Rattle.std.proofs.Common.{List, ℕ, sym, ◌∙◌, subst}
 use Rattle.commands.specs.Migrating.{Migrates}
 use Rattle.commands.specs.declared.command_end.CommandEnd.TheVariants as ends
-use Rattle.commands.proofs.CommandEnds.{ends_so}
+use Rattle.script_replay.specs.Failing.{FailsAt}
+use Rattle.commands.proofs.CommandEnds.{ends_so, closed_end}
 use Rattle.commands.proofs.migrate.migrate_session.Goals as goal
 
 pub returns-in-Ok-clause-ends : goal.returns-in-Ok-clause-ends
 returns-in-Ok-clause-ends g c = λ told tells.
     let Writes = Migrates (g.S.Shelf.told.file c.args.shelf.now c.args.table.now) (g.S.Shelf.told.file c.args.shelf.now c.args.new_table.now)
-    (g.S.Shelf.told.disk c.args.shelf.now) (g.S.Shelf.told.disk c.migrate_rows.new.shelf) c.args.session c.args.new_session in
+    (g.S.Shelf.told.disk c.args.shelf.now) (g.S.Shelf.told.disk c.migrate_rows.new.shelf) (FailsAt g.S.Shelf.told g.S.Disk.Disk.told c.args.shelf.now c.migrate_rows.new.shelf) c.args.session c.args.new_session in
     let line = c.as_slice.ensures.value ∙ c.put_migrated.ensures in
     ends_so Writes (λ output h. h) _ _ _ _ _ ends.Done c.close.result c.close.ensures (subst (λ (b : List ℕ). Writes ends.Done b) (sym line) (c.in-Ok.ensures.migrates told tells))
 
 pub returns-in-Err-clause-ends : goal.returns-in-Err-clause-ends
 returns-in-Err-clause-ends g c = λ told tells.
     ends_so (Migrates (g.S.Shelf.told.file c.args.shelf.now c.args.table.now) (g.S.Shelf.told.file c.args.shelf.now c.args.new_table.now)
-    (g.S.Shelf.told.disk c.args.shelf.now) (g.S.Shelf.told.disk c.migrate_rows.new.shelf) c.args.session c.args.new_session)
+    (g.S.Shelf.told.disk c.args.shelf.now) (g.S.Shelf.told.disk c.migrate_rows.new.shelf) (FailsAt g.S.Shelf.told g.S.Disk.Disk.told c.args.shelf.now c.migrate_rows.new.shelf) c.args.session c.args.new_session)
     (λ output h. h) _ _ _ _ _ c.in-Err.halt.end c.fail.result c.fail.ensures (c.in-Err.ensures.migrates told tells)
+
+pub returns-in-Err-clause-device : goal.returns-in-Err-clause-device
+returns-in-Err-clause-device g c = λ role is. (c.in-Err.ensures.device role (closed_end _ _ _ _ _ c.in-Err.halt.end c.fail.result role c.fail.ensures is)).0

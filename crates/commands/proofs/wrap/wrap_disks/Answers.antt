@@ -16,7 +16,7 @@ returns-clause-wraps g c = λ told tells.
       c.end_of_wrap.ensures,
       leaves g.S.Disk.Disk.told tells (g.S.Shelf.told.disk c.args.shelf.now) (g.S.Shelf.told.disk c.take_disks.new.shelf) (g.S.Shelf.told.disk c.put_disks_back.new.shelf) c.args.row.now
           (record { low = d.low; high = d.high; recv = d.recv }) c.wrap-wrapped.result.disks c.take_disks.ensures.others c.put_disks_back.ensures.others (t.low told) (t.high told) (t.recv told)
-          (c.put_disks_back.ensures.back told) (g.I.Source.left c.args.file.now) c.wrap-wrapped.result.end (w.whole tells) (w.ends tells) (w.opened tells) w.refused,
+          (c.put_disks_back.ensures.back told) (g.I.Source.left c.args.file.now) (g.I.Source.left c.wrap-wrapped.new.file) c.wrap-wrapped.result.end (w.whole tells) (w.ends tells) (w.opened tells) w.refused,
     )
 
 pub returns-clause-device : goal.returns-clause-device

@@ -1,6 +1,6 @@
 use Rattle.std.proofs.Common.{ℕ, List, ◌∙◌, subst}
 use Rattle.std.specs.Io.KnownBytes.{Appends}
-use Rattle.commands.specs.Wrapping.{Wraps}
+use Rattle.commands.specs.Wrapping.{WrapsAll}
 use Rattle.commands.proofs.Wrapped.{writes}
 use Rattle.commands.proofs.wrap.wrap_session.Goals as goal
 
@@ -8,5 +8,6 @@ pub returns-in-Ok-clause-ends : goal.returns-in-Ok-clause-ends
 returns-in-Ok-clause-ends g c = λ told tells.
     let e = c.wrap_in_table-end.ensures in
     let left = g.I.Source.left c.args.file.now in
-    writes (Wraps (g.S.Shelf.told.file c.args.shelf.now c.args.table.now) (g.S.Shelf.told.disk c.args.shelf.now) (g.S.Shelf.told.disk c.wrap_in_table-end.new.shelf) c.args.session left) c.args.session _ _ c.wrap_in_table-end.result e.unwritten (e.wraps told tells)
+    let now_left = g.I.Source.left c.wrap_in_table-end.new.file in
+    writes (WrapsAll (g.S.Shelf.told.file c.args.shelf.now c.args.table.now) (g.S.Shelf.told.disk c.args.shelf.now) (g.S.Shelf.told.disk c.wrap_in_table-end.new.shelf) c.args.session left now_left) c.args.session _ _ c.wrap_in_table-end.result e.unwritten (e.wraps told tells, e.gave)
     (subst (λ (bytes : List ℕ). Appends (g.O.Sink.written c.args.out.now) (g.O.Sink.written c.write_all.new.out) bytes) (c.as_slice.ensures.value ∙ c.put_send.ensures) c.in-Ok.ensures.ok)

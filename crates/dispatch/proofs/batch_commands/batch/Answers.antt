@@ -3,6 +3,8 @@ use Rattle.std.proofs.Common.{rules, inl, inr, refl, sym, ◌∙◌}
 use Rattle.command_line.specs.declared.command.Command.TheVariants as commands
 use Rattle.dispatch.proofs.Asked.{asks, asks_none, live_alone, live_one, is_not, other, not_wrap, not_script, never_wrap, never_script, formats_asked, formats_nothing, shows_asked, shows_nothing, migrates_asked, migrates_nothing, wraps_asked, wraps_nothing, unwraps_asked, unwraps_nothing, exercise_asked}
 use Rattle.dispatch.proofs.Caused.{end_causes, unwrap_causes, send_causes, chain_causes, told_not, exercise_not, audit_not, compare_not, end_in, unwrap_in, send_in, replay_in, told_in, exercise_in, audit_in, compare_in}
+use Rattle.script_replay.specs.Failing.{FailsAt}
+use Rattle.script_replay.proofs.ByStatus.{ends_at_once}
 use Rattle.dispatch.proofs.batch_commands.batch.Goals as goal
 
 pub returns-in-Format : goal.returns-in-Format
@@ -26,7 +28,7 @@ returns-in-Format g c =
       memory = λ reads. elim (not_script _ call a refl reads) [ ];
       replay = λ words. elim (other _ call a commands.Replay refl (tt, words)) [ ];
       chain = λ words. elim (other _ call a commands.Chain refl (tt, words)) [ ];
-      format = λ table session words told tells. formats_asked (g.S.Shelf.told.file c.args.shelf.now) _ _ _ _ _ table _ session c.format_session.result c.status.result (e.ends told tells) c.status.ensures call refl (a.only (commands.Format table session) words);
+      format = λ table session words told tells. formats_asked (g.S.Shelf.told.file c.args.shelf.now) _ _ (FailsAt g.S.Shelf.told g.S.Disk.Disk.told c.args.shelf.now c.format_session.new.shelf) _ _ _ table _ session c.format_session.result c.status.result (e.ends told tells) c.status.ensures call refl (a.only (commands.Format table session) words);
       show = λ table session words. elim (other _ call a (commands.Show table session) refl words) [ ];
       migrate = λ table session new_table new_session words. elim (other _ call a (commands.Migrate table session new_table new_session) refl words) [ ];
       wrap = λ table session words. elim (other _ call a (commands.Wrap table session) refl words) [ ];
@@ -59,7 +61,7 @@ returns-in-Show g c =
       replay = λ words. elim (other _ call a commands.Replay refl (tt, words)) [ ];
       chain = λ words. elim (other _ call a commands.Chain refl (tt, words)) [ ];
       format = λ table session words. elim (other _ call a (commands.Format table session) refl words) [ ];
-      show = λ table session words told tells. shows_asked (g.S.Shelf.told.file c.args.shelf.now) _ _ _ _ _ table _ session c.show_session.result c.status-in-Show.result (e.ends told tells) c.status-in-Show.ensures call refl (a.only (commands.Show table session) words);
+      show = λ table session words told tells. shows_asked (g.S.Shelf.told.file c.args.shelf.now) _ _ (FailsAt g.S.Shelf.told g.S.Disk.Disk.told c.args.shelf.now c.show_session.new.shelf) _ _ _ table _ session c.show_session.result c.status-in-Show.result (e.ends told tells) c.status-in-Show.ensures call refl (a.only (commands.Show table session) words);
       migrate = λ table session new_table new_session words. elim (other _ call a (commands.Migrate table session new_table new_session) refl words) [ ];
       wrap = λ table session words. elim (other _ call a (commands.Wrap table session) refl words) [ ];
       unwrap = λ table session words. elim (other _ call a (commands.Unwrap table session) refl words) [ ];
@@ -92,7 +94,7 @@ returns-in-Migrate g c =
       chain = λ words. elim (other _ call a commands.Chain refl (tt, words)) [ ];
       format = λ table session words. elim (other _ call a (commands.Format table session) refl words) [ ];
       show = λ table session words. elim (other _ call a (commands.Show table session) refl words) [ ];
-      migrate = λ table session new_table new_session words told tells. migrates_asked (g.S.Shelf.told.file c.args.shelf.now) _ _ _ _ _ table _ new_table _ session _ new_session c.migrate_session.result c.status-in-Migrate.result
+      migrate = λ table session new_table new_session words told tells. migrates_asked (g.S.Shelf.told.file c.args.shelf.now) _ _ (FailsAt g.S.Shelf.told g.S.Disk.Disk.told c.args.shelf.now c.migrate_session.new.shelf) _ _ _ table _ new_table _ session _ new_session c.migrate_session.result c.status-in-Migrate.result
           (e.ends told tells) c.status-in-Migrate.ensures call refl (a.only (commands.Migrate table session new_table new_session) words);
       wrap = λ table session words. elim (other _ call a (commands.Wrap table session) refl words) [ ];
       unwrap = λ table session words. elim (other _ call a (commands.Unwrap table session) refl words) [ ];
@@ -159,8 +161,8 @@ returns-in-Wrap g c =
       format = λ table session words. elim (other _ call a (commands.Format table session) refl words) [ ];
       show = λ table session words. elim (other _ call a (commands.Show table session) refl words) [ ];
       migrate = λ table session new_table new_session words. elim (other _ call a (commands.Migrate table session new_table new_session) refl words) [ ];
-      wrap = λ table session words told tells. wraps_asked (g.S.Shelf.told.file c.args.shelf.now) (g.S.Shelf.told.disk c.args.shelf.now) (g.S.Shelf.told.disk c.wrap_session.new.shelf) (g.I.Source.left c.args.script.now) (g.O.Sink.written c.args.out.now)
-          (g.O.Sink.written c.wrap_session.new.out) _ table _ session c.wrap_session.result c.status-in-Wrap.result (e.ends told tells) c.status-in-Wrap.ensures call refl (a.only (commands.Wrap table session) words);
+      wrap = λ table session words told tells. wraps_asked (g.S.Shelf.told.file c.args.shelf.now) (g.S.Shelf.told.disk c.args.shelf.now) (g.S.Shelf.told.disk c.wrap_session.new.shelf) (g.I.Source.left c.args.script.now)
+          (g.I.Source.left c.wrap_session.new.file) (g.O.Sink.written c.args.out.now) (g.O.Sink.written c.wrap_session.new.out) _ table _ session c.wrap_session.result c.status-in-Wrap.result (e.ends told tells) c.status-in-Wrap.ensures call refl (a.only (commands.Wrap table session) words);
       unwrap = λ table session words. elim (other _ call a (commands.Unwrap table session) refl words) [ ];
       exercise = λ seed count words. elim (other _ call a (commands.Exercise seed count) refl words) [ ];
       audit = λ words. elim (other _ call a commands.Audit refl (tt, words)) [ ];
@@ -189,7 +191,7 @@ returns-in-Chain g c =
       unwritten = k.write;
       memory = λ reads. k.memory;
       replay = λ words. elim (other _ call a commands.Replay refl (tt, words)) [ ];
-      chain = λ words told tells. (c.replay_chain.result, sym s.is, e.ends told tells);
+      chain = λ words told tells. inl (c.replay_chain.result, sym s.is, e.ends told tells);
       format = λ table session words. elim (other _ call a (commands.Format table session) refl words) [ ];
       show = λ table session words. elim (other _ call a (commands.Show table session) refl words) [ ];
       migrate = λ table session new_table new_session words. elim (other _ call a (commands.Migrate table session new_table new_session) refl words) [ ];
@@ -400,11 +402,11 @@ returns-in-Err-Memory g c = record {
   either = λ wraps three. elim (is_not 1 3 1 refl refl three) [ ];
   unwritten = λ four. elim (is_not 1 4 1 refl refl four) [ ];
   memory = λ reads one. search rules;
-  replay = search rules;
-  chain = search rules;
-  format = λ table session words told tells. formats_nothing _ _ _ _ session (search rules);
-  show = λ table session words told tells. shows_nothing _ _ _ _ session (search rules);
-  migrate = λ table session new_table new_session words told tells. migrates_nothing _ _ _ _ _ session new_session (search rules);
+  replay = λ words told tells. ends_at_once (g.S.Shelf.told.disk c.args.shelf.now) (FailsAt g.S.Shelf.told g.S.Disk.Disk.told c.args.shelf.now c.args.shelf.now) (g.I.Source.left c.args.script.now) (g.O.Sink.written c.args.out.now) (g.I.Source.faults c.args.script.now);
+  chain = λ words told tells. inr (refl, (λ name. refl), search rules);
+  format = λ table session words told tells. formats_nothing _ _ (FailsAt g.S.Shelf.told g.S.Disk.Disk.told c.args.shelf.now c.args.shelf.now) _ _ session (search rules);
+  show = λ table session words told tells. shows_nothing _ _ (FailsAt g.S.Shelf.told g.S.Disk.Disk.told c.args.shelf.now c.args.shelf.now) _ _ session (search rules);
+  migrate = λ table session new_table new_session words told tells. migrates_nothing _ _ _ (FailsAt g.S.Shelf.told g.S.Disk.Disk.told c.args.shelf.now c.args.shelf.now) _ _ session new_session (search rules);
   wrap = λ table session words told tells. wraps_nothing (g.S.Shelf.told.file c.args.shelf.now table) (g.S.Shelf.told.disk c.args.shelf.now) _ _ _ session (search rules);
   unwrap = λ table session words told tells. unwraps_nothing (g.S.Shelf.told.file c.args.shelf.now table) (g.S.Shelf.told.disk c.args.shelf.now) _ _ session (search rules);
   exercise = search rules;

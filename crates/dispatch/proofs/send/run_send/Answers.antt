@@ -1,7 +1,7 @@
 use Rattle.std.proofs.Common.{List, ℕ, Err, inl, inr, refl, subst}
 use Rattle.pump_link.proofs.Grown.{Grows-nil}
 use Rattle.commands.specs.Tables.{HasRow, IsRowOf}
-use Rattle.dispatch.proofs.Sent.{stops_at_table}
+use Rattle.dispatch.proofs.Sent.{stops_at_file}
 use Rattle.dispatch.proofs.send.run_send.Goals as goal
 
 pub returns-in-Ok-clause-comes : goal.returns-in-Ok-clause-comes
@@ -10,4 +10,4 @@ returns-in-Ok-clause-comes g c = λ told.
 
 pub returns-in-Err-clause-comes : goal.returns-in-Err-clause-comes
 returns-in-Err-clause-comes g c = λ told.
-    inl (stops_at_table (g.S.Shelf.told.file c.args.shelf.now c.args.table.now) c.args.session c.in-Err.end c.in-Err.ensures.only (subst (λ (n : List ℕ). IsRowOf (g.S.Shelf.told.file c.args.shelf.now n) c.args.session (Err c.in-Err.end)) c.as_str.ensures.value (c.in-Err.ensures.row told)), Grows-nil _, refl)
+    inl (stops_at_file (g.S.Shelf.told.file c.args.shelf.now c.args.table.now) (g.S.Shelf.told.faults c.args.shelf.now) (g.S.Shelf.told.faults c.row_in_file.new.shelf) c.args.session c.in-Err.end c.in-Err.ensures.only (subst (λ (n : List ℕ). IsRowOf (g.S.Shelf.told.file c.args.shelf.now n) c.args.session (Err c.in-Err.end)) c.as_str.ensures.value (c.in-Err.ensures.row told)) c.in-Err.ensures.read, Grows-nil _, refl)

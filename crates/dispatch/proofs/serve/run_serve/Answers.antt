@@ -4,7 +4,7 @@ use Rattle.commands.specs.Tables.{HasRow, IsRowOf, IsTableEnd}
 use Rattle.commands.specs.declared.command_end.CommandEnd.{CommandEnd}
 use Rattle.pump_frame.specs.Counts.{Rose}
 use Rattle.script_replay.specs.Shelves.{AllAreBack, Places}
-use Rattle.dispatch.proofs.Sent.{stops_at_table}
+use Rattle.dispatch.proofs.Sent.{stops_at_file}
 use Rattle.dispatch.proofs.Served.{serves_row, same_places}
 use Rattle.dispatch.proofs.serve.run_serve.Goals as goal
 
@@ -15,7 +15,7 @@ returns-in-Ok g c =
     let e = c.serve_keyed.ensures in
     record {
       comes = λ told tells.
-          serves_row _ g.S.Disk.Disk.told _ _ _ _ _ (g.S.Shelf.told.disk c.args.shelf.now) (g.S.Shelf.told.disk c.row_in_file.new.shelf) (g.S.Shelf.told.disk c.serve_keyed.new.shelf) _ _ _ _ (g.S.Shelf.told.file c.args.shelf.now c.args.table.now) c.args.session row c.serve_keyed.result _ _
+          serves_row _ g.S.Disk.Disk.told _ _ _ _ _ (g.S.Shelf.told.disk c.args.shelf.now) (g.S.Shelf.told.disk c.row_in_file.new.shelf) (g.S.Shelf.told.disk c.serve_keyed.new.shelf) _ _ _ _ (g.S.Shelf.told.file c.args.shelf.now c.args.table.now) _ _ c.args.session row c.serve_keyed.result _ _
           (subst (λ (n : List ℕ). HasRow (g.S.Shelf.told.file c.args.shelf.now n) c.args.session row) c.as_str.ensures.value (r.row told)) r.disks c.serve_keyed.ensures.others (c.serve_keyed.ensures.serves told tells);
       read = λ unread. inr (e.read unread);
       back = λ told. subst (λ (places : Places). AllAreBack places (g.S.Shelf.told.disk c.serve_keyed.new.shelf)) r.disks (e.back told);
@@ -32,7 +32,7 @@ returns-in-Err g c =
     record {
       comes = λ told tells.
           inl (
-            stops_at_table (g.S.Shelf.told.file c.args.shelf.now c.args.table.now) c.args.session c.in-Err.end c.in-Err.ensures.only (subst (λ (n : List ℕ). IsRowOf (g.S.Shelf.told.file c.args.shelf.now n) c.args.session (Err c.in-Err.end)) c.as_str.ensures.value (c.in-Err.ensures.row told)),
+            stops_at_file (g.S.Shelf.told.file c.args.shelf.now c.args.table.now) (g.S.Shelf.told.faults c.args.shelf.now) (g.S.Shelf.told.faults c.row_in_file.new.shelf) c.args.session c.in-Err.end c.in-Err.ensures.only (subst (λ (n : List ℕ). IsRowOf (g.S.Shelf.told.file c.args.shelf.now n) c.args.session (Err c.in-Err.end)) c.as_str.ensures.value (c.in-Err.ensures.row told)) c.in-Err.ensures.read,
             record { low_unused = is_unused _ _ _; high_unused = is_unused _ _ _; unwritten = refl; unchanged = same_places _ _ c.in-Err.ensures.disks },
           );
       read = search rules;

@@ -11,6 +11,9 @@ use Rattle.pump_wrapper.proofs.Wholes.{sent_whole}
 use Rattle.pump_wrapper.proofs.Wrappings.{at_ok, at_err, has_still, front_still, not_ends, continues, gave_then}
 use Rattle.pump_wrapper.proofs.file_sender.wrap.Goals as goal
 
+pub returns-in-Err-clause-ends : goal.returns-in-Err-clause-ends
+returns-in-Err-clause-ends g c = λ told f stand. c.in-Err.ensures.not.ends told (g.I.Source.left c.args.file.now) f stand
+
 pub returns-in-Err-clause-images : goal.returns-in-Err-clause-images
 returns-in-Err-clause-images g c = λ told f stand bytes is begins. c.in-Err.ensures.not.images told f stand (wrapped c.args.row.now.message bytes) begins
 

@@ -1,7 +1,7 @@
 use Rattle.std.proofs.Common.{◌∙◌, arith}
 use Rattle.std.proofs.lemmas.Result.{err_from_is_err_and}
 use Rattle.disk_model.specs.declared.name.Role.TheVariants as roles
-use Rattle.script_replay.proofs.Taken.{others_by, read_before, out_after, moves_still, out_still_at, is_out_at, none_taken, one_back, two_back}
+use Rattle.script_replay.proofs.Taken.{others_by, read_before, out_after, moves_still, out_still_at, is_out_at, none_taken, one_back, two_back, low_not_given, high_not_given, recv_not_given}
 use Rattle.script_replay.proofs.disks.take_disks.Goals as goal
 
 pub returns-in_err-low : goal.returns-in_err-low
@@ -23,6 +23,7 @@ returns-in_err-low g c =
       alike = λ told. stay.alike;
       later = low.later;
       cause = low.cause;
+      asked = λ failed. low_not_given g.S.Shelf.told id c.args.shelf.now c.take_disk.new.shelf low.none (low.cause failed) _ low.role;
     })
 
 pub put_disk_back-requires : goal.put_disk_back-requires
@@ -53,6 +54,7 @@ returns-in-Err g c =
       alike = λ told. (stay told).alike;
       later = omega (arith, low.later, high.later, put.later);
       cause = λ failed. omega (arith, low.later, high.cause failed, put.later);
+      asked = λ failed. high_not_given g.S.Shelf.told id c.take_disk.new.shelf c.take_disk-2.new.shelf high.none (high.cause failed) (at c.args.shelf.now) _ _ high.role low.out low.others;
     }
 
 pub returns-in-Ok-take_disk : goal.returns-in-Ok-take_disk
@@ -78,6 +80,7 @@ returns-in-Ok-take_disk g c =
       alike = tt;
       later = omega (arith, low.later, high.later, recv.later);
       cause = tt;
+      asked = tt;
     }
 
 pub put_disk_back-requires-in-Err-take_disk : goal.put_disk_back-requires-in-Err-take_disk
@@ -126,4 +129,7 @@ returns-in-Err-take_disk g c =
       alike = λ told. (stay told).alike;
       later = omega (arith, low.later, high.later, recv.later, low_put.later, high_put.later);
       cause = λ failed. omega (arith, low.later, high.later, recv.cause failed, low_put.later, high_put.later);
+      asked = λ failed.
+          recv_not_given g.S.Shelf.told id c.take_disk-2.new.shelf c.take_disk-3.new.shelf recv.none (recv.cause failed) start first _ _ _ recv.role
+          (out_after first (at c.take_disk-2.new.shelf) id roles.High high.others roles.Low _ (λ e. cc) low.out) high.out low.others high.others;
     }

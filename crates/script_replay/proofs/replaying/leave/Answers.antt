@@ -22,7 +22,7 @@ returns-in-Whole-clause-others g c =
 pub returns-in-Whole-clause-left : goal.returns-in-Whole-clause-left
 returns-in-Whole-clause-left g c =
     left_of g.S.Disk.Disk.told g.S.Shelf.told.tells (g.S.Shelf.told.disk c.args.shelf.now) (g.S.Shelf.told.disk c.put_disks_back.new.shelf) c.args.session c.in-Whole.id c.in-Whole.pump c.in-Whole.is _ _ _
-    c.put_disks_back.ensures.back (λ tells q stands. (c.close-low.ensures.left q stands).readings tells)
+    (ap (λ r. r.0) c.close-low.ensures.disks) (ap (λ r. r.1) c.close-low.ensures.disks) (ap (λ r. r.2) c.close-low.ensures.disks) c.put_disks_back.ensures.back (λ tells q stands. (c.close-low.ensures.left q stands).readings tells)
 
 pub returns-in-Whole-clause-failed : goal.returns-in-Whole-clause-failed
 returns-in-Whole-clause-failed g c =

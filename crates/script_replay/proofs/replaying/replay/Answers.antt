@@ -1,15 +1,27 @@
-use Rattle.std.proofs.Common.{refl, sym, subst}
+use Rattle.std.proofs.Common.{inl, inr, refl, sym, subst}
 use Rattle.script_replay.specs.Runners.{IsDeviceFaultOf}
-use Rattle.script_replay.specs.Sessions.{found_at}
-use Rattle.script_replay.proofs.Ending.{ends_to, told_to_fail, device_so, all_are_back, all_are_out}
-use Rattle.script_replay.proofs.ByStatus.{of_status, ends_by_status}
+use Rattle.script_replay.specs.Failing.{FailsAt}
+use Rattle.script_replay.proofs.Ending.{ends_to, told_to_fail, downs, named_so, all_are_back, all_are_out}
+use Rattle.script_replay.proofs.ByStatus.{of_status, ends_by_status, ends_at_once}
 use Rattle.script_replay.proofs.replaying.replay.Goals as goal
 
 pub leave_all-requires-clause-out : goal.leave_all-requires-clause-out
 leave_all-requires-clause-out g c = all_are_out g.S.Disk.Disk.told g.S.Shelf.told.tells (g.S.Shelf.told.disk c.args.shelf.now) (g.S.Shelf.told.disk c.run-ended.new.shelf) c.run-ended.new.sessions.begun.items c.run-ended.ensures.hands
 
 pub returns-clause-ends : goal.returns-clause-ends
-returns-clause-ends g c = λ told tells. ends_by_status _ _ _ _ _ _ _ _ c.run-ended.result (ends_to g.S.Disk.Disk.told g.S.Shelf.told.tells told tells (g.S.Shelf.told.disk c.args.shelf.now) (g.S.Shelf.told.disk c.run-ended.new.shelf) (g.S.Shelf.told.disk c.leave_all.new.shelf) c.run-ended.new.sessions.begun.items c.leave_all.ensures.left _ _ _ _ _ _ c.run-ended.result (c.run-ended.ensures.ends told tells))
+returns-clause-ends g c = λ told tells.
+    let before = g.S.Shelf.told.disk c.args.shelf.now in
+    let mid = g.S.Shelf.told.disk c.run-ended.new.shelf in
+    let after = g.S.Shelf.told.disk c.leave_all.new.shelf in
+    let begun = c.run-ended.new.sessions.begun.items in
+    let ends = c.run-ended.ensures.ends told tells in
+    ends_by_status before after (FailsAt g.S.Shelf.told g.S.Disk.Disk.told c.args.shelf.now c.leave_all.new.shelf) _ _ _ _ _ _ c.run-ended.result
+    (ends_to g.S.Disk.Disk.told g.S.Shelf.told.tells told tells before mid after begun c.leave_all.ensures.left _ _ _ _ _ _ c.run-ended.result ends)
+    (λ number role is.
+    let failed : IsDeviceFaultOf number role c.run-ended.result = subst (IsDeviceFaultOf number role) (sym is) (refl, refl) in
+    downs g.S.Disk.Disk.told g.S.Shelf.told.tells told tells before mid after begun c.leave_all.ensures.left _ _ _ _ _ _ (FailsAt g.S.Shelf.told g.S.Disk.Disk.told c.args.shelf.now c.leave_all.new.shelf) number role
+    (named_so g.S.Shelf.told g.S.Disk.Disk.told before c.args.shelf.now c.run-ended.new.shelf c.leave_all.new.shelf begun number role refl (c.run-ended.ensures.device number role failed) c.run-ended.ensures.later c.leave_all.ensures.later c.leave_all.ensures.left (c.leave_all.ensures.failed number role))
+    c.run-ended.result is ends)
 
 pub returns-clause-back : goal.returns-clause-back
 returns-clause-back g c = λ told. all_are_back g.S.Disk.Disk.told g.S.Shelf.told.tells (g.S.Shelf.told.disk c.args.shelf.now) (g.S.Shelf.told.disk c.run-ended.new.shelf) (g.S.Shelf.told.disk c.leave_all.new.shelf) c.run-ended.new.sessions.begun.items told c.run-ended.ensures.hands c.leave_all.ensures.left
@@ -29,7 +41,15 @@ returns-clause-write g c = λ is. c.run-ended.ensures.write (of_status 4 c.run-e
 pub returns-clause-device : goal.returns-clause-device
 returns-clause-device g c = λ is.
     let (number, role, of) = of_status 7 c.run-ended.result is in
-    let failed : IsDeviceFaultOf number c.run-ended.result = subst (IsDeviceFaultOf number) (sym of) refl in
-    device_so g.S.Disk.Disk.told (g.S.Shelf.told.disk c.run-ended.new.shelf) (found_at number c.run-ended.new.sessions.begun.items) (g.S.Shelf.told.disk_faults c.args.shelf.now) (g.S.Shelf.told.disk_faults c.run-ended.new.shelf) (g.S.Shelf.told.disk_faults c.leave_all.new.shelf) _
-    (c.run-ended.ensures.device number failed) c.run-ended.ensures.later c.leave_all.ensures.later (c.leave_all.ensures.failed number)
-    (λ id p e told tells. told_to_fail g.S.Disk.Disk.told g.S.Shelf.told.tells told tells (g.S.Shelf.told.disk c.args.shelf.now) (g.S.Shelf.told.disk c.run-ended.new.shelf) (g.S.Shelf.told.disk c.leave_all.new.shelf) c.run-ended.new.sessions.begun.items c.leave_all.ensures.left _ _ _ _ _ _ number id p e c.run-ended.result failed (c.run-ended.ensures.ends told tells))
+    let before = g.S.Shelf.told.disk c.args.shelf.now in
+    let begun = c.run-ended.new.sessions.begun.items in
+    let failed : IsDeviceFaultOf number role c.run-ended.result = subst (IsDeviceFaultOf number role) (sym of) (refl, refl) in
+    elim (named_so g.S.Shelf.told g.S.Disk.Disk.told before c.args.shelf.now c.run-ended.new.shelf c.leave_all.new.shelf begun number role refl (c.run-ended.ensures.device number role failed) c.run-ended.ensures.later c.leave_all.ensures.later c.leave_all.ensures.left (c.leave_all.ensures.failed number role)) [
+      | inl fails ↦ inl fails.0
+      | inr (id, p, e) ↦ inr (λ told tells.
+          told_to_fail g.S.Disk.Disk.told g.S.Shelf.told.tells told tells before (g.S.Shelf.told.disk c.run-ended.new.shelf) (g.S.Shelf.told.disk c.leave_all.new.shelf) begun c.leave_all.ensures.left _ _ _ _ _ _ number id role p e c.run-ended.result of (c.run-ended.ensures.ends told tells))
+    ]
+
+pub returns-in-Err-clause-ends : goal.returns-in-Err-clause-ends
+returns-in-Err-clause-ends g c = λ told tells.
+    ends_at_once (g.S.Shelf.told.disk c.args.shelf.now) (FailsAt g.S.Shelf.told g.S.Disk.Disk.told c.args.shelf.now c.args.shelf.now) (g.I.Source.left c.args.script.now) (g.O.Sink.written c.args.out.now) (g.I.Source.faults c.args.script.now)

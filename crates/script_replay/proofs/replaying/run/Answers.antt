@@ -1,4 +1,4 @@
-use Rattle.std.proofs.Common.{rules, [], ◌∷◌, ◌++◌, length, arith, refl, sym, subst, length-append}
+use Rattle.std.proofs.Common.{◌<◌, ◌^◌, [], ◌∷◌, ◌++◌, length, arith, refl, sym, subst, length-append}
 use Rattle.pump_link.proofs.Known.{Appends-none}
 use Rattle.script_reader.specs.Heads.{line_with}
 use Rattle.script_reader.specs.Openings.{new_disks}
@@ -8,11 +8,12 @@ use Rattle.script_replay.specs.Outputs.{held_of}
 use Rattle.script_replay.specs.Runners.{lent, AllAreUp}
 use Rattle.script_replay.specs.Sessions.{AllLend}
 use Rattle.script_replay.proofs.OtherEnds.{write_no_memory, write_no_fault, memory_no_write, memory_no_fault, closed_no_memory}
-use Rattle.script_replay.proofs.Quiet.{quiet_shown, quiet_turn, quiet_memory}
-use Rattle.script_replay.proofs.Stops.{keeps_so, stops, barred, cut_off, stop_device, closed_device, closed_not, line_fault}
+use Rattle.script_replay.proofs.Fresh.{none_fresh}
+use Rattle.script_replay.proofs.Quiet.{by_way, quiet_shown, quiet_turn, quiet_memory}
+use Rattle.script_replay.proofs.Stops.{came_all, keeps_so, stops, barred, cut_off, stop_device, closed_device, closed_not, line_fault}
 use Rattle.script_replay.proofs.Turns.{hands_of}
 use Rattle.script_replay.proofs.Widened.{advance}
-use Rattle.script_replay.proofs.SoFar.{Keeps-fresh, fresh_gathers, so_far_more, so_far_kept, shown, printed, one_left, refused, failed, finished, closed, unshown, faulty_line, faulty_bad, line_number, bad_number, near_now, near_bad, within_failed, near_next}
+use Rattle.script_replay.proofs.SoFar.{Keeps-fresh, fresh_gathers, so_far_more, so_far_kept, shown, printed, one_left, refused, failed, finished, closed, unshown, faulty_line, faulty_bad, line_number, bad_number, near_now, near_bad, within_failed, near_next, replayed}
 use Rattle.script_replay.proofs.replaying.run.Goals as goal
 
 pub turns-init : goal.turns-init
@@ -39,6 +40,7 @@ turns-init g c = (
   omega arith,
   c.requires.order,
   λ way. (c.new-output.ensures, Appends-none (g.O.Sink.written c.args.out.now)),
+  λ told tells way. none_fresh g.S.Disk.Disk.told (g.S.Shelf.told.disk c.args.shelf.now) c.args.sessions.now.begun.items c.requires.none,
 )
 
 pub turn-requires-clause-lawful : goal.turn-requires-clause-lawful
@@ -53,7 +55,7 @@ returns-in-Err g c = record {
       unshown (lent g.S.Disk.Disk.told (g.S.Shelf.told.disk c.args.shelf.now) (g.S.Shelf.told.disk c.turns.shelf) c.turns.sessions.begun.items) t.3 _ _ _ _ _ _ _ _ t.0 t.1 t.2 t.4 (omega (arith, t.8, i.3)) (held_of c.turns.output) t.5 (keeps_so g.S.Disk.Disk.told (g.S.Shelf.told.disk c.args.shelf.now) (g.S.Shelf.told.disk c.turns.shelf) c.turns.sessions.begun.items t.3 t.2 t.1 i.1.0 t.7 t.6.each) (near_now c.turns.lines _ i.2) c.in-Err.ensures.err;
   hands = hands_of _ g.S.Disk.Disk.told (g.S.Shelf.told.disk c.args.shelf.now) (g.S.Shelf.told.disk c.turns.shelf) c.turns.sessions.begun.items c.turns.invariant.1.0;
   rise = c.turns.invariant.7.rise;
-  device = λ number failed. absurd failed;
+  device = λ number role failed. absurd failed;
   memory = λ e. absurd (write_no_memory e);
   later = c.turns.invariant.6;
   write = λ e. omega (arith, c.turns.invariant.5, c.in-Err.ensures.cause.failed);
@@ -74,7 +76,7 @@ returns-in-Unwritten g c = record {
       (held_of c.show.new.output) w t.7 _ m.0 m.1 m.2 m.3;
   hands = c.in-Unwritten.ensures.hands (g.S.Shelf.told.disk c.args.shelf.now) c.turns.invariant.1.0;
   rise = c.turn.ensures.order.rise;
-  device = λ number failed. absurd failed;
+  device = λ number role failed. absurd failed;
   memory = λ e. absurd (write_no_memory e);
   later = omega (arith, c.turns.invariant.6, c.turn.ensures.disks_later);
   write = λ e. omega (arith, c.turns.invariant.5, c.show.ensures.cause.later, c.in-Unwritten.ensures.cause refl);
@@ -99,7 +101,7 @@ returns-in-Refused g c = record {
       c.refuse.ensures;
   hands = c.in-Refused.ensures.hands (g.S.Shelf.told.disk c.args.shelf.now) c.turns.invariant.1.0;
   rise = c.turn.ensures.order.rise;
-  device = λ number failed. absurd (closed_device _ _ _ _ _ _ c.refuse.result number c.refuse.ensures failed);
+  device = λ number role failed. absurd (closed_device _ _ _ _ _ _ c.refuse.result number role c.refuse.ensures failed);
   memory = λ e. absurd (closed_no_memory _ _ _ _ _ _ c.refuse.result c.refuse.ensures e);
   later = omega (arith, c.turns.invariant.6, c.turn.ensures.disks_later);
   write = closed _ _ _ _ _ _ _ _ (omega (arith, c.turns.invariant.5, c.show.ensures.cause, c.turn.ensures.later)) (λ e. cc) c.refuse.ensures;
@@ -122,8 +124,9 @@ returns-in-Stopped g c = record {
   hands = c.in-Stopped.ensures.hands (g.S.Shelf.told.disk c.args.shelf.now) c.turns.invariant.1.0;
   rise = c.turn.ensures.order.rise;
   device =
-      λ number failed.
-      stop_device _ (g.S.Shelf.told.disk_faults c.turns.shelf) _ _ (omega (arith, c.turns.invariant.6)) (c.in-Stopped.ensures.device number (closed_device _ _ _ _ _ c.in-Stopped.fault c.stop.result number c.stop.ensures failed) (g.S.Shelf.told.disk c.args.shelf.now) c.turns.invariant.1.0);
+      λ number role failed.
+      stop_device g.S.Shelf.told g.S.Disk.Disk.told (g.S.Shelf.told.disk c.args.shelf.now) c.args.shelf.now c.turns.shelf c.turn.new.shelf c.turn.new.sessions.begun.items number role c.turns.invariant.6
+      (c.in-Stopped.ensures.device number role (closed_device _ _ _ _ _ c.in-Stopped.fault c.stop.result number role c.stop.ensures failed) (g.S.Shelf.told.disk c.args.shelf.now) c.turns.invariant.1.0);
   memory = λ e. absurd (closed_no_memory _ _ _ _ _ _ c.stop.result c.stop.ensures e);
   later = omega (arith, c.turns.invariant.6, c.turn.ensures.disks_later);
   write = closed _ _ _ _ _ _ _ _ (omega (arith, c.turns.invariant.5, c.show.ensures.cause, c.turn.ensures.later)) (λ e. cc) c.stop.ensures;
@@ -133,10 +136,31 @@ returns-in-Stopped g c = record {
 
 pub returns-in-Memory : goal.returns-in-Memory
 returns-in-Memory g c = record {
-  ends = search rules;
+  ends =
+      λ told tells.
+      let i = c.turns.invariant in
+      let t = i.0 told tells in
+      let n = c.in-Line.ensures.next in
+      let before = g.S.Shelf.told.disk c.args.shelf.now in
+      let begun = c.turn.new.sessions.begun.items in
+      let stand = c.in-Memory.ensures.does told tells before i.1.0 t.2 t.6 in
+      let quiet = c.in-Memory.ensures.quiet in
+      let fresh = c.in-Memory.ensures.fresh told tells before (i.9 told tells (quiet.memory refl).0) in
+      let written = quiet_memory c.turns.sessions c.turn.new.sessions (held_of c.show.new.output) (held_of c.turn.new.output) _ _ _ _ quiet
+      (λ way. let q = i.8 way in quiet_shown (held_of c.turns.output) (held_of c.show.new.output) _ _ _ q.0 q.1 c.in-Ok.ensures.ok) refl in
+      let counted : length t.0 < 2 ^ 32 = omega (arith, t.8, i.3) in (
+        replayed t.3 _ _ t.0 t.1 t.2 t.4 counted,
+        [],
+        record {
+          taken = near_next c.turns.lines c.next_head.new.self _ _ (line_with c.next_head.new.body c.in-Line.line) n;
+          output_is = refl;
+          disks = (fresh, came_all g.S.Disk.Disk.told begun t.2.begun stand);
+        },
+        written,
+      );
   hands = c.in-Memory.ensures.hands (g.S.Shelf.told.disk c.args.shelf.now) c.turns.invariant.1.0;
   rise = c.turn.ensures.order.rise;
-  device = λ number failed. absurd failed;
+  device = λ number role failed. absurd failed;
   memory =
       λ is.
       let i = c.turns.invariant in
@@ -176,6 +200,8 @@ turns-preserved g c =
       c.turn.ensures.order,
       quiet_turn c.turns.sessions c.turn.new.sessions (held_of c.show.new.output) (held_of c.turn.new.output) _ _ _ _ c.in-Applied.ensures.quiet
           (λ way. let q = i.8 way in quiet_shown (held_of c.turns.output) (held_of c.show.new.output) _ _ _ q.0 q.1 c.in-Ok.ensures.ok) refl,
+      λ told tells way.
+          c.in-Applied.ensures.fresh told tells (g.S.Shelf.told.disk c.args.shelf.now) (i.9 told tells (by_way c.turns.sessions.is_under_way c.turn.new.sessions.is_under_way c.in-Applied.ensures.quiet.waits way)) way,
     )
 
 pub returns-in-Bad : goal.returns-in-Bad
@@ -193,7 +219,7 @@ returns-in-Bad g c = record {
       c.refuse-in-Bad.ensures;
   hands = hands_of _ g.S.Disk.Disk.told (g.S.Shelf.told.disk c.args.shelf.now) (g.S.Shelf.told.disk c.turns.shelf) c.turns.sessions.begun.items c.turns.invariant.1.0;
   rise = c.turns.invariant.7.rise;
-  device = λ number failed. absurd (closed_device _ _ _ _ _ _ c.refuse-in-Bad.result number c.refuse-in-Bad.ensures failed);
+  device = λ number role failed. absurd (closed_device _ _ _ _ _ _ c.refuse-in-Bad.result number role c.refuse-in-Bad.ensures failed);
   memory = λ e. absurd (closed_no_memory _ _ _ _ _ _ c.refuse-in-Bad.result c.refuse-in-Bad.ensures e);
   later = c.turns.invariant.6;
   write = closed _ _ _ _ _ _ _ _ (omega (arith, c.turns.invariant.5, c.show.ensures.cause)) (λ e. cc) c.refuse-in-Bad.ensures;
@@ -214,7 +240,7 @@ returns-in-Failed g c = record {
       (within_failed c.turns.lines c.next_head.new.self _ _ n) (omega (arith, c.in-Failed.ensures.failed refl, i.4)) c.stop-in-Failed.ensures;
   hands = hands_of _ g.S.Disk.Disk.told (g.S.Shelf.told.disk c.args.shelf.now) (g.S.Shelf.told.disk c.turns.shelf) c.turns.sessions.begun.items c.turns.invariant.1.0;
   rise = c.turns.invariant.7.rise;
-  device = λ number failed. absurd (closed_device _ _ _ _ _ _ c.stop-in-Failed.result number c.stop-in-Failed.ensures failed);
+  device = λ number role failed. absurd (closed_device _ _ _ _ _ _ c.stop-in-Failed.result number role c.stop-in-Failed.ensures failed);
   memory = λ e. absurd (closed_no_memory _ _ _ _ _ _ c.stop-in-Failed.result c.stop-in-Failed.ensures e);
   later = c.turns.invariant.6;
   write = closed _ _ _ _ _ _ _ _ (omega (arith, c.turns.invariant.5, c.show.ensures.cause)) (λ e. cc) c.stop-in-Failed.ensures;
@@ -234,7 +260,7 @@ returns-in-End g c = record {
       finished (lent g.S.Disk.Disk.told (g.S.Shelf.told.disk c.args.shelf.now) (g.S.Shelf.told.disk c.turns.shelf) c.turns.sessions.begun.items) t.3 _ _ _ _ _ _ _ _ t.0 t.1 t.2 t.4 (omega (arith, t.8, i.3)) (held_of c.show.new.output) w c.finish.result _ _ f.0 n.1 f.1 (keeps_so g.S.Disk.Disk.told (g.S.Shelf.told.disk c.args.shelf.now) (g.S.Shelf.told.disk c.turns.shelf) c.turns.sessions.begun.items t.3 t.2 (t.1 ++ f.0) i.1.0 t.7 t.6.each) f.2;
   hands = hands_of _ g.S.Disk.Disk.told (g.S.Shelf.told.disk c.args.shelf.now) (g.S.Shelf.told.disk c.turns.shelf) c.turns.sessions.begun.items c.turns.invariant.1.0;
   rise = c.turns.invariant.7.rise;
-  device = λ number failed. absurd (c.finish.ensures.other number failed);
+  device = λ number role failed. absurd (c.finish.ensures.other number role failed);
   memory = λ e. absurd (c.finish.ensures.memory e);
   later = c.turns.invariant.6;
   write = λ e. omega (arith, c.turns.invariant.5, c.show.ensures.cause.later, c.finish.ensures.cause e);

@@ -1,11 +1,12 @@
-use Rattle.std.proofs.Common.{◌≤◌, length, sym, ap, ◌∙◌, subst, arith, max}
+use Rattle.std.proofs.Common.{◌≤◌, length, refl, sym, ap, ◌∙◌, subst, arith, max}
 use Rattle.std.specs.Prelude.{◌||◌, not}
 use Rattle.script_reader.specs.Heads.{line_with}
 use Rattle.script_reader.specs.Sessions.{stands_first, moment_of}
 use Rattle.script_replay.specs.Runners.{IsOfBeginning}
 use Rattle.script_replay.specs.Sessions.{id_of}
-use Rattle.script_replay.proofs.Listed.{insert_here, is_device}
-use Rattle.script_replay.proofs.Turns.{hands_of, hands_none, not_begun, lends_begun, up_begun, rise_begun, begun_does}
+use Rattle.script_replay.proofs.Fresh.{begun_fresh, after_unbegun}
+use Rattle.script_replay.proofs.Listed.{insert_here}
+use Rattle.script_replay.proofs.Turns.{hands_of, hands_none, not_begun, lends_begun, up_begun, rise_begun, begun_does, none_of, put_is}
 use Rattle.script_replay.proofs.turn.begin_at.Goals as goal
 
 pub returns-in-Ok : goal.returns-in-Ok
@@ -32,6 +33,11 @@ returns-in-Ok g c =
           begun_does g.S.Disk.Disk.told (line_with c.args.body.now c.args.line.now) (id_of s) c.args.place named c.args.sessions.now placed c.requires.order.rise before (g.S.Shelf.told.disk c.args.shelf.now) (g.S.Shelf.told.disk c.begin.new.shelf) returned s c.go_on_by.new.self named items c.in-Ok.ensures.lends lends t stand turn (c.in-Ok.ensures.begins told tells)
           (λ r stands. c.go_on_by.ensures.moment s r (rw c.insert.ensures.items (insert_here c.args.sessions.now.begun.items c.args.place s within)) stands ∙ ap (λ m. max m (moment_of r)) c.insert.ensures.moment)
           (c.go_on_by.ensures.under_way c.args.body.now ∙ ap (λ b. b || not (stands_first (line_with c.args.body.now c.args.line.now))) c.insert.ensures.under_way);
+      fresh = λ told tells before fresh way.
+          begun_fresh g.S.Disk.Disk.told before (g.S.Shelf.told.disk c.args.shelf.now) (g.S.Shelf.told.disk c.begin.new.shelf) (id_of s) c.args.sessions.now.begun.items
+          (none_of (id_of s) c.args.place c.args.sessions.now.begun.items placed c.requires.order.rise) returned fresh s refl c.go_on_by.new.self.begun.items
+          (put_is g.S.Disk.Disk.told (line_with c.args.body.now c.args.line.now) (id_of s) c.args.place named c.args.sessions.now placed c.requires.order.rise (g.S.Shelf.told.disk c.args.shelf.now) (g.S.Shelf.told.disk c.args.shelf.now) (g.S.Shelf.told.disk c.begin.new.shelf) returned s c.go_on_by.new.self named items c.in-Ok.ensures.lends)
+          (c.in-Ok.ensures.fresh told tells (id_of s) named);
       hands = λ before lends. hands_of g.S.Shelf.told.tells g.S.Disk.Disk.told before (g.S.Shelf.told.disk c.begin.new.shelf) c.go_on_by.new.self.begun.items
           (lends_begun g.S.Disk.Disk.told (line_with c.args.body.now c.args.line.now) (id_of s) c.args.place named c.args.sessions.now placed c.requires.order.rise before (g.S.Shelf.told.disk c.args.shelf.now) (g.S.Shelf.told.disk c.begin.new.shelf) returned s c.go_on_by.new.self named items c.in-Ok.ensures.lends lends);
       goes = λ e before lends. (
@@ -42,7 +48,7 @@ returns-in-Ok g c =
       memory = λ e. cc;
       line = tt;
       written = λ e. cc;
-      device = λ number h. absurd h;
+      device = λ number role h. absurd h;
       disks_later = c.begin.ensures.later;
     }
 
@@ -56,12 +62,19 @@ returns-in-Err g c =
       order = c.requires.order;
       does = λ told tells before lends t stand turn.
           not_begun g.S.Disk.Disk.told (line_with c.args.body.now c.args.line.now) n c.args.place named c.args.sessions.now placed c.requires.order.rise before (g.S.Shelf.told.disk c.args.shelf.now) (g.S.Shelf.told.disk c.begin.new.shelf) returned lends t stand turn c.in-Err.outcome (c.in-Err.ensures.begins told tells) c.in-Err.ensures.refused;
+      fresh = λ told tells before fresh.
+          after_unbegun g.S.Disk.Disk.told before (g.S.Shelf.told.disk c.args.shelf.now) (g.S.Shelf.told.disk c.begin.new.shelf) n c.args.sessions.now.begun.items
+          (none_of n c.args.place c.args.sessions.now.begun.items placed c.requires.order.rise) returned fresh c.args.sessions.now refl c.in-Err.outcome (λ e. absurd (subst IsOfBeginning e c.in-Err.ensures.line.1))
+          (c.in-Err.ensures.fresh told tells n named);
       hands = λ before lends. hands_none g.S.Disk.Disk.told (line_with c.args.body.now c.args.line.now) n c.args.place named c.args.sessions.now placed c.requires.order.rise before (g.S.Shelf.told.disk c.args.shelf.now) (g.S.Shelf.told.disk c.begin.new.shelf) returned lends g.S.Shelf.told.tells c.in-Err.ensures.back;
       goes = λ e. absurd (subst IsOfBeginning e c.in-Err.ensures.line.1);
       waits = λ e. e;
       memory = λ e. (c.requires.first (c.in-Err.ensures.memory e)).0;
       line = c.in-Err.ensures.line.0;
       written = λ e. absurd (subst IsOfBeginning e c.in-Err.ensures.line.1);
-      device = λ number h. c.in-Err.ensures.device (is_device number c.in-Err.outcome h);
+      device = λ number role h.
+          let fails = c.in-Err.ensures.device number role h in
+          let none = none_of number c.args.place c.args.sessions.now.begun.items (c.requires.placed number fails.0) c.requires.order.rise in
+          (none, none, fails.1);
       disks_later = c.begin.ensures.later;
     }

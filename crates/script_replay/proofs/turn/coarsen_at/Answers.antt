@@ -4,7 +4,8 @@ use Rattle.script_reader.specs.Heads.{line_with}
 use Rattle.script_replay.specs.Sessions.{is_coarse}
 use Rattle.script_replay.proofs.Coarse.{coarse_line}
 use Rattle.script_replay.proofs.Listed.{at_slice, set_here, order_item}
-use Rattle.script_replay.proofs.Turns.{is_put, up_there, lends_last, up_last, rise_last, coarse_does, refused_begun, refused_coarse}
+use Rattle.script_replay.proofs.Fresh.{put_fresh}
+use Rattle.script_replay.proofs.Turns.{same_id, there_own, is_put, up_there, lends_last, up_last, rise_last, coarse_does, refused_begun, refused_coarse}
 use Rattle.script_replay.proofs.turn.coarsen_at.Goals as goal
 
 pub returns-then-begins_session-clause-does : goal.returns-then-begins_session-clause-does
@@ -82,3 +83,19 @@ returns-clause-up g c =
     let items = ap (λ v. v.items) c.go_on_by.ensures.begun ∙ is_put g.D.Disk.told (line_with c.args.body.now c.args.line.now) n c.args.place named c.index_mut.result.now c.make_coarse.new.self c.make_coarse.ensures.with c.args.sessions.now placed at c.requires.order.rise in
     up_last g.D.Disk.told (line_with c.args.body.now c.args.line.now) n c.args.place named c.index_mut.result.now c.make_coarse.new.self c.make_coarse.ensures.with c.args.sessions.now placed at c.requires.order.rise c.go_on_by.new.self items
     (c.make_coarse.ensures.up (up_there n c.args.place c.index_mut.result.now c.args.sessions.now.begun.items placed at c.requires.up)) c.requires.up
+
+pub returns-clause-fresh : goal.returns-clause-fresh
+returns-clause-fresh g c =
+    let low = c.requires.place in
+    let len = c.args.sessions.now.begun.ok.0 in
+    let at = at_slice c.args.sessions.now.begun.items c.args.place c.index_mut.result.now (omega (arith, low, len)) c.index_mut.ensures.value in
+    let n = c.requires.named.0 in
+    let named = c.requires.named.1 in
+    let placed = c.requires.placed n named in
+    let x = c.index_mut.result.now in
+    let t = c.make_coarse.new.self in
+    let items = ap (λ v. v.items) c.go_on_by.ensures.begun ∙ is_put g.D.Disk.told (line_with c.args.body.now c.args.line.now) n c.args.place named x t c.make_coarse.ensures.with c.args.sessions.now placed at c.requires.order.rise in
+    λ before now fresh way.
+    put_fresh g.D.Disk.told before now c.args.sessions.now.begun.items c.go_on_by.new.self.begun.items x t (same_id g.D.Disk.told x t c.make_coarse.ensures.with)
+    (there_own g.D.Disk.told (line_with c.args.body.now c.args.line.now) n c.args.place named x t c.make_coarse.ensures.with c.args.sessions.now placed at c.requires.order.rise) items
+    (λ number. c.make_coarse.ensures.fresh before now number) fresh

@@ -3,6 +3,7 @@ use Rattle.std.specs.Vec.{with_item}
 use Rattle.script_reader.specs.Heads.{line_with}
 use Rattle.script_replay.specs.declared.sessions.Sessions.{Sessions}
 use Rattle.script_replay.specs.Outputs.{held_of}
+use Rattle.script_replay.proofs.Fresh.{fresh_other}
 use Rattle.script_replay.proofs.Listed.{at_slice, set_here, order_item, under_way_so}
 use Rattle.script_replay.proofs.Turns.{is_put, up_there, lends_last, up_last, failed_last, rise_last, line_does, begin_turn}
 use Rattle.script_replay.proofs.turn.go_on_at.Goals as goal
@@ -13,7 +14,7 @@ returns-then-stands_first-clause-does g c = λ tells before now lends t stand tu
     (c.coarsen_at.ensures.does before now lends t stand turn)
 
 pub returns-then-stands_first-clause-device : goal.returns-then-stands_first-clause-device
-returns-then-stands_first-clause-device g c = λ number h before now lends. absurd (c.coarsen_at.ensures.device number h)
+returns-then-stands_first-clause-device g c = λ number role h before now lends. absurd (c.coarsen_at.ensures.device number role h)
 
 pub go_on-requires-clause-up : goal.go_on-requires-clause-up
 go_on-requires-clause-up g c =
@@ -42,12 +43,13 @@ returns-in-Applied g c =
           (held_of c.args.output.now) (held_of c.go_on.new.output) _ _ _
           (λ e. (λ s stands. c.go_on_by.ensures.moment c.go_on.new.session s (set_here c.args.sessions.now.begun.items c.args.place c.go_on.new.session within) stands, c.go_on_by.ensures.under_way c.args.body.now))
           (λ r stands. c.in-Applied.ensures.does tells r stands);
+      fresh = λ before now fresh waits. cc (sym way ∙ waits);
       lends = λ before now lends.
           lends_last g.D.Disk.told (line_with c.args.body.now c.args.line.now) n c.args.place named c.index_mut.result.now c.go_on.new.session c.go_on.ensures.with c.args.sessions.now placed at c.requires.order.rise c.go_on_by.new.self items before now lends;
       up = λ e. up_last g.D.Disk.told (line_with c.args.body.now c.args.line.now) n c.args.place named c.index_mut.result.now c.go_on.new.session c.go_on.ensures.with c.args.sessions.now placed at c.requires.order.rise c.go_on_by.new.self items (c.in-Applied.ensures.up refl) c.requires.up;
       quiet = record { waits = λ e. way; quiet = λ e f. cc (sym way ∙ f); memory = λ e. cc };
       line = tt;
-      device = λ number h. absurd h;
+      device = λ number role h. absurd h;
       later = c.go_on.ensures.later;
       cause = λ e. cc;
     }
@@ -72,14 +74,18 @@ returns-in_default g c =
           (held_of c.args.output.now) (held_of c.go_on.new.output) _ _ c.go_on.result
           (λ e. absurd (c.in_default.not-Applied e))
           (λ r stands. c.go_on.ensures.does tells r stands);
+      fresh = λ before now fresh. fresh_other g.D.Disk.told before now last c.go_on.result c.in_default.not-Applied c.go_on.ensures.memory;
       lends = λ before now lends.
           lends_last g.D.Disk.told (line_with c.args.body.now c.args.line.now) n c.args.place named c.index_mut.result.now c.go_on.new.session c.go_on.ensures.with c.args.sessions.now placed at c.requires.order.rise last items before now lends;
       up = λ e. absurd (c.in_default.not-Applied e);
       quiet = record { waits = λ e. e; quiet = λ e. absurd (c.in_default.not-Applied e); memory = λ e. absurd (c.go_on.ensures.memory e) };
       line = c.go_on.ensures.line;
-      device = λ number h before now lends.
-          failed_last g.D.Disk.told (line_with c.args.body.now c.args.line.now) n c.args.place named c.index_mut.result.now c.go_on.new.session c.go_on.ensures.with c.args.sessions.now placed at c.requires.order.rise last items before now lends number
-          (c.go_on.ensures.device number h);
+      device = λ number role h before now lends.
+          failed_last g.D.Disk.told (line_with c.args.body.now c.args.line.now) n c.args.place named c.index_mut.result.now c.go_on.new.session c.go_on.ensures.with c.args.sessions.now placed at c.requires.order.rise last items before now lends number role
+          (c.go_on.ensures.device number role h);
       later = c.go_on.ensures.later;
       cause = c.go_on.ensures.cause;
     }
+
+pub returns-then-stands_first-clause-fresh : goal.returns-then-stands_first-clause-fresh
+returns-then-stands_first-clause-fresh g c = c.coarsen_at.ensures.fresh

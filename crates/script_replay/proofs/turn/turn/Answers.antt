@@ -7,3 +7,6 @@ use Rattle.script_replay.proofs.turn.turn.Goals as goal
 pub returns-in-None-clause-does : goal.returns-in-None-clause-does
 returns-in-None-clause-does g c = λ told tells before lends t stand.
     skips g.S.Disk.Disk.told before (g.S.Shelf.told.disk c.args.shelf.now) t (line_with c.args.body.now c.args.line.now) c.args.sessions.now (held_of c.args.output.now) _ (c.session_of.ensures c.args.body.now ∙ c.in-None.is) lends stand
+
+pub returns-in-None-clause-fresh : goal.returns-in-None-clause-fresh
+returns-in-None-clause-fresh g c = λ told tells before fresh way. fresh

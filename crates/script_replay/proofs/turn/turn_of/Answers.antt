@@ -4,7 +4,7 @@ use Rattle.script_reader.specs.Sessions.{session_in}
 use Rattle.script_replay.specs.Outputs.{held_of}
 use Rattle.script_replay.specs.Sessions.{IsPlaced}
 use Rattle.script_replay.proofs.Numbered.{place_least}
-use Rattle.script_replay.proofs.Turns.{hands_of, begin_turn}
+use Rattle.script_replay.proofs.Turns.{hands_of, begin_turn, fails_from}
 use Rattle.script_replay.proofs.turn.turn_of.Goals as goal
 
 pub begin_at-requires-clause-place : goal.begin_at-requires-clause-place
@@ -24,7 +24,7 @@ pub returns-then-is_at-clause-goes : goal.returns-then-is_at-clause-goes
 returns-then-is_at-clause-goes g c = λ e before lends. (c.go_on_at.ensures.lends before (g.S.Shelf.told.disk c.args.shelf.now) lends, c.go_on_at.ensures.up e)
 
 pub returns-then-is_at-clause-device : goal.returns-then-is_at-clause-device
-returns-then-is_at-clause-device g c = λ number h before lends. inr (c.go_on_at.ensures.device number h before (g.S.Shelf.told.disk c.args.shelf.now) lends)
+returns-then-is_at-clause-device g c = λ number role h before lends. inr (c.go_on_at.ensures.device number role h before (g.S.Shelf.told.disk c.args.shelf.now) lends)
 
 pub returns-else-is_at-clause-does : goal.returns-else-is_at-clause-does
 returns-else-is_at-clause-does g c = λ told tells before lends t stand.
@@ -32,7 +32,9 @@ returns-else-is_at-clause-does g c = λ told tells before lends t stand.
     (c.begin_at.ensures.does told tells before lends t stand (c.is_in_turn.ensures.may c.args.body.now t stand ∙ c.if-not-is_in_turn.false))
 
 pub returns-else-is_at-clause-device : goal.returns-else-is_at-clause-device
-returns-else-is_at-clause-device g c = λ number h before lends. inl (c.begin_at.ensures.device number h)
+returns-else-is_at-clause-device g c = λ number role h before lends.
+    let fails = c.begin_at.ensures.device number role h in
+    fails_from g.S.Shelf.told g.S.Disk.Disk.told before c.args.shelf.now c.begin_at.new.shelf c.args.sessions.now.begun.items c.begin_at.new.sessions.begun.items number role fails.0 fails.1 lends fails.2
 
 pub returns-then-is_at-clause-order : goal.returns-then-is_at-clause-order
 returns-then-is_at-clause-order g c = c.go_on_at.ensures.order
@@ -118,3 +120,9 @@ begin_at-requires-clause-placed g c = λ number named.
 
 pub begin_at-requires-clause-first : goal.begin_at-requires-clause-first
 begin_at-requires-clause-first g c = c.is_in_turn.ensures.first c.args.body.now c.if-not-is_in_turn.false
+
+pub returns-then-is_at-clause-fresh : goal.returns-then-is_at-clause-fresh
+returns-then-is_at-clause-fresh g c = λ told tells before fresh. c.go_on_at.ensures.fresh before (g.S.Shelf.told.disk c.args.shelf.now) fresh
+
+pub returns-else-is_at-clause-fresh : goal.returns-else-is_at-clause-fresh
+returns-else-is_at-clause-fresh g c = c.begin_at.ensures.fresh

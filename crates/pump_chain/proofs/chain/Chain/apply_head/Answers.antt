@@ -7,6 +7,7 @@ use Rattle.pump_chain.specs.declared.whose.Whose.TheVariants as whose
 use Rattle.pump_chain.specs.Chained.{MakesFirst, MakesSecond}
 use Rattle.pump_chain.specs.Standing.{AppliesBy}
 use Rattle.pump_chain.proofs.Applying.{still_fronts}
+use Rattle.pump_chain.proofs.Counting.{counted_by}
 use Rattle.pump_chain.proofs.Failing.{alone_later}
 use Rattle.pump_chain.proofs.Sharing.{sender_moment, by_share, skipped_applies, none_applies}
 use Rattle.pump_chain.proofs.chain.Chain.apply_head.Goals as goal
@@ -44,7 +45,7 @@ returns-in-CoarsensFirst g c =
           by_share g.D.Disk.told c.args.self.now s stands c.row.result.now c.row-2.result.now c.row.ensures c.row-2.ensures (line_with c.args.bytes.now c.args.line.now) c.find_whose.result (c.find_whose.ensures.is c.args.bytes.now) c.coarsen_first.new.self (lines_in c.clear.new.self.items) c.coarsen_first.result whose.CoarsensFirst c.in-CoarsensFirst.is
           (subst (λ (x : List Printed). AppliesBy g.D.Disk.told c.args.self.now c.coarsen_first.new.self s MakesFirst x c.coarsen_first.result) (sym (ap lines_in c.clear.ensures)) (c.coarsen_first.ensures.applies told s stands));
       crashes = e.crashes;
-      device = e.device;
+      device = counted_by g.D.Disk.told c.args.self.now c.coarsen_first.new.self c.row.result.now c.row-2.result.now c.row.ensures c.row-2.ensures (line_with c.args.bytes.now c.args.line.now) c.find_whose.result whose.CoarsensFirst (c.find_whose.ensures.is c.args.bytes.now) c.in-CoarsensFirst.is c.coarsen_first.result e.device;
       later = e.later;
       down = e.down;
     }
@@ -57,7 +58,7 @@ returns-in-CoarsensSecond g c =
           by_share g.D.Disk.told c.args.self.now s stands c.row.result.now c.row-2.result.now c.row.ensures c.row-2.ensures (line_with c.args.bytes.now c.args.line.now) c.find_whose.result (c.find_whose.ensures.is c.args.bytes.now) c.coarsen_second.new.self (lines_in c.clear.new.self.items) c.coarsen_second.result whose.CoarsensSecond c.in-CoarsensSecond.is
           (subst (λ (x : List Printed). AppliesBy g.D.Disk.told c.args.self.now c.coarsen_second.new.self s MakesSecond x c.coarsen_second.result) (sym (ap lines_in c.clear.ensures)) (c.coarsen_second.ensures.applies told s stands));
       crashes = e.crashes;
-      device = e.device;
+      device = counted_by g.D.Disk.told c.args.self.now c.coarsen_second.new.self c.row.result.now c.row-2.result.now c.row.ensures c.row-2.ensures (line_with c.args.bytes.now c.args.line.now) c.find_whose.result whose.CoarsensSecond (c.find_whose.ensures.is c.args.bytes.now) c.in-CoarsensSecond.is c.coarsen_second.result e.device;
       later = e.later;
       down = e.down;
     }
@@ -70,7 +71,7 @@ returns-in-Firsts g c =
           by_share g.D.Disk.told c.args.self.now s stands c.row.result.now c.row-2.result.now c.row.ensures c.row-2.ensures (line_with c.args.bytes.now c.args.line.now) c.find_whose.result (c.find_whose.ensures.is c.args.bytes.now) c.apply_first.new.self (lines_in c.apply_first.new.events.items) c.apply_first.result whose.Firsts c.in-Firsts.is
           (c.apply_first.ensures.applies told s stands);
       crashes = e.crashes;
-      device = e.device;
+      device = counted_by g.D.Disk.told c.args.self.now c.apply_first.new.self c.row.result.now c.row-2.result.now c.row.ensures c.row-2.ensures (line_with c.args.bytes.now c.args.line.now) c.find_whose.result whose.Firsts (c.find_whose.ensures.is c.args.bytes.now) c.in-Firsts.is c.apply_first.result e.device;
       later = e.later;
       down = e.down;
     }
@@ -83,7 +84,7 @@ returns-in-Seconds g c =
           by_share g.D.Disk.told c.args.self.now s stands c.row.result.now c.row-2.result.now c.row.ensures c.row-2.ensures (line_with c.args.bytes.now c.args.line.now) c.find_whose.result (c.find_whose.ensures.is c.args.bytes.now) c.apply_second.new.self (lines_in c.apply_second.new.events.items) c.apply_second.result whose.Seconds c.in-Seconds.is
           (c.apply_second.ensures.applies told s stands);
       crashes = e.crashes;
-      device = e.device;
+      device = counted_by g.D.Disk.told c.args.self.now c.apply_second.new.self c.row.result.now c.row-2.result.now c.row.ensures c.row-2.ensures (line_with c.args.bytes.now c.args.line.now) c.find_whose.result whose.Seconds (c.find_whose.ensures.is c.args.bytes.now) c.in-Seconds.is c.apply_second.result e.device;
       later = e.later;
       down = e.down;
     }
@@ -96,7 +97,7 @@ returns-in-Senders g c =
           by_share g.D.Disk.told c.args.self.now s stands c.row.result.now c.row-2.result.now c.row.ensures c.row-2.ensures (line_with c.args.bytes.now c.args.line.now) c.find_whose.result (c.find_whose.ensures.is c.args.bytes.now) c.step.new.self (lines_in c.step.new.events.items) c.step.result (whose.Senders c.in-Senders.moment c.in-Senders.word) c.in-Senders.is
           (c.step.ensures.applies told s stands);
       crashes = e.crashes;
-      device = e.device;
+      device = counted_by g.D.Disk.told c.args.self.now c.step.new.self c.row.result.now c.row-2.result.now c.row.ensures c.row-2.ensures (line_with c.args.bytes.now c.args.line.now) c.find_whose.result (whose.Senders c.in-Senders.moment c.in-Senders.word) (c.find_whose.ensures.is c.args.bytes.now) c.in-Senders.is c.step.result e.device;
       later = e.later;
       down = e.down;
     }

@@ -1,13 +1,14 @@
-use Rattle.std.proofs.Common.{◌≡◌, ◌||◌, Bool, true, false, inl, refl, sym, ap, ◌∙◌, subst, arith}
+use Rattle.std.proofs.Common.{◌≡◌, ◌||◌, Bool, true, false, inl, inr, refl, sym, ap, ◌∙◌, subst, arith}
 use Rattle.std.proofs.lemmas.Bool.{or_parts, le-leb, lt-leb}
 use Rattle.script_reader.specs.declared.line.Arriving.{Arriving}
+use Rattle.script_reader.specs.declared.line.Arriving.TheVariants as arriving
 use Rattle.script_reader.specs.declared.line.Line.TheVariants as lines
 use Rattle.script_reader.specs.Heads.{arriving_with}
 use Rattle.two_worlds.specs.declared.pump.Pump.{Pump}
 use Rattle.two_worlds.specs.Printing.{lines_in}
 use Rattle.two_worlds.specs.Pumps.{row_of, is_down}
-use Rattle.pump_chain.specs.Chained.{added, is_frame}
-use Rattle.pump_chain.proofs.Applying.{order_is, still_fronts, none_way}
+use Rattle.pump_chain.specs.Chained.{OfSecond, added, is_frame}
+use Rattle.pump_chain.proofs.Applying.{order_is, still_both, still_fronts, none_way}
 use Rattle.pump_chain.proofs.Counting.{second_counts, serves_rose}
 use Rattle.pump_chain.specs.Standing.{AreCounted}
 use Rattle.pump_chain.proofs.Printing.{none_printed}
@@ -21,7 +22,7 @@ returns-then-moment-clause-applies g c = λ told s stands.
     let last = c.moment.ensures in
     let test = c.if-moment.true in
     let line = lines.Look (row_of c.args.self.now.second).id c.args.moment c.args.word (added s) in
-    (inl (sym (order_is g.D.Disk.told c.args.self.now s line stands) ∙ lt-leb _ _ (omega (arith, last, test))), none_printed c.args.events.now.items c.requires.none, stands)
+    (inl (sym (order_is g.D.Disk.told c.args.self.now s line stands) ∙ lt-leb _ _ (omega (arith, last, test))), none_printed c.args.events.now.items c.requires.none, stands, still_both g.D.Disk.told c.args.self.now s stands)
 
 pub returns-then-moment-clause-crashes : goal.returns-then-moment-clause-crashes
 returns-then-moment-clause-crashes g c = λ told s stands. still_fronts g.D.Disk.told c.args.self.now s stands
@@ -32,8 +33,8 @@ returns-in-Err-clause-applies g c = λ told s stands.
     let test = c.if-moment.false in
     let e = c.in-Err.ensures in
     let line = lines.Look (row_of c.args.self.now.second).id c.args.moment c.args.word (added s) in
-    unread_applies g.D.Disk.told c.args.self.now s stands c.add.new.self line (lines_in c.args.events.now.items) c.in-Err.device.faults (sym (order_is g.D.Disk.told c.args.self.now s line stands) ∙ le-leb _ _ (omega (arith, last, test)))
-    (e.message told s stands) (none_printed c.args.events.now.items c.requires.none) e.fails e.second
+    unread_applies g.D.Disk.told c.args.self.now s stands c.add.new.self (row_of c.args.self.now.second).id c.args.moment c.args.word (added s) (lines_in c.args.events.now.items) c.in-Err.device.faults (sym (order_is g.D.Disk.told c.args.self.now s line stands) ∙ le-leb _ _ (omega (arith, last, test)))
+    (e.message told s stands) (none_printed c.args.events.now.items c.requires.none) e.fails e.second e.device
 
 pub returns-in-Err-clause-crashes : goal.returns-in-Err-clause-crashes
 returns-in-Err-clause-crashes g c = λ told s stands. unread_fronts g.D.Disk.told c.args.self.now s stands c.add.new.self c.in-Err.ensures.fails c.in-Err.ensures.second
@@ -57,7 +58,7 @@ returns-clause-applies g c = λ told s stands.
     let same : lines.Look c.row.result.now.id c.args.moment c.args.word (arriving_with c.as_slice.result.now c.in-Ok.arrival) ≡ lines.Look (row_of was.second).id c.args.moment c.args.word (added s) = λ i. lines.Look (id i) c.args.moment c.args.word (arrives i) in
     let way = none_way u.is_under_way stop c.either-self.result (c.either-self.ensures ∙ ap (λ b. u.is_under_way || b) c.is_applied-applied.ensures) in
     let sent = look_way u.sender s.sender c.is_frame.result (added s) c.apply_head-stop.new.events.items c.as_slice-2.result.now stop c.is_applied-applied.result c.looked.new.self (e.sender ∙ stands.sender) (c.is_frame.ensures c.add.new.payload ∙ ap (λ (a : Arriving). is_frame a) (e.adds told s stands)) c.as_slice-2.ensures.value c.is_applied-applied.ensures c.looked.ensures in
-    look_applies m was s stands u e.reads e.second e.sender e.under_way _ (row_of was.second).id c.args.moment c.args.word same (lines_in c.apply_head-stop.new.events.items) stop _ (a.applies told s.second.past (read_stands m was s stands u e.reads e.second e.sender e.under_way).second) a.row refl (sym (order_is m was s line stands) ∙ le-leb _ _ (omega (arith, last, test)))
+    look_applies m was s stands u e.reads e.second e.sender e.under_way _ (row_of was.second).id c.args.moment c.args.word same (lines_in c.apply_head-stop.new.events.items) stop _ a.serve (a.applies told s.second.past (read_stands m was s stands u e.reads e.second e.sender e.under_way).second) a.row refl (sym (order_is m was s line stands) ∙ le-leb _ _ (omega (arith, last, test)))
     (λ none. (way.0 none, sent.0 none)) (λ refused. (way.1 refused, sent.1 refused))
 
 pub returns-clause-crashes : goal.returns-clause-crashes
@@ -101,7 +102,7 @@ pub returns-in-Err-clause-down : goal.returns-in-Err-clause-down
 returns-in-Err-clause-down g c = ap (λ (b : Bool). b || is_down c.add.new.self.second) c.in-Err.ensures.fails.alone.down
 
 pub returns-in-Err-clause-device : goal.returns-in-Err-clause-device
-returns-in-Err-clause-device g c = inl (serves_rose g.D.Disk.told _ _ _ c.in-Err.ensures.fails.alone.serves)
+returns-in-Err-clause-device g c = inr (refl, refl, (serves_rose g.D.Disk.told _ _ _ c.in-Err.ensures.fails.alone.serves, c.in-Err.ensures.device))
 
 pub returns-clause-device : goal.returns-clause-device
 returns-clause-device g c =
@@ -109,7 +110,9 @@ returns-clause-device g c =
     let u = c.add.new.self in
     let t = c.apply_head-stop.new.self in
     let stop = c.apply_head-stop.result in
-    subst (λ (x : Pump _ _). AreCounted m c.args.self.now.first u.first x t stop) c.in-Ok.ensures.second (second_counts m c.args.self.now.first u.first u.second t stop c.apply_head-stop.ensures.serve)
+    let line = lines.Look (row_of c.args.self.now.second).id c.args.moment c.args.word arriving.Nothing in
+    let given = lines.Look c.row.result.now.id c.args.moment c.args.word (arriving_with c.as_slice.result.now c.in-Ok.arrival) in
+    subst (λ (x : Pump _ _). AreCounted m (OfSecond line) c.args.self.now.first u.first x t stop) c.in-Ok.ensures.second (second_counts m c.args.self.now.first u.first u.second t line given (lines_in c.apply_head-stop.new.events.items) stop c.apply_head-stop.ensures.serve c.apply_head-stop.ensures.on)
 
 pub returns-clause-down : goal.returns-clause-down
 returns-clause-down g c = ap (λ (b : Bool). b || is_down c.apply_head-stop.new.self) c.in-Ok.ensures.reads.alone.down ∙ c.apply_head-stop.ensures.down

@@ -1,0 +1,22 @@
+use Rattle.std.proofs.Common.{List, ℕ, subst}
+use Rattle.commands.specs.Tables.{HasRow}
+use Rattle.script_replay.specs.Failing.{FailsAt}
+use Rattle.commands.proofs.Failing.{fails_later}
+use Rattle.commands.proofs.Formatted.{formats_so}
+use Rattle.commands.proofs.format.format_row.Goals as goal
+
+pub returns-clause-device : goal.returns-clause-device
+returns-clause-device g c = λ role is.
+    let r = c.in_ok-row.ensures in
+    subst (λ (n : ℕ). FailsAt g.S.Shelf.told g.S.Disk.Disk.told c.args.shelf.now c.format_disks.new.shelf n role) r.id
+    (fails_later g.S.Shelf.told g.S.Disk.Disk.told c.args.shelf.now c.row_in_file.new.shelf c.format_disks.new.shelf c.in_ok-row.row.id role c.row_in_file.ensures.disks c.row_in_file.ensures.disk_faults (c.format_disks.ensures.device role is))
+
+pub returns-clause-formats : goal.returns-clause-formats
+returns-clause-formats g c = λ told tells.
+    let r = c.in_ok-row.ensures in
+    formats_so g.S.Shelf.told.tells g.S.Disk.Disk.told.tells (g.S.Shelf.told.file c.args.shelf.now c.args.table.now) (g.S.Shelf.told.disk c.args.shelf.now) (g.S.Shelf.told.disk c.row_in_file.new.shelf) (g.S.Shelf.told.disk c.format_disks.new.shelf)
+    (FailsAt g.S.Shelf.told g.S.Disk.Disk.told c.args.shelf.now c.format_disks.new.shelf) c.args.session c.in_ok-row.row c.format_disks.result
+    (subst (λ (n : List ℕ). HasRow (g.S.Shelf.told.file c.args.shelf.now n) c.args.session c.in_ok-row.row) c.as_str.ensures.value (r.row told)) r.id c.row_in_file.ensures.disks c.format_disks.ensures.formatted c.format_disks.ensures.stops
+    (λ role is. subst (λ (n : ℕ). FailsAt g.S.Shelf.told g.S.Disk.Disk.told c.args.shelf.now c.format_disks.new.shelf n role) r.id
+    (fails_later g.S.Shelf.told g.S.Disk.Disk.told c.args.shelf.now c.row_in_file.new.shelf c.format_disks.new.shelf c.in_ok-row.row.id role c.row_in_file.ensures.disks c.row_in_file.ensures.disk_faults (c.format_disks.ensures.device role is)))
+    told tells

@@ -4,7 +4,7 @@ The words are no command.
 
   $ netpump help
   fault words
-  netpump: these words are no command; type one of these after the program's name:
+  netpump 1.0: the word 'help' is no command; type one of these after the program's name:
     replay                      reads a script from standard input and prints its transcript, as in: netpump replay < SCRIPT
     format TABLE S              formats the three empty disks of session S, which has a row in the file TABLE
     show TABLE S                prints the counts of session S, and the messages on its low disk that are not removed
@@ -21,6 +21,24 @@ The words are no command.
     chain                       reads a script of two sessions from standard input, of which the second one sends on what the receiver of the first one has, and prints its transcript, as in: netpump chain < SCRIPT
   TABLE is the name of a file in this folder: 1 to 64 letters, digits, dots, underscores and dashes, the first a letter or a digit. TIMES are 1 to 16 numbers up to 1000000000 with commas between, as 50,700,20: how many microseconds the receiver takes for each message in turn. LOOKS is at least 1; a look or a round that finds nothing takes about a millisecond. Numbers are written without a sign and without zeros before them, and are below 2^32
   [2]
+
+The first sentence says which word is wrong, and the list of commands follows.
+
+  $ which() { netpump "$@" 2>&1 >/dev/null | head -n 1 | cut -d';' -f1; }
+  $ which; which --version; which show t.toml; which audit record
+  netpump 1.0: there is no word
+  netpump 1.0: the word '--version' is no command
+  netpump 1.0: the command show takes 2 words and is given 1
+  netpump 1.0: the command audit takes 0 words and is given 1
+  $ which show a/b 1; which format t.toml 01; which serve t.toml 1 0; which exercise 1 100001
+  netpump 1.0: the word 'a/b' can't stand for TABLE of show
+  netpump 1.0: the word '01' can't stand for S of format
+  netpump 1.0: the word '0' can't stand for LOOKS of serve
+  netpump 1.0: the word '100001' can't stand for COUNT of exercise
+  $ which migrate t.toml 1 new.toml 4294967296; which race 0 1 50,,7; which race 0 1 1,2,3,4,5,6,7,8,9,10,11,12,13,14,15,16,17
+  netpump 1.0: the word '4294967296' can't stand for T of migrate
+  netpump 1.0: the word '50,,7' can't stand for TIMES of race
+  netpump 1.0: the word '1,2,3,4,5,6,7,8,9,10,11,12,13,14,15,16,17' can't stand for TIMES of race
 
 A line of a script is faulty, and standard input can't be read.
 

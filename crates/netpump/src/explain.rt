@@ -7,10 +7,10 @@ mod link;
 mod moving;
 mod quiet;
 mod unwrapping;
+mod words;
 mod wrapping;
 
 use auditing::{explain_audit, explain_difference, explain_unpaired};
-use command_line::USAGE;
 use disks::explain_refusal;
 use files::{explain_disk_file, explain_table_file, table_bytes};
 pub use link::row;
@@ -25,6 +25,7 @@ use session_table::{Table, TableFault};
 use std::io::{self, ErrorKind};
 use std::str;
 use unwrapping::explain_unwrap;
+use words::explain_words;
 use wrapping::explain_wrap;
 
 /// What is known of a file that stopped a command with status 3 or 7, or of a port that did with status 9.
@@ -168,7 +169,7 @@ pub fn explain(rt: &HostRuntime, words: &[String], ending: &Ending<'_>) -> io::R
     match status {
         0 => tell_left_out(rt, words, ending.passed),
         1 => eprintln!(rt; "netpump: there is not enough memory; end other programs and try again"),
-        2 => eprintln!(rt; "netpump: these words are no command; {USAGE}"),
+        2 => explain_words(rt, words),
         3 => explain_unread(rt, words, trouble),
         4 => explain_unwritten(rt, words),
         5 if word(words, 0) == Some("send") => explain_message(rt, last),

@@ -128,3 +128,15 @@ A disk that another program has locked is not opened.
   formatted 1
   fault device 1 high
   [7]
+
+A replay answers each line before it asks for the next, so a person at a terminal sees what it did.
+
+  $ mkfifo in; touch out; netpump replay <in >out & exec 3>in
+  $ answers() { for _ in {1..100}; do [ "$(wc -l <out)" = "$1" ] && break; sleep 0.05; done; cat out; }
+  $ printf '%s\n' 'low-session 1 3 8 2 20000 100000 500000 weather watch 0 0' 'told 1 10 00000000 fine - hello weather watch' >&3; answers 1
+  low 1 10 welcome 0
+  $ printf '%s\n' 'told 1 20 00000000 fine - data 7 61' >&3; answers 2
+  low 1 10 welcome 0
+  low 1 20 refuse 4 0
+  $ exec 3>&-; wait; tail -1 out
+  end 1 0 - -

@@ -1,5 +1,5 @@
 """common: what the scripts of this folder share: finding the program and running it, a session table, free ports, the commands
-of docs/running.md, a reader of the three disks, processes that are started and ended, and a count of what was tried. It is a
+of a page, a reader of the three disks, processes that are started and ended, and a count of what was tried. It is a
 module: run by itself it does nothing.
 
 The reader goes by docs/formats.md, "Disks", and has nothing of netpump's own code."""
@@ -101,15 +101,15 @@ def free_ports(count=2):
     return ports
 
 
-# ---- the commands of docs/running.md ----
+# ---- the commands of a page ----
 
 FENCE = re.compile(r"^( *)```(\w*)\n(.*?)^ *```$", re.M | re.S)
 
 
-def sections():
-    """The sections of the page, each by its title and its text."""
-    with open(f"{TOP}/docs/running.md", encoding="utf-8") as page:
-        for section in re.split(r"^## ", page.read(), flags=re.M)[1:]:
+def sections(page="docs/running.md"):
+    """The sections of a page, each by its title and its text."""
+    with open(f"{TOP}/{page}", encoding="utf-8") as text:
+        for section in re.split(r"^## ", text.read(), flags=re.M)[1:]:
             yield section.split("\n", 1)[0], section
 
 
@@ -121,6 +121,13 @@ def blocks(section):
         has_run = has_run or language == "sh"
         if has_run and language in ("sh", ""):
             yield language == "sh", textwrap.dedent(body)
+
+
+def key_words(port):
+    """What running.md writes before the key that may reach this port alone."""
+    with open(f"{TOP}/docs/running.md", encoding="utf-8") as page:
+        found = re.search(r'restrict,\S*permitopen="127\.0\.0\.1:7001"\S*?command="/bin/false"', page.read())
+        return found.group(0).replace("7001", str(port))
 
 
 # ---- a reader of the three disks ----

@@ -120,7 +120,9 @@ class Trace:
             return self.add(number, "syncing", name)
         if call == "write":
             return text and self.add(number, "said", name, 0, text)
-        return text and self.add(number, "write", name, int(PLACE.search(rest).group(1)), text)
+        place = PLACE.search(rest)
+        # A line without a place was cut by the kill, before the call could begin.
+        return text and place and self.add(number, "write", name, int(place.group(1)), text)
 
     def opened(self, number, path, is_made):
         """A command gives names without a folder; the files of this script have whole paths."""

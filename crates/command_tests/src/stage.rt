@@ -58,7 +58,7 @@ impl<D: Disk + Drop> Stage<D> {
         let mut source = MemSource::new(script, piece, read_fails);
         let mut sink = MemSink::new(room, ROOM, write_fails);
         let status = match play {
-            Play::Sessions => replay(alloc, &mut self.shelf, &mut source, &mut sink).status(),
+            Play::Sessions => replay(alloc, &mut self.shelf, &mut source, &mut sink),
             Play::Chain => replay_chain(alloc, &mut self.shelf, &mut source, &mut sink).status(),
         };
         let written = Vec::from_slice(alloc, sink.written());

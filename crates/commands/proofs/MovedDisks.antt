@@ -6,7 +6,7 @@ use Rattle.disk_model.specs.declared.name.Role.TheVariants as roles
 use Rattle.pump_frame.specs.Rows.{IsLawfulRow}
 use Rattle.pump_frame.specs.declared.row.SessionRow.{SessionRow}
 use Rattle.recovery.specs.Calls.{is_device}
-use Rattle.recovery.specs.Moves.{StandFor, AreFound, IsMoveRefused, IsKept, Counted, is_blamed, first_full}
+use Rattle.recovery.specs.Moves.{StandFor, AreFound, AreWritten, IsMoveRefused, IsKept, Counted, is_blamed, first_full}
 use Rattle.recovery.specs.declared.trio.MoveFault.{MoveFault}
 use Rattle.recovery.specs.declared.trio.Trio.{Trio}
 use Rattle.recovery.specs.declared.why.Why.{Why}
@@ -27,11 +27,12 @@ module _ {D : Type 0} (d : Meaning D) (row new_row : SessionRow) where
       × (length received ≡ n.2)
       × (first_full (d.reading new.low) (d.reading new.high) (d.reading new.recv) ≡ None)
       × StandFor new_row n.0 n.1 live received (d.reading now.low) (d.reading now.high) (d.reading now.recv)
+      × AreWritten new_row n.0 n.1 n.2 live (d.reading old.recv) (d.reading now.low) (d.reading now.high) (d.reading now.recv)
 
   moved : (lawful : IsLawfulRow row) (new_lawful : IsLawfulRow new_row) (old new now : TakenDisks D) (accepted_count removed_count received_count : ℕ)
       → Given (trio_of old) (trio_of new) (trio_of now) (accepted_count, removed_count, received_count)
       → MovesTo d row new_row old new now (record { accepted = accepted_count; removed = removed_count; received = received_count })
-  moved lawful new_lawful old new now e b r (live, received, a, count, none, s) = record {
+  moved lawful new_lawful old new now e b r (live, received, a, count, none, s, written) = record {
     found = found row new_row lawful new_lawful e b live received _ _ _ _ _ _ a s;
     stand = stands row new_row lawful new_lawful e b live received _ _ _ _ _ _ a s;
     empty = none;

@@ -7,9 +7,10 @@ use Rattle.std.specs.Option.{ok_or}
 use Rattle.disk_model.specs.Shelf.{ReadsFile}
 use Rattle.pump_frame.specs.declared.row.SessionRow.{SessionRow}
 use Rattle.session_table.specs.Documents.{table_of}
-use Rattle.commands.specs.Tables.{row_among, row_in, IsRowIn, IsRowOf}
+use Rattle.pump_frame.specs.Counts.{Rose}
+use Rattle.commands.specs.Tables.{row_among, row_in, IsRowIn, IsRowOf, IsTableEnd, StopsAtTable, StopsAtFile}
 use Rattle.commands.specs.declared.command_end.CommandEnd.{CommandEnd}
-use Rattle.commands.specs.declared.command_end.CommandEnd.TheVariants.{Memory, Unread}
+use Rattle.commands.specs.declared.command_end.CommandEnd.TheVariants.{Memory, Unread, NoRow}
 
 -- ---- the session of a row that is found ----
 
@@ -49,3 +50,15 @@ row_read (Some bytes) old new slice n session answer reads size few is given =
     let whole : take (length old) bytes ≡ bytes = take_all (length old) bytes (omega (arith, size, short)) in
     let same : slice ≡ bytes = is ∙ ap (λ k. take k new) reads.0 ∙ ap (take (length bytes)) (reads.1 ∙ ap (λ b. b ++ drop (length bytes) old) whole) ∙ take_at bytes (drop (length bytes) old) (length bytes) refl in
     row_of_bytes bytes session (row_among session (table_of bytes)) answer (short_row bytes session short) (subst (λ (b : List ℕ). IsRowIn answer (row_among session (table_of b))) same given)
+
+-- ---- a table that gives no row ----
+
+pub stops_at_table : (file : Option (List ℕ)) (session : ℕ) (end : CommandEnd) → IsTableEnd end → IsRowOf file session (Err end) → StopsAtTable file session end
+stops_at_table file session Memory only row = tt
+stops_at_table file session Unread only row = tt
+stops_at_table file session (NoRow number at) only row = row
+stops_at_table file session end only row = absurd only
+
+pub stops_at_file : (file : Option (List ℕ)) (faults now_faults session : ℕ) (end : CommandEnd) → IsTableEnd end → IsRowOf file session (Err end)
+    → (◌≡◌ {A = Result SessionRow CommandEnd} (Err end) (Err Unread) → Rose faults now_faults) → StopsAtFile faults now_faults file session end
+stops_at_file file faults now_faults session end only row rose = (stops_at_table file session end only row, λ e. rose (ap Err e))

@@ -255,9 +255,9 @@ module _ {D : Type 0} (m : Meaning D) (tells : m.tells) (before mid now : Places
 
 -- ---- the command ----
 
-pub wraps_row : (file : Option (List ℕ)) (before between after : Places) (session : ℕ) (row : SessionRow) (left now_left : Option (List ℕ)) (end : SendEnd) → HasRow file session row → between ≡ before
-    → WrapsFrom between after row left now_left end → Wraps file before after session left now_left end
-wraps_row file before between after session row left now_left end has same h = inr (row, has, subst (λ (places : Places). WrapsFrom places after row left now_left end) same h)
+pub wraps_row : (faults now_faults : ℕ) (file : Option (List ℕ)) (before between after : Places) (session : ℕ) (row : SessionRow) (left now_left : Option (List ℕ)) (end : SendEnd) → HasRow file session row → between ≡ before
+    → WrapsFrom between after row left now_left end → Wraps faults now_faults file before after session left now_left end
+wraps_row faults now_faults file before between after session row left now_left end has same h = inr (row, has, subst (λ (places : Places). WrapsFrom places after row left now_left end) same h)
 
 -- the source was not read
 pub nothing_given : (left : Option (List ℕ)) → Gave 0 left left false

@@ -22,7 +22,7 @@ use Rattle.two_worlds.specs.declared.applied.Stop.{Stop}
 use Rattle.two_worlds.specs.declared.applied.Stop.TheVariants as stops
 use Rattle.commands.specs.CommandEnds.{end_line, end_status}
 use Rattle.commands.specs.Showing.{end_at}
-use Rattle.commands.specs.Tables.{HasRow, StopsAtTable}
+use Rattle.commands.specs.Tables.{HasRow, StopsAtFile}
 use Rattle.commands.specs.declared.command_end.CommandEnd.{CommandEnd}
 use Rattle.commands.specs.declared.command_end.CommandEnd.TheVariants.{Memory, Unread, BadLine, NoRow, Failed, Refused, Full, Unwritten}
 use Rattle.commands.specs.declared.wrap.SendEnd.{SendEnd}
@@ -132,11 +132,11 @@ WrapsFrom before after row left now_left end =
     ((row.message < 9) × (end ≡ Stopped (NoRow 12 row.id)) × (after ≡ before))
     ⊎ ((9 ≤ row.message) × WrapsOn before after row left now_left end)
 
--- with the row of the session, if the table has one; `file` is the table's, and `left` and `now_left` are the bytes to send that the
--- source has before and after
-abbrev pub Wraps : Option (List ℕ) → Places → Places → ℕ → Option (List ℕ) → Option (List ℕ) → SendEnd → Type 0
-Wraps file before after session left now_left end =
-    ((stop : CommandEnd) × StopsAtTable file session stop × (end ≡ Stopped stop) × (after ≡ before))
+-- with the row of the session, if the table has one; `file` is the table's, `faults` and `now_faults` count the failed reads of the
+-- shelf's files, and `left` and `now_left` are the bytes to send that the source has before and after
+abbrev pub Wraps : ℕ → ℕ → Option (List ℕ) → Places → Places → ℕ → Option (List ℕ) → Option (List ℕ) → SendEnd → Type 0
+Wraps faults now_faults file before after session left now_left end =
+    ((stop : CommandEnd) × StopsAtFile faults now_faults file session stop × (end ≡ Stopped stop) × (after ≡ before))
     ⊎ ((row : SessionRow) × HasRow file session row × WrapsFrom before after row left now_left end)
 
 -- the file is too long
@@ -145,8 +145,9 @@ is_long TooLong = true
 is_long end = false
 
 -- .. and it is too long just where the source gave 2^48 bytes
-abbrev pub WrapsAll : Option (List ℕ) → Places → Places → ℕ → Option (List ℕ) → Option (List ℕ) → SendEnd → Type 0
-WrapsAll file before after session left now_left end = Wraps file before after session left now_left end × Gave 0 left now_left (is_long end)
+abbrev pub WrapsAll : ℕ → ℕ → Option (List ℕ) → Places → Places → ℕ → Option (List ℕ) → Option (List ℕ) → SendEnd → Type 0
+WrapsAll faults now_faults file before after session left now_left end =
+    Wraps faults now_faults file before after session left now_left end × Gave 0 left now_left (is_long end)
 
 -- it ends so, and its line was written; or a front of that was
 abbrev pub WritesSend : (SendEnd → Type 0) → ℕ → Option (List ℕ) → Option (List ℕ) → SendEnd → Type 0
@@ -154,9 +155,9 @@ WritesSend Ends session old new (Stopped Unwritten) = (end : SendEnd) × Ends en
 WritesSend Ends session old new end = Ends end × Appends old new (send_line session end)
 
 -- .. with this status
-abbrev pub EndsWrap : Option (List ℕ) → Places → Places → ℕ → Option (List ℕ) → Option (List ℕ) → Option (List ℕ) → Option (List ℕ) → ℕ → Type 0
-EndsWrap file before after session left now_left old new status =
-    (end : SendEnd) × (send_status end ≡ status) × WritesSend (WrapsAll file before after session left now_left) session old new end
+abbrev pub EndsWrap : ℕ → ℕ → Option (List ℕ) → Places → Places → ℕ → Option (List ℕ) → Option (List ℕ) → Option (List ℕ) → Option (List ℕ) → ℕ → Type 0
+EndsWrap faults now_faults file before after session left now_left old new status =
+    (end : SendEnd) × (send_status end ≡ status) × WritesSend (WrapsAll faults now_faults file before after session left now_left) session old new end
 
 -- one of its statuses
 abbrev pub IsSendStatus : ℕ → Type 0

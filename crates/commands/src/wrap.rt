@@ -151,7 +151,7 @@ fn wrap_in_table<S: Shelf, I: Source>(
     file: &mut I,
 ) -> SendEnd
     ensures wraps { S.told.tells → S.Disk.told.tells
-        → Wraps (S.told.file shelf.old table.now) (S.told.disk shelf.old) (S.told.disk shelf.new) session (I.left file.old) (I.left file.new) result }
+        → Wraps (S.told.faults shelf.old) (S.told.faults shelf.new) (S.told.file shelf.old table.now) (S.told.disk shelf.old) (S.told.disk shelf.new) session (I.left file.old) (I.left file.new) result }
     ensures back { S.told.tells → AllAreBack (S.told.disk shelf.old) (S.told.disk shelf.new) }
     ensures device { (role : DiskRole) → result ≡ Stopped (ends.Failed role) → Rose (S.told.disk_faults shelf.old) (S.told.disk_faults shelf.new) }
     ensures read { result ≡ Stopped ends.Unread → Rose (S.told.faults shelf.old) (S.told.faults shelf.new) ⊎ Rose (I.faults file.old) (I.faults file.new) }
@@ -193,7 +193,7 @@ pub fn wrap_session<S: Shelf, I: Source, O: Sink>(
     out: &mut O,
 ) -> SendEnd
     ensures ends { S.told.tells → S.Disk.told.tells
-        → WritesSend (WrapsAll (S.told.file shelf.old table.now) (S.told.disk shelf.old) (S.told.disk shelf.new) session (I.left file.old) (I.left file.new)) session
+        → WritesSend (WrapsAll (S.told.faults shelf.old) (S.told.faults shelf.new) (S.told.file shelf.old table.now) (S.told.disk shelf.old) (S.told.disk shelf.new) session (I.left file.old) (I.left file.new)) session
         (O.written out.old) (O.written out.new) result }
     ensures back { S.told.tells → AllAreBack (S.told.disk shelf.old) (S.told.disk shelf.new) }
     ensures device { (role : DiskRole) → result ≡ Stopped (ends.Failed role) → Rose (S.told.disk_faults shelf.old) (S.told.disk_faults shelf.new) }

@@ -202,6 +202,7 @@ impl Disk for MemDisk {
         ensures within { OnOk result (at + length into.old ≤ length (mem_reading self.old)) }
         ensures bytes { OnOk result
             (into.new ≡ take (length into.old) (drop at (mem_reading self.old))) }
+        ensures stays { OnErr result (into.new ≡ into.old) }
         ensures moves { Moves mem_meaning Same self.old self.new }
         ensures images { KeepsImages mem_meaning self.old self.new }
         ensures answers { Answers mem_meaning (at + length into.old ≤ length (mem_reading self.old))

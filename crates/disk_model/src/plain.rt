@@ -125,6 +125,7 @@ impl Disk for PlainDisk {
     fn read(&mut self, at: u64, into: &mut [u8]) -> Result<(), DiskFault>
         ensures within { OnOk result (at + length into.old ≤ length self.old.bytes) }
         ensures bytes { OnOk result (into.new ≡ take (length into.old) (drop at self.old.bytes)) }
+        ensures stays { OnErr result (into.new ≡ into.old) }
         ensures moves { Moves plain_meaning Same self.old self.new }
         ensures images { KeepsImages plain_meaning self.old self.new }
         ensures answers { Answers plain_meaning (at + length into.old ≤ length self.old.bytes)

@@ -116,18 +116,18 @@ wrapped_table_is t u n m e = cc
 wrapped_session_is : (t u : List ℕ) (n m : ℕ) → Wrap t n ≡ Wrap u m → n ≡ m
 wrapped_session_is t u n m e = cc
 
-pub wraps_asked : (file : List ℕ → Option (List ℕ)) (before after : Places) (left now_left old new : Option (List ℕ)) (t u : List ℕ) (n m : ℕ) (end : SendEnd) (status : ℕ)
-    → WritesSend (WrapsAll (file t) before after n left now_left) n old new end → status ≡ send_status end → (b : Command) → b ≡ Wrap t n → b ≡ Wrap u m
-    → EndsWrap (file u) before after m left now_left old new status
-wraps_asked file before after left now_left old new t u n m end status ends is b one other =
+pub wraps_asked : (faults now_faults : ℕ) (file : List ℕ → Option (List ℕ)) (before after : Places) (left now_left old new : Option (List ℕ)) (t u : List ℕ) (n m : ℕ) (end : SendEnd) (status : ℕ)
+    → WritesSend (WrapsAll faults now_faults (file t) before after n left now_left) n old new end → status ≡ send_status end → (b : Command) → b ≡ Wrap t n → b ≡ Wrap u m
+    → EndsWrap faults now_faults (file u) before after m left now_left old new status
+wraps_asked faults now_faults file before after left now_left old new t u n m end status ends is b one other =
     let same = sym one ∙ other in (
       end,
       sym is,
-      subst (λ (p : List ℕ × ℕ). WritesSend (WrapsAll (file p.0) before after p.1 left now_left) p.1 old new end) (λ i. (wrapped_table_is t u n m same i, wrapped_session_is t u n m same i)) ends,
+      subst (λ (p : List ℕ × ℕ). WritesSend (WrapsAll faults now_faults (file p.0) before after p.1 left now_left) p.1 old new end) (λ i. (wrapped_table_is t u n m same i, wrapped_session_is t u n m same i)) ends,
     )
 
-pub wraps_nothing : (file : Option (List ℕ)) (places : Places) (left old new : Option (List ℕ)) (session : ℕ) → Appends old new [] → EndsWrap file places places session left left old new 1
-wraps_nothing file places left old new session a = (SentStop ends.Memory, refl, ((inl (ends.Memory, tt, refl, refl), nothing_given left), a))
+pub wraps_nothing : (faults : ℕ) (file : Option (List ℕ)) (places : Places) (left old new : Option (List ℕ)) (session : ℕ) → Appends old new [] → EndsWrap faults faults file places places session left left old new 1
+wraps_nothing faults file places left old new session a = (SentStop ends.Memory, refl, ((inl (ends.Memory, (tt, λ e. cc), refl, refl), nothing_given left), a))
 
 seed_is : (a b n m : ℕ) → Exercise a n ≡ Exercise b m → a ≡ b
 seed_is a b n m e = cc

@@ -1,5 +1,5 @@
 -- What a sender's end says, and that of a receiver.
-use Rattle.std.proofs.Common.{◌≡◌, ℕ, true, List, Option, Some, Result, Err, refl, ap}
+use Rattle.std.proofs.Common.{◌≡◌, ℕ, true, List, Option, Some, refl}
 use Rattle.disk_model.specs.declared.name.Role.{Role}
 use Rattle.pump_frame.specs.Counts.{Rose}
 use Rattle.pump_frame.specs.declared.row.SessionRow.{SessionRow}
@@ -13,25 +13,11 @@ use Rattle.peers.specs.declared.receive.ReceiveEnd.{ReceiveEnd}
 use Rattle.peers.specs.declared.receive.ReceiveEnd.TheVariants as receiver
 use Rattle.peers.specs.declared.send.SendEnd.{SendEnd}
 use Rattle.peers.specs.declared.send.SendEnd.TheVariants as sender
-use Rattle.commands.specs.Tables.{StopsAtTable, StopsAtFile, IsRowOf, IsTableEnd}
 use Rattle.dispatch.specs.LiveEnds.{IsNoDiskEnd}
 use Rattle.dispatch.specs.Receptions.{end_of_receiver}
 use Rattle.dispatch.specs.Sendings.{end_of_sender}
 use Rattle.commands.specs.Showing.{end_at}
-use Rattle.commands.specs.declared.command_end.CommandEnd.{CommandEnd}
-use Rattle.commands.specs.declared.command_end.CommandEnd.TheVariants.{Memory, Unread, NoRow, Failed, Unwritten, Unconnected}
-
--- ---- the table ----
-
-pub stops_at_table : (file : Option (List ℕ)) (session : ℕ) (end : CommandEnd) → IsTableEnd end → IsRowOf file session (Err end) → StopsAtTable file session end
-stops_at_table file session Memory only row = tt
-stops_at_table file session Unread only row = tt
-stops_at_table file session (NoRow number at) only row = row
-stops_at_table file session end only row = absurd only
-
-pub stops_at_file : (file : Option (List ℕ)) (faults now_faults session : ℕ) (end : CommandEnd) → IsTableEnd end → IsRowOf file session (Err end)
-    → (◌≡◌ {A = Result SessionRow CommandEnd} (Err end) (Err Unread) → Rose faults now_faults) → StopsAtFile faults now_faults file session end
-stops_at_file file faults now_faults session end only row rose = (stops_at_table file session end only row, λ e. rose (ap Err e))
+use Rattle.commands.specs.declared.command_end.CommandEnd.TheVariants.{Memory, Unread, Failed, Unwritten, Unconnected}
 
 -- ---- the sender ----
 

@@ -139,7 +139,7 @@ pub fn batch<S: Shelf, I: Source, O: Sink>(
         → S.told.tells → S.Disk.told.tells → EndsWithStatus (Migrates (S.told.file shelf.old table) (S.told.file shelf.old new_table) (S.told.disk shelf.old) (S.told.disk shelf.new)
         (FailsAt S.told S.Disk.told shelf.old shelf.new) session new_session) (O.written out.old) (O.written out.new) result }
     ensures wrap { (table : List ℕ) (session : ℕ) → AreWordsOf (map string_bytes words.now.items) (commands.Wrap table session) → S.told.tells → S.Disk.told.tells
-        → EndsWrap (S.told.file shelf.old table) (S.told.disk shelf.old) (S.told.disk shelf.new) session (I.left script.old) (I.left script.new) (O.written out.old) (O.written out.new) result }
+        → EndsWrap (S.told.faults shelf.old) (S.told.faults shelf.new) (S.told.file shelf.old table) (S.told.disk shelf.old) (S.told.disk shelf.new) session (I.left script.old) (I.left script.new) (O.written out.old) (O.written out.new) result }
     ensures unwrap { (table : List ℕ) (session : ℕ) → AreWordsOf (map string_bytes words.now.items) (commands.Unwrap table session) → S.told.tells → S.Disk.told.tells
         → EndsUnwrap (S.told.file shelf.old table) (S.told.disk shelf.old) (S.told.disk shelf.new) session (O.written out.old) (O.written out.new) result }
     ensures exercise { (seed : ℕ) (count : ℕ) → AreWordsOf (map string_bytes words.now.items) (commands.Exercise seed count)
@@ -195,5 +195,5 @@ pub fn batch<S: Shelf, I: Source, O: Sink>(
         | Command::Receive { .. }
         | Command::Send { .. } => return refuse_words(out),
     }
-    replay(alloc, shelf, script, out).status()
+    replay(alloc, shelf, script, out)
 }

@@ -3,6 +3,7 @@ use Rattle.std.proofs.Common.{◌≡◌, ℕ, suc, ◌+◌, ◌-◌, ◌<◌, �
 use Rattle.std.specs.Prelude.{is_some}
 use Rattle.std.proofs.lemmas.List.{drop-drop, drop-take, take-take}
 use Rattle.disk_model.specs.Disk.{Meaning, Moves, Same}
+use Rattle.pump_frame.specs.declared.row.SessionRow.{SessionRow}
 use Rattle.stable_buffer.specs.Log.{RecvStands}
 use Rattle.stable_buffer.specs.Numbers.{length_at}
 use Rattle.high_receiver.specs.Receiving.{IsRecvReady, record_at}
@@ -50,7 +51,7 @@ module _ {D : Type 0} (m : Meaning D) (receiver : Receiver D) (reader : LogReade
       (omega (arith, reading.in_block.block, reading.in_block.filled)) (omega (arith, reading.within, here.1)) ∙ size.size
 
   -- a step gives it, where all of its record is in the block
-  pub stepped : (next : LogReader) → IsRecvReady m receiver → IsReading m receiver reader → reader.count < receiver.register.first → HasStepped reader next → m.tells → RecvStands receiver.row messages (m.reading receiver.register.disk)
+  pub stepped : (next : LogReader) → IsRecvReady m receiver → IsReading m receiver reader → reader.count < receiver.register.first → HasStepped receiver.row.message reader next → m.tells → RecvStands receiver.row messages (m.reading receiver.register.disk)
       → reader.until + (2 + length (slice_index_or messages reader.count [])) ≤ reader.filled
       → (given_message next ≡ slice_index_or messages reader.count []) × (next.start + next.until ≡ record_at messages next.count)
   stepped next ready reading more steps told stands le =
@@ -59,7 +60,7 @@ module _ {D : Type 0} (m : Meaning D) (receiver : Receiver D) (reader : LogReade
       let all = next_here ready reading more told stands in
       let here = all.2 in
       let is = next_length ready reading more told stands (omega (arith, le)) in
-      let found = steps.found (omega (arith, is, here.fits, ready.short)) (omega (arith, is, le)) in
+      let found = steps.found (omega (arith, is, here.fits)) (omega (arith, is, le)) in
       let l = length_at reader.block reader.until in
       let part = same_part reader.start reader.filled (reader.until + 2) l reader.block disk (reading.bytes told) (omega (arith, is, le)) in
       let place : reader.start + (reader.until + 2) ≡ reader.start + reader.until + 2 = omega arith in
@@ -73,6 +74,7 @@ pub record Holds {D : Type 0} (m : Meaning D) (receiver0 receiver : Receiver D) 
   pub reading : IsReading m receiver reader
   pub given : reader.count ≡ reader0.count
   pub more : reader.count < receiver.register.first
+  pub most : receiver.row.message ≡ receiver0.row.message
   pub stands : m.tells → (messages : List (List ℕ)) → RecvStands receiver0.row messages (m.reading receiver0.register.disk) → RecvStands receiver.row messages (m.reading receiver.register.disk)
   pub whole : m.tells → (messages : List (List ℕ)) → RecvStands receiver.row messages (m.reading receiver.register.disk) → reader.until + (2 + length (slice_index_or messages reader.count [])) ≤ reader.filled
 
@@ -82,13 +84,14 @@ some_in None e p = absurd (cc e)
 
 module _ {D : Type 0} (m : Meaning D) (receiver : Receiver D) (reader : LogReader) (ready : IsRecvReady m receiver) (reading : IsReading m receiver reader) (more : reader.count < receiver.register.first) where
   -- .. since it was whole there
-  pub held : (l : Option ℕ) → is_some l ≡ true
-      → IfSome l (λ l. (l ≡ length_at reader.block reader.until) × (l ≤ 1024) × (reader.until + (2 + l) ≤ reader.filled)) → Holds m receiver receiver reader reader
-  held found some fits = record {
+  pub held : (most : ℕ) (l : Option ℕ) → is_some l ≡ true
+      → IfSome l (λ l. (l ≡ length_at reader.block reader.until) × (l ≤ most) × (reader.until + (2 + l) ≤ reader.filled)) → Holds m receiver receiver reader reader
+  held most found some fits = record {
     ready = ready;
     reading = reading;
     given = refl;
     more = more;
+    most = refl;
     stands = λ told messages stands. stands;
     whole = λ told messages stands.
         let l = some_in found some fits in
@@ -106,6 +109,7 @@ module _ {D : Type 0} (m : Meaning D) (receiver : Receiver D) (reader : LogReade
         reading = reading';
         given = fills.count;
         more = more';
+        most = ap (λ (r : SessionRow). r.message) row;
         stands = λ told messages stands. subst (λ r. RecvStands r messages (m.reading receiver'.register.disk)) (sym row) (subst (λ d. RecvStands receiver.row messages d) (sym (moves.reads told)) stands);
         whole = λ told messages stands.
             let all = next_here m receiver' reader' messages ready' reading' more' told stands in
@@ -113,7 +117,10 @@ module _ {D : Type 0} (m : Meaning D) (receiver : Receiver D) (reader : LogReade
             omega (arith, here.within, here.fits, ready'.short, fills.filled, fills.until, end);
       }
 
-module _ {D : Type 0} (m : Meaning D) (receiver0 receiver : Receiver D) (reader0 reader next : LogReader) (holds : Holds m receiver0 receiver reader0 reader) (steps : HasStepped reader next) where
+module _ {D : Type 0} (m : Meaning D) (receiver0 receiver : Receiver D) (reader0 reader next : LogReader) (holds : Holds m receiver0 receiver reader0 reader) (stepped_by : HasStepped receiver0.row.message reader next) where
+  steps : HasStepped receiver.row.message reader next
+  steps = subst (λ k. HasStepped k reader next) (sym holds.most) stepped_by
+
   pub message_given : m.tells → (messages : List (List ℕ)) → RecvStands receiver0.row messages (m.reading receiver0.register.disk) → given_message next ≡ slice_index_or messages reader0.count []
   message_given told messages stands0 =
       let stands = holds.stands told messages stands0 in

@@ -46,11 +46,12 @@ pub record HasFilled {D : Type 0} (receiver : Receiver D) (old new : LogReader) 
   pub until : new.until ≡ 0
   pub count : new.count ≡ old.count
 
--- The next message is given where its record is in the block. All else is as before.
-pub record HasStepped (old new : LogReader) : Type 0 where
+-- The next message, of `most` bytes at most, is given where its record is in the block. All else is as before.
+pub record HasStepped (most : ℕ) (old new : LogReader) : Type 0 where
   pub block : new.block ≡ old.block
   pub start : new.start ≡ old.start
   pub filled : new.filled ≡ old.filled
   pub count : new.count ≡ old.count + 1
-  pub found : length_at old.block old.until ≤ 1024 → old.until + (2 + length_at old.block old.until) ≤ old.filled
+  pub short : new.until ≤ new.from + most
+  pub found : length_at old.block old.until ≤ most → old.until + (2 + length_at old.block old.until) ≤ old.filled
       → (given_message new ≡ message_at old.block old.until) × (new.until ≡ old.until + (2 + length_at old.block old.until))

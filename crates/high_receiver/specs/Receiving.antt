@@ -1,5 +1,5 @@
 -- An open receiver, and what it does with a message.
-use Rattle.std.specs.Prelude.{◌≡◌, ℕ, ◌+◌, ◌^◌, ◌≤◌, Bool, true, false, nat_lt, if◌then◌else◌, List, length, take, sum_by, Option, None, Some, Result, Ok, Err, OnOk, OnErr, IfErr}
+use Rattle.std.specs.Prelude.{◌≡◌, ◌⊎◌, ℕ, ◌+◌, ◌^◌, ◌≤◌, Bool, true, false, nat_lt, if◌then◌else◌, List, length, take, sum_by, Option, None, Some, Result, Ok, Err, IsOk, OnOk, OnErr, IfErr}
 use Rattle.pump_frame.specs.Rows.{IsLawfulRow}
 use Rattle.pump_frame.specs.declared.row.SessionRow.{SessionRow}
 use Rattle.disk_model.specs.Disk.{Meaning, Moves, Settled, Leaves, Answers}
@@ -65,6 +65,10 @@ pub record IsRecordAt {D : Type 0} (m : Meaning D) (receiver : Receiver D) (n at
   pub within : at ≤ receiver.register.second
   pub place : m.tells → (messages : List (List ℕ)) → RecvStands receiver.row messages (m.reading receiver.register.disk)
       → at ≡ record_at messages n
+
+-- A payload is as it was, or after a good call holds no more than a message may.
+abbrev pub MayFill : {T E : Type 0} → ℕ → List ℕ → List ℕ → Result T E → Type 0
+MayFill most old new result = (new ≡ old) ⊎ (IsOk result × (length new ≤ most))
 
 -- What is answered to a message of this number and length where nothing is to be stored: it is a repeat, or ahead, or ends past the size.
 abbrev pub answer_at_once : ℕ → ℕ → ℕ → ℕ → ℕ → Option (Result Taken TakeFault)

@@ -54,13 +54,13 @@ impl LogReader {
         &self.block[self.from..self.until]
     }
 
-    // The length of the next message, where its whole record is in the block.
+    // The length of the next message, of `most` bytes at most, where its whole record is in the block.
     #[tactic(auto, unfolding(stable_buffer::specs::Numbers::length_at))]
-    fn next_length(&self) -> Option<usize>
+    fn next_length(&self, most: u32) -> Option<usize>
         requires block { IsInBlock self.now }
-        ensures some { IfSome result (λ l. (l ≡ length_at self.now.block self.now.until) × (l ≤ 1024)
+        ensures some { IfSome result (λ l. (l ≡ length_at self.now.block self.now.until) × (l ≤ most)
             × (self.now.until + (2 + l) ≤ self.now.filled)) }
-        ensures none { result ≡ None → length_at self.now.block self.now.until ≤ 1024
+        ensures none { result ≡ None → length_at self.now.block self.now.until ≤ most
             → self.now.until + (2 + length_at self.now.block self.now.until) ≤ self.now.filled → ⊥ }
     {
         let held = self.filled - self.until;
@@ -68,7 +68,7 @@ impl LogReader {
             return None;
         }
         let length = BigEndian::read_u16(&self.block[self.until..]) as usize;
-        if length > 1024 || held - 2 < length {
+        if length > most as usize || held - 2 < length {
             return None;
         }
         Some(length)
@@ -102,15 +102,16 @@ impl LogReader {
         Ok(())
     }
 
-    // Goes on to the next message in the block. Where its record is not whole there, the message is
-    // empty.
-    fn step(&mut self)
+    // Goes on to the next message in the block, which has `most` bytes at most. Where its record is
+    // not whole there, the message is empty.
+    fn step(&mut self, most: u32)
         requires block { IsInBlock self.old }
         requires few { given_count self.old < 2 ^ 48 }
+        requires short { most ≤ 1024 }
         ensures block { IsInBlock self.new }
-        ensures steps { HasStepped self.old self.new }
+        ensures steps { HasStepped most self.old self.new }
     {
-        match self.next_length() {
+        match self.next_length(most) {
             Some(length) => {
                 self.from = self.until + 2;
                 self.until = self.from + length;
@@ -123,9 +124,9 @@ impl LogReader {
         self.count += 1;
     }
 
-    /// Goes on to the receiver's next message. On a disk that tells nothing a record may be longer than
-    /// any message, or end past the log; then the message is empty. `Device` comes only where a call of
-    /// the disk failed, after which the receiver must be opened again.
+    /// Goes on to the receiver's next message, which on any disk has at most as many bytes as a message
+    /// of the row. `Device` comes only where a call of the disk failed, after which the receiver must be
+    /// opened again.
     pub fn advance<D: Disk>(&mut self, receiver: &mut Receiver<D>) -> Result<(), Device>
         requires ready { IsRecvReady D.told receiver.old }
         requires reading { IsReading D.told receiver.old self.old }
@@ -134,6 +135,7 @@ impl LogReader {
         ensures message { OnOk result (D.told.tells → (messages : List (List ℕ))
             → RecvStands (recv_row receiver.old) messages (D.told.reading (recv_disk receiver.old))
             → given_message self.new ≡ slice_index_or messages (given_count self.old) []) }
+        ensures short { OnOk result (length (given_message self.new) ≤ (recv_row receiver.old).message) }
         ensures given { OnOk result (given_count self.new ≡ given_count self.old + 1) }
         ensures reading { OnOk result (IsReading D.told receiver.new self.new) }
         ensures ready { OnOk result (IsRecvReady D.told receiver.new) }
@@ -157,10 +159,12 @@ impl LogReader {
             → D.told.armed (recv_disk receiver.new) ≡ false) }
         ensures device { IfErr result (λ e. e.faults ≡ D.told.count (recv_disk receiver.new)) }
     {
-        if self.next_length().is_none() {
+        // A record that is longer than any message is none, and its message is empty.
+        let most = receiver.most();
+        if self.next_length(most).is_none() {
             self.fill(receiver)?;
         }
-        self.step();
+        self.step(most);
         Ok(())
     }
 }

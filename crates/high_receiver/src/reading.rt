@@ -3,6 +3,7 @@ ghost use Rattle.std.specs.Prelude.{◌≡◌, ◌≤◌, ◌+◌, ℕ, List, []
 ghost use Rattle.pump_frame.specs.Counts.{Rose};
 ghost use Rattle.disk_model.specs.Disk.{Moves, Same, Answers};
 ghost use Rattle.stable_buffer.specs.Register.{IsReady, register_disk, register_value};
+ghost use Rattle.high_receiver.specs.Receiving.{MayFill};
 ghost use Rattle.high_receiver.specs.Records.{RecordsFrom, HasSome, HasMore};
 
 use disk_model::Disk;
@@ -50,7 +51,7 @@ fn place<D: Disk>(register: &mut Register<D>, n: u64) -> Result<u64, Device>
 }
 
 // The message of the record at an offset, and where the record after it stands. Where the record is
-// longer than the greatest length, the payload stays as it was.
+// longer than the greatest length, or the disk fails, the payload stays as it was.
 pub fn read_record<D: Disk>(
     register: &mut Register<D>,
     at: u64,
@@ -63,6 +64,7 @@ pub fn read_record<D: Disk>(
     ensures ready { OnOk result (IsReady D.told register.new) }
     ensures value { register_value register.new ≡ register_value register.old }
     ensures within { IfOk result (λ next. next ≤ (register_value register.old).1) }
+    ensures fills { MayFill most into.old into.new result }
     ensures found { IfOk result (λ next. D.told.tells
         → (message : List ℕ) (later : List (List ℕ))
         → RecordsFrom most (message ∷ later) at (register_value register.old).1
@@ -91,7 +93,8 @@ pub fn read_record<D: Disk>(
     })
 }
 
-// Message n. Where its record is longer than the greatest length, the payload stays as it was.
+// Message n. Where its record is longer than the greatest length, or the disk fails, the payload stays
+// as it was.
 pub fn read_message<D: Disk>(
     register: &mut Register<D>,
     n: u64,
@@ -103,6 +106,7 @@ pub fn read_message<D: Disk>(
     requires short { most ≤ 1024 }
     ensures ready { OnOk result (IsReady D.told register.new) }
     ensures value { register_value register.new ≡ register_value register.old }
+    ensures fills { MayFill most into.old into.new result }
     ensures found { OnOk result (D.told.tells → (messages : List (List ℕ))
         → HasMore most messages n (register_value register.old).1
         (D.told.reading (register_disk register.old))

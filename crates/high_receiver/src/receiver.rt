@@ -24,7 +24,7 @@ impl<D: Disk> Receiver<D> {
     ghost use Rattle.stable_buffer.specs.Register.{IsReady, register_disk, register_value};
     ghost use Rattle.high_receiver.specs.Steps.{MayTake, TakesMessage, StandsOrTakes};
     ghost use Rattle.high_receiver.specs.LogReading.{IsReading, given_count};
-    ghost use Rattle.high_receiver.specs.Receiving.{IsRecordAt, IsRecvReady, StandsForSome, Stores, answer_at_once, is_device, recv_disk, recv_count, recv_end, recv_row, recv_size, recv_made_coarse, recv_is_open};
+    ghost use Rattle.high_receiver.specs.Receiving.{IsRecordAt, IsRecvReady, MayFill, StandsForSome, Stores, answer_at_once, is_device, recv_disk, recv_count, recv_end, recv_row, recv_size, recv_made_coarse, recv_is_open};
 
     /// A receiver over a register, whose disk stands for a list of at most 2^48 messages, and has
     /// `size` bytes to fill.
@@ -78,6 +78,13 @@ impl<D: Disk> Receiver<D> {
         ensures { result ≡ recv_end self.now }
     {
         self.register.value().1
+    }
+
+    // The greatest length of a message of its row.
+    pub(crate) fn most(&self) -> u32
+        ensures { result ≡ (recv_row self.now).message }
+    {
+        self.row.message
     }
 
     /// Makes its row coarse. All else is as before, and no call of the disk is made.
@@ -174,7 +181,7 @@ impl<D: Disk> Receiver<D> {
         }
     }
 
-    /// TakesMessage a message where it is the next one. A number below the count is a repeat, one above it
+    /// Takes a message where it is the next one. A number below the count is a repeat, one above it
     /// is ahead, and a message that would end past the size makes the log full: these change nothing.
     /// After `Device` the disk must be opened again.
     pub fn take(&mut self, number: u64, payload: &Payload) -> Result<Taken, TakeFault>
@@ -199,8 +206,8 @@ impl<D: Disk> Receiver<D> {
         }
     }
 
-    /// Message `n`, as the disk stands for it. On a disk that tells nothing a record may be longer
-    /// than any message of the row; then `into` stays as it was.
+    /// Message `n`, as the disk stands for it. On a disk that tells nothing `into` has at most as many
+    /// bytes as a message of the row, or stays as it was. It stays where a call of the disk fails.
     pub fn message(&mut self, n: u64, into: &mut Payload) -> Result<(), Device>
         requires ready { IsRecvReady D.told self.old }
         requires taken { n < recv_count self.old }
@@ -208,6 +215,7 @@ impl<D: Disk> Receiver<D> {
         ensures message { OnOk result (D.told.tells → (messages : List (List ℕ))
             → RecvStands (recv_row self.old) messages (D.told.reading (recv_disk self.old))
             → into.new ≡ slice_index_or messages n []) }
+        ensures fills { MayFill (recv_row self.old).message into.old into.new result }
         ensures ready { OnOk result (IsRecvReady D.told self.new) }
         ensures count { recv_count self.new ≡ recv_count self.old }
         ensures end { recv_end self.new ≡ recv_end self.old }
@@ -229,8 +237,8 @@ impl<D: Disk> Receiver<D> {
     }
 
     /// The message of record `n`, which stands at the offset `at`, and the offset of the record after
-    /// it. Record 0 stands at 80. On a disk that tells nothing a record may be longer than any message
-    /// of the row; then `into` stays as it was.
+    /// it. Record 0 stands at 80. On a disk that tells nothing `into` has at most as many bytes as a
+    /// message of the row, or stays as it was. It stays where a call of the disk fails.
     pub fn at(&mut self, n: u64, at: u64, into: &mut Payload) -> Result<u64, Device>
         requires ready { IsRecvReady D.told self.old }
         requires taken { n < recv_count self.old }
@@ -239,6 +247,7 @@ impl<D: Disk> Receiver<D> {
         ensures message { OnOk result (D.told.tells → (messages : List (List ℕ))
             → RecvStands (recv_row self.old) messages (D.told.reading (recv_disk self.old))
             → into.new ≡ slice_index_or messages n []) }
+        ensures fills { MayFill (recv_row self.old).message into.old into.new result }
         ensures next { IfOk result (λ next. IsRecordAt D.told self.new (n + 1) next) }
         ensures ready { OnOk result (IsRecvReady D.told self.new) }
         ensures count { recv_count self.new ≡ recv_count self.old }

@@ -10,6 +10,7 @@ use Rattle.stable_buffer.specs.Numbers.{length_at}
 use Rattle.stable_buffer.specs.Stands.{InSlot, slot_of, low_size, spelled}
 use Rattle.stable_buffer.proofs.Making.{anything}
 use Rattle.stable_buffer.proofs.Slots.{apart, slot_beside, slot_within_low, slot_written}
+use Rattle.recovery.specs.Moves.{with_message}
 use Rattle.recovery.proofs.Slots.{slot_length}
 
 take_both : (a b : ℕ) (l : List ℕ) → take (a + b) l ≡ take a l ++ take b (drop a l)
@@ -60,6 +61,13 @@ message_copied from to n l at place message src read old new small some size s i
     let length_is : l ≡ length message = is ∙ ap (λ p. length_at src p) at_is ∙ slot_length from small n message src s in
     let bytes : take (2 + l) (drop at read) ≡ spelled message = (λ i. take (2 + length_is i) (drop (at_is i) (same i))) ∙ s.bytes in
     slot_written to n n message (take (2 + l) (drop at read)) old new some refl bytes fits size (subst (λ p. IsWritten old p (take (2 + l) (drop at read)) new) place_is wrote)
+
+pub message_put : (from to : SessionRow) (n l at place : ℕ) (message src read old new : List ℕ) → from.message ≤ 1024 → InSlot from n message src → l ≡ length_at src at
+    → at ≡ slot_of from n → place ≡ slot_of to n → read ≡ src → IsWritten old place (take (2 + l) (drop at read)) new → new ≡ with_message to n message old
+message_put from to n l at place message src read old new small s is at_is place_is same wrote =
+    let length_is : l ≡ length message = is ∙ ap (λ p. length_at src p) at_is ∙ slot_length from small n message src s in
+    let bytes : take (2 + l) (drop at read) ≡ spelled message = (λ i. take (2 + length_is i) (drop (at_is i) (same i))) ∙ s.bytes in
+    wrote ∙ (λ i. take (place_is i) old ++ bytes i ++ drop (place_is i + length (bytes i)) old)
 
 pub read_few : (k at : ℕ) (src : List ℕ) → length (take k (drop at src)) ≤ k
 read_few k at src = omega (arith, length-take k (drop at src))

@@ -1,5 +1,6 @@
 pub mod Accepts
 pub mod Blamed
+pub mod Bytes
 pub mod Calls
 pub mod Comparing
 pub mod Dealing

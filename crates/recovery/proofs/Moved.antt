@@ -1,13 +1,14 @@
 -- What a move leaves.
-use Rattle.std.proofs.Common.{◌≡◌, inl, inr, ⊎_elim, ℕ, zero, suc, ◌+◌, ◌-◌, ◌<◌, ◌≤◌, nat_lt, if◌then◌else◌, ◌&&◌, Bool, true, false, List, [], ◌∷◌, length, get_or, drop, Option, Some, None, Result, Ok, refl, sym, ◌∙◌, ap, subst, arith, length-drop}
+use Rattle.std.proofs.Common.{◌≡◌, inl, inr, ⊎_elim, ℕ, zero, suc, ◌+◌, ◌-◌, ◌<◌, ◌≤◌, nat_lt, if◌then◌else◌, ◌&&◌, Bool, true, false, List, [], ◌∷◌, length, get_or, drop, Option, Some, None, Result, Ok, IfErr, refl, sym, ◌∙◌, ap, subst, arith, length-drop}
 use Rattle.std.proofs.lemmas.Bool.{cases_lt}
+use Rattle.std.proofs.lemmas.Result.{IfErr-weaker}
 use Rattle.std.proofs.lemmas.List.{get_or-drop}
 use Rattle.std.proofs.lemmas.List.Elements.{All-from_get_or}
 use Rattle.std.specs.List.{All}
 use Rattle.disk_model.specs.Disk.{Meaning, Moves, Same, Each}
 use Rattle.disk_model.specs.declared.name.Role.{Role}
 use Rattle.disk_model.specs.declared.name.Role.TheVariants.{Low, Recv}
-use Rattle.disk_model.proofs.Run.{leaves}
+use Rattle.disk_model.proofs.Run.{leaves, goes_on_same}
 use Rattle.pump_frame.specs.Rows.{IsLawfulRow}
 use Rattle.pump_frame.specs.declared.row.SessionRow.{SessionRow}
 use Rattle.stable_buffer.specs.Making.{IsNone, IsNoneOr}
@@ -18,7 +19,7 @@ use Rattle.disk_model.specs.DiskNames.{same_role}
 use Rattle.recovery.specs.Agreement.{Disagrees}
 use Rattle.recovery.specs.Calls.{is_device}
 use Rattle.recovery.specs.Fillings.{IsMadeFrom}
-use Rattle.recovery.specs.Moves.{StandFor, AreFound, IsMoveRefused, IsMade, IsKept, Counted, is_blamed, fault_of, too_long, first_full, first_unfit}
+use Rattle.recovery.specs.Moves.{StandFor, AreFound, IsMoveRefused, IsMade, IsKept, Counted, AreWrittenInTurn, is_blamed, fault_of, too_long, first_full, first_unfit}
 use Rattle.recovery.specs.Refusals.{or_else, told_of}
 use Rattle.recovery.specs.Surveys.{IsSurveyed}
 use Rattle.recovery.specs.declared.survey.Counts.{Counts}
@@ -57,6 +58,20 @@ module _ {D : Type 0} (m : Meaning D) (P : List ℕ → Type 0) (old : D) where
 
 pub made_weaker : {D : Type 0} (m : Meaning D) (P Q : List ℕ → Type 0) (old new : D) → (m.tells → (c : List ℕ) → P c → Q c) → IsMade m P old new → IsMade m Q old new
 made_weaker m P Q old new next made empty short told c left long is = next (m.images_tell told) c (made empty short told c left long is)
+
+-- new disks that were only read, and then written in turn
+pub turned_after : {D T U : Type 0} (m : Meaning D) (low_was low_is high_was high_is : List ℕ) (old mid new : Trio D) (before : Result T MoveFault) (after : Result U MoveFault)
+    → ((P : MoveFault → Type 0) → IfErr before P → IfErr after P) → (m.tells → low_was ≡ low_is) → (m.tells → high_was ≡ high_is)
+    → Moves m Same old.high mid.high → Moves m Same old.recv mid.recv → AreWrittenInTurn m low_was high_was mid new before → AreWrittenInTurn m low_is high_is old new after
+turned_after m low_was low_is high_was high_is old mid new before after on low_same high_same high recv t =
+    let next_high = λ (moved : Moves m Same mid.high new.high). goes_on_same m Same old.high mid.high new.high high moved in
+    let next_recv = λ (moved : Moves m Same mid.recv new.recv). goes_on_same m Same old.recv mid.recv new.recv recv moved in
+    record {
+      at_low = on _ (IfErr-weaker before _ _ (λ f at is. let both = at is in (next_high both.0, next_recv both.1)) t.at_low);
+      at_high = on _ (IfErr-weaker before _ _ (λ f at is. next_recv (at is)) t.at_high);
+      high = λ told. elim (t.high told) [ inl moved ↦ inl (next_high moved) | inr is ↦ inr (is ∙ low_same told) ];
+      recv = λ told. elim (t.recv told) [ inl moved ↦ inl (next_recv moved) | inr is ↦ inr (is.0 ∙ low_same told, is.1 ∙ high_same told) ];
+    }
 
 -- ---- what fits the new row ----
 

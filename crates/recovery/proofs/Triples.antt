@@ -136,6 +136,7 @@ each_triple row w size stored removed taken low high recv lawful r s =
     let slots : SlotsAgree row B R rec low = λ n from to.
     subst (λ (x : List ℕ). InSlot row n x low) (kept_get stored w.storing w.accepted n (omega (arith, to, reached)) ∙ sym (front.same n to)) (in_slot n (omega (arith, from, up)) (omega (arith, to, reached, longer))) in
     record {
+      found = (ap (λ v. v.0) s.low_stands.value, ap (λ v. v.0) s.high_stands.value, ap (λ v. v.0) s.recv_stands.value);
       pump = pump_none row low high E B (low_none row fits E w.removed (drop w.removed acc) low small s.low_stands) (high_none row fits B high (omega (arith, down, taken', reached, longer, small)) s.high_stands) s.low_stands.value s.high_stands.value
           (omega (arith, down, taken', reached, longer)) (omega (arith, above, up, c))
           (slots_none row m low B (E - B) (λ i from to. (get_or acc i [], in_slot i (omega (arith, from, up)) (omega (arith, to, down, taken', reached, longer)))));

@@ -28,7 +28,7 @@ module _ {D : Type 0} (m : Meaning D) (P : List ℕ → Type 0) (moment : ℕ) (
 
 -- ---- a disk with its mark ----
 
-marked_drop : (p : ℕ) (d : List ℕ) → 4 ≤ p → drop p (marked d) ≡ drop p d
+pub marked_drop : (p : ℕ) (d : List ℕ) → 4 ≤ p → drop p (marked d) ≡ drop p d
 marked_drop p d le =
     let e : 4 + (p - 4) ≡ p = omega (arith, le) in
     subst (λ k. drop k (marked d) ≡ drop k d) e (sym (drop-drop (p - 4) 4 (marked d)) ∙ drop-drop (p - 4) 4 d)

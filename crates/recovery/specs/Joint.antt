@@ -45,8 +45,9 @@ pub record IsRow (row : SessionRow) (w : World) (size : ℕ) (recv : List ℕ) :
   pub count : length (accepted_if w true) ≤ 2 ^ 48
   pub room : (value_of recv).1 ≤ size
 
--- nothing is refused, neither of one disk nor where they are compared, and the counts are those of the world
+-- nothing is refused, neither of one disk nor where they are compared, and the counts found are these: E accepted, B removed, R received
 pub record Opens (row : SessionRow) (size E B R : ℕ) (received : List (List ℕ)) (low high recv : List ℕ) : Type 0 where
+  pub found : ((value_of low).0 ≡ E) × ((value_of high).0 ≡ B) × ((value_of recv).0 ≡ R)
   pub pump : refused_pump row low high ≡ None
   pub receiver : refused_receiver row size recv ≡ None
   pub order : (B ≤ R) × (R ≤ E)

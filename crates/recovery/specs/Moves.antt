@@ -1,5 +1,5 @@
 -- Moving the disks of a session to three new ones, for another row.
-use Rattle.std.specs.Prelude.{◌≡◌, ◌⊎◌, ℕ, ◌+◌, ◌-◌, ◌<◌, ◌≤◌, ◌&&◌, nat_lt, not, if◌then◌else◌, Bool, true, false, List, [], ◌∷◌, length, drop, Option, Some, None, Result, Ok, Err}
+use Rattle.std.specs.Prelude.{◌≡◌, ◌⊎◌, ℕ, ◌++◌, IfErr, take, ◌+◌, ◌-◌, ◌<◌, ◌≤◌, ◌&&◌, nat_lt, not, if◌then◌else◌, Bool, true, false, List, [], ◌∷◌, length, drop, Option, Some, None, Result, Ok, Err}
 use Rattle.pump_frame.specs.Counts.{Rose}
 use Rattle.pump_frame.specs.declared.row.SessionRow.{SessionRow}
 use Rattle.disk_model.specs.Disk.{Meaning, Moves, Same, Leaves}
@@ -7,8 +7,9 @@ use Rattle.disk_model.specs.DiskNames.{same_role}
 use Rattle.disk_model.specs.declared.name.Role.{Role}
 use Rattle.disk_model.specs.declared.name.Role.TheVariants.{Low, High, Recv}
 use Rattle.stable_buffer.specs.Register.{value_of}
-use Rattle.stable_buffer.specs.Stands.{LowStands, HighStands}
-use Rattle.stable_buffer.specs.Log.{RecvStands}
+use Rattle.stable_buffer.specs.Format.{bare_bytes}
+use Rattle.stable_buffer.specs.Stands.{LowStands, HighStands, slot_of, spelled}
+use Rattle.stable_buffer.specs.Log.{RecvStands, log_of}
 use Rattle.stable_buffer.specs.Making.{IsNoneOr}
 use Rattle.recovery.specs.Agreement.{Disagrees, SlotsAgree}
 use Rattle.recovery.specs.Calls.{is_device}
@@ -33,6 +34,35 @@ pub record AreFound (row : SessionRow) (size E B : ℕ) (live received : List (L
   pub receiver : refused_receiver row size recv ≡ None
   pub order : (B ≤ length received) × (length received ≤ E)
   pub agree : SlotsAgree row B (length received) received low
+
+-- ---- the new disks, byte by byte ----
+
+-- a disk with a message in its slot
+abbrev pub with_message : SessionRow → ℕ → List ℕ → List ℕ → List ℕ
+with_message row n message disk = take (slot_of row n) disk ++ spelled message ++ drop (slot_of row n + length (spelled message)) disk
+
+-- .. with these messages, numbered from n on, in their slots
+abbrev pub with_messages : SessionRow → ℕ → List (List ℕ) → List ℕ → List ℕ
+with_messages row n [] disk = disk
+with_messages row n (message ∷ messages) disk = with_messages row (n + 1) messages (with_message row n message disk)
+
+-- low's new disk: a header of the newest version, these messages in their slots, and zeros wherever none stands
+abbrev pub low_bytes : SessionRow → ℕ → ℕ → List (List ℕ) → List ℕ
+low_bytes row E B live = with_messages row B live (bare_bytes row Low E 0)
+
+-- high's: such a header
+abbrev pub high_bytes : SessionRow → ℕ → List ℕ
+high_bytes row B = bare_bytes row High B 0
+
+-- the receiver's: such a header, the records of the old disk as they stand there, and nothing behind them
+abbrev pub recv_bytes : SessionRow → ℕ → List ℕ → List ℕ
+recv_bytes row R old = bare_bytes row Recv R (value_of old).1 ++ log_of (value_of old).1 old
+
+-- the three
+pub record AreWritten (row : SessionRow) (E B R : ℕ) (live : List (List ℕ)) (old_recv low high recv : List ℕ) : Type 0 where
+  pub low_is : low ≡ low_bytes row E B live
+  pub high_is : high ≡ high_bytes row B
+  pub recv_is : recv ≡ recv_bytes row R old_recv
 
 -- ---- the order of refusals ----
 
@@ -103,6 +133,13 @@ pub record IsKept {D : Type 0} (m : Meaning D) (old now : D) (failed : Bool) : T
 -- Where a new disk was empty, and a crash before would have left fewer than 80 bytes of it, a crash at any moment since leaves no buffer or one that stands for just this.
 abbrev pub IsMade : {D : Type 0} → Meaning D → (List ℕ → Type 0) → D → D → Type 0
 IsMade m Stands old now = (m.reading old ≡ []) → ((c : List ℕ) → m.images old c → length c < 80) → Leaves m old now (IsNoneOr Stands)
+
+-- The new disks are written in turn, low's, high's and the receiver's. One is written only where those before it are whole, and none after the one at which a fault ended it.
+pub record AreWrittenInTurn {D T : Type 0} (m : Meaning D) (low_is high_is : List ℕ) (old now : Trio D) (result : Result T MoveFault) : Type 0 where
+  pub at_low : IfErr result (λ f. f.role ≡ Low → Moves m Same old.high now.high × Moves m Same old.recv now.recv)
+  pub at_high : IfErr result (λ f. f.role ≡ High → Moves m Same old.recv now.recv)
+  pub high : m.tells → Moves m Same old.high now.high ⊎ (m.reading now.low ≡ low_is)
+  pub recv : m.tells → Moves m Same old.recv now.recv ⊎ ((m.reading now.low ≡ low_is) × (m.reading now.high ≡ high_is))
 
 -- the disk that a fault is of
 abbrev pub disk_of : {D : Type 0} → Trio D → Role → D

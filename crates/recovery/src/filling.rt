@@ -12,7 +12,7 @@ ghost use Rattle.stable_buffer.specs.Stands.{InSlot, LowStands, HighStands, low_
 ghost use Rattle.stable_buffer.specs.Log.{RecvStands};
 ghost use Rattle.std.specs.List.{All};
 ghost use Rattle.recovery.specs.Deals.{InSlots};
-ghost use Rattle.recovery.specs.Moves.{IsKept, Counted, is_blamed};
+ghost use Rattle.recovery.specs.Moves.{IsKept, Counted, is_blamed, with_message, with_messages, low_bytes, high_bytes, recv_bytes};
 ghost use Rattle.recovery.specs.declared.why.Why.TheVariants.{Device};
 ghost use Rattle.recovery.specs.Fillings.{IsBlamedOne, IsMadeFrom};
 
@@ -26,32 +26,30 @@ use stable_buffer::{begin, finish};
 // The most bytes that are copied at once.
 const PIECE: u64 = 4096;
 
-// Copies a piece of an old disk to a place on the new one.
+// Copies a piece of an old disk to a place on the new one, by way of a room of its length.
 fn copy_piece<D: Disk>(
     source: &mut D,
     at: u64,
     target: &mut D,
     to: u64,
-    count: u64,
+    piece: &mut [u8],
     role: Role,
 ) -> Result<(), MoveFault>
-    requires few { count ≤ 4096 }
     requires starts { D.told.tells → to ≤ length (D.told.reading target.old) }
 
-    ensures within { OnOk result (D.told.tells → at + count ≤ length (D.told.reading source.old)) }
+    ensures within { OnOk result (D.told.tells → at + length piece.old ≤ length (D.told.reading source.old)) }
     ensures written { OnOk result (D.told.tells
-        → IsWritten (D.told.reading target.old) to (take count (drop at (D.told.reading source.old))) (D.told.reading target.new)) }
-    ensures moves { Moves D.told (Torn to count) target.old target.new }
+        → IsWritten (D.told.reading target.old) to (take (length piece.old) (drop at (D.told.reading source.old))) (D.told.reading target.new)) }
+    ensures moves { Moves D.told (Torn to (length piece.old)) target.old target.new }
     ensures kept { IsKept D.told source.old source.new (is_blamed false role result) }
     ensures counted { Counted D.told target.old target.new (is_blamed true role result) }
     ensures one { IfErr result (λ f. IsBlamedOne D.told role source.new target.new f) }
 {
-    let mut bytes = [0; PIECE as usize];
-    if let Err(DiskFault) = source.read(at, &mut bytes[..count as usize]) {
+    if let Err(DiskFault) = source.read(at, piece) {
         let faults = source.faults();
         return Err(old_fault(role, Why::Device { faults }));
     }
-    if let Err(DiskFault) = target.write_at(to, &bytes[..count as usize]) {
+    if let Err(DiskFault) = target.write_at(to, piece) {
         let faults = target.faults();
         return Err(new_fault(role, Why::Device { faults }));
     }
@@ -77,10 +75,12 @@ fn copy_bytes<D: Disk>(
     ensures counted { Counted D.told target.old target.new (is_blamed true role result) }
     ensures one { IfErr result (λ f. IsBlamedOne D.told role source.new target.new f) }
 {
+    let mut room = [0; PIECE as usize];
     let mut done = 0;
     while done < count {
         let size = (count - done).min(PIECE);
-        copy_piece(source, at + done, target, to + done, size, role)?;
+        let piece = &mut room[..size as usize];
+        copy_piece(source, at + done, target, to + done, piece, role)?;
         done += size;
     }
     Ok(())
@@ -101,6 +101,9 @@ fn copy_message<D: Disk>(
     ensures copied { OnOk result (D.told.tells → (message : List ℕ) → InSlot from.now n message (D.told.reading source.old)
         → length message ≤ to.now.message
         → InSlot to.now n message (D.told.reading target.new)) }
+    ensures put { OnOk result (D.told.tells → (message : List ℕ) → InSlot from.now n message (D.told.reading source.old)
+        → length message ≤ to.now.message
+        → D.told.reading target.new ≡ with_message to.now n message (D.told.reading target.old)) }
     ensures others { OnOk result (D.told.tells → (k : ℕ) (message : List ℕ) → k < n → n < k + to.now.capacity
         → InSlot to.now k message (D.told.reading target.old) → InSlot to.now k message (D.told.reading target.new)) }
     ensures size { OnOk result (D.told.tells → length (D.told.reading target.new) ≡ low_size to.now) }
@@ -142,6 +145,10 @@ fn copy_messages<D: Disk>(
         → LowStands from.now counts.now.accepted counts.now.removed live (D.told.reading source.old)
         → All (λ message. length message ≤ to.now.message) live
         → InSlots to.now counts.now.removed live (D.told.reading target.new)) }
+    ensures put { OnOk result (D.told.tells → (live : List (List ℕ))
+        → LowStands from.now counts.now.accepted counts.now.removed live (D.told.reading source.old)
+        → All (λ message. length message ≤ to.now.message) live
+        → D.told.reading target.new ≡ with_messages to.now counts.now.removed live (D.told.reading target.old)) }
     ensures size { OnOk result (D.told.tells → length (D.told.reading target.new) ≡ low_size to.now) }
     ensures moves { Moves D.told (KeepsFirst 80) target.old target.new }
     ensures kept { IsKept D.told source.old source.new (is_blamed false LowRole result) }
@@ -223,6 +230,10 @@ pub fn write_low<D: Disk>(
         → LowStands from.now counts.now.accepted counts.now.removed live (D.told.reading source.old)
         → All (λ message. length message ≤ to.now.message) live
         → LowStands to.now counts.now.accepted counts.now.removed live (D.told.reading target.new)) }
+    ensures bytes { OnOk result (D.told.tells → (live : List (List ℕ))
+        → LowStands from.now counts.now.accepted counts.now.removed live (D.told.reading source.old)
+        → All (λ message. length message ≤ to.now.message) live
+        → D.told.reading target.new ≡ low_bytes to.now counts.now.accepted counts.now.removed live) }
     ensures settled { OnOk result (Settled D.told target.new) }
     ensures made { (live : List (List ℕ)) → (D.told.tells
         → LowStands from.now counts.now.accepted counts.now.removed live (D.told.reading source.old))
@@ -249,6 +260,7 @@ pub fn write_high<D: Disk>(
     requires count { counts.now.removed ≤ 2 ^ 48 }
 
     ensures stands { OnOk result (D.told.tells → HighStands to.now counts.now.removed (D.told.reading target.new)) }
+    ensures bytes { OnOk result (D.told.tells → D.told.reading target.new ≡ high_bytes to.now counts.now.removed) }
     ensures settled { OnOk result (Settled D.told target.new) }
     ensures made { IsMadeFrom D.told (HighStands to.now counts.now.removed) target.old target.new }
     ensures counted { Counted D.told target.old target.new (is_blamed true HighRole result) }
@@ -277,6 +289,9 @@ pub fn write_recv<D: Disk>(
         → value_of (D.told.reading source.old) ≡ (counts.now.received, counts.now.end)
         → All (λ message. length message ≤ to.now.message) received
         → RecvStands to.now received (D.told.reading target.new)) }
+    ensures bytes { OnOk result (D.told.tells
+        → value_of (D.told.reading source.old) ≡ (counts.now.received, counts.now.end)
+        → D.told.reading target.new ≡ recv_bytes to.now counts.now.received (D.told.reading source.old)) }
     ensures settled { OnOk result (Settled D.told target.new) }
     ensures made { (row : SessionRow) (received : List (List ℕ))
         → (D.told.tells → RecvStands row received (D.told.reading source.old))

@@ -9,7 +9,7 @@ ghost use Rattle.stable_buffer.specs.Stands.{LowStands, HighStands};
 ghost use Rattle.stable_buffer.specs.Log.{RecvStands};
 ghost use Rattle.recovery.specs.Calls.{is_device};
 ghost use Rattle.recovery.specs.Refusals.{or_else};
-ghost use Rattle.recovery.specs.Moves.{StandFor, AreFound, IsMoveRefused, IsKept, IsMade, Counted, is_blamed, disk_at, first_full, first_unfit};
+ghost use Rattle.recovery.specs.Moves.{StandFor, AreFound, IsMoveRefused, IsKept, IsMade, Counted, is_blamed, disk_at, first_full, first_unfit, AreWritten, AreWrittenInTurn, low_bytes, high_bytes};
 ghost use Rattle.recovery.specs.Fillings.{IsMadeFrom};
 ghost use Rattle.recovery.specs.declared.trio.MoveFault.{MoveFault};
 ghost use Rattle.recovery.specs.declared.why.Why.TheVariants.{Device};
@@ -95,6 +95,17 @@ fn write_all<D: Disk>(
         → value_of (D.told.reading old.old.recv) ≡ (counts.now.received, counts.now.end)
         → All (λ message. length message ≤ to.now.message) received
         → RecvStands to.now received (D.told.reading new.new.recv)) }
+    ensures bytes { OnOk result (D.told.tells → (live : List (List ℕ))
+        → LowStands from.now counts.now.accepted counts.now.removed live (D.told.reading old.old.low)
+        → All (λ message. length message ≤ to.now.message) live
+        → value_of (D.told.reading old.old.recv) ≡ (counts.now.received, counts.now.end)
+        → AreWritten to.now counts.now.accepted counts.now.removed counts.now.received live (D.told.reading old.old.recv)
+        (D.told.reading new.new.low) (D.told.reading new.new.high) (D.told.reading new.new.recv)) }
+    ensures turn { (live : List (List ℕ)) → (D.told.tells
+        → LowStands from.now counts.now.accepted counts.now.removed live (D.told.reading old.old.low))
+        → (D.told.tells → All (λ message. length message ≤ to.now.message) live)
+        → AreWrittenInTurn D.told (low_bytes to.now counts.now.accepted counts.now.removed live) (high_bytes to.now counts.now.removed)
+        new.old new.new result }
     ensures settled { OnOk result (Settled D.told new.new.low × Settled D.told new.new.high × Settled D.told new.new.recv) }
     ensures made_low { (live : List (List ℕ)) → (D.told.tells
         → LowStands from.now counts.now.accepted counts.now.removed live (D.told.reading old.old.low))
@@ -124,8 +135,9 @@ fn write_all<D: Disk>(
 /// Moves a session to three new disks: after an `Ok`, which holds how many messages were accepted,
 /// removed and received, they stand with the row `to` for what the old ones stand for with the row
 /// `from`. The old disks are never written, and a new disk only where all three are empty and
-/// nothing is refused. Each new disk in turn, low's, high's and the receiver's, is no buffer until it
-/// is whole, whenever a crash comes. No memory is taken.
+/// nothing is refused. They are written in turn, low's, high's and the receiver's, and each is no
+/// buffer until it is whole, whenever a crash comes. Low's has zeros wherever no message stands, and
+/// the receiver's ends with its records. No memory is taken.
 ///
 /// The first refusal comes in this order: of the old disks, in the order of `docs/formats.md`,
 /// "Disks", where the receiver's may be filled to `size` bytes; `NotEmpty` of a new disk, low's,
@@ -145,7 +157,8 @@ pub fn migrate<D: Disk>(
         × AreFound from.now size n.0 n.1 live received (D.told.reading old.low) (D.told.reading old.high) (D.told.reading old.recv)
         × (length received ≡ n.2)
         × (first_full (D.told.reading new.low) (D.told.reading new.high) (D.told.reading new.recv) ≡ None)
-        × StandFor to.now n.0 n.1 live received (D.told.reading result.new.low) (D.told.reading result.new.high) (D.told.reading result.new.recv)) }
+        × StandFor to.now n.0 n.1 live received (D.told.reading result.new.low) (D.told.reading result.new.high) (D.told.reading result.new.recv)
+        × AreWritten to.now n.0 n.1 n.2 live (D.told.reading old.recv) (D.told.reading result.new.low) (D.told.reading result.new.high) (D.told.reading result.new.recv)) }
     ensures settled { OnOk result.end (Settled D.told result.new.low × Settled D.told result.new.high × Settled D.told result.new.recv) }
 
     // The first refusal in the order, exactly where it holds, and nothing else but a device.
@@ -173,6 +186,11 @@ pub fn migrate<D: Disk>(
     // Where a new disk is not empty no new disk is written, whatever comes.
     ensures full { D.told.tells → (first_full (D.told.reading new.low) (D.told.reading new.high) (D.told.reading new.recv) ≡ None → ⊥)
         → Moves D.told Same new.low result.new.low × Moves D.told Same new.high result.new.high × Moves D.told Same new.recv result.new.recv }
+
+    // The new disks are written in turn.
+    ensures turn { (E B : ℕ) (live received : List (List ℕ))
+        → StandFor from.now E B live received (D.told.reading old.low) (D.told.reading old.high) (D.told.reading old.recv)
+        → AreWrittenInTurn D.told (low_bytes to.now E B live) (high_bytes to.now B) new result.new result.end }
 
     // A crash at any moment leaves of each new disk no buffer, or one that stands for just this.
     ensures made_low { (E B : ℕ) (live received : List (List ℕ))

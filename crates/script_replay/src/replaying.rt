@@ -12,7 +12,7 @@ ghost use Rattle.script_reader.specs.Transcript.{text, fault_line};
 ghost use Rattle.two_worlds.specs.Printing.{lines_in};
 ghost use Rattle.script_replay.specs.Sessions.{id_of, HasFailed, found_at, Rise, AreInOrder, AllStandFor};
 ghost use Rattle.script_replay.specs.Outputs.{held_of, Gathers};
-ghost use Rattle.script_replay.specs.Ends.{end_status, EndsReplay};
+ghost use Rattle.script_replay.specs.Ends.{EndsReplay};
 ghost use Rattle.script_replay.specs.Failing.{FailsAt};
 ghost use Rattle.script_replay.specs.Replays.{IsFailed, Wrote};
 ghost use Rattle.script_replay.specs.Shelves.{AllAreBack, LeavesOtherSessions, shelved};
@@ -182,16 +182,17 @@ fn leave_all<S: Shelf>(sessions: Sessions<S::Disk>, shelf: &mut S)
 }
 
 /// Applies the lines of the script one after another, and writes what they print. The disks that its
-/// `session` lines take off the shelf are back on it at the return, however it ends:
+/// `session` lines take off the shelf are back on it at the return, however it ends. The answer is the
+/// status of the program:
 ///
-/// - `Done`: the script was read to its end, and its transcript was written.
-/// - `Memory`: there was not enough memory; nothing was written, and each disk reads as it did, or it was
+/// - 0: the script was read to its end, and its transcript was written.
+/// - 1: there was not enough memory; nothing was written, and each disk reads as it did, or it was
 ///   empty and is a new one of its session's row.
-/// - `Write`: the output could not be written; a front of what is to be written was.
-/// - `Stopped`: the transcript of the lines before was written, what this line printed, and the fault:
-///   the script could not be read; a line is outside the grammar or can't be applied; a disk of a session
-///   could not be taken off the shelf, or a call of it failed; the disks of a session are refused when they
-///   are opened; or a message does not fit on the receiver's disk.
+/// - 4: the output could not be written; a front of what is to be written was.
+/// - 3, 5, 7, 8 or 10: the transcript of the lines before was written, what this line printed, and the
+///   fault. The script could not be read (3); a line is outside the grammar or can't be applied (5); a disk
+///   of a session could not be taken off the shelf, or a call of it failed (7); the disks of a session are
+///   refused when they are opened (8); or a message does not fit on the receiver's disk (10).
 ///
 /// `EndsReplay` says of each status what the output is, how much of the script was taken, and what is
 /// read of the disks then. `docs/formats.md` has the script, the transcript, the statuses and the faults.
@@ -200,24 +201,25 @@ pub fn replay<S: Shelf, I: Source, O: Sink>(
     shelf: &mut S,
     script: &mut I,
     out: &mut O,
-) -> Ended
-    ensures ends { S.told.tells → S.Disk.told.tells → EndsReplay (end_status result) (S.told.disk shelf.old) (S.told.disk shelf.new) (FailsAt S.told S.Disk.told shelf.old shelf.new)
+) -> u8
+    ensures ends { S.told.tells → S.Disk.told.tells → EndsReplay result (S.told.disk shelf.old) (S.told.disk shelf.new) (FailsAt S.told S.Disk.told shelf.old shelf.new)
         (I.left script.old) (I.left script.new) (O.written out.old) (O.written out.new) (I.faults script.old) (I.faults script.new) }
-    ensures memory { end_status result ≡ 1 → Appends (O.written out.old) (O.written out.new) [] }
-    ensures words { end_status result ≡ 2 → ⊥ }
+    ensures memory { result ≡ 1 → Appends (O.written out.old) (O.written out.new) [] }
+    ensures words { result ≡ 2 → ⊥ }
     ensures back { S.told.tells → AllAreBack (S.told.disk shelf.old) (S.told.disk shelf.new) }
     // A disk, a read and a write fail only where the count of the shelf, the source or the sink rose; a disk also where a
     // line tells so.
-    ensures device { end_status result ≡ 7 → Rose (S.told.disk_faults shelf.old) (S.told.disk_faults shelf.new)
+    ensures device { result ≡ 7 → Rose (S.told.disk_faults shelf.old) (S.told.disk_faults shelf.new)
         ⊎ (S.told.tells → S.Disk.told.tells → Wrote (I.left script.old) (O.written out.old) (O.written out.new) (IsFailed (shelved (S.told.disk shelf.old) (S.told.disk shelf.new)) (I.left script.new))) }
-    ensures read { end_status result ≡ 3 → Rose (I.faults script.old) (I.faults script.new) }
-    ensures write { end_status result ≡ 4 → Rose (O.faults out.old) (O.faults out.new) }
+    ensures read { result ≡ 3 → Rose (I.faults script.old) (I.faults script.new) }
+    ensures write { result ≡ 4 → Rose (O.faults out.old) (O.faults out.new) }
+    ensures status { (result ≤ 8) ⊎ (result ≡ 10) }
 {
     let mut sessions = match Sessions::new(alloc) {
         Ok(sessions) => sessions,
-        Err(_) => return Ended::Memory,
+        Err(_) => return 1,
     };
     let ended = run(alloc, shelf, &mut sessions, script, out);
     leave_all(sessions, shelf);
-    ended
+    ended.status()
 }

@@ -88,6 +88,14 @@ CanApply s line = IsOpenWith (λ c. timely.CanApply c line) s.state
 abbrev pub CannotApply : {D : Type 0} {g : _} → Pump D g → ScriptLine → Type 0
 CannotApply s line = IsOpenWith (λ c. timely.CannotApply c line) s.state
 
+-- the packet of this line is refused, by what the pump keeps
+abbrev pub IsAhead : {D : Type 0} {g : _} → Pump D g → ScriptLine → Type 0
+IsAhead s line = IsOpenWith (λ c. working.IsAheadBy c line) s.state
+
+-- .. and then nothing is printed, and no disk is changed
+abbrev pub RefusesAhead : {D : Type 0} {g : _} → Pump D g → Pump D g → ScriptLine → List Event → Type 0
+RefusesAhead s t line printed = IsAhead s line → (printed ≡ []) × (disks_of t ≡ disks_of s)
+
 -- a message of this length would end past the size of the receiver's disk, whose records end here
 abbrev pub IsTooLong : {D : Type 0} {g : _} → Pump D g → ℕ → ℕ → ℕ → Type 0
 IsTooLong s end length size = IsOpenWith (λ c. working.IsTooLong c end length size) s.state

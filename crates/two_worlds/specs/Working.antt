@@ -1,16 +1,20 @@
 -- What the parts of a pump are between two lines of a script, whatever their disks tell.
-use Rattle.std.specs.Prelude.{◌≡◌, ℕ, ◌+◌, ◌^◌, ◌<◌, ◌≤◌, List, length, Option, Some, None}
+use Rattle.std.specs.Prelude.{◌≡◌, ℕ, ◌+◌, ◌^◌, ◌<◌, ◌≤◌, List, length, slice_get, Option, Some, None}
 use Rattle.std.specs.List.{All}
 use Rattle.disk_model.specs.Disk.{Meaning}
 use Rattle.pump_frame.specs.Rows.{IsLawfulRow}
 use Rattle.pump_frame.specs.declared.row.SessionRow.{SessionRow}
 use Rattle.pump_frame.specs.declared.frame.Item.{Item}
 use Rattle.pump_core.specs.History.{History}
-use Rattle.high_receiver.specs.Receiving.{recv_end, recv_size}
+use Rattle.pump_core.specs.Sendings.{expected}
+use Rattle.high_receiver.specs.Receiving.{recv_count, recv_end, recv_size}
 use Rattle.passage.specs.Plain.{held_in}
 use Rattle.low_process.specs.Looks as low
 use Rattle.high_process.specs.States as high
 use Rattle.high_process.specs.Past.{ProcessPast}
+use Rattle.script_reader.specs.Highs.{place}
+use Rattle.script_reader.specs.declared.line.Line.{Line as ScriptLine}
+use Rattle.script_reader.specs.declared.line.Line.TheVariants as lines
 use Rattle.two_worlds.specs.declared.pump.parts.Parts.{Parts}
 use Rattle.two_worlds.specs.Standing.{LowIsReady, HighIsReady, RecvIsReady, EndsAreReady, KeepsPackets, StandsForSome}
 
@@ -51,6 +55,15 @@ pub record Works {D : Type 0} (m : Meaning D) (c : Parts D) : Type 0 where
 abbrev pub IsTooLong : {D : Type 0} → Parts D → ℕ → ℕ → ℕ → Type 0
 IsTooLong c end size_of_message size =
     (end ≡ recv_end c.receiver) × (size ≡ recv_size c.receiver) × (size < end + 2 + size_of_message)
+
+-- the packet of this line is refused: a DATA that is ahead of the receiver, or a TAKEN of a message that was not sent
+abbrev pub IsAheadBy : {D : Type 0} → Parts D → ScriptLine → Type 0
+IsAheadBy c (lines.Carry session back) =
+    (packet : Item) × (slice_get c.sent.items (place c.sent.items back) ≡ Some packet) × (recv_count c.receiver < packet.number)
+IsAheadBy c (lines.Return session m back) =
+    (number : ℕ) × (slice_get c.returned.items (place c.returned.items back) ≡ Some number)
+    × (expected (high.removed_of c.high) (high.hand_of c.high) ≤ number)
+IsAheadBy c line = ⊥
 
 -- the parts can be given a line: they work, and where their disks tell what they hold they stand for what
 -- a session has been through

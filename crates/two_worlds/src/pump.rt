@@ -52,7 +52,7 @@ impl<D: Disk> Pump<D> {
     ghost use Rattle.world_laws.specs.Disks.{Opens, CrashesOpen, LeaveWorld, OpenAgain};
     ghost use Rattle.recovery.specs.Calls.{is_device};
     ghost use Rattle.two_worlds.specs.LowPumps.{stops_at_disk};
-    ghost use Rattle.two_worlds.specs.Pumps.{row_of, StandsFor, StandsOrFails, counts_of, is_down, kept_moment, disk_at, Applies, AppliesOn};
+    ghost use Rattle.two_worlds.specs.Pumps.{row_of, StandsFor, StandsOrFails, counts_of, is_down, kept_moment, disk_at, Applies, AppliesOn, RefusesAhead};
     ghost use Rattle.two_worlds.specs.Rooms.{HasRoom, DisksGo};
     ghost use Rattle.two_worlds.specs.Reads.{ReadsOn, FailsReading};
     ghost use Rattle.high_receiver.specs.Receiving.{record_at};
@@ -130,13 +130,15 @@ impl<D: Disk> Pump<D> {
     }
 
     /// A line of the script: what it prints, and whether it stops the session. Until a call of a disk
-    /// has failed.
+    /// has failed. Over disks that do not agree a DATA may be ahead of the receiver, or a TAKEN be of a
+    /// message that was not sent: it is refused, prints nothing and changes no disk.
     pub fn apply(&mut self, line: &Line) -> Applied
         requires lawful { IsLawfulLine line.now }
         requires up { is_down self.old ≡ false }
         ensures applies { D.told.tells → (p : Past) → StandsFor D.told self.old p
             → Applies D.told self.old self.new line.now p result.events.items result.stop }
         ensures on { AppliesOn D.told self.old self.new line.now result.events.items result.stop }
+        ensures ahead { RefusesAhead self.old self.new line.now result.events.items }
         ensures serve { DisksGo D.told (row_of self.old) (disk_at roles.Low self.old) (disk_at roles.High self.old) (disk_at roles.Recv self.old)
             (disk_at roles.Low self.new) (disk_at roles.High self.new) (disk_at roles.Recv self.new) result.stop }
         ensures down { is_down self.new ≡ stops_at_disk result.stop }
@@ -164,6 +166,7 @@ impl<D: Disk> Pump<D> {
         ensures applies { D.told.tells → (p : Past) → StandsFor D.told self.old p
             → Applies D.told self.old self.new (line_with bytes.now line.now) p (lines_in events.new.items) result }
         ensures on { AppliesOn D.told self.old self.new (line_with bytes.now line.now) (lines_in events.new.items) result }
+        ensures ahead { RefusesAhead self.old self.new (line_with bytes.now line.now) (lines_in events.new.items) }
         ensures serve { DisksGo D.told (row_of self.old) (disk_at roles.Low self.old) (disk_at roles.High self.old) (disk_at roles.Recv self.old)
             (disk_at roles.Low self.new) (disk_at roles.High self.new) (disk_at roles.Recv self.new) result }
         ensures down { is_down self.new ≡ stops_at_disk result }

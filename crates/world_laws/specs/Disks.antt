@@ -98,10 +98,12 @@ abbrev pub AreFound : SessionRow → World → List ℕ → List ℕ → List �
 AreFound row w low high recv =
     IsFound row receiver_size (length w.accepted) w.removed (length w.received) w.received low high recv
 
--- .. of this world after a crash: each call that is unfinished was kept or lost
+-- .. of this world after a crash, for which they stand: each call that is unfinished was kept or lost
 abbrev pub AreFoundAgain : SessionRow → World → List ℕ → List ℕ → List ℕ → Type 0
 AreFoundAgain row w low high recv =
-    (stored : Bool) × (removed : Bool) × (taken : Bool) × AreFound row (crashed w stored removed taken) low high recv
+    (stored : Bool) × (removed : Bool) × (taken : Bool)
+    × StandFor row (crashed w stored removed taken) low high recv
+    × AreFound row (crashed w stored removed taken) low high recv
 
 -- whatever crashes leave of each of three disks is found again
 abbrev pub OpenAgain : {D : Type 0} → Meaning D → SessionRow → World → D → D → D → Type 0

@@ -1,8 +1,9 @@
 -- What a receiver answers to a packet that is kept, whatever the disks tell, and what it leaves.
-use Rattle.std.proofs.Common.{◌≡◌, ℕ, ◌+◌, ◌-◌, ◌^◌, ◌≤◌, ◌<◌, Bool, true, false, cond, List, length, None, Some, Result, Ok, Err, refl, sym, ap, ◌∙◌, subst, arith, nat_lt, IfSome}
+use Rattle.std.proofs.Common.{◌≡◌, ℕ, ◌+◌, ◌-◌, ◌^◌, ◌≤◌, ◌<◌, Bool, true, false, cond, List, length, Option, None, Some, Result, Ok, Err, refl, sym, ap, ◌∙◌, subst, arith, nat_lt, IfSome}
 use Rattle.std.specs.Prelude.{slice_get, ◌||◌, not}
 use Rattle.std.proofs.Math.Logic.{∥∥₁_map, ∥∥₁_elim}
 use Rattle.std.specs.Coded.{le_prop}
+use Rattle.std.proofs.lemmas.Bool.{false≢true}
 use Rattle.std.proofs.lemmas.Bool.Decides.{nat_tests}
 use Rattle.circular_buffer.specs.Buffer.{Buffer}
 use Rattle.disk_model.specs.Disk.{Meaning}
@@ -18,12 +19,14 @@ use Rattle.high_receiver.specs.declared.values.Taken.{Taken}
 use Rattle.high_receiver.specs.declared.values.TakeFault.{TakeFault}
 use Rattle.high_receiver.specs.declared.values.TakeFault.TheVariants.{Device, Ahead, LogFull}
 use Rattle.high_receiver.specs.declared.values.Taken.TheVariants.{Repeat}
+use Rattle.script_reader.specs.Highs.{place}
+use Rattle.script_reader.specs.declared.line.Line.TheVariants as lines
 use Rattle.script_reader.specs.Past.{Past}
 use Rattle.two_worlds.specs.declared.applied.Stop.TheVariants as stops
 use Rattle.two_worlds.specs.declared.pump.parts.Parts.{Parts}
 use Rattle.two_worlds.specs.Private.GoingOn.{WorksOn}
 use Rattle.two_worlds.specs.Standing.{Stands}
-use Rattle.two_worlds.specs.Working.{Works, IsAble, IsPacket}
+use Rattle.two_worlds.specs.Working.{Works, IsAble, IsPacket, IsAheadBy}
 use Rattle.two_worlds.proofs.Carry.Answered.{AnsweredWith, answered, never_ahead, full}
 use Rattle.two_worlds.proofs.Carry.Carried.{not_ahead}
 
@@ -85,6 +88,41 @@ module _ {D : Type 0} (m : Meaning D) (message : List ℕ) (n R E S : ℕ) (old 
       → (answer_at_once R E S n (length message) ≡ None → Stores m message old new result)
       → new ≡ old
   ahead_same k count is unchanged stores = same_by k count (nat_lt n R) (nat_lt R n) (nat_lt S (E + 2 + length message)) is unchanged stores
+
+-- ---- a packet that is ahead ----
+
+abbrev number_or : Option Item → ℕ
+number_or None = 0
+number_or (Some packet) = packet.number
+
+module _ {D : Type 0} (c : Parts D) (session back : ℕ) (packet : Item) (less : back < length c.sent.items)
+    (at : cond (nat_lt back (length c.sent.items)) (slice_get c.sent.items (length c.sent.items - back - 1)) None ≡ Some packet)
+    (ahead : IsAheadBy c (lines.Carry session back)) where
+  above : recv_count c.receiver < packet.number
+  above =
+      let here = cond_true (nat_lt back (length c.sent.items)) (slice_get c.sent.items (length c.sent.items - back - 1)) None (grind (arith, nat_tests)) in
+      let e : length c.sent.items - back - 1 ≡ place c.sent.items back = omega arith in
+      let same = ap number_or (sym at ∙ here ∙ ap (λ j. slice_get c.sent.items j) e ∙ ahead.1) in
+      omega (arith, same, ahead.2)
+
+  ahead_by : (b1 b2 b3 : Bool) (result : Result Taken TakeFault) → nat_lt packet.number (recv_count c.receiver) ≡ b1 → nat_lt (recv_count c.receiver) packet.number ≡ b2
+      → IfSome (cond b1 (Some (Ok Repeat)) (cond b2 (Some (Err (Ahead packet.number (recv_count c.receiver)))) (cond b3 (Some (Err (LogFull (recv_end c.receiver) (length packet.payload) (recv_size c.receiver)))) None))) (λ answer. result ≡ answer)
+      → is_ahead result ≡ true
+  ahead_by true b2 b3 result e1 e2 is = absurd (let up = above in grind (arith, nat_tests))
+  ahead_by false true b3 result e1 e2 is = ap is_ahead is
+  ahead_by false false b3 result e1 e2 is = absurd (let up = above in grind (arith, nat_tests))
+
+  -- it is answered so
+  pub answers_ahead : (result : Result Taken TakeFault)
+      → IfSome (answer_at_once (recv_count c.receiver) (recv_end c.receiver) (recv_size c.receiver) packet.number (length packet.payload)) (λ a. result ≡ a)
+      → is_ahead result ≡ true
+  answers_ahead result at_once =
+      ahead_by (nat_lt packet.number (recv_count c.receiver)) (nat_lt (recv_count c.receiver) packet.number) (nat_lt (recv_size c.receiver) (recv_end c.receiver + 2 + length packet.payload)) result refl refl at_once
+
+  -- .. and nothing else is answered
+  pub no_other : (result answer : Result Taken TakeFault) → result ≡ answer → is_ahead answer ≡ false
+      → IfSome (answer_at_once (recv_count c.receiver) (recv_end c.receiver) (recv_size c.receiver) packet.number (length packet.payload)) (λ a. result ≡ a) → ⊥
+  no_other result answer is other at_once = false≢true (sym other ∙ sym (ap is_ahead is) ∙ answers_ahead result at_once)
 
 -- what a receiver answers to this packet, by its answer
 pub answered_as : {D : Type 0} (m : Meaning D) (c : Parts D) (packet : Item) (new : Receiver D) (result answer : Result Taken TakeFault) → result ≡ answer → is_ahead answer ≡ false

@@ -82,7 +82,7 @@ found row w low high recv lawful small s = each_world row w receiver_size low hi
 pub opens_again : {D : Type 0} (m : Meaning D) (row : SessionRow) (w : World) (low high recv : D) → IsLawfulRow row → row.id < 2 ^ 32 → LeaveWorld m row w low high recv → OpenAgain m row w low high recv
 opens_again m row w low high recv lawful small leaves told a b c ia ib ic =
     let s = leaves.crashes told a b c ia ib ic in
-    (s.0, s.1, s.2, found row (crashed w s.0 s.1 s.2) a b c lawful small s.3)
+    (s.0, s.1, s.2, s.3, found row (crashed w s.0 s.1 s.2) a b c lawful small s.3)
 
 -- ---- a world whose calls are finished ----
 

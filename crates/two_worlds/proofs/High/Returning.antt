@@ -1,16 +1,26 @@
 -- The TAKEN that comes back: it is among those that were sent, and is put into the frame at hand.
-use Rattle.std.proofs.Common.{◌≡◌, ℕ, ◌+◌, ◌-◌, ◌<◌, false, List, Some, length, drop, refl, sym, ap, ◌∙◌, subst, arith, length-drop}
-use Rattle.std.specs.Prelude.{slice_get}
-use Rattle.std.proofs.Math.Logic.{∥∥₁_map}
+use Rattle.std.proofs.Common.{◌≡◌, ℕ, ◌+◌, ◌-◌, ◌<◌, ◌≤◌, Bool, true, false, List, Option, None, Some, length, drop, refl, sym, ap, ◌∙◌, subst, arith, length-drop}
+use Rattle.std.specs.Prelude.{if◌then◌else◌, nat_lt, nat_le, slice_get}
+use Rattle.std.proofs.Math.Logic.{∥∥₁_elim, ∥∥₁_map}
+use Rattle.std.proofs.Props.{props}
+use Rattle.std.proofs.lemmas.Bool.{eq-eqb}
+use Rattle.std.proofs.lemmas.Bool.Decides.{nat_tests}
 use Rattle.circular_buffer.specs.Buffer.{keep_last}
 use Rattle.disk_model.specs.Disk.{Meaning}
+use Rattle.high_process.specs.States.{task_at, removed_of, hand_of}
+use Rattle.high_process.specs.Tasks.{task_in}
+use Rattle.high_process.specs.declared.values.HighFault.TheVariants.{Ahead}
+use Rattle.high_process.specs.declared.values.Task.TheVariants.{Refuse, Keep}
+use Rattle.pump_core.specs.Sendings.{expected}
+use Rattle.pump_frame.specs.declared.row.SessionRow.{SessionRow}
 use Rattle.pump_frame.specs.declared.frame.Kind.{Kind}
 use Rattle.pump_frame.specs.declared.frame.Kind.TheVariants.{Taken}
 use Rattle.script_reader.specs.Past.{Past}
 use Rattle.script_reader.specs.Highs.{place}
+use Rattle.script_reader.specs.declared.line.Line.TheVariants as lines
 use Rattle.two_worlds.specs.Private.HighLooks.{ComesBack}
 use Rattle.two_worlds.specs.Standing.{Stands}
-use Rattle.two_worlds.specs.Working.{Works, IsAble}
+use Rattle.two_worlds.specs.Working.{Works, IsAble, IsAheadBy}
 use Rattle.two_worlds.specs.declared.pump.parts.Parts.{Parts}
 use Rattle.world_laws.proofs.Packets.{in_whole, get_drop}
 
@@ -87,3 +97,30 @@ able_numbered m c kind n able = record {
 pub comes_numbered : {D : Type 0} (m : Meaning D) (c : Parts D) (p : Past) → Stands m c p → (back n : ℕ) → back < length c.returned.items
     → slice_get c.returned.items (place c.returned.items back) ≡ Some n → ComesBack c.row.id p.world false (Some (numbered c Taken n).taken) (Some (place p.world.returned back))
 comes_numbered m c p s back n less at = (refl, s.packets.taken, number_comes m c p s back n less at)
+
+-- ---- a TAKEN that is refused ----
+
+expected_up : {X : Type 0} (removed : ℕ) (hand : Option X) → removed ≤ expected removed hand
+expected_up removed None = omega arith
+expected_up removed (Some x) = omega arith
+
+refused_in : (n removed next : ℕ) → removed ≤ next → next ≤ n → task_in Taken n removed next ≡ Refuse (Ahead n next)
+refused_in n removed next le above =
+    let no : nat_lt n removed ≡ false = grind (arith, nat_tests) in
+    let yes : nat_le next n ≡ true = grind (arith, nat_tests) in
+    rw (no, yes) refl
+
+abbrev number_in : Option ℕ → ℕ
+number_in None = 0
+number_in (Some n) = n
+
+-- a TAKEN of a message that was not sent
+pub refuses_number : {D : Type 0} (m : Meaning D) (c : Parts D) (session moment back n : ℕ) → IsAble m c → slice_get c.returned.items (place c.returned.items back) ≡ Some n
+    → IsAheadBy c (lines.Return session moment back) → task_at c.high (Some (numbered c Taken n).taken) ≡ Refuse (Ahead n (expected (removed_of c.high) (hand_of c.high)))
+refuses_number m c session moment back n able at ahead =
+    let removed = removed_of c.high in
+    let next = expected removed (hand_of c.high) in
+    let own : c.taken.session ≡ c.high.row.id = ∥∥₁_elim able.works (hlevel props) (λ w. w.packets.taken ∙ ap (λ (r : SessionRow). r.id) (sym w.high_ready.row)) in
+    let same : n ≡ ahead.0 = ap number_in (sym at ∙ ahead.1) in
+    ap (λ (b : Bool). if b then task_in Taken n removed next else Keep) (eq-eqb c.taken.session c.high.row.id own)
+    ∙ refused_in n removed next (expected_up removed (hand_of c.high)) (omega (arith, same, ahead.2))

@@ -1,5 +1,5 @@
 -- After a high look the parts work on, or the high process is down.
-use Rattle.std.proofs.Common.{◌≡◌, ℕ, ◌^◌, ◌≤◌, ◌<◌, Bool, true, false, List, [], ◌∷◌, ◌++◌, length, Option, Some, None, Err, refl, sym, ap, ◌∙◌, subst, arith, nat_lt, lt-ltb}
+use Rattle.std.proofs.Common.{◌≡◌, ℕ, ◌^◌, ◌≤◌, ◌<◌, Bool, true, false, List, [], ◌∷◌, ◌++◌, length, Option, Some, None, Result, Ok, Err, refl, sym, ap, ◌∙◌, subst, arith, nat_lt, lt-ltb}
 use Rattle.std.specs.Prelude.{◌-◌, nat_le, All, IfSome, is_some, option_to_list, if◌then◌else◌, ◌||◌, not, ◌==◌}
 use Rattle.std.proofs.Math.Logic.{∥∥₁_map}
 use Rattle.std.proofs.lemmas.List.Elements.{All-drop, All-push, All-rest, All-same, All-head}
@@ -195,6 +195,9 @@ module _ {D : Type 0} (m : Meaning D) (c : Parts D) (moment : ℕ) (order : c.mo
 
 -- ---- a look that was refused, or whose disk failed ----
 
+abbrev pub done : HighLook → Result HighLook HighFault
+done look = Ok look
+
 abbrev pub is_device : HighFault → Bool
 is_device (Device n) = true
 is_device _ = false
@@ -244,6 +247,17 @@ module _ {D : Type 0} (m : Meaning D) (c : Parts D) (moment : ℕ) (q : HighProc
     ap (λ (b : Bool). (low.is_down c.low || b) || not (recv_is_open c.receiver)) fares.1 ∙ or_true (low.is_down c.low) (not (recv_is_open c.receiver)),
     same_count faults (m.count (high_disk store)) fares.0.fault,
   )
+
+  -- a frame that is refused is no removal that fails
+  pub never_broken : (task : Task) (e : HighFault) (faults : ℕ) → (task ≡ Refuse (Device faults) → ⊥) → task ≡ Refuse e → Fares m task c.high q c.high_store store (failed (Device faults)) → ⊥
+  never_broken Keep e faults never asks fares = fares.0
+  never_broken (Refuse f) e faults never asks fares = never (cc)
+  never_broken Remove e faults never asks fares = absurd (cc)
+
+  pub never_done : (task : Task) (e : HighFault) (look : HighLook) → task ≡ Refuse e → Fares m task c.high q c.high_store store (done look) → ⊥
+  never_done Keep e look asks fares = absurd (cc)
+  never_done (Refuse f) e look asks fares = let no = fares.0 in absurd (cc)
+  never_done Remove e look asks fares = absurd (cc)
 
   pub broken_works : (frame : Option Frame) (faults : ℕ) → Fares m (high.task_at c.high frame) c.high q c.high_store store (failed (Device faults)) → WorksOn m (broken_parts c moment q store ends) (Err (stops.Device roles.High faults))
   broken_works frame faults fares = broken_by (high.task_at c.high frame) faults (asks_no_fault c.high frame faults) fares

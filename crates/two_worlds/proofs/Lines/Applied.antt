@@ -11,9 +11,11 @@ use Rattle.two_worlds.specs.declared.applied.Stop.{Stop}
 use Rattle.two_worlds.specs.declared.applied.Stop.TheVariants.{Line, Device, Full, Disk}
 use Rattle.two_worlds.specs.declared.pump.parts.Parts.{Parts}
 use Rattle.two_worlds.specs.declared.pump.state.PumpState.{PumpState}
-use Rattle.two_worlds.specs.declared.pump.state.PumpState.TheVariants.{Open}
+use Rattle.two_worlds.specs.declared.pump.state.PumpState.TheVariants.{Open, Shut}
+use Rattle.two_worlds.specs.States.{disks_in, IsOpenWith}
+use Rattle.two_worlds.specs.Working.{IsAheadBy}
 use Rattle.two_worlds.specs.Private.StateSteps.{StateApplies, StateAppliesOn}
-use Rattle.two_worlds.specs.Private.LineSteps.{AttemptsFrom, AttemptsOn, answer_of}
+use Rattle.two_worlds.specs.Private.LineSteps.{AttemptsFrom, AttemptsOn, RefusesAhead, answer_of}
 
 -- the answer is the one of its reason to stop
 pub answer_is : (answer : Result (Unit {0}) Stop) (stop : Option Stop) → stop ≡ result_err answer → answer ≡ answer_of stop
@@ -45,3 +47,12 @@ module _ {D : Type 0} (m : Meaning D) (s t : PumpState D) (c d : Parts D) (was :
   applied_on printed (Some (Device role faults)) a = of_states (λ x y. StateAppliesOn m x y line printed (Some (Device role faults))) (a.0, a.1.0, a.1.1)
   applied_on printed (Some (Full end k size)) a = of_states (λ x y. StateAppliesOn m x y line printed (Some (Full end k size))) (a.0, a.1)
   applied_on printed (Some (Disk role why)) a = absurd a
+
+  -- a packet that is refused
+  pub applied_ahead : (printed : List Event) → RefusesAhead c d line [] printed → IsOpenWith (λ x. IsAheadBy x line) s → (printed ≡ []) × (disks_in t ≡ disks_in s)
+  applied_ahead printed refuses = of_states (λ x y. IsOpenWith (λ z. IsAheadBy z line) x → (printed ≡ []) × (disks_in y ≡ disks_in x)) refuses
+
+-- a line that brings no packet
+pub no_packet : {D : Type 0} (s : PumpState D) (line other : ScriptLine) → line ≡ other → ((c : Parts D) → IsAheadBy c other → ⊥) → IsOpenWith (λ c. IsAheadBy c line) s → ⊥
+no_packet (Open c) line other is none ahead = none c (subst (λ (l : ScriptLine). IsAheadBy c l) is ahead)
+no_packet (Shut d) line other is none ahead = ahead

@@ -11,16 +11,17 @@ use Rattle.script_reader.specs.declared.line.Line.TheVariants as lines
 use Rattle.two_worlds.specs.declared.applied.Stop.{Stop}
 use Rattle.two_worlds.specs.declared.pump.parts.Parts.{Parts}
 use Rattle.two_worlds.specs.Timely.{is_timely_by}
-use Rattle.two_worlds.specs.Private.LineSteps.{Ran, Runs, RunsOn}
+use Rattle.two_worlds.specs.Private.LineSteps.{Ran, Runs, RunsOn, RefusesAhead}
 use Rattle.two_worlds.specs.Private.Serving.{DisksServe}
 
 -- what was carried out is the line
 pub ran_as : {D : Type 0} (m : Meaning D) (c d : Parts D) (out now : List Event) (result : Result (Unit {0}) Stop) (line own : ScriptLine) → line ≡ own
-    → Runs m c d own out now result → RunsOn m c d own out now result → DisksServe m c d result → d.row ≡ c.row
+    → Runs m c d own out now result → RunsOn m c d own out now result → RefusesAhead c d own out now → DisksServe m c d result → d.row ≡ c.row
     → Ran m c d line out now result
-ran_as m c d out now result line own is runs on serve row = record {
+ran_as m c d out now result line own is runs on ahead serve row = record {
   runs = subst (λ (l : ScriptLine). Runs m c d l out now result) (sym is) runs;
   on = subst (λ (l : ScriptLine). RunsOn m c d l out now result) (sym is) on;
+  ahead = subst (λ (l : ScriptLine). RefusesAhead c d l out now) (sym is) ahead;
   serve = serve;
   row = row;
 }

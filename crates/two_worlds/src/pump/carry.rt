@@ -3,6 +3,7 @@
 ghost use Rattle.std.specs.Prelude.{◌≡◌, ◌+◌, ◌<◌, ◌≤◌, [], length, OnOk};
 ghost use Rattle.disk_model.specs.declared.name.Role.TheVariants as roles;
 ghost use Rattle.script_reader.specs.Past.{Past};
+ghost use Rattle.script_reader.specs.declared.line.Line.TheVariants as lines;
 ghost use Rattle.script_reader.specs.Highs.{IsCarried, IsOverfull};
 ghost use Rattle.script_reader.specs.Breaks.{IsUntaken};
 ghost use Rattle.two_worlds.specs.Printing.{lines_in};
@@ -10,6 +11,7 @@ ghost use Rattle.two_worlds.specs.Working.{IsAble};
 ghost use Rattle.two_worlds.specs.Standing.{Stands};
 ghost use Rattle.two_worlds.specs.Doing.{Does, LeavesAlone};
 ghost use Rattle.two_worlds.specs.Private.GoingOn.{WorksOn};
+ghost use Rattle.two_worlds.specs.Private.LineSteps.{RefusesAhead};
 ghost use Rattle.two_worlds.specs.Private.Serving.{DisksServe};
 
 use crate::applied::Stop;
@@ -33,6 +35,7 @@ impl<D: Disk> Parts<D> {
             (λ p q printed end size_of_message size. (q ≡ p) × IsOverfull p.world back end size_of_message size × (printed ≡ []))
             D.told self.old self.new (lines_in out.old.items) (lines_in out.new.items) result }
         ensures works { WorksOn D.told self.new result }
+        ensures ahead { RefusesAhead self.old self.new (lines.Carry self.old.row.id back) (lines_in out.old.items) (lines_in out.new.items) }
         ensures serve { DisksServe D.told self.old self.new result }
         ensures low { LeavesAlone roles.Low self.old self.new }
         ensures high { LeavesAlone roles.High self.old self.new }

@@ -4,13 +4,17 @@ ghost use Rattle.std.specs.Prelude.{◌≡◌, ℕ, Bool, ◌+◌, ◌^◌, ◌<
 ghost use Rattle.disk_model.specs.declared.name.Role.TheVariants as roles;
 ghost use Rattle.high_process.specs.States as high;
 ghost use Rattle.high_process.specs.Tasks.{frame_of};
+ghost use Rattle.high_process.specs.declared.values.HighFault.{HighFault};
+ghost use Rattle.high_process.specs.declared.values.Task.TheVariants.{Refuse};
 ghost use Rattle.script_reader.specs.Past.{Past};
+ghost use Rattle.script_reader.specs.declared.line.Line.TheVariants as lines;
 ghost use Rattle.script_reader.specs.Highs.{IsHighLook, IsReturn, place};
 ghost use Rattle.script_reader.specs.Breaks.{IsUnremoved};
-ghost use Rattle.two_worlds.specs.Standing.{Stands};
+ghost use Rattle.two_worlds.specs.Standing.{Stands, bare_of};
 ghost use Rattle.two_worlds.specs.Working.{IsAble};
 ghost use Rattle.two_worlds.specs.Doing.{Does, DoesFrom, NeverBreaks, NeverOverfills, LeavesAlone};
 ghost use Rattle.two_worlds.specs.Private.GoingOn.{WorksOn};
+ghost use Rattle.two_worlds.specs.Private.LineSteps.{RefusesAhead};
 ghost use Rattle.two_worlds.specs.Private.Serving.{DisksServe};
 ghost use Rattle.two_worlds.specs.Timely.{goes_on_by};
 ghost use Rattle.two_worlds.specs.Printing.{lines_in};
@@ -86,6 +90,8 @@ impl<D: Disk> Parts<D> {
             → DoesFrom (LeadsWith self.old.row moment attaches back) (BreaksWith moment back) NeverOverfills
             D.told self.old self.new (lines_in out.old.items) (lines_in out.new.items) p result }
         ensures works { WorksOn D.told self.new result }
+        ensures ahead { (fault : HighFault) → high.task_at self.old.high (frame_when comes_back self.old.taken) ≡ Refuse fault
+            → (lines_in out.new.items ≡ lines_in out.old.items) × (bare_of self.new ≡ bare_of self.old) }
         ensures goes { is_some (high.hand_of self.new.high) ≡ true → goes_on_by self.old ≡ true }
         ensures serve { DisksServe D.told self.old self.new result }
         ensures low { LeavesAlone roles.Low self.old self.new }
@@ -165,6 +171,7 @@ impl<D: Disk> Parts<D> {
             × IsUnremoved p moment (Some (place p.world.returned back)) q × (printed ≡ []))
             NeverOverfills D.told self.old self.new (lines_in out.old.items) (lines_in out.new.items) result }
         ensures works { WorksOn D.told self.new result }
+        ensures ahead { RefusesAhead self.old self.new (lines.Return self.old.row.id moment back) (lines_in out.old.items) (lines_in out.new.items) }
         ensures serve { DisksServe D.told self.old self.new result }
         ensures low { LeavesAlone roles.Low self.old self.new }
         ensures recv { LeavesAlone roles.Recv self.old self.new }

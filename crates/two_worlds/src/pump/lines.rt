@@ -14,7 +14,7 @@ ghost use Rattle.two_worlds.specs.Working.{IsAble};
 ghost use Rattle.two_worlds.specs.Doing.{Does, LeavesAlone};
 ghost use Rattle.two_worlds.specs.Private.GoingOn.{WorksOn};
 ghost use Rattle.two_worlds.specs.Private.Serving.{DisksServe};
-ghost use Rattle.two_worlds.specs.Private.LineSteps.{IsOverfullSent, Ran, Runs, RunsOn, Attempts, AttemptsOn, answer_of};
+ghost use Rattle.two_worlds.specs.Private.LineSteps.{IsOverfullSent, Ran, Runs, RunsOn, Attempts, AttemptsOn, RefusesAhead, answer_of};
 ghost use Rattle.two_worlds.specs.Timely.{goes_on_by, is_timely_by, opens_again};
 
 use crate::applied::Stop;
@@ -233,6 +233,7 @@ impl<D: Disk> Parts<D> {
         requires out { length out.old.items ≤ 0 }
         ensures attempts { Attempts D.told self.old self.new (line_with bytes.now line.now) (lines_in out.old.items) (lines_in out.new.items) result }
         ensures on { AttemptsOn D.told self.old self.new (line_with bytes.now line.now) (lines_in out.old.items) (lines_in out.new.items) result }
+        ensures ahead { RefusesAhead self.old self.new (line_with bytes.now line.now) (lines_in out.old.items) (lines_in out.new.items) }
         ensures serve { DisksServe D.told self.old self.new result }
         ensures row { self.new.row ≡ self.old.row }
     {
@@ -256,6 +257,7 @@ impl<D: Disk> Parts<D> {
         requires stays { opens_again (line_with bytes.now line.now) ≡ false }
         ensures attempts { Attempts D.told self.old self.new (line_with bytes.now line.now) [] (lines_in out.new.items) (answer_of result) }
         ensures on { AttemptsOn D.told self.old self.new (line_with bytes.now line.now) [] (lines_in out.new.items) (answer_of result) }
+        ensures ahead { RefusesAhead self.old self.new (line_with bytes.now line.now) [] (lines_in out.new.items) }
         ensures serve { DisksGo D.told self.old.row (disk_at roles.Low self.old) (disk_at roles.High self.old) (disk_at roles.Recv self.old)
             (disk_at roles.Low self.new) (disk_at roles.High self.new) (disk_at roles.Recv self.new) result }
         ensures row { self.new.row ≡ self.old.row }

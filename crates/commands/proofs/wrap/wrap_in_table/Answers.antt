@@ -1,5 +1,6 @@
-use Rattle.std.proofs.Common.{ℕ, List, subst}
-use Rattle.commands.specs.Tables.{HasRow}
+use Rattle.std.proofs.Common.{ℕ, List, Err, inl, refl, subst}
+use Rattle.commands.specs.Tables.{HasRow, IsRowOf}
+use Rattle.commands.proofs.TableRows.{stops_at_file}
 use Rattle.commands.proofs.Wrapped.{wraps_row}
 use Rattle.commands.proofs.wrap.wrap_in_table.Goals as goal
 
@@ -7,5 +8,16 @@ pub returns-in-Ok-clause-wraps : goal.returns-in-Ok-clause-wraps
 returns-in-Ok-clause-wraps g c = λ told tells.
     let row = c.in-Ok.row in
     let r = c.in-Ok.ensures in
-    wraps_row (g.S.Shelf.told.file c.args.shelf.now c.args.table.now) (g.S.Shelf.told.disk c.args.shelf.now) (g.S.Shelf.told.disk c.row_in_file.new.shelf) (g.S.Shelf.told.disk c.wrap_row.new.shelf) c.args.session row _ _ c.wrap_row.result
+    wraps_row _ _ (g.S.Shelf.told.file c.args.shelf.now c.args.table.now) (g.S.Shelf.told.disk c.args.shelf.now) (g.S.Shelf.told.disk c.row_in_file.new.shelf) (g.S.Shelf.told.disk c.wrap_row.new.shelf) c.args.session row _ _ c.wrap_row.result
     (subst (λ (n : List ℕ). HasRow (g.S.Shelf.told.file c.args.shelf.now n) c.args.session row) c.as_str.ensures.value (r.row told)) r.disks (c.wrap_row.ensures.wraps told tells)
+
+pub returns-in-Err-clause-wraps : goal.returns-in-Err-clause-wraps
+returns-in-Err-clause-wraps g c = λ told tells.
+    let e = c.in-Err.ensures in
+    inl (
+      c.in-Err.end,
+      stops_at_file (g.S.Shelf.told.file c.args.shelf.now c.args.table.now) _ _ c.args.session c.in-Err.end e.only
+          (subst (λ (n : List ℕ). IsRowOf (g.S.Shelf.told.file c.args.shelf.now n) c.args.session (Err c.in-Err.end)) c.as_str.ensures.value (e.row told)) e.read,
+      refl,
+      e.disks,
+    )

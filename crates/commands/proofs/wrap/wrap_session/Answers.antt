@@ -9,5 +9,5 @@ returns-in-Ok-clause-ends g c = λ told tells.
     let e = c.wrap_in_table-end.ensures in
     let left = g.I.Source.left c.args.file.now in
     let now_left = g.I.Source.left c.wrap_in_table-end.new.file in
-    writes (WrapsAll (g.S.Shelf.told.file c.args.shelf.now c.args.table.now) (g.S.Shelf.told.disk c.args.shelf.now) (g.S.Shelf.told.disk c.wrap_in_table-end.new.shelf) c.args.session left now_left) c.args.session _ _ c.wrap_in_table-end.result e.unwritten (e.wraps told tells, e.gave)
+    writes (WrapsAll (g.S.Shelf.told.faults c.args.shelf.now) (g.S.Shelf.told.faults c.wrap_in_table-end.new.shelf) (g.S.Shelf.told.file c.args.shelf.now c.args.table.now) (g.S.Shelf.told.disk c.args.shelf.now) (g.S.Shelf.told.disk c.wrap_in_table-end.new.shelf) c.args.session left now_left) c.args.session _ _ c.wrap_in_table-end.result e.unwritten (e.wraps told tells, e.gave)
     (subst (λ (bytes : List ℕ). Appends (g.O.Sink.written c.args.out.now) (g.O.Sink.written c.write_all.new.out) bytes) (c.as_slice.ensures.value ∙ c.put_send.ensures) c.in-Ok.ensures.ok)

@@ -161,7 +161,7 @@ returns-in-Wrap g c =
       format = λ table session words. elim (other _ call a (commands.Format table session) refl words) [ ];
       show = λ table session words. elim (other _ call a (commands.Show table session) refl words) [ ];
       migrate = λ table session new_table new_session words. elim (other _ call a (commands.Migrate table session new_table new_session) refl words) [ ];
-      wrap = λ table session words told tells. wraps_asked (g.S.Shelf.told.file c.args.shelf.now) (g.S.Shelf.told.disk c.args.shelf.now) (g.S.Shelf.told.disk c.wrap_session.new.shelf) (g.I.Source.left c.args.script.now)
+      wrap = λ table session words told tells. wraps_asked (g.S.Shelf.told.faults c.args.shelf.now) (g.S.Shelf.told.faults c.wrap_session.new.shelf) (g.S.Shelf.told.file c.args.shelf.now) (g.S.Shelf.told.disk c.args.shelf.now) (g.S.Shelf.told.disk c.wrap_session.new.shelf) (g.I.Source.left c.args.script.now)
           (g.I.Source.left c.wrap_session.new.file) (g.O.Sink.written c.args.out.now) (g.O.Sink.written c.wrap_session.new.out) _ table _ session c.wrap_session.result c.status-in-Wrap.result (e.ends told tells) c.status-in-Wrap.ensures call refl (a.only (commands.Wrap table session) words);
       unwrap = λ table session words. elim (other _ call a (commands.Unwrap table session) refl words) [ ];
       exercise = λ seed count words. elim (other _ call a (commands.Exercise seed count) refl words) [ ];
@@ -301,21 +301,20 @@ returns g c =
     let call = commands.Replay in
     let a = asks _ _ c.in-Ok.asked call c.as_slice.ensures.value c.in-Ok.ensures.found c.in-Ok.ensures.command c.in-Replay.is in
     let e = c.replay.ensures in
-    let s = c.status-2.ensures in
     record {
       untouched = λ none. elim (none call refl a.are) [ ];
       words = λ none. elim (none call refl a.are) [ ];
-      known = λ d live words two. e.words (sym s.is ∙ two);
+      known = λ d live words. e.words;
       unasked = λ reads wraps. elim (reads (inl a.are.1)) [ ];
       back = e.back;
-      device = λ seven. e.device (sym s.is ∙ seven);
+      device = e.device;
       disk = λ replays. elim (replays a.are.1) [ ];
       file = λ reads wraps. elim (reads (inl a.are.1)) [ ];
-      read = λ reads three. e.read (sym s.is ∙ three);
+      read = λ reads. e.read;
       either = λ wraps. elim (not_wrap _ call a refl wraps) [ ];
-      unwritten = λ four. e.write (sym s.is ∙ four);
-      memory = λ reads one. e.memory (sym s.is ∙ one);
-      replay = λ words told tells. rw (s.is) (e.ends told tells);
+      unwritten = e.write;
+      memory = λ reads. e.memory;
+      replay = λ words told tells. e.ends told tells;
       chain = λ words. elim (other _ call a commands.Chain refl (tt, words)) [ ];
       format = λ table session words. elim (other _ call a (commands.Format table session) refl words) [ ];
       show = λ table session words. elim (other _ call a (commands.Show table session) refl words) [ ];
@@ -325,7 +324,7 @@ returns g c =
       exercise = λ seed count words. elim (other _ call a (commands.Exercise seed count) refl words) [ ];
       audit = λ words. elim (other _ call a commands.Audit refl (tt, words)) [ ];
       compare = λ words. elim (other _ call a commands.Compare refl (tt, words)) [ ];
-      status = replay_in _ s.range;
+      status = replay_in _ e.status;
     }
 
 pub returns-in-Err-NoCommand : goal.returns-in-Err-NoCommand
@@ -407,7 +406,7 @@ returns-in-Err-Memory g c = record {
   format = λ table session words told tells. formats_nothing _ _ (FailsAt g.S.Shelf.told g.S.Disk.Disk.told c.args.shelf.now c.args.shelf.now) _ _ session (search rules);
   show = λ table session words told tells. shows_nothing _ _ (FailsAt g.S.Shelf.told g.S.Disk.Disk.told c.args.shelf.now c.args.shelf.now) _ _ session (search rules);
   migrate = λ table session new_table new_session words told tells. migrates_nothing _ _ _ (FailsAt g.S.Shelf.told g.S.Disk.Disk.told c.args.shelf.now c.args.shelf.now) _ _ session new_session (search rules);
-  wrap = λ table session words told tells. wraps_nothing (g.S.Shelf.told.file c.args.shelf.now table) (g.S.Shelf.told.disk c.args.shelf.now) _ _ _ session (search rules);
+  wrap = λ table session words told tells. wraps_nothing (g.S.Shelf.told.faults c.args.shelf.now) (g.S.Shelf.told.file c.args.shelf.now table) (g.S.Shelf.told.disk c.args.shelf.now) _ _ _ session (search rules);
   unwrap = λ table session words told tells. unwraps_nothing (g.S.Shelf.told.file c.args.shelf.now table) (g.S.Shelf.told.disk c.args.shelf.now) _ _ session (search rules);
   exercise = search rules;
   audit = search rules;

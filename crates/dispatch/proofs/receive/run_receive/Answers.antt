@@ -5,7 +5,7 @@ use Rattle.commands.specs.declared.command_end.CommandEnd.{CommandEnd}
 use Rattle.pump_frame.specs.Counts.{Rose}
 use Rattle.script_replay.specs.Shelves.{AllAreBack, Places}
 use Rattle.dispatch.proofs.Received.{receives_row}
-use Rattle.dispatch.proofs.Sent.{stops_at_table}
+use Rattle.commands.proofs.TableRows.{stops_at_table}
 use Rattle.dispatch.proofs.receive.run_receive.Goals as goal
 
 pub returns-in-Ok : goal.returns-in-Ok

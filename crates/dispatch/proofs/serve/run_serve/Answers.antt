@@ -4,7 +4,7 @@ use Rattle.commands.specs.Tables.{HasRow, IsRowOf, IsTableEnd}
 use Rattle.commands.specs.declared.command_end.CommandEnd.{CommandEnd}
 use Rattle.pump_frame.specs.Counts.{Rose}
 use Rattle.script_replay.specs.Shelves.{AllAreBack, Places}
-use Rattle.dispatch.proofs.Sent.{stops_at_file}
+use Rattle.commands.proofs.TableRows.{stops_at_file}
 use Rattle.dispatch.proofs.Served.{serves_row, same_places}
 use Rattle.dispatch.proofs.serve.run_serve.Goals as goal
 

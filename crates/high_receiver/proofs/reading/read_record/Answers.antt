@@ -1,12 +1,16 @@
 -- Each return by hand: a search at each of its clauses takes far longer.
-use Rattle.std.proofs.Common.{◌≡◌, ℕ, ◌+◌, Err, List, length, take, replicate, refl, ◌∙◌, ap, arith}
+use Rattle.std.proofs.Common.{◌≡◌, ◌-◌, ◌≤◌, inl, inr, ℕ, ◌+◌, Err, List, length, take, replicate, refl, ◌∙◌, ap, arith}
 use Rattle.std.proofs.lemmas.Result.{err_from_is_err_and}
-use Rattle.std.proofs.lemmas.List.{length-take-le, length-replicate}
+use Rattle.std.proofs.lemmas.List.{length-take, length-take-le, length-replicate}
 use Rattle.disk_model.specs.Disk.{Same}
 use Rattle.disk_model.proofs.Run.{goes_on_same}
 use Rattle.stable_buffer.specs.Numbers.{length_at}
 use Rattle.high_receiver.proofs.Walk.{first, failed, found_bytes}
 use Rattle.high_receiver.proofs.reading.read_record.Goals as goal
+
+-- what stands behind the two bytes of a length has that many at most
+short_part : (l most : ℕ) (payload rest : List ℕ) → payload ≡ take (2 + l - 2) rest → l ≤ most → length payload ≤ most
+short_part l most payload rest is le = omega (arith, ap length is, length-take (2 + l - 2) rest, le)
 
 pub returns-in_err-length : goal.returns-in_err-length
 returns-in_err-length g c =
@@ -19,6 +23,7 @@ returns-in_err-length g c =
       ready = rw (is) tt;
       value = e.value;
       within = rw (is) tt;
+      fills = inl refl;
       found = rw (is) tt;
       moves = e.moves;
       answers = record {
@@ -43,6 +48,7 @@ returns-then-length-most g c =
       ready = e.ready;
       value = e.value;
       within = let end = ap (λ (v : ℕ × ℕ). v.1) c.value-end.ensures in omega (arith, end);
+      fills = inl refl;
       found = λ told message later from.
           let here = first c.args.most message later c.args.at r.second (m.reading r.disk) from in
           let is : c.in_ok-length.length ≡ length_at (m.reading r.disk) c.args.at = e.length told in
@@ -76,6 +82,7 @@ returns-in_err-read_beside g c =
       ready = rw (is) tt;
       value = k.value ∙ e.value;
       within = rw (is) tt;
+      fills = inl refl;
       found = rw (is) tt;
       moves = goes_on_same m Same _ _ _ e.moves k.moves;
       answers = record {
@@ -112,6 +119,7 @@ returns-then-end-at g c =
       ready = k.ready;
       value = k.value ∙ e.value;
       within = omega (arith, end);
+      fills = inr (refl, short_part l c.args.most _ _ c.set.ensures.value (omega (arith, c.if-length-most.false)));
       found = λ told message later from.
           let here = first c.args.most message later at r.second disk from in
           let is : l ≡ length_at disk at = e.length told in
@@ -144,6 +152,7 @@ returns-else-end-at g c =
       ready = k.ready;
       value = k.value ∙ e.value;
       within = omega (arith, end, c.requires.within, c.if-end-at.false);
+      fills = inr (refl, short_part l c.args.most _ _ c.set.ensures.value (omega (arith, c.if-length-most.false)));
       found = λ told message later from.
           let here = first c.args.most message later at r.second disk from in
           let is : l ≡ length_at disk at = e.length told in

@@ -1,4 +1,4 @@
-use Rattle.std.proofs.Common.{Err, ◌∙◌, ◌≡◌, ◌+◌, ◌≤◌, List, ℕ, false, length, take, drop, refl, ap, subst, arith, length-drop}
+use Rattle.std.proofs.Common.{Err, ◌∙◌, ◌≡◌, ◌+◌, ◌≤◌, List, ℕ, false, length, take, drop, refl, ap, subst, arith, length-append, length-drop}
 use Rattle.std.proofs.lemmas.Bool.{false≢true}
 use Rattle.std.proofs.lemmas.Result.{err_from_is_err_and}
 use Rattle.std.proofs.lemmas.List.{length-take-le}
@@ -50,10 +50,11 @@ loop-done-preserved g c =
     let src = m.reading c.args.source.now in
     let old = m.reading c.args.target.now in
     let same : m.tells → m.reading c.loop-done.source ≡ src = i.kept.moves.reads in
-    let within : m.tells → at + done + size ≤ length src = λ told. omega (arith, c.in_ok-copy_piece.ensures.within told, ap length (same told)) in
     let few = c.min-size.ensures in
+    let all : length (take size c.loop-done.room) ≡ size = length-take-le size c.loop-done.room (omega (arith, few, i.room)) in
+    let within : m.tells → at + done + size ≤ length src = λ told. omega (arith, c.in_ok-copy_piece.ensures.within told, all, ap length (same told)) in
     let wrote : m.tells → IsWritten (m.reading c.loop-done.target) (to + done) (take size (drop (at + done) src)) (m.reading c.copy_piece.new.target) = λ told.
-    subst (λ (z : List ℕ). IsWritten (m.reading c.loop-done.target) (to + done) (take size (drop (at + done) z)) (m.reading c.copy_piece.new.target)) (same told) (c.in_ok-copy_piece.ensures.written told) in
+    subst (λ (z : List ℕ). IsWritten (m.reading c.loop-done.target) (to + done) (take size (drop (at + done) z)) (m.reading c.copy_piece.new.target)) (same told) (rw all at (c.in_ok-copy_piece.ensures.written told)) in
     record {
       below = omega (arith, i.below, few, c.loop-done-test.true);
       written = λ told. piece_more old src at to done size (m.reading c.loop-done.target) (m.reading c.copy_piece.new.target) (take size (drop (at + done) src)) (c.requires.starts told) (within told) (i.written told) refl (wrote told);
@@ -63,5 +64,6 @@ loop-done-preserved g c =
           omega (arith, grows, all);
       kept = kept_after m _ _ _ false i.kept c.in_ok-copy_piece.ensures.kept;
       moves = kept_first m to (to + done) _ _ _ _ (omega arith) i.moves c.copy_piece.ensures.moves;
+      room = omega (arith, length-append c.copy_piece.new.piece (drop size c.loop-done.room), length-drop size c.loop-done.room, c.copy_piece.auto.piece, all, few, i.room);
       counts = omega (arith, i.counts, c.copy_piece.ensures.counted.counts);
     }

@@ -1,4 +1,4 @@
-use Rattle.std.proofs.Common.{◌+◌, ◌-◌, ◌≤◌, false, length, take, drop}
+use Rattle.std.proofs.Common.{◌+◌, ◌-◌, ◌≡◌, ◌≤◌, false, length, take, drop}
 use Rattle.disk_model.specs.Disk.{Moves, IsWritten}
 use Rattle.stable_buffer.specs.Making.{KeepsFirst}
 use Rattle.recovery.specs.Moves.{IsKept}
@@ -13,6 +13,7 @@ invariant-loop-done g l =
       size : m.tells → l.to + l.done ≤ length (m.reading l.target);
       kept : IsKept m l.fn.source l.source false;
       moves : Moves m (KeepsFirst l.to) l.fn.target l.target;
+      room : length l.room ≡ 4096;
       counts : m.count l.fn.target ≤ m.count l.target;
     }
 

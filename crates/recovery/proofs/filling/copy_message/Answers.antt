@@ -6,7 +6,7 @@ use Rattle.recovery.specs.Moves.{is_blamed}
 use Rattle.recovery.proofs.Rows.{row_capacity, row_message}
 use Rattle.recovery.proofs.Slots.{slot_length}
 use Rattle.recovery.proofs.Surveys.{kept_after}
-use Rattle.recovery.proofs.Fillings.{others_stay, size_stays, message_copied, read_few, first_weaker}
+use Rattle.recovery.proofs.Fillings.{others_stay, size_stays, message_copied, message_put, read_few, first_weaker}
 use Rattle.recovery.proofs.filling.copy_message.Goals.{then-length-to-via-then-length-to, then-length-to-via-else-length-to+then-length-from}
 use Rattle.recovery.proofs.filling.copy_message.Goals as goal
 
@@ -30,6 +30,28 @@ returns-clause-copied g c =
     IfOk-weaker c.copy_bytes.result _ _ (λ _ wrote told message s fits.
     message_copied from to c.args.n c.in_ok-length.length c.place-at.result c.place.result message (m.reading c.args.source.now) (m.reading c.read_length.new.disk) (m.reading c.args.target.now) (m.reading c.copy_bytes.new.target)
     (row_message from c.requires.from) (omega (arith, (row_capacity to c.requires.to).0)) (c.requires.size told) s (c.in_ok-length.ensures.length told) c.place-at.ensures.place c.place.ensures.place (c.read_length.ensures.kept.moves.reads told) fits (wrote told))
+    c.copy_bytes.ensures.written
+
+pub returns-then-length-to-clause-put : goal.returns-then-length-to-clause-put
+returns-then-length-to-clause-put g c = λ told message s fits.
+    let m = g.D.Disk.told in
+    let from = c.args.from.now in
+    let is : c.in_ok-length.length ≡ length message = c.in_ok-length.ensures.length told ∙ ap (λ p. length_at (m.reading c.args.source.now) p) c.place-at.ensures.place
+    ∙ slot_length from (row_message from c.requires.from) c.args.n message (m.reading c.args.source.now) s in
+    let short = s.fits in
+    absurd (elim c.then-length-to.branch [
+      | then-length-to-via-then-length-to w ↦ omega (arith, w.if-length-to.true, is, fits)
+      | then-length-to-via-else-length-to+then-length-from w ↦ omega (arith, w.if-length-from.true, is, short)
+    ])
+
+pub returns-clause-put : goal.returns-clause-put
+returns-clause-put g c =
+    let m = g.D.Disk.told in
+    let from = c.args.from.now in
+    let to = c.args.to.now in
+    IfOk-weaker c.copy_bytes.result _ _ (λ _ wrote told message s fits.
+    message_put from to c.args.n c.in_ok-length.length c.place-at.result c.place.result message (m.reading c.args.source.now) (m.reading c.read_length.new.disk) (m.reading c.args.target.now) (m.reading c.copy_bytes.new.target)
+    (row_message from c.requires.from) s (c.in_ok-length.ensures.length told) c.place-at.ensures.place c.place.ensures.place (c.read_length.ensures.kept.moves.reads told) (wrote told))
     c.copy_bytes.ensures.written
 
 pub returns-clause-others : goal.returns-clause-others

@@ -1,6 +1,5 @@
-use Rattle.std.proofs.Common.{◌≡◌, ◌∙◌, inl, inr, ℕ, true, false, Err, length, take, replicate, refl, ap, subst, arith}
+use Rattle.std.proofs.Common.{◌≡◌, ◌∙◌, inl, inr, ℕ, true, false, Err, length, refl, ap, subst, arith}
 use Rattle.std.proofs.lemmas.Bool.{false≢true}
-use Rattle.std.proofs.lemmas.List.{length-take-le, length-replicate}
 use Rattle.disk_model.specs.Disk.{Torn}
 use Rattle.disk_model.proofs.Run.{started}
 use Rattle.recovery.specs.Moves.{is_blamed}
@@ -15,7 +14,7 @@ returns-in-Err g c =
     record {
       within = tt;
       written = tt;
-      moves = started g.D.Disk.told (Torn c.args.to c.args.count) (λ d. record { before = refl; after = refl; no_shorter = omega arith; no_longer = omega arith }) c.args.target.now;
+      moves = started g.D.Disk.told (Torn c.args.to (length c.args.piece.now)) (λ d. record { before = refl; after = refl; no_shorter = omega arith; no_longer = omega arith }) c.args.target.now;
       kept = record { moves = e.moves; counted = record { counts = e.answers.counts; rose = λ _. e.answers.rose refl } };
       counted = record {
         counts = omega arith;
@@ -51,9 +50,7 @@ returns-in-Err-write_at-clause-one g c =
     inr (c.new_fault.ensures ∙ ap counting c.faults-faults-in-Err-write_at.ensures)
 
 pub returns-clause-within : goal.returns-clause-within
-returns-clause-within g c = λ told.
-    let all : length {A = ℕ} (take c.args.count (replicate 4096 0)) ≡ c.args.count = length-take-le c.args.count (replicate 4096 0) (omega (arith, c.requires.few, length-replicate {A = ℕ} 4096 0)) in
-    omega (arith, all, c.in_default.ensures.within told)
+returns-clause-within g c = λ told. c.in_default.ensures.within told
 
 pub returns-clause-kept : goal.returns-clause-kept
 returns-clause-kept g c =

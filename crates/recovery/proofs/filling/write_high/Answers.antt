@@ -1,4 +1,4 @@
-use Rattle.std.proofs.Common.{arith, ◌≡◌, List, ℕ, sym, subst}
+use Rattle.std.proofs.Common.{arith, ◌≡◌, ◌∙◌, List, ℕ, sym, subst}
 use Rattle.stable_buffer.specs.Making.{marked}
 use Rattle.stable_buffer.specs.Stands.{HighStands}
 use Rattle.recovery.proofs.Wholes.{none_leaves, whole_leaves, high_whole}
@@ -21,6 +21,9 @@ returns-clause-stands g c = λ told.
     let B = c.args.counts.now.removed in
     let w = m.reading c.begin_as.new.target in
     subst (λ (z : List ℕ). HighStands row B z) (sym (c.in_ok-finish_as.ensures.bytes told)) (high_whole row B w c.requires.count (c.in_ok-begin_as.ensures.bytes told))
+
+pub returns-clause-bytes : goal.returns-clause-bytes
+returns-clause-bytes g c = λ told. c.in_ok-finish_as.ensures.bytes told ∙ c.in_ok-begin_as.ensures.bytes told
 
 pub returns-clause-made : goal.returns-clause-made
 returns-clause-made g c = λ short start le so_far.

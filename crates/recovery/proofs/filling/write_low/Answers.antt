@@ -7,6 +7,7 @@ use Rattle.stable_buffer.specs.Stands.{LowStands}
 use Rattle.stable_buffer.proofs.Making.{zeros_leave, zeros_stay}
 use Rattle.recovery.proofs.Wholes.{begun_length, none_leaves, whole_leaves, low_whole}
 use Rattle.recovery.specs.declared.trio.MoveFault.{MoveFault}
+use Rattle.recovery.proofs.Bytes.{low_written}
 use Rattle.recovery.proofs.Blamed.{old_kept}
 use Rattle.recovery.proofs.Surveys.{counted_next}
 use Rattle.recovery.proofs.Unwritten.{kept_still}
@@ -23,6 +24,10 @@ copy_messages-requires-clause-size g c = λ told.
 pub returns-in_err-copy_messages : goal.returns-in_err-copy_messages
 returns-in_err-copy_messages g c = record {
   stands =
+      let (fault, was, same) = err_from_is_err_and c.from_residual-in_err-copy_messages.result c.from_residual-in_err-copy_messages.ensures.1 in
+      let is = was ∙ ap (λ d. Err d) same in
+      rw (is) tt;
+  bytes =
       let (fault, was, same) = err_from_is_err_and c.from_residual-in_err-copy_messages.result c.from_residual-in_err-copy_messages.ensures.1 in
       let is = was ∙ ap (λ d. Err d) same in
       rw (is) tt;
@@ -68,6 +73,10 @@ finish_as-requires g c =
 pub returns-in_err-finish_as : goal.returns-in_err-finish_as
 returns-in_err-finish_as g c = record {
   stands =
+      let (fault, was, same) = err_from_is_err_and c.from_residual-in_err-finish_as.result c.from_residual-in_err-finish_as.ensures.1 in
+      let is = was ∙ ap (λ d. Err d) same in
+      rw (is) tt;
+  bytes =
       let (fault, was, same) = err_from_is_err_and c.from_residual-in_err-finish_as.result c.from_residual-in_err-finish_as.ensures.1 in
       let is = was ∙ ap (λ d. Err d) same in
       rw (is) tt;
@@ -119,6 +128,11 @@ returns g c = record {
       let d2 = c.copy_messages.new.target in
       subst (λ (z : List ℕ). LowStands to k.accepted k.removed live z) (sym (c.in_ok-finish_as.ensures.bytes told)) (low_whole c.args.from.now to k.accepted k.removed live (m.reading c.args.source.now) (m.reading d1) (m.reading d2) c.requires.count c.requires.held.1 stands (c.in_ok-begin_as.ensures.bytes told)
       (c.copy_messages.ensures.moves.reads told).same (c.in_ok-copy_messages.ensures.size told) (c.in_ok-copy_messages.ensures.copied told live stands fits));
+  bytes =
+      λ told live stands fits.
+      let m = g.D.Disk.told in
+      let k = c.args.counts.now in
+      c.in_ok-finish_as.ensures.bytes told ∙ low_written c.args.to.now k.accepted k.removed live (m.reading c.begin_as.new.target) (m.reading c.copy_messages.new.target) (c.in_ok-begin_as.ensures.bytes told) (c.in_ok-copy_messages.ensures.put told live stands fits);
   settled = c.in_ok-finish_as.ensures.settled;
   made =
       λ live stands fits short start le so_far.
@@ -143,6 +157,10 @@ returns g c = record {
 pub returns-in_err-begin_as : goal.returns-in_err-begin_as
 returns-in_err-begin_as g c = record {
   stands =
+      let (fault, was, same) = err_from_is_err_and c.from_residual.result c.from_residual.ensures.1 in
+      let is = was ∙ ap (λ d. Err d) same in
+      rw (is) tt;
+  bytes =
       let (fault, was, same) = err_from_is_err_and c.from_residual.result c.from_residual.ensures.1 in
       let is = was ∙ ap (λ d. Err d) same in
       rw (is) tt;

@@ -7,6 +7,7 @@ use Rattle.stable_buffer.specs.Log.{RecvStands}
 use Rattle.stable_buffer.proofs.Making.{zeros_leave, zeros_stay}
 use Rattle.recovery.proofs.Wholes.{begun_length, none_leaves, whole_leaves, recv_whole}
 use Rattle.recovery.specs.declared.trio.MoveFault.{MoveFault}
+use Rattle.recovery.proofs.Bytes.{recv_written}
 use Rattle.recovery.proofs.Blamed.{old_kept}
 use Rattle.recovery.proofs.Surveys.{counted_next}
 use Rattle.recovery.proofs.Unwritten.{kept_still}
@@ -24,6 +25,10 @@ copy_bytes-requires-clause-starts g c = λ told.
 pub returns-in_err-copy_bytes : goal.returns-in_err-copy_bytes
 returns-in_err-copy_bytes g c = record {
   stands =
+      let (fault, was, same) = err_from_is_err_and c.from_residual-in_err-copy_bytes.result c.from_residual-in_err-copy_bytes.ensures.1 in
+      let is = was ∙ ap (λ d. Err d) same in
+      rw (is) tt;
+  bytes =
       let (fault, was, same) = err_from_is_err_and c.from_residual-in_err-copy_bytes.result c.from_residual-in_err-copy_bytes.ensures.1 in
       let is = was ∙ ap (λ d. Err d) same in
       rw (is) tt;
@@ -69,6 +74,10 @@ finish_as-requires g c =
 pub returns-in_err-finish_as : goal.returns-in_err-finish_as
 returns-in_err-finish_as g c = record {
   stands =
+      let (fault, was, same) = err_from_is_err_and c.from_residual-in_err-finish_as.result c.from_residual-in_err-finish_as.ensures.1 in
+      let is = was ∙ ap (λ d. Err d) same in
+      rw (is) tt;
+  bytes =
       let (fault, was, same) = err_from_is_err_and c.from_residual-in_err-finish_as.result c.from_residual-in_err-finish_as.ensures.1 in
       let is = was ∙ ap (λ d. Err d) same in
       rw (is) tt;
@@ -120,6 +129,11 @@ returns g c = record {
       let d2 = c.copy_bytes.new.target in
       subst (λ (z : List ℕ). RecvStands to received z) (sym (c.in_ok-finish_as.ensures.bytes told)) (recv_whole row to k.received k.end received (m.reading c.args.source.now) (m.reading d1) (m.reading d2) c.requires.count stands value fits (c.in_ok-begin_as.ensures.bytes told)
       (c.in_ok-copy_bytes.ensures.written told) c.requires.fits);
+  bytes =
+      λ told value.
+      let m = g.D.Disk.told in
+      let k = c.args.counts.now in
+      c.in_ok-finish_as.ensures.bytes told ∙ recv_written c.args.to.now k.received k.end (m.reading c.args.source.now) (m.reading c.begin_as.new.target) (m.reading c.copy_bytes.new.target) value (c.in_ok-begin_as.ensures.bytes told) (c.in_ok-copy_bytes.ensures.written told);
   settled = c.in_ok-finish_as.ensures.settled;
   made =
       λ row received stands value fits short start le so_far.
@@ -144,6 +158,10 @@ returns g c = record {
 pub returns-in_err-begin_as : goal.returns-in_err-begin_as
 returns-in_err-begin_as g c = record {
   stands =
+      let (fault, was, same) = err_from_is_err_and c.from_residual.result c.from_residual.ensures.1 in
+      let is = was ∙ ap (λ d. Err d) same in
+      rw (is) tt;
+  bytes =
       let (fault, was, same) = err_from_is_err_and c.from_residual.result c.from_residual.ensures.1 in
       let is = was ∙ ap (λ d. Err d) same in
       rw (is) tt;

@@ -1,5 +1,5 @@
 -- Each return by hand: a search at each of its clauses takes far longer.
-use Rattle.std.proofs.Common.{◌≡◌, inl, inr, ◌∙◌, List, ℕ, true, false, None, Some, length, refl, sym, ap, subst}
+use Rattle.std.proofs.Common.{◌≡◌, inl, inr, ◌∙◌, List, ℕ, true, false, None, Some, Ok, Err, length, refl, sym, ap, subst}
 use Rattle.std.proofs.lemmas.Result.{IfOk-at_ok, IfErr-at_err}
 use Rattle.disk_model.specs.Disk.{Same}
 use Rattle.disk_model.specs.declared.name.Role.TheVariants.{Low, High, Recv}
@@ -8,12 +8,12 @@ use Rattle.stable_buffer.specs.Log.{RecvStands}
 use Rattle.stable_buffer.specs.Register.{value_of}
 use Rattle.stable_buffer.specs.Stands.{LowStands, HighStands}
 use Rattle.recovery.specs.Calls.{is_device}
-use Rattle.recovery.specs.Moves.{AreFound, AreRefused, IsMoveRefused, StandFor, IsKept, is_blamed, disk_at, disk_of, first_full, first_unfit}
+use Rattle.recovery.specs.Moves.{AreFound, AreRefused, IsMoveRefused, StandFor, IsKept, AreWritten, is_blamed, disk_at, disk_of, first_full, first_unfit, low_bytes, high_bytes}
 use Rattle.recovery.specs.Refusals.{or_else}
 use Rattle.recovery.specs.Surveys.{IsSurveyed}
 use Rattle.recovery.specs.declared.trio.MoveFault.{MoveFault}
 use Rattle.recovery.specs.declared.why.Why.TheVariants.{Device}
-use Rattle.recovery.proofs.Moved.{FitBoth, IsJust, made_same, made_after, made_weaker, fit_both, just, not_refused, at_old, kept_on, value_is, was_empty, counted_after, not_blamed}
+use Rattle.recovery.proofs.Moved.{FitBoth, IsJust, made_same, made_after, made_weaker, turned_after, fit_both, just, not_refused, at_old, kept_on, value_is, was_empty, counted_after, not_blamed}
 use Rattle.recovery.proofs.Surveys.{kept_after}
 use Rattle.recovery.proofs.moving.migrate.Goals as goal
 
@@ -47,6 +47,12 @@ returns-in-Err g c =
       new_recv = not_blamed m Recv f new.recv of_old;
       unwritten = λ told e refused. (same new.low, same new.high, same new.recv);
       full = λ told not_empty. (same new.low, same new.high, same new.recv);
+      turn = λ E B live received stand. record {
+        at_low = λ low. (same new.high, same new.recv);
+        at_high = λ high. same new.recv;
+        high = λ told. inl (same new.high);
+        recv = λ told. inl (same new.recv);
+      };
       made_low = λ E B live received stand. made_same m (LowStands to E B live) new.low new.low (same new.low);
       made_high = λ E B live received stand. made_same m (HighStands to B) new.high new.high (same new.high);
       made_recv = λ E B live received stand. made_same m (RecvStands to received) new.recv new.recv (same new.recv);
@@ -92,6 +98,12 @@ returns-in-Err-check_all g c =
       new_recv = refused.new_recv.counted;
       unwritten = λ told e is. (refused.new_low.moves, refused.new_high.moves, refused.new_recv.moves);
       full = λ told not_empty. (refused.new_low.moves, refused.new_high.moves, refused.new_recv.moves);
+      turn = λ E B live received stand. record {
+        at_low = λ low. (refused.new_high.moves, refused.new_recv.moves);
+        at_high = λ high. refused.new_recv.moves;
+        high = λ told. inl refused.new_high.moves;
+        recv = λ told. inl refused.new_recv.moves;
+      };
       made_low = λ E B live received stand. made_same m (LowStands to E B live) new.low seen.low refused.new_low.moves;
       made_high = λ E B live received stand. made_same m (HighStands to B) new.high seen.high refused.new_high.moves;
       made_recv = λ E B live received stand. made_same m (RecvStands to received) new.recv seen.recv refused.new_recv.moves;
@@ -142,6 +154,12 @@ returns-in-Err-write_all g c =
       new_recv = counted_after m new.recv seen.recv written.recv _ checked.new_recv done.new_recv;
       unwritten = λ told e refused. absurd (never told e refused);
       full = λ told not_empty. absurd (not_empty (was_empty m new seen told checked.new_low.moves checked.new_high.moves checked.new_recv.moves (checked.empty told)));
+      turn = λ E B live received stand.
+          let one = j E B live received stand in
+          turned_after m _ _ _ _ new seen written (Err c.in-Err-write_all.fault) (Err c.in-Err-write_all.fault) (λ P p. p)
+          (λ told. λ i. low_bytes to (sym (one told).accepted i) (sym (one told).removed i) live) (λ told. λ i. high_bytes to (sym (one told).removed i)) checked.new_high.moves checked.new_recv.moves
+          (done.turn live (λ told. subst (λ (z : List ℕ). LowStands from k.accepted k.removed live z) (sym (low_same told)) (one told).found.stand.low_stands)
+          (λ told. (fits live received (one told).count (one told).end (one told).found told).live_fits));
       made_low = λ E B live received stand.
           let one = j E B live received stand in
           made_weaker m (LowStands to k.accepted k.removed live) (LowStands to E B live) new.low written.low
@@ -209,6 +227,10 @@ returns g c =
                   (subst (λ (z : List ℕ). value_of z ≡ (k.received, k.end)) (sym (recv_same told))
                   (value_is (m.reading old.recv) k.received k.end (ap (λ (v : ℕ × ℕ). v.0) found.stand.recv_stands.value ∙ count) end)) fit.received_fits;
             },
+            subst (λ (z : List ℕ). AreWritten to k.accepted k.removed k.received live z (m.reading written.low) (m.reading written.high) (m.reading written.recv)) (recv_same told)
+                (done.bytes told live (subst (λ (z : List ℕ). LowStands from k.accepted k.removed live z) (sym (low_same told)) found.stand.low_stands) fit.live_fits
+                (subst (λ (z : List ℕ). value_of z ≡ (k.received, k.end)) (sym (recv_same told))
+                (value_is (m.reading old.recv) k.received k.end (ap (λ (v : ℕ × ℕ). v.0) found.stand.recv_stands.value ∙ count) end))),
           );
       settled = done.settled;
       fine = never;
@@ -222,6 +244,12 @@ returns g c =
       new_recv = counted_after m new.recv seen.recv written.recv _ checked.new_recv done.new_recv;
       unwritten = λ told e refused. absurd (never told e refused);
       full = λ told not_empty. absurd (not_empty (was_empty m new seen told checked.new_low.moves checked.new_high.moves checked.new_recv.moves (checked.empty told)));
+      turn = λ E B live received stand.
+          let one = j E B live received stand in
+          turned_after m _ _ _ _ new seen written _ (Ok (k.accepted, k.removed, k.received)) (λ P p. tt)
+          (λ told. λ i. low_bytes to (sym (one told).accepted i) (sym (one told).removed i) live) (λ told. λ i. high_bytes to (sym (one told).removed i)) checked.new_high.moves checked.new_recv.moves
+          (done.turn live (λ told. subst (λ (z : List ℕ). LowStands from k.accepted k.removed live z) (sym (low_same told)) (one told).found.stand.low_stands)
+          (λ told. (fits live received (one told).count (one told).end (one told).found told).live_fits));
       made_low = λ E B live received stand.
           let one = j E B live received stand in
           made_weaker m (LowStands to k.accepted k.removed live) (LowStands to E B live) new.low written.low

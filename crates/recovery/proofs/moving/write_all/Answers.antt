@@ -2,7 +2,7 @@
 use Rattle.std.proofs.Common.{◌≡◌, ◌∙◌, inl, inr, ℕ, List, true, false, Err, refl, sym, ap, subst, arith}
 use Rattle.std.proofs.lemmas.Bool.{false≢true}
 use Rattle.std.proofs.lemmas.Result.{err_from_is_err_and}
-use Rattle.disk_model.specs.Disk.{Meaning}
+use Rattle.disk_model.specs.Disk.{Meaning, Moves, Same}
 use Rattle.disk_model.specs.declared.name.Role.TheVariants.{Low, High, Recv}
 use Rattle.recovery.specs.Calls.{is_device}
 use Rattle.recovery.specs.Fillings.{IsMadeFrom}
@@ -20,6 +20,9 @@ made_still m P d few moment le none told c since long mark = absurd (none told c
 
 counted_still : {D : Type 0} (m : Meaning D) (d : D) → Counted m d d false
 counted_still m d = record { counts = omega arith; rose = λ is. elim (false≢true is) [ ] }
+
+still : {D : Type 0} (m : Meaning D) (d : D) → Moves m Same d d
+still m d = (kept_still m d).moves
 
 pub returns-in_err-write_low : goal.returns-in_err-write_low
 returns-in_err-write_low g c =
@@ -44,6 +47,13 @@ returns-in_err-write_low g c =
       low = rw (is) tt;
       high = rw (is) tt;
       recv = rw (is) tt;
+      bytes = rw (is) tt;
+      turn = rw (is) (λ live stands fits. record {
+        at_low = λ low. (still m new.high, still m new.recv);
+        at_high = λ high. still m new.recv;
+        high = λ told. inl (still m new.high);
+        recv = λ told. inl (still m new.recv);
+      });
       settled = rw (is) tt;
       made_low = e.made;
       made_high = made_still m _ new.high;
@@ -76,6 +86,13 @@ returns-in_err-write_high g c =
       low = rw (is) tt;
       high = rw (is) tt;
       recv = rw (is) tt;
+      bytes = rw (is) tt;
+      turn = rw (is) (λ live stands fits. record {
+        at_low = λ low. absurd (let other : High ≡ Low = sym (ap (λ (x : MoveFault). x.role) e.device) ∙ low in cc);
+        at_high = λ high. still m new.recv;
+        high = λ told. inr (one.bytes told live (stands told) (fits told));
+        recv = λ told. inl (still m new.recv);
+      });
       settled = rw (is) tt;
       made_low = one.made;
       made_high = e.made;
@@ -108,12 +125,20 @@ returns-in_err-write_recv g c =
       | inr is ↦ subst (λ (x : MoveFault). (is_device x.why ≡ true) × (x.why ≡ Device (m.count (disk_at left made x.new x.role)))) (sym is) (refl, refl)
     ] in
     let f = c.in_err-write_recv.field-0.0 in
+    let at_recv : f.role ≡ Recv = elim e.one [ inl is ↦ ap (λ (x : MoveFault). x.role) is | inr is ↦ ap (λ (x : MoveFault). x.role) is ] in
     let (fault, was, same) = err_from_is_err_and c.from_residual-in_err-write_recv.result c.from_residual-in_err-write_recv.ensures.1 in
     let is = was ∙ ap (λ d. Err d) same in
     record {
       low = rw (is) tt;
       high = rw (is) tt;
       recv = rw (is) tt;
+      bytes = rw (is) tt;
+      turn = rw (is) (λ live stands fits. record {
+        at_low = λ low. absurd (let other : Recv ≡ Low = sym at_recv ∙ low in cc);
+        at_high = λ high. absurd (let other : Recv ≡ High = sym at_recv ∙ high in cc);
+        high = λ told. inr (one.bytes told live (stands told) (fits told));
+        recv = λ told. inr (one.bytes told live (stands told) (fits told), two.bytes told);
+      });
       settled = rw (is) tt;
       made_low = one.made;
       made_high = two.made;
@@ -139,6 +164,13 @@ returns g c =
       low = one.stands;
       high = two.stands;
       recv = λ told received stands value fits. three.stands told c.args.from.now received stands value fits;
+      bytes = λ told live stands fits value. record { low_is = one.bytes told live stands fits; high_is = two.bytes told; recv_is = three.bytes told value };
+      turn = λ live stands fits. record {
+        at_low = tt;
+        at_high = tt;
+        high = λ told. inr (one.bytes told live (stands told) (fits told));
+        recv = λ told. inr (one.bytes told live (stands told) (fits told), two.bytes told);
+      };
       settled = (one.settled, two.settled, three.settled);
       made_low = one.made;
       made_high = two.made;

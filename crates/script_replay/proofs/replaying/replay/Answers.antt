@@ -1,5 +1,6 @@
-use Rattle.std.proofs.Common.{inl, inr, refl, sym, subst}
+use Rattle.std.proofs.Common.{ℕ, inl, inr, refl, sym, ◌∙◌, subst}
 use Rattle.script_replay.specs.Runners.{IsDeviceFaultOf}
+use Rattle.script_replay.specs.Ends.{EndsReplay}
 use Rattle.script_replay.specs.Failing.{FailsAt}
 use Rattle.script_replay.proofs.Ending.{ends_to, told_to_fail, downs, named_so, all_are_back, all_are_out}
 use Rattle.script_replay.proofs.ByStatus.{of_status, ends_by_status, ends_at_once}
@@ -15,32 +16,34 @@ returns-clause-ends g c = λ told tells.
     let after = g.S.Shelf.told.disk c.leave_all.new.shelf in
     let begun = c.run-ended.new.sessions.begun.items in
     let ends = c.run-ended.ensures.ends told tells in
-    ends_by_status before after (FailsAt g.S.Shelf.told g.S.Disk.Disk.told c.args.shelf.now c.leave_all.new.shelf) _ _ _ _ _ _ c.run-ended.result
+    subst (λ (n : ℕ). EndsReplay n before after (FailsAt g.S.Shelf.told g.S.Disk.Disk.told c.args.shelf.now c.leave_all.new.shelf) (g.I.Source.left c.args.script.now) (g.I.Source.left c.run-ended.new.script)
+    (g.O.Sink.written c.args.out.now) (g.O.Sink.written c.run-ended.new.out) (g.I.Source.faults c.args.script.now) (g.I.Source.faults c.run-ended.new.script)) (sym c.status.ensures.is)
+    (ends_by_status before after (FailsAt g.S.Shelf.told g.S.Disk.Disk.told c.args.shelf.now c.leave_all.new.shelf) _ _ _ _ _ _ c.run-ended.result
     (ends_to g.S.Disk.Disk.told g.S.Shelf.told.tells told tells before mid after begun c.leave_all.ensures.left _ _ _ _ _ _ c.run-ended.result ends)
     (λ number role is.
     let failed : IsDeviceFaultOf number role c.run-ended.result = subst (IsDeviceFaultOf number role) (sym is) (refl, refl) in
     downs g.S.Disk.Disk.told g.S.Shelf.told.tells told tells before mid after begun c.leave_all.ensures.left _ _ _ _ _ _ (FailsAt g.S.Shelf.told g.S.Disk.Disk.told c.args.shelf.now c.leave_all.new.shelf) number role
     (named_so g.S.Shelf.told g.S.Disk.Disk.told before c.args.shelf.now c.run-ended.new.shelf c.leave_all.new.shelf begun number role refl (c.run-ended.ensures.device number role failed) c.run-ended.ensures.later c.leave_all.ensures.later c.leave_all.ensures.left (c.leave_all.ensures.failed number role))
-    c.run-ended.result is ends)
+    c.run-ended.result is ends))
 
 pub returns-clause-back : goal.returns-clause-back
 returns-clause-back g c = λ told. all_are_back g.S.Disk.Disk.told g.S.Shelf.told.tells (g.S.Shelf.told.disk c.args.shelf.now) (g.S.Shelf.told.disk c.run-ended.new.shelf) (g.S.Shelf.told.disk c.leave_all.new.shelf) c.run-ended.new.sessions.begun.items told c.run-ended.ensures.hands c.leave_all.ensures.left
 
 pub returns-clause-memory : goal.returns-clause-memory
-returns-clause-memory g c = λ is. c.run-ended.ensures.memory (of_status 1 c.run-ended.result is)
+returns-clause-memory g c = λ is. c.run-ended.ensures.memory (of_status 1 c.run-ended.result (sym c.status.ensures.is ∙ is))
 
 pub returns-clause-words : goal.returns-clause-words
-returns-clause-words g c = λ is. c.run-ended.ensures.words (of_status 2 c.run-ended.result is)
+returns-clause-words g c = λ is. c.run-ended.ensures.words (of_status 2 c.run-ended.result (sym c.status.ensures.is ∙ is))
 
 pub returns-clause-read : goal.returns-clause-read
-returns-clause-read g c = λ is. c.run-ended.ensures.read (of_status 3 c.run-ended.result is)
+returns-clause-read g c = λ is. c.run-ended.ensures.read (of_status 3 c.run-ended.result (sym c.status.ensures.is ∙ is))
 
 pub returns-clause-write : goal.returns-clause-write
-returns-clause-write g c = λ is. c.run-ended.ensures.write (of_status 4 c.run-ended.result is)
+returns-clause-write g c = λ is. c.run-ended.ensures.write (of_status 4 c.run-ended.result (sym c.status.ensures.is ∙ is))
 
 pub returns-clause-device : goal.returns-clause-device
 returns-clause-device g c = λ is.
-    let (number, role, of) = of_status 7 c.run-ended.result is in
+    let (number, role, of) = of_status 7 c.run-ended.result (sym c.status.ensures.is ∙ is) in
     let before = g.S.Shelf.told.disk c.args.shelf.now in
     let begun = c.run-ended.new.sessions.begun.items in
     let failed : IsDeviceFaultOf number role c.run-ended.result = subst (IsDeviceFaultOf number role) (sym of) (refl, refl) in

@@ -24,3 +24,6 @@ returns-clause-on g c =
 pub returns-clause-down : goal.returns-clause-down
 returns-clause-down g c =
     down_after g.D.Disk.told c.args.self.now.state c.apply.new.self (line_with c.args.bytes.now c.args.line.now) (lines_in c.apply.new.out.items) c.apply.result c.requires.up c.apply.ensures.on
+
+pub returns-clause-ahead : goal.returns-clause-ahead
+returns-clause-ahead g c = c.apply.ensures.ahead

@@ -22,3 +22,9 @@ returns-then-not-is_timely-clause-on g c = (refl, refl, inl (sym c.is_timely.ens
 pub returns-clause-on : goal.returns-clause-on
 returns-clause-on g c =
     attempts_on g.D.Disk.told c.args.self.now c.run.new.self (line_with c.args.bytes.now c.args.line.now) (lines_in c.args.out.now.items) (lines_in c.run.new.out.items) c.run.result (sym c.is_timely.ensures ∙ c.if-not-is_timely.false) c.run.ensures.on
+
+pub returns-then-not-is_timely-clause-ahead : goal.returns-then-not-is_timely-clause-ahead
+returns-then-not-is_timely-clause-ahead g c = λ is. (refl, refl)
+
+pub returns-clause-ahead : goal.returns-clause-ahead
+returns-clause-ahead g c = c.run.ensures.ahead

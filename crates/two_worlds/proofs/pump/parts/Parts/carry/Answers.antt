@@ -9,8 +9,10 @@ use Rattle.two_worlds.proofs.Carry.Answered.{in_store}
 use Rattle.two_worlds.proofs.Carry.Carries.{leads_by, breaks, overfull, returned}
 use Rattle.two_worlds.proofs.Carry.Serves.{serves_nothing, serves_ok, serves_device, serves_full}
 use Rattle.two_worlds.proofs.Opening.Ready.{recv_is_ready}
-use Rattle.two_worlds.proofs.Carry.Works.{small, short, answered_as, ahead_same, ahead_never, works_with, works_not, works_full}
+use Rattle.two_worlds.proofs.Carry.Works.{small, short, answered_as, ahead_same, ahead_never, no_other, works_with, works_not, works_full}
 use Rattle.world_laws.proofs.Packets.{keep_last_some}
+use Rattle.high_receiver.specs.declared.receiver.Receiver.{Receiver}
+use Rattle.two_worlds.specs.Standing.{bare_of}
 use Rattle.two_worlds.specs.Printing.{lines_in}
 use Rattle.two_worlds.proofs.pump.parts.Parts.carry.Goals as goal
 
@@ -45,6 +47,10 @@ returns-in-Ok g c = record {
       let capacity : s.returned.capacity ≡ 64 = ∥∥₁_elim c.requires.able.works (hlevel props) (λ w. w.packets.returned) in
       let is = returned s.returned c.push_back.new.self c.in-Some.item.now.number capacity c.push_back.ensures.items in
       works_with m s c.requires.able c.take.new.self c.push_back.new.self (c.take.ensures.ready (ap is_device c.in-Ok.is)) c.take.ensures.row c.take.ensures.size is.1;
+  ahead =
+      let at = sym c.nth_back.ensures ∙ ap option_copied c.in-Some.is in
+      let s = c.args.self.now in
+      λ is. absurd (no_other s s.row.id c.args.back c.in-Some.item.now c.requires.back at is c.take.result (Ok c.in-Ok.taken) (c.in-Ok.is) refl c.take.ensures.at_once);
   serve =
       let m = g.D.Disk.told in
       let s = c.args.self.now in
@@ -71,6 +77,12 @@ returns-in-Err-Ahead g c = record {
       λ p stands.
       absurd (ahead_never g.D.Disk.told c.args.self.now p c.args.back c.in-Some.item.now stands c.requires.back at c.take.new.self c.take.result c.in-Err-Ahead.field-0-0 c.in-Err-Ahead.field-0-1 (c.in-Err-Ahead.is ∙ ap (λ f. Err f) c.in-Err-Ahead.field-0-is) c.take.ensures.at_once c.take.ensures.unchanged c.take.ensures.stores);
   works = works_with g.D.Disk.told c.args.self.now c.requires.able c.take.new.self c.args.self.now.returned (c.in-Err-Ahead.ensures.ready (ap (λ f. is_device (Err f)) c.in-Err-Ahead.field-0-is)) c.take.ensures.row c.take.ensures.size refl;
+  ahead =
+      let m = g.D.Disk.told in
+      let s = c.args.self.now in
+      let item = c.in-Some.item.now in
+      let same = ahead_same m item.payload item.number (recv_count s.receiver) (recv_end s.receiver) (recv_size s.receiver) s.receiver c.take.new.self c.take.result c.in-Err-Ahead.field-0-0 c.in-Err-Ahead.field-0-1 (c.in-Err-Ahead.is ∙ ap (λ f. Err f) c.in-Err-Ahead.field-0-is) c.take.ensures.unchanged c.take.ensures.stores in
+      λ is. (refl, ap (λ (r : Receiver _). bare_of (record s { receiver = r })) same);
   serve =
       let m = g.D.Disk.told in
       let s = c.args.self.now in
@@ -106,6 +118,10 @@ returns-in-Err-Device g c = record {
       let w = answered_as m s item c.take.new.self c.take.result (Err (Device c.in-Err-Device.faults)) (c.in-Err-Device.is ∙ ap (λ f. Err f) c.in-Err-Device.field-0-is) refl c.take.ensures.at_once c.take.ensures.unchanged c.take.ensures.stores in
       let stored = in_store m item.payload item.number (recv_count s.receiver) (recv_end s.receiver) (recv_size s.receiver) s.receiver c.take.new.self c.in-Err-Device.faults w in
       works_not m s c.requires.able c.take.new.self c.in-Err-Device.faults stored.2.closed stored.2.device;
+  ahead =
+      let at = sym c.nth_back.ensures ∙ ap option_copied c.in-Some.is in
+      let s = c.args.self.now in
+      λ is. absurd (no_other s s.row.id c.args.back c.in-Some.item.now c.requires.back at is c.take.result (Err (Device c.in-Err-Device.faults)) (c.in-Err-Device.is ∙ ap (λ f. Err f) c.in-Err-Device.field-0-is) refl c.take.ensures.at_once);
   serve =
       let m = g.D.Disk.told in
       let s = c.args.self.now in
@@ -138,6 +154,10 @@ returns-in-Err-LogFull g c = record {
       let item = c.in-Some.item.now in
       let w = answered_as m s item c.take.new.self c.take.result (Err (LogFull c.in-Err-LogFull.end c.in-Err-LogFull.length c.in-Err-LogFull.size)) (c.in-Err-LogFull.is ∙ ap (λ f. Err f) c.in-Err-LogFull.field-0-is) refl c.take.ensures.at_once c.take.ensures.unchanged c.take.ensures.stores in
       works_full m s c.requires.able item.payload item.number c.take.new.self c.in-Err-LogFull.end c.in-Err-LogFull.length c.in-Err-LogFull.size w;
+  ahead =
+      let at = sym c.nth_back.ensures ∙ ap option_copied c.in-Some.is in
+      let s = c.args.self.now in
+      λ is. absurd (no_other s s.row.id c.args.back c.in-Some.item.now c.requires.back at is c.take.result (Err (LogFull c.in-Err-LogFull.end c.in-Err-LogFull.length c.in-Err-LogFull.size)) (c.in-Err-LogFull.is ∙ ap (λ f. Err f) c.in-Err-LogFull.field-0-is) refl c.take.ensures.at_once);
   serve =
       let m = g.D.Disk.told in
       let s = c.args.self.now in

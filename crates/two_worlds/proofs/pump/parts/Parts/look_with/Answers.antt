@@ -8,13 +8,13 @@ use Rattle.high_process.specs.States.{task_at, attaches_at, hand_of}
 use Rattle.high_process.specs.declared.values.HighFault.TheVariants.{Ahead, Behind, Device}
 use Rattle.std.proofs.Math.Nat.{le-add_right}
 use Rattle.two_worlds.specs.Private.HighLooks.{ComesBack, most_lines, printed_look}
-use Rattle.two_worlds.specs.Standing.{high_past_of}
+use Rattle.two_worlds.specs.Standing.{bare_of, high_past_of}
 use Rattle.two_worlds.specs.Working.{Works}
 use Rattle.two_worlds.specs.declared.pump.parts.Parts.{Parts}
 use Rattle.two_worlds.proofs.Opening.Ready.{high_is_ready, high_is_up, high_is_between, high_is_timely, high_counts}
 use Rattle.two_worlds.proofs.Opening.Ends.{low_seen, high_seen, ends_seen, high_fits_seen}
 use Rattle.two_worlds.proofs.High.Serves.{removes_behind, looked_serves, broken_serves, refused_serves}
-use Rattle.two_worlds.proofs.High.Works.{asks_no_fault, high_works, high_goes, broken_works, refused_works, refused_is, refused_goes}
+use Rattle.two_worlds.proofs.High.Works.{asks_no_fault, high_works, high_goes, broken_works, refused_works, refused_is, refused_goes, never_broken, never_done}
 use Rattle.two_worlds.proofs.High.Looking.{looks, led, lines_by}
 use Rattle.two_worlds.proofs.High.Failing.{fared, breaks, refused, never_behind}
 use Rattle.std.proofs.lemmas.List.{length-map}
@@ -69,6 +69,12 @@ returns-in-Ok g c = record {
       subst (λ (e : Parts _). ∥ Works m e ∥₁) (sym c.tell_high.ensures.rest)
       (∥∥₁_map c.requires.able.works (λ w. high_works m d c.args.moment c.requires.order c.look.new.self c.look.new.store c.look.new.ends c.in-Ok.look c.in-Ok.ensures.store c.in-Ok.ensures.count c.in-Ok.ensures.up c.look.ensures.between c.look.ensures.row c.look.ensures.shape (task_at d.high frame) (attaches_at d.high frame) w
       (c.in-Ok.ensures.looks w.ends.low w.ends.high w.past (w.ends.stand, w.ends.high_fits) w.high_ready.past)));
+  ahead =
+      λ fault asks.
+      let m = g.D.Disk.told in
+      let d = c.args.self.now in
+      let task = ap (λ f. task_at d.high f) c.frame_back-frame.ensures ∙ asks in
+      absurd (never_done m d c.args.moment c.look.new.self c.look.new.store c.look.new.ends (task_at d.high (frame_of c.frame_back-frame.result)) fault c.in-Ok.look task c.in-Ok.ensures.fares);
   goes =
       λ full.
       let m = g.D.Disk.told in
@@ -113,6 +119,14 @@ returns-in-Err-Device g c = record {
       let e = Device c.in-Err-Device.faults in
       let fares = fared m (task_at d.high frame) d.high c.look.new.self d.high_store c.look.new.store c.look.result e (c.in-Err-Device.is ∙ ap (λ f. Err f) c.in-Err-Device.field-0-is) c.look.ensures.fares in
       broken_works m d c.args.moment c.look.new.self c.look.new.store c.look.new.ends frame c.in-Err-Device.faults fares;
+  ahead =
+      λ fault asks.
+      let m = g.D.Disk.told in
+      let d = c.args.self.now in
+      let frame = frame_of c.frame_back-frame.result in
+      let task = ap (λ f. task_at d.high f) c.frame_back-frame.ensures ∙ asks in
+      let fares = fared m (task_at d.high frame) d.high c.look.new.self d.high_store c.look.new.store c.look.result (Device c.in-Err-Device.faults) (c.in-Err-Device.is ∙ ap (λ f. Err f) c.in-Err-Device.field-0-is) c.look.ensures.fares in
+      absurd (never_broken m d c.args.moment c.look.new.self c.look.new.store c.look.new.ends (task_at d.high frame) fault c.in-Err-Device.faults (asks_no_fault d.high frame c.in-Err-Device.faults) task fares);
   goes = search rules;
   serve =
       let m = g.D.Disk.told in
@@ -155,6 +169,15 @@ returns-in-Err-Ahead g c = record {
       let same = subst (λ r. OnErr r (c.look.new.ends ≡ d.ends)) c.in-Err-Ahead.is c.look.ensures.refused in
       refused_works m d c.args.moment c.look.new.self c.look.new.store c.look.new.ends c.requires.order c.requires.able
       (refused_is m d c.args.moment c.look.new.self c.look.new.store c.look.new.ends (task_at d.high frame) e refl fares same);
+  ahead =
+      λ fault asks.
+      let m = g.D.Disk.told in
+      let d = c.args.self.now in
+      let frame = frame_of c.frame_back-frame.result in
+      let e = Ahead c.in-Err-Ahead.field-0-0 c.in-Err-Ahead.field-0-1 in
+      let fares = fared m (task_at d.high frame) d.high c.look.new.self d.high_store c.look.new.store c.look.result e (c.in-Err-Ahead.is ∙ ap (λ f. Err f) c.in-Err-Ahead.field-0-is) c.look.ensures.fares in
+      let same = subst (λ r. OnErr r (c.look.new.ends ≡ d.ends)) c.in-Err-Ahead.is c.look.ensures.refused in
+      (refl, ap bare_of (refused_is m d c.args.moment c.look.new.self c.look.new.store c.look.new.ends (task_at d.high frame) e refl fares same));
   goes =
       let m = g.D.Disk.told in
       let d = c.args.self.now in
@@ -204,6 +227,15 @@ returns-in-Err-Behind g c = record {
       let same = subst (λ r. OnErr r (c.look.new.ends ≡ d.ends)) c.in-Err-Behind.is c.look.ensures.refused in
       refused_works m d c.args.moment c.look.new.self c.look.new.store c.look.new.ends c.requires.order c.requires.able
       (refused_is m d c.args.moment c.look.new.self c.look.new.store c.look.new.ends (task_at d.high frame) e refl fares same);
+  ahead =
+      λ fault asks.
+      let m = g.D.Disk.told in
+      let d = c.args.self.now in
+      let frame = frame_of c.frame_back-frame.result in
+      let e = Behind c.in-Err-Behind.field-0-0 c.in-Err-Behind.field-0-1 in
+      let fares = fared m (task_at d.high frame) d.high c.look.new.self d.high_store c.look.new.store c.look.result e (c.in-Err-Behind.is ∙ ap (λ f. Err f) c.in-Err-Behind.field-0-is) c.look.ensures.fares in
+      let same = subst (λ r. OnErr r (c.look.new.ends ≡ d.ends)) c.in-Err-Behind.is c.look.ensures.refused in
+      (refl, ap bare_of (refused_is m d c.args.moment c.look.new.self c.look.new.store c.look.new.ends (task_at d.high frame) e refl fares same));
   goes =
       let m = g.D.Disk.told in
       let d = c.args.self.now in

@@ -6,7 +6,7 @@ use Rattle.script_reader.specs.Breaks.{IsUnremoved}
 use Rattle.two_worlds.specs.Doing.{NeverOverfills}
 use Rattle.two_worlds.specs.Private.HighLooks.{LeadsWith, BreaksWith}
 use Rattle.two_worlds.proofs.Lines.DoesMore.{does_more}
-use Rattle.two_worlds.proofs.High.Returning.{numbered, stands_numbered, able_numbered, comes_numbered}
+use Rattle.two_worlds.proofs.High.Returning.{numbered, stands_numbered, able_numbered, comes_numbered, refuses_number}
 use Rattle.two_worlds.specs.Printing.{lines_in}
 use Rattle.two_worlds.proofs.pump.parts.Parts.take_back.Goals as goal
 
@@ -29,6 +29,10 @@ returns-clause-does g c = λ p s.
     (BreaksWith c.args.moment (Some k)) (λ role p q printed. (role ≡ roles.High) × IsUnremoved p c.args.moment (Some (place p.world.returned c.args.back)) q × (printed ≡ []))
     NeverOverfills c.look_with.result (λ q printed h. h) (λ role q printed h. h) (λ q f. record { low = f.low; high = f.high; recv = f.recv })
     (c.look_with.ensures.does p stands false (Some k) (comes_numbered m now p stands c.args.back c.number_back-self.result c.requires.back c.number_back-self.ensures))
+
+pub returns-clause-ahead : goal.returns-clause-ahead
+returns-clause-ahead g c = λ is.
+    c.look_with.ensures.ahead _ (refuses_number g.D.Disk.told c.args.self.now c.args.self.now.row.id c.args.moment c.args.back c.number_back-self.result c.requires.able c.number_back-self.ensures is)
 
 pub returns-clause-serve : goal.returns-clause-serve
 returns-clause-serve g c = c.look_with.ensures.serve

@@ -5,7 +5,7 @@ use Rattle.two_worlds.specs.declared.pump.state.PumpState.{PumpState}
 use Rattle.two_worlds.specs.Printing.{lines_in}
 use Rattle.two_worlds.specs.Private.StateSteps.{StateApplies}
 use Rattle.two_worlds.specs.States.{StandsIn}
-use Rattle.two_worlds.proofs.Lines.Applied.{applied, applied_on}
+use Rattle.two_worlds.proofs.Lines.Applied.{applied, applied_on, applied_ahead, no_packet}
 use Rattle.two_worlds.proofs.pump.state.PumpState.apply.Goals as goal
 
 pub returns-in-Restart-clause-applies : goal.returns-in-Restart-clause-applies
@@ -24,3 +24,15 @@ returns-in-Open-clause-applies g c = λ told p s.
 pub returns-in-Open-clause-on : goal.returns-in-Open-clause-on
 returns-in-Open-clause-on g c =
     applied_on g.D.Disk.told c.args.self.now _ c.in-Open.parts c.apply.new.self c.in-Open.is refl (line_with c.args.bytes.now c.args.line.now) (lines_in c.apply.new.out.items) c.apply.result c.apply.ensures.on
+
+pub returns-in-Restart-clause-ahead : goal.returns-in-Restart-clause-ahead
+returns-in-Restart-clause-ahead g c = λ is.
+    absurd (no_packet c.args.self.now _ _ (ap (line_with c.args.bytes.now) c.in-Restart.is) (λ x none. none) is)
+
+pub returns-in-ReceiverRestart-clause-ahead : goal.returns-in-ReceiverRestart-clause-ahead
+returns-in-ReceiverRestart-clause-ahead g c = λ is.
+    absurd (no_packet c.args.self.now _ _ (ap (line_with c.args.bytes.now) c.in-ReceiverRestart.is) (λ x none. none) is)
+
+pub returns-in-Open-clause-ahead : goal.returns-in-Open-clause-ahead
+returns-in-Open-clause-ahead g c =
+    applied_ahead g.D.Disk.told c.args.self.now _ c.in-Open.parts c.apply.new.self c.in-Open.is refl (line_with c.args.bytes.now c.args.line.now) (lines_in c.apply.new.out.items) c.apply.ensures.ahead

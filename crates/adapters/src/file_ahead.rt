@@ -10,6 +10,9 @@ use std::os::unix::fs::FileExt;
 /// How many bytes are read ahead at most.
 const ROOM: usize = 65536;
 
+/// How many are read ahead at first. Most walks end in them.
+const FIRST: usize = 2048;
+
 /// How far behind the end of a read the next one may begin to go on from it. A walk along a log reads
 /// the length of each record alone, and steps over the rest.
 const STEP: u64 = 4096;
@@ -19,6 +22,8 @@ const STEP: u64 = 4096;
 /// long as all that would be read ahead, whose bytes are then copied once.
 #[derive(Drop)]
 pub struct FileAhead {
+    /// The room for them: none before the first fill, then the first part of it, and all once that part was
+    /// full. It has the memory for all from the start.
     bytes: Vec<u8>,
     /// Where in the file the bytes begin, and how many there are.
     start: u64,
@@ -38,7 +43,7 @@ impl FileAhead {
     /// No bytes. An error is want of memory.
     pub fn new(alloc: Global) -> Result<FileAhead, AllocError> {
         Ok(FileAhead {
-            bytes: vec![in alloc; 0; ROOM]?,
+            bytes: Vec::with_capacity(alloc, ROOM)?,
             start: 0,
             count: 0,
             last: None,
@@ -69,8 +74,22 @@ impl FileAhead {
         self.bytes.as_slice().get(..self.count)?.get(from..end)
     }
 
-    // Takes in the file's bytes from this offset on. A failure is met again by the read that follows.
-    fn fill(&mut self, file: &File, at: u64) {
+    // Makes room for as many bytes as are to be read ahead.
+    fn widen(&mut self, wanted: usize) {
+        let size = if self.count < FIRST && wanted <= FIRST {
+            FIRST
+        } else {
+            ROOM
+        };
+        for _part in self.bytes.len() / FIRST..size / FIRST {
+            let _ = self.bytes.extend_from_slice(&[0; FIRST]);
+        }
+    }
+
+    // Takes in the file's bytes from this offset on, for a read of so many. A failure is met again by the
+    // read that follows.
+    fn fill(&mut self, file: &File, at: u64, wanted: usize) {
+        self.widen(wanted);
         self.start = at;
         self.count = file.read_at(self.bytes.as_mut_slice(), at).unwrap_or(0);
     }
@@ -78,7 +97,7 @@ impl FileAhead {
     /// The file's bytes from an offset on. A read past the file's end fails.
     pub fn read(&mut self, file: &File, at: u64, into: &mut [u8]) -> io::Result<()> {
         if into.len() < ROOM && self.goes_on(at) && self.held(at, into.len()).is_none() {
-            self.fill(file, at);
+            self.fill(file, at, into.len());
         }
         self.last = Some(Span {
             start: at,

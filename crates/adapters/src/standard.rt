@@ -76,8 +76,10 @@ impl<W> StdSink<W> {
         ensures faults { self.new.faults ≡ self.old.faults }
     {
         let end = &piece[piece.len().saturating_sub(LAST)..];
-        self.last.rotate_left(end.len());
-        self.last[LAST - end.len()..].copy_from_slice(end);
+        let before = self.last;
+        let kept = LAST - end.len();
+        self.last[..kept].copy_from_slice(&before[end.len()..]);
+        self.last[kept..].copy_from_slice(end);
     }
 }
 

@@ -4,7 +4,7 @@ ghost use Rattle.pump_link.specs.Tells.{Draws, Grows};
 ghost use Rattle.pump_link.specs.declared.link.Looked.{Looked};
 ghost use Rattle.peers.specs.Replies.{WaitsTo, IsFewer};
 
-use pump_frame::{Fed, Frame, Reader};
+use pump_frame::{Frame, Reader, Step};
 use pump_link::{Link, Looked as LinkLooked};
 
 /// What a wait for one frame came to.
@@ -29,13 +29,14 @@ pub(crate) fn await_frame<C: Link>(link: &mut C, left: &mut u32) -> Waited
     ensures fewer { IsFewer result left.new left.old }
 {
     let mut reader = Reader::new();
+    let mut room = Frame::room();
     while *left > 0 {
         *left -= 1;
         match link.look() {
-            LinkLooked::Byte(byte) => match reader.feed(byte) {
-                Fed::More => continue,
-                Fed::Whole(frame) => return Waited::Frame(frame),
-                Fed::Bad { .. } => return Waited::Over,
+            LinkLooked::Byte(byte) => match reader.feed_into(byte, &mut room) {
+                Step::More => continue,
+                Step::Whole => return Waited::Frame(room),
+                Step::Bad { .. } => return Waited::Over,
             },
             LinkLooked::NotYet => continue,
             LinkLooked::Ended => return Waited::Over,

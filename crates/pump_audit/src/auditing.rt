@@ -14,7 +14,7 @@ use crate::claims::Claims;
 use crate::entry::{Entry, LookLine, Note};
 use crate::form::{Form, Place};
 use crate::life::Life;
-use crate::reading::read_entry;
+use crate::reading::{Room, read_entry};
 use crate::state::Audit;
 use crate::verdict::Verdict;
 use moving_avg::Window;
@@ -230,12 +230,12 @@ impl Audit {
     }
 
     /// One more line, without its end. It answers the cause on this line, if it has one.
-    pub fn add(&mut self, text: &[u8]) -> Result<Option<u32>, OutOfMemory>
+    pub fn add(&mut self, text: &[u8], room: &mut Room) -> Result<Option<u32>, OutOfMemory>
         requires lines { self.old.lines < 2 ^ 32 - 1 }
         ensures is { IfOk result (λ cause. (r : Record) → Audits self.old r → TextIs r text.now self.new cause) }
         ensures more { IfOk result (λ cause. IfNone cause (self.new.lines ≡ self.old.lines + 1)) }
     {
-        let Some(entry) = read_entry(text) else {
+        let Some(entry) = read_entry(text, room) else {
             return Ok(Some(1));
         };
         if self.form().behind_line(&entry).is_none() {

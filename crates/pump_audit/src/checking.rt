@@ -7,7 +7,7 @@ ghost use Rattle.pump_audit.specs.Verdicts.{IsVerdict};
 ghost use Rattle.pump_audit.specs.Auditing.{OpensAs};
 
 use crate::entry::Entry;
-use crate::reading::read_entry;
+use crate::reading::{Room, read_entry};
 use crate::state::Audit;
 use crate::texts::{Texted, Texts};
 use crate::verdict::{AuditFault, Verdict};
@@ -24,10 +24,10 @@ fn misplaced(line: u64) -> Verdict
 }
 
 /// The record that begins with this line, if one does.
-fn open(alloc: Global, text: &[u8]) -> Result<Option<Audit>, OutOfMemory>
+fn open(alloc: Global, text: &[u8], room: &mut Room) -> Result<Option<Audit>, OutOfMemory>
     ensures { IfOk result (λ opened. OpensAs text.now opened) }
 {
-    match read_entry(text) {
+    match read_entry(text, room) {
         Some(Entry::Opening { row, next, is_held }) => {
             Ok(Some(Audit::begin(alloc, &row, next, is_held)?))
         }
@@ -40,6 +40,7 @@ fn follow<I: Source>(
     mut audit: Audit,
     texts: &mut Texts,
     text: &mut ArrayVec<u8, 2400>,
+    room: &mut Room,
     tape: &mut I,
 ) -> Result<Verdict, AuditFault>
     ensures verdict { (bytes : List ℕ) → Reads bytes audit (prepend_known texts.old (I.left tape.old)) → IfOk result (IsVerdict bytes) }
@@ -58,7 +59,7 @@ fn follow<I: Source>(
         if lines == u32::MAX {
             return Ok(misplaced(line));
         }
-        match audit.add(text.as_slice()) {
+        match audit.add(text.as_slice(), room) {
             Ok(None) => {}
             Ok(Some(cause)) => return Ok(Verdict::No { line, cause }),
             Err(_) => return Err(AuditFault::Memory),
@@ -77,13 +78,14 @@ pub fn audit<I: Source>(alloc: Global, tape: &mut I) -> Result<Verdict, AuditFau
 {
     let mut texts = Texts::new();
     let mut text = ArrayVec::new();
+    let mut room = Room::new();
     match texts.next(tape, &mut text) {
         Texted::Text => {}
         Texted::Cut | Texted::End => return Ok(misplaced(1)),
         Texted::Failed => return Err(AuditFault::Read),
     }
-    match open(alloc, text.as_slice()) {
-        Ok(Some(audit)) => follow(audit, &mut texts, &mut text, tape),
+    match open(alloc, text.as_slice(), &mut room) {
+        Ok(Some(audit)) => follow(audit, &mut texts, &mut text, &mut room, tape),
         Ok(None) => Ok(misplaced(1)),
         Err(_) => Err(AuditFault::Memory),
     }

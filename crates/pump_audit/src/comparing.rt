@@ -6,6 +6,7 @@ ghost use Rattle.pump_audit.specs.Comparing.{IsCompared, ItemTold};
 ghost use Rattle.pump_audit.specs.Siding.{LooksTell, SideComes, SideGoes};
 
 use crate::compared::Compared;
+use crate::reading::Room;
 use crate::side::{Looks, Side};
 use crate::texts::{Texted, Texts};
 use crate::verdict::AuditFault;
@@ -19,6 +20,7 @@ struct Both {
     alloc: Global,
     texts: Texts,
     text: ArrayVec<u8, 2400>,
+    room: Room,
     lines: u32,
 }
 
@@ -66,7 +68,7 @@ impl Both {
                 self.lines = lines + 1;
                 return Ok(Some(side));
             }
-            match side.add(self.alloc, self.text.as_slice()) {
+            match side.add(self.alloc, self.text.as_slice(), &mut self.room) {
                 Ok(true) => self.lines = lines + 1,
                 Ok(false) => return Ok(None),
                 Err(_) => return Err(AuditFault::Memory),
@@ -95,7 +97,7 @@ impl Both {
         if lines == u32::MAX {
             return Ok(None);
         }
-        match Side::begin(self.text.as_slice(), looks) {
+        match Side::begin(self.text.as_slice(), looks, &mut self.room) {
             Some(side) => {
                 self.lines = lines + 1;
                 self.follow(side, is_first, tape)
@@ -119,6 +121,7 @@ pub fn compare<I: Source>(alloc: Global, both: &mut I) -> Result<Compared, Audit
         alloc,
         texts: Texts::new(),
         text: ArrayVec::new(),
+        room: Room::new(),
         lines: 0,
     };
     let kept = Looks::Kept(Vec::new(alloc));

@@ -1,12 +1,18 @@
 // How two sides differ.
 ghost use Rattle.std.specs.Prelude.{◌≡◌, ◌+◌, ◌^◌, ◌<◌, true, false, ◌&&◌, List, [], ◌∷◌, ◌++◌, Option, None, Some, length, OnOk, MatchOption, map};
-ghost use Rattle.pump_audit.specs.Comparing.{ItemTold, SideTold, SidesAre, AreAlike, DifferAt, same_told, unlike};
+ghost use Rattle.std.specs.Str.{bytes_eq};
+ghost use Rattle.pump_audit.specs.Comparing.{ItemTold, SideTold, SidesAre, AreAlike, DifferAt, item_of, offered_bytes, same_told, unlike};
+ghost use Rattle.pump_audit.specs.Entries.{IsPlain};
 ghost use Rattle.pump_audit.specs.Siding.{tells, LooksTell, Matches, Opens, Stands, has_same_numbers, has_same_row, has_same_opening};
 
 use crate::compared::{Compared, What};
+use crate::entry::LookLine;
+use crate::items::{item, uncounted, write_offered};
 use crate::side::{Item, Looks, Matching, Opened, Side};
+use arrayvec::ArrayVec;
 use pump_frame::{OutOfMemory, SessionRow};
 use script_reader::ToldFeedback;
+use std::alloc::Global;
 
 fn same_told(a: &ToldFeedback, b: &ToldFeedback) -> bool
     ensures { result ≡ same_told a.now b.now }
@@ -26,9 +32,20 @@ fn same_told(a: &ToldFeedback, b: &ToldFeedback) -> bool
     }
 }
 
-// The first part in which two items differ.
-fn unlike(x: &Item, y: &Item) -> Option<What>
-    ensures { result ≡ unlike (tells x.now) (tells y.now) }
+// Whether the look was offered just these bytes.
+fn has_offered(line: &LookLine, bytes: &[u8]) -> bool
+    requires { IsPlain line.now }
+    ensures { result ≡ bytes_eq bytes.now (offered_bytes line.now.coming) }
+{
+    let mut offered = ArrayVec::new();
+    write_offered(line, &mut offered);
+    bytes == offered.as_slice()
+}
+
+// The first part in which a look that was kept and another one differ.
+fn unlike(x: &Item, y: &LookLine) -> Option<What>
+    requires { IsPlain y.now }
+    ensures { result ≡ unlike (tells x.now) (item_of y.now) }
 {
     if x.moment != y.moment {
         return Some(What::Moment);
@@ -36,13 +53,13 @@ fn unlike(x: &Item, y: &Item) -> Option<What>
     if x.word != y.word {
         return Some(What::Word);
     }
-    if x.offered.as_slice() != y.offered.as_slice() {
+    if !has_offered(y, x.offered.as_slice()) {
         return Some(What::Arrival);
     }
     if x.is_fault != y.is_fault {
         return Some(What::Outcome);
     }
-    if !same_told(&x.told, &y.told) {
+    if !same_told(&x.told, &uncounted(&y.told)) {
         return Some(What::Feedback);
     }
     None
@@ -61,14 +78,15 @@ impl Matching {
     }
 
     /// The next look of the second record.
-    fn add(&mut self, item: &Item)
-        ensures { (us xs : List ItemTold) → Matches us self.old xs → Matches us self.new (xs ++ tells item.now ∷ []) }
+    fn add(&mut self, line: &LookLine)
+        requires { IsPlain line.now }
+        ensures { (us xs : List ItemTold) → Matches us self.old xs → Matches us self.new (xs ++ item_of line.now ∷ []) }
     {
         if self.difference.is_some() {
             return;
         }
         match self.first.get(self.alike) {
-            Some(own) => match unlike(own, item) {
+            Some(own) => match unlike(own, line) {
                 Some(what) => self.difference = Some(what),
                 None => self.alike += 1,
             },
@@ -92,12 +110,13 @@ impl Matching {
 
 impl Looks {
     /// One more look.
-    pub fn add(&mut self, item: Item) -> Result<(), OutOfMemory>
-        ensures { OnOk result ((first : Option (List ItemTold)) (xs : List ItemTold) → LooksTell first self.old xs → LooksTell first self.new (xs ++ tells item ∷ [])) }
+    pub fn add(&mut self, alloc: Global, line: &LookLine) -> Result<(), OutOfMemory>
+        requires { IsPlain line.now }
+        ensures { OnOk result ((first : Option (List ItemTold)) (xs : List ItemTold) → LooksTell first self.old xs → LooksTell first self.new (xs ++ item_of line.now ∷ [])) }
     {
         match self {
-            Looks::Kept(items) => items.push(item)?,
-            Looks::Matched(matching) => matching.add(&item),
+            Looks::Kept(items) => items.push(item(alloc, line)?)?,
+            Looks::Matched(matching) => matching.add(line),
         }
         Ok(())
     }

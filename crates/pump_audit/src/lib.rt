@@ -9,6 +9,7 @@ mod comparing;
 mod differing;
 mod entry;
 mod form;
+mod items;
 mod laws;
 mod life;
 mod meeting;

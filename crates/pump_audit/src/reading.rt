@@ -12,55 +12,71 @@ ghost use Rattle.pump_audit.specs.Noting.{IsComing, IsScript, IsSmall};
 
 use crate::entry::{Coming, Entry, LookLine};
 use crate::notes::read_note;
-use pump_frame::{Fed, Frame, Reader};
+use pump_frame::{Frame, Reader, Step};
 use script_reader::{ArrivingHead, Body, LineHead, ToldFeedback, read_head};
 
+/// What the lines of a record are read into, one after the other. One room serves a whole record.
+#[derive(Drop)]
+pub(crate) struct Room {
+    body: Body,
+    frame: Frame,
+}
+
+impl Room {
+    pub fn new() -> Room {
+        Room {
+            body: Body::new(),
+            frame: Frame::room(),
+        }
+    }
+}
+
 /// The frame whose bytes these are.
-fn read_frame(bytes: &[u8]) -> Option<Frame>
+fn read_frame(bytes: &[u8], room: &mut Frame) -> Option<Frame>
     ensures found { IfSome result (λ f. IsLawful f × (spelling f ≡ bytes.now)) }
     ensures only { (f : FrameValue) → IsLawful f → spelling f ≡ bytes.now → result ≡ Some f }
 {
     let mut reader = Reader::new();
     for i in 0..bytes.len() {
-        match reader.feed(bytes[i]) {
-            Fed::More => {}
-            Fed::Whole(frame) => {
+        match reader.feed_into(bytes[i], room) {
+            Step::More => {}
+            Step::Whole => {
                 if i + 1 < bytes.len() {
                     return None;
                 }
-                return Some(frame);
+                return Some(*room);
             }
-            Fed::Bad { .. } => return None,
+            Step::Bad { .. } => return None,
         }
     }
     None
 }
 
 /// What a look took, by the raw bytes of its line.
-fn read_raw(bytes: &[u8]) -> Option<Coming>
+fn read_raw(bytes: &[u8], room: &mut Frame) -> Option<Coming>
     ensures found { IfSome result (λ c. IsComing c (arriving_with bytes.now ArrivingHead.Raw)) }
     ensures only { (c : Coming) → IsComing c (arriving_with bytes.now ArrivingHead.Raw) → result ≡ Some c }
 {
     if bytes == [0].as_slice() {
         return Some(Coming::Bad);
     }
-    Some(Coming::Frame(read_frame(bytes)?))
+    Some(Coming::Frame(read_frame(bytes, room)?))
 }
 
 /// What a look took, by its line.
-fn read_coming(arrival: &ArrivingHead, bytes: &[u8]) -> Option<Coming>
+fn read_coming(arrival: &ArrivingHead, bytes: &[u8], room: &mut Frame) -> Option<Coming>
     ensures found { IfSome result (λ c. IsComing c (arriving_with bytes.now arrival.now)) }
     ensures only { (c : Coming) → IsComing c (arriving_with bytes.now arrival.now) → result ≡ Some c }
 {
     match arrival {
         ArrivingHead::Nothing => Some(Coming::Nothing),
-        ArrivingHead::Raw => read_raw(bytes),
+        ArrivingHead::Raw => read_raw(bytes, room),
         ArrivingHead::Hello { .. } | ArrivingHead::Data { .. } => None,
     }
 }
 
 /// The line of a record that this line of a script is, but for comments.
-fn read_script(head: &LineHead, bytes: &[u8]) -> Option<Entry>
+fn read_script(head: &LineHead, bytes: &[u8], room: &mut Frame) -> Option<Entry>
     ensures found { IfSome result (λ e. IsScript e (line_with bytes.now head.now)) }
     ensures only { (e : Entry) → IsScript e (line_with bytes.now head.now) → result ≡ Some e }
 {
@@ -89,7 +105,7 @@ fn read_script(head: &LineHead, bytes: &[u8]) -> Option<Entry>
             word: *word,
             is_fault: *fault,
             told: *feedback,
-            coming: read_coming(arrival, bytes)?,
+            coming: read_coming(arrival, bytes, room)?,
         })),
         LineHead::Gone { session, moment } => Some(Entry::Look(LookLine {
             session: *session,
@@ -104,7 +120,7 @@ fn read_script(head: &LineHead, bytes: &[u8]) -> Option<Entry>
 }
 
 // The line of a record that the text is, by the line of a script that it is.
-fn read_headed(head: &LineHead, bytes: &[u8], text: &[u8]) -> Option<Entry>
+fn read_headed(head: &LineHead, bytes: &[u8], text: &[u8], room: &mut Frame) -> Option<Entry>
     requires line { IsLine (line_with bytes.now head.now) text.now }
     requires only { (line : Line) → IsLine line text.now → line_with bytes.now head.now ≡ line }
     requires lawful { IsLawfulLine (line_with bytes.now head.now) }
@@ -114,12 +130,12 @@ fn read_headed(head: &LineHead, bytes: &[u8], text: &[u8]) -> Option<Entry>
 {
     match head {
         LineHead::Skip => Some(Entry::Comment(read_note(text)?)),
-        _ => read_script(head, bytes),
+        _ => read_script(head, bytes, room),
     }
 }
 
 /// The line of a record that the text is, which has no line end; `None` exactly where it is none.
-pub(crate) fn read_entry(text: &[u8]) -> Option<Entry>
+pub(crate) fn read_entry(text: &[u8], room: &mut Room) -> Option<Entry>
     ensures found { IfSome result (λ e. IsEntry e text.now) }
     ensures only { (e : Entry) → IsEntry e text.now → result ≡ Some e }
     ensures small { IfSome result IsSmall }
@@ -127,9 +143,8 @@ pub(crate) fn read_entry(text: &[u8]) -> Option<Entry>
     if text.len() > 2400 {
         return None;
     }
-    let mut body = Body::new();
-    match read_head(text, &mut body) {
-        Some(head) => read_headed(&head, body.as_slice(), text),
+    match read_head(text, &mut room.body) {
+        Some(head) => read_headed(&head, room.body.as_slice(), text, &mut room.frame),
         None => None,
     }
 }

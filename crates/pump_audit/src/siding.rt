@@ -1,66 +1,22 @@
 // Reading low's side of a record.
 ghost use Rattle.std.specs.Prelude.{◌≡◌, ◌≢◌, ◌⊎◌, List, [], Option, IfOk, OnOk, MatchOption, true, false};
 ghost use Rattle.pump_audit.specs.Places.{ends_at};
-ghost use Rattle.pump_audit.specs.Comparing.{separator, ItemTold, SideTold, offered_bytes, uncounted, item_of, with_entry};
-ghost use Rattle.pump_audit.specs.Entries.{IsPlain};
-ghost use Rattle.pump_audit.specs.Siding.{tells, LooksTell, Stands, form_of_side, BeginsAs, GoesOnBy, IsSound};
+ghost use Rattle.pump_audit.specs.Comparing.{separator, ItemTold, SideTold, with_entry};
+ghost use Rattle.pump_audit.specs.Siding.{LooksTell, Stands, form_of_side, BeginsAs, GoesOnBy, IsSound};
 
-use crate::entry::{Coming, Entry, LookLine};
+use crate::entry::Entry;
 use crate::form::{Form, Place};
-use crate::reading::read_entry;
-use crate::side::{Item, Looks, Opened, Side};
-use arrayvec::ArrayVec;
-use pump_frame::{OutOfMemory, encode};
-use script_reader::ToldFeedback;
+use crate::reading::{Room, read_entry};
+use crate::side::{Looks, Opened, Side};
+use pump_frame::OutOfMemory;
 use std::alloc::Global;
-
-fn uncounted(told: &ToldFeedback) -> ToldFeedback
-    ensures { result ≡ uncounted told.now }
-{
-    match told {
-        ToldFeedback::Pair { average, .. } => ToldFeedback::Pair {
-            count: 0,
-            average: *average,
-        },
-        ToldFeedback::Quiet => ToldFeedback::Quiet,
-        ToldFeedback::Full => ToldFeedback::Full,
-    }
-}
-
-// What the look was offered, as bytes.
-fn offered(alloc: Global, line: &LookLine) -> Result<Vec<u8>, OutOfMemory>
-    requires { IsPlain line.now }
-    ensures { IfOk result (λ bytes. bytes.items ≡ offered_bytes line.now.coming) }
-{
-    let mut room: ArrayVec<u8, 1042> = ArrayVec::new();
-    match &line.coming {
-        Coming::Nothing => {}
-        Coming::Frame(frame) => encode(frame, &mut room),
-        Coming::Bad => room.push(0),
-        Coming::Gone => room.push(1),
-    }
-    Ok(Vec::from_slice(alloc, room.as_slice())?)
-}
-
-fn item(alloc: Global, line: &LookLine) -> Result<Item, OutOfMemory>
-    requires { IsPlain line.now }
-    ensures { IfOk result (λ x. tells x ≡ item_of line.now) }
-{
-    Ok(Item {
-        moment: line.moment,
-        word: line.word,
-        offered: offered(alloc, line)?,
-        is_fault: line.is_fault,
-        told: uncounted(&line.told),
-    })
-}
 
 impl Side {
     /// The side that begins with this line, if one does. It takes its looks so, of which none came.
-    pub fn begin(text: &[u8], looks: Looks) -> Option<Side>
+    pub fn begin(text: &[u8], looks: Looks, room: &mut Room) -> Option<Side>
         ensures { (first : Option (List ItemTold)) → LooksTell first looks [] → BeginsAs first text.now result }
     {
-        match read_entry(text) {
+        match read_entry(text, room) {
             Some(Entry::Opening { row, next, is_held }) => Some(Side {
                 opened: Opened { row, next, is_held },
                 place: Place::Opening,
@@ -85,7 +41,7 @@ impl Side {
         ensures { OnOk result ((first : Option (List ItemTold)) (s : SideTold) → Stands first self.old s → Stands first self.new (with_entry s entry.now place)) }
     {
         match entry {
-            Entry::Look(line) => self.looks.add(item(alloc, line)?)?,
+            Entry::Look(line) => self.looks.add(alloc, line)?,
             Entry::Coarse { .. } => self.opened.row.coarse = true,
             Entry::Opening { .. } | Entry::Comment(_) => {}
         }
@@ -94,10 +50,10 @@ impl Side {
     }
 
     /// One more line, without its end; false where it is none of a record in its place.
-    pub fn add(&mut self, alloc: Global, text: &[u8]) -> Result<bool, OutOfMemory>
+    pub fn add(&mut self, alloc: Global, text: &[u8], room: &mut Room) -> Result<bool, OutOfMemory>
         ensures { IfOk result (λ went. (first : Option (List ItemTold)) (s : SideTold) → Stands first self.old s → GoesOnBy first s text.now self.new went) }
     {
-        let Some(entry) = read_entry(text) else {
+        let Some(entry) = read_entry(text, room) else {
             return Ok(false);
         };
         match self.form().behind_line(&entry) {

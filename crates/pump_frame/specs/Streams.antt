@@ -4,6 +4,8 @@ use Rattle.std.specs.List.{AllByRecursion, flat_map}
 use Rattle.pump_frame.specs.declared.frame.Frame.{Frame}
 use Rattle.pump_frame.specs.declared.reader.Fed.{Fed}
 use Rattle.pump_frame.specs.declared.reader.Fed.TheVariants.{More, Whole, Bad}
+use Rattle.pump_frame.specs.declared.reader.Step.{Step}
+use Rattle.pump_frame.specs.declared.reader.Step.TheVariants as step
 use Rattle.pump_frame.specs.Readings.{Reading, Within, Stopped}
 use Rattle.pump_frame.specs.Frames.{IsLawful}
 use Rattle.pump_frame.specs.Spellings.{spelling, BeginsSpelling, IsPartial}
@@ -30,6 +32,17 @@ Feeds (Within held) byte (Whole f) new =
 Feeds (Within held) byte (Bad at) new =
     (BeginsSpelling (held ++ byte ∷ []) → ⊥) × (at ≡ length held) × (new ≡ Stopped at)
 Feeds (Stopped at) byte fed new = (fed ≡ Bad at) × (new ≡ Stopped at)
+
+-- the answer that a step is, with the frame in the room behind it
+abbrev pub fed_of : Step → Frame → Fed
+fed_of step.More room = More
+fed_of step.Whole room = Whole room
+fed_of (step.Bad at) room = Bad at
+
+-- only a whole frame is written into the room
+abbrev pub Leaves : Step → Frame → Frame → Type 0
+Leaves step.Whole before now = Unit {0}
+Leaves _ before now = now ≡ before
 
 -- the frame of an answer, if it has one
 abbrev pub frames_of : Fed → List Frame

@@ -109,6 +109,18 @@ impl Frame {
         names_in(self.payload.as_slice())
     }
 
+    /// A lawful frame without a payload, as a room that frames are read into.
+    pub fn room() -> Frame
+        ensures { IsLawful result }
+    {
+        Frame {
+            kind: Kind::Ack,
+            session: 0,
+            number: 0,
+            payload: Payload::default(),
+        }
+    }
+
     /// The HELLO of a session with these names.
     pub fn hello(session: u32, low: &Name, high: &Name) -> Frame
         ensures kind { result.kind ≡ Hello }

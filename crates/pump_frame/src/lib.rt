@@ -23,6 +23,6 @@ pub use laws::{
 pub use memory::OutOfMemory;
 pub use name::Name;
 pub use payload::Payload;
-pub use reader::{Fed, Reader};
+pub use reader::{Fed, Reader, Step};
 pub use row::{GREATEST_CAPACITY, LEAST_CAPACITY, RowKey, SessionRow};
 pub use spelling::encode;

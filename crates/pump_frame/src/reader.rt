@@ -4,7 +4,7 @@ ghost use Rattle.pump_frame.specs.Frames.{IsLawful};
 ghost use Rattle.pump_frame.specs.Spellings.{spelling};
 ghost use Rattle.pump_frame.specs.Places.{IsWhole};
 ghost use Rattle.pump_frame.specs.Readings.{Reading, Within, HasBegun, is_stopped};
-ghost use Rattle.pump_frame.specs.Streams.{Feeds};
+ghost use Rattle.pump_frame.specs.Streams.{Feeds, Leaves, fed_of};
 
 use crate::frame::Frame;
 use crate::payload::Payload;
@@ -21,6 +21,17 @@ pub enum Fed {
     /// They are a lawful frame, and the next byte begins a new one.
     Whole(Frame),
     /// No lawful frame begins so: the byte at this offset of its frame is the first such.
+    Bad { at: u32 },
+}
+
+/// What one more byte made of a reader, where a whole frame lies in a room.
+#[derive(Clone, Copy)]
+pub enum Step {
+    /// As `Fed::More`.
+    More,
+    /// As `Fed::Whole`: the frame is in the room.
+    Whole,
+    /// As `Fed::Bad`.
     Bad { at: u32 },
 }
 
@@ -43,18 +54,16 @@ impl Model for Reader {
     ghost invariant = { λ r. StandsAt r.bad r.held.items r.place };
 }
 
-/// The frame of whole bytes.
-fn decode(bytes: &[u8]) -> Frame
+/// The frame of whole bytes, into the room.
+fn decode(bytes: &[u8], into: &mut Frame)
     requires { IsWhole bytes.now }
-    ensures lawful { IsLawful result }
-    ensures bytes { spelling result ≡ bytes.now }
+    ensures lawful { IsLawful into.new }
+    ensures bytes { spelling into.new ≡ bytes.now }
 {
-    Frame {
-        kind: kind_of(bytes[3]).unwrap(),
-        session: BigEndian::read_u32(&bytes[4..]),
-        number: BigEndian::read_u64(&bytes[8..]),
-        payload: Payload::from_slice(&bytes[18..]).unwrap(),
-    }
+    into.kind = kind_of(bytes[3]).unwrap();
+    into.session = BigEndian::read_u32(&bytes[4..]);
+    into.number = BigEndian::read_u64(&bytes[8..]);
+    into.payload.set(&bytes[18..]);
 }
 
 impl Reader {
@@ -76,23 +85,38 @@ impl Reader {
         ensures answer { Feeds self.old byte result self.new }
         ensures begun { HasBegun self.new }
     {
+        let mut frame = Frame::room();
+        match self.feed_into(byte, &mut frame) {
+            Step::More => Fed::More,
+            Step::Whole => Fed::Whole(frame),
+            Step::Bad { at } => Fed::Bad { at },
+        }
+    }
+
+    /// Reads one more byte as `feed` does, and moves no frame: a whole one is written into the room.
+    /// `More` and `Bad` leave the room as it was.
+    pub fn feed_into(&mut self, byte: u8, into: &mut Frame) -> Step
+        ensures answer { Feeds self.old byte (fed_of result into.new) self.new }
+        ensures room { Leaves result into.old into.new }
+        ensures begun { HasBegun self.new }
+    {
         if let Some(at) = self.bad {
-            return Fed::Bad { at };
+            return Step::Bad { at };
         }
         let Some(place) = self.place.after(byte) else {
             let at = self.held.len() as u32;
             self.bad = Some(at);
-            return Fed::Bad { at };
+            return Step::Bad { at };
         };
         self.held.push(byte);
         if !place.is_end() {
             self.place = place;
-            return Fed::More;
+            return Step::More;
         }
-        let frame = decode(self.held.as_slice());
+        decode(self.held.as_slice(), into);
         self.held.clear();
         self.place = Place::FirstMark;
-        Fed::Whole(frame)
+        Step::Whole
     }
 
     /// Whether it met bad bytes, and reads no further.

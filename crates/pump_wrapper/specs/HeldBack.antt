@@ -4,7 +4,7 @@ use Rattle.std.specs.Io.KnownBytes.{Appends}
 use Rattle.pump_wrapper.specs.declared.room.Room.{Room}
 
 abbrev pub held_in : Room → List ℕ
-held_in room = room.held.items
+held_in room = room.held
 
 -- of these bytes those were written that are not held
 abbrev pub Held : Option (List ℕ) → Option (List ℕ) → List ℕ → List ℕ → Type 0

@@ -1,17 +1,78 @@
 //! Bytes that are to be written, held back until there is a large piece of them.
 
-ghost use Rattle.std.specs.Prelude.{◌≡◌, ℕ, ◌≤◌, List, [], ◌++◌, length, Option, OnOk, OnErr};
+ghost use Rattle.std.specs.Prelude.{◌≡◌, ℕ, ◌+◌, ◌≤◌, List, [], ◌++◌, length, Option, OnOk, OnErr};
 ghost use Rattle.std.specs.Io.KnownBytes.{Appends};
 ghost use Rattle.pump_link.specs.Causes.{HasCause, AppendsFront};
 ghost use Rattle.pump_wrapper.specs.HeldBack.{Held, held_in};
 
-use arrayvec::ArrayVec;
 use pump_link::{Sink, WriteFault, write_all};
+use std::marker::Model;
+
+/// The most bytes that are held.
+const MOST: usize = 65536;
+
+/// At most 64 KB of bytes. Contracts see their list. It is no `ArrayVec`, whose `clear` writes over all
+/// that was held.
+#[derive(Drop)]
+struct Bytes {
+    cells: [u8; MOST],
+    len: usize,
+}
+
+impl Model for Bytes {
+    ghost use Rattle.std.specs.Prelude.{◌≡◌, ℕ, ◌≤◌, List, length, take};
+
+    ghost Value = { List ℕ };
+
+    ghost view = { λ s. take s.len s.cells };
+
+    ghost invariant = { λ s. (s.len ≤ 65536) × (length s.cells ≡ 65536) };
+}
+
+impl Bytes {
+    fn new() -> Bytes
+        ensures { result ≡ [] }
+    {
+        Bytes {
+            cells: [0; MOST],
+            len: 0,
+        }
+    }
+
+    fn as_slice(&self) -> &[u8]
+        ensures { result.now ≡ self.now }
+    {
+        &self.cells[..self.len]
+    }
+
+    // How many more bytes it can hold.
+    fn room(&self) -> usize
+        ensures { length self.now + result ≡ 65536 }
+    {
+        MOST - self.len
+    }
+
+    fn push(&mut self, piece: &[u8])
+        requires { length self.old + length piece.now ≤ 65536 }
+        ensures { self.new ≡ self.old ++ piece.now }
+    {
+        let end = self.len + piece.len();
+        self.cells[self.len..end].copy_from_slice(piece);
+        self.len = end;
+    }
+
+    // The bytes are written over by those that come next.
+    fn clear(&mut self)
+        ensures { self.new ≡ [] }
+    {
+        self.len = 0;
+    }
+}
 
 /// Bytes that are to be written.
 #[derive(Drop)]
 pub struct Room {
-    held: ArrayVec<u8, 65536>,
+    held: Bytes,
 }
 
 impl Room {
@@ -19,9 +80,7 @@ impl Room {
     pub fn new() -> Room
         ensures { held_in result ≡ [] }
     {
-        Room {
-            held: ArrayVec::new(),
-        }
+        Room { held: Bytes::new() }
     }
 
     /// Writes all that is held.
@@ -45,12 +104,12 @@ impl Room {
         ensures err { OnErr result (AppendsFront (O.written out.old) (O.written out.new) (held_in self.old ++ piece.now)) }
         ensures cause { HasCause (O.faults out.old) (O.faults out.new) result }
     {
-        let fitting = self.held.remaining_capacity().min(piece.len());
+        let fitting = self.held.room().min(piece.len());
         let (front, rest) = piece.split_at(fitting);
-        self.held.try_extend_from_slice(front).unwrap();
+        self.held.push(front);
         if !rest.is_empty() {
             self.flush(out)?;
-            self.held.try_extend_from_slice(rest).unwrap();
+            self.held.push(rest);
         }
         Ok(())
     }

@@ -12,7 +12,9 @@ use Rattle.pump_link.specs.Tells.{Draws}
 use Rattle.pump_link.specs.declared.link.Looked.{Looked}
 use Rattle.pump_link.specs.declared.link.Looked.TheVariants.{Byte, NotYet, Ended, Failed}
 use Rattle.pump_link.proofs.Grown.{Draws-nil, Draws-then}
-use Rattle.relay_threads.specs.declared.hear.Heard.TheVariants.{Nothing as HeardNothing, Frame as HeardFrame, Bad as HeardBad, Ended as HeardEnded, Failed as HeardFailed}
+use Rattle.relay_threads.specs.declared.hear.HeardHead.{HeardHead}
+use Rattle.relay_threads.specs.declared.hear.HeardHead.TheVariants as heads
+use Rattle.relay_threads.specs.Heards.{Heard, Nothing as HeardNothing, Frame as HeardFrame, Bad as HeardBad, Ended as HeardEnded, Failed as HeardFailed, heard_with}
 use Rattle.relay_threads.specs.Hearings.{AtFrame, AtBad, AtNotYet, AtEnded, AtFailed, AtMost, Hears, held_in}
 
 -- the bytes that were read behind the held ones, and what the link gives before and now
@@ -108,14 +110,22 @@ hears_most held now p q n was e = (
 
 -- ---- what is heard where the link did not fail ----
 
-pub frame_no_failure : (f : Frame) → HeardFrame f ≡ HeardFailed → ⊥
-frame_no_failure f e = cc
+pub frame_no_failure : heads.Frame ≡ heads.Failed → ⊥
+frame_no_failure e = cc
 
-pub bad_no_failure : HeardBad ≡ HeardFailed → ⊥
+pub bad_no_failure : heads.Bad ≡ heads.Failed → ⊥
 bad_no_failure e = cc
 
-pub nothing_no_failure : HeardNothing ≡ HeardFailed → ⊥
+pub nothing_no_failure : heads.Nothing ≡ heads.Failed → ⊥
 nothing_no_failure e = cc
 
-pub end_no_failure : HeardEnded ≡ HeardFailed → ⊥
+pub end_no_failure : heads.Ended ≡ heads.Failed → ⊥
 end_no_failure e = cc
+
+-- .. and where it did
+pub head_failed : (f : Frame) (head : HeardHead) → heard_with f head ≡ HeardFailed → head ≡ heads.Failed
+head_failed f heads.Nothing e = absurd (cc)
+head_failed f heads.Frame e = absurd (cc)
+head_failed f heads.Bad e = absurd (cc)
+head_failed f heads.Ended e = absurd (cc)
+head_failed f heads.Failed e = refl

@@ -23,8 +23,8 @@ use Rattle.high_process.specs.Ends.{TakesUp, told_time}
 use Rattle.high_process.specs.Looks.{StandsFor, Looked}
 use Rattle.high_process.proofs.Looking.{removal}
 use Rattle.pump_frame.specs.Readings.{Reading}
-use Rattle.relay_threads.specs.declared.hear.Heard.{Heard}
-use Rattle.relay_threads.specs.declared.hear.Heard.TheVariants as heards
+use Rattle.relay_threads.specs.Heards.{Heard}
+use Rattle.relay_threads.specs.Heards as heards
 use Rattle.relay_threads.specs.declared.high_served.HighWhy.{HighWhy}
 use Rattle.relay_threads.specs.declared.high_served.HighWhy.TheVariants.{Gone, Bad, NotAttach, LinkFailed, Device, Ahead, Behind, Looks, Stopped}
 use Rattle.relay_threads.specs.declared.high_round.Plan.{Plan}

@@ -7,8 +7,7 @@ use Rattle.pump_frame.specs.Readings.{Reading, Within, Stopped, is_stopped}
 use Rattle.pump_link.specs.Tells.{Draws}
 use Rattle.pump_link.specs.declared.link.Looked.{Looked}
 use Rattle.pump_link.specs.declared.link.Looked.TheVariants.{Byte, NotYet, Ended, Failed}
-use Rattle.relay_threads.specs.declared.hear.Heard.{Heard}
-use Rattle.relay_threads.specs.declared.hear.Heard.TheVariants.{Nothing as HeardNothing, Frame as HeardFrame, Bad as HeardBad, Ended as HeardEnded, Failed as HeardFailed}
+use Rattle.relay_threads.specs.Heards.{Heard, Nothing as HeardNothing, Frame as HeardFrame, Bad as HeardBad, Ended as HeardEnded, Failed as HeardFailed}
 
 -- A reading ends at the first of these: a frame is whole, no frame begins so, a look gives no byte,
 -- the other side is gone, a look fails, or 1042 bytes are read.

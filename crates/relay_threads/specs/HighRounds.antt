@@ -14,8 +14,7 @@ use Rattle.high_process.specs.declared.values.Task.TheVariants.{Refuse, Remove, 
 use Rattle.high_process.specs.Tasks.{task_of, attaches_in, is_attach}
 use Rattle.high_process.specs.Past.{ProcessPast, begun, removed_in, published_in, sent_in, finished, wants}
 use Rattle.high_process.specs.Storing.{GivenBack}
-use Rattle.relay_threads.specs.declared.hear.Heard.{Heard}
-use Rattle.relay_threads.specs.declared.hear.Heard.TheVariants.{Nothing as HeardNothing, Frame as HeardFrame, Bad as HeardBad, Ended as HeardEnded, Failed as HeardFailed}
+use Rattle.relay_threads.specs.Heards.{Heard, Nothing as HeardNothing, Frame as HeardFrame, Bad as HeardBad, Ended as HeardEnded, Failed as HeardFailed}
 use Rattle.relay_threads.specs.declared.high_served.HighWhy.{HighWhy}
 use Rattle.relay_threads.specs.declared.high_served.HighWhy.TheVariants.{Gone, Bad, NotAttach, LinkFailed, Stopped, Device as DeviceFailed, Ahead as IsAhead, Behind as IsBehind}
 use Rattle.relay_threads.specs.declared.high_round.Plan.{Plan}

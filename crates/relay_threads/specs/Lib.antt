@@ -1,3 +1,4 @@
+pub mod Heards
 pub mod Hearings
 pub mod HighRounds
 pub mod HighServes

@@ -12,8 +12,8 @@ use Rattle.pump_core.specs.History.{Nothing, Came, Bad, Gone}
 use Rattle.pump_core.specs.Step.{is_full}
 use Rattle.low_process.specs.declared.process.LowProcess.{LowProcess}
 use Rattle.low_process.specs.Looks.{row_of, StandsFor}
-use Rattle.relay_threads.specs.declared.hear.Heard.{Heard}
-use Rattle.relay_threads.specs.declared.hear.Heard.TheVariants as hears
+use Rattle.relay_threads.specs.Heards.{Heard}
+use Rattle.relay_threads.specs.Heards as hears
 use Rattle.relay_threads.specs.declared.low_round.LowWhy.{LowWhy}
 use Rattle.relay_threads.specs.declared.low_round.LowWhy.TheVariants as whys
 use Rattle.relay_threads.specs.declared.low_serving.LowServed.{LowServed}

@@ -1,6 +1,7 @@
 // One round of the high worker on a connection.
 ghost use Rattle.std.specs.Prelude.{◌≡◌, ◌^◌, ◌<◌, ◌≤◌, ◌||◌, Bool, true, false, [], ◌∷◌, None, Some, IfSome, if◌then◌else◌};
 ghost use Rattle.pump_frame.specs.Counts.{Rose};
+ghost use Rattle.pump_frame.specs.declared.frame.Frame.{Frame as SentFrame};
 ghost use Rattle.pump_frame.specs.Readings.{Within, HasBegun};
 ghost use Rattle.pump_frame.specs.Streams.{spellings};
 ghost use Rattle.pump_link.specs.Tells.{Draws};
@@ -9,12 +10,13 @@ ghost use Rattle.high_process.specs.Tasks.{frame_of};
 ghost use Rattle.high_process.specs.Ready.{Ready};
 ghost use Rattle.high_process.specs.States.{row_of, removed_of, hand_of, last_of, is_down};
 ghost use Rattle.relay_threads.specs.declared.high_served.HighWhy.TheVariants.{LinkFailed};
+ghost use Rattle.relay_threads.specs.Heards.{heard_with};
 ghost use Rattle.relay_threads.specs.Hearings.{held_in, heard_as};
 ghost use Rattle.relay_threads.specs.Workers.{SendsFront};
 ghost use Rattle.relay_threads.specs.HighRounds.{Made, Round, plan_of, frame_heard, is_frame, why_of, removes, removes_by, looks_in_round, data_in, data_made, cause, cause_look};
 ghost use Rattle.relay_threads.specs.HighServes.{IsData, IsOpen, LookMade, RoundMade, device_in, CountsFaultIn};
 
-use crate::hear::{Heard, hear};
+use crate::hear::{HeardHead, hear};
 use crate::high_served::HighWhy;
 use arrayvec::ArrayVec;
 use disk_model::Disk;
@@ -49,6 +51,8 @@ pub struct Turn {
 #[derive(Drop)]
 pub struct HighConnection {
     reader: Reader,
+    // A frame is read into it.
+    room: Frame,
     // The first frame came, and was an ATTACH.
     is_attached: bool,
     // The DATA that is sent. Only its number and its payload change.
@@ -57,38 +61,38 @@ pub struct HighConnection {
 
 // What follows a reading: the first frame of a connection is to be an ATTACH, and no look is made
 // before it.
-fn planned(is_attached: bool, heard: &Heard) -> Plan
-    ensures { result ≡ plan_of is_attached heard.now }
+fn planned(is_attached: bool, heard: HeardHead, room: &Frame) -> Plan
+    ensures { result ≡ plan_of is_attached (heard_with room.now heard) }
 {
     match heard {
-        Heard::Frame(frame) => {
-            if is_attached || frame.kind == Kind::Attach {
+        HeardHead::Frame => {
+            if is_attached || room.kind == Kind::Attach {
                 Plan::Look
             } else {
                 Plan::End(HighWhy::NotAttach)
             }
         }
-        Heard::Nothing => { if is_attached { Plan::Look } else { Plan::Pass } }
-        Heard::Bad => Plan::End(HighWhy::Bad),
-        Heard::Ended => Plan::End(HighWhy::Gone),
-        Heard::Failed => Plan::End(HighWhy::LinkFailed),
+        HeardHead::Nothing => { if is_attached { Plan::Look } else { Plan::Pass } }
+        HeardHead::Bad => Plan::End(HighWhy::Bad),
+        HeardHead::Ended => Plan::End(HighWhy::Gone),
+        HeardHead::Failed => Plan::End(HighWhy::LinkFailed),
     }
 }
 
 // The frame that came, if one did.
-fn frame_in(heard: &Heard) -> Option<&Frame>
-    ensures { frame_of result ≡ frame_heard heard.now }
+fn frame_in(heard: HeardHead, room: &Frame) -> Option<&Frame>
+    ensures { frame_of result ≡ frame_heard (heard_with room.now heard) }
 {
     match heard {
-        Heard::Frame(frame) => Some(frame),
+        HeardHead::Frame => Some(room),
         _ => None,
     }
 }
 
-fn is_frame(heard: &Heard) -> bool
-    ensures { result ≡ is_frame heard.now }
+fn is_frame(heard: HeardHead) -> bool
+    ensures { (frame : SentFrame) → result ≡ is_frame (heard_with frame heard) }
 {
-    matches!(heard, Heard::Frame(_))
+    matches!(heard, HeardHead::Frame)
 }
 
 fn why_of(fault: HighFault) -> HighWhy
@@ -213,6 +217,7 @@ impl HighConnection {
     {
         HighConnection {
             reader: Reader::new(),
+            room: Frame::room(),
             is_attached: false,
             message: first_data(session),
         }
@@ -252,9 +257,9 @@ impl HighConnection {
         ensures device { CountsFaultIn result.why (D.told.count (high_disk store.old)) (D.told.count (high_disk store.new)) }
     {
         let moment = clock.moment();
-        let heard = hear(link, &mut self.reader);
-        let plan = planned(self.is_attached, &heard);
-        self.is_attached |= is_frame(&heard);
+        let heard = hear(link, &mut self.reader, &mut self.room);
+        let plan = planned(self.is_attached, heard, &self.room);
+        self.is_attached |= is_frame(heard);
         match plan {
             Plan::End(why) => Turn {
                 why: Some(why),
@@ -268,7 +273,7 @@ impl HighConnection {
                 rt,
                 link,
                 moment,
-                frame_in(&heard),
+                frame_in(heard, &self.room),
                 process,
                 store,
                 ends,

@@ -2,6 +2,7 @@
 ghost use Rattle.std.specs.Prelude.{◌≡◌, ℕ, ◌≤◌, true, false, List, [], ◌∷◌, None, Some, IfSome, option_map};
 ghost use Rattle.std.specs.Io.KnownBytes.{Appends};
 ghost use Rattle.pump_frame.specs.Counts.{Rose};
+ghost use Rattle.pump_frame.specs.declared.frame.Frame.{Frame as SentFrame};
 ghost use Rattle.pump_frame.specs.Readings.{Within, HasBegun};
 ghost use Rattle.pump_link.specs.Tells.{Draws, Grows};
 ghost use Rattle.pump_core.specs.ReplyFrames.{frame_of, IsLawfulReply};
@@ -10,6 +11,7 @@ ghost use Rattle.stable_buffer.specs.Low.{low_disk};
 ghost use Rattle.low_process.specs.Ready.{Ready};
 ghost use Rattle.low_process.specs.Looks.{arrival_of, row_of, last_of, is_down, IsLawful as CanCome};
 ghost use Rattle.relay_threads.specs.declared.low_round.LowWhy.TheVariants.{LinkFailed, RecordFailed};
+ghost use Rattle.relay_threads.specs.Heards.{heard_with};
 ghost use Rattle.relay_threads.specs.Hearings.{held_in, IsLawfulHeard};
 ghost use Rattle.relay_threads.specs.Levels.{IsEndOf};
 ghost use Rattle.relay_threads.specs.PairsRead.{ReadsPairs};
@@ -20,15 +22,15 @@ ghost use Rattle.relay_threads.specs.RecordLines.{HasLawfulFrame};
 ghost use Rattle.relay_threads.specs.LowRounds.{Round, with_look, looks_heard, is_ack, is_ack_made, cause};
 ghost use Rattle.relay_threads.specs.LowServes.{Turns, LeavesIf, HearsIf, arrival_heard, is_failed, text_made, why_by, is_device_in, CountsFaultIn, bytes_of, bytes_made, full_after};
 
-use crate::hear::{Heard, hear};
+use crate::hear::{HeardHead, hear};
 use crate::record::LookMade;
-use crate::tape::record_look;
+use crate::tape::{LookRoom, record_look};
 use arrayvec::ArrayVec;
 use disk_model::Disk;
 use low_process::{Arrival, LookHead, LowProcess};
 use passage::WaitLowEnd;
 use pump_core::{Feedback, Reply};
-use pump_frame::{Reader, encode};
+use pump_frame::{Frame, Reader, encode};
 use pump_link::{Clock, Link, Sink, Words};
 use stable_buffer::LowStore;
 use std::sync::Wait;
@@ -63,36 +65,60 @@ pub struct LowTurn {
     pub is_acked: bool,
 }
 
+/// What a low worker keeps of a connection from round to round.
+#[derive(Drop)]
+pub struct LowConnection {
+    pub reader: Reader,
+    /// A frame is read into it.
+    pub room: Frame,
+    /// The lines of a look are made in it, where there is a record.
+    pub lines: LookRoom,
+}
+
+impl LowConnection {
+    /// Before the first byte.
+    pub fn new() -> LowConnection
+        ensures value { result.reader ≡ Within [] }
+        ensures begun { HasBegun result.reader }
+    {
+        LowConnection {
+            reader: Reader::new(),
+            room: Frame::room(),
+            lines: LookRoom::new(),
+        }
+    }
+}
+
 // A reading where the process wants what comes, and else none.
-fn hear_if<C: Link>(wants: bool, link: &mut C, reader: &mut Reader) -> Heard
-    requires within { reader.old ≡ Within (held_in reader.old) }
-    requires begun { HasBegun reader.old }
-    ensures heard { HearsIf wants (held_in reader.old) reader.new (C.gives link.old) (C.gives link.new) result }
-    ensures lawful { IsLawfulHeard result }
-    ensures begun { HasBegun reader.new }
+fn hear_if<C: Link>(wants: bool, link: &mut C, connection: &mut LowConnection) -> HeardHead
+    requires within { connection.old.reader ≡ Within (held_in connection.old.reader) }
+    requires begun { HasBegun connection.old.reader }
+    ensures heard { HearsIf wants (held_in connection.old.reader) connection.new.reader (C.gives link.old) (C.gives link.new) (heard_with connection.new.room result) }
+    ensures lawful { IsLawfulHeard (heard_with connection.new.room result) }
+    ensures begun { HasBegun connection.new.reader }
     ensures sent { Grows (C.sent link.old) (C.sent link.new) [] }
     ensures later { C.faults link.old ≤ C.faults link.new }
-    ensures failed { result ≡ Heard.Failed → Rose (C.faults link.old) (C.faults link.new) }
+    ensures failed { result ≡ HeardHead.Failed → Rose (C.faults link.old) (C.faults link.new) }
 {
     if wants {
-        hear(link, reader)
+        hear(link, &mut connection.reader, &mut connection.room)
     } else {
-        Heard::Nothing
+        HeardHead::Nothing
     }
 }
 
 // The arrival that a reading brought.
-fn arrival_in(heard: &Heard) -> Arrival<'_>
-    requires { IsLawfulHeard heard.now }
-    ensures is { arrival_of result ≡ arrival_heard heard.now }
+fn arrival_in(heard: HeardHead, room: &Frame) -> Arrival<'_>
+    requires { IsLawfulHeard (heard_with room.now heard) }
+    ensures is { arrival_of result ≡ arrival_heard (heard_with room.now heard) }
     ensures can_come { CanCome (arrival_of result) }
     ensures lawful { HasLawfulFrame (arrival_of result) }
 {
     match heard {
-        Heard::Nothing | Heard::Failed => Arrival::Nothing,
-        Heard::Frame(frame) => Arrival::Frame(frame),
-        Heard::Bad => Arrival::Bad,
-        Heard::Ended => Arrival::Gone,
+        HeardHead::Nothing | HeardHead::Failed => Arrival::Nothing,
+        HeardHead::Frame => Arrival::Frame(room),
+        HeardHead::Bad => Arrival::Bad,
+        HeardHead::Ended => Arrival::Gone,
     }
 }
 
@@ -111,10 +137,10 @@ fn answer<C: Link>(link: &mut C, session: u32, reply: &Option<Reply>) -> bool
     link.send(bytes.as_slice()).is_ok()
 }
 
-fn is_failed(heard: &Heard) -> bool
-    ensures { result ≡ is_failed heard.now }
+fn is_failed(heard: HeardHead) -> bool
+    ensures { (frame : SentFrame) → result ≡ is_failed (heard_with frame heard) }
 {
-    matches!(heard, Heard::Failed)
+    matches!(heard, HeardHead::Failed)
 }
 
 fn is_full(look: &LookHead) -> bool
@@ -135,9 +161,9 @@ fn why_left(
     is_down: bool,
     faults: u64,
     is_sent: bool,
-    heard: &Heard,
+    heard: HeardHead,
 ) -> Option<LowWhy>
-    ensures { result ≡ why_by is_kept is_down faults is_sent heard.now }
+    ensures { (frame : SentFrame) → result ≡ why_by is_kept is_down faults is_sent (heard_with frame heard) }
 {
     if !is_kept {
         return Some(LowWhy::RecordFailed);
@@ -149,10 +175,10 @@ fn why_left(
         return Some(LowWhy::LinkFailed);
     }
     match heard {
-        Heard::Nothing | Heard::Frame(_) => None,
-        Heard::Bad => Some(LowWhy::Bad),
-        Heard::Ended => Some(LowWhy::Gone),
-        Heard::Failed => Some(LowWhy::LinkFailed),
+        HeardHead::Nothing | HeardHead::Frame => None,
+        HeardHead::Bad => Some(LowWhy::Bad),
+        HeardHead::Ended => Some(LowWhy::Gone),
+        HeardHead::Failed => Some(LowWhy::LinkFailed),
     }
 }
 
@@ -168,16 +194,16 @@ pub fn low_round<R: Wait, C: Link, K: Clock, W: Words, D: Disk, L: WaitLowEnd, O
     store: &mut LowStore<D>,
     ends: &mut L,
     tape: &mut O,
-    reader: &mut Reader,
+    connection: &mut LowConnection,
     was_full: bool,
 ) -> LowTurn
-    requires within { reader.old ≡ Within (held_in reader.old) }
-    requires begun { HasBegun reader.old }
+    requires within { connection.old.reader ≡ Within (held_in connection.old.reader) }
+    requires begun { HasBegun connection.old.reader }
     requires ready { Ready D.told process.old store.old (L.stands ends.old) }
     requires up { is_down process.old ≡ false }
     requires order { last_of process.old ≤ K.floor clock.old }
-    ensures turn { (r : Round) × Turns process.old process.new (held_in reader.old) r
-        × LeavesIf (held_in reader.old) r.heard reader.new
+    ensures turn { (r : Round) × Turns process.old process.new (held_in connection.old.reader) r
+        × LeavesIf (held_in connection.old.reader) r.heard connection.new.reader
         × Draws (C.gives link.old) (C.gives link.new) (looks_heard r.heard)
         × Reaches (Grows (C.sent link.old) (C.sent link.new)) (C.faults link.old) (C.faults link.new) r.is_sent (bytes_made r.made)
         × Draws (K.reads clock.old) (K.reads clock.new) (r.moment ∷ [])
@@ -187,7 +213,7 @@ pub fn low_round<R: Wait, C: Link, K: Clock, W: Words, D: Disk, L: WaitLowEnd, O
         × (result.why ≡ cause r) × (result.is_full ≡ full_after was_full r.made) × (result.is_acked ≡ is_ack_made r.made)
         × (IsEndOf L.stands L.shape ends.old (row_of process.old) → IfSome r.made (TellsLevel (row_of process.old)))
         × ReadsPairs L.stands ends.old ends.new process.old process.new (with_look r.made []) }
-    ensures begun { HasBegun reader.new }
+    ensures begun { HasBegun connection.new.reader }
     ensures ready { Ready D.told process.new store.new (L.stands ends.new) }
     ensures up { is_device_in result.why ≡ false → (result.why ≡ Some RecordFailed → ⊥) → is_down process.new ≡ false }
     ensures order { last_of process.new ≤ K.floor clock.new }
@@ -199,15 +225,15 @@ pub fn low_round<R: Wait, C: Link, K: Clock, W: Words, D: Disk, L: WaitLowEnd, O
 {
     let moment = clock.moment();
     let word = words.word();
-    let heard = hear_if(process.wants(), link, reader);
-    if is_failed(&heard) {
+    let heard = hear_if(process.wants(), link, connection);
+    if is_failed(heard) {
         return LowTurn {
             why: Some(LowWhy::LinkFailed),
             is_full: was_full,
             is_acked: false,
         };
     }
-    let arrival = arrival_in(&heard);
+    let arrival = arrival_in(heard, &connection.room);
     let mut look = LookHead::new();
     process.look_waiting_into(rt, moment, word, arrival, store, ends, &mut look);
     let made = LookMade {
@@ -217,9 +243,9 @@ pub fn low_round<R: Wait, C: Link, K: Clock, W: Words, D: Disk, L: WaitLowEnd, O
         look,
     };
     let is_sent = answer(link, process.row().id, &look.reply);
-    let is_kept = record_look(tape, process.row(), &made, was_full);
+    let is_kept = record_look(tape, process.row(), &made, was_full, &mut connection.lines);
     LowTurn {
-        why: why_left(is_kept, process.is_down(), store.faults(), is_sent, &heard),
+        why: why_left(is_kept, process.is_down(), store.faults(), is_sent, heard),
         is_full: is_full(&look),
         is_acked: is_ack(&look.reply),
     }

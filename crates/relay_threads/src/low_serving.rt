@@ -17,11 +17,10 @@ ghost use Rattle.relay_threads.specs.LowRounds.{Round, made_in, looks_of_rounds,
 ghost use Rattle.relay_threads.specs.LowServes.{Serves, IsServed, all_sent, all_kept, asked_in, is_device, CountsFault};
 
 use crate::gate::Gate;
-use crate::low_round::{LowWhy, low_round};
+use crate::low_round::{LowConnection, LowWhy, low_round};
 use disk_model::Disk;
 use low_process::LowProcess;
 use passage::WaitLowEnd;
-use pump_frame::Reader;
 use pump_link::{Clock, Link, Sink, Words};
 use stable_buffer::LowStore;
 use std::sync::Wait;
@@ -80,7 +79,7 @@ pub fn serve_low<R: Wait, C: Link, K: Clock, W: Words, D: Disk, L: WaitLowEnd, O
     ensures device { CountsFault result.why (D.told.count (low_disk store.old)) (D.told.count (low_disk store.new)) }
     ensures stopped { result.why ≡ Stopped → Rose (G.stops gate.old) (G.stops gate.new) }
 {
-    let mut reader = Reader::new();
+    let mut connection = LowConnection::new();
     let mut was_full = false;
     let mut rounds = 0;
     let mut acks = 0;
@@ -100,7 +99,7 @@ pub fn serve_low<R: Wait, C: Link, K: Clock, W: Words, D: Disk, L: WaitLowEnd, O
             store,
             ends,
             tape,
-            &mut reader,
+            &mut connection,
             was_full,
         );
         rounds += 1;

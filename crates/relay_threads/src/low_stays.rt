@@ -26,7 +26,7 @@ use crate::low_round::LowWhy;
 use crate::low_serving::serve_low;
 use crate::record::LookMade;
 use crate::rounds_end::{RoundsEnd, Stayed};
-use crate::tape::record_look;
+use crate::tape::{LookRoom, record_look};
 use crate::watch::Watch;
 use disk_model::Disk;
 use low_process::{Arrival, LookHead, LowProcess};
@@ -70,7 +70,7 @@ fn leave<R: Wait, K: Clock, D: Disk, L: WaitLowEnd, O: Sink>(
         arrival,
         look,
     };
-    record_look(tape, process.row(), &made, false)
+    record_look(tape, process.row(), &made, false, &mut LookRoom::new())
 }
 
 // Whether a look with Gone follows.

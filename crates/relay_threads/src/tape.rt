@@ -38,10 +38,32 @@ pub fn write_opening<O: Sink>(
     write_all(tape, lines.as_slice())
 }
 
+/// Rooms for the bytes that a look took, and for its lines: they serve one look after another.
+#[derive(Drop)]
+pub struct LookRoom {
+    body: ArrayVec<u8, 1042>,
+    lines: ArrayVec<u8, 2700>,
+}
+
+impl LookRoom {
+    pub fn new() -> LookRoom {
+        LookRoom {
+            body: ArrayVec::new(),
+            lines: ArrayVec::new(),
+        }
+    }
+}
+
 /// Writes a look's lines, if a record has them: the look before it found the passage full or not. False
 /// where they were not written whole. Its moment and its average are to be in the ranges of a script, as
 /// those of each look are.
-pub fn record_look<O: Sink>(tape: &mut O, row: &SessionRow, made: &LookMade, was_full: bool) -> bool
+pub fn record_look<O: Sink>(
+    tape: &mut O,
+    row: &SessionRow,
+    made: &LookMade,
+    was_full: bool,
+    room: &mut LookRoom,
+) -> bool
     requires frame { HasLawfulFrame (arrival_of made.now.arrival) }
     requires reply { IfSome made.now.look.reply IsLawfulReply }
     ensures text { (before : List Made) → was_full ≡ full_before before
@@ -56,8 +78,7 @@ pub fn record_look<O: Sink>(tape: &mut O, row: &SessionRow, made: &LookMade, was
     if !is_recorded(made, was_full) {
         return true;
     }
-    let mut body = ArrayVec::new();
-    let mut lines: ArrayVec<u8, 2700> = ArrayVec::new();
-    append_look(row, made, &mut body, &mut lines);
-    write_all(tape, lines.as_slice()).is_ok()
+    room.lines.clear();
+    append_look(row, made, &mut room.body, &mut room.lines);
+    write_all(tape, room.lines.as_slice()).is_ok()
 }

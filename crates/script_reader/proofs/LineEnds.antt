@@ -2,8 +2,9 @@
 use Rattle.std.proofs.Common.{inl, inr, is_some, IsTrue, ◌≡◌, ℕ, ◌+◌, ◌-◌, ◌<◌, ◌≤◌, ◌≢◌, Bool, true, false, cond, ltb, List, [], ◌∷◌, ◌++◌, Option, None, Some, IfSome, length, get_or, take, drop, refl, sym, ap, ◌∙◌, append_assoc, append-nil, arith, length-append, length-drop, length-take}
 use Rattle.std.proofs.lemmas.Bool.{ltb-false, ltb-true, lt-ltb, le-ltb, eqb-true, both_ways, eq-eqb}
 use Rattle.std.proofs.lemmas.Option.{cond_some}
-use Rattle.std.proofs.lemmas.List.{get_or_append_left, get_or_at, get_or-take, take-append-le, drop-take, drop-drop, length-take-le}
+use Rattle.std.proofs.lemmas.List.{get_or_append_left, get_or_at, get_or-take, take-append-le, take_at, drop-take, drop-drop, length-take-le}
 use borrow.Rule.Slice.PartMut.{put_mid}
+use lib.Seq.{paste}
 use Rattle.std.proofs.Math.Seq.{take-append-add}
 use Rattle.std.proofs.lemmas.List.Sums.{split_at_first, fails_before_first, passes_at_first, position_or_len_is}
 use Rattle.std.proofs.lemmas.List.Elements.{All-from_get_or, All-head, All-tail, All-get_or}
@@ -110,14 +111,13 @@ behind held front rest into len n e long few =
     ∙ take-append-add held (into ++ rest) n
     ∙ ap (λ z. held ++ z) (take-append-le n into rest few)
 
--- what is held after bytes were read behind it
-pub held_more : (cells into : List ℕ) (start end n k : ℕ) → start ≤ end → end ≤ length cells → n ≤ length into
-    → take (end - start + n) (put_mid (end - start) k (drop start cells ++ take start cells) into) ≡ take (end - start) (drop start cells) ++ take n into
-held_more cells into start end n k order fits few =
+-- what is held after it was moved to the front and bytes were read behind it
+pub held_more : (cells moved into : List ℕ) (start end n k : ℕ) → moved ≡ paste cells 0 (drop start cells) (end - start) → start ≤ end → end ≤ length cells → n ≤ length into
+    → take (end - start + n) (put_mid (end - start) k moved into) ≡ take (end - start) (drop start cells) ++ take n into
+held_more cells moved into start end n k e order fits few =
     let held = take (end - start) (drop start cells) in
-    let room : end - start ≤ length (drop start cells) = omega (arith, length-drop start cells) in
-    let first : take (end - start) (drop start cells ++ take start cells) ≡ held = take-append-le (end - start) (drop start cells) (take start cells) room in
-    let long : length held ≡ end - start = length-take-le (end - start) (drop start cells) room in
+    let long : length held ≡ end - start = length-take-le (end - start) (drop start cells) (omega (arith, length-drop start cells)) in
+    let first : take (end - start) moved ≡ held = ap (take (end - start)) e ∙ take_at held (drop (0 + (end - start)) cells) (end - start) long in
     behind held _ _ into _ n first long few
 
 -- bytes that go from the source into what is held are still to come

@@ -111,7 +111,7 @@ impl Lines {
         ensures number { self.new.number ≡ self.old.number }
         ensures cause { HasCause (I.faults script.old) (I.faults script.new) result }
     {
-        self.cells.rotate_left(self.start);
+        self.cells.copy_within(self.start..self.end, 0);
         self.end -= self.start;
         self.start = 0;
         match script.read(&mut self.cells[self.end..]) {

@@ -3,11 +3,11 @@
 ghost use Rattle.std.specs.Prelude.{◌≡◌, ◌+◌, ◌^◌, ◌<◌, ◌≤◌, ◌++◌, [], ◌∷◌, List, take, length, vec_len, vec_capacity, IfOk};
 ghost use Rattle.pump_core.specs.History.{Arrival as Offered};
 ghost use Rattle.script_reader.specs.Steps.{coming};
-ghost use Rattle.two_worlds.specs.Private.Arrivals.{added_of, IsFed, Gathers};
+ghost use Rattle.two_worlds.specs.Private.Arrivals.{IsFed, Gathers};
 ghost use Rattle.two_worlds.specs.declared.connection.Waiting.{Waiting as Waits};
 
 use low_process::Arrival;
-use pump_frame::{Fed, Frame, Kind, Name, OutOfMemory, Payload, Reader};
+use pump_frame::{Frame, Kind, Name, OutOfMemory, Payload, Reader, Step};
 use script_reader::ArrivingHead;
 use std::alloc::Global;
 use std::marker::Model;
@@ -35,6 +35,8 @@ pub struct Connection {
     /// Bad bytes were taken; what waits behind them is never offered.
     is_broken: bool,
     reader: Reader,
+    // The last frame that raw bytes brought.
+    room: Frame,
 }
 
 impl Model for Connection {
@@ -53,24 +55,6 @@ impl Model for Connection {
     ghost use Rattle.std.specs.Prelude.{◌≤◌, vec_len, vec_capacity};
 
     ghost invariant = { λ c. AreLawful (arrivals_of c.waits.items) × (vec_len c.waits ≤ 64) × (64 ≤ vec_capacity c.waits) };
-}
-
-/// What one more raw byte brings.
-fn feed_raw(reader: &mut Reader, byte: u8) -> Option<Waiting>
-    ensures { IsFed reader.old (byte ∷ []) (coming (added_of result) reader.new) }
-{
-    let was_stopped = reader.is_stopped();
-    match reader.feed(byte) {
-        Fed::More => None,
-        Fed::Whole(frame) => Some(Waiting::Frame(frame)),
-        Fed::Bad { .. } => {
-            if was_stopped {
-                None
-            } else {
-                Some(Waiting::Bad)
-            }
-        }
-    }
 }
 
 /// How many wait.
@@ -96,7 +80,13 @@ fn hold(waits: &mut Vec<Waiting>, next: Waiting)
 }
 
 /// One more raw byte: what it brings waits where there is room, and is counted.
-fn read_byte(reader: &mut Reader, byte: u8, waits: &mut Vec<Waiting>, count: usize) -> usize
+fn read_byte(
+    reader: &mut Reader,
+    byte: u8,
+    room: &mut Frame,
+    waits: &mut Vec<Waiting>,
+    count: usize,
+) -> usize
     requires count { count < 2 ^ 32 }
     requires few { vec_len waits.old ≤ 64 }
     requires room { 64 ≤ vec_capacity waits.old }
@@ -107,17 +97,25 @@ fn read_byte(reader: &mut Reader, byte: u8, waits: &mut Vec<Waiting>, count: usi
     ensures few { vec_len waits.new ≤ 64 }
     ensures room { 64 ≤ vec_capacity waits.new }
 {
-    match feed_raw(reader, byte) {
-        None => count,
-        Some(next) => {
-            hold(waits, next);
+    let was_stopped = reader.is_stopped();
+    match reader.feed_into(byte, room) {
+        Step::More => count,
+        Step::Whole => {
+            hold(waits, Waiting::Frame(*room));
+            count + 1
+        }
+        Step::Bad { .. } => {
+            if was_stopped {
+                return count;
+            }
+            hold(waits, Waiting::Bad);
             count + 1
         }
     }
 }
 
 /// What raw bytes bring waits as far as there is room; answers how many would wait with all of it.
-fn read_raw(reader: &mut Reader, bytes: &[u8], waits: &mut Vec<Waiting>) -> usize
+fn read_raw(reader: &mut Reader, bytes: &[u8], room: &mut Frame, waits: &mut Vec<Waiting>) -> usize
     requires bytes { length bytes.now ≤ 1042 }
     requires few { vec_len waits.old ≤ 64 }
     requires room { 64 ≤ vec_capacity waits.old }
@@ -128,7 +126,7 @@ fn read_raw(reader: &mut Reader, bytes: &[u8], waits: &mut Vec<Waiting>) -> usiz
 {
     let mut count = count_of(waits);
     for byte in bytes {
-        count = read_byte(reader, *byte, waits, count);
+        count = read_byte(reader, *byte, room, waits, count);
     }
     count
 }
@@ -150,6 +148,7 @@ impl Connection {
             waits: Vec::with_capacity(alloc, 64)?,
             is_broken: false,
             reader: Reader::new(),
+            room: Frame::room(),
         })
     }
 
@@ -175,7 +174,7 @@ impl Connection {
         let _stopped = self.reader.is_stopped();
         let before = count_of(&self.waits);
         let mut reader = self.reader.duplicate();
-        if read_raw(&mut reader, bytes, &mut self.waits) > 64 {
+        if read_raw(&mut reader, bytes, &mut self.room, &mut self.waits) > 64 {
             self.waits.truncate(before);
             return false;
         }

@@ -1,5 +1,5 @@
 -- What raw bytes bring, as the private functions of a connection gather it.
-use Rattle.std.specs.Prelude.{◌≡◌, ℕ, List, [], ◌∷◌, ◌++◌, map, length, take, Option, Some, None}
+use Rattle.std.specs.Prelude.{◌≡◌, ℕ, List, [], ◌∷◌, ◌++◌, map, length, take}
 use Rattle.pump_frame.specs.declared.frame.Frame.{Frame}
 use Rattle.pump_frame.specs.Readings.{Reading, Within, Stopped}
 use Rattle.pump_frame.specs.Streams.{Reads}
@@ -16,11 +16,6 @@ arrival_of WaitingBad = Bad
 
 abbrev pub arrivals_of : List Waiting → List Arrival
 arrivals_of waits = map arrival_of waits
-
--- an arrival, if there is one
-abbrev pub added_of : Option Waiting → List Arrival
-added_of None = []
-added_of (Some w) = arrival_of w ∷ []
 
 -- bad bytes add one Bad where they are met first
 abbrev pub newly_bad : Reading → Reading → List Arrival

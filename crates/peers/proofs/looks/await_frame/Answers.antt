@@ -13,7 +13,7 @@ returns-in-Whole-clause-wait g c =
       _,
       more _ _ _ _ _ _ was _ c.in-Byte.ensures.gives,
       longer _ _ _ (λ log. Unit {0}) _ _ was (Byte c.in-Byte.byte) (c.loop-left.left - 1) (omega (arith, c.loop-left-test.true)),
-      heard _ _ _ (λ log. Unit {0}) _ _ was c.in-Byte.byte c.in-Whole.frame _ c.in-Whole.ensures.answer,
+      heard _ _ _ (λ log. Unit {0}) _ _ was c.in-Byte.byte c.feed_into.new.into _ c.in-Whole.ensures.answer,
     )
 
 pub returns-in-Bad-clause-wait : goal.returns-in-Bad-clause-wait

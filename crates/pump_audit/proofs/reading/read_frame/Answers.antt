@@ -5,12 +5,12 @@ use Rattle.pump_audit.proofs.EntryLaws.{ends_before, ends_with, no_frame_begins,
 use Rattle.pump_audit.proofs.reading.read_frame.Goals as goal
 
 pub returns-then-i-bytes-clause-only : goal.returns-then-i-bytes-clause-only
-returns-then-i-bytes-clause-only c = ends_before c.args.bytes.now c.loop-i.i (omega arith) _ _ c.loop-i.invariant.held c.in-Whole.frame c.in-Whole.ensures.answer c.if-i-bytes.true
+returns-then-i-bytes-clause-only c = ends_before c.args.bytes.now c.loop-i.i (omega arith) _ _ c.loop-i.invariant.held c.feed_into.new.into c.in-Whole.ensures.answer c.if-i-bytes.true
 
 pub returns-in-Whole-clause-only : goal.returns-in-Whole-clause-only
 returns-in-Whole-clause-only c f lawful e =
-    let w = ends_with c.args.bytes.now c.loop-i.i (omega arith) _ _ c.loop-i.invariant.held c.in-Whole.frame c.in-Whole.ensures.answer c.if-i-bytes.false in
-    one_whole c.args.bytes.now c.in-Whole.frame f w.0 w.1 lawful e
+    let w = ends_with c.args.bytes.now c.loop-i.i (omega arith) _ _ c.loop-i.invariant.held c.feed_into.new.into c.in-Whole.ensures.answer c.if-i-bytes.false in
+    one_whole c.args.bytes.now c.feed_into.new.into f w.0 w.1 lawful e
 
 pub returns-in-Bad-clause-only : goal.returns-in-Bad-clause-only
 returns-in-Bad-clause-only c = no_frame_begins c.args.bytes.now c.loop-i.i (omega arith) _ _ c.loop-i.invariant.held c.in-Bad.at c.in-Bad.ensures.answer

@@ -19,12 +19,12 @@ loop-count-preserved g c =
 
 pub returns-in-Whole : goal.returns-in-Whole
 returns-in-Whole g c = record {
-  heard = hears_frame _ _ _ _ _ _ c.loop-count.invariant.reads c.in-Byte.byte c.in-Whole.frame _ c.loop-count-test.true c.in-Whole.ensures.answer c.in-Byte.ensures.gives;
-  lawful = lawful_frame _ _ _ _ (λ log. Unit {0}) _ c.loop-count.invariant.reads c.in-Byte.byte c.in-Whole.frame _ c.in-Whole.ensures.answer;
+  heard = hears_frame _ _ _ _ _ _ c.loop-count.invariant.reads c.in-Byte.byte c.feed_into.new.into _ c.loop-count-test.true c.in-Whole.ensures.answer c.in-Byte.ensures.gives;
+  lawful = lawful_frame _ _ _ _ (λ log. Unit {0}) _ c.loop-count.invariant.reads c.in-Byte.byte c.feed_into.new.into _ c.in-Whole.ensures.answer;
   begun = c.in-Whole.ensures.begun;
   sent = Grows-then _ _ _ [] [] c.loop-count.invariant.sent c.look.ensures.sent;
   later = le_trans c.loop-count.invariant.later c.look.ensures.later;
-  failed = λ is. absurd (frame_no_failure c.in-Whole.frame is);
+  failed = λ is. absurd (frame_no_failure is);
 }
 
 pub returns-in-Bad : goal.returns-in-Bad

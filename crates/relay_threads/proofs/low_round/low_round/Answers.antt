@@ -14,6 +14,7 @@ use Rattle.pump_core.specs.Passage.{Shape}
 use Rattle.pump_core.specs.ReplyFrames.{frame_of}
 use Rattle.pump_link.specs.Tells.{Grows}
 use Rattle.relay_threads.specs.declared.record.LookMade.{LookMade}
+use Rattle.relay_threads.specs.Heards.{heard_with}
 use Rattle.relay_threads.specs.Reaching.{Reaches}
 use Rattle.relay_threads.specs.Records.{Made}
 use Rattle.relay_threads.specs.RecordLines.{made_by}
@@ -30,11 +31,12 @@ returns-then-is_failed g c = record {
   turn =
       let p = c.args.process.now in
       let h = c.hear_if-heard.ensures.heard in
-      let heard = c.hear_if-heard.result in
+      let room = c.hear_if-heard.new.connection.room in
+      let heard = heard_with room c.hear_if-heard.result in
       let m = c.moment-moment.result in
       let w = c.word-word.result in
       let wanted = h.1 ∙ c.wants.ensures in
-      let failed = sym c.if-is_failed.ensures in (
+      let failed = sym (c.if-is_failed.ensures room) in (
         round_failed p _ h.0 heard m w h.3 wanted h.2 0,
         failed_turn p _ h.0 heard m w h.3 wanted h.2 0 failed,
         h.4,
@@ -66,7 +68,8 @@ returns g c = record {
       let p = c.args.process.now in
       let q = c.look_waiting_into.new.self in
       let h = c.hear_if-heard.ensures.heard in
-      let heard = c.hear_if-heard.result in
+      let room = c.hear_if-heard.new.connection.room in
+      let heard = heard_with room c.hear_if-heard.result in
       let m = c.moment-moment.result in
       let w = c.word-word.result in
       let head = c.look_waiting_into.new.head in
@@ -85,7 +88,7 @@ returns g c = record {
       let shown : LookMade = record { moment = m; word = w; arrival = c.arrival_in-arrival.result; look = head } in
       let row_is = c.row-2.ensures ∙ c.look_waiting_into.ensures.row in
       let reads = subst (λ (z : SessionRow). IsLawfulRow z → m ≤ 2 ^ 62 → IsInBounds head.feedback → (before : List Made) → ReadsBack z before (made_by z shown)) row_is c.record_look-is_kept.ensures.reads in
-      let fine = sym c.if-is_failed.ensures in
+      let fine = sym (c.if-is_failed.ensures room) in
       let down = c.is_down.ensures ∙ down_is (is_down q) (is_down p) looks.0 c.requires.up looks.1.falls in (
         round p _ h.0 heard m w h.3 wanted h.2 q looks.0 l a sent kept n,
         made_turn p _ h.0 heard m w h.3 wanted h.2 q looks.0 l a sent kept n c.look_waiting_into.ensures.row (le_trans c.requires.order c.moment-moment.ensures.from) fine c.arrival_in-arrival.ensures.is looks.1.looks
@@ -101,7 +104,7 @@ returns g c = record {
         (λ before e.
             subst (λ (z : SessionRow). Reaches (Appends (O.written c.args.tape.now) (O.written c.record_look-is_kept.new.tape)) (O.faults c.args.tape.now) (O.faults c.record_look-is_kept.new.tape) kept (text_after z before (made_by z shown)))
             row_is (c.record_look-is_kept.ensures.text before e)),
-        c.why_left.ensures ∙ made_cause h.0 heard kept c.is_down.result looks.0 sent n h.3 down,
+        c.why_left.ensures room ∙ made_cause h.0 heard kept c.is_down.result looks.0 sent n h.3 down,
         c.is_full.ensures,
         c.is_ack.ensures (row_of p).id,
         (λ end.
@@ -122,7 +125,7 @@ returns g c = record {
   place = c.look_waiting_into.ensures.place;
   link =
       λ e.
-      rose_later _ _ _ c.hear_if-heard.ensures.later (c.answer-is_sent.ensures.sent.cause (link_by c.record_look-is_kept.result c.is_down.result c.answer-is_sent.result c.faults.result c.hear_if-heard.result (sym c.if-is_failed.ensures) (sym c.why_left.ensures ∙ e)));
+      rose_later _ _ _ c.hear_if-heard.ensures.later (c.answer-is_sent.ensures.sent.cause (link_by c.record_look-is_kept.result c.is_down.result c.answer-is_sent.result c.faults.result (heard_with c.hear_if-heard.new.connection.room c.hear_if-heard.result) (sym (c.if-is_failed.ensures c.hear_if-heard.new.connection.room)) (sym (c.why_left.ensures c.hear_if-heard.new.connection.room) ∙ e)));
   counts =
       let looks = c.look_waiting_into.ensures.looks in
       counts_by g.D.Disk.told (message_in c.args.process.now (arrival_of c.arrival_in-arrival.result)) c.args.store.now c.look_waiting_into.new.store looks.0 looks.1.keeps;
@@ -131,6 +134,6 @@ returns g c = record {
       let p = c.args.process.now in
       let q = c.look_waiting_into.new.self in
       let down = c.is_down.ensures ∙ down_is (is_down q) (is_down p) looks.0 c.requires.up looks.1.falls in
-      fault_by c.record_look-is_kept.result c.is_down.result c.answer-is_sent.result c.faults.result _ _ c.hear_if-heard.result c.why_left.result c.why_left.ensures c.faults.ensures
+      fault_by c.record_look-is_kept.result c.is_down.result c.answer-is_sent.result c.faults.result _ _ (heard_with c.hear_if-heard.new.connection.room c.hear_if-heard.result) c.why_left.result (c.why_left.ensures c.hear_if-heard.new.connection.room) c.faults.ensures
       (λ e. rose_by g.D.Disk.told (message_in c.args.process.now (arrival_of c.arrival_in-arrival.result)) c.args.store.now c.look_waiting_into.new.store looks.0 (sym down ∙ e) looks.1.keeps);
 }

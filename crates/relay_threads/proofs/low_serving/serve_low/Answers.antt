@@ -17,11 +17,11 @@ use Rattle.relay_threads.proofs.low_serving.serve_low.Goals as goal
 pub loop-rounds-init : goal.loop-rounds-init
 loop-rounds-init g c = record {
   rounds = [];
-  so_far = so_far_none c.args.process.now _ c.new-reader.ensures.value;
+  so_far = so_far_none c.args.process.now _ c.new-connection.ensures.value;
   told = told_none _ _ _ _ _ _ _;
   levels = λ end. tt;
   pairs = reads_none g.L.LowSide.stands c.args.ends.now c.args.process.now;
-  begun = c.new-reader.ensures.begun;
+  begun = c.new-connection.ensures.begun;
   ready = c.requires.ready;
   up = c.requires.up;
   order = c.requires.order;
@@ -61,7 +61,7 @@ loop-rounds-preserved g c =
     (row_of c.args.process.now) (row_of c.loop-rounds.process) c.loop-rounds.was_full was.tape f.serves.row f.full told.lines t.7 in
     record {
       rounds = r ∷ rs;
-      so_far = so_far_more c.args.process.now c.loop-rounds.process c.low_round-turn.new.process c.loop-rounds.reader c.low_round-turn.new.reader c.loop-rounds.was_full c.low_round-turn.result.is_full c.low_round-turn.result.is_acked
+      so_far = so_far_more c.args.process.now c.loop-rounds.process c.low_round-turn.new.process c.loop-rounds.connection.reader c.low_round-turn.new.connection.reader c.loop-rounds.was_full c.low_round-turn.result.is_full c.low_round-turn.result.is_acked
           c.loop-rounds.acks c.counted-acks.result c.loop-rounds.rounds _ r rs f t.1 t.2 calm t.9 t.10 c.counted-acks.ensures refl;
       told = record {
         looks = Draws-then (C.gives c.args.link.now) (C.gives c.loop-rounds.link) (C.gives c.low_round-turn.new.link) _ _ told.looks t.3;

@@ -13,12 +13,12 @@ use Rattle.relay_threads.proofs.low_serving.serve_low.Given as goal
 abbrev pub invariant-loop-rounds : goal.invariant-loop-rounds
 invariant-loop-rounds g l = record {
   rounds : List Round;
-  so_far : SoFar l.fn.process l.process l.reader l.was_full l.acks l.rounds rounds;
+  so_far : SoFar l.fn.process l.process l.connection.reader l.was_full l.acks l.rounds rounds;
   told : Told (g.C.Link.gives l.fn.link) (g.C.Link.gives l.link) (g.C.Link.sent l.fn.link) (g.C.Link.sent l.link) (g.K.Clock.reads l.fn.clock) (g.K.Clock.reads l.clock) (g.W.Words.gives l.fn.words) (g.W.Words.gives l.words)
       (g.G.Gate.asked l.fn.gate) (g.G.Gate.asked l.gate) (g.O.Sink.written l.fn.tape) (g.O.Sink.written l.tape) (row_of l.fn.process) rounds;
   levels : IsEndOf g.L.LowSide.stands g.L.LowSide.shape l.fn.ends (row_of l.fn.process) → TellLevels (row_of l.fn.process) (made_in rounds);
   pairs : ReadsPairs g.L.LowSide.stands l.fn.ends l.ends l.fn.process l.process (made_in rounds);
-  begun : HasBegun l.reader;
+  begun : HasBegun l.connection.reader;
   ready : Ready g.D.Disk.told l.process l.store (g.L.LowSide.stands l.ends);
   up : is_down l.process ≡ false;
   order : last_of l.process ≤ g.K.Clock.floor l.clock;

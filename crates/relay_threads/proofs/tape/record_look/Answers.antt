@@ -41,6 +41,6 @@ returns-clause-text g c = λ before e.
     let shown : c.is_recorded.result ≡ true = search rules in
     let is : is_recorded before m ≡ true = sym (c.is_recorded.ensures row before e) ∙ shown in
     let text : c.as_slice.result.now ≡ text_after row before m =
-    c.as_slice.ensures.value ∙ c.append_look.ensures.text ∙ ap (λ (z : List ℕ). z ++ look_text row m) c.new-lines.ensures ∙ ap (λ (b : Bool). if b then look_text row m else []) (sym is) in
+    c.as_slice.ensures.value ∙ c.append_look.ensures.text ∙ ap (λ (z : List ℕ). z ++ look_text row m) c.clear.ensures ∙ ap (λ (b : Bool). if b then look_text row m else []) (sym is) in
     let written = reaches_written c.write_all.result (O.written c.args.tape.now) (O.written c.write_all.new.out) (O.faults c.args.tape.now) (O.faults c.write_all.new.out) c.as_slice.result.now c.write_all.ensures.ok c.write_all.ensures.err c.write_all.ensures.cause in
     subst (λ (t : Bool × List ℕ). Reaches (Appends (O.written c.args.tape.now) (O.written c.write_all.new.out)) (O.faults c.args.tape.now) (O.faults c.write_all.new.out) t.0 t.1) (λ i. (sym c.is_ok.ensures.value i, text i)) written

@@ -12,7 +12,7 @@ returns-in_err-flush-clause-err g c =
     let front = c.split_at.result.0.now in
     let rest = c.split_at.result.1.now in
     let is = parted c.min-fitting.result front rest piece c.split_at.ensures.front c.split_at.ensures.back in
-    let filled = rw c.unwrap.ensures at c.try_extend_from_slice.ensures.ok in
+    let filled = c.push.ensures in
     let wrote = subst (λ (bs : List ℕ). AppendsFront (g.O.Sink.written c.args.out.now) (g.O.Sink.written c.flush.new.out) bs) filled c.in_err-flush.ensures.err in
     on_err c.from_residual.result (front_of_more _ _ (held_in c.args.self.now) front rest piece is wrote)
 
@@ -22,9 +22,9 @@ returns-in_ok-flush-clause-ok g c before bytes was =
     let front = c.split_at.result.0.now in
     let rest = c.split_at.result.1.now in
     let is = parted c.min-fitting.result front rest piece c.split_at.ensures.front c.split_at.ensures.back in
-    let filled = rw c.unwrap.ensures at c.try_extend_from_slice.ensures.ok in
+    let filled = c.push.ensures in
     let wrote = subst (λ (bs : List ℕ). Appends (g.O.Sink.written c.args.out.now) (g.O.Sink.written c.flush.new.out) bs) filled c.in_ok-flush.ensures.ok in
-    let more = rw c.unwrap-then-not-is_empty.ensures at c.try_extend_from_slice-then-not-is_empty.ensures.ok in
+    let more = c.push-then-not-is_empty.ensures in
     let held = more ∙ ap (λ (bs : List ℕ). bs ++ rest) c.in_ok-flush.ensures.empty in
     subst (λ (bs : List ℕ). Held before (g.O.Sink.written c.flush.new.out) bs (bytes ++ piece)) (sym held)
     (held_on before _ _ (held_in c.args.self.now) front rest piece bytes is was wrote)

@@ -1,6 +1,8 @@
 use Rattle.std.specs.Prelude.{◌||◌}
 use Rattle.std.proofs.Common.{Some, [], refl, ap, ◌∙◌, le_refl, le_trans}
 use Rattle.pump_link.proofs.Grown.{Draws-kept, Grows-after}
+use Rattle.relay_threads.specs.Heards.{heard_with}
+use Rattle.relay_threads.proofs.Hearing.{head_failed}
 use Rattle.relay_threads.proofs.HighTurning.{plan_is, frame_is, attached_is, round_without, round_with, ended_turn, passed_turn, ended_cause, passed_cause, looked_turn, looked_cause, ended_failed, ended_calm, calm_counts, none_no_link}
 use Rattle.relay_threads.proofs.Reaching.{rose_later}
 use Rattle.relay_threads.proofs.high_round.HighConnection.round.Goals as goal
@@ -11,7 +13,7 @@ returns-in-End g c = record {
       let was = c.args.self.now.is_attached in
       let h = c.hear-heard.ensures.heard in
       let m = c.moment-moment.result in
-      let is = plan_is was h.0 c.hear-heard.result c.planned-plan.result _ h.2 c.planned-plan.ensures c.in-End.is in (
+      let is = plan_is was h.0 (heard_with c.hear-heard.new.room c.hear-heard.result) c.planned-plan.result _ h.2 c.planned-plan.ensures c.in-End.is in (
         round_without m h.0,
         ended_turn c.args.process.now _ _ was m h.0 h.1 h.3 _ is,
         h.4,
@@ -19,7 +21,7 @@ returns-in-End g c = record {
         c.moment-moment.ensures.reads,
         ended_cause c.args.process.now _ _ was m h.0 h.1 h.3 _ is,
         refl,
-        attached_is was _ h.0 c.hear-heard.result h.2 (ap (λ b. was || b) c.is_frame.ensures),
+        attached_is was _ h.0 (heard_with c.hear-heard.new.room c.hear-heard.result) h.2 (ap (λ b. was || b) (c.is_frame.ensures c.hear-heard.new.room)),
       );
   begun = c.hear-heard.ensures.begun;
   message = c.requires.open.message;
@@ -29,9 +31,9 @@ returns-in-End g c = record {
   shape = refl;
   place = refl;
   later = c.hear-heard.ensures.later;
-  failed = λ is. c.hear-heard.ensures.failed (ended_failed c.args.self.now.is_attached c.hear-heard.result c.planned-plan.result c.in-End.why c.planned-plan.ensures c.in-End.is is);
+  failed = λ is. c.hear-heard.ensures.failed (head_failed c.hear-heard.new.room c.hear-heard.result (ended_failed c.args.self.now.is_attached (heard_with c.hear-heard.new.room c.hear-heard.result) c.planned-plan.result c.in-End.why c.planned-plan.ensures c.in-End.is is));
   counts = le_refl _;
-  device = calm_counts (Some c.in-End.why) _ _ (ended_calm c.args.self.now.is_attached c.hear-heard.result c.planned-plan.result c.in-End.why c.planned-plan.ensures c.in-End.is);
+  device = calm_counts (Some c.in-End.why) _ _ (ended_calm c.args.self.now.is_attached (heard_with c.hear-heard.new.room c.hear-heard.result) c.planned-plan.result c.in-End.why c.planned-plan.ensures c.in-End.is);
 }
 
 pub returns-in-Pass : goal.returns-in-Pass
@@ -40,7 +42,7 @@ returns-in-Pass g c = record {
       let was = c.args.self.now.is_attached in
       let h = c.hear-heard.ensures.heard in
       let m = c.moment-moment.result in
-      let is = plan_is was h.0 c.hear-heard.result c.planned-plan.result _ h.2 c.planned-plan.ensures c.in-Pass.is in (
+      let is = plan_is was h.0 (heard_with c.hear-heard.new.room c.hear-heard.result) c.planned-plan.result _ h.2 c.planned-plan.ensures c.in-Pass.is in (
         round_without m h.0,
         passed_turn c.args.process.now _ _ was m h.0 h.1 h.3 is,
         h.4,
@@ -48,7 +50,7 @@ returns-in-Pass g c = record {
         c.moment-moment.ensures.reads,
         passed_cause c.args.process.now _ _ was m h.0 h.1 h.3 is,
         refl,
-        attached_is was _ h.0 c.hear-heard.result h.2 (ap (λ b. was || b) c.is_frame.ensures),
+        attached_is was _ h.0 (heard_with c.hear-heard.new.room c.hear-heard.result) h.2 (ap (λ b. was || b) (c.is_frame.ensures c.hear-heard.new.room)),
       );
   begun = c.hear-heard.ensures.begun;
   message = c.requires.open.message;
@@ -70,15 +72,15 @@ returns-in-Look g c = record {
       let h = c.hear-heard.ensures.heard in
       let m = c.moment-moment.result in
       let l = c.look.ensures.look in
-      let is = plan_is was h.0 c.hear-heard.result c.planned-plan.result _ h.2 c.planned-plan.ensures c.in-Look.is in (
+      let is = plan_is was h.0 (heard_with c.hear-heard.new.room c.hear-heard.result) c.planned-plan.result _ h.2 c.planned-plan.ensures c.in-Look.is in (
         round_with m h.0 l.0 l.1,
-        looked_turn c.args.process.now _ _ was m h.0 h.1 h.3 _ l.0 l.1 _ is (frame_is h.0 c.hear-heard.result _ h.2 c.frame_in.ensures) l.2,
+        looked_turn c.args.process.now _ _ was m h.0 h.1 h.3 _ l.0 l.1 _ is (frame_is h.0 (heard_with c.hear-heard.new.room c.hear-heard.result) _ h.2 c.frame_in.ensures) l.2,
         Draws-kept _ _ _ _ h.4 c.look.ensures.gives,
         (l.3.0, l.3.1, l.3.2, l.3.3, Grows-after _ _ _ _ c.hear-heard.ensures.sent l.3.4),
         c.moment-moment.ensures.reads,
         l.4 ∙ looked_cause c.args.process.now _ _ was m h.0 h.1 h.3 l.0 l.1 is,
         l.5,
-        attached_is was _ h.0 c.hear-heard.result h.2 (ap (λ b. was || b) c.is_frame.ensures),
+        attached_is was _ h.0 (heard_with c.hear-heard.new.room c.hear-heard.result) h.2 (ap (λ b. was || b) (c.is_frame.ensures c.hear-heard.new.room)),
       );
   begun = c.hear-heard.ensures.begun;
   message = c.look.ensures.message;

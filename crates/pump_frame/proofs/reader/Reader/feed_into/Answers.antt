@@ -3,7 +3,7 @@ use Rattle.std.proofs.lemmas.Bool.{false≢true}
 use Rattle.pump_frame.specs.Places.{step}
 use Rattle.pump_frame.specs.declared.place.Place.TheVariants.{End}
 use Rattle.pump_frame.proofs.Feeding.{live_now, short_now, whole_now, bad_now, stands_now, more_now, begun_now, nothing_held}
-use Rattle.pump_frame.proofs.reader.Reader.feed.Goals as goal
+use Rattle.pump_frame.proofs.reader.Reader.feed_into.Goals as goal
 
 pub after-requires : goal.after-requires
 after-requires c = live_now c.self.inside.bad c.self.inside.held.items c.self.inside.place c.in_default.is c.self.invariant
@@ -11,8 +11,8 @@ after-requires c = live_now c.self.inside.bad c.self.inside.held.items c.self.in
 pub push-requires : goal.push-requires
 push-requires c = (omega arith, short_now c.self.inside.bad c.self.inside.held.items c.self.inside.place c.in_default.is c.self.invariant)
 
-pub decode-frame-requires : goal.decode-frame-requires
-decode-frame-requires c =
+pub decode-requires : goal.decode-requires
+decode-requires c =
     let place : c.in-Some-after.place ≡ End = c.is_end.ensures.0 c.if-not-is_end.false in
     let ended : step c.self.inside.place c.args.byte ≡ Some End = rw (← place) (sym c.after.ensures ∙ c.in-Some-after.is) in
     whole_now c.self.inside.bad c.self.inside.held.items c.self.inside.place c.in_default.is c.self.invariant c.args.byte c.as_slice.result.now (omega arith) ended (c.as_slice.ensures.value ∙ c.push.ensures.items)

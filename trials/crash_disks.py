@@ -121,7 +121,10 @@ class Trace:
         if call == "write":
             return text and self.add(number, "said", name, 0, text)
         place = PLACE.search(rest)
-        # A line without a place was cut by the kill, before the call could begin.
+        ended = RESULT.search(rest)
+        if not place and ended and ended.group(1) != "?":
+            sys.exit(f"line {number} of the trace has a write without a place")
+        # A write that has neither a place nor a result is one that a kill cut off.
         return text and place and self.add(number, "write", name, int(place.group(1)), text)
 
     def opened(self, number, path, is_made):

@@ -48,7 +48,8 @@ impl Display for LowReason {
         f.write_str(match self.0 {
             LowWhy::Bad =>
                 "it sent bytes that are no frame; see that Low's sender keeps to the protocol",
-            _ => "its connection failed, or it did not take a reply in time",
+            _ =>
+                "its connection failed, or it did not take a reply in time; see that Low's sender runs and reads its replies",
         })
     }
 }
@@ -74,7 +75,9 @@ impl Display for HighReason {
                 f,
                 "it has {count} messages, and {removed} are removed from the relay; put back the newest file of the receiver"
             ),
-            _ => f.write_str("its connection failed, or it did not take a message in time"),
+            _ => f.write_str(
+                "its connection failed, or it did not take a message in time; see that the receiver runs and reads its messages",
+            ),
         }
     }
 }

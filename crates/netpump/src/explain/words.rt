@@ -1,7 +1,8 @@
 //! Words that are no command: which of them is wrong.
 
 use super::word;
-use command_line::{TableName, USAGE};
+use command_line::{USAGE, WordsFault, command_of};
+use std::alloc::{AllocError, Global};
 use std::io;
 
 /// The version of this program.
@@ -18,41 +19,39 @@ fn values_of(name: &str) -> Option<&'static str> {
         .map(|(_, values)| values)
 }
 
-/// A number in this range, as it is written in words.
-fn is_number(text: &str, least: u32, greatest: u32) -> bool {
-    let is_plain = text.bytes().all(|byte| byte.is_ascii_digit());
-    let is_short = text == "0" || !text.starts_with('0');
-    match text.parse::<u32>() {
-        Ok(number) => is_plain && is_short && least <= number && number <= greatest,
-        Err(_) => false,
+/// These words, with 1 in place of each value but the one in this place. 1 may stand for every value.
+fn with_samples(alloc: Global, words: &[String], place: usize) -> Result<Vec<String>, AllocError> {
+    let mut samples = Vec::with_capacity(alloc, words.len())?;
+    for (at, word) in words.iter().enumerate() {
+        let text = if at == 0 || at == place {
+            word.as_str()
+        } else {
+            "1"
+        };
+        samples.push(String::from_str(alloc, text)?)?;
     }
+    Ok(samples)
 }
 
-fn are_times(text: &str) -> bool {
-    text.split(',').count() <= 16
-        && text
-            .split(',')
-            .all(|time| is_number(time, 0, 1_000_000_000))
-}
-
-/// May this word stand in the place of this value?
-fn fits(value: &str, text: &str) -> bool {
-    match value {
-        "TABLE" | "NEWTABLE" => TableName::from_text(text).is_some(),
-        "COUNT" => is_number(text, 1, 100_000),
-        "LOOKS" => is_number(text, 1, u32::MAX),
-        "TIMES" => are_times(text),
-        _ => is_number(text, 0, u32::MAX),
-    }
+/// Is it known that no command has this word in this place? Without memory nothing is known.
+fn is_wrong(alloc: Global, words: &[String], place: usize) -> bool {
+    let Ok(samples) = with_samples(alloc, words, place) else {
+        return false;
+    };
+    matches!(command_of(alloc, &samples), Err(WordsFault::NoCommand))
 }
 
 /// The first value whose place has a wrong word, and that word.
-fn first_wrong<'a>(values: &'a str, words: &'a [String]) -> Option<(&'a str, &'a str)> {
-    values
+fn first_wrong<'a>(
+    alloc: Global,
+    values: &'a str,
+    words: &'a [String],
+) -> Option<(&'a str, &'a str)> {
+    let (value, place) = values
         .split(' ')
-        .zip(words.iter().skip(1))
-        .map(|(value, word)| (value, word.as_str()))
-        .find(|(value, word)| !fits(value, word))
+        .zip(1..words.len())
+        .find(|(_, place)| is_wrong(alloc, words, *place))?;
+    Some((value, word(words, place)?))
 }
 
 fn explain_values(rt: &HostRuntime, name: &str, values: &str, words: &[String]) -> io::Result<()> {
@@ -67,7 +66,7 @@ fn explain_values(rt: &HostRuntime, name: &str, values: &str, words: &[String]) 
             "netpump {VERSION}: the command {name} takes {wanted} words and is given {count}; {USAGE}"
         );
     }
-    match first_wrong(values, words) {
+    match first_wrong(rt.alloc(), values, words) {
         Some((value, word)) => eprintln!(rt;
             "netpump {VERSION}: the word '{word}' can't stand for {value} of {name}; {USAGE}"
         ),

@@ -47,7 +47,7 @@ fn leave<S: Shelf>(chain: Chain<S::Disk>, one: u32, two: u32, shelf: &mut S)
 ///
 /// - `Done`: the script was read to its end, and its transcript was written.
 /// - `Memory`: there was not enough memory; nothing was written, and a disk that was empty may be a new one.
-/// - `Write`: the output could not be written; a front of what is to be written was.
+/// - `Write`: the output could not be written; a prefix of what is to be written was.
 /// - `Stopped`: what the lines before printed was written, what this line printed, and the fault: the
 ///   script could not be read; a line is outside the grammar or can't be applied, the end of the script
 ///   among them where two pumps have not begun; the two make no chain; a call of a disk failed; or a

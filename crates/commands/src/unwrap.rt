@@ -33,7 +33,7 @@ pub enum UnwrapEnd {
     Unfinished,
     /// No file has the message with this number there; what those before it have was written.
     NotWrapped { number: u64 },
-    /// The command came to this end. Nothing was written, or a front of what the messages have.
+    /// The command came to this end. Nothing was written, or a prefix of what the messages have.
     Stopped { end: CommandEnd },
 }
 

@@ -92,7 +92,7 @@ fn count_when_back(given: u64, now: u64, count: u64) -> u64
     }
 }
 
-// Puts as many bytes as fit to the front.
+// Puts as many bytes as fit at the start.
 fn put_front(into: &mut [u8], bytes: &[u8])
     ensures { into.new ≡ take (length into.old) bytes.now ++ drop (length bytes.now) into.old }
 {

@@ -22,7 +22,7 @@ pub trait Shelf {
     /// What the shelf tells of itself.
     ghost told: { Holdings Self };
 
-    /// The length of a file in bytes. As much of the file as fits goes to the front of `into`; what
+    /// The length of a file in bytes. As much of the file as fits goes to the start of `into`; what
     /// is beyond it there stays. It answers `Failed` only where `faults` rose.
     fn whole(&mut self, name: &str, into: &mut [u8]) -> Result<u64, ShelfFault>
         ensures reads { IfOk result (λ n. told.tells

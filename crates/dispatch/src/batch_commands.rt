@@ -73,7 +73,7 @@ fn run_exercise<O: Sink>(alloc: Global, seed: u32, count: u32, out: &mut O) -> u
 /// - 2: the words are no command, which is what the output says. The script was not read.
 /// - 3: the script could not be read; the transcript of all whole lines that were read was written. Or
 ///   the file of a table could not be read.
-/// - 4: the output could not be written; a front of what is to be written was.
+/// - 4: the output could not be written; a prefix of what is to be written was.
 /// - 5: a line is outside the grammar or can't be applied; the transcript of the lines before was
 ///   written.
 /// - 6: the file of a table gives no row for its session, or a session is to be moved to itself.

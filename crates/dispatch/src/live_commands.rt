@@ -66,7 +66,7 @@ fn run_race<R: Threads + Wait + Sync, P, K: Clock + Send, O: Sink + Send>(
 /// - 2: the words are no such command, which is what the output says.
 /// - 3: the file of the table could not be read; or the script of `send` could not, or the key of `serve`,
 ///   or its source ended before 32 bytes.
-/// - 4: the output could not be written; a front of what is to be written was.
+/// - 4: the output could not be written; a prefix of what is to be written was.
 /// - 5: a line of the script of `send` is no payload.
 /// - 6: the file of the table gives no row for the session.
 /// - 7: a disk of the session could not be taken off the shelf, or a call of it failed.

@@ -44,7 +44,7 @@ impl<D: Disk> Chain<D> {
     /// A line of the script: what it prints, and whether it stops the chain. Until a call of a disk has
     /// failed. It takes no memory. `Stop::Device` of the receiver's disk at a `step` is of the first session,
     /// and the look is not made; every other stop is of the line's session. What crashes leave of the six
-    /// disks at any moment of it tells four lists, each a front of the next.
+    /// disks at any moment of it tells four lists, each a prefix of the next.
     pub fn apply(&mut self, line: &Line) -> Applied
         requires lawful { IsLawfulLine line.now }
         requires up { chain_is_down self.old ≡ false }

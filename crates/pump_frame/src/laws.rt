@@ -29,7 +29,7 @@ pub fn streams_are_one()
         (frames ≡ others) × (end ≡ other) }
 {}
 
-/// All bytes are a stream: of some frames, with the front of one more or a bad place behind them.
+/// All bytes are a stream: of some frames, with a prefix of one more or a bad place behind them.
 pub fn all_bytes_are_a_stream()
     ensures { (bytes : List ℕ) → AllByRecursion (λ b. b < 256) bytes →
         (frames : List Frame) × (end : Reading) × IsStream bytes frames end }

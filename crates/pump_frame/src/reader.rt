@@ -16,7 +16,7 @@ use std::marker::Model;
 /// What one more byte made of a reader.
 #[derive(Clone, Copy)]
 pub enum Fed {
-    /// The bytes since the last whole frame are the front of a lawful frame.
+    /// The bytes since the last whole frame are a prefix of a lawful frame.
     More,
     /// They are a lawful frame, and the next byte begins a new one.
     Whole(Frame),

@@ -42,7 +42,7 @@ pub trait Link {
         ensures failed { result ≡ Looked.Failed → Rose (faults self.old) (faults self.new) };
 
     /// Sends all of the bytes. After an `Err`, which comes only where its count of faults rose, a
-    /// front of them was sent.
+    /// prefix of them was sent.
     fn send(&mut self, bytes: &[u8]) -> Result<(), SendFault>
         ensures gives { Draws (gives self.old) (gives self.new) [] }
         ensures sent { Sends (sent self.old) (sent self.new) result bytes.now }

@@ -59,7 +59,7 @@ pub trait Sink {
 }
 
 /// Writes all of the bytes, in order. After an `Err`, which comes only where the sink's count
-/// rose, a front of them was written.
+/// rose, a prefix of them was written.
 pub fn write_all<O: Sink>(out: &mut O, bytes: &[u8]) -> Result<(), WriteFault>
     ensures ok { OnOk result (Appends (O.written out.old) (O.written out.new) bytes.now) }
     ensures err { OnErr result (AppendsFront (O.written out.old) (O.written out.new) bytes.now) }

@@ -97,7 +97,7 @@ fn gather_held<D: Disk, O: Sink>(
 
 /// Writes the bytes of the pieces among a receiver's messages, each of at most `message` bytes, 9 to
 /// 1024. After `Device` and `NotWrapped` the bytes of the pieces before were written, and after `Write` a
-/// front of the pieces' bytes.
+/// prefix of the pieces' bytes.
 pub fn gather<D: Disk, O: Sink>(
     receiver: &mut Receiver<D>,
     out: &mut O,

@@ -30,7 +30,7 @@ pub fn messages_fit()
         → AllByRecursion (λ m. length m ≤ message) (wrapped message file) }
 {}
 
-/// What is gathered of the first messages of a file is a front of it, however that ends; and of all
+/// What is gathered of the first messages of a file is a prefix of it, however that ends; and of all
 /// its messages it is the file, where that ends well.
 pub fn gathered_bytes_are_the_file()
     ensures front { (message : ℕ) (file : List ℕ) (messages rest : List (List ℕ))

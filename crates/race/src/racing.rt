@@ -139,7 +139,7 @@ pub fn race_with<
 ) -> Result<RaceEnd, OutOfMemory>
     requires some { 1 ≤ count }
     requires turn { CanTurn times.now count }
-    // Without a stopped worker: all of the record was written, or a front of it where a write failed. The
+    // Without a stopped worker: all of the record was written, or a prefix of it where a write failed. The
     // low worker's gate was asked before each of its looks, with the messages acknowledged.
     ensures record { IfOk result (λ end. end.low_stopped ≡ false → end.high_stopped ≡ false → (bytes readings : List ℕ) × (asks : List (ℕ × ℕ))
         × Written end.write_failed (O.written out.old) (O.written out.new) (O.faults out.old) (O.faults out.new) bytes

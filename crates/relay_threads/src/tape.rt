@@ -19,7 +19,7 @@ use pump_link::{Sink, WriteFault, write_all};
 
 /// Writes what a record begins with: a line with the row, how many messages were found stored, and
 /// whether the last of them is in the low hand, and a second one where the session is coarse. After an
-/// `Err`, which comes only where the tape's count of faults rose, a front of them was written.
+/// `Err`, which comes only where the tape's count of faults rose, a prefix of them was written.
 pub fn write_opening<O: Sink>(
     tape: &mut O,
     row: &SessionRow,

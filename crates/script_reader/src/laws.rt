@@ -31,7 +31,7 @@ pub fn low_lines_are_replies()
 {}
 
 /// Whatever the disks were found to hold and a script does, no more messages are live than there are places, no more are held than
-/// lie between the hands, the receiver's list is a front of the accepted one, and at most 64
+/// lie between the hands, the receiver's list is a prefix of the accepted one, and at most 64
 /// arrivals wait.
 pub fn transcripts_are_bounded()
     ensures { (o : Openings) (script : List Line) (s : Begun) (printed : List Printed) →

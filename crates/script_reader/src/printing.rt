@@ -81,7 +81,7 @@ pub(crate) fn put_hex<const N: usize>(into: &mut ArrayVec<u8, N>, bytes: &[u8])
     }
 }
 
-/// A word, a session and a number: the front of most lines.
+/// A word, a session and a number: what most lines begin with.
 pub(crate) fn put_front<const N: usize>(
     into: &mut ArrayVec<u8, N>,
     word: &[u8],
@@ -456,7 +456,7 @@ fn put_role<const N: usize>(into: &mut ArrayVec<u8, N>, role: Role)
     }
 }
 
-/// A word, a session and which of its disks: the front of a fault of a disk.
+/// A word, a session and which of its disks: what a fault of a disk begins with.
 fn put_disk_front<const N: usize>(into: &mut ArrayVec<u8, N>, word: &[u8], session: u32, role: Role)
     requires room { array_vec_len into.old + 256 ≤ N }
     requires short { length word.now ≤ 40 }

@@ -12,7 +12,7 @@ pub enum Ended {
     Done,
     /// There was not enough memory; nothing was written.
     Memory,
-    /// The output could not be written; a front of it was.
+    /// The output could not be written; a prefix of it was.
     Write,
     /// With this fault, which is the last line of the output.
     Stopped(Fault),

@@ -188,7 +188,7 @@ fn leave_all<S: Shelf>(sessions: Sessions<S::Disk>, shelf: &mut S)
 /// - 0: the script was read to its end, and its transcript was written.
 /// - 1: there was not enough memory; nothing was written, and each disk reads as it did, or it was
 ///   empty and is a new one of its session's row.
-/// - 4: the output could not be written; a front of what is to be written was.
+/// - 4: the output could not be written; a prefix of what is to be written was.
 /// - 3, 5, 7, 8 or 10: the transcript of the lines before was written, what this line printed, and the
 ///   fault. The script could not be read (3); a line is outside the grammar or can't be applied (5); a disk
 ///   of a session could not be taken off the shelf, or a call of it failed (7); the disks of a session are

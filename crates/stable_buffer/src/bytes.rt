@@ -34,7 +34,7 @@ pub fn read_length(bytes: &[u8]) -> u32
     BigEndian::read_u16(bytes) as u32
 }
 
-// Puts a message as it stands on a disk at the front of a slot.
+// Puts a message as it stands on a disk at the start of a slot.
 pub fn spell(payload: &Payload, slot: &mut [u8])
     requires { 2 + length payload.now ≤ length slot.old }
     ensures spelled { take (2 + length payload.now) slot.new ≡ spelled payload.now }

@@ -170,7 +170,7 @@ impl Connection {
         requires { length bytes.now ≤ 1042 }
         ensures { JoinsRaw self.old self.new bytes.now result }
     {
-        // What the reader holds is the front of a frame.
+        // What the reader holds is the prefix of a frame.
         let _stopped = self.reader.is_stopped();
         let before = count_of(&self.waits);
         let mut reader = self.reader.duplicate();

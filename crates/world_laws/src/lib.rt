@@ -121,7 +121,7 @@ pub fn acknowledged_is_accepted()
 {}
 
 /// Of three disks that stand for what a crash leaves of a lawful world, as those do that a pump hands
-/// back: the receiver has a front of the accepted messages, and every accepted message that it has not
+/// back: the receiver has a prefix of the accepted messages, and every accepted message that it has not
 /// is in the live slots of the low disk.
 pub fn accepted_outlives()
     ensures { AcceptedOutlives }

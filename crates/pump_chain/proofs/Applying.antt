@@ -168,18 +168,18 @@ module _ {D : Type 0} {g : _} (m : Meaning D) (u : Chain D g) (two : Pump D g) (
   pub second_left : (stop : Option Stop) → Applies m u.second two line r printed stop → (q : Past) × Left m u.second two r q × IsLinked c.first.past.world q.world
   second_left None (timely, (q, step, stands, leaves, timed)) = (
     q,
-    left_going m u.second two line printed r q step stands leaves,
+    left_going m u.second two line printed r q S.second step stands leaves,
     linked_at_rest q stands ((line_sent received (row_of u.second) r line q printed adds step).accepted counts S.waits accepted_front),
   )
   second_left (Some Line) (refused, none, e) = (r, left_alone m u.second two r S.second e, S.linked)
   second_left (Some (Device role faults)) (timely, (q, breaks, failed, leaves)) = (
     q,
-    left_broken m u.second two line printed r q role faults breaks failed leaves,
+    left_broken m u.second two line printed r q S.second role faults breaks failed leaves,
     breaks_sent received (row_of u.second) r line role q printed adds breaks counts S.waits accepted_front S.linked,
   )
   second_left (Some (Full end k size)) (timely, (q, over, stands, leaves)) = (
     q,
-    left_full m u.second two line printed r q end k size over stands leaves,
+    left_full m u.second two line printed r q S.second end k size over stands leaves,
     linked_at_rest q stands (front_then q.world.accepted r.world.accepted received (front_same _ _ (overfills_move (row_of u.second) r line q printed end k size over).world.accepted) accepted_front),
   )
   second_left (Some (Disk role why)) a = absurd a

@@ -1,10 +1,10 @@
 -- What crashes leave of the six disks while one of the two pumps is given a line.
 use Rattle.std.proofs.Common.{◌≡◌, ◌⊎◌, inl, inr, ⊎_elim, ℕ, ◌+◌, ◌≤◌, Bool, true, false, List, length, Option, Some, None, refl, sym, ap, subst, arith}
 use Rattle.std.specs.Prelude.{◌&&◌, if◌then◌else◌}
-use Rattle.disk_model.specs.Disk.{Meaning, Each, Moves as DiskMoves, Same}
+use Rattle.disk_model.specs.Disk.{Meaning, Each, Leaves, Moves as DiskMoves, Same}
 use Rattle.disk_model.specs.declared.name.Role.{Role}
 use Rattle.disk_model.specs.declared.name.Role.TheVariants as roles
-use Rattle.disk_model.proofs.Run.{leaves, started}
+use Rattle.disk_model.proofs.Run.{started}
 use Rattle.pump_frame.specs.declared.payload.Payload.{Payload}
 use Rattle.pump_frame.specs.declared.row.SessionRow.{SessionRow}
 use Rattle.pump_core.specs.declared.event.Event.TheVariants.{Crash}
@@ -26,11 +26,12 @@ use Rattle.two_worlds.specs.declared.pump.Pump.{Pump}
 use Rattle.two_worlds.specs.declared.pump.state.PumpState.{PumpState}
 use Rattle.two_worlds.specs.declared.pump.state.PumpState.TheVariants.{Open, Shut}
 use Rattle.world_laws.specs.Disks.{LowFits, HighFits, RecvFits, DisksFit}
-use Rattle.two_worlds.specs.Doing.{LeavesFit}
+use Rattle.two_worlds.specs.Doing.{LeavesFit, LeavesOn}
 use Rattle.two_worlds.specs.Pumps.{StandsFor, FailsAt, disks_of, row_of, disk_at, Applies}
 use Rattle.two_worlds.specs.Reads.{ReadsAlone}
 use Rattle.two_worlds.specs.States.{disks_in, StandsIn}
 use Rattle.two_worlds.proofs.Disks.Crashes.{LowAt, low_case, high_case, recv_case, and_right, kept_longer, prefix_length}
+use Rattle.two_worlds.proofs.Disks.Leaving.{leaves_by_step, leaves_since}
 use Rattle.pump_chain.specs.Standing.{IsLinked, Tell, LeaveFronts}
 use Rattle.pump_chain.proofs.Fronts.{front_same, front_then, kept_front, kept_most}
 use Rattle.pump_chain.proofs.Moving.{Above, Below, Moves, line_moves, breaks_move, overfills_move}
@@ -84,9 +85,10 @@ last_told m row w disk each told c image =
     let longer = kept_longer (r.0 && w.taking) w.packet w.received in
     omega (arith, count, longer)
 
--- whatever crashes since s left of each disk fits one of two worlds; these are lawful, a line led from the one to the other,
--- and at the end the receiver's disk tells all that the second one has received
+-- the disks of s fit a world, and whatever crashes since s left of each disk fits this one or a second one; these are lawful,
+-- a line led from the one to the other, and at the end the receiver's disk tells all that the second one has received
 pub record Left {D : Type 0} {g : _} (m : Meaning D) (s t : Pump D g) (p q : Past) : Type 0 where
+  pub before : DisksFit m (row_of s) (disk_at roles.Low s) (disk_at roles.High s) (disk_at roles.Recv s) p.world
   pub leaves : LeavesFit m (disks_of s) (disks_of t) p q
   pub last : m.tells_images → (c : List ℕ) → m.images (disk_at roles.Recv t) c → length q.world.received ≤ (value_of c).0
   pub lawful : IsLawful q.world
@@ -115,8 +117,8 @@ AreSame m s t = (role : Role) → DiskMoves m Same (disk_at role s) (disk_at rol
 
 module _ {D : Type 0} {g : _} (m : Meaning D) (s t : Pump D g) (p : Past) (stands : StandsFor m s p) (same : AreSame m s t) where
   -- a disk that is read, or is as it was, leaves what it left
-  unmoved : (P : List ℕ → Type 0) (old new : D) → Each m P old → DiskMoves m Same old new → m.tells_images → (disk : List ℕ) → m.since new (m.moment old) disk → P disk ⊎ P disk
-  unmoved P old new each same = leaves m P (λ x. P x ⊎ P x) Same old new each (λ x fit. inl fit) (λ x y fit is. inl (subst P (sym is) fit)) same
+  unmoved : (P : List ℕ → Type 0) (old new : D) → Each m P old → DiskMoves m Same old new → LeavesOn m old new (λ x. P x ⊎ P x)
+  unmoved P old new each same = leaves_by_step m P (λ x. P x ⊎ P x) Same old new each (λ x y fit is. inl (subst P (sym is) fit)) same
 
   still_last : m.tells_images → (c : List ℕ) → m.images (disk_at roles.Recv t) c → length p.world.received ≤ (value_of c).0
   still_last told c image =
@@ -125,6 +127,7 @@ module _ {D : Type 0} {g : _} (m : Meaning D) (s t : Pump D g) (p : Past) (stand
 
   pub left_still : Left m s t p p
   left_still = record {
+    before = fits m s p stands;
     leaves = record {
       low = unmoved (LowFits (row_of s) p.world) _ _ (fits m s p stands).low_disk (same roles.Low);
       high = unmoved (HighFits (row_of s) p.world) _ _ (fits m s p stands).high_disk (same roles.High);
@@ -157,9 +160,10 @@ left_read m s t p is_fault stands r = left_still m s t p stands (same_read m s t
 
 -- ---- a line ----
 
-module _ {D : Type 0} {g : _} (m : Meaning D) (s t : Pump D g) (line : ScriptLine) (printed : List Printed) (p q : Past) where
+module _ {D : Type 0} {g : _} (m : Meaning D) (s t : Pump D g) (line : ScriptLine) (printed : List Printed) (p q : Past) (stands : StandsFor m s p) where
   pub left_going : LineStep (row_of s) p line q printed → StandsFor m t q → LeavesFit m (disks_of s) (disks_of t) p q → Left m s t p q
   left_going step is leaves = record {
+    before = fits m s p stands;
     leaves = leaves;
     last = last_told m (row_of t) q.world (disk_at roles.Recv t) (fits m t q is).recv_disk;
     lawful = pump_lawful m t q is;
@@ -168,6 +172,7 @@ module _ {D : Type 0} {g : _} (m : Meaning D) (s t : Pump D g) (line : ScriptLin
 
   pub left_broken : (role : Role) (faults : ℕ) → Breaks (row_of s) p line role q printed → FailsAt m t q role faults → LeavesFit m (disks_of s) (disks_of t) p q → Left m s t p q
   left_broken role faults breaks (down, fails) leaves = record {
+    before = fits m s p stands;
     leaves = leaves;
     last = last_told m (row_of t) q.world (disk_at roles.Recv t) fails.disks.recv_disk;
     lawful = fails.lawful;
@@ -176,6 +181,7 @@ module _ {D : Type 0} {g : _} (m : Meaning D) (s t : Pump D g) (line : ScriptLin
 
   pub left_full : (end k size : ℕ) → Overfills (row_of s) p line q printed end k size → StandsFor m t q → LeavesFit m (disks_of s) (disks_of t) p q → Left m s t p q
   left_full end k size over is leaves = record {
+    before = fits m s p stands;
     leaves = leaves;
     last = last_told m (row_of t) q.world (disk_at roles.Recv t) (fits m t q is).recv_disk;
     lawful = pump_lawful m t q is;
@@ -184,13 +190,24 @@ module _ {D : Type 0} {g : _} (m : Meaning D) (s t : Pump D g) (line : ScriptLin
 
 pub left_by_line : {D : Type 0} {g : _} (m : Meaning D) (s t : Pump D g) (line : ScriptLine) (printed : List Printed) (p : Past) → StandsFor m s p → (stop : Option Stop) → Applies m s t line p printed stop
     → (q : Past) × Left m s t p q
-left_by_line m s t line printed p stands None (timely, (q, step, is, leaves, timed)) = (q, left_going m s t line printed p q step is leaves)
+left_by_line m s t line printed p stands None (timely, (q, step, is, leaves, timed)) = (q, left_going m s t line printed p q stands step is leaves)
 left_by_line m s t line printed p stands (Some Line) (refused, none, e) = (p, left_alone m s t p stands e)
-left_by_line m s t line printed p stands (Some (Device role faults)) (timely, (q, breaks, fails, leaves)) = (q, left_broken m s t line printed p q role faults breaks fails leaves)
-left_by_line m s t line printed p stands (Some (Full end k size)) (timely, (q, over, is, leaves)) = (q, left_full m s t line printed p q end k size over is leaves)
+left_by_line m s t line printed p stands (Some (Device role faults)) (timely, (q, breaks, fails, leaves)) = (q, left_broken m s t line printed p q stands role faults breaks fails leaves)
+left_by_line m s t line printed p stands (Some (Full end k size)) (timely, (q, over, is, leaves)) = (q, left_full m s t line printed p q stands end k size over is leaves)
 left_by_line m s t line printed p stands (Some (Disk role why)) a = absurd a
 
 -- ---- both pumps ----
+
+-- what crashes since s left of each disk
+module _ {D : Type 0} {g : _} (m : Meaning D) (s t : Pump D g) (p q : Past) (l : Left m s t p q) where
+  low_since : Leaves m (disk_at roles.Low s) (disk_at roles.Low t) (λ x. LowFits (row_of s) p.world x ⊎ LowFits (row_of s) q.world x)
+  low_since = leaves_since m _ (disk_at roles.Low s) (disk_at roles.Low t) (λ told x image. inl (l.before.low_disk.images told x image)) l.leaves.low
+
+  high_since : Leaves m (disk_at roles.High s) (disk_at roles.High t) (λ x. HighFits (row_of s) p.world x ⊎ HighFits (row_of s) q.world x)
+  high_since = leaves_since m _ (disk_at roles.High s) (disk_at roles.High t) (λ told x image. inl (l.before.high_disk.images told x image)) l.leaves.high
+
+  recv_since : Leaves m (disk_at roles.Recv s) (disk_at roles.Recv t) (λ x. RecvFits (row_of s) p.world x ⊎ RecvFits (row_of s) q.world x)
+  recv_since = leaves_since m _ (disk_at roles.Recv s) (disk_at roles.Recv t) (λ told x image. inl (l.before.recv_disk.images told x image)) l.leaves.recv
 
 -- of two worlds, one that a disk fits
 module _ (Fits : World → List ℕ → Type 0) (p q : World) (disk : List ℕ) where
@@ -243,12 +260,12 @@ module _ {D : Type 0} {g : _} (m : Meaning D) (s t s' t' : Pump D g) (p q p' q' 
   pub fronts : LeaveFronts m s t s' t'
   unfolding tell_lists
   fronts told low high recv low' high' recv' since_low since_high since_recv since_low' since_high' since_recv' =
-      let (w, is_w, fit_w) = which (LowFits (row_of s)) p.world q.world low (l.leaves.low told low since_low) in
-      let (x, is_x, fit_x) = which (HighFits (row_of s)) p.world q.world high (l.leaves.high told high since_high) in
-      let (v, is_v, fit_v) = which (RecvFits (row_of s)) p.world q.world recv (l.leaves.recv told recv since_recv) in
-      let (w', is_w', fit_w') = which (LowFits (row_of s')) p'.world q'.world low' (l'.leaves.low told low' since_low') in
-      let (x', is_x', fit_x') = which (HighFits (row_of s')) p'.world q'.world high' (l'.leaves.high told high' since_high') in
-      let (v', is_v', fit_v') = which (RecvFits (row_of s')) p'.world q'.world recv' (l'.leaves.recv told recv' since_recv') in
+      let (w, is_w, fit_w) = which (LowFits (row_of s)) p.world q.world low (low_since m s t p q l told low since_low) in
+      let (x, is_x, fit_x) = which (HighFits (row_of s)) p.world q.world high (high_since m s t p q l told high since_high) in
+      let (v, is_v, fit_v) = which (RecvFits (row_of s)) p.world q.world recv (recv_since m s t p q l told recv since_recv) in
+      let (w', is_w', fit_w') = which (LowFits (row_of s')) p'.world q'.world low' (low_since m s' t' p' q' l' told low' since_low') in
+      let (x', is_x', fit_x') = which (HighFits (row_of s')) p'.world q'.world high' (high_since m s' t' p' q' l' told high' since_high') in
+      let (v', is_v', fit_v') = which (RecvFits (row_of s')) p'.world q'.world recv' (recv_since m s' t' p' q' l' told recv' since_recv') in
       let lawful_w = lawful_of p.world q.world w lawful l.lawful is_w in
       let lawful_x = lawful_of p.world q.world x lawful l.lawful is_x in
       let lawful_w' = lawful_of p'.world q'.world w' lawful' l'.lawful is_w' in

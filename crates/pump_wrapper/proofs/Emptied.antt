@@ -1,8 +1,9 @@
 -- The disks of a pump that was opened and emptied.
-use Rattle.std.proofs.Common.{◌≡◌, inl, inr, ℕ, ◌≤◌, List, Ok, Err, refl, sym, subst, arith}
+use Rattle.std.proofs.Common.{◌≡◌, inl, inr, ℕ, ◌≤◌, false, List, Ok, Err, refl, sym, subst, arith}
 use Rattle.disk_model.specs.Disk.{Meaning}
 use Rattle.disk_model.specs.declared.name.Role.{Role}
 use Rattle.disk_model.specs.declared.name.Role.TheVariants as roles
+use Rattle.pump_frame.specs.declared.payload.Payload.{Payload}
 use Rattle.pump_frame.specs.declared.row.SessionRow.{SessionRow}
 use Rattle.recovery.specs.Moves.{disk_of}
 use Rattle.recovery.specs.declared.trio.Trio.{Trio}
@@ -11,13 +12,17 @@ use Rattle.script_reader.specs.Past.{Past}
 use Rattle.two_worlds.specs.declared.applied.Stop.{Stop}
 use Rattle.two_worlds.specs.declared.pump.Pump.{Pump}
 use Rattle.world_laws.specs.Disks.{LeaveWorld}
+use Rattle.two_worlds.specs.Openings.{IsLeft}
 use Rattle.two_worlds.specs.Pumps.{StandsFor, StandsOrFails, disk_at}
+use Rattle.pump_wrapper.specs.Comparing.{Begins}
+use Rattle.pump_wrapper.specs.Crashes.{KeepsFront}
 use Rattle.pump_wrapper.specs.Sending.{RoseBy}
 use Rattle.pump_wrapper.specs.Wraps.{Drains, HasAll, HasPassed}
-use Rattle.pump_wrapper.specs.WrapEnds.{CountOn, Empties, EndsEarly, Stand}
+use Rattle.pump_wrapper.specs.WrapEnds.{CountOn, Empties, EndsEarly, KeepsFrontOf, Stand}
 use Rattle.pump_wrapper.specs.declared.file_sender.WrapEnd.TheVariants as ends
 use Rattle.pump_wrapper.proofs.Ending.{stop_cause, halts_end, halts_front, passed_front}
 use Rattle.pump_wrapper.proofs.Fronts.{begins_same}
+use Rattle.pump_wrapper.proofs.Joining.{keeps_then, left_keeps}
 
 pub each_disk : {D : Type 0} {g : _} (t : Pump D g) (low high recv : D) → low ≡ disk_at roles.Low t → high ≡ disk_at roles.High t → recv ≡ disk_at roles.Recv t
     → (role : Role) → disk_of (record { low = low; high = high; recv = recv }) role ≡ disk_at role t
@@ -32,9 +37,17 @@ module _ {D : Type 0} {g : _} (m : Meaning D) (row : SessionRow) (old new : Trio
     (counts : (role : Role) → m.count (disk_at role s) ≤ m.count (disk_at role t))
     (disks : (role : Role) → disk_of new role ≡ disk_at role t)
     (all_in : m.tells → (messages : List (List ℕ)) (q : Past) → StandsFor m t q → HasPassed messages q.world → HasAll m row messages new)
-    (leave : (q : Past) → StandsOrFails m t q → LeaveWorld m row q.world new.low new.high new.recv) where
+    (leave : (q : Past) → StandsOrFails m t q → LeaveWorld m row q.world new.low new.high new.recv)
+    (left : IsLeft m row roles.Recv old.recv (disk_at roles.Recv s) false)
+    (drained : m.tells → (f : Found) → Stand m row old f → (all : List Payload) → Begins (accepted_in f) all → KeepsFront m row all (disk_at roles.Recv s) (disk_at roles.Recv t)) where
   counted : CountOn m old new
   counted role = subst (λ (d : D). m.count (disk_of old role) ≤ m.count d) (sym (disks role)) (let one = before role in let other = counts role in omega (arith, one, other))
+
+  kept : m.tells_images → (f : Found) → Stand m row old f → (all : List Payload) → Begins (accepted_in f) all → KeepsFrontOf m row all old.recv new.recv
+  kept told f stand all begins some front =
+      let tells = m.images_tell told in
+      keeps_then m row all old.recv (disk_at roles.Recv s) new.recv (left_keeps m row all old.recv (disk_at roles.Recv s) false left tells some (λ told. front))
+      (subst (λ (d : D). KeepsFront m row all (disk_at roles.Recv s) d) (sym (disks roles.Recv)) (drained tells f stand all begins))
 
   pub empties : (m.tells → (f : Found) → Stand m row old f → Drains m t row f (Ok tt)) → Empties m row old new
   empties drains = record {
@@ -44,6 +57,7 @@ module _ {D : Type 0} {g : _} (m : Meaning D) (row : SessionRow) (old new : Trio
     images = λ told f stand.
         let (q, led, stands, passed) = drains (m.images_tell told) f stand in
         passed_front m row new t leave (accepted_in f) (accepted_in f) (q, stands, passed) (begins_same _ _ refl) told;
+    keeps = kept;
   }
 
   pub stops_early : (stop : Stop) → RoseBy m s t stop → (m.tells → (f : Found) → Stand m row old f → Drains m t row f (Err stop)) → EndsEarly m row old (ends.Stopped stop) new
@@ -54,4 +68,5 @@ module _ {D : Type 0} {g : _} (m : Meaning D) (row : SessionRow) (old new : Trio
     opened = λ told. inr (opened told);
     ends = λ told left f stand. inr (halts_end m row new t leave (accepted_in f) (accepted_in f) stop (drains told f stand) left (inl refl) told);
     images = λ told f stand all begins was. halts_front m row new t leave (accepted_in f) (accepted_in f) stop (drains (m.images_tell told) f stand) all begins told;
+    keeps = kept;
   }

@@ -23,7 +23,8 @@ use Rattle.pump_wrapper.specs.Cutting.{Gave, to_come}
 use Rattle.pump_wrapper.specs.Halting.{Halts, HaltsBy}
 use Rattle.pump_wrapper.specs.Sending.{RoseBy}
 use Rattle.pump_wrapper.specs.Wraps.{AreFirst, AreToCome, HasAll, HasPassed, IsSent, Passes, SendCause, Sends, all_taken, end_of_sending, is_long_in, is_too_long}
-use Rattle.pump_wrapper.specs.WrapEnds.{BeginFile, Continues, Ends, EndsAt, EndsOn, HasDiskCause, IsEarly, IsStopped, LeavesFront, LeavesFrontBy, RefusesDisks}
+use Rattle.pump_wrapper.specs.Crashes.{LeavesFront}
+use Rattle.pump_wrapper.specs.WrapEnds.{BeginFile, Continues, Ends, EndsAt, EndsOn, HasDiskCause, IsEarly, IsStopped, LeavesFrontBy, RefusesDisks}
 use Rattle.pump_wrapper.specs.declared.cutter.Cutter.{Cutter}
 use Rattle.pump_wrapper.specs.declared.file_sender.WrapEnd.{WrapEnd}
 use Rattle.pump_wrapper.specs.declared.file_sender.WrapEnd.TheVariants as ends

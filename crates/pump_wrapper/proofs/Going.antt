@@ -5,6 +5,7 @@ use Rattle.disk_model.specs.Disk.{Meaning}
 use Rattle.disk_model.specs.declared.name.Role.{Role}
 use Rattle.disk_model.specs.declared.name.Role.TheVariants as roles
 use Rattle.pump_frame.specs.Counts.{Rose}
+use Rattle.pump_frame.specs.declared.payload.Payload.{Payload}
 use Rattle.pump_frame.specs.declared.row.SessionRow.{SessionRow}
 use Rattle.script_reader.specs.declared.event.Event.{Event}
 use Rattle.script_reader.specs.declared.line.Line.{Line}
@@ -14,7 +15,14 @@ use Rattle.two_worlds.specs.declared.applied.Stop.TheVariants as stops
 use Rattle.two_worlds.specs.declared.pump.Pump.{Pump}
 use Rattle.two_worlds.specs.Pumps.{StandsFor, Applies, AppliesOn, disk_at, row_of}
 use Rattle.two_worlds.specs.Rooms.{Serves, DisksGo}
-use Rattle.pump_wrapper.specs.Sending.{LedBy, StopsBy, Follows, RoseBy, Goes}
+use Rattle.two_worlds.proofs.Disks.Leaving.{leaves_alone}
+use Rattle.pump_wrapper.specs.Comparing.{Begins}
+use Rattle.pump_wrapper.specs.Crashes.{HasFront, KeepsFront}
+use Rattle.pump_wrapper.specs.Sending.{LedBy, StopsBy, Follows, StopsWithin, EndsWithin, RoseBy, Goes}
+use Rattle.pump_wrapper.proofs.Fronts.{begins_then, kept_begins}
+use Rattle.pump_wrapper.proofs.Growing.{led_grows, breaks_grow, overfills_grow}
+use Rattle.pump_wrapper.proofs.Halting.{state_lawful}
+use Rattle.pump_wrapper.proofs.Joining.{fit_keeps, keeps_then}
 
 -- ---- what they lead to ----
 
@@ -53,6 +61,27 @@ module _ {D : Type 0} {g : _} (m : Meaning D) where
   rose_before s u t (stops.Full end length size) le h = tt
   rose_before s u t (stops.Disk role why) le h = tt
 
+  -- ---- what is accepted on the way ----
+
+  stops_from : (t : Pump D g) (row : SessionRow) (p : Past) (line : Line) (all : List Payload) (stop : Stop) → StopsBy m t row p line stop → StopsWithin m t row p line all stop → Begins p.world.accepted all
+  stops_from t row p line all stops.Line (refused, stands) within = within refused stands
+  stops_from t row p line all (stops.Device role faults) (q, printed, breaks, fails) within =
+      begins_then p.world.accepted q.world.accepted all (breaks_grow row p line role q printed breaks)
+      (begins_then q.world.accepted _ all (kept_begins true q.world.storing q.world.accepted) (within q printed breaks fails))
+  stops_from t row p line all (stops.Full end length size) (q, printed, over, stands) within =
+      begins_then p.world.accepted q.world.accepted all (overfills_grow row p line q printed end length size over) (within q printed over stands)
+  stops_from t row p line all (stops.Disk role why) stopped within = absurd stopped
+
+  within_from : (t : Pump D g) (row : SessionRow) (p : Past) (ys : List Line) (all : List Payload) (r : Result (Unit {0}) Stop) → Follows m t row p ys r → EndsWithin m t row p ys all r → Begins p.world.accepted all
+  within_from t row p ys all (Ok done) (q, led, stands) within = begins_then p.world.accepted q.world.accepted all (led_grows row p ys q led) (within q led stands)
+  within_from t row p ys all (Err stop) (before, line, later, mid, is, led, stopped) within =
+      begins_then p.world.accepted mid.world.accepted all (led_grows row p before mid led) (stops_from t row mid line all stop stopped (within before line later mid is led))
+
+  within_rest : (t : Pump D g) (row : SessionRow) (p q : Past) (xs ys : List Line) (all : List Payload) (r : Result (Unit {0}) Stop) → LedBy row p xs q → EndsWithin m t row p (xs ++ ys) all r → EndsWithin m t row q ys all r
+  within_rest t row p q xs ys all (Ok done) led within = λ z more stands. within z (led_then row p q z xs ys led more) stands
+  within_rest t row p q xs ys all (Err stop) led within = λ before line later mid is more.
+      within (xs ++ before) line later mid (ap (λ (l : List Line). xs ++ l) is ∙ sym (append_assoc xs before (line ∷ later))) (led_then row p q mid xs before led more)
+
   rose_by : (s u t : Pump D g) (r : Result (Unit {0}) Stop) → ((role : Role) → m.count (disk_at role s) ≤ m.count (disk_at role u)) → IfErr r (RoseBy m u t) → IfErr r (RoseBy m s t)
   rose_by s u t (Ok done) le h = tt
   rose_by s u t (Err stop) le h = rose_before s u t stop le h
@@ -66,6 +95,15 @@ module _ {D : Type 0} {g : _} (m : Meaning D) where
     row = b.row ∙ a.row;
     later = λ role. (let one = a.later role in let other = b.later role in omega (arith, one, other));
     rose = rose_by s u t r a.later b.rose;
+    keeps = λ told p stands all within.
+        let row = row_of s in
+        let follows : (q : Past) → StandsFor m u q → Follows m t row q ys r = λ q at. subst (λ (x : SessionRow). Follows m t x q ys r) a.row (b.follows told q at) in
+        let f = a.follows told p stands in
+        let first : EndsWithin m u row p xs all (Ok tt) = λ q led at. within_from t row q ys all r (follows q at) (within_rest t row p q xs ys all r led within) in
+        let rest : EndsWithin m t row f.0 ys all r = within_rest t row p f.0 xs ys all r f.1 within in
+        keeps_then m row all (disk_at roles.Recv s) (disk_at roles.Recv u) (disk_at roles.Recv t) (a.keeps told p stands all first)
+        (subst (λ (x : SessionRow). KeepsFront m x all (disk_at roles.Recv u) (disk_at roles.Recv t)) a.row
+        (b.keeps told f.0 f.2 all (subst (λ (x : SessionRow). EndsWithin m t x f.0 ys all r) (sym a.row) rest)));
   }
 
   -- one of them stopped
@@ -75,6 +113,8 @@ module _ {D : Type 0} {g : _} (m : Meaning D) where
     row = a.row;
     later = a.later;
     rose = a.rose;
+    keeps = λ told p stands all within. a.keeps told p stands all
+        (λ before line later mid is led. within before line (later ++ ys) mid (ap (λ (l : List Line). l ++ ys) is ∙ append_assoc before (line ∷ later) ys) led);
   }
 
   -- ---- one line ----
@@ -99,6 +139,11 @@ module _ {D : Type 0} {g : _} (m : Meaning D) where
     row = row;
     later = moved_later s t None go;
     rose = tt;
+    keeps = λ told p stands all within.
+        let (timely, (q, step, at, fit, timed)) = applies told p stands in
+        let led : LedBy (row_of s) p (line ∷ []) q = (q, printed, step, refl) in
+        let to = within q led at in
+        fit_keeps m s t p q all (state_lawful m s.state p stands) (state_lawful m t.state q at) (begins_then p.world.accepted q.world.accepted all (led_grows (row_of s) p (line ∷ []) q led) to) to fit;
   }
 
   stopped_by : (s t : Pump D g) (line : Line) (printed : List Event) (stop : Stop) (p : Past) → StandsFor m s p → Applies m s t line p printed (Some stop) → StopsBy m t (row_of s) p line stop
@@ -106,6 +151,17 @@ module _ {D : Type 0} {g : _} (m : Meaning D) where
   stopped_by s t line printed (stops.Device role faults) p stands a = (a.1.0, printed, a.1.1, a.1.2)
   stopped_by s t line printed (stops.Full end length size) p stands a = (a.1.0, printed, a.1.1, a.1.2)
   stopped_by s t line printed (stops.Disk role why) p stands a = absurd a
+
+  stopped_keeps : (s t : Pump D g) (line : Line) (printed : List Event) (stop : Stop) (p : Past) → StandsFor m s p → Applies m s t line p printed (Some stop) → (all : List Payload) → StopsWithin m t (row_of s) p line all stop
+      → KeepsFront m (row_of s) all (disk_at roles.Recv s) (disk_at roles.Recv t)
+  stopped_keeps s t line printed stops.Line p stands (refused, none, e) all within = leaves_alone m (HasFront (row_of s) all) (disk_at roles.Recv s) (disk_at roles.Recv t) (ap (λ (x : Pump D g). disk_at roles.Recv x) e)
+  stopped_keeps s t line printed (stops.Device role faults) p stands (timely, (q, breaks, fails, fit)) all within =
+      let to = begins_then q.world.accepted _ all (kept_begins true q.world.storing q.world.accepted) (within q printed breaks fails) in
+      fit_keeps m s t p q all (state_lawful m s.state p stands) fails.1.lawful (begins_then p.world.accepted q.world.accepted all (breaks_grow (row_of s) p line role q printed breaks) to) to fit
+  stopped_keeps s t line printed (stops.Full end length size) p stands (timely, (q, over, at, fit)) all within =
+      let to = within q printed over at in
+      fit_keeps m s t p q all (state_lawful m s.state p stands) (state_lawful m t.state q at) (begins_then p.world.accepted q.world.accepted all (overfills_grow (row_of s) p line q printed end length size over) to) to fit
+  stopped_keeps s t line printed (stops.Disk role why) p stands a all within = absurd a
 
   rose_at : (s t : Pump D g) (line : Line) (printed : List Event) (stop : Stop) → AppliesOn m s t line printed (Some stop) → Moved s t (Some stop) → RoseBy m s t stop
   rose_at s t line printed stops.Line on go = tt
@@ -120,4 +176,5 @@ module _ {D : Type 0} {g : _} (m : Meaning D) where
     row = row;
     later = moved_later s t (Some stop) go;
     rose = rose_at s t line printed stop on go;
+    keeps = λ told p stands all within. stopped_keeps s t line printed stop p stands (applies told p stands) all (within [] line [] p refl refl);
   }

@@ -1,5 +1,5 @@
 -- Where the lines by which a pump is emptied and a file is sent may be stopped.
-use Rattle.std.proofs.Common.{◌≡◌, inl, inr, ℕ, ◌+◌, ◌<◌, ◌≤◌, ◌^◌, Bool, true, false, List, [], ◌∷◌, ◌++◌, length, slice_get, Option, Some, None, Err, refl, sym, ap, ◌∙◌, subst, arith, append-nil}
+use Rattle.std.proofs.Common.{◌≡◌, inl, inr, ℕ, ◌+◌, ◌<◌, ◌≤◌, ◌^◌, Bool, true, false, List, [], ◌∷◌, ◌++◌, length, slice_get, Option, Some, None, Result, Ok, Err, refl, sym, ap, ◌∙◌, subst, arith, append-nil}
 use Rattle.std.specs.Prelude.{◌==◌, ◌&&◌, nat_lt}
 use Rattle.std.proofs.lemmas.Bool.{and_parts, eqb-true}
 use Rattle.disk_model.specs.Disk.{Meaning}
@@ -35,9 +35,9 @@ use Rattle.two_worlds.specs.declared.pump.state.PumpState.TheVariants.{Open, Shu
 use Rattle.two_worlds.specs.States.{StandsIn}
 use Rattle.pump_wrapper.specs.Comparing.{Begins}
 use Rattle.pump_wrapper.specs.Halting.{found_of, HasNoRoom, IsBetween, Halts}
-use Rattle.pump_wrapper.specs.Sending.{empty_look, turn_lines, message_lines, greeting, pause, LedBy, Follows}
-use Rattle.pump_wrapper.proofs.Applying.{LinesApply, never_line, Emptying, Sent}
-use Rattle.pump_wrapper.proofs.Fronts.{begins_same, begins_more, begins_then, kept_none}
+use Rattle.pump_wrapper.specs.Sending.{empty_look, turn_lines, message_lines, greeting, pause, LedBy, Follows, EndsWithin}
+use Rattle.pump_wrapper.proofs.Applying.{LinesApply, never_line, lines_go, lines_lead, Emptying, Sent}
+use Rattle.pump_wrapper.proofs.Fronts.{begins_same, begins_more, begins_then, kept_begins, kept_none}
 use Rattle.pump_wrapper.proofs.Leaving.{accepted_found}
 use Rattle.pump_wrapper.proofs.Moving.{Keeps, look_keeps, breaks_off_keeps}
 
@@ -221,7 +221,7 @@ over_at row p (lines.Return session m back) q printed end k size h = absurd h
 over_at row p (lines.Restart session m) q printed end k size h = absurd h
 over_at row p (lines.ReceiverRestart session m) q printed end k size h = absurd h
 
-state_lawful : {D : Type 0} (m : Meaning D) (s : PumpState D) (p : Past) → StandsIn m s p → IsLawful p.world
+pub state_lawful : {D : Type 0} (m : Meaning D) (s : PumpState D) (p : Past) → StandsIn m s p → IsLawful p.world
 state_lawful m (Open c) p s = s.sound.lawful
 state_lawful m (Shut d) p s = absurd s
 
@@ -246,6 +246,17 @@ module _ {D : Type 0} {g : _} (m : Meaning D) (t : Pump D g) (row : SessionRow) 
         by = (stands, no_room q.world at.0 end k size (state_lawful m t.state q stands) at.1);
       }
   halts (stops.Disk role why) (before, line, later, mid, is, led, stopped) = absurd stopped
+
+  -- wherever it is stopped or not, others begin with what is accepted, where they begin with the most
+  pub ends_within : ((q : Past) → After q → Begins q.world.accepted most) → (all : List Payload) → Begins most all → (r : Result (Unit {0}) Stop) → EndsWithin m t row p given all r
+  ends_within after all to (Ok done) = λ q led stands. begins_then q.world.accepted most all (after q (lines_lead row p q given After apply led)) to
+  ends_within after all to (Err stops.Line) = λ before line later mid is led refused stands. absurd (lines_go row p mid given before later line After apply is led refused)
+  ends_within after all to (Err (stops.Device role faults)) = λ before line later mid is led q printed breaks fails.
+      begins_then _ most all ((halt_at row p mid given before later line first most halt is led).breaks role q printed breaks).to to
+  ends_within after all to (Err (stops.Full end k size)) = λ before line later mid is led q printed over stands.
+      begins_then q.world.accepted _ all (kept_begins true q.world.storing q.world.accepted)
+      (begins_then _ most all ((halt_at row p mid given before later line first most halt is led).over q printed end k size over).to to)
+  ends_within after all to (Err (stops.Disk role why)) = λ before line later mid is led. tt
 
 -- .. between wider lists
 pub halts_wider : {D : Type 0} {g : _} (m : Meaning D) (t : Pump D g) (first most first' most' : List Payload) (stop : Stop) → Begins first' first → Begins most most' → Halts m t first most stop → Halts m t first' most' stop

@@ -1,6 +1,6 @@
 -- What the disks of a pump stand for once it is closed.
 use Rattle.std.proofs.Common.{◌≡◌, ℕ, ◌+◌, ◌-◌, ◌≤◌, ◌<◌, Bool, true, List, [], ◌∷◌, ◌++◌, length, drop, slice_get, get_or, Option, None, refl, sym, ap, ◌∙◌, subst, arith}
-use Rattle.std.specs.Prelude.{◌&&◌, suc}
+use Rattle.std.specs.Prelude.{◌≢◌, ◌&&◌, suc}
 use Rattle.std.specs.List.{All}
 use Rattle.std.proofs.Math.Seq.{drop-append_seam}
 use Rattle.std.proofs.lemmas.List.{drop-drop}
@@ -21,7 +21,7 @@ use Rattle.two_worlds.specs.Openings.{StandForFound, readied}
 use Rattle.world_laws.specs.Timelines.{IsAtRest}
 use Rattle.pump_wrapper.specs.Comparing.{Begins}
 use Rattle.pump_wrapper.specs.Halting.{found_of, HasNoRoom}
-use Rattle.pump_wrapper.specs.WrapEnds.{LeavesFront}
+use Rattle.pump_wrapper.specs.Crashes.{LeavesFront}
 use Rattle.pump_wrapper.proofs.Fronts.{begins_same, begins_then, prefix_begins, kept_begins, kept_most, kept_none}
 
 -- all that a world accepted is found
@@ -55,6 +55,9 @@ high_some row b disk s = let size = s.size in omega (arith, size)
 
 pub recv_some : (row : SessionRow) (ms : List (List ℕ)) (disk : List ℕ) → RecvStands row ms disk → 0 < length disk
 recv_some row ms disk s = let from = s.from in let within = s.within in omega (arith, from, within)
+
+pub holds_some : (row : SessionRow) (ms : List (List ℕ)) (disk : List ℕ) → RecvStands row ms disk → disk ≢ []
+holds_some row ms disk s none = (let some = recv_some row ms disk s in omega (arith, some, ap length none))
 
 -- three readings that stand for a world stand for what is found of it
 stand_found : (row : SessionRow) (w : World) (low high recv : List ℕ) → StandFor row w low high recv → StandForFound row (found_of w) (readied row roles.Low low) (readied row roles.High high) (readied row roles.Recv recv)

@@ -11,8 +11,10 @@ pub mod Flushed
 pub mod Following
 pub mod Fronts
 pub mod Going
+pub mod Growing
 pub mod Halting
 pub mod Holding
+pub mod Joining
 pub mod Leaving
 pub mod Moving
 pub mod Parted

@@ -28,11 +28,11 @@ by_same w v x e a = subst (Keeps w) (sym e) a
 pub keeps_same : (w v : World) → v ≡ w → Keeps w v
 keeps_same w v e = by_same w v w e (keeps w)
 
-twice : (w u v : World) → Keeps w u → Keeps u v → Keeps w v
+pub twice : (w u v : World) → Keeps w u → Keeps u v → Keeps w v
 twice w u v a b = record { accepted = b.accepted ∙ a.accepted; storing = b.storing ∙ a.storing }
 
 -- a world with other hands, marks and packets
-aside : (w v x : World) → x.accepted ≡ w.accepted → x.storing ≡ w.storing → v ≡ x → Keeps w v
+pub aside : (w v x : World) → x.accepted ≡ w.accepted → x.storing ≡ w.storing → v ≡ x → Keeps w v
 aside w v x accepted storing e = by_same w v x e (record { accepted = accepted; storing = storing })
 
 either : (b : Bool) (w v u : World) → Keeps w v → Keeps w u → Keeps w (cond b v u)
@@ -79,15 +79,15 @@ look_keeps row attaches p m back q printed (mid, first, second, r, t, e) =
     (twice p.world r.look.answered mid.world (returns_keep p.world back r.look.answered r.look.returns) (removes_keep r.look.answered mid.world r.look.removes))
     (twice mid.world t.look.taken q.world (takes_up_keep mid.world t.look.taken t.look.takes_up) (sends_keep t.look.is_sent t.look.taken q.world t.look.sent))
 
-carry_keeps : (row : SessionRow) (p : Past) (back : ℕ) (q : Past) (printed : List Printed) → IsCarried row p back q printed → Keeps p.world q.world
+pub carry_keeps : (row : SessionRow) (p : Past) (back : ℕ) (q : Past) (printed : List Printed) → IsCarried row p back q printed → Keeps p.world q.world
 carry_keeps row p back q printed c = twice p.world c.carried q.world (carries_keep p.world (place p.world.sent back) c.carried c.carries) (takes_keep c.carried q.world c.takes)
 
 -- ---- a line that a disk cuts short ----
 
-unremoved_keeps : (p : Past) (m : ℕ) (back : Option ℕ) (q : Past) → IsUnremoved p m back q → Keeps p.world q.world
+pub unremoved_keeps : (p : Past) (m : ℕ) (back : Option ℕ) (q : Past) → IsUnremoved p m back q → Keeps p.world q.world
 unremoved_keeps p m back q u = twice p.world u.answered q.world (returns_keep p.world back u.answered u.returns) (aside u.answered q.world _ refl refl u.begins.2)
 
-untaken_keeps : (p : Past) (back : ℕ) (q : Past) → IsUntaken p back q → Keeps p.world q.world
+pub untaken_keeps : (p : Past) (back : ℕ) (q : Past) → IsUntaken p back q → Keeps p.world q.world
 untaken_keeps p back q u = by u.begins
   where
     by : Run p.world (CarryData (place p.world.sent back) ∷ TakeBegin ∷ []) q.world → Keeps p.world q.world

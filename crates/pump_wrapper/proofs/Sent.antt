@@ -1,8 +1,9 @@
 -- The further messages of a file that are sent one by one.
-use Rattle.std.proofs.Common.{◌≡◌, ℕ, zero, suc, ◌+◌, ◌-◌, ◌*◌, ◌^◌, ◌<◌, ◌≤◌, false, List, [], ◌∷◌, ◌++◌, length, Option, Some, None, Ok, Err, refl, sym, ap, ◌∙◌, subst, arith, append_assoc, append-nil, length-append}
+use Rattle.std.proofs.Common.{◌≡◌, ℕ, zero, suc, ◌+◌, ◌-◌, ◌*◌, ◌^◌, ◌<◌, ◌≤◌, false, List, [], ◌∷◌, ◌++◌, length, Option, Some, None, Result, Ok, Err, refl, sym, ap, ◌∙◌, subst, arith, append_assoc, append-nil, length-append}
 use Rattle.std.specs.Prelude.{option_to_list}
 use Rattle.std.specs.Io.KnownBytes.{Consumes}
 use Rattle.disk_model.specs.Disk.{Meaning}
+use Rattle.disk_model.specs.declared.name.Role.TheVariants as roles
 use Rattle.pump_frame.specs.Rows.{IsLawfulRow}
 use Rattle.pump_frame.specs.declared.payload.Payload.{Payload}
 use Rattle.pump_frame.specs.declared.row.SessionRow.{SessionRow}
@@ -16,18 +17,20 @@ use Rattle.two_worlds.specs.declared.applied.Stop.{Stop}
 use Rattle.two_worlds.specs.declared.pump.Pump.{Pump}
 use Rattle.two_worlds.specs.declared.pump.state.PumpState.{PumpState}
 use Rattle.two_worlds.specs.declared.pump.state.PumpState.TheVariants.{Open, Shut}
-use Rattle.two_worlds.specs.Pumps.{StandsFor, row_of}
+use Rattle.two_worlds.specs.Pumps.{StandsFor, disk_at, row_of}
 use Rattle.two_worlds.specs.States.{StandsIn}
+use Rattle.pump_wrapper.specs.Comparing.{Begins}
+use Rattle.pump_wrapper.specs.Crashes.{KeepsFront}
 use Rattle.pump_wrapper.specs.Cutting.{GivesNext, to_come}
 use Rattle.pump_wrapper.specs.declared.cutter.Cutter.{Cutter}
 use Rattle.pump_wrapper.specs.declared.cutter.Cut.TheVariants.{Message, Done}
-use Rattle.pump_wrapper.specs.Sending.{greeting, pause, message_lines, send_lines, LedBy, Follows, Goes}
+use Rattle.pump_wrapper.specs.Sending.{greeting, pause, message_lines, send_lines, LedBy, Follows, EndsWithin, Goes}
 use Rattle.pump_wrapper.specs.Halting.{Halts}
 use Rattle.pump_wrapper.specs.Wraps.{AreFirst, AreToCome, Passes, Sends, all_taken}
 use Rattle.pump_wrapper.proofs.Compared.{passed, none_passed, one_passed}
-use Rattle.pump_wrapper.proofs.Fronts.{begins_same, begins_more}
+use Rattle.pump_wrapper.proofs.Fronts.{begins_same, begins_more, begins_then}
 use Rattle.pump_wrapper.proofs.Going.{led_then}
-use Rattle.pump_wrapper.proofs.Halting.{halts, halts_wider, greeting_only, message_halts}
+use Rattle.pump_wrapper.proofs.Halting.{halts, halts_wider, ends_within, greeting_only, message_halts}
 use Rattle.pump_wrapper.proofs.Applying.{LinesApply, lines_lead, Sent, greeting_sends, message_sends, send_more}
 
 -- these messages were sent since the opening, over a cutter and a source that were so then and are so now
@@ -122,6 +125,16 @@ module _ {D : Type 0} {g : _} (m : Meaning D) (row : SessionRow) (messages : Lis
       halts_wider m t messages messages messages (messages ++ []) stop all (begins_more messages [])
       (halts m t row p (greeting row ∷ []) _ messages messages (greets row messages lawful can) (greeting_only row p (length messages) 0 _ messages (first_rests row messages lawful can) (append-nil messages)) stop follows)
 
+  -- at any moment of the greeting, whatever it comes to
+  pub greeting_keeps : (u t : Pump D g) (r : Result (Unit {0}) Stop) (all : List Payload) → IsLawfulRow row → CanOpen row (all_taken messages) → StandsFor m u (first_past row (all_taken messages)) → row_of u ≡ row → m.tells
+      → Begins (messages ++ []) all → Goes m u t (greeting (row_of u) ∷ []) r → KeepsFront m row all (disk_at roles.Recv u) (disk_at roles.Recv t)
+  greeting_keeps u t r all lawful can stands same told begins goes =
+      let p = first_past row (all_taken messages) in
+      let within = ends_within m t row p (greeting row ∷ []) _ messages messages (greets row messages lawful can) (greeting_only row p (length messages) 0 _ messages (first_rests row messages lawful can) (append-nil messages))
+      (λ q after. begins_same q.world.accepted messages (sym after.1)) all (begins_then messages (messages ++ []) all (begins_more messages []) begins) r in
+      subst (λ (x : SessionRow). KeepsFront m x all (disk_at roles.Recv u) (disk_at roles.Recv t)) same
+      (goes.keeps told p stands all (subst (λ (x : SessionRow). EndsWithin m t x p (greeting x ∷ []) all r) (sym same) within))
+
   module _ (u t : Pump D g) (start old new : Cutter) (left between rest : Option (List ℕ)) (n moment : ℕ) (s : Sending m u row messages start old left between n)
       (is_moment : moment ≡ length s.more * pause row) (few : n ≤ 2 ^ 24) (small : pause row < 2 ^ 32) (message : Payload) (short : length message ≤ row.message) where
     late : length s.more * pause row ≤ 2 ^ 24 * 2 ^ 32
@@ -168,6 +181,21 @@ module _ {D : Type 0} {g : _} (m : Meaning D) (row : SessionRow) (messages : Lis
         halts_wider m t held (held ++ message ∷ []) messages (messages ++ (s.more ++ message ∷ [])) stop
         (begins_more messages s.more) (begins_same _ _ (sym (append_assoc messages s.more (message ∷ []))))
         (halts m t row s.past (message_lines row n moment message) _ held (held ++ message ∷ []) sends halt stop follows)
+
+    -- at any moment of the message, whatever it comes to
+    pub message_keeps : (r : Result (Unit {0}) Stop) (all : List Payload) → row_of u ≡ row → m.tells → Begins (messages ++ (s.more ++ message ∷ [])) all → Goes m u t (message_lines (row_of u) n moment message) r
+        → KeepsFront m row all (disk_at roles.Recv u) (disk_at roles.Recv t)
+    message_keeps r all same told begins goes =
+        let held = messages ++ s.more in
+        let most = held ++ message ∷ [] in
+        let is : most ≡ messages ++ (s.more ++ message ∷ []) = append_assoc messages s.more (message ∷ []) in
+        let sent = subst (λ (k : ℕ). Sent row n k held s.past) (sym is_moment) s.sent in
+        let l = late in
+        let halt = message_halts row s.past n moment moment held message sent (omega arith) short (omega (arith, few)) (omega (arith, is_moment, l)) in
+        let within = ends_within m t row s.past (message_lines row n moment message) _ held most sends halt (λ q after. begins_same q.world.accepted most (is ∙ sym after.1)) all
+        (begins_then most (messages ++ (s.more ++ message ∷ [])) all (begins_same most _ (sym is)) begins) r in
+        subst (λ (x : SessionRow). KeepsFront m x all (disk_at roles.Recv u) (disk_at roles.Recv t)) same
+        (goes.keeps told s.past s.stands all (subst (λ (x : SessionRow). EndsWithin m t x s.past (message_lines x n moment message) all r) (sym same) within))
 
   -- a read of the file failed, or it is too long
   pub sending_part : (t : Pump D g) (start now : Cutter) (left rest : Option (List ℕ)) (n : ℕ) (taken : List ℕ) → Sending m t row messages start now left rest n → Consumes left rest taken

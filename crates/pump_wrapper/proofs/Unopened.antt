@@ -17,11 +17,14 @@ use Rattle.stable_buffer.specs.Format.{new_bytes}
 use Rattle.stable_buffer.specs.Log.{RecvStands}
 use Rattle.two_worlds.specs.Openings.{ComeBack, IsLeft, LeavesDisk, StandForFound, disk_back, readied}
 use Rattle.two_worlds.specs.Rooms.{is_role}
+use Rattle.two_worlds.proofs.Disks.Leaving.{leaves_alone}
 use Rattle.pump_wrapper.specs.Wraps.{end_of_opening}
-use Rattle.pump_wrapper.specs.WrapEnds.{Ends, EndsEarly, EndsOn, FailsFormat, HasDiskCause, LeavesFront, RefusesDisks, Stand}
+use Rattle.pump_wrapper.specs.Crashes.{HasFront, LeavesFront}
+use Rattle.pump_wrapper.specs.WrapEnds.{Ends, EndsEarly, EndsOn, FailsFormat, HasDiskCause, RefusesDisks, Stand}
 use Rattle.pump_wrapper.specs.declared.file_sender.WrapEnd.TheVariants as ends
 use Rattle.pump_wrapper.proofs.Fronts.{begins_same}
 use Rattle.pump_wrapper.proofs.Going.{served_later, served_rose}
+use Rattle.pump_wrapper.proofs.Joining.{left_keeps}
 use Rattle.pump_wrapper.proofs.Leaving.{ready, low_some, high_some, recv_some}
 
 both_roles : (a b : Role) → is_role a b ≡ true → a ≡ b
@@ -188,6 +191,7 @@ module _ {D : Type 0} (m : Meaning D) (row : SessionRow) where
           opened = λ told. inl tt;
           ends = λ told left f stand. inr (as_before left f a b d stand);
           images = λ told f stand all begins before. subst (LeavesFront m row all) (sym d) (before tt);
+          keeps = λ told f stand all begins some front. leaves_alone m (HasFront row all) old.recv recv d;
         }
     unopened (Some why) c stops = record {
       early = tt;
@@ -196,6 +200,7 @@ module _ {D : Type 0} (m : Meaning D) (row : SessionRow) where
       opened = λ told. inl tt;
       ends = λ told left f stand. stands why left f c (stops told f stand) told stand;
       images = λ told f stand all begins before. image_still all old.recv recv _ c.recv_disk.left told (before tt);
+      keeps = λ told f stand all begins some front. left_keeps m row all old.recv recv _ c.recv_disk.left (m.images_tell told) some (λ told. front);
     }
 
 -- no count fell in an opening

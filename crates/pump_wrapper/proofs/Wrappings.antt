@@ -19,7 +19,8 @@ use Rattle.pump_wrapper.specs.Comparing.{Begins, Compares, FirstDiffer}
 use Rattle.pump_wrapper.specs.Cutting.{Gave, to_come}
 use Rattle.pump_wrapper.specs.Wrapped.{wrapped}
 use Rattle.pump_wrapper.specs.Wraps.{HasAll, all_taken}
-use Rattle.pump_wrapper.specs.WrapEnds.{ComparesNot, Continues, DifferAt, EndsAt, EndsOn, LeavesFront, TakesSoFar}
+use Rattle.pump_wrapper.specs.Crashes.{LeavesFront}
+use Rattle.pump_wrapper.specs.WrapEnds.{ComparesNot, Continues, DifferAt, EndsAt, EndsOn, TakesSoFar}
 use Rattle.pump_wrapper.specs.declared.cutter.Cutter.{Cutter}
 use Rattle.pump_wrapper.specs.declared.file_sender.WrapEnd.{WrapEnd}
 use Rattle.pump_wrapper.specs.declared.file_sender.WrapEnd.TheVariants as ends

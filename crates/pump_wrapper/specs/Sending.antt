@@ -1,9 +1,12 @@
 -- The lines by which a pump is emptied and a file is sent over it, and what a pump comes to by lines.
-use Rattle.std.specs.Prelude.{◌≡◌, ℕ, zero, suc, ◌+◌, ◌≤◌, max, List, [], ◌∷◌, ◌++◌, Result, Ok, Err, IfErr}
+use Rattle.std.specs.Prelude.{◌≡◌, ℕ, zero, suc, ◌+◌, ◌≤◌, max, true, List, [], ◌∷◌, ◌++◌, Result, Ok, Err, IfErr}
 use Rattle.disk_model.specs.Disk.{Meaning}
 use Rattle.disk_model.specs.declared.name.Role.{Role}
+use Rattle.disk_model.specs.declared.name.Role.TheVariants as roles
 use Rattle.pump_frame.specs.Counts.{Rose}
+use Rattle.pump_frame.specs.declared.payload.Payload.{Payload}
 use Rattle.pump_frame.specs.declared.row.SessionRow.{SessionRow}
+use Rattle.pump_core.specs.Events.{with_kept}
 use Rattle.script_reader.specs.declared.event.Event.{Event}
 use Rattle.script_reader.specs.declared.line.Arriving.TheVariants.{Nothing, Hello, Data}
 use Rattle.script_reader.specs.declared.line.Line.{Line}
@@ -15,6 +18,8 @@ use Rattle.two_worlds.specs.declared.applied.Stop.{Stop}
 use Rattle.two_worlds.specs.declared.applied.Stop.TheVariants as stops
 use Rattle.two_worlds.specs.declared.pump.Pump.{Pump}
 use Rattle.two_worlds.specs.Pumps.{StandsFor, FailsAt, disk_at, row_of}
+use Rattle.pump_wrapper.specs.Comparing.{Begins}
+use Rattle.pump_wrapper.specs.Crashes.{KeepsFront}
 
 -- ---- the lines ----
 
@@ -71,6 +76,21 @@ Follows m t row p lines (Err stop) =
     (before : List Line) × (line : Line) × (later : List Line) × (mid : Past)
     × (lines ≡ before ++ line ∷ later) × LedBy row p before mid × StopsBy m t row mid line stop
 
+-- wherever the line stops the session, these begin with what is accepted then, even with a message whose store is unfinished
+abbrev pub StopsWithin : {D : Type 0} {g : _} → Meaning D → Pump D g → SessionRow → Past → Line → List Payload → Stop → Type 0
+StopsWithin m t row p line all stops.Line = IsRefusedWhole row p line → StandsFor m t p → Begins p.world.accepted all
+StopsWithin m t row p line all (stops.Device role faults) =
+    (q : Past) (printed : List Event) → Breaks row p line role q printed → FailsAt m t q role faults → Begins (with_kept true q.world.storing q.world.accepted) all
+StopsWithin m t row p line all (stops.Full end length size) =
+    (q : Past) (printed : List Event) → Overfills row p line q printed end length size → StandsFor m t q → Begins q.world.accepted all
+StopsWithin m t row p line all (stops.Disk role why) = Unit {0}
+
+-- wherever the lines lead, or one of them stops, it is so
+abbrev pub EndsWithin : {D : Type 0} {g : _} → Meaning D → Pump D g → SessionRow → Past → List Line → List Payload → Result (Unit {0}) Stop → Type 0
+EndsWithin m t row p lines all (Ok done) = (q : Past) → LedBy row p lines q → StandsFor m t q → Begins q.world.accepted all
+EndsWithin m t row p lines all (Err stop) =
+    (before : List Line) (line : Line) (later : List Line) (mid : Past) → lines ≡ before ++ line ∷ later → LedBy row p before mid → StopsWithin m t row mid line all stop
+
 -- a disk stops a line only where its count of failed calls rose
 abbrev pub RoseBy : {D : Type 0} {g : _} → Meaning D → Pump D g → Pump D g → Stop → Type 0
 RoseBy m s t stops.Line = Unit {0}
@@ -81,6 +101,8 @@ RoseBy m s t (stops.Disk role why) = Unit {0}
 -- the pump s was given these lines, and is t then
 pub record Goes {D : Type 0} {g : _} (m : Meaning D) (s t : Pump D g) (lines : List Line) (result : Result (Unit {0}) Stop) : Type 0 where
   pub follows : m.tells → (p : Past) → StandsFor m s p → Follows m t (row_of s) p lines result
+  pub keeps : m.tells → (p : Past) → StandsFor m s p → (all : List Payload) → EndsWithin m t (row_of s) p lines all result
+      → KeepsFront m (row_of s) all (disk_at roles.Recv s) (disk_at roles.Recv t)
   pub row : row_of t ≡ row_of s
   pub later : (role : Role) → m.count (disk_at role s) ≤ m.count (disk_at role t)
   pub rose : IfErr result (RoseBy m s t)

@@ -1,5 +1,5 @@
 -- How the sending of a file ends, and what the session's disks stand for then.
-use Rattle.std.specs.Prelude.{◌≡◌, ◌⊎◌, ℕ, ◌+◌, ◌^◌, ◌<◌, ◌≤◌, true, false, List, [], ◌++◌, length, take, Option, None, Some, Result, Ok}
+use Rattle.std.specs.Prelude.{◌≡◌, ◌≢◌, ◌⊎◌, ℕ, ◌+◌, ◌^◌, ◌<◌, ◌≤◌, true, false, List, [], ◌++◌, length, take, Option, None, Some, Result, Ok}
 use Rattle.std.specs.Io.KnownBytes.{Consumes}
 use Rattle.disk_model.specs.Disk.{Meaning}
 use Rattle.disk_model.specs.declared.name.Role.{Role}
@@ -20,6 +20,7 @@ use Rattle.two_worlds.specs.Openings.{DisksStandFor, IsLeft, IsRefused, readied}
 use Rattle.two_worlds.specs.declared.applied.Stop.{Stop}
 use Rattle.two_worlds.specs.declared.applied.Stop.TheVariants as stops
 use Rattle.pump_wrapper.specs.Comparing.{Begins, FirstDiffer}
+use Rattle.pump_wrapper.specs.Crashes.{KeepsFront, LeavesFront}
 use Rattle.pump_wrapper.specs.Halting.{HasNoRoom}
 use Rattle.pump_wrapper.specs.Wrapped.{wrapped}
 use Rattle.pump_wrapper.specs.Wraps.{AreFirst, HasAll, is_long_in}
@@ -127,14 +128,14 @@ IsNotOpened end = ⊥
 
 -- ---- what crashes leave ----
 
--- whatever a crash leaves of a receiver's disk has a list of messages that these begin with
-abbrev pub LeavesFront : {D : Type 0} → Meaning D → SessionRow → List Payload → D → Type 0
-LeavesFront m row all disk = (image : List ℕ) → m.images disk image → (messages : List Payload) × RecvStands row messages image × Begins messages all
-
--- so it is after a sending, where the accepted messages are the first ones of these; where the pump was not
--- opened, if it was so before
+-- whatever a crash leaves of the receiver's disk after a sending has messages that these begin with, where the accepted
+-- messages are the first ones of these; where the pump was not opened, if it was so before
 abbrev pub LeavesFrontBy : {D : Type 0} → Meaning D → SessionRow → Trio D → WrapEnd → Trio D → List Payload → Type 0
 LeavesFrontBy m row old end new all = (IsNotOpened end → LeavesFront m row all old.recv) → LeavesFront m row all new.recv
+
+-- .. at any moment of it, too, where the disk was not empty before, and it was so then
+abbrev pub KeepsFrontOf : {D : Type 0} → Meaning D → SessionRow → List Payload → D → D → Type 0
+KeepsFrontOf m row all old new = m.reading old ≢ [] → LeavesFront m row all old → KeepsFront m row all old new
 
 -- ---- the steps of a sending ----
 
@@ -152,6 +153,7 @@ pub record EndsEarly {D : Type 0} (m : Meaning D) (row : SessionRow) (old : Trio
   pub opened : m.tells → IsNotOpened end ⊎ ((f : Found) × Stand m row old f)
   pub ends : m.tells → (left : Option (List ℕ)) (f : Found) → Stand m row old f → Ends m row left left (accepted_in f) old end new
   pub images : m.tells_images → (f : Found) → Stand m row old f → (all : List Payload) → Begins (accepted_in f) all → LeavesFrontBy m row old end new all
+  pub keeps : m.tells_images → (f : Found) → Stand m row old f → (all : List Payload) → Begins (accepted_in f) all → KeepsFrontOf m row all old.recv new.recv
 
 -- a pump was opened over these disks, and they are emptied
 pub record Empties {D : Type 0} (m : Meaning D) (row : SessionRow) (old new : Trio D) : Type 0 where
@@ -159,6 +161,7 @@ pub record Empties {D : Type 0} (m : Meaning D) (row : SessionRow) (old new : Tr
   pub opened : m.tells → (f : Found) × Stand m row old f
   pub emptied : m.tells → (f : Found) → Stand m row old f → HasAll m row (accepted_in f) new
   pub images : m.tells_images → (f : Found) → Stand m row old f → LeavesFront m row (accepted_in f) new.recv
+  pub keeps : m.tells_images → (f : Found) → Stand m row old f → (all : List Payload) → Begins (accepted_in f) all → KeepsFrontOf m row all old.recv new.recv
 
 -- the messages of a cutter that come behind these are further ones of the file
 abbrev pub Continues : SessionRow → Option (List ℕ) → List Payload → Cutter → Option (List ℕ) → Type 0

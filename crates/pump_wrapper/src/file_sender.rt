@@ -1,8 +1,9 @@
 //! A file is sent over a session's pump.
 
-ghost use Rattle.std.specs.Prelude.{◌≡◌, ◌⊎◌, ℕ, ◌≤◌, ◌++◌, false, List, Option, Some, Ok, Err, IfOk, IfErr, OnOk};
+ghost use Rattle.std.specs.Prelude.{◌≡◌, ◌≢◌, ◌⊎◌, ℕ, ◌≤◌, ◌++◌, false, List, [], Option, Some, Ok, Err, IfOk, IfErr, OnOk};
 ghost use Rattle.disk_model.specs.Disk.{Moves, Same};
 ghost use Rattle.disk_model.specs.declared.name.Role.{Role as DiskRole};
+ghost use Rattle.disk_model.specs.declared.name.Role.TheVariants as roles;
 ghost use Rattle.pump_frame.specs.Counts.{Rose};
 ghost use Rattle.pump_frame.specs.Rows.{IsLawfulRow};
 ghost use Rattle.recovery.specs.Moves.{disk_of};
@@ -10,12 +11,14 @@ ghost use Rattle.script_reader.specs.Openings.{Found, accepted_in, first_past};
 ghost use Rattle.script_reader.specs.Past.{Past};
 ghost use Rattle.stable_buffer.specs.Log.{RecvStands};
 ghost use Rattle.world_laws.specs.Disks.{LeaveWorld};
+ghost use Rattle.two_worlds.specs.Openings.{IsLeft};
 ghost use Rattle.two_worlds.specs.Pumps.{StandsFor, StandsOrFails, disk_at, is_down, row_of};
 ghost use Rattle.pump_wrapper.specs.Comparing.{Begins, Compares, SameBytes};
+ghost use Rattle.pump_wrapper.specs.Crashes.{LeavesFront, LeavesFrontSince};
 ghost use Rattle.pump_wrapper.specs.Cutting.{Gave, MayCut, cut_bytes, cut_message};
 ghost use Rattle.pump_wrapper.specs.Wrapped.{wrapped};
 ghost use Rattle.pump_wrapper.specs.Wraps.{AreFirst, IsWhole, IsSent, HasAll, HasPassed, end_of_comparison, end_of_opening, end_of_sending, is_too_long};
-ghost use Rattle.pump_wrapper.specs.WrapEnds.{TakesSoFar, ComparesNot, Continues, Empties, Ends, EndsEarly, EndsOn, HasDiskCause, IsNotOpened, LeavesFront, LeavesFrontBy, RefusesDisks, Stand};
+ghost use Rattle.pump_wrapper.specs.WrapEnds.{TakesSoFar, ComparesNot, Continues, Empties, Ends, EndsEarly, EndsOn, HasDiskCause, IsNotOpened, KeepsFrontOf, LeavesFrontBy, RefusesDisks, Stand};
 ghost use Rattle.pump_wrapper.specs.declared.file_sender.WrapEnd.TheVariants as ends;
 
 use crate::compare::{CompareFault, skip_received};
@@ -101,6 +104,7 @@ fn open<D: Disk>(alloc: Global, row: &SessionRow, disks: Trio<D>) -> Result<Pump
         → StandsFor D.told pump (first_past row.now f)) }
     ensures counts { IfOk result (λ pump. (role : DiskRole) → D.told.count (disk_of disks role) ≤ D.told.count (disk_at role pump)) }
     ensures row { IfOk result (λ pump. row_of pump ≡ row.now) }
+    ensures recv { IfOk result (λ pump. IsLeft D.told row.now roles.Recv disks.recv (disk_at roles.Recv pump) false) }
     ensures up { IfOk result (λ pump. is_down pump ≡ false) }
     ensures not { IfErr result (λ answer. EndsEarly D.told row.now disks answer.end answer.disks) }
 {
@@ -204,6 +208,9 @@ fn send_further<D: Disk, I: Source>(
         → LeavesFront D.told row.now messages disks.recv
         → (all : List (List ℕ)) → Begins messages all → ((more : List (List ℕ)) → AreFirst cutter.old (I.left file.old) more → Begins (messages ++ more) all)
         → LeavesFront D.told row.now all result.disks.recv }
+    ensures keeps { D.told.tells_images → (messages : List (List ℕ)) → HasAll D.told row.now messages disks
+        → (all : List (List ℕ)) → Begins messages all → ((more : List (List ℕ)) → AreFirst cutter.old (I.left file.old) more → Begins (messages ++ more) all)
+        → KeepsFrontOf D.told row.now all disks.recv result.disks.recv }
     ensures cause { HasDiskCause D.told disks result.disks result.end }
     ensures gave { Gave (cut_bytes cutter.old) (I.left file.old) (I.left file.new) (is_too_long result.end) }
     ensures read { result.end ≡ ends.Read → Rose (I.faults file.old) (I.faults file.new) }
@@ -227,7 +234,8 @@ fn send_further<D: Disk, I: Source>(
 /// However it ends, disks that stood for a session stand for one again, unless an empty one could not be
 /// formatted: then nothing of the file was read, and the other two disks are as they were, or were empty
 /// and are new. No message is lost, and where one was added, all are the first messages of the file. That
-/// holds of the receiver's list in whatever a crash then leaves, too.
+/// holds of the receiver's list in whatever a crash then leaves, too; and, of a receiver's disk that was not
+/// empty, in whatever a crash at any moment of the sending leaves.
 pub fn wrap<D: Disk, I: Source>(
     alloc: Global,
     row: &SessionRow,
@@ -244,6 +252,10 @@ pub fn wrap<D: Disk, I: Source>(
     ensures images { D.told.tells_images → (f : Found) → Stand D.told row.now disks f → (bytes : List ℕ) → I.left file.old ≡ Some bytes
         → Begins (accepted_in f) (wrapped row.now.message bytes)
         → LeavesFrontBy D.told row.now disks result.end result.disks (wrapped row.now.message bytes) }
+    ensures since { D.told.tells_images → (f : Found) → Stand D.told row.now disks f → (bytes : List ℕ) → I.left file.old ≡ Some bytes
+        → Begins (accepted_in f) (wrapped row.now.message bytes) → D.told.reading disks.recv ≢ []
+        → LeavesFront D.told row.now (wrapped row.now.message bytes) disks.recv
+        → LeavesFrontSince D.told row.now (wrapped row.now.message bytes) disks.recv result.disks.recv }
     ensures gave { Gave 0 (I.left file.old) (I.left file.new) (is_too_long result.end) }
     ensures cause { HasDiskCause D.told disks result.disks result.end }
     ensures read { result.end ≡ ends.Read → Rose (I.faults file.old) (I.faults file.new) }

@@ -1,6 +1,6 @@
 -- What a part of a line does to the parts of a pump, by what it answers.
-use Rattle.std.specs.Prelude.{◌≡◌, ◌⊎◌, ℕ, true, List, ◌++◌, Result, Ok, Err}
-use Rattle.disk_model.specs.Disk.{Meaning, Leaves}
+use Rattle.std.specs.Prelude.{◌≡◌, ◌⊎◌, ℕ, ◌≤◌, true, List, ◌++◌, Result, Ok, Err}
+use Rattle.disk_model.specs.Disk.{Meaning}
 use Rattle.disk_model.specs.declared.name.Role.{Role}
 use Rattle.pump_core.specs.Lawful.{IsLawful}
 use Rattle.script_reader.specs.declared.event.Event.{Event}
@@ -19,11 +19,16 @@ pub record Fails {D : Type 0} (m : Meaning D) (d : BareDisks D) (q : Past) (role
   pub fits : FitsRow d.row q.world
   pub disks : DisksFit m d.row d.low d.high d.recv q.world
 
--- a crash at any moment from c to d leaves of each disk what fits the world before or the one after
+-- from old to new no moment is lost, and whatever a crash at any moment from an earlier one on leaves, it could leave before, or has P
+pub record LeavesOn {D : Type 0} (m : Meaning D) (old new : D) (P : List ℕ → Type 0) : Type 0 where
+  pub later : m.moment old ≤ m.moment new
+  pub each : m.tells_images → (t : ℕ) (c : List ℕ) → t ≤ m.moment old → m.since new t c → m.since old t c ⊎ P c
+
+-- whatever a crash at any moment leaves of each disk, it could leave before c, or fits the world at c or the one at d
 pub record LeavesFit {D : Type 0} (m : Meaning D) (c d : BareDisks D) (p q : Past) : Type 0 where
-  pub low : Leaves m c.low d.low (λ disk. LowFits c.row p.world disk ⊎ LowFits c.row q.world disk)
-  pub high : Leaves m c.high d.high (λ disk. HighFits c.row p.world disk ⊎ HighFits c.row q.world disk)
-  pub recv : Leaves m c.recv d.recv (λ disk. RecvFits c.row p.world disk ⊎ RecvFits c.row q.world disk)
+  pub low : LeavesOn m c.low d.low (λ disk. LowFits c.row p.world disk ⊎ LowFits c.row q.world disk)
+  pub high : LeavesOn m c.high d.high (λ disk. HighFits c.row p.world disk ⊎ HighFits c.row q.world disk)
+  pub recv : LeavesOn m c.recv d.recv (λ disk. RecvFits c.row p.world disk ⊎ RecvFits c.row q.world disk)
 
 -- ---- a part of a line ----
 

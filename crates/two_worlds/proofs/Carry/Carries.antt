@@ -1,5 +1,5 @@
 -- What a DATA that comes to the receiver leads to, by what the receiver answered.
-use Rattle.std.proofs.Common.{◌≡◌, inl, inr, ⊎_elim, ℕ, ◌+◌, ◌-◌, ◌≤◌, ◌<◌, Bool, true, false, not, ◌||◌, cond, List, [], ◌∷◌, ◌++◌, length, None, Some, Result, Ok, Err, refl, sym, ap, ◌∙◌, subst, arith, nat_lt}
+use Rattle.std.proofs.Common.{◌≡◌, ◌⊎◌, inl, inr, ⊎_elim, ℕ, ◌+◌, ◌-◌, ◌≤◌, ◌<◌, Bool, true, false, not, ◌||◌, cond, List, [], ◌∷◌, ◌++◌, length, None, Some, Result, Ok, Err, refl, sym, ap, ◌∙◌, subst, arith, nat_lt}
 use Rattle.std.specs.Prelude.{slice_get, All}
 use Rattle.std.proofs.lemmas.Bool.Decides.{nat_tests}
 use Rattle.circular_buffer.specs.Buffer.{Buffer, buffer, keep_last}
@@ -32,10 +32,11 @@ use Rattle.script_reader.specs.Breaks.{IsUntaken}
 use Rattle.two_worlds.specs.declared.pump.parts.Parts.{Parts}
 use Rattle.two_worlds.specs.Private.Carrying.{printed_taken}
 use Rattle.world_laws.specs.Disks.{DisksFit, LowFits, HighFits, RecvFits}
-use Rattle.two_worlds.specs.Doing.{PartsFail, PartsLeaveFit}
+use Rattle.two_worlds.specs.Doing.{LeavesOn, PartsFail, PartsLeaveFit}
 use Rattle.two_worlds.specs.Standing.{kept_of, HoldsWorld, Stands, is_down, disk_at}
 use Rattle.world_laws.specs.Timelines.{IsAtRest}
 use Rattle.two_worlds.proofs.Disks.Images.{low_alone, high_alone, all_alone}
+use Rattle.two_worlds.proofs.Disks.Leaving.{leaves_by_step}
 use Rattle.two_worlds.proofs.Disks.LeavesWorld.{fits_row}
 use Rattle.two_worlds.proofs.Carry.Answered.{AnsweredWith, in_store, full, took as took_by, repeated}
 use Rattle.two_worlds.proofs.Carry.Carried as led
@@ -149,12 +150,13 @@ module _ {D : Type 0} (m : Meaning D) (c : Parts D) (p : Past) (back : ℕ) (pac
   taking_fits d q result s low high recv more = record {
     low = low_alone m c p stands (LowFits c.row q.world) (disk_at roles.Low d) low;
     high = high_alone m c p stands (HighFits c.row q.world) (disk_at roles.High d) high;
-    recv = λ told x since.
-        let reads = was (m.reading (recv_disk c.receiver)) (stands.disks.recv_disk.reading (m.images_tell told)) in
-        ⊎_elim
+    recv = subst (λ (e : D). LeavesOn m (recv_disk c.receiver) e (λ x. RecvFits c.row p.world x ⊎ RecvFits c.row q.world x)) (sym recv)
+        (leaves_by_step m (RecvFits c.row p.world) (λ x. RecvFits c.row p.world x ⊎ RecvFits c.row q.world x) (MayTake (recv_row c.receiver) packet.payload) (recv_disk c.receiver) (recv_disk new) stands.disks.recv_disk
+        (λ old x fit may. ⊎_elim
         (λ stays. inl (inl (subst (λ (r : SessionRow). RecvStands r p.world.received x) row_is stays)))
         (λ one. inr (more x (subst (λ (r : SessionRow). RecvStands r (p.world.received ++ packet.payload ∷ []) x) row_is one)))
-        (s.during p.world.received reads told x (subst (λ (e : D). m.since e (m.moment (recv_disk c.receiver)) x) recv since));
+        (may.either p.world.received (was old fit)))
+        s.moves);
   }
 
   -- the receiver's next message

@@ -1,13 +1,12 @@
 -- What crashes leave of the disks at any moment of a part of a line fits the world before or the one after.
 use Rattle.std.proofs.Common.{◌≡◌, ◌⊎◌, inl, inr, ⊎_elim, ℕ, ◌+◌, ◌≤◌, Bool, false, List, [], ◌∷◌, ◌++◌, length, drop, Option, Some, None, refl, sym, ap, ◌∙◌, subst, arith, length-append}
 use Rattle.std.specs.Prelude.{option_to_list}
-use Rattle.disk_model.specs.Disk.{Meaning, Leaves}
+use Rattle.disk_model.specs.Disk.{Meaning, Moves}
 use Rattle.disk_model.specs.declared.name.Role.{Role}
 use Rattle.disk_model.specs.declared.name.Role.TheVariants as roles
-use Rattle.pump_frame.specs.declared.frame.Frame.{Frame}
 use Rattle.pump_frame.specs.declared.payload.Payload.{Payload}
 use Rattle.pump_frame.specs.declared.row.SessionRow.{SessionRow}
-use Rattle.stable_buffer.specs.Stands.{LowStands, HighStands}
+use Rattle.stable_buffer.specs.Stands.{LowStands, HighStands, MayGain, MayRemove}
 use Rattle.stable_buffer.specs.Log.{RecvStands}
 use Rattle.stable_buffer.specs.Low.{low_disk, low_row}
 use Rattle.stable_buffer.specs.High.{high_disk}
@@ -17,36 +16,30 @@ use Rattle.pump_core.specs.History.{Arrival}
 use Rattle.pump_core.specs.World.{World}
 use Rattle.pump_core.proofs.Bounded.{place}
 use Rattle.low_process.specs.Looks as low
-use Rattle.low_process.specs.Storing.{StoreStep, message_in}
-use Rattle.low_process.specs.Whole.{HasOrGains}
+use Rattle.low_process.specs.Storing.{StoreStep, Storing, message_in}
 use Rattle.low_process.specs.declared.values.LowLook.{LowLook}
-use Rattle.high_process.specs.States as high
-use Rattle.high_process.specs.Storing.{LeavesCounted}
 use Rattle.script_reader.specs.Past.{Past}
 use Rattle.two_worlds.specs.declared.pump.parts.Parts.{Parts}
 use Rattle.world_laws.specs.Disks.{live_messages, LowFits, HighFits, RecvFits}
-use Rattle.two_worlds.specs.Doing.{PartsLeaveFit, PartsFail}
+use Rattle.two_worlds.specs.Doing.{LeavesOn, PartsLeaveFit, PartsFail}
 use Rattle.two_worlds.specs.Standing.{Stands, disk_at, number_of}
 use Rattle.two_worlds.proofs.Low.Disks.{live_push}
 use Rattle.two_worlds.proofs.Low.Grows.{Grows}
 use Rattle.two_worlds.proofs.Low.Looked.{Looked}
 use Rattle.two_worlds.proofs.Low.Wants.{taking, hand_is_empty}
+use Rattle.two_worlds.proofs.Disks.Leaving.{leaves_alone, leaves_by_step, leaves_weaker}
 use Rattle.two_worlds.proofs.Disks.OpensSurely.{one_received}
 use Rattle.two_worlds.proofs.Opening.Ready.{low_reading, high_reading, recv_reading}
 
--- a disk that is left alone has the images from before
-left_alone : {D : Type 0} (m : Meaning D) (P : List ℕ → Type 0) (old new : D) → (m.tells_images → (x : List ℕ) → m.images old x → P x) → new ≡ old → Leaves m old new P
-left_alone {D} m P old new has same told x since = has told x (m.only_now told old x (subst (λ (d : D). m.since d (m.moment old) x) same since))
-
 module _ {D : Type 0} (m : Meaning D) (c : Parts D) (p : Past) (stands : Stands m c p) where
-  pub low_alone : (Q : List ℕ → Type 0) (new : D) → new ≡ disk_at roles.Low c → Leaves m (disk_at roles.Low c) new (λ x. LowFits c.row p.world x ⊎ Q x)
-  low_alone Q new same = left_alone m (λ x. LowFits c.row p.world x ⊎ Q x) (disk_at roles.Low c) new (λ told x image. inl (stands.disks.low_disk.images told x image)) same
+  pub low_alone : (Q : List ℕ → Type 0) (new : D) → new ≡ disk_at roles.Low c → LeavesOn m (disk_at roles.Low c) new (λ x. LowFits c.row p.world x ⊎ Q x)
+  low_alone Q new same = leaves_alone m (λ x. LowFits c.row p.world x ⊎ Q x) (disk_at roles.Low c) new same
 
-  pub high_alone : (Q : List ℕ → Type 0) (new : D) → new ≡ disk_at roles.High c → Leaves m (disk_at roles.High c) new (λ x. HighFits c.row p.world x ⊎ Q x)
-  high_alone Q new same = left_alone m (λ x. HighFits c.row p.world x ⊎ Q x) (disk_at roles.High c) new (λ told x image. inl (stands.disks.high_disk.images told x image)) same
+  pub high_alone : (Q : List ℕ → Type 0) (new : D) → new ≡ disk_at roles.High c → LeavesOn m (disk_at roles.High c) new (λ x. HighFits c.row p.world x ⊎ Q x)
+  high_alone Q new same = leaves_alone m (λ x. HighFits c.row p.world x ⊎ Q x) (disk_at roles.High c) new same
 
-  pub recv_alone : (Q : List ℕ → Type 0) (new : D) → new ≡ disk_at roles.Recv c → Leaves m (disk_at roles.Recv c) new (λ x. RecvFits c.row p.world x ⊎ Q x)
-  recv_alone Q new same = left_alone m (λ x. RecvFits c.row p.world x ⊎ Q x) (disk_at roles.Recv c) new (λ told x image. inl (stands.disks.recv_disk.images told x image)) same
+  pub recv_alone : (Q : List ℕ → Type 0) (new : D) → new ≡ disk_at roles.Recv c → LeavesOn m (disk_at roles.Recv c) new (λ x. RecvFits c.row p.world x ⊎ Q x)
+  recv_alone Q new same = leaves_alone m (λ x. RecvFits c.row p.world x ⊎ Q x) (disk_at roles.Recv c) new same
 
   -- no call was made
   pub all_alone : (d : Parts D) (q : Past) → disk_at roles.Low d ≡ disk_at roles.Low c → disk_at roles.High d ≡ disk_at roles.High c → disk_at roles.Recv d ≡ disk_at roles.Recv c → PartsLeaveFit m c d p q
@@ -57,15 +50,11 @@ module _ {D : Type 0} (m : Meaning D) (c : Parts D) (p : Past) (stands : Stands 
   }
 
   -- a high look
-  high_reads : m.tells → HighStands c.row (high.removed_of c.high) (m.reading (high_disk c.high_store))
-  high_reads told = subst (λ n. HighStands c.row n (m.reading (high_disk c.high_store))) stands.world.removed (high_reading c.row p.world (m.reading (high_disk c.high_store)) stands.sound.rest.removing (stands.disks.high_disk.reading told))
-
-  pub high_leaves : (Q : List ℕ → Type 0) (store : HighStore D) (frame : Option Frame) → LeavesCounted m c.high c.high_store store frame
-      → ((x : List ℕ) → HighStands c.row (p.world.removed + 1) x → Q x) → Leaves m (high_disk c.high_store) (high_disk store) (λ x. HighFits c.row p.world x ⊎ Q x)
-  high_leaves Q store frame leaves more told x since = ⊎_elim
-      (λ is. inl (inl (subst (λ n. HighStands c.row n x) (sym stands.world.removed) is)))
-      (λ given. inr (more x (subst (λ n. HighStands c.row (n + 1) x) (sym stands.world.removed) given.1)))
-      (leaves c.row high_reads told x since)
+  pub high_leaves : (Q : List ℕ → Type 0) (store : HighStore D) → Moves m MayRemove (high_disk c.high_store) (high_disk store)
+      → ((x : List ℕ) → HighStands c.row (p.world.removed + 1) x → Q x) → LeavesOn m (high_disk c.high_store) (high_disk store) (λ x. HighFits c.row p.world x ⊎ Q x)
+  high_leaves Q store moves more = leaves_by_step m (HighFits c.row p.world) (λ x. HighFits c.row p.world x ⊎ Q x) MayRemove (high_disk c.high_store) (high_disk store) stands.disks.high_disk
+      (λ x y fit may. ⊎_elim (λ is. inl (inl is)) (λ is. inr (more y is)) (may.either c.row p.world.removed (high_reading c.row p.world x stands.sound.rest.removing fit)))
+      moves
 
 -- ---- a low look ----
 
@@ -91,31 +80,29 @@ module _ {D : Type 0} (m : Meaning D) (c d : Parts D) (p : Past) (moment word : 
       let same : (low_row c.low_store).capacity ≡ c.row.capacity = ap (λ (r : SessionRow). r.capacity) store_row_is in
       omega (arith, has, b.size, b.within.below, stands.world.capacity, stands.world.accepted, same)
 
-  low_reads : m.tells → LowStands (low_row c.low_store) (low.next_of c.low) p.world.removed (live_messages p.world) (m.reading (low_disk c.low_store))
-  low_reads told = subst (λ (t : SessionRow × ℕ). LowStands t.0 t.1 p.world.removed (live_messages p.world) (m.reading (low_disk c.low_store))) (λ i. (sym store_row_is i, stands.world.accepted i))
-      (low_reading c.row p.world (m.reading (low_disk c.low_store)) stands.sound.rest.storing (stands.disks.low_disk.reading told))
-
   module _ (Q : List ℕ → Type 0) where
     -- where it stores this message
     Stored : Payload → Type 0
     Stored message = (x : List ℕ) → LowStands c.row (length p.world.accepted + 1) p.world.removed (live_messages p.world ++ message ∷ []) x → Q x
 
-    stored_leaves : (message : Payload) → message_in c.low a ≡ Some message → Stored message → Leaves m (low_disk c.low_store) (low_disk d.low_store) (λ x. LowFits c.row p.world x ⊎ Q x)
+    stored_leaves : (message : Payload) → message_in c.low a ≡ Some message → Storing m message c.low_store d.low_store is_fault → Stored message
+        → LeavesOn m (low_disk c.low_store) (low_disk d.low_store) (λ x. LowFits c.row p.world x ⊎ Q x)
     unfolding Stored
-    stored_leaves message e more told x since =
-        let t = taking c.low a message e in
-        let left = did.images p.world.removed (live_messages p.world) stands.low_ready.up (free message e) low_reads told x since in
-        let count : low.next_of c.low ≡ length p.world.accepted = sym stands.world.accepted in
-        let either = subst (λ (u : Arrival). HasOrGains (low_row c.low_store) (low.next_of c.low) p.world.removed (live_messages p.world) u x) t.comes left in
+    stored_leaves message e s more = leaves_by_step m (LowFits c.row p.world) (λ x. LowFits c.row p.world x ⊎ Q x) (MayGain (low_row c.low_store) message) (low_disk c.low_store) (low_disk d.low_store) stands.disks.low_disk
+        (λ x y fit may.
+        let was = low_reading c.row p.world x stands.sound.rest.storing fit in
+        let room = free message e in
         ⊎_elim
-        (λ is. inl (inl (subst (λ (u : SessionRow × ℕ). LowStands u.0 u.1 p.world.removed (live_messages p.world) x) (λ i. (store_row_is i, count i)) is)))
-        (λ is. inr (more x (subst (λ (u : SessionRow × ℕ × Payload). LowStands u.0 (u.1 + 1) p.world.removed (live_messages p.world ++ u.2 ∷ []) x) (λ i. (store_row_is i, count i, sym t.is_message i)) is)))
-        either
+        (λ is. inl (inl (subst (λ (r : SessionRow). LowStands r (length p.world.accepted) p.world.removed (live_messages p.world) y) store_row_is is)))
+        (λ is. inr (more y (subst (λ (r : SessionRow). LowStands r (length p.world.accepted + 1) p.world.removed (live_messages p.world ++ message ∷ []) y) store_row_is is)))
+        (may.either (length p.world.accepted) p.world.removed (live_messages p.world) (omega (arith, room, stands.world.accepted))
+        (subst (λ (r : SessionRow). LowStands r (length p.world.accepted) p.world.removed (live_messages p.world) x) (sym store_row_is) was)))
+        s.moves
 
     leaves_by : (message : Option Payload) → message_in c.low a ≡ message → StoreStep m message c.low_store d.low_store is_fault
-        → ((t : Payload) → message_in c.low a ≡ Some t → Stored t) → Leaves m (low_disk c.low_store) (low_disk d.low_store) (λ x. LowFits c.row p.world x ⊎ Q x)
+        → ((t : Payload) → message_in c.low a ≡ Some t → Stored t) → LeavesOn m (low_disk c.low_store) (low_disk d.low_store) (λ x. LowFits c.row p.world x ⊎ Q x)
     leaves_by None e s more = low_alone m c p stands Q (low_disk d.low_store) (ap low_disk s.1)
-    leaves_by (Some message) e s more = stored_leaves message e (more message e)
+    leaves_by (Some message) e s more = stored_leaves message e s (more message e)
 
   high_same : high_disk d.high_store ≡ high_disk c.high_store
   high_same = ap (λ (t : Parts D). high_disk t.high_store) did.rest
@@ -200,18 +187,24 @@ module _ {D : Type 0} (m : Meaning D) (c e d : Parts D) (p mid q : Past) (stands
       let is : RecvFits c.row q.world (m.reading (disk_at roles.Recv e)) = subst (λ (t : SessionRow × D). RecvFits t.0 q.world (m.reading t.1)) (λ i. ((row' ∙ row) i, same i)) (reads.recv told) in
       recv_onto c.row mid.world q.world (m.reading (disk_at roles.Recv e)) x stands_mid.sound.rest.packet (subst (λ (r : SessionRow). RecvFits r mid.world (m.reading (disk_at roles.Recv e))) row (stands_mid.disks.recv_disk.reading told)) is fits
 
+  -- the high disk was called after the middle alone
+  high_later : disk_at roles.High e ≡ disk_at roles.High c → PartsLeaveFit m e d mid q → LeavesOn m (disk_at roles.High c) (disk_at roles.High d) (λ x. HighFits c.row p.world x ⊎ HighFits c.row q.world x)
+  high_later high fits = leaves_weaker m (λ x. HighFits e.row mid.world x ⊎ HighFits e.row q.world x) (λ x. HighFits c.row p.world x ⊎ HighFits c.row q.world x) (disk_at roles.High c) (disk_at roles.High d)
+      (λ told x. ⊎_elim
+      (λ is. inl (high_before high (m.images_tell told) x is))
+      (λ is. inr (subst (λ (r : SessionRow). HighFits r q.world x) row is)))
+      (subst (λ (h : D). LeavesOn m h (disk_at roles.High d) (λ x. HighFits e.row mid.world x ⊎ HighFits e.row q.world x)) high fits.high)
+
   -- the first part called no disk, and the second not the low one
   pub later_fits : disk_at roles.Low d ≡ disk_at roles.Low c → disk_at roles.High e ≡ disk_at roles.High c → disk_at roles.Recv e ≡ disk_at roles.Recv c → PartsLeaveFit m e d mid q → PartsLeaveFit m c d p q
   later_fits low high recv fits = record {
     low = low_alone m c p stands (LowFits c.row q.world) (disk_at roles.Low d) low;
-    high = λ told x since. ⊎_elim
-        (λ is. inl (high_before high (m.images_tell told) x is))
-        (λ is. inr (subst (λ (r : SessionRow). HighFits r q.world x) row is))
-        (fits.high told x (subst (λ (h : D). m.since (disk_at roles.High d) (m.moment h) x) (sym high) since));
-    recv = λ told x since. ⊎_elim
+    high = high_later high fits;
+    recv = leaves_weaker m (λ x. RecvFits e.row mid.world x ⊎ RecvFits e.row q.world x) (λ x. RecvFits c.row p.world x ⊎ RecvFits c.row q.world x) (disk_at roles.Recv c) (disk_at roles.Recv d)
+        (λ told x. ⊎_elim
         (λ is. inl (recv_before recv (m.images_tell told) x is))
-        (λ is. inr (subst (λ (r : SessionRow). RecvFits r q.world x) row is))
-        (fits.recv told x (subst (λ (h : D). m.since (disk_at roles.Recv d) (m.moment h) x) (sym recv) since));
+        (λ is. inr (subst (λ (r : SessionRow). RecvFits r q.world x) row is)))
+        (subst (λ (h : D). LeavesOn m h (disk_at roles.Recv d) (λ x. RecvFits e.row mid.world x ⊎ RecvFits e.row q.world x)) recv fits.recv);
   }
 
   -- the first part called the receiver's disk alone, and the second the high one alone
@@ -219,12 +212,10 @@ module _ {D : Type 0} (m : Meaning D) (c e d : Parts D) (p mid q : Past) (stands
       → PartsLeaveFit m c e p mid → PartsLeaveFit m e d mid q → PartsLeaveFit m c d p q
   both_fit low high recv row' reads first second = record {
     low = low_alone m c p stands (LowFits c.row q.world) (disk_at roles.Low d) low;
-    high = λ told x since. ⊎_elim
-        (λ is. inl (high_before high (m.images_tell told) x is))
-        (λ is. inr (subst (λ (r : SessionRow). HighFits r q.world x) row is))
-        (second.high told x (subst (λ (h : D). m.since (disk_at roles.High d) (m.moment h) x) (sym high) since));
-    recv = λ told x since. ⊎_elim
+    high = high_later high second;
+    recv = leaves_weaker m (λ x. RecvFits c.row p.world x ⊎ RecvFits c.row mid.world x) (λ x. RecvFits c.row p.world x ⊎ RecvFits c.row q.world x) (disk_at roles.Recv c) (disk_at roles.Recv d)
+        (λ told x. ⊎_elim
         (λ is. inl is)
-        (λ is. inr (recv_after recv row' reads (m.images_tell told) x is))
-        (first.recv told x (subst (λ (h : D). m.since h (m.moment (disk_at roles.Recv c)) x) recv since));
+        (λ is. inr (recv_after recv row' reads (m.images_tell told) x is)))
+        (subst (λ (h : D). LeavesOn m (disk_at roles.Recv c) h (λ x. RecvFits c.row p.world x ⊎ RecvFits c.row mid.world x)) (sym recv) first.recv);
   }

@@ -13,7 +13,7 @@ use Rattle.pump_core.proofs.Laws.{runs_lawfully}
 use Rattle.passage.specs.declared.plain.PlainEnds.{PlainEnds}
 use Rattle.low_process.specs.Looks as low
 use Rattle.high_process.specs.States as high
-use Rattle.high_process.specs.Storing.{Fares, LeavesCounted}
+use Rattle.high_process.specs.Storing.{Fares}
 use Rattle.high_process.specs.declared.process.HighProcess.{HighProcess}
 use Rattle.high_process.specs.declared.values.HighFault.{HighFault}
 use Rattle.high_process.specs.declared.values.HighFault.TheVariants.{Ahead, Behind, Device}
@@ -52,8 +52,8 @@ module _ {D : Type 0} (m : Meaning D) (c : Parts D) (p : Past) (stands : Stands 
     pub fails : PartsFail m (broken_parts c moment q store ends) end roles.High faults
     pub fits : PartsLeaveFit m c (broken_parts c moment q store ends) p end
 
-  breaks_removing : (frame : Option Frame) → LeavesCounted m c.high c.high_store store frame → (k faults : ℕ) → TakesHand c p k → Fares m Remove c.high q c.high_store store (failed (Device faults)) → Broken (Some k) faults
-  breaks_removing frame leaves k faults takes fares = record {
+  breaks_removing : (k faults : ℕ) → TakesHand c p k → Fares m Remove c.high q c.high_store store (failed (Device faults)) → Broken (Some k) faults
+  breaks_removing k faults takes fares = record {
     end = record p { world = with_begun p.world; moment = moment };
     breaks = (
       refl,
@@ -72,23 +72,23 @@ module _ {D : Type 0} (m : Meaning D) (c : Parts D) (p : Past) (stands : Stands 
     );
     fits = record {
       low = low_alone m c p stands (LowFits c.row (with_begun p.world)) (low_disk c.low_store) refl;
-      high = high_leaves m c p stands (HighFits c.row (with_begun p.world)) store frame leaves (λ x is. inr (refl, is));
+      high = high_leaves m c p stands (HighFits c.row (with_begun p.world)) store fares.0.moves (λ x is. inr (refl, is));
       recv = recv_alone m c p stands (RecvFits c.row (with_begun p.world)) (recv_disk c.receiver) refl;
     };
   }
 
-  breaks_by : (frame : Option Frame) → LeavesCounted m c.high c.high_store store frame → (task : Task) (back : Option ℕ) (faults : ℕ) → Asks c p back task → Fares m task c.high q c.high_store store (failed (Device faults)) → Broken back faults
-  breaks_by frame leaves Keep back faults asked fares = absurd fares.0
-  breaks_by frame leaves Remove None faults asked fares = absurd asked
-  breaks_by frame leaves Remove (Some k) faults asked fares = breaks_removing frame leaves k faults asked.0 fares
-  breaks_by frame leaves (Refuse e) None faults asked fares = absurd asked
-  breaks_by frame leaves (Refuse (Ahead n next)) (Some k) faults asked fares = let no = fares.0 in absurd (cc)
-  breaks_by frame leaves (Refuse (Behind n next)) (Some k) faults asked fares = absurd asked
-  breaks_by frame leaves (Refuse (Device n)) (Some k) faults asked fares = absurd asked
+  breaks_by : (task : Task) (back : Option ℕ) (faults : ℕ) → Asks c p back task → Fares m task c.high q c.high_store store (failed (Device faults)) → Broken back faults
+  breaks_by Keep back faults asked fares = absurd fares.0
+  breaks_by Remove None faults asked fares = absurd asked
+  breaks_by Remove (Some k) faults asked fares = breaks_removing k faults asked.0 fares
+  breaks_by (Refuse e) None faults asked fares = absurd asked
+  breaks_by (Refuse (Ahead n next)) (Some k) faults asked fares = let no = fares.0 in absurd (cc)
+  breaks_by (Refuse (Behind n next)) (Some k) faults asked fares = absurd asked
+  breaks_by (Refuse (Device n)) (Some k) faults asked fares = absurd asked
 
   pub breaks : (frame : Option Frame) (back : Option ℕ) (faults : ℕ) → ComesBack c.row.id p.world attaches frame back
-      → Fares m (high.task_at c.high frame) c.high q c.high_store store (failed (Device faults)) → LeavesCounted m c.high c.high_store store frame → Broken back faults
-  breaks frame back faults comes fares leaves = breaks_by frame leaves (high.task_at c.high frame) back faults (asks m c p stands attaches frame back comes) fares
+      → Fares m (high.task_at c.high frame) c.high q c.high_store store (failed (Device faults)) → Broken back faults
+  breaks frame back faults comes fares = breaks_by (high.task_at c.high frame) back faults (asks m c p stands attaches frame back comes) fares
 
   -- ---- a TAKEN that is refused ----
 

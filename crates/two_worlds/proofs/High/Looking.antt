@@ -19,7 +19,7 @@ use Rattle.high_process.specs.Past as high_past
 use Rattle.high_process.specs.Ends.{TakesUp, told_time, StandsFitting}
 use Rattle.high_process.specs.Looks.{StandsFor as HighStandsFor, Looked}
 use Rattle.high_process.specs.Tasks.{attaches_in}
-use Rattle.high_process.specs.Storing.{Removing, Fares, LeavesCounted}
+use Rattle.high_process.specs.Storing.{Removing, Fares}
 use Rattle.high_process.specs.declared.process.HighProcess.{HighProcess}
 use Rattle.high_process.specs.declared.values.HighLook.{HighLook}
 use Rattle.high_process.specs.declared.values.Task.{Task}
@@ -169,9 +169,9 @@ module _ {D : Type 0} (m : Meaning D) (c : Parts D) (p : Past) (stands : Stands 
       next_is : high_past.begun Remove past moment ≡ next
       next_is = refl
 
-      looks_removing : (frame : Option Frame) → LeavesCounted m c.high c.high_store store frame → is_ahead p.world k ≡ false → Removing m c.high_store store (went look) → look.removed ≡ Some past.removed → look.published ≡ time
+      looks_removing : is_ahead p.world k ≡ false → Removing m c.high_store store (went look) → look.removed ≡ Some past.removed → look.published ≡ time
           → Seen c.row.resend attaches time look.sent (high_past.begun Remove past moment) → Leads (Some k) look
-      looks_removing frame leaves fine removing removed published seen =
+      looks_removing fine removing removed published seen =
           let (got, takes, stood, sent) = subst (Seen c.row.resend attaches time look.sent) next_is seen in
           let fetched = fetched_by (shape_of c.ends) c.ends ends q stands.ends.low stands.ends.high time (high_past.wants next) next.removed got stands.ends.stand takes in
           let times : stands.ends.high.times ++ option_to_list time ≡ p.times ++ option_to_list time = ap (λ (l : List ℕ). l ++ option_to_list time) stands.ends.times in
@@ -189,7 +189,7 @@ module _ {D : Type 0} (m : Meaning D) (c : Parts D) (p : Past) (stands : Stands 
             stand = e.stand;
             fits = record {
               low = low_alone m c p stands (LowFits c.row e.end.world) (low_disk c.low_store) refl;
-              high = high_leaves m c p stands (HighFits c.row e.end.world) store frame leaves (λ x is. inl (subst (λ n. HighStands c.row n x) (sym e.removed_is) is));
+              high = high_leaves m c p stands (HighFits c.row e.end.world) store removing.moves (λ x is. inl (subst (λ n. HighStands c.row n x) (sym e.removed_is) is));
               recv = recv_alone m c p stands (RecvFits c.row e.end.world) (recv_disk c.receiver) refl;
             };
           }
@@ -199,22 +199,22 @@ module _ {D : Type 0} (m : Meaning D) (c : Parts D) (p : Past) (stands : Stands 
         (look.removed ≡ high_past.removed_in task past) × (look.published ≡ high_past.published_in task past moment)
         × Seen resend with_receiver (high_past.published_in task past moment) look.sent (high_past.begun task past moment)
 
-    by_task : (frame : Option Frame) → LeavesCounted m c.high c.high_store store frame → (task : Task) (back : Option ℕ) → Asks c p back task → Fares m task c.high q c.high_store store (went look) → LookedBy task attaches c.row.resend → Leads back look
-    by_task frame leaves Keep None asked fares (a, b, seen) = looks_keeping None refl tt fares.1 a b seen
-    by_task frame leaves Keep (Some k) asked fares (a, b, seen) = looks_keeping (Some k) asked.0 asked.1 fares.1 a b seen
-    by_task frame leaves Remove None asked fares seen = absurd asked
-    by_task frame leaves Remove (Some k) asked fares (a, b, seen) = looks_removing k asked.0 frame leaves asked.1 fares.0 a b seen
-    by_task frame leaves (Refuse e) back asked fares seen = let no = fares.0 in absurd (cc)
+    by_task : (task : Task) (back : Option ℕ) → Asks c p back task → Fares m task c.high q c.high_store store (went look) → LookedBy task attaches c.row.resend → Leads back look
+    by_task Keep None asked fares (a, b, seen) = looks_keeping None refl tt fares.1 a b seen
+    by_task Keep (Some k) asked fares (a, b, seen) = looks_keeping (Some k) asked.0 asked.1 fares.1 a b seen
+    by_task Remove None asked fares seen = absurd asked
+    by_task Remove (Some k) asked fares (a, b, seen) = looks_removing k asked.0 asked.1 fares.0 a b seen
+    by_task (Refuse e) back asked fares seen = let no = fares.0 in absurd (cc)
 
     pub looks : (frame : Option Frame) (back : Option ℕ) → ComesBack c.row.id p.world attaches frame back
         → Fares m (high.task_at c.high frame) c.high q c.high_store store (went look)
         → Looked (shape_of c.ends) true (StandsFitting (EndsStand ends) q) stands.ends.low stands.ends.high c.high q past moment (high.task_at c.high frame) (high.attaches_at c.high frame) look
-        → LeavesCounted m c.high c.high_store store frame → Leads back look
-    looks frame back comes fares looked leaves =
+        → Leads back look
+    looks frame back comes fares looked =
         let same : high.attaches_at c.high frame ≡ attaches =
         ap (λ (r : SessionRow). attaches_in r.id frame) stands.high_ready.row ∙ attaches_is c.row.id p.world attaches frame back comes in
         let resend : (high.row_of c.high).resend ≡ c.row.resend = ap (λ (r : SessionRow). r.resend) stands.high_ready.row in
         let task = high.task_at c.high frame in
         let seen : LookedBy task (high.attaches_at c.high frame) (high.row_of c.high).resend =
         (ap (λ (l : HighLook). l.removed) looked.is, ap (λ (l : HighLook). l.published) looked.is, (looked.got, looked.ends, looked.stands, ap (λ (l : HighLook). l.sent) looked.is)) in
-        by_task frame leaves task back (asks m c p stands attaches frame back comes) fares (subst (λ (t : Bool × ℕ). LookedBy task t.0 t.1) (λ i. (same i, resend i)) seen)
+        by_task task back (asks m c p stands attaches frame back comes) fares (subst (λ (t : Bool × ℕ). LookedBy task t.0 t.1) (λ i. (same i, resend i)) seen)

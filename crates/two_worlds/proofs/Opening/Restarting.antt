@@ -4,7 +4,7 @@ use Rattle.std.specs.Prelude.{if◌then◌else◌, is_some}
 use Rattle.std.specs.Coded.{le_prop}
 use Rattle.std.proofs.Math.Logic.{∥∥₁_elim}
 use Rattle.std.proofs.lemmas.Bool.{eqb-true}
-use Rattle.disk_model.specs.Disk.{Meaning, Each, Leaves, Moves, Same}
+use Rattle.disk_model.specs.Disk.{Meaning, Each, Moves, Same}
 use Rattle.disk_model.specs.declared.name.Role.{Role}
 use Rattle.disk_model.specs.declared.name.Role.TheVariants as roles
 use Rattle.disk_model.proofs.Run.{each_after, leaves}
@@ -31,12 +31,13 @@ use Rattle.two_worlds.specs.declared.pump.parts.Parts.{Parts}
 use Rattle.two_worlds.specs.declared.pump.state.BareDisks.{BareDisks}
 use Rattle.two_worlds.specs.declared.pump.state.PumpState.TheVariants.{Shut}
 use Rattle.world_laws.specs.Disks.{LowFits, HighFits, RecvFits, RemovesBehind}
-use Rattle.two_worlds.specs.Doing.{Fails, LeavesFit}
+use Rattle.two_worlds.specs.Doing.{Fails, LeavesFit, LeavesOn}
 use Rattle.two_worlds.specs.Private.Restarting.{stop_for, RestartsFrom, RestartsOn, DisksRestart}
 use Rattle.two_worlds.specs.Rooms.{Serves, stops_at}
 use Rattle.two_worlds.specs.Standing.{Stands, StandsForSome, bare_of, bare_disk}
 use Rattle.two_worlds.proofs.Carry.Serves.{recv_has, high_has}
 use Rattle.two_worlds.proofs.Disks.Images.{recv_alone}
+use Rattle.two_worlds.proofs.Disks.Leaving.{leaves_by_step}
 use Rattle.two_worlds.proofs.Disks.LeavesWorld.{fits_row}
 use Rattle.two_worlds.proofs.Opening.Comparing.{serves_by, serves_high}
 use Rattle.two_worlds.proofs.Opening.Opened.{received_end}
@@ -67,8 +68,8 @@ module _ {D : Type 0} (m : Meaning D) (P : List ℕ → Type 0) (old new : D) (e
   pub each_same : Each m P new
   each_same = each_after m P P Same old new each (λ c d has is. subst P (sym is) has) same
 
-  pub leaves_same : (Q : List ℕ → Type 0) → Leaves m old new (λ x. P x ⊎ Q x)
-  leaves_same Q = leaves m P (λ x. P x ⊎ Q x) Same old new each (λ x has. inl has) (λ c d has is. inl (subst P (sym is) has)) same
+  pub leaves_same : (Q : List ℕ → Type 0) → LeavesOn m old new (λ x. P x ⊎ Q x)
+  leaves_same Q = leaves_by_step m P (λ x. P x ⊎ Q x) Same old new each (λ c d has is. inl (subst P (sym is) has)) same
 
 module _ {D : Type 0} (m : Meaning D) (c : Parts D) where
   -- no crash leaves more removed than taken

@@ -1,5 +1,5 @@
 -- The line `receiver-restart`: the receiver is opened again, and attaches.
-use Rattle.std.proofs.Common.{◌≡◌, inl, ⊎_elim, ℕ, true, ◌&&◌, ◌==◌, nat_le, List, [], Some, Result, Ok, Err, refl, sym, ap, ◌∙◌, subst}
+use Rattle.std.proofs.Common.{◌≡◌, ◌⊎◌, inl, ⊎_elim, ℕ, true, ◌&&◌, ◌==◌, nat_le, List, [], Some, Result, Ok, Err, refl, sym, ap, ◌∙◌, subst}
 use Rattle.std.specs.Result.{result_err}
 use Rattle.std.proofs.Math.Logic.{∥∥₁_map}
 use Rattle.disk_model.specs.Disk.{Meaning}
@@ -18,7 +18,7 @@ use Rattle.two_worlds.specs.declared.applied.Stop.TheVariants.{Line, Device, Ful
 use Rattle.two_worlds.specs.declared.pump.parts.Parts.{Parts}
 use Rattle.two_worlds.specs.declared.pump.state.PumpState.{PumpState}
 use Rattle.two_worlds.specs.declared.pump.state.PumpState.TheVariants.{Open, Shut}
-use Rattle.two_worlds.specs.Doing.{LeavesFit, DoesFrom, NeverOverfills}
+use Rattle.two_worlds.specs.Doing.{LeavesFit, LeavesOn, DoesFrom, NeverOverfills}
 use Rattle.two_worlds.specs.Private.HighLooks.{Attaches, BreaksAttaching}
 use Rattle.two_worlds.specs.Private.Restarting.{is_due_in}
 use Rattle.two_worlds.specs.Private.Reopening.{Reopens, Reattaches, ReopensFrom, ReopensOn}
@@ -27,8 +27,10 @@ use Rattle.two_worlds.specs.Private.StateSteps.{StateApplies, StateAppliesOn}
 use Rattle.two_worlds.specs.Rooms.{DisksGo}
 use Rattle.two_worlds.specs.Standing.{Stands, bare_of}
 use Rattle.two_worlds.specs.States.{disks_in, IsOpenWith, StandsIn}
+use Rattle.world_laws.specs.Disks.{RecvFits}
 use Rattle.world_laws.specs.Timelines.{IsAtRest}
 use Rattle.two_worlds.specs.Working.{IsAble}
+use Rattle.two_worlds.proofs.Disks.Leaving.{leaves_weaker}
 use Rattle.two_worlds.proofs.Disks.Together.{serve_then}
 
 -- between two lines a crash of the receiver changes nothing
@@ -85,7 +87,9 @@ module _ {D : Type 0} (m : Meaning D) (c : Parts D) (new : Receiver D) (e : Part
     fits p q first second = record {
       low = second.low;
       high = second.high;
-      recv = λ told x since. inl (⊎_elim (λ f. f) (λ f. f) (first.recv told x (subst (λ (r : D). m.since r (m.moment (recv_disk c.receiver)) x) a.recv since)));
+      recv = leaves_weaker m (λ x. RecvFits c.row p.world x ⊎ RecvFits c.row p.world x) (λ x. RecvFits c.row p.world x ⊎ RecvFits c.row q.world x) (recv_disk c.receiver) (recv_disk e.receiver)
+          (λ told x either. inl (⊎_elim (λ f. f) (λ f. f) either))
+          (subst (λ (r : D). LeavesOn m (recv_disk c.receiver) r (λ x. RecvFits c.row p.world x ⊎ RecvFits c.row p.world x)) (sym a.recv) first.recv);
     }
 
   applied_from : (result : Result (Unit {0}) Stop) → Reattaches m d e moment printed result → (p : Past) → Stands m c p → LeavesFit m (bare_of c) (bare_of d) p p

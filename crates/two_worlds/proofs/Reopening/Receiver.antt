@@ -2,7 +2,7 @@
 use Rattle.std.proofs.Common.{◌≡◌, ◌⊎◌, inl, inr, ℕ, Bool, true, false, List, Ok, refl, sym, ap, ◌∙◌, subst}
 use Rattle.std.proofs.Math.Logic.{∥∥₁_map}
 use Rattle.disk_model.specs.Disk.{Meaning, Each, Moves, Same}
-use Rattle.disk_model.proofs.Run.{each_after, leaves}
+use Rattle.disk_model.proofs.Run.{each_after}
 use Rattle.stable_buffer.specs.Low.{low_disk}
 use Rattle.stable_buffer.specs.High.{high_disk}
 use Rattle.stable_buffer.specs.Register.{value_of, cell_at, place_of}
@@ -22,6 +22,7 @@ use Rattle.two_worlds.specs.Standing.{Stands, bare_of}
 use Rattle.two_worlds.specs.Working.{Works, IsAble}
 use Rattle.two_worlds.proofs.Carry.Serves.{HasTaken, serves_alone, behind_alone, recv_has}
 use Rattle.two_worlds.proofs.Disks.Images.{low_alone, high_alone}
+use Rattle.two_worlds.proofs.Disks.Leaving.{leaves_by_step}
 
 -- the calls of an opening, as those of any part of a line
 pub calls_serve : {D : Type 0} (m : Meaning D) (least : ℕ) (old new : D) (failed : Bool) → Calls m old new failed → Serves m least old new failed
@@ -65,8 +66,8 @@ module _ {D : Type 0} (m : Meaning D) (c : Parts D) (recv : D) (same : Moves m S
   still_fits p s = record {
     low = low_alone m c p s (LowFits c.row p.world) (low_disk c.low_store) refl;
     high = high_alone m c p s (HighFits c.row p.world) (high_disk c.high_store) refl;
-    recv = leaves m (RecvFits c.row p.world) (λ x. RecvFits c.row p.world x ⊎ RecvFits c.row p.world x) Same (recv_disk c.receiver) recv s.disks.recv_disk
-        (λ x fits. inl fits) (λ x y fits is. inl (onto (RecvFits c.row p.world) x y fits is)) same;
+    recv = leaves_by_step m (RecvFits c.row p.world) (λ x. RecvFits c.row p.world x ⊎ RecvFits c.row p.world x) Same (recv_disk c.receiver) recv s.disks.recv_disk
+        (λ x y fits is. inl (onto (RecvFits c.row p.world) x y fits is)) same;
   }
 
 -- ---- the receiver ----

@@ -8,6 +8,9 @@ use Rattle.pump_wrapper.proofs.file_sender.open.Goals as goal
 pub returns-in-Ok-clause-counts : goal.returns-in-Ok-clause-counts
 returns-in-Ok-clause-counts g c = (let e = c.in-Ok.ensures in counts_opened g.D.Disk.told c.args.row.now c.args.disks (λ role. disk_at role c.in-Ok.pump) e.low e.high e.recv)
 
+pub returns-in-Ok-clause-recv : goal.returns-in-Ok-clause-recv
+returns-in-Ok-clause-recv g c = c.in-Ok.ensures.recv.left
+
 pub returns-in-Err-clause-not : goal.returns-in-Err-clause-not
 returns-in-Err-clause-not g c =
     let e = c.in-Err.ensures in

@@ -1,15 +1,19 @@
-use Rattle.std.proofs.Common.{◌∙◌, Bool, sym, ap, subst}
+use Rattle.std.proofs.Common.{◌∙◌, Bool, false, sym, ap, subst, append-nil}
+use Rattle.disk_model.specs.declared.name.Role.TheVariants as roles
 use Rattle.pump_frame.specs.Rows.{IsLawfulRow}
 use Rattle.pump_frame.specs.declared.row.SessionRow.{SessionRow}
 use Rattle.script_reader.specs.Openings.{CanOpen, first_past}
 use Rattle.world_laws.specs.Disks.{LeaveWorld}
-use Rattle.two_worlds.specs.Pumps.{StandsFor}
+use Rattle.two_worlds.specs.Pumps.{StandsFor, disk_at}
+use Rattle.pump_wrapper.specs.Crashes.{KeepsFront}
 use Rattle.pump_wrapper.specs.Cutting.{Gave, cut_bytes}
 use Rattle.pump_wrapper.specs.Wraps.{HasAll, Sends, all_taken, is_too_long}
 use Rattle.pump_wrapper.specs.WrapEnds.{EndsOn, HasDiskCause}
 use Rattle.pump_wrapper.specs.declared.file_sender.WrapEnd.{WrapEnd}
 use Rattle.pump_wrapper.proofs.Ending.{all_end, early_read, early_sent, front_again, long_sent, none_gave, read_sent, sent_cause, sent_ends, sent_front}
+use Rattle.pump_wrapper.proofs.Fronts.{begins_same, begins_then}
 use Rattle.pump_wrapper.proofs.Holding.{stand_for_all}
+use Rattle.pump_wrapper.proofs.Joining.{keeps_then, left_keeps}
 use Rattle.pump_wrapper.proofs.Wholes.{sent_disks}
 use Rattle.pump_wrapper.proofs.file_sender.send_further.Goals as goal
 
@@ -28,6 +32,13 @@ returns-in-Err-clause-images g c = λ told messages has front all begins continu
     let row = c.args.row.now in
     front_again m row messages all c.args.disks c.in-Err.failed.disks c.in-Err.failed.end front begins
     (c.in-Err.ensures.not.images told (all_taken messages) (stand_for_all m row messages c.args.disks has) all)
+
+pub returns-in-Err-clause-keeps : goal.returns-in-Err-clause-keeps
+returns-in-Err-clause-keeps g c = λ told messages has all begins continues.
+    let m = g.D.Disk.told in
+    let row = c.args.row.now in
+    c.in-Err.ensures.not.keeps told (all_taken messages) (stand_for_all m row messages c.args.disks has) all
+    (begins_then _ messages all (begins_same _ messages (sym (append-nil messages))) begins)
 
 pub returns-in-Err-clause-gave : goal.returns-in-Err-clause-gave
 returns-in-Err-clause-gave g c = none_gave c.args.cutter.now.bytes (g.I.Source.left c.args.file.now) c.in-Err.failed.end c.requires.may.few c.in-Err.ensures.not.early
@@ -85,6 +96,24 @@ returns-clause-images g c = λ told messages has front all begins continues.
     (λ q stands. subst (λ (r : SessionRow). LeaveWorld m r q.world c.close.result.low c.close.result.high c.close.result.recv) (s.row ∙ e.row) (c.close.ensures.left q stands))
     all c.send_rest-sent.result
     (subst (λ (r : SessionRow). Sends m c.send_rest-sent.new.pump r messages c.args.cutter.now left c.send_rest-sent.result) e.row sends) told continues
+
+pub returns-clause-keeps : goal.returns-clause-keeps
+returns-clause-keeps g c = λ told messages has all begins continues some front.
+    let m = g.D.Disk.told in
+    let row = c.args.row.now in
+    let e = c.in-Ok.ensures in
+    let s = c.send_rest-sent.ensures in
+    let tells = m.images_tell told in
+    let old = c.args.disks.recv in
+    let opened = disk_at roles.Recv c.in-Ok.pump in
+    let last = disk_at roles.Recv c.send_rest-sent.new.pump in
+    let keeps = s.keeps tells messages
+    (subst IsLawfulRow (sym e.row) c.requires.lawful)
+    (subst (λ (r : SessionRow). CanOpen r (all_taken messages)) (sym e.row) has.can_open)
+    (subst (λ (r : SessionRow). StandsFor m c.in-Ok.pump (first_past r (all_taken messages))) (sym e.row) (e.stands tells (all_taken messages) (stand_for_all m row messages c.args.disks has))) all continues in
+    keeps_then m row all old opened c.close.result.recv (left_keeps m row all old opened false e.recv tells some (λ told. front))
+    (subst (λ d. KeepsFront m row all opened d) (sym (c.close.ensures.disks roles.Recv))
+    (subst (λ (r : SessionRow). KeepsFront m r all opened last) e.row keeps))
 
 pub returns-clause-cause : goal.returns-clause-cause
 returns-clause-cause g c =

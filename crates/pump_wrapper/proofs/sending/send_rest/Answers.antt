@@ -1,12 +1,14 @@
-use Rattle.std.proofs.Common.{◌≡◌, ℕ, ◌<◌, ◌≤◌, ◌^◌, [], ◌∷◌, ◌++◌, length, refl, sym, ap, ◌∙◌, subst, arith, append-nil}
+use Rattle.std.proofs.Common.{◌≡◌, ℕ, ◌<◌, ◌≤◌, ◌^◌, [], ◌∷◌, ◌++◌, length, Ok, Err, refl, sym, ap, ◌∙◌, subst, arith, append-nil}
 use Rattle.std.proofs.KnownBytes.{Consumes-nil, Consumes-trans}
+use Rattle.disk_model.specs.declared.name.Role.TheVariants as roles
 use Rattle.script_reader.specs.Openings.{first_past}
-use Rattle.two_worlds.specs.Pumps.{row_of}
+use Rattle.two_worlds.specs.Pumps.{disk_at, row_of}
 use Rattle.pump_wrapper.specs.Sending.{pause}
 use Rattle.pump_wrapper.specs.Wraps.{all_taken}
 use Rattle.pump_wrapper.proofs.Compared.{none_passed, one_passed, none_counted, one_counted, takes_on, gave_few, gave_all, total_is}
 use Rattle.pump_wrapper.proofs.Going.{rose_before}
-use Rattle.pump_wrapper.proofs.Sent.{Sending, are_first, sending_part, sending_none, greeting_goes, sending_more, sends_go, sending_few, sending_all, moment_of}
+use Rattle.pump_wrapper.proofs.Joining.{keeps_then}
+use Rattle.pump_wrapper.proofs.Sent.{Sending, are_first, sending_part, sending_none, greeting_goes, greeting_keeps, message_keeps, sending_more, sends_go, sending_few, sending_all, moment_of}
 use Rattle.pump_wrapper.proofs.sending.send_rest.Goals as goal
 
 pub loop-number-init : goal.loop-number-init
@@ -31,6 +33,8 @@ loop-number-init g c =
           ap (λ (x : ℕ × ℕ × ℕ). x.0) (c.counts-first.ensures.stands (first_past row (all_taken messages)) stands) ∙ ap length (append-nil messages) in
           subst (λ (n : ℕ). Sending m c.greet.new.pump row messages start start left left n) (sym count)
           (sending_none m row messages c.args.pump.now c.greet.new.pump start left lawful can stands refl told e.goes);
+      keeps = λ told messages lawful can stands all begins. greeting_keeps m row messages c.args.pump.now c.greet.new.pump (Ok tt) all lawful can stands refl told
+          (begins [] (are_first [] c.args.cutter.now c.args.cutter.now (g.I.Source.left c.args.file.now) (g.I.Source.left c.args.file.now) [] (Consumes-nil (g.I.Source.left c.args.file.now)) (none_passed c.args.cutter.now (g.I.Source.left c.args.file.now)))) e.goes;
     }
 
 pub loop-number-preserved : goal.loop-number-preserved
@@ -60,6 +64,22 @@ loop-number-preserved g c =
           let fits : length c.next.new.into ≤ row.message = (let short = e.fits refl in let size = kept.message in omega (arith, short, size)) in
           sending_more m row messages c.loop-number.pump c.send.new.pump c.args.cutter.now c.loop-number.cutter c.next.new.self (g.I.Source.left c.args.file.now) (g.I.Source.left c.loop-number.file) (g.I.Source.left c.next.new.file) c.loop-number.number _ sending
           (moment_of c.loop-number.number _ _ _ _ _ sending.count first pauses) few small c.next.new.into fits kept.row told kept.taken.0 kept.taken.1 e.gives s.goes;
+      keeps = λ told messages lawful can stands all begins.
+          let sending = kept.sending told messages lawful can stands in
+          let first : c.counts-first.result.0 ≡ length messages =
+          ap (λ (x : ℕ × ℕ × ℕ). x.0) (c.counts-first.ensures.stands (first_past row (all_taken messages)) stands) ∙ ap length (append-nil messages) in
+          let pauses : c.pause-pause.result ≡ pause row = c.pause-pause.ensures.value ∙ ap pause c.row.ensures in
+          let small : pause row < 2 ^ 32 = (let short = c.pause-pause.ensures.short in omega (arith, short, pauses)) in
+          let few : c.loop-number.number ≤ 2 ^ 24 = (let test = c.loop-number-test.true in omega (arith, test)) in
+          let fits : length c.next.new.into ≤ row.message = (let short = e.fits refl in let size = kept.message in omega (arith, short, size)) in
+          let more = sending.more ++ c.next.new.into ∷ [] in
+          let cut = one_passed sending.more more c.next.new.into c.args.cutter.now c.loop-number.cutter c.next.new.self (g.I.Source.left c.args.file.now) (g.I.Source.left c.loop-number.file) (g.I.Source.left c.next.new.file)
+          kept.taken.0 kept.taken.1 sending.cut e.gives refl in
+          let taken = Consumes-trans _ _ _ _ _ kept.taken.1 e.takes.1 in
+          let to = begins more (are_first more c.args.cutter.now c.next.new.self (g.I.Source.left c.args.file.now) (g.I.Source.left c.next.new.file) _ taken cut) in
+          keeps_then m row all (disk_at roles.Recv c.args.pump.now) (disk_at roles.Recv c.loop-number.pump) (disk_at roles.Recv c.send.new.pump) (kept.keeps told messages lawful can stands all begins)
+          (message_keeps m row messages c.loop-number.pump c.send.new.pump c.args.cutter.now c.loop-number.cutter c.next.new.self (g.I.Source.left c.args.file.now) (g.I.Source.left c.loop-number.file) (g.I.Source.left c.next.new.file) c.loop-number.number _ sending
+          (moment_of c.loop-number.number _ _ _ _ _ sending.count first pauses) few small c.next.new.into fits (Ok tt) all kept.row told to s.goes);
     }
 
 pub returns-in-Err : goal.returns-in-Err
@@ -69,6 +89,8 @@ returns-in-Err g c = record {
     are_first [] c.args.cutter.now c.args.cutter.now (g.I.Source.left c.args.file.now) (g.I.Source.left c.args.file.now) [] (Consumes-nil (g.I.Source.left c.args.file.now)) (none_passed c.args.cutter.now (g.I.Source.left c.args.file.now)),
     greeting_goes g.D.Disk.told (row_of c.args.pump.now) messages c.args.pump.now c.greet.new.pump c.in-Err.stop lawful can stands refl told c.in-Err.ensures.goes,
   );
+  keeps = λ told messages lawful can stands all begins. greeting_keeps g.D.Disk.told (row_of c.args.pump.now) messages c.args.pump.now c.greet.new.pump (Err c.in-Err.stop) all lawful can stands refl told
+      (begins [] (are_first [] c.args.cutter.now c.args.cutter.now (g.I.Source.left c.args.file.now) (g.I.Source.left c.args.file.now) [] (Consumes-nil (g.I.Source.left c.args.file.now)) (none_passed c.args.cutter.now (g.I.Source.left c.args.file.now)))) c.in-Err.ensures.goes;
   total = tt;
   gave = (let few = c.requires.may.few in ([], Consumes-nil (g.I.Source.left c.args.file.now), (λ e. absurd (cc)), λ e. omega (arith, few)));
   read = λ e. cc;
@@ -85,6 +107,7 @@ returns-in-Done g c = record {
       let sending = kept.sending told messages lawful can stands in
       let e = c.in-Done.ensures in
       sending_all g.D.Disk.told (row_of c.args.pump.now) messages c.loop-number.pump c.args.cutter.now c.loop-number.cutter c.next.new.self (g.I.Source.left c.args.file.now) (g.I.Source.left c.loop-number.file) (g.I.Source.left c.next.new.file) c.loop-number.number _ _ _ sending kept.taken.1 e.takes.1 e.gives;
+  keeps = c.loop-number.invariant.keeps;
   total = let kept = c.loop-number.invariant in
       total_is c.args.cutter.now c.loop-number.cutter c.next.new.self (g.I.Source.left c.args.file.now) (g.I.Source.left c.loop-number.file) (g.I.Source.left c.next.new.file) kept.taken.0 c.in-Done.ensures.takes.0 kept.taken.1 c.in-Done.ensures.takes.1 kept.same c.in-Done.ensures.counts;
   gave = let kept = c.loop-number.invariant in
@@ -102,6 +125,7 @@ returns-in-Failed g c = record {
   sends = λ told messages lawful can stands.
       let kept = c.loop-number.invariant in
       sending_part g.D.Disk.told (row_of c.args.pump.now) messages c.loop-number.pump c.args.cutter.now c.loop-number.cutter _ _ c.loop-number.number kept.taken.0 (kept.sending told messages lawful can stands) kept.taken.1;
+  keeps = c.loop-number.invariant.keeps;
   total = tt;
   gave = let kept = c.loop-number.invariant in
       let t = c.in-Failed.ensures.takes in
@@ -118,6 +142,7 @@ returns-in-TooLong g c = record {
   sends = λ told messages lawful can stands.
       let kept = c.loop-number.invariant in
       sending_part g.D.Disk.told (row_of c.args.pump.now) messages c.loop-number.pump c.args.cutter.now c.loop-number.cutter _ _ c.loop-number.number kept.taken.0 (kept.sending told messages lawful can stands) kept.taken.1;
+  keeps = c.loop-number.invariant.keeps;
   total = tt;
   gave = let kept = c.loop-number.invariant in
       let t = c.in-TooLong.ensures.takes in
@@ -151,6 +176,26 @@ returns-in-Err-send g c = record {
         sends_go m row messages c.loop-number.pump c.send.new.pump c.args.cutter.now c.loop-number.cutter c.next.new.self (g.I.Source.left c.args.file.now) (g.I.Source.left c.loop-number.file) (g.I.Source.left c.next.new.file) c.loop-number.number _ sending
             (moment_of c.loop-number.number _ _ _ _ _ sending.count first pauses) few small c.next.new.into fits c.in-Err-send.stop kept.row told c.in-Err-send.ensures.goes,
       );
+  keeps = λ told messages lawful can stands all begins.
+      let m = g.D.Disk.told in
+      let row = row_of c.args.pump.now in
+      let kept = c.loop-number.invariant in
+      let e = c.in-Message.ensures in
+      let sending = kept.sending told messages lawful can stands in
+      let first : c.counts-first.result.0 ≡ length messages =
+      ap (λ (x : ℕ × ℕ × ℕ). x.0) (c.counts-first.ensures.stands (first_past row (all_taken messages)) stands) ∙ ap length (append-nil messages) in
+      let pauses : c.pause-pause.result ≡ pause row = c.pause-pause.ensures.value ∙ ap pause c.row.ensures in
+      let small : pause row < 2 ^ 32 = (let short = c.pause-pause.ensures.short in omega (arith, short, pauses)) in
+      let few : c.loop-number.number ≤ 2 ^ 24 = (let test = c.loop-number-test.true in omega (arith, test)) in
+      let fits : length c.next.new.into ≤ row.message = (let short = e.fits refl in let size = kept.message in omega (arith, short, size)) in
+      let more = sending.more ++ c.next.new.into ∷ [] in
+      let cut = one_passed sending.more more c.next.new.into c.args.cutter.now c.loop-number.cutter c.next.new.self (g.I.Source.left c.args.file.now) (g.I.Source.left c.loop-number.file) (g.I.Source.left c.next.new.file)
+      kept.taken.0 kept.taken.1 sending.cut e.gives refl in
+      let taken = Consumes-trans _ _ _ _ _ kept.taken.1 e.takes.1 in
+      let to = begins more (are_first more c.args.cutter.now c.next.new.self (g.I.Source.left c.args.file.now) (g.I.Source.left c.next.new.file) _ taken cut) in
+      keeps_then m row all (disk_at roles.Recv c.args.pump.now) (disk_at roles.Recv c.loop-number.pump) (disk_at roles.Recv c.send.new.pump) (kept.keeps told messages lawful can stands all begins)
+      (message_keeps m row messages c.loop-number.pump c.send.new.pump c.args.cutter.now c.loop-number.cutter c.next.new.self (g.I.Source.left c.args.file.now) (g.I.Source.left c.loop-number.file) (g.I.Source.left c.next.new.file) c.loop-number.number _ sending
+      (moment_of c.loop-number.number _ _ _ _ _ sending.count first pauses) few small c.next.new.into fits (Err c.in-Err-send.stop) all kept.row told to c.in-Err-send.ensures.goes);
   total = tt;
   gave = let kept = c.loop-number.invariant in
       let t = c.in-Message.ensures.takes in
@@ -169,6 +214,7 @@ returns g c = record {
       let test = c.loop-number-test.false in
       let few = sending_few g.D.Disk.told (row_of c.args.pump.now) messages c.loop-number.pump c.args.cutter.now c.loop-number.cutter _ _ c.loop-number.number (kept.sending told messages lawful can stands) in
       absurd (omega (arith, few, test));
+  keeps = c.loop-number.invariant.keeps;
   total = tt;
   gave = let kept = c.loop-number.invariant in
       let few = kept.may.few in

@@ -1,12 +1,14 @@
-use Rattle.std.proofs.Common.{◌≡◌, ℕ, ◌+◌, ◌≤◌, List, length, false}
+use Rattle.std.proofs.Common.{◌≡◌, ℕ, ◌+◌, ◌≤◌, List, ◌++◌, length, false}
 use Rattle.disk_model.specs.declared.name.Role.{Role}
+use Rattle.disk_model.specs.declared.name.Role.TheVariants as roles
 use Rattle.std.specs.Io.KnownBytes.{Consumes}
 use Rattle.pump_frame.specs.Rows.{IsLawfulRow}
 use Rattle.script_reader.specs.Openings.{CanOpen, first_past}
 use Rattle.two_worlds.specs.Pumps.{StandsFor, disk_at, is_down, row_of}
-use Rattle.pump_wrapper.specs.Comparing.{SameBytes}
+use Rattle.pump_wrapper.specs.Comparing.{Begins, SameBytes}
+use Rattle.pump_wrapper.specs.Crashes.{KeepsFront}
 use Rattle.pump_wrapper.specs.Cutting.{MayCut, cut_message}
-use Rattle.pump_wrapper.specs.Wraps.{all_taken}
+use Rattle.pump_wrapper.specs.Wraps.{AreFirst, all_taken}
 use Rattle.pump_wrapper.proofs.Sent.{Sending}
 use Rattle.pump_wrapper.proofs.sending.send_rest.Given as goal
 
@@ -26,4 +28,7 @@ invariant-loop-number g l =
       counts : (role : Role) → m.count (disk_at role l.fn.pump) ≤ m.count (disk_at role l.pump);
       sending : m.tells → (messages : List (List ℕ)) → IsLawfulRow r → CanOpen r (all_taken messages) → StandsFor m l.fn.pump (first_past r (all_taken messages))
           → Sending m l.pump r messages l.fn.cutter l.cutter (g.I.Source.left l.fn.file) (g.I.Source.left l.file) l.number;
+      keeps : m.tells → (messages : List (List ℕ)) → IsLawfulRow r → CanOpen r (all_taken messages) → StandsFor m l.fn.pump (first_past r (all_taken messages))
+          → (all : List (List ℕ)) → ((more : List (List ℕ)) → AreFirst l.fn.cutter (g.I.Source.left l.fn.file) more → Begins (messages ++ more) all)
+          → KeepsFront m r all (disk_at roles.Recv l.fn.pump) (disk_at roles.Recv l.pump);
     }

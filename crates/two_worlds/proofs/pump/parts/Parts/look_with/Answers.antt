@@ -60,7 +60,7 @@ returns-in-Ok g c = record {
       let d = c.args.self.now in
       let looked = c.in-Ok.ensures.looks s.ends.low s.ends.high (high_past_of d p) (s.ends.stand, s.ends.high_fits) s.high_ready.past in
       led m d p s c.args.moment c.requires.order c.look.new.self c.look.new.store c.look.new.ends attaches back c.in-Ok.look
-      (looks m d p s c.args.moment c.requires.order c.look.new.self c.look.new.store c.look.new.ends attaches c.in-Ok.look c.in-Ok.ensures.store c.in-Ok.ensures.count c.in-Ok.ensures.up c.look.ensures.between c.look.ensures.row c.look.ensures.shape (frame_of c.frame_back-frame.result) back comes c.in-Ok.ensures.fares looked c.look.ensures.images)
+      (looks m d p s c.args.moment c.requires.order c.look.new.self c.look.new.store c.look.new.ends attaches c.in-Ok.look c.in-Ok.ensures.store c.in-Ok.ensures.count c.in-Ok.ensures.up c.look.ensures.between c.look.ensures.row c.look.ensures.shape (frame_of c.frame_back-frame.result) back comes c.in-Ok.ensures.fares looked)
       (lines_in c.args.out.now.items) (lines_in c.tell_high.new.out.items) c.tell_high.ensures.out c.tell_high.new.self c.tell_high.ensures.rest;
   works =
       let m = g.D.Disk.told in
@@ -110,7 +110,7 @@ returns-in-Err-Device g c = record {
       let d = c.args.self.now in
       let task = task_at d.high (frame_of c.frame_back-frame.result) in
       let fares = fared m task d.high c.look.new.self d.high_store c.look.new.store c.look.result (Device c.in-Err-Device.faults) (c.in-Err-Device.is ∙ ap (λ f. Err f) c.in-Err-Device.field-0-is) c.look.ensures.fares in
-      let b = breaks m d p s c.args.moment c.requires.order c.look.new.self c.look.new.store c.look.new.ends attaches (frame_of c.frame_back-frame.result) back c.in-Err-Device.faults comes fares c.look.ensures.images in
+      let b = breaks m d p s c.args.moment c.requires.order c.look.new.self c.look.new.store c.look.new.ends attaches (frame_of c.frame_back-frame.result) back c.in-Err-Device.faults comes fares in
       (b.end, [], b.breaks, sym (append-nil (lines_in c.args.out.now.items)), b.fails, b.fits);
   works =
       let m = g.D.Disk.told in

@@ -13,6 +13,7 @@ use Rattle.script_replay.specs.Shelves.{Places, shelved}
 use Rattle.script_replay.specs.declared.ended.Ended.{Ended}
 use Rattle.script_replay.specs.declared.ended.Ended.TheVariants as ended
 use Rattle.script_replay.proofs.Headline.{HoldsAtEnds, outlives, fronts, wrote_finished, wrote_unread, wrote_front, wrote_faulted, wrote_down, wrote_barred, wrote_full}
+use Rattle.script_replay.proofs.Completes.{completes}
 use Rattle.script_replay.proofs.OneStatus.{done_only, faulted_only, full_only, told_only}
 
 -- ---- the end that has a status ----
@@ -84,6 +85,7 @@ module _ (before after : Places) (fails : ℕ → Role → Type 0) (all left old
     down = λ is. let (session, role, e) = of_status 7 end is in told_only (shelved before after) all old new left fails (downs session role e);
     barred = λ is. let (session, role, number, first, second, e) = of_status 8 end is in subst Ends e ends;
     full = λ is. let (session, at, length, size, e) = of_status 10 end is in full_only (shelved before after) all old new left (subst Ends e ends);
+    completes = λ bytes told can. completes before after fails all left old new was now bytes told can end ends downs;
     outlives = holds (HaveOutlived after) (outlives before after) end ends;
     prefix = holds (HaveReceived after) (fronts before after) end ends;
   }

@@ -29,7 +29,7 @@ use Rattle.script_replay.specs.declared.session.Session.TheVariants as sessions
 
 -- ---- what its disks were found to hold ----
 
-readied_coarse : (row : SessionRow) (role : Role) (reading : List ℕ) → readied row role reading ≡ readied (coarsened row) role reading
+pub readied_coarse : (row : SessionRow) (role : Role) (reading : List ℕ) → readied row role reading ≡ readied (coarsened row) role reading
 unfolding header_of
 readied_coarse row roles.Low [] = refl
 readied_coarse row roles.High [] = refl

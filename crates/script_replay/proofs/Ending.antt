@@ -162,6 +162,8 @@ module _ {D : Type 0} {g : Ghosts D} (d : Meaning D) (told : Type 0) (is_told : 
           taken = h.taken;
           output_is = h.output_is;
           replies = h.replies;
+          low = h.low;
+          by_moments = h.by_moments;
           disks = (
             breaks_one d told is_told tells before mid now id (found_at id begun) (left id) r.openings (record { row = h.next.off.session.row; past = h.next.off.past }) h.disks.0 h.disks.1,
             others_to id r.openings r.sessions.begun r.events runs r.laws.sound h.disks.2,

@@ -1,5 +1,5 @@
 -- Before any line came that needs not stand first: what is read of the disks is what was read of them at first, or they are new.
-use Rattle.std.proofs.Common.{◌≡◌, ℕ, ◌==◌, Bool, true, false, List, [], Option, None, Some, Ok, Err, inl, inr, refl, sym, ap, ◌∙◌, subst}
+use Rattle.std.proofs.Common.{◌≡◌, ℕ, ◌==◌, true, false, List, [], Option, None, Some, Err, inl, inr, refl, sym, ap, ◌∙◌, subst}
 use Rattle.std.specs.Prelude.{◌⊎◌}
 use Rattle.std.proofs.lemmas.Bool.{eqb-true, eqb-false}
 use Rattle.disk_model.specs.Disk.{Meaning}
@@ -18,7 +18,7 @@ use Rattle.two_worlds.specs.declared.pump.Pump.{Pump}
 use Rattle.script_replay.specs.Lending.{ReadAt, AreOnShelf}
 use Rattle.script_replay.specs.Runners.{outcome_at, IsFresh, AllFresh, StartsFresh, FreshAfter, LeftAs, AllLeftAs}
 use Rattle.script_replay.specs.Sessions.{id_of, found_at, with_begun, HasComeTo, AllHaveComeTo}
-use Rattle.script_replay.specs.Shelves.{Places, disk_name, reading_in, reading_at, LeavesSession, ReadsSessionAlike, ReadsAlike, LeavesOtherSessions, IsReadied, AreReadied}
+use Rattle.script_replay.specs.Shelves.{Places, disk_name, reading_in, reading_at, ReadsSessionAlike, ReadsAlike, LeavesOtherSessions, IsReadied, AreReadied}
 use Rattle.script_replay.specs.declared.outcome.Outcome.{Outcome}
 use Rattle.script_replay.specs.declared.outcome.Outcome.TheVariants as outcomes
 use Rattle.script_replay.specs.declared.session.Session.{Session}

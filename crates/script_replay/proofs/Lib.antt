@@ -1,10 +1,13 @@
 pub mod Acknowledged
+pub mod Alike
 pub mod Broken
 pub mod ByStatus
 pub mod Coarse
 pub mod Compared
+pub mod Completes
 pub mod Ending
 pub mod Finished
+pub mod FoundOnce
 pub mod Fresh
 pub mod Gathered
 pub mod Going
@@ -12,6 +15,7 @@ pub mod Headline
 pub mod Kept
 pub mod Left
 pub mod Listed
+pub mod Lost
 pub mod Numbered
 pub mod OneStatus
 pub mod Opened
@@ -22,5 +26,6 @@ pub mod SoFar
 pub mod Stopping
 pub mod Stops
 pub mod Taken
+pub mod Told
 pub mod Turns
 pub mod Widened

@@ -21,9 +21,6 @@ use Rattle.two_worlds.specs.Printing.{lines_in}
 use Rattle.script_replay.specs.declared.session.Session.{Session}
 use Rattle.script_replay.specs.declared.session.Session.TheVariants as sessions
 use Rattle.script_replay.specs.declared.sessions.Sessions.{Sessions}
-use Rattle.script_replay.specs.declared.outcome.Outcome.{Outcome}
-use Rattle.script_replay.specs.declared.outcome.Outcome.TheVariants as outcomes
-use Rattle.script_reader.specs.declared.fault.Fault.TheVariants as faults
 use Rattle.script_replay.specs.Sessions.{id_of, StandsFor, is_of_number, Rise, AreInOrder, EachStandsFor, AllStandFor}
 use Rattle.script_replay.proofs.Numbered.{same_length}
 

@@ -79,7 +79,7 @@ one_end rest number running (Some x) (Some y) (inr h) (inr k) = ap Some (stoppin
 -- ---- one script ----
 
 module _ (o : Openings) (bytes : List ℕ) (end : Option Fault) (e : EndsWith o bytes end) where
-  ends_at : (lines : List Line) (events : List Event) (running : Sessions) (rest : List ℕ) (other : Option Fault) → IsSoFar o (Some bytes) (Some rest) lines events running → length lines < 2 ^ 32
+  pub ends_at : (lines : List Line) (events : List Event) (running : Sessions) (rest : List ℕ) (other : Option Fault) → IsSoFar o (Some bytes) (Some rest) lines events running → length lines < 2 ^ 32
       → IsEnd rest (length lines) running other → end ≡ other
   ends_at lines events running rest other s few is =
       let fewer = e.few in

@@ -45,7 +45,7 @@ AreLines-kept : (all mid rest : Option (List ℕ)) (lines : List Line) → AreLi
 AreLines-kept all mid rest [] h k = Keeps-then all mid rest h k
 AreLines-kept all mid rest (line ∷ lines) h k = (h.0, h.1, h.2, h.3, h.4, AreLines-kept h.1 mid rest lines h.5 k)
 
-AreLines-more : (all mid rest : Option (List ℕ)) (lines : List Line) (line : Line) (bytes : List ℕ) → AreLines all lines mid → IsUnended bytes → IsLine line bytes → Consumes mid rest (bytes ++ 10 ∷ [])
+pub AreLines-more : (all mid rest : Option (List ℕ)) (lines : List Line) (line : Line) (bytes : List ℕ) → AreLines all lines mid → IsUnended bytes → IsLine line bytes → Consumes mid rest (bytes ++ 10 ∷ [])
     → AreLines all (lines ++ line ∷ []) rest
 AreLines-more all mid rest [] line bytes h u i c = (bytes, rest, u, i, Consumes-kept all mid rest _ h c, Keeps-same rest)
 AreLines-more all mid rest (first ∷ lines) line bytes h u i c = (h.0, h.1, h.2, h.3, h.4, AreLines-more h.1 mid rest lines line bytes h.5 u i c)

@@ -1,12 +1,10 @@
 -- What becomes of a replay at a line, while its disks are with the sessions.
 use Rattle.std.proofs.Common.{◌≡◌, ℕ, ◌+◌, ◌^◌, ◌<◌, ◌≤◌, ◌==◌, true, false, arith, length, List, [], ◌∷◌, ◌++◌, Option, None, Some, inl, inr, refl, sym, ap, ◌∙◌, subst, append-nil, append_assoc}
-use Rattle.std.specs.Prelude.{◌⊎◌}
 use Rattle.std.proofs.lemmas.Bool.{eqb-true, eqb-false}
 use Rattle.disk_model.specs.Disk.{Meaning}
 use Rattle.disk_model.specs.Shelf.{Holdings}
 use Rattle.disk_model.specs.declared.disk.Disk.{Ghosts}
 use Rattle.pump_link.specs.Causes.{AppendsFront}
-use Rattle.pump_frame.specs.Counts.{Rose}
 use Rattle.disk_model.specs.declared.name.Role.{Role}
 use Rattle.disk_model.specs.declared.name.Role.TheVariants as roles
 use Rattle.recovery.specs.Faults.{why_number, why_values}
@@ -26,6 +24,7 @@ use Rattle.script_reader.proofs.Apart.{session_at-own, session_at-other}
 use Rattle.script_reader.proofs.Beside.{has_number}
 use Rattle.script_reader.proofs.Named.{stops_of}
 use Rattle.script_reader.proofs.Replying.{low-append}
+use Rattle.script_replay.proofs.Lost.{lost_decides, moments_decide}
 use Rattle.script_replay.proofs.Broken.{breaks_grows}
 use Rattle.script_replay.specs.Outputs.{Gathers}
 use Rattle.script_replay.specs.Shelves.{Places, Shelved}
@@ -42,7 +41,7 @@ use Rattle.script_replay.proofs.Kept.{each_sound, laws_at_stop}
 use Rattle.script_replay.proofs.Numbered.{stands_at}
 use Rattle.script_replay.proofs.SoFar.{replayed, next_line, near_next, shown, wrote, wrote_front, unshown, unprinted, stopped_text}
 use Rattle.script_replay.proofs.Widened.{advance, led_there, led_beside}
-use Rattle.script_replay.specs.Replays.{Replayed, IsSoFar, Stopping, BreaksLine, Beginning, IsNear, IsStopped, IsOverfilled, IsBroken, IsBarred, IsDownAt, IsOutput, IsCutOff, Wrote, WroteFront}
+use Rattle.script_replay.specs.Replays.{Replayed, IsSoFar, Stopping, BreaksLine, Beginning, IsNear, IsStopped, IsOverfilled, IsBroken, IsBarred, IsDownAt, IsOutput, IsCutOff, Wrote, WroteFront, lost_in}
 
 -- ---- the disks ----
 
@@ -208,6 +207,8 @@ module _ {D : Type 0} (g : Ghosts D) (d : Meaning D) (bef mid : Places) (begun :
         replies = subst (LowReplies b.session.row b.past.history) (sym (low-append (events_of id events) printed))
             (breaks_grows b.session.row b.session.past line b.role b.past printed b.breaks (low_lines (events_of id events))
             (subst (λ (x : Option Begun). Sound x (events_of id events)) b.there (each_sound o lines t events (inl s.leads) id)).replies);
+        low = lost_decides o lines (events ++ printed) (λ number. lost_in number b) (inr (t, events, s.leads, line, printed, b, refl, λ number. refl));
+        by_moments = moments_decide o lines (events ++ printed) (λ number. lost_in number b) (inr (t, events, s.leads, line, printed, b, refl, λ number. refl));
         disks = (
           subst (λ (x : Option Begun). Finds bef o x) b.there (found id),
           subst (λ (x : Option Begun). HasComeTo d (found_at id begun) x) (session_at-own id last t.begun refl) (come id),

@@ -168,7 +168,7 @@ module _ {D : Type 0} {g : Ghosts D} (d : Meaning D) (line : Line) (number place
   abbrev xs : List (Session D g)
   xs = first.begun.items
 
-  id_x : id_of x ≡ number
+  pub id_x : id_of x ≡ number
   id_x = eqb-true (id_of x) number (subst (λ (o : Option (Session D g)). is_of_number number o ≡ true) at placed.1)
 
   id_t : id_of t ≡ number

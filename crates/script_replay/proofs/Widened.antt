@@ -22,7 +22,7 @@ use Rattle.script_replay.proofs.Going.{leads_from}
 
 -- ---- one line ----
 
-named_some : (line : Line) (number : ℕ) → session_in line ≡ Some number → line ≡ lines.Skip → ⊥
+pub named_some : (line : Line) (number : ℕ) → session_in line ≡ Some number → line ≡ lines.Skip → ⊥
 named_some line number named e = let none : None ≡ Some number = sym (ap session_in e) ∙ named in cc
 
 -- one that is new is so by what its own disks were found to hold
@@ -69,7 +69,7 @@ leads_same o p None (lines.Restart session m) number after printed named same h 
 leads_same o p None (lines.ReceiverRestart session m) number after printed named same h = absurd h
 
 -- the session that a line leads to has the number that the line names
-led_number : (o : Openings) (number : ℕ) (t : Sessions) (line : Line) (s : Begun) (printed : List Event) → session_in line ≡ Some number → Leads o (session_at number t.begun) line (Some s) printed → session_number s ≡ number
+pub led_number : (o : Openings) (number : ℕ) (t : Sessions) (line : Line) (s : Begun) (printed : List Event) → session_in line ≡ Some number → Leads o (session_at number t.begun) line (Some s) printed → session_number s ≡ number
 led_number o number t line s printed named h =
     (leads_of o (session_at number t.begun) line number (Some s) printed named (has_number number t.begun (session_at number t.begun) refl) h).session
 

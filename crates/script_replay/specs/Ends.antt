@@ -1,9 +1,10 @@
 -- How a replay ends, by its status: what it printed, what was written of that, and what is read of the disks then.
-use Rattle.std.specs.Prelude.{◌≡◌, ℕ, List, Option, Some}
+use Rattle.std.specs.Prelude.{◌≡◌, ◌⊎◌, ℕ, List, Option, Some}
 use Rattle.disk_model.specs.declared.name.Role.{Role}
+use Rattle.pump_frame.specs.Counts.{Rose}
 use Rattle.script_replay.specs.Replays.{IsFinished, IsWaiting, IsUnread, IsFaulted, IsFailed, IsDown, IsBarred, IsOverfilled, IsCutOff, Wrote, WroteFront, EndedWith, HaveOutlived, HaveReceived}
 use Rattle.script_replay.specs.Shelves.{Places, shelved}
-use Rattle.script_replay.specs.Statuses.{HasStatus, status_of}
+use Rattle.script_replay.specs.Statuses.{CanFinish, HasStatus, status_of}
 use Rattle.script_replay.specs.declared.ended.Ended.{Ended}
 use Rattle.script_replay.specs.declared.ended.Ended.TheVariants.{Done, Memory, Write, Stopped}
 
@@ -25,6 +26,10 @@ pub record EndsReplay (status : ℕ) (before after : Places) (fails : ℕ → Ro
   pub down : status ≡ 7 → Wrote all old new (λ r output. IsDown (shelved before after) fails left r output × (IsFailed (shelved before after) left r output → HasStatus 7 r output))
   pub barred : status ≡ 8 → Wrote all old new (IsBarred (shelved before after) left)
   pub full : status ≡ 10 → Wrote all old new (λ r output. IsOverfilled (shelved before after) left r output × HasStatus 10 r output)
+  -- a script whose lines can all be applied, on disks that were found so, is replayed to its end, unless memory is wanting, a
+  -- read or a write fails, or a disk
+  pub completes : (bytes : List ℕ) → all ≡ Some bytes → CanFinish before bytes → (Rose was now → ⊥) → (status ≡ 4 → ⊥)
+      → ((session : ℕ) (role : Role) → fails session role → ⊥) → (status ≡ 0) ⊎ (status ≡ 1)
   -- The headline, unless memory was wanting: each message whose acknowledgement was written is on the disks of its session,
   -- at 4 so is each whose acknowledgement was still to be written; and the receiver of each session has a front of what the
   -- session accepted

@@ -7,3 +7,4 @@ pub mod Runners
 pub mod Sessions
 pub mod Shelves
 pub mod Statuses
+pub mod Told

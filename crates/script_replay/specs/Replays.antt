@@ -1,6 +1,6 @@
 -- What the replay of a script writes, by how it ends, and how much of the script it has taken then. `all` and `left` are
 -- what the source had at the call and has after it, `old` and `new` what the sink had and has, each where it tells.
-use Rattle.std.specs.Prelude.{◌≡◌, ℕ, ◌+◌, ◌-◌, ◌^◌, ◌<◌, ◌≤◌, min, ◌⊎◌, true, List, [], ◌∷◌, ◌++◌, length, Option, None, Some, IfSome}
+use Rattle.std.specs.Prelude.{◌≡◌, ℕ, ◌+◌, ◌-◌, ◌^◌, ◌<◌, ◌≤◌, ◌==◌, min, ◌⊎◌, if◌then◌else◌, true, List, [], ◌∷◌, ◌++◌, length, Option, None, Some, IfSome}
 use Rattle.std.specs.Io.KnownBytes.{Consumes, Appends, IsAtEnd}
 use Rattle.pump_frame.specs.Counts.{Rose}
 use Rattle.pump_link.specs.Causes.{AppendsFront}
@@ -11,7 +11,7 @@ use Rattle.script_reader.specs.declared.line.Line.{Line}
 use Rattle.script_reader.specs.declared.event.Event.{Event}
 use Rattle.script_reader.specs.declared.fault.Fault.{Fault}
 use Rattle.script_reader.specs.declared.fault.Fault.TheVariants.{Read, Script, Device, Disk, Full}
-use Rattle.script_reader.specs.declared.line.Line.TheVariants.{Session}
+use Rattle.script_reader.specs.declared.line.Line.TheVariants.{Session, Look}
 use Rattle.disk_model.specs.declared.name.Role.{Role}
 use Rattle.pump_frame.specs.declared.row.SessionRow.{SessionRow}
 use Rattle.pump_frame.specs.Rows.{IsLawfulRow}
@@ -130,6 +130,41 @@ pub record BreaksLine (sessions : Sessions) (line : Line) (printed : List Event)
   pub past : Past
   pub breaks : Breaks session.row session.past line role past printed
 
+-- the look that the line was, where its store failed
+abbrev pub lost_look : Line → Role → List Line
+lost_look (Look session m w a) roles.Low = Look session m w a ∷ []
+lost_look _ role = []
+
+-- .. of the session of this number
+abbrev pub lost_in : ℕ → {t : Sessions} {line : Line} {printed : List Event} → BreaksLine t line printed → List Line
+lost_in number {line = line} off = if off.session.row.id == number then lost_look line off.role else []
+
+-- These lines were applied and printed this, and the last may have stopped the script; or a disk then cut one more line short, which
+-- is printed too. `lost` has, by the session's number, the look whose store failed
+abbrev pub ComesOrBreaks : Openings → List Line → List Event → (ℕ → List Line) → Type 0
+ComesOrBreaks o lines printed lost =
+    ((after : Sessions) × ScriptComesTo o lines after printed × ((number : ℕ) → lost number ≡ []))
+    ⊎ ((t : Sessions) × (events : List Event) × ScriptLeadsTo o no_sessions lines t events
+    × (line : Line) × (last : List Event) × (off : BreaksLine t line last) × (printed ≡ events ++ last) × ((number : ℕ) → lost number ≡ lost_in number off))
+
+-- as `DecideLow`, with the look whose store failed as one more of low's own arguments
+abbrev pub DecideLowLost : Openings → List Line → List Event → (ℕ → List Line) → Type 0
+DecideLowLost o lines printed lost = (p : Openings) (others : List Line) (events : List Event) (lost_there : ℕ → List Line)
+    → ComesOrBreaks p others events lost_there → (number : ℕ) → OpenAlike o p (lines_of number lines)
+    → low_side_of (lines_of number lines) ≡ low_side_of (lines_of number others) → lost number ≡ lost_there number
+    → told_to_low (events_of number printed) ≡ told_to_low (events_of number events)
+    → low_lines (events_of number printed) ≡ low_lines (events_of number events)
+
+-- as `DecideLowByMoments`
+abbrev pub DecideLostByMoments : Openings → List Line → List Event → (ℕ → List Line) → Type 0
+DecideLostByMoments o lines printed lost = (p : Openings) (others : List Line) (events : List Event) (lost_there : ℕ → List Line)
+    → ComesOrBreaks p others events lost_there → (number : ℕ) → OpenAlike o p (lines_of number lines)
+    → low_side_of (lines_of number lines) ≡ low_side_of (lines_of number others) → lost number ≡ lost_there number → HaveOwnMoments (low_side_of (lines_of number lines))
+    → full_moments (events_of number printed) ≡ full_moments (events_of number events)
+    → restarts_in (events_of number printed) ≡ restarts_in (events_of number events)
+    → averages (events_of number printed) ≡ averages (events_of number events)
+    → low_lines (events_of number printed) ≡ low_lines (events_of number events)
+
 -- after so many lines: so of the next one, which has a number below 2^32
 pub record Breaking (rest : Option (List ℕ)) (number : ℕ) (sessions : Sessions) : Type 0 where
   pub few : number + 1 < 2 ^ 32
@@ -223,7 +258,7 @@ IsOverfilled shelf left r output = (session end size_of_message size : ℕ) × I
 
 -- the disk of this role of this session fails in the next line: the output is what the lines before it print, what it prints
 -- up to then, and the fault; the session's `low` lines are the replies of its low history, the refusal of a look whose store
--- failed with them
+-- failed with them, and what its Low was told decides them
 pub record IsBroken (shelf : Shelved) {all : Option (List ℕ)} (left : Option (List ℕ)) (session : ℕ) (role : Role) (r : Replayed all) (output : List ℕ) : Type 0 where
   pub next : Breaking r.rest (length r.lines) r.sessions
   pub session_is : session ≡ next.off.session.row.id
@@ -231,6 +266,8 @@ pub record IsBroken (shelf : Shelved) {all : Option (List ℕ)} (left : Option (
   pub taken : IsNear r.rest left
   pub output_is : output ≡ text (r.events ++ next.printed) ++ fault_line (Device next.off.session.row.id next.off.role)
   pub replies : LowReplies next.off.session.row next.off.past.history (low_lines (events_of next.off.session.row.id r.events ++ next.printed))
+  pub low : DecideLowLost r.openings r.lines (r.events ++ next.printed) (λ number. lost_in number next.off)
+  pub by_moments : DecideLostByMoments r.openings r.lines (r.events ++ next.printed) (λ number. lost_in number next.off)
   pub disks : shelf.breaks r.openings r.sessions.begun (record { row = next.off.session.row; past = next.off.past }) r.events
 
 -- the disk of this role can't be taken off the shelf, or fails when it is opened for this session, which the next line is to

@@ -16,6 +16,7 @@ ghost use Rattle.script_replay.specs.Ends.{EndsReplay};
 ghost use Rattle.script_replay.specs.Failing.{FailsAt};
 ghost use Rattle.script_replay.specs.Replays.{IsFailed, Wrote};
 ghost use Rattle.script_replay.specs.Shelves.{AllAreBack, LeavesOtherSessions, shelved};
+ghost use Rattle.script_replay.specs.Told.{TellsFault, IfAlone};
 ghost use Rattle.script_replay.specs.Runners.{AllHandOver, AreOut, AllAreOut, LeftAs, AllLeftAs, IsAloneOr, lent, Closes, EndsAs, IsDeviceFaultOf, DeviceFails};
 
 use crate::disks::put_disks_back;
@@ -108,6 +109,7 @@ fn run<S: Shelf, I: Source, O: Sink>(
     ensures hands { AllHandOver S.told.tells S.Disk.told (S.told.disk shelf.old) (S.told.disk shelf.new) sessions.new.begun.items }
     ensures rise { Rise sessions.new.begun.items }
     ensures device { (number : ℕ) (role : DiskRole) → IsDeviceFaultOf number role result → DeviceFails S.told S.Disk.told (S.told.disk shelf.old) shelf.old shelf.new sessions.new.begun.items number role }
+    ensures told { (number : ℕ) (role : DiskRole) → IsDeviceFaultOf number role result → IfAlone (found_at number sessions.new.begun.items) (TellsFault (I.left script.old) (I.left script.new)) }
     ensures memory { result ≡ Ended.Memory → Appends (O.written out.old) (O.written out.new) [] }
     ensures later { S.told.disk_faults shelf.old ≤ S.told.disk_faults shelf.new }
     ensures write { result ≡ Ended.Write → Rose (O.faults out.old) (O.faults out.new) }
@@ -208,9 +210,10 @@ pub fn replay<S: Shelf, I: Source, O: Sink>(
     ensures words { result ≡ 2 → ⊥ }
     ensures back { S.told.tells → AllAreBack (S.told.disk shelf.old) (S.told.disk shelf.new) }
     // A disk, a read and a write fail only where the count of the shelf, the source or the sink rose; a disk also where a
-    // line tells so.
+    // line of the script tells so of a low side alone, whatever the shelf tells.
     ensures device { result ≡ 7 → Rose (S.told.disk_faults shelf.old) (S.told.disk_faults shelf.new)
-        ⊎ (S.told.tells → S.Disk.told.tells → Wrote (I.left script.old) (O.written out.old) (O.written out.new) (IsFailed (shelved (S.told.disk shelf.old) (S.told.disk shelf.new)) (I.left script.new))) }
+        ⊎ (TellsFault (I.left script.old) (I.left script.new)
+        × (S.told.tells → S.Disk.told.tells → Wrote (I.left script.old) (O.written out.old) (O.written out.new) (IsFailed (shelved (S.told.disk shelf.old) (S.told.disk shelf.new)) (I.left script.new)))) }
     ensures read { result ≡ 3 → Rose (I.faults script.old) (I.faults script.new) }
     ensures write { result ≡ 4 → Rose (O.faults out.old) (O.faults out.new) }
     ensures status { (result ≤ 8) ⊎ (result ≡ 10) }

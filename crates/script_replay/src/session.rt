@@ -8,7 +8,7 @@ ghost use Rattle.script_reader.specs.EventHeads.{event_of};
 ghost use Rattle.script_reader.specs.Heads.{line_with, CanHoldLine};
 ghost use Rattle.script_reader.specs.Grammar.{IsCount};
 ghost use Rattle.script_reader.specs.Alone.{fresh_alone};
-ghost use Rattle.script_reader.specs.Scripts.{Begun, Alone, Ends, made_coarse};
+ghost use Rattle.script_reader.specs.Scripts.{RunningAlone, Begun, Alone, Ends, made_coarse};
 ghost use Rattle.script_reader.specs.Sessions.{moment_of, stands_first};
 ghost use Rattle.two_worlds.specs.declared.applied.Stop.TheVariants as stops;
 ghost use Rattle.two_worlds.specs.Printing.{lines_in};
@@ -94,6 +94,8 @@ impl<D: Disk> Session<D> {
         requires up { IsUp self.old }
         ensures applies { D.told.tells → (running : Begun) → StandsFor D.told self.old running
             → SessionApplies D.told running (line_with body.now line.now) self.new (lines_in events.new.items) result }
+        ensures alone { (s : RunningAlone) → StandsFor D.told self.old (Alone s)
+            → SessionApplies D.told (Alone s) (line_with body.now line.now) self.new (lines_in events.new.items) result }
         ensures up { result ≡ None → IsUp self.new }
         ensures with { GoesOnWith D.told self.old self.new }
         ensures failed { (role : DiskRole) (count : ℕ) → result ≡ Some (stops.Device role count) → FailedWith D.told self.old self.new role }

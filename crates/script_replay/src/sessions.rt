@@ -80,6 +80,7 @@ impl<D: Disk> Sessions<D> {
         ensures may { (bytes : List ℕ) (t : Script) → AllStandFor D.told self.now t → may_come t (line_with bytes line.now) ≡ result }
         ensures first { (bytes : List ℕ) → result ≡ true → begins (line_with bytes line.now) ≡ true
             → (self.now.is_under_way ≡ false) × (length self.now.begun.items < 16) }
+        ensures way { (bytes : List ℕ) → result ≡ true → is_first (line_with bytes line.now) ≡ true → self.now.is_under_way ≡ false }
     {
         if stands_first(line) {
             return !self.is_under_way && self.has_room_for(line);

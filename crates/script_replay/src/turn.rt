@@ -1,19 +1,20 @@
 //! A line of a script: of the session that it names, or that it begins.
 
-ghost use Rattle.std.specs.Prelude.{◌≡◌, ◌≢◌, ◌<◌, ◌≤◌, ℕ, true, false, length, None, Some, IfOk, IfErr, vec_len};
+ghost use Rattle.std.specs.Prelude.{◌≡◌, ◌≢◌, ◌<◌, ◌≤◌, ℕ, true, false, List, [], ◌∷◌, length, None, Some, IfOk, IfErr, vec_len};
 ghost use Rattle.disk_model.specs.declared.name.Role.{Role as DiskRole};
 ghost use Rattle.pump_frame.specs.Counts.{Rose};
 ghost use Rattle.pump_frame.specs.Rows.{IsLawfulRow};
 ghost use Rattle.script_reader.specs.Grammar.{IsCount};
 ghost use Rattle.script_reader.specs.Lawful.{IsLawfulLine};
 ghost use Rattle.script_reader.specs.Heads.{line_with, CanHoldLine};
-ghost use Rattle.script_reader.specs.Scripts.{Begun};
+ghost use Rattle.script_reader.specs.Scripts.{RunningAlone, Begun, Alone};
 ghost use Rattle.script_reader.specs.Sessions.{Sessions as Script, session_in, begins_session as begins, stands_first as is_first, is_in_turn};
 ghost use Rattle.script_replay.specs.Sessions.{id_of, IsUp, StandsFor, LendsNew, GoesOnWith, FailedWith, HasFailed, found_at, IsPlaced, AreInOrder, AllStandFor, AllLend};
 ghost use Rattle.script_replay.specs.Outputs.{held_of};
 ghost use Rattle.script_replay.specs.Failing.{FailsAt};
 ghost use Rattle.script_replay.specs.Shelves.{Places, AllAreBack, LeavesOtherSessions};
 ghost use Rattle.script_replay.specs.Runners.{AllAreUp, outcome_of, outcome_at, Begins, GoesSo, TurnDoes, BeginDoes, TurnIsQuiet, AllHandOver, IsDeviceOutcomeOf, DeviceFails, AllFresh, StartsFresh, FreshAfter, StopsByLine, IsOfBeginning};
+ghost use Rattle.script_replay.specs.Told.{IsMadeBy, AllAreMadeBy, GoesAsTold};
 
 use crate::disks::{put_disks_back, take_disks};
 use crate::outcome::{Outcome, outcome_at, outcome_of, untaken};
@@ -49,6 +50,7 @@ fn begin_whole<S: Shelf>(
     ensures device { IfErr result (λ outcome. (number : ℕ) (role : DiskRole) → IsDeviceOutcomeOf number role outcome
         → (number ≡ row.now.id) × FailsAt S.told S.Disk.told shelf.old shelf.new number role) }
     ensures later { S.told.disk_faults shelf.old ≤ S.told.disk_faults shelf.new }
+    ensures made { (lines : List Line) → IfOk result (λ session. IsMadeBy S.Disk.told false (Some session) lines) }
 {
     let disks = match take_disks(shelf, row.id) {
         Ok(disks) => disks,
@@ -77,6 +79,7 @@ fn begin_alone<D: Disk>(
     ensures up { IfOk result (λ session. IsUp session) }
     ensures id { IfOk result (λ session. id_of session ≡ row.now.id) }
     ensures memory { IfErr result (λ outcome. outcome ≡ Outcome.Memory) }
+    ensures made { IfOk result (λ session. IsMadeBy D.told false (Some session) (Line.LowSession row.now next held ∷ [])) }
 {
     match Session::alone(alloc, row, next, held) {
         Ok(session) => Ok(session),
@@ -109,6 +112,7 @@ fn begin<S: Shelf>(
     ensures device { IfErr result (λ outcome. (number : ℕ) (role : DiskRole) → IsDeviceOutcomeOf number role outcome
         → (session_in (line_with body.now line.now) ≡ Some number) × FailsAt S.told S.Disk.told shelf.old shelf.new number role) }
     ensures later { S.told.disk_faults shelf.old ≤ S.told.disk_faults shelf.new }
+    ensures made { IfOk result (λ session. IsMadeBy S.Disk.told false (Some session) (line_with body.now line.now ∷ [])) }
 {
     // What begins a session has no body.
     let _bytes = body;
@@ -141,6 +145,8 @@ fn go_on<D: Disk, O: Sink>(
     requires up { IsUp session.old }
     ensures does { D.told.tells → (running : Begun) → StandsFor D.told session.old running
         → GoesSo D.told running (line_with body.now line.now) session.new (held_of output.old) (held_of output.new) (O.written out.old) (O.written out.new) result }
+    ensures alone { (s : RunningAlone) → StandsFor D.told session.old (Alone s)
+        → GoesSo D.told (Alone s) (line_with body.now line.now) session.new (held_of output.old) (held_of output.new) (O.written out.old) (O.written out.new) result }
     ensures up { result ≡ Outcome.Applied → IsUp session.new }
     ensures with { GoesOnWith D.told session.old session.new }
     ensures line { StopsByLine result }
@@ -190,6 +196,7 @@ fn begin_at<S: Shelf>(
     ensures device { (number : ℕ) (role : DiskRole) → IsDeviceOutcomeOf number role result
         → (found_at number sessions.old.begun.items ≡ None) × (found_at number sessions.new.begun.items ≡ None) × FailsAt S.told S.Disk.told shelf.old shelf.new number role }
     ensures disks_later { S.told.disk_faults shelf.old ≤ S.told.disk_faults shelf.new }
+    ensures told { (lines : List Line) → AllAreMadeBy S.Disk.told sessions.old lines → GoesAsTold S.Disk.told sessions.new lines (line_with body.now line.now) result }
 {
     match begin(alloc, shelf, line, body) {
         Ok(session) => {
@@ -227,6 +234,8 @@ fn coarsen_at<D: Disk>(
     ensures memory { result ≡ Outcome.Memory → ⊥ }
     ensures written { result ≡ Outcome.Unwritten → ⊥ }
     ensures device { (number : ℕ) (role : DiskRole) → IsDeviceOutcomeOf number role result → ⊥ }
+    ensures told { sessions.old.is_under_way ≡ false
+        → (lines : List Line) → AllAreMadeBy D.told sessions.old lines → GoesAsTold D.told sessions.new lines (line_with body.now line.now) result }
 {
     // What makes a session coarse has no body.
     let _bytes = body;
@@ -272,6 +281,8 @@ fn go_on_at<D: Disk, O: Sink>(
         → HasFailed D.told now role (found_at number sessions.new.begun.items) }
     ensures later { O.faults out.old ≤ O.faults out.new }
     ensures cause { result ≡ Outcome.Unwritten → Rose (O.faults out.old) (O.faults out.new) }
+    ensures told { (is_first (line_with body.now line.now) ≡ true → sessions.old.is_under_way ≡ false)
+        → (lines : List Line) → AllAreMadeBy D.told sessions.old lines → GoesAsTold D.told sessions.new lines (line_with body.now line.now) result }
 {
     if stands_first(line) {
         return coarsen_at(sessions, place, line, body);
@@ -319,6 +330,7 @@ fn turn_of<S: Shelf, O: Sink>(
     ensures disks_later { S.told.disk_faults shelf.old ≤ S.told.disk_faults shelf.new }
     ensures later { O.faults out.old ≤ O.faults out.new }
     ensures cause { result ≡ Outcome.Unwritten → Rose (O.faults out.old) (O.faults out.new) }
+    ensures told { (lines : List Line) → AllAreMadeBy S.Disk.told sessions.old lines → GoesAsTold S.Disk.told sessions.new lines (line_with body.now line.now) result }
 {
     if !sessions.is_in_turn(line) {
         return Outcome::Refused;
@@ -363,6 +375,7 @@ pub fn turn<S: Shelf, O: Sink>(
     ensures disks_later { S.told.disk_faults shelf.old ≤ S.told.disk_faults shelf.new }
     ensures later { O.faults out.old ≤ O.faults out.new }
     ensures cause { result ≡ Outcome.Unwritten → Rose (O.faults out.old) (O.faults out.new) }
+    ensures told { (lines : List Line) → AllAreMadeBy S.Disk.told sessions.old lines → GoesAsTold S.Disk.told sessions.new lines (line_with body.now line.now) result }
 {
     match session_of(line) {
         None => Outcome::Applied,

@@ -4,6 +4,7 @@ use Rattle.script_replay.specs.Ends.{EndsReplay}
 use Rattle.script_replay.specs.Failing.{FailsAt}
 use Rattle.script_replay.proofs.Ending.{ends_to, told_to_fail, downs, named_so, all_are_back, all_are_out}
 use Rattle.script_replay.proofs.ByStatus.{of_status, ends_by_status, ends_at_once}
+use Rattle.script_replay.proofs.Told.{alone_so}
 use Rattle.script_replay.proofs.replaying.replay.Goals as goal
 
 pub leave_all-requires-clause-out : goal.leave_all-requires-clause-out
@@ -49,8 +50,11 @@ returns-clause-device g c = λ is.
     let failed : IsDeviceFaultOf number role c.run-ended.result = subst (IsDeviceFaultOf number role) (sym of) (refl, refl) in
     elim (named_so g.S.Shelf.told g.S.Disk.Disk.told before c.args.shelf.now c.run-ended.new.shelf c.leave_all.new.shelf begun number role refl (c.run-ended.ensures.device number role failed) c.run-ended.ensures.later c.leave_all.ensures.later c.leave_all.ensures.left (c.leave_all.ensures.failed number role)) [
       | inl fails ↦ inl fails.0
-      | inr (id, p, e) ↦ inr (λ told tells.
-          told_to_fail g.S.Disk.Disk.told g.S.Shelf.told.tells told tells before (g.S.Shelf.told.disk c.run-ended.new.shelf) (g.S.Shelf.told.disk c.leave_all.new.shelf) begun c.leave_all.ensures.left _ _ _ _ _ _ number id role p e c.run-ended.result of (c.run-ended.ensures.ends told tells))
+      | inr (id, p, e) ↦ inr (
+        alone_so _ _ id p e (c.run-ended.ensures.told number role failed),
+        λ told tells.
+            told_to_fail g.S.Disk.Disk.told g.S.Shelf.told.tells told tells before (g.S.Shelf.told.disk c.run-ended.new.shelf) (g.S.Shelf.told.disk c.leave_all.new.shelf) begun c.leave_all.ensures.left _ _ _ _ _ _ number id role p e c.run-ended.result of (c.run-ended.ensures.ends told tells),
+      )
     ]
 
 pub returns-in-Err-clause-ends : goal.returns-in-Err-clause-ends

@@ -6,14 +6,16 @@ use Rattle.script_reader.specs.Sessions.{no_sessions}
 use Rattle.script_reader.proofs.LineLaws.{lawful_line}
 use Rattle.script_replay.specs.Outputs.{held_of}
 use Rattle.script_replay.specs.Runners.{lent, AllAreUp}
-use Rattle.script_replay.specs.Sessions.{AllLend}
+use Rattle.script_replay.specs.Sessions.{found_at, AllLend}
+use Rattle.script_replay.specs.Told.{StopsAsTold, TellsFault}
 use Rattle.script_replay.proofs.OtherEnds.{write_no_memory, write_no_fault, memory_no_write, memory_no_fault, closed_no_memory}
 use Rattle.script_replay.proofs.Fresh.{none_fresh}
 use Rattle.script_replay.proofs.Quiet.{by_way, quiet_shown, quiet_turn, quiet_memory}
 use Rattle.script_replay.proofs.Stops.{came_all, keeps_so, stops, barred, cut_off, stop_device, closed_device, closed_not, line_fault}
+use Rattle.script_replay.proofs.Told.{none_made, alone_more, tells_so}
 use Rattle.script_replay.proofs.Turns.{hands_of}
 use Rattle.script_replay.proofs.Widened.{advance}
-use Rattle.script_replay.proofs.SoFar.{Keeps-fresh, fresh_gathers, so_far_more, so_far_kept, shown, printed, one_left, refused, failed, finished, closed, unshown, faulty_line, faulty_bad, line_number, bad_number, near_now, near_bad, within_failed, near_next, replayed}
+use Rattle.script_replay.proofs.SoFar.{Keeps-fresh, AreLines-more, fresh_gathers, so_far_more, so_far_kept, shown, printed, one_left, refused, failed, finished, closed, unshown, faulty_line, faulty_bad, line_number, bad_number, near_now, near_bad, within_failed, next_line, near_next, replayed}
 use Rattle.script_replay.proofs.replaying.run.Goals as goal
 
 pub turns-init : goal.turns-init
@@ -41,6 +43,7 @@ turns-init g c = (
   c.requires.order,
   λ way. (c.new-output.ensures, Appends-none (g.O.Sink.written c.args.out.now)),
   λ told tells way. none_fresh g.S.Disk.Disk.told (g.S.Shelf.told.disk c.args.shelf.now) c.args.sessions.now.begun.items c.requires.none,
+  record { lines = []; spelled = rw c.new-lines.ensures (Keeps-fresh _); made = none_made g.S.Disk.Disk.told c.args.sessions.now c.requires.none },
 )
 
 pub turn-requires-clause-lawful : goal.turn-requires-clause-lawful
@@ -56,6 +59,7 @@ returns-in-Err g c = record {
   hands = hands_of _ g.S.Disk.Disk.told (g.S.Shelf.told.disk c.args.shelf.now) (g.S.Shelf.told.disk c.turns.shelf) c.turns.sessions.begun.items c.turns.invariant.1.0;
   rise = c.turns.invariant.7.rise;
   device = λ number role failed. absurd failed;
+  told = λ number role failed. absurd failed;
   memory = λ e. absurd (write_no_memory e);
   later = c.turns.invariant.6;
   write = λ e. omega (arith, c.turns.invariant.5, c.in-Err.ensures.cause.failed);
@@ -77,6 +81,7 @@ returns-in-Unwritten g c = record {
   hands = c.in-Unwritten.ensures.hands (g.S.Shelf.told.disk c.args.shelf.now) c.turns.invariant.1.0;
   rise = c.turn.ensures.order.rise;
   device = λ number role failed. absurd failed;
+  told = λ number role failed. absurd failed;
   memory = λ e. absurd (write_no_memory e);
   later = omega (arith, c.turns.invariant.6, c.turn.ensures.disks_later);
   write = λ e. omega (arith, c.turns.invariant.5, c.show.ensures.cause.later, c.in-Unwritten.ensures.cause refl);
@@ -102,6 +107,7 @@ returns-in-Refused g c = record {
   hands = c.in-Refused.ensures.hands (g.S.Shelf.told.disk c.args.shelf.now) c.turns.invariant.1.0;
   rise = c.turn.ensures.order.rise;
   device = λ number role failed. absurd (closed_device _ _ _ _ _ _ c.refuse.result number role c.refuse.ensures failed);
+  told = λ number role failed. absurd (closed_device _ _ _ _ _ _ c.refuse.result number role c.refuse.ensures failed);
   memory = λ e. absurd (closed_no_memory _ _ _ _ _ _ c.refuse.result c.refuse.ensures e);
   later = omega (arith, c.turns.invariant.6, c.turn.ensures.disks_later);
   write = closed _ _ _ _ _ _ _ _ (omega (arith, c.turns.invariant.5, c.show.ensures.cause, c.turn.ensures.later)) (λ e. cc) c.refuse.ensures;
@@ -123,6 +129,14 @@ returns-in-Stopped g c = record {
       (held_of c.show.new.output) w t.7 (held_of c.turn.new.output) _ _ _ _ m.0 c.in-Stopped.fault c.stop.result m.1 m.2 c.stop.ensures;
   hands = c.in-Stopped.ensures.hands (g.S.Shelf.told.disk c.args.shelf.now) c.turns.invariant.1.0;
   rise = c.turn.ensures.order.rise;
+  told =
+      λ number role failed.
+      let n = c.in-Line.ensures.next in
+      let i = c.turns.invariant.10 in
+      let line = line_with c.next_head.new.body c.in-Line.line in
+      alone_more (found_at number c.turn.new.sessions.begun.items) (StopsAsTold i.lines line number) (TellsFault (g.I.Source.left c.args.script.now) (g.I.Source.left c.next_head.new.script))
+      (tells_so g.S.Disk.Disk.told c.turns.sessions _ _ _ _ line i (next_line c.turns.lines c.next_head.new.self _ _ line n) (near_next c.turns.lines c.next_head.new.self _ _ line n) number)
+      ((c.in-Stopped.ensures.told i.lines i.made).stopped number role (closed_device _ _ _ _ _ c.in-Stopped.fault c.stop.result number role c.stop.ensures failed));
   device =
       λ number role failed.
       stop_device g.S.Shelf.told g.S.Disk.Disk.told (g.S.Shelf.told.disk c.args.shelf.now) c.args.shelf.now c.turns.shelf c.turn.new.shelf c.turn.new.sessions.begun.items number role c.turns.invariant.6
@@ -161,6 +175,7 @@ returns-in-Memory g c = record {
   hands = c.in-Memory.ensures.hands (g.S.Shelf.told.disk c.args.shelf.now) c.turns.invariant.1.0;
   rise = c.turn.ensures.order.rise;
   device = λ number role failed. absurd failed;
+  told = λ number role failed. absurd failed;
   memory =
       λ is.
       let i = c.turns.invariant in
@@ -202,6 +217,11 @@ turns-preserved g c =
           (λ way. let q = i.8 way in quiet_shown (held_of c.turns.output) (held_of c.show.new.output) _ _ _ q.0 q.1 c.in-Ok.ensures.ok) refl,
       λ told tells way.
           c.in-Applied.ensures.fresh told tells (g.S.Shelf.told.disk c.args.shelf.now) (i.9 told tells (by_way c.turns.sessions.is_under_way c.turn.new.sessions.is_under_way c.in-Applied.ensures.quiet.waits way)) way,
+      record {
+        lines = i.10.lines ++ (line_with c.next_head.new.body c.in-Line.line) ∷ [];
+        spelled = AreLines-more _ _ _ i.10.lines (line_with c.next_head.new.body c.in-Line.line) n.0 i.10.spelled n.1 n.2 n.3;
+        made = (c.in-Applied.ensures.told i.10.lines i.10.made).applied refl;
+      },
     )
 
 pub returns-in-Bad : goal.returns-in-Bad
@@ -220,6 +240,7 @@ returns-in-Bad g c = record {
   hands = hands_of _ g.S.Disk.Disk.told (g.S.Shelf.told.disk c.args.shelf.now) (g.S.Shelf.told.disk c.turns.shelf) c.turns.sessions.begun.items c.turns.invariant.1.0;
   rise = c.turns.invariant.7.rise;
   device = λ number role failed. absurd (closed_device _ _ _ _ _ _ c.refuse-in-Bad.result number role c.refuse-in-Bad.ensures failed);
+  told = λ number role failed. absurd (closed_device _ _ _ _ _ _ c.refuse-in-Bad.result number role c.refuse-in-Bad.ensures failed);
   memory = λ e. absurd (closed_no_memory _ _ _ _ _ _ c.refuse-in-Bad.result c.refuse-in-Bad.ensures e);
   later = c.turns.invariant.6;
   write = closed _ _ _ _ _ _ _ _ (omega (arith, c.turns.invariant.5, c.show.ensures.cause)) (λ e. cc) c.refuse-in-Bad.ensures;
@@ -241,6 +262,7 @@ returns-in-Failed g c = record {
   hands = hands_of _ g.S.Disk.Disk.told (g.S.Shelf.told.disk c.args.shelf.now) (g.S.Shelf.told.disk c.turns.shelf) c.turns.sessions.begun.items c.turns.invariant.1.0;
   rise = c.turns.invariant.7.rise;
   device = λ number role failed. absurd (closed_device _ _ _ _ _ _ c.stop-in-Failed.result number role c.stop-in-Failed.ensures failed);
+  told = λ number role failed. absurd (closed_device _ _ _ _ _ _ c.stop-in-Failed.result number role c.stop-in-Failed.ensures failed);
   memory = λ e. absurd (closed_no_memory _ _ _ _ _ _ c.stop-in-Failed.result c.stop-in-Failed.ensures e);
   later = c.turns.invariant.6;
   write = closed _ _ _ _ _ _ _ _ (omega (arith, c.turns.invariant.5, c.show.ensures.cause)) (λ e. cc) c.stop-in-Failed.ensures;
@@ -261,6 +283,7 @@ returns-in-End g c = record {
   hands = hands_of _ g.S.Disk.Disk.told (g.S.Shelf.told.disk c.args.shelf.now) (g.S.Shelf.told.disk c.turns.shelf) c.turns.sessions.begun.items c.turns.invariant.1.0;
   rise = c.turns.invariant.7.rise;
   device = λ number role failed. absurd (c.finish.ensures.other number role failed);
+  told = λ number role failed. absurd (c.finish.ensures.other number role failed);
   memory = λ e. absurd (c.finish.ensures.memory e);
   later = c.turns.invariant.6;
   write = λ e. omega (arith, c.turns.invariant.5, c.show.ensures.cause.later, c.finish.ensures.cause e);

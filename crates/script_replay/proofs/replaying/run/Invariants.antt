@@ -10,6 +10,7 @@ use Rattle.script_replay.specs.Outputs.{held_of, Gathers}
 use Rattle.script_replay.specs.Replays.{IsSoFar}
 use Rattle.script_replay.specs.Runners.{AllAreUp, AllFind, AllFresh}
 use Rattle.script_replay.specs.Sessions.{AllStandFor, AllLend, AreInOrder}
+use Rattle.script_replay.proofs.Told.{MadeSoFar}
 use Rattle.script_replay.proofs.replaying.run.Given as goal
 
 abbrev pub invariant-turns : goal.invariant-turns
@@ -29,6 +30,7 @@ invariant-turns g l =
     × AreInOrder l.sessions
     × (l.sessions.is_under_way ≡ false → (held_of l.output ≡ []) × Appends (g.O.Sink.written l.fn.out) (g.O.Sink.written l.out) [])
     × (g.S.Shelf.told.tells → g.S.Disk.Disk.told.tells → l.sessions.is_under_way ≡ false → AllFresh g.S.Disk.Disk.told (g.S.Shelf.told.disk l.fn.shelf) (g.S.Shelf.told.disk l.shelf) l.sessions.begun.items)
+    × MadeSoFar g.S.Disk.Disk.told l.sessions (g.I.Source.left l.fn.script) (to_come l.lines (g.I.Source.left l.script))
 
 abbrev pub decreases-turns : goal.decreases-turns
 decreases-turns g l = 2 ^ 32 - l.lines.number

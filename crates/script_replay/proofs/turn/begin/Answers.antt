@@ -1,9 +1,11 @@
-use Rattle.std.proofs.Common.{◌≡◌, ℕ, Some, sym, ap, ◌∙◌, subst}
+use Rattle.std.proofs.Common.{◌≡◌, ℕ, false, [], ◌∷◌, Some, sym, ap, ◌∙◌, subst}
+use Rattle.std.specs.Prelude.{IfOk}
 use Rattle.std.proofs.lemmas.Option.{same_Some}
 use Rattle.script_reader.specs.declared.line.Line.{Line}
 use Rattle.script_reader.specs.Heads.{line_with}
 use Rattle.script_reader.specs.Sessions.{session_in}
 use Rattle.script_replay.specs.Runners.{Begins, StartsFresh, IsDeviceOutcomeOf}
+use Rattle.script_replay.specs.Told.{IsMadeBy}
 use Rattle.script_replay.proofs.Opened.{if_err}
 use Rattle.script_replay.proofs.turn.begin.Goals as goal
 
@@ -34,3 +36,10 @@ returns-in-None-clause-device g c =
 
 pub returns-in-None-first_bad-clause-device : goal.returns-in-None-first_bad-clause-device
 returns-in-None-first_bad-clause-device g c = if_err c.begin_alone.result _ _ c.begin_alone.ensures.memory (λ outcome is number role h. absurd (subst (IsDeviceOutcomeOf number role) is h))
+
+pub returns-in-None-clause-made : goal.returns-in-None-clause-made
+returns-in-None-clause-made g c = c.begin_whole.ensures.made (line_with c.args.body.now c.args.line.now ∷ [])
+
+pub returns-in-None-first_bad-clause-made : goal.returns-in-None-first_bad-clause-made
+returns-in-None-first_bad-clause-made g c =
+    subst (λ (l : Line). IfOk c.begin_alone.result (λ session. IsMadeBy g.S.Disk.Disk.told false (Some session) (l ∷ []))) (sym (ap (line_with c.args.body.now) c.in-LowSession.is)) c.begin_alone.ensures.made

@@ -6,6 +6,7 @@ use Rattle.script_replay.specs.Runners.{IsOfBeginning}
 use Rattle.script_replay.specs.Sessions.{id_of}
 use Rattle.script_replay.proofs.Fresh.{begun_fresh, after_unbegun}
 use Rattle.script_replay.proofs.Listed.{insert_here}
+use Rattle.script_replay.proofs.Told.{begun_made, unbegun_made}
 use Rattle.script_replay.proofs.Turns.{hands_of, hands_none, not_begun, lends_begun, up_begun, rise_begun, begun_does, none_of, put_is}
 use Rattle.script_replay.proofs.turn.begin_at.Goals as goal
 
@@ -50,6 +51,10 @@ returns-in-Ok g c =
       written = λ e. cc;
       device = λ number role h. absurd h;
       disks_later = c.begin.ensures.later;
+      told =
+          begun_made g.S.Disk.Disk.told c.args.sessions.now c.go_on_by.new.self s (line_with c.args.body.now c.args.line.now)
+          (put_is g.S.Disk.Disk.told (line_with c.args.body.now c.args.line.now) (id_of s) c.args.place named c.args.sessions.now placed c.requires.order.rise (g.S.Shelf.told.disk c.args.shelf.now) (g.S.Shelf.told.disk c.args.shelf.now) (g.S.Shelf.told.disk c.begin.new.shelf) returned s c.go_on_by.new.self named items c.in-Ok.ensures.lends)
+          named (λ still. first.0) (none_of (id_of s) c.args.place c.args.sessions.now.begun.items placed c.requires.order.rise) c.in-Ok.ensures.made;
     }
 
 pub returns-in-Err : goal.returns-in-Err
@@ -77,4 +82,6 @@ returns-in-Err g c =
           let none = none_of number c.args.place c.args.sessions.now.begun.items (c.requires.placed number fails.0) c.requires.order.rise in
           (none, none, fails.1);
       disks_later = c.begin.ensures.later;
+      told = λ lines all. unbegun_made g.S.Disk.Disk.told c.args.sessions.now lines (line_with c.args.body.now c.args.line.now) c.in-Err.outcome (λ e. absurd (subst IsOfBeginning e c.in-Err.ensures.line.1))
+          (λ number role h. none_of number c.args.place c.args.sessions.now.begun.items (c.requires.placed number (c.in-Err.ensures.device number role h).0) c.requires.order.rise);
     }

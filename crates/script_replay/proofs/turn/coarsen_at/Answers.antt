@@ -1,11 +1,12 @@
-use Rattle.std.proofs.Common.{◌≡◌, ◌<◌, length, false, refl, sym, ap, ◌∙◌, subst, arith}
+use Rattle.std.proofs.Common.{◌≡◌, ◌<◌, length, false, Some, refl, sym, ap, ◌∙◌, subst, arith}
 use Rattle.std.proofs.lemmas.Option.{same_Some}
 use Rattle.script_reader.specs.Heads.{line_with}
 use Rattle.script_replay.specs.Sessions.{is_coarse}
 use Rattle.script_replay.proofs.Coarse.{coarse_line}
 use Rattle.script_replay.proofs.Listed.{at_slice, set_here, order_item}
 use Rattle.script_replay.proofs.Fresh.{put_fresh}
-use Rattle.script_replay.proofs.Turns.{same_id, there_own, is_put, up_there, lends_last, up_last, rise_last, coarse_does, refused_begun, refused_coarse}
+use Rattle.script_replay.proofs.Told.{coarse_made, refused_made}
+use Rattle.script_replay.proofs.Turns.{same_id, id_x, there_own, is_put, up_there, lends_last, up_last, rise_last, coarse_does, refused_begun, refused_coarse}
 use Rattle.script_replay.proofs.turn.coarsen_at.Goals as goal
 
 pub returns-then-begins_session-clause-does : goal.returns-then-begins_session-clause-does
@@ -99,3 +100,28 @@ returns-clause-fresh g c =
     put_fresh g.D.Disk.told before now c.args.sessions.now.begun.items c.go_on_by.new.self.begun.items x t (same_id g.D.Disk.told x t c.make_coarse.ensures.with)
     (there_own g.D.Disk.told (line_with c.args.body.now c.args.line.now) n c.args.place named x t c.make_coarse.ensures.with c.args.sessions.now placed at c.requires.order.rise) items
     (λ number. c.make_coarse.ensures.fresh before now number) fresh
+
+pub returns-clause-told : goal.returns-clause-told
+returns-clause-told g c =
+    let low = c.requires.place in
+    let len = c.args.sessions.now.begun.ok.0 in
+    let within : c.args.place < length c.args.sessions.now.begun.items = omega (arith, low, len) in
+    let at = at_slice c.args.sessions.now.begun.items c.args.place c.index_mut.result.now within c.index_mut.ensures.value in
+    let seen = at_slice c.args.sessions.now.begun.items c.args.place c.index.result.now within c.index.ensures in
+    let n = c.requires.named.0 in
+    let named = c.requires.named.1 in
+    let placed = c.requires.placed n named in
+    let x = c.index_mut.result.now in
+    let t = c.make_coarse.new.self in
+    let own = there_own g.D.Disk.told (line_with c.args.body.now c.args.line.now) n c.args.place named x t c.make_coarse.ensures.with c.args.sessions.now placed at c.requires.order.rise in
+    let items = ap (λ v. v.items) c.go_on_by.ensures.begun ∙ is_put g.D.Disk.told (line_with c.args.body.now c.args.line.now) n c.args.place named x t c.make_coarse.ensures.with c.args.sessions.now placed at c.requires.order.rise in
+    let line = coarse_line (line_with c.args.body.now c.args.line.now) c.requires.first (c.begins_session.ensures c.args.body.now ∙ c.if-begins_session.false) in
+    let plain = subst (λ x. is_coarse x ≡ false) (same_Some c.index.result.now x (sym seen ∙ at)) (sym c.is_coarse.ensures ∙ c.if-is_coarse.false) in
+    coarse_made g.D.Disk.told c.args.sessions.now c.go_on_by.new.self x t (line_with c.args.body.now c.args.line.now) line.0 line.1 plain c.make_coarse.ensures.with c.make_coarse.ensures.stands own items
+    (named ∙ ap Some (sym (id_x g.D.Disk.told (line_with c.args.body.now c.args.line.now) n c.args.place named x t c.make_coarse.ensures.with c.args.sessions.now placed at c.requires.order.rise)))
+
+pub returns-then-begins_session-clause-told : goal.returns-then-begins_session-clause-told
+returns-then-begins_session-clause-told g c = λ new lines all. refused_made g.D.Disk.told c.args.sessions.now lines (line_with c.args.body.now c.args.line.now)
+
+pub returns-then-is_coarse-clause-told : goal.returns-then-is_coarse-clause-told
+returns-then-is_coarse-clause-told g c = λ new lines all. refused_made g.D.Disk.told c.args.sessions.now lines (line_with c.args.body.now c.args.line.now)

@@ -1,11 +1,12 @@
-use Rattle.std.proofs.Common.{◌<◌, length, refl, sym, ap, ◌∙◌, arith}
+use Rattle.std.proofs.Common.{◌<◌, length, Some, refl, sym, ap, ◌∙◌, arith}
 use Rattle.std.specs.Vec.{with_item}
 use Rattle.script_reader.specs.Heads.{line_with}
 use Rattle.script_replay.specs.declared.sessions.Sessions.{Sessions}
 use Rattle.script_replay.specs.Outputs.{held_of}
 use Rattle.script_replay.proofs.Fresh.{fresh_other}
 use Rattle.script_replay.proofs.Listed.{at_slice, set_here, order_item, under_way_so}
-use Rattle.script_replay.proofs.Turns.{is_put, up_there, lends_last, up_last, failed_last, rise_last, line_does, begin_turn}
+use Rattle.script_replay.proofs.Told.{goes_made}
+use Rattle.script_replay.proofs.Turns.{id_x, there_own, is_put, up_there, lends_last, up_last, failed_last, rise_last, line_does, begin_turn}
 use Rattle.script_replay.proofs.turn.go_on_at.Goals as goal
 
 pub returns-then-stands_first-clause-does : goal.returns-then-stands_first-clause-does
@@ -52,6 +53,11 @@ returns-in-Applied g c =
       device = λ number role h. absurd h;
       later = c.go_on.ensures.later;
       cause = λ e. cc;
+      told = λ first.
+          goes_made g.D.Disk.told (line_with c.args.body.now c.args.line.now) c.requires.some (held_of c.args.output.now) (held_of c.go_on.new.output) _ _ _ c.args.sessions.now c.go_on_by.new.self c.index_mut.result.now c.go_on.new.session c.go_on.ensures.with
+          (there_own g.D.Disk.told (line_with c.args.body.now c.args.line.now) n c.args.place named c.index_mut.result.now c.go_on.new.session c.go_on.ensures.with c.args.sessions.now placed at c.requires.order.rise) items (named ∙ ap Some (sym (id_x g.D.Disk.told (line_with c.args.body.now c.args.line.now) n c.args.place named c.index_mut.result.now c.go_on.new.session c.go_on.ensures.with c.args.sessions.now placed at c.requires.order.rise)))
+          (λ e. way)
+          (λ s stands. c.in-Applied.ensures.alone s stands) (λ k role h. absurd h);
     }
 
 pub returns-in_default : goal.returns-in_default
@@ -85,7 +91,15 @@ returns-in_default g c =
           (c.go_on.ensures.device number role h);
       later = c.go_on.ensures.later;
       cause = c.go_on.ensures.cause;
+      told = λ first.
+          goes_made g.D.Disk.told (line_with c.args.body.now c.args.line.now) c.requires.some (held_of c.args.output.now) (held_of c.go_on.new.output) _ _ c.go_on.result c.args.sessions.now last c.index_mut.result.now c.go_on.new.session c.go_on.ensures.with
+          (there_own g.D.Disk.told (line_with c.args.body.now c.args.line.now) n c.args.place named c.index_mut.result.now c.go_on.new.session c.go_on.ensures.with c.args.sessions.now placed at c.requires.order.rise) items (named ∙ ap Some (sym (id_x g.D.Disk.told (line_with c.args.body.now c.args.line.now) n c.args.place named c.index_mut.result.now c.go_on.new.session c.go_on.ensures.with c.args.sessions.now placed at c.requires.order.rise)))
+          (λ e. absurd (c.in_default.not-Applied e))
+          (λ s stands. c.go_on.ensures.alone s stands) (λ k role h. (c.go_on.ensures.device k role h).0);
     }
 
 pub returns-then-stands_first-clause-fresh : goal.returns-then-stands_first-clause-fresh
 returns-then-stands_first-clause-fresh g c = c.coarsen_at.ensures.fresh
+
+pub returns-then-stands_first-clause-told : goal.returns-then-stands_first-clause-told
+returns-then-stands_first-clause-told g c = λ first. c.coarsen_at.ensures.told (first (c.stands_first.ensures c.args.body.now ∙ c.if-stands_first.true))

@@ -1,9 +1,10 @@
-use Rattle.std.proofs.Common.{◌≡◌, ℕ, None, Some, inl, inr, sym, ap, ◌∙◌, subst, arith, true, false}
+use Rattle.std.proofs.Common.{◌≡◌, ℕ, None, Some, inr, sym, ap, ◌∙◌, subst, arith, true, false}
 use Rattle.script_reader.specs.Heads.{line_with}
 use Rattle.script_reader.specs.Sessions.{session_in}
 use Rattle.script_replay.specs.Outputs.{held_of}
 use Rattle.script_replay.specs.Sessions.{IsPlaced}
 use Rattle.script_replay.proofs.Numbered.{place_least}
+use Rattle.script_replay.proofs.Told.{refused_made}
 use Rattle.script_replay.proofs.Turns.{hands_of, begin_turn, fails_from}
 use Rattle.script_replay.proofs.turn.turn_of.Goals as goal
 
@@ -126,3 +127,12 @@ returns-then-is_at-clause-fresh g c = λ told tells before fresh. c.go_on_at.ens
 
 pub returns-else-is_at-clause-fresh : goal.returns-else-is_at-clause-fresh
 returns-else-is_at-clause-fresh g c = c.begin_at.ensures.fresh
+
+pub returns-then-is_at-clause-told : goal.returns-then-is_at-clause-told
+returns-then-is_at-clause-told g c = c.go_on_at.ensures.told (c.is_in_turn.ensures.way c.args.body.now c.if-not-is_in_turn.false)
+
+pub returns-else-is_at-clause-told : goal.returns-else-is_at-clause-told
+returns-else-is_at-clause-told g c = c.begin_at.ensures.told
+
+pub returns-then-not-is_in_turn-clause-told : goal.returns-then-not-is_in_turn-clause-told
+returns-then-not-is_in_turn-clause-told g c = λ lines all. refused_made g.S.Disk.Disk.told c.args.sessions.now lines (line_with c.args.body.now c.args.line.now)

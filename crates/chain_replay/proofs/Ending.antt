@@ -5,6 +5,7 @@ use Rattle.disk_model.specs.Disk.{Meaning}
 use Rattle.disk_model.specs.declared.disk.Disk.{Ghosts}
 use Rattle.pump_chain.specs.Chained.{Chained, Share, Skipped, OfFirst, OfSecond, MakesFirst, MakesSecond, OfNone, share, LeadsBy, ChainLeads, ChainRefuses}
 use Rattle.pump_chain.specs.Ends.{ends_of}
+use Rattle.pump_chain.specs.Failing.{FailNoLess}
 use Rattle.pump_chain.specs.Standing.{ChainStands, ChainStandsOrFails, ChainBreaks, ChainOverfills}
 use Rattle.pump_chain.specs.declared.chain.Chain.{Chain}
 use Rattle.pump_frame.specs.declared.row.SessionRow.{SessionRow}
@@ -26,13 +27,14 @@ use Rattle.script_replay.specs.declared.ended.Ended.TheVariants as ended
 use Rattle.script_replay.proofs.Gathered.{text-more, front_more}
 use Rattle.script_replay.proofs.SoFar.{next_line, near_next, one_left}
 use Rattle.chain_replay.specs.Ends.{EndsChain}
-use Rattle.chain_replay.specs.Faults.{IsHalted, ChainStops}
+use Rattle.chain_replay.specs.Faults.{IsHalted, ChainStops, NamesWhatFailed}
 use Rattle.chain_replay.specs.Opened.{Shelved}
-use Rattle.chain_replay.specs.Private.{AreOf, HasRead, TurnGoes, lent}
+use Rattle.chain_replay.specs.Private.{AreOf, FailsIn, HasRead, TurnGoes, lent}
 use Rattle.chain_replay.specs.Replays.{IsKept, Replayed, IsFinished, EndsWith}
 use Rattle.chain_replay.specs.Scripts.{NoPump, LeadTo, BothPumps}
 use Rattle.chain_replay.specs.declared.turn.Outcome.{Outcome}
 use Rattle.chain_replay.specs.declared.turn.Outcome.TheVariants as outcomes
+use Rattle.chain_replay.proofs.Failed.{named_since}
 use Rattle.chain_replay.proofs.Parts.{their_own, are_sound}
 use Rattle.chain_replay.proofs.Reading.{so_far_more, halted_line}
 
@@ -105,9 +107,9 @@ module _ (shelf : Shelved) (all left old mid new : Option (List ℕ)) (was now :
 
 -- ---- after the lines so far ----
 
-module _ {D : Type 0} {g : Ghosts D} (m : Meaning D) (chain : Chain D g) (o : Openings) (all left old : Option (List ℕ)) (was now : ℕ) (one two : SessionRow) (first : ℕ) (is_first : first ≡ one.id) where
+module _ {D : Type 0} {g : Ghosts D} (m : Meaning D) (start chain : Chain D g) (o : Openings) (all left old : Option (List ℕ)) (was now : ℕ) (one two : SessionRow) (first : ℕ) (is_first : first ≡ one.id) where
   abbrev shelf : Shelved
-  shelf = lent m chain o one two
+  shelf = lent m start chain o one two
 
   -- what is known of the disks after lines that could all be applied
   kept : (c : Chained) (script : List Line) (events : List Event) → ChainStandsOrFails m chain c → AreOf one two c → LeadTo o NoPump script (BothPumps one two c) events → IsKept shelf o (BothPumps one two c) events
@@ -146,8 +148,8 @@ module _ {D : Type 0} {g : Ghosts D} (m : Meaning D) (chain : Chain D g) (o : Op
     abbrev r_line : Replayed all
     r_line = record { openings = o; lines = h.0; events = events; begun = BothPumps one two d; rest = to_come reading before; so_far = h.1 }
 
-    stopped : (e : Chained) (printed : List Event) (fault : Fault) → ChainStops first d line e printed fault → ChainStandsOrFails m chain e → AreOf one two e → EndsWith shelf left was now fault r_line (text (events ++ printed) ++ fault_line fault)
-    stopped e printed fault s stands are = inr (inr (record {
+    stopped : (e : Chained) (printed : List Event) (fault : Fault) → ChainStops first d line e printed fault → ChainStandsOrFails m chain e → AreOf one two e → NamesWhatFailed (FailsIn m one.id two.id start chain) fault → EndsWith shelf left was now fault r_line (text (events ++ printed) ++ fault_line fault)
+    stopped e printed fault s stands are named = inr (inr (record {
       one = one;
       two = two;
       chain = d;
@@ -157,6 +159,7 @@ module _ {D : Type 0} {g : Ghosts D} (m : Meaning D) (chain : Chain D g) (o : Op
       led = e;
       printed = printed;
       stops = subst (λ (i : ℕ). ChainStops i d line e printed fault) is_first s;
+      named = named;
       output_is = refl;
       disks = (refl, refl, refl, stands, are);
     }))
@@ -167,15 +170,21 @@ module _ {D : Type 0} {g : Ghosts D} (m : Meaning D) (chain : Chain D g) (o : Op
     refused : ChainRefuses d line → IsHalted (to_come reading before) left (length h.0) was now (BothPumps one two d) refused_fault
     refused denied = halted_line o all reading after before left (BothPumps one two d) events h line n (min (length h.0 + 1) (2 ^ 32 - 1)) was now denied (let same = h.2 in omega (arith, same, n.4, few)) (omega arith)
 
-    module _ (mid then new : Option (List ℕ)) (w : Appends old mid (text events)) (are : AreOf one two d) where
+    module _ (mid then new : Option (List ℕ)) (w : Appends old mid (text events)) (are : AreOf one two d) (before_line : Chain D g) (low : FailNoLess m start before_line) where
+      -- the disk that failed in the line failed since the start
+      named_by : (fault : Fault) → (first ≡ d.first.row.id → NamesWhatFailed (FailsIn m d.first.row.id d.second.row.id before_line chain) fault) → NamesWhatFailed (FailsIn m one.id two.id start chain) fault
+      named_by fault names =
+          named_since m start before_line chain one.id two.id fault low
+          (subst (λ (x : ℕ × ℕ). NamesWhatFailed (FailsIn m x.0 x.1 before_line chain) fault) (λ i. (are.0 i, are.1 i)) (names (is_first ∙ sym are.0)))
+
       -- what it prints was written
       both : (printed : List Event) → Appends mid then (text printed) → Appends old then (text (events ++ printed))
       both printed p = rw (text-more events printed) (Appends-then old mid then (text events) (text printed) w p)
 
-      pub stops_by : (e : Chained) (printed : List Event) (fault : Fault) (result : Ended) (rose risen : ℕ) → ChainStops first d line e printed fault → ChainStandsOrFails m chain e → Appends mid then (text printed)
+      pub stops_by : (e : Chained) (printed : List Event) (fault : Fault) (result : Ended) (rose risen : ℕ) → ChainStops first d line e printed fault → ChainStandsOrFails m chain e → (first ≡ d.first.row.id → NamesWhatFailed (FailsIn m d.first.row.id d.second.row.id before_line chain) fault) → Appends mid then (text printed)
           → Closes then new rose risen (fault_line fault) (ended.Stopped fault) result → EndsChain shelf all left old new was now result
-      stops_by e printed fault result rose risen s stands p c =
-          stops shelf all left old then new was now r_line (text (events ++ printed)) (both printed p) fault result rose risen (stopped e printed fault s stands (of_stops one two d are first line e printed fault s)) c
+      stops_by e printed fault result rose risen s stands names p c =
+          stops shelf all left old then new was now r_line (text (events ++ printed)) (both printed p) fault result rose risen (stopped e printed fault s stands (of_stops one two d are first line e printed fault s) (named_by fault names)) c
 
       pub refuses_by : (printed : List Event) (number : ℕ) (result : Ended) (rose risen : ℕ) → ChainRefuses d line → printed ≡ [] → ChainStands m chain d → Appends mid then (text printed) → number ≡ after.number
           → Closes then new rose risen (fault_line (faults.Script number)) (ended.Stopped (faults.Script number)) result → EndsChain shelf all left old new was now result
@@ -188,7 +197,7 @@ module _ {D : Type 0} {g : Ghosts D} (m : Meaning D) (chain : Chain D g) (o : Op
           })) c
 
       -- .. or could not be
-      pub unwritten_by : (printed : List Event) (outcome : Outcome) → TurnGoes m first d line chain printed outcome → AppendsFront mid new (text printed) → EndsChain shelf all left old new was now ended.Write
+      pub unwritten_by : (printed : List Event) (outcome : Outcome) → TurnGoes m first d line before_line chain printed outcome → AppendsFront mid new (text printed) → EndsChain shelf all left old new was now ended.Write
       unwritten_by printed outcomes.Applied (e, leads, stands) p = (
           let so_far = so_far_more o all reading after before left (BothPumps one two d) events h line n few (BothPumps one two e) printed (e, leads, refl) in (
             record {
@@ -209,10 +218,10 @@ module _ {D : Type 0} {g : Ghosts D} (m : Meaning D) (chain : Chain D g) (o : Op
         inr (inr (refused_fault, inl (record { halted = refused denied; output_is = refl; disks = kept d h.0 events (or_fails m chain d stands) are h.1.leads }))),
         front_after old mid new (text events) (fault_line refused_fault) w (front_more mid new [] (fault_line refused_fault) (subst (λ (l : List Event). AppendsFront mid new (text l)) none p)),
       )
-      unwritten_by printed (outcomes.Stopped fault) (e, s, stands) p = (
+      unwritten_by printed (outcomes.Stopped fault) (e, s, stands, names) p = (
         r_line,
         text (events ++ printed) ++ fault_line fault,
-        inr (inr (fault, stopped e printed fault s stands (of_stops one two d are first line e printed fault s))),
+        inr (inr (fault, stopped e printed fault s stands (of_stops one two d are first line e printed fault s) (named_by fault names))),
         front_more old new (text (events ++ printed)) (fault_line fault) (rw (text-more events printed) (front_after old mid new (text events) (text printed) w p)),
       )
       unwritten_by printed outcomes.Unwritten h p = absurd h

@@ -24,7 +24,7 @@ use Rattle.script_reader.specs.declared.fault.Fault.{Fault}
 use Rattle.script_reader.specs.declared.fault.Fault.TheVariants as faults
 use Rattle.script_reader.specs.declared.line.Arriving.TheVariants.{Nothing}
 use Rattle.script_reader.specs.declared.line.Line.{Line}
-use Rattle.script_replay.specs.Failing.{CameBackFailed}
+use Rattle.script_replay.specs.Failing.{CameBackFailed, FailsAt}
 use Rattle.script_replay.specs.Runners.{Closes, fault_of}
 use Rattle.script_replay.specs.Shelves.{Places, disk_name, LeavesOtherSessions}
 use Rattle.script_replay.specs.declared.ended.Ended.{Ended}
@@ -35,8 +35,8 @@ use Rattle.two_worlds.specs.declared.applied.Stop.TheVariants as stops
 use Rattle.two_worlds.specs.declared.pump.Pump.{Pump}
 use Rattle.two_worlds.specs.Openings.{LeavesDisk, ComeBack}
 use Rattle.two_worlds.specs.Pumps.{disk_at, row_of}
-use Rattle.chain_replay.specs.Faults.{chain_fault, IsHalted}
-use Rattle.chain_replay.specs.Private.{outcome_by, AllRiseAt, AreOutAt, AreBackAt, HasFailedAt, HasFailed, IsDevice, IsDeviceEnd}
+use Rattle.chain_replay.specs.Faults.{chain_fault, IsHalted, NamesWhatFailed}
+use Rattle.chain_replay.specs.Private.{outcome_by, AllRiseAt, AreOutAt, AreBackAt, HasFailedAt, HasFailed, FailsIn, IsDevice, IsDeviceEnd}
 use Rattle.chain_replay.specs.Scripts.{Begun}
 use Rattle.chain_replay.specs.declared.turn.Outcome.{Outcome}
 use Rattle.chain_replay.specs.declared.turn.Outcome.TheVariants as outcomes
@@ -188,6 +188,30 @@ module _ {D : Type 0} {g : Ghosts D} (m : Meaning D) where
   pub failed_since : (s t u : Chain D g) → FailNoLess m s t → HasFailed m t u → HasFailed m s u
   failed_since s t u low (inl h) = inl (since m (trio_of s.first) (trio_of t.first) (trio_of u.first) (by_trio s.first t.first low.0) h)
   failed_since s t u low (inr h) = inr (since m (trio_of s.second) (trio_of t.second) (trio_of u.second) (by_trio s.second t.second low.1) h)
+
+  fails_since : (s t u : Chain D g) (one two session : ℕ) (role : Role) → FailNoLess m s t → FailsIn m one two t u session role → FailsIn m one two s u session role
+  fails_since s t u one two session role low (inl (is, rose)) = inl (is, (let least = by_trio s.first t.first low.0 role in omega (arith, least, rose)))
+  fails_since s t u one two session role low (inr (is, rose)) = inr (is, (let least = by_trio s.second t.second low.1 role in omega (arith, least, rose)))
+
+  -- .. and the one that is named
+  pub named_since : (s t u : Chain D g) (one two : ℕ) (fault : Fault) → FailNoLess m s t → NamesWhatFailed (FailsIn m one two t u) fault → NamesWhatFailed (FailsIn m one two s u) fault
+  named_since s t u one two (faults.Device session role) low h = fails_since s t u one two session role low h
+  named_since s t u one two fault low h = tt
+
+-- .. came back so, at which the shelf's count rose
+pub fails_at : {S D : Type 0} {g : Ghosts D} (h : Holdings S) (m : Meaning D) (old lent last : S) (one two : ℕ) (s t : Chain D g) → AreOutAt m (h.disk lent) one (trio_of s.first) → AreOutAt m (h.disk lent) two (trio_of s.second)
+    → h.disk_faults old ≤ h.disk_faults lent → AllRiseAt m (h.disk lent) one (trio_of t.first) (h.disk_faults lent) (h.disk_faults last) → AllRiseAt m (h.disk lent) two (trio_of t.second) (h.disk_faults lent) (h.disk_faults last)
+    → (h.tells → AreBackAt m (h.disk last) one (trio_of t.first)) → (h.tells → AreBackAt m (h.disk last) two (trio_of t.second)) → (session : ℕ) (role : Role) → FailsIn m one two s t session role → FailsAt h m old last session role
+fails_at h m old lent last one two s t out next_out low rises next_rises back next_back session role (inl (is, rose)) =
+    subst (λ (i : ℕ). FailsAt h m old last i role) (sym is) (
+      rose_back m (h.disk lent) one (trio_of s.first) (trio_of t.first) (h.disk_faults old) (h.disk_faults lent) (h.disk_faults last) low out rises (role, rose),
+      inr (came_back h m lent (h.disk last) one (trio_of s.first) (trio_of t.first) out back role rose),
+    )
+fails_at h m old lent last one two s t out next_out low rises next_rises back next_back session role (inr (is, rose)) =
+    subst (λ (i : ℕ). FailsAt h m old last i role) (sym is) (
+      rose_back m (h.disk lent) two (trio_of s.second) (trio_of t.second) (h.disk_faults old) (h.disk_faults lent) (h.disk_faults last) low next_out next_rises (role, rose),
+      inr (came_back h m lent (h.disk last) two (trio_of s.second) (trio_of t.second) next_out next_back role rose),
+    )
 
 -- ---- the ends ----
 

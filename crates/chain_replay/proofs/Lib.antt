@@ -1,3 +1,4 @@
+pub mod Broken
 pub mod Ending
 pub mod Failed
 pub mod Joining

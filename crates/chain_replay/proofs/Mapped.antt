@@ -1,20 +1,28 @@
 -- What is known of the disks while a chain runs says what is read of them at the return.
 use Rattle.std.proofs.Common.{◌≤◌, ℕ, List, inl, inr, length, Option}
+use Rattle.disk_model.specs.declared.name.Role.{Role}
 use Rattle.pump_chain.specs.Chained.{Chained}
 use Rattle.pump_frame.specs.declared.row.SessionRow.{SessionRow}
 use Rattle.script_reader.specs.declared.event.Event.{Event}
 use Rattle.script_reader.specs.declared.fault.Fault.{Fault}
+use Rattle.script_reader.specs.declared.fault.Fault.TheVariants as faults
 use Rattle.script_reader.specs.Openings.{Openings}
 use Rattle.script_replay.specs.declared.ended.Ended.{Ended}
 use Rattle.script_replay.specs.declared.ended.Ended.TheVariants as ended
 use Rattle.chain_replay.specs.Ends.{EndsChain}
+use Rattle.chain_replay.specs.Faults.{NamesWhatFailed}
 use Rattle.chain_replay.specs.Opened.{Shelved}
 use Rattle.chain_replay.specs.Replays.{Replayed, IsKept, IsFinished, IsCutShort, IsUnbegun, IsWanting, IsStopped, EndsWith, IsOutput}
 use Rattle.chain_replay.specs.Scripts.{Begun, NoPump, OnePump, BothPumps}
 use Rattle.chain_replay.proofs.Reading.{halted_since}
 
 module _ (k l : Shelved) (waits : k.waits → l.waits) (keeps : (o : Openings) (one two : SessionRow) (c : Chained) → k.keeps o one two c → l.keeps o one two c)
-    (outlives : (one two : SessionRow) (c : Chained) (printed : List Event) → k.outlives one two c printed → l.outlives one two c printed) (readies : (one two : SessionRow) → k.readies one two → l.readies one two) (refuses : (one two : SessionRow) (fault : Fault) → k.refuses one two fault → l.refuses one two fault) where
+    (outlives : (one two : SessionRow) (c : Chained) (printed : List Event) → k.outlives one two c printed → l.outlives one two c printed) (readies : (one two : SessionRow) → k.readies one two → l.readies one two) (refuses : (one two : SessionRow) (fault : Fault) → k.refuses one two fault → l.refuses one two fault)
+    (fails : (session : ℕ) (role : Role) → k.fails session role → l.fails session role) where
+  named : (fault : Fault) → NamesWhatFailed k.fails fault → NamesWhatFailed l.fails fault
+  named (faults.Device session role) h = fails session role h
+  named fault h = tt
+
   kept : (o : Openings) (b : Begun) (printed : List Event) → IsKept k o b printed → IsKept l o b printed
   kept o NoPump printed h = waits h
   kept o (OnePump one) printed h = waits h
@@ -44,6 +52,7 @@ module _ (k l : Shelved) (waits : k.waits → l.waits) (keeps : (o : Openings) (
       led = h.led;
       printed = h.printed;
       stops = h.stops;
+      named = named fault h.named;
       output_is = h.output_is;
       disks = keeps r.openings h.one h.two h.led h.disks;
     }

@@ -77,7 +77,7 @@ acks_outlive after s printed stand ((steps, t, line), sound) =
     (run_keeps s.row steps t s.past.history (low_lines printed) low high recv line.run sound.replies (subst (λ (w : World). StandForLeft s.row w low high recv) (sym world) stand)) in
     (kept.0.received, kept.0.recv_is, kept.1)
 
-module _ {D : Type 0} {g : Ghosts D} (m : Meaning D) (chain : Chain D g) (before after : Places) (o : Openings) (one two : SessionRow) (first_found : HasFound before one (o one.id)) (second_found : HasFound before two (o two.id))
+module _ {D : Type 0} {g : Ghosts D} (m : Meaning D) (start chain : Chain D g) (before after : Places) (o : Openings) (one two : SessionRow) (first_found : HasFound before one (o one.id)) (second_found : HasFound before two (o two.id))
     (left : (c : Chained) → ChainStandsOrFails m chain c → AreLeftAt after one.id c.first × AreLeftAt after two.id c.second) (others : LeavesOthers before after one.id two.id) where
   keeps_chain : (c : Chained) → ChainStandsOrFails m chain c → AreOf one two c → KeepsChain before after o one two c
   keeps_chain c stands are =
@@ -95,13 +95,13 @@ module _ {D : Type 0} {g : Ghosts D} (m : Meaning D) (chain : Chain D g) (before
         others = others;
       }
 
-  pub keeps_so : (p : Openings) (row other : SessionRow) (c : Chained) → (lent m chain o one two).keeps p row other c → KeepsChain before after p row other c
+  pub keeps_so : (p : Openings) (row other : SessionRow) (c : Chained) → (lent m start chain o one two).keeps p row other c → KeepsChain before after p row other c
   keeps_so p row other c (is, is_one, is_two, stands, are) =
       subst (λ q. KeepsChain before after q row other c) (sym is)
       (subst (λ r. KeepsChain before after o r other c) (sym is_one)
       (subst (λ r. KeepsChain before after o one r c) (sym is_two) (keeps_chain c stands are)))
 
-  pub outlives_so : (row other : SessionRow) (c : Chained) (printed : List Event) → (lent m chain o one two).outlives row other c printed → AcknowledgedOutliveBoth after c printed
+  pub outlives_so : (row other : SessionRow) (c : Chained) (printed : List Event) → (lent m start chain o one two).outlives row other c printed → AcknowledgedOutliveBoth after c printed
   outlives_so row other c printed (is_one, is_two, stands, are, sound) =
       let l = left c stands in (
         acks_outlive after c.first (events_of c.first.row.id printed) (subst (λ (i : ℕ). OfDisks after i (StandForLeft c.first.row c.first.past.world)) (sym are.0) l.0) sound.0,

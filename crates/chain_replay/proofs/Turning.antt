@@ -3,7 +3,7 @@ use Rattle.std.proofs.Common.{◌≡◌, ℕ, Bool, false, List, Option, None, S
 use Rattle.std.specs.Io.KnownBytes.{Appends}
 use Rattle.disk_model.specs.Disk.{Meaning}
 use Rattle.disk_model.specs.declared.disk.Disk.{Ghosts}
-use Rattle.pump_chain.specs.Chained.{Chained}
+use Rattle.pump_chain.specs.Chained.{Chained, added}
 use Rattle.pump_chain.specs.Standing.{ChainApplies}
 use Rattle.pump_chain.specs.declared.chain.Chain.{Chain}
 use Rattle.script_reader.specs.declared.event.Event.{Event}
@@ -12,19 +12,28 @@ use Rattle.script_reader.specs.Transcript.{text}
 use Rattle.two_worlds.specs.declared.applied.Stop.{Stop}
 use Rattle.two_worlds.specs.declared.applied.Stop.TheVariants as stops
 use Rattle.two_worlds.specs.LowPumps.{stops_at_disk}
-use Rattle.chain_replay.specs.Private.{outcome_by, TurnGoes, TurnDoes}
+use Rattle.chain_replay.specs.Faults.{broken_in}
+use Rattle.chain_replay.specs.Private.{outcome_by, FailsIn, TurnGoes, TurnDoes}
 use Rattle.chain_replay.specs.declared.turn.Outcome.{Outcome}
 use Rattle.chain_replay.specs.declared.turn.Outcome.TheVariants as outcomes
+use Rattle.chain_replay.proofs.Broken.{broken_names}
 
 module _ {D : Type 0} {g : Ghosts D} (m : Meaning D) (s t : Chain D g) (first : ℕ) (line : Line) (c : Chained) (printed : List Event) where
-  pub turn_goes : (stop : Option Stop) → ChainApplies m s t line c printed stop → TurnGoes m first c line t printed (outcome_by first line stop)
+  pub turn_goes : (stop : Option Stop) → ChainApplies m s t line c printed stop → TurnGoes m first c line s t printed (outcome_by first line stop)
   turn_goes None h = (h.0, h.1, h.2)
   turn_goes (Some stops.Line) h = (h.0, h.1, h.2)
-  turn_goes (Some (stops.Device role count)) h = (h.0, (h.1, refl), h.2)
-  turn_goes (Some (stops.Full end length size)) h = (h.0, (h.1, refl), h.2)
+  turn_goes (Some (stops.Device role count)) h = (
+    h.0,
+    (h.1, refl),
+    h.2,
+    λ is.
+        subst (λ (i : ℕ). FailsIn m c.first.row.id c.second.row.id s t (broken_in i line role) role) (sym is)
+        (broken_names m s t c.first.row.id c.second.row.id c h.0 printed count (added c) line role h.1 h.4),
+  )
+  turn_goes (Some (stops.Full end length size)) h = (h.0, (h.1, refl), h.2, λ is. tt)
   turn_goes (Some (stops.Disk role why)) h = absurd h
 
-  turn_does_by : (old new : Option (List ℕ)) → Appends old new (text printed) → (stop : Option Stop) → ChainApplies m s t line c printed stop → TurnDoes m first c line t old new (outcome_by first line stop)
+  turn_does_by : (old new : Option (List ℕ)) → Appends old new (text printed) → (stop : Option Stop) → ChainApplies m s t line c printed stop → TurnDoes m first c line s t old new (outcome_by first line stop)
   turn_does_by old new w None h = (printed, turn_goes None h, w)
   turn_does_by old new w (Some stops.Line) h = (printed, turn_goes (Some stops.Line) h, w)
   turn_does_by old new w (Some (stops.Device role count)) h = (printed, turn_goes (Some (stops.Device role count)) h, w)
@@ -32,8 +41,8 @@ module _ {D : Type 0} {g : Ghosts D} (m : Meaning D) (s t : Chain D g) (first : 
   turn_does_by old new w (Some (stops.Disk role why)) h = absurd h
 
   pub turn_does : (old new : Option (List ℕ)) → Appends old new (text printed) → (stop : Option Stop) → ChainApplies m s t line c printed stop → (outcome : Outcome) → outcome ≡ outcome_by first line stop
-      → TurnDoes m first c line t old new outcome
-  turn_does old new w stop h outcome is = subst (λ o. TurnDoes m first c line t old new o) (sym is) (turn_does_by old new w stop h)
+      → TurnDoes m first c line s t old new outcome
+  turn_does old new w stop h outcome is = subst (λ o. TurnDoes m first c line s t old new o) (sym is) (turn_does_by old new w stop h)
 
 up_by : (first : ℕ) (line : Line) (stop : Option Stop) → outcome_by first line stop ≡ outcomes.Applied → stops_at_disk stop ≡ false
 up_by first line None e = refl

@@ -62,6 +62,11 @@ ChainStops first c line d printed (faults.Device session role) = ChainBreaks c (
 ChainStops first c line d printed (faults.Full session end length size) = ChainOverfills c (share c line) d printed end length size × (session ≡ session_or first line)
 ChainStops first c line d printed fault = ⊥
 
+-- the disk that a fault names failed, where `fails` says which did
+abbrev pub NamesWhatFailed : (ℕ → Role → Type 0) → Fault → Type 0
+NamesWhatFailed fails (faults.Device session role) = fails session role
+NamesWhatFailed fails fault = Unit {0}
+
 -- ---- two pumps that make no chain ----
 
 -- the fault of a disk that is refused

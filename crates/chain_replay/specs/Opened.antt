@@ -109,6 +109,8 @@ pub record Shelved : Type 1 where
   pub readies : SessionRow → SessionRow → Type 0
   -- the two make no chain, with this fault
   pub refuses : SessionRow → SessionRow → Fault → Type 0
+  -- the disk of this role of this session failed
+  pub fails : ℕ → Role → Type 0
 
 abbrev pub shelved : Places → Places → (ℕ → Role → Type 0) → Shelved
-shelved before after fails = record { waits = LeavesAll before after; keeps = KeepsChain before after; outlives = λ one two. AcknowledgedOutliveBoth after; readies = AreReadied before after; refuses = NotChained before after fails }
+shelved before after fails = record { waits = LeavesAll before after; keeps = KeepsChain before after; outlives = λ one two. AcknowledgedOutliveBoth after; readies = AreReadied before after; refuses = NotChained before after fails; fails = fails }

@@ -30,7 +30,7 @@ use Rattle.script_reader.specs.Sessions.{events_of}
 use Rattle.script_replay.specs.Runners.{IsLineFault}
 use Rattle.script_replay.specs.Shelves.{Places, disk_name, OfDisks, HasFound}
 use Rattle.world_laws.specs.Disks.{StandForLeft}
-use Rattle.chain_replay.specs.Faults.{IsHalted, ChainStops, session_or, broken_in, refusal_of}
+use Rattle.chain_replay.specs.Faults.{IsHalted, ChainStops, NamesWhatFailed, session_or, broken_in, refusal_of}
 use Rattle.chain_replay.specs.Opened.{Shelved, NamesFailed}
 use Rattle.chain_replay.specs.Replays.{IsSoFar}
 use Rattle.chain_replay.specs.Scripts.{Begun, Refuses, LacksPump, AreLinked}
@@ -98,6 +98,12 @@ HasFailedAt m old new = (role : Role) × Rose (m.count (disk_in role old)) (m.co
 abbrev pub HasFailed : {D : Type 0} {g : _} → Meaning D → Chain D g → Chain D g → Type 0
 HasFailed m s t = HasFailedAt m (trio_of s.first) (trio_of t.first) ⊎ HasFailedAt m (trio_of s.second) (trio_of t.second)
 
+-- .. of this role, of the session of the chain that has this number
+abbrev pub FailsIn : {D : Type 0} {g : _} → Meaning D → ℕ → ℕ → Chain D g → Chain D g → ℕ → Role → Type 0
+FailsIn m one two s t session role =
+    ((session ≡ one) × Rose (m.count (disk_in role (trio_of s.first))) (m.count (disk_in role (trio_of t.first))))
+    ⊎ ((session ≡ two) × Rose (m.count (disk_in role (trio_of s.second))) (m.count (disk_in role (trio_of t.second))))
+
 -- no disk of the session is off the shelf
 abbrev pub AreHome : Places → ℕ → Type 0
 AreHome places session = (role : Role) → IsOut (places (disk_name session role)) → ⊥
@@ -155,18 +161,19 @@ abbrev pub IsByLine : Outcome → Type 0
 IsByLine (outcomes.Stopped fault) = IsLineFault fault
 IsByLine outcome = Unit {0}
 
--- a line that prints this leads on, can't be applied, or stops the chain
-abbrev pub TurnGoes : {D : Type 0} {g : _} → Meaning D → ℕ → Chained → Line → Chain D g → List Event → Outcome → Type 0
-TurnGoes m first c line t printed outcomes.Applied = (d : Chained) × ChainLeads c line d printed × ChainStands m t d
-TurnGoes m first c line t printed outcomes.Refused = ChainRefuses c line × (printed ≡ []) × ChainStands m t c
-TurnGoes m first c line t printed (outcomes.Stopped fault) = (d : Chained) × ChainStops first c line d printed fault × ChainStandsOrFails m t d
-TurnGoes m first c line t printed outcomes.Unwritten = ⊥
+-- a line that prints this leads on, can't be applied, or stops the chain, which it left as t
+abbrev pub TurnGoes : {D : Type 0} {g : _} → Meaning D → ℕ → Chained → Line → Chain D g → Chain D g → List Event → Outcome → Type 0
+TurnGoes m first c line s t printed outcomes.Applied = (d : Chained) × ChainLeads c line d printed × ChainStands m t d
+TurnGoes m first c line s t printed outcomes.Refused = ChainRefuses c line × (printed ≡ []) × ChainStands m t c
+TurnGoes m first c line s t printed (outcomes.Stopped fault) = (d : Chained) × ChainStops first c line d printed fault × ChainStandsOrFails m t d
+    × (first ≡ c.first.row.id → NamesWhatFailed (FailsIn m c.first.row.id c.second.row.id s t) fault)
+TurnGoes m first c line s t printed outcomes.Unwritten = ⊥
 
 -- so, and what it prints was written, or a front of it was
-abbrev pub TurnDoes : {D : Type 0} {g : _} → Meaning D → ℕ → Chained → Line → Chain D g → Option (List ℕ) → Option (List ℕ) → Outcome → Type 0
-TurnDoes m first c line t old new outcomes.Unwritten =
-    (printed : List Event) × (outcome : Outcome) × TurnGoes m first c line t printed outcome × AppendsFront old new (text printed)
-TurnDoes m first c line t old new outcome = (printed : List Event) × TurnGoes m first c line t printed outcome × Appends old new (text printed)
+abbrev pub TurnDoes : {D : Type 0} {g : _} → Meaning D → ℕ → Chained → Line → Chain D g → Chain D g → Option (List ℕ) → Option (List ℕ) → Outcome → Type 0
+TurnDoes m first c line s t old new outcomes.Unwritten =
+    (printed : List Event) × (outcome : Outcome) × TurnGoes m first c line s t printed outcome × AppendsFront old new (text printed)
+TurnDoes m first c line s t old new outcome = (printed : List Event) × TurnGoes m first c line s t printed outcome × Appends old new (text printed)
 
 -- ---- while the chain runs ----
 
@@ -177,12 +184,13 @@ IsSoundTimed s printed = IsTimed (Some (Whole s)) × Sound (Some (Whole s)) prin
 abbrev pub AreSoundTimed : Chained → List Event → Type 0
 AreSoundTimed c printed = IsSoundTimed c.first (events_of c.first.row.id printed) × IsSoundTimed c.second (events_of c.second.row.id printed)
 
--- the chain of these rows has come to this, also where a disk failed in its last line
-abbrev pub lent : {D : Type 0} {g : _} → Meaning D → Chain D g → Openings → SessionRow → SessionRow → Shelved
-lent m chain o one two = record {
+-- the chain of these rows has come to this from its start, also where a disk failed in its last line
+abbrev pub lent : {D : Type 0} {g : _} → Meaning D → Chain D g → Chain D g → Openings → SessionRow → SessionRow → Shelved
+lent m start chain o one two = record {
   waits = ⊥;
   keeps = λ p row other c. (p ≡ o) × (row ≡ one) × (other ≡ two) × ChainStandsOrFails m chain c × AreOf one two c;
   outlives = λ row other c printed. (row ≡ one) × (other ≡ two) × ChainStandsOrFails m chain c × AreOf one two c × AreSoundTimed c printed;
   readies = λ row other. ⊥;
   refuses = λ row other fault. ⊥;
+  fails = FailsIn m one.id two.id start chain;
 }

@@ -14,7 +14,7 @@ use Rattle.script_reader.specs.Lines.{AreLines}
 use Rattle.script_reader.specs.Openings.{Openings}
 use Rattle.script_reader.specs.Transcript.{text, fault_line}
 use Rattle.script_replay.specs.Replays.{IsNear, IsNearLast}
-use Rattle.chain_replay.specs.Faults.{IsHalted, ChainStops}
+use Rattle.chain_replay.specs.Faults.{IsHalted, ChainStops, NamesWhatFailed}
 use Rattle.chain_replay.specs.Opened.{Shelved}
 use Rattle.chain_replay.specs.Owned.{AreTheirOwn}
 use Rattle.chain_replay.specs.Scripts.{Begun, NoPump, OnePump, BothPumps, MayFollow, LeadTo}
@@ -89,7 +89,8 @@ pub record IsWanting (shelf : Shelved) {all : Option (List ℕ)} (left : Option 
   pub output_is : output ≡ []
   pub disks : shelf.readies one two
 
--- .. stops the chain: the output is what the lines before it print, what it prints up to its stop, and the fault
+-- .. stops the chain: the output is what the lines before it print, what it prints up to its stop, and the fault, which names the
+-- disk that failed
 pub record IsStopped (shelf : Shelved) {all : Option (List ℕ)} (left : Option (List ℕ)) (fault : Fault) (r : Replayed all) (output : List ℕ) : Type 0 where
   pub one : SessionRow
   pub two : SessionRow
@@ -100,6 +101,7 @@ pub record IsStopped (shelf : Shelved) {all : Option (List ℕ)} (left : Option 
   pub led : Chained
   pub printed : List Event
   pub stops : ChainStops one.id chain line led printed fault
+  pub named : NamesWhatFailed shelf.fails fault
   pub output_is : output ≡ text (r.events ++ printed) ++ fault_line fault
   pub disks : shelf.keeps r.openings one two led
 

@@ -4,7 +4,7 @@ ghost use Rattle.std.specs.Prelude.{◌≡◌, ◌≤◌, ℕ, []};
 ghost use Rattle.std.specs.Io.KnownBytes.{Appends};
 ghost use Rattle.chain_replay.specs.Ends.{EndsChain};
 ghost use Rattle.chain_replay.specs.Opened.{LeavesOthers, shelved};
-ghost use Rattle.chain_replay.specs.Private.{AreOut, AllRiseAt, AreHome, AreLeftAt};
+ghost use Rattle.chain_replay.specs.Private.{AreBackAt, AreOut, AllRiseAt, AreHome, AreLeftAt};
 ghost use Rattle.disk_model.specs.declared.name.Role.{Role};
 ghost use Rattle.pump_chain.specs.Chained.{Chained};
 ghost use Rattle.pump_chain.specs.Opening.{trio_of};
@@ -32,6 +32,8 @@ fn leave<S: Shelf>(chain: Chain<S::Disk>, one: u32, two: u32, shelf: &mut S)
     requires second { AreOut (S.told.disk shelf.old) two }
     ensures left { S.told.tells → S.Disk.told.tells → (c : Chained) → ChainStandsOrFails S.Disk.told chain c
         → AreLeftAt (S.told.disk shelf.new) one c.first × AreLeftAt (S.told.disk shelf.new) two c.second }
+    ensures first_back { S.told.tells → AreBackAt S.Disk.told (S.told.disk shelf.new) one (trio_of chain.first) }
+    ensures second_back { S.told.tells → AreBackAt S.Disk.told (S.told.disk shelf.new) two (trio_of chain.second) }
     ensures first_rises { AllRiseAt S.Disk.told (S.told.disk shelf.old) one (trio_of chain.first) (S.told.disk_faults shelf.old) (S.told.disk_faults shelf.new) }
     ensures second_rises { AllRiseAt S.Disk.told (S.told.disk shelf.old) two (trio_of chain.second) (S.told.disk_faults shelf.old) (S.told.disk_faults shelf.new) }
     ensures home { S.told.tells → AreHome (S.told.disk shelf.new) one × AreHome (S.told.disk shelf.new) two }

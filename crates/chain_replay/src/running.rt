@@ -58,7 +58,7 @@ pub fn run<D: Disk, I: Source, O: Sink>(
     ensures ends { D.told.tells → (o : Openings) (all : Option (List ℕ)) (one two : SessionRow) (c : Chained) → first ≡ one.id
         → ChainStands D.told chain.old c → AreOf one two c
         → HasRead o all (to_come lines.old (I.left script.old)) lines.old.number (BothPumps one two c) []
-        → EndsChain (lent D.told chain.new o one two) all (I.left script.new) (O.written out.old) (O.written out.new) (I.faults script.old) (I.faults script.new) result }
+        → EndsChain (lent D.told chain.old chain.new o one two) all (I.left script.new) (O.written out.old) (O.written out.new) (I.faults script.old) (I.faults script.new) result }
     ensures memory { result ≡ Ended.Memory → ⊥ }
     ensures device { IsDeviceEnd result → HasFailed D.told chain.old chain.new }
     ensures words { result ≡ Ended.Stopped Fault.Words → ⊥ }

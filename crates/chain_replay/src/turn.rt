@@ -87,7 +87,7 @@ pub fn turn<D: Disk, O: Sink>(
     requires room { CanHoldLine line.now body.now }
     requires up { chain_is_down chain.old ≡ false }
     ensures does { D.told.tells → (c : Chained) → ChainStands D.told chain.old c
-        → TurnDoes D.told first c (line_with body.now line.now) chain.new (O.written out.old) (O.written out.new) result }
+        → TurnDoes D.told first c (line_with body.now line.now) chain.old chain.new (O.written out.old) (O.written out.new) result }
     ensures line { IsByLine result }
     ensures device { (fault : Fault) → result ≡ Outcome.Stopped fault → IsDevice fault → HasFailed D.told chain.old chain.new }
     ensures counts { FailNoLess D.told chain.old chain.new }

@@ -1,8 +1,8 @@
--- How a command that closes with these bytes ends.
-use Rattle.std.proofs.Common.{◌≡◌, ℕ, List, Option, inl, inr, sym, ◌∙◌, subst}
+-- How a command that closes with these bytes ends, and the disk that its end names.
+use Rattle.std.proofs.Common.{◌≡◌, ℕ, List, Option, inl, inr, refl, sym, ◌∙◌, subst}
 use Rattle.std.specs.Io.KnownBytes.{Appends}
 use Rattle.disk_model.specs.declared.name.Role.{Role}
-use Rattle.commands.specs.CommandEnds.{EndsSo, ClosesSo}
+use Rattle.commands.specs.CommandEnds.{EndsSo, ClosesSo, NamesFailed}
 use Rattle.commands.specs.declared.command_end.CommandEnd.{CommandEnd}
 use Rattle.commands.specs.declared.command_end.CommandEnd.TheVariants.{Failed, Unwritten}
 
@@ -19,3 +19,8 @@ module _ (Writes : CommandEnd → List ℕ → Type 0) (never : (output : List �
 pub closed_end : (old new : Option (List ℕ)) (before now : ℕ) (bytes : List ℕ) (end result : CommandEnd) (role : Role) → ClosesSo old new before now bytes end result → result ≡ Failed role → end ≡ Failed role
 closed_end old new before now bytes end result role (inl h) is = sym h.0 ∙ is
 closed_end old new before now bytes end result role (inr h) is = let other = h.0 in cc (sym other ∙ is)
+
+-- each disk that the end may name failed
+pub names_failed : (fails : ℕ → Role → Type 0) (session : ℕ) (end : CommandEnd) → ((role : Role) → end ≡ Failed role → fails session role) → NamesFailed fails session end
+names_failed fails session (Failed role) names = names role refl
+names_failed fails session end names = tt

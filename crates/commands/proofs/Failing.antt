@@ -2,22 +2,24 @@
 use Rattle.std.proofs.Common.{◌≡◌, ◌≤◌, ℕ, Bool, true, false, Result, Ok, Err, IfErr, inl, inr, refl, sym, ◌∙◌, subst, arith}
 use Rattle.std.specs.Prelude.{◌⊎◌}
 use Rattle.disk_model.specs.Disk.{Meaning}
-use Rattle.disk_model.specs.Shelf.{Holdings}
+use Rattle.disk_model.specs.Shelf.{Holdings, OnShelf}
 use Rattle.disk_model.specs.declared.name.Role.{Role}
 use Rattle.disk_model.specs.declared.name.Role.TheVariants as roles
 use Rattle.disk_model.specs.declared.shelf.ShelfFault.{ShelfFault}
 use Rattle.disk_model.specs.declared.shelf.ShelfFault.TheVariants as shelf
 use Rattle.pump_frame.specs.Counts.{Rose}
 use Rattle.script_replay.specs.Failing.{IsNotGiven, CameBackFailed, FailsBetween, FailsAt}
-use Rattle.script_replay.specs.Lending.{IsOutAt, AreOnShelf}
+use Rattle.script_replay.specs.Lending.{IsOutAt, RisesAt, AreOnShelf}
 use Rattle.script_replay.specs.Shelves.{Places, disk_name, LeavesOtherSessions}
 use Rattle.script_replay.specs.declared.disks.TakenDisks.{TakenDisks}
 use Rattle.script_replay.proofs.Shelving.{rose_more}
+use Rattle.commands.specs.LentDisks.{IsNotGivenFirst, RecvFailsAt}
 use Rattle.commands.specs.Migrating.{session_at}
 use Rattle.commands.specs.Migrating as moves
 use Rattle.commands.specs.TakenDisks.{AreOutAt, RoseAt}
 use Rattle.commands.specs.declared.command_end.CommandEnd.{CommandEnd}
 use Rattle.commands.specs.declared.command_end.CommandEnd.TheVariants.{Memory, Failed}
+use Rattle.commands.proofs.LentDisks.{rises_back}
 
 -- nothing was done with the disks before
 pub fails_later : {S D : Type 0} (m : Holdings S) (d : Meaning D) (old mid new : S) (session : ℕ) (role : Role) → m.disk mid ≡ m.disk old → m.disk_faults mid ≡ m.disk_faults old → FailsAt m d mid new session role
@@ -78,3 +80,35 @@ pub one_came_back : {S D : Type 0} (m : Holdings S) (d : Meaning D) (lent last :
     → (is_new : Bool) (role : Role) → moves.FailsAt d is_new role old old_now new new_now → CameBackFailed m d (m.disk last) (session_at one two is_new) role
 one_came_back m d lent last one two old old_now new new_now out new_out on new_on true role rose = came_back m d lent last two new new_now new_out new_on role rose
 one_came_back m d lent last one two old old_now new new_now out new_out on new_on false role rose = came_back m d lent last one old old_now out on role rose
+
+-- ---- the receiver's disk, which is taken alone ----
+
+-- nothing was done with the disks before
+pub recv_fails_later : {S D : Type 0} (m : Holdings S) (d : Meaning D) (old mid new : S) (session : ℕ) (role : Role) → m.disk mid ≡ m.disk old → m.disk_faults mid ≡ m.disk_faults old → RecvFailsAt m d mid new session role
+    → RecvFailsAt m d old new session role
+recv_fails_later m d old mid new session role same counts (is, rose, fails) = (
+  is,
+  subst (λ (n : ℕ). Rose n (m.disk_faults new)) counts rose,
+  subst (λ (p : Places). IsNotGivenFirst m p ⊎ CameBackFailed m d (m.disk new) session roles.Recv) same fails,
+)
+
+-- the end where it could not be taken names it
+pub recv_untaken_names : {S D : Type 0} (m : Holdings S) (d : Meaning D) (old new : S) (session : ℕ) (at : Role) (fault : ShelfFault) (end : CommandEnd) → at ≡ roles.Recv
+    → (fault ≡ shelf.Memory → end ≡ Memory) → (fault ≡ shelf.Failed → end ≡ Failed at) → m.disk new ≡ m.disk old → (fault ≡ shelf.Failed → Rose (m.disk_faults old) (m.disk_faults new))
+    → (role : Role) → end ≡ Failed role → RecvFailsAt m d old new session role
+recv_untaken_names m d old new session at shelf.Memory end recv memory failed still rose role is = let other = memory refl in cc (sym other ∙ is)
+recv_untaken_names m d old new session at shelf.Failed end recv memory failed still rose role is =
+    let other : Failed at ≡ Failed role = sym (failed refl) ∙ is in
+    let same : at ≡ role = cc in
+    (sym same ∙ recv, rose refl, inl (record { asked = old; answered = new; there = refl; still = still; rose = rose refl }))
+
+-- it came back
+pub recv_came_back : {S D : Type 0} (m : Holdings S) (d : Meaning D) (old lent last : S) (session : ℕ) (given now : D) → IsOutAt (m.disk lent) session roles.Recv (d.count given) → Rose (d.count given) (d.count now)
+    → m.disk_faults old ≤ m.disk_faults lent → RisesAt (m.disk lent) session roles.Recv (d.count now) (m.disk_faults lent) (m.disk_faults last) → (m.tells → m.disk last (disk_name session roles.Recv) ≡ OnShelf (d.reading now))
+    → (role : Role) → role ≡ roles.Recv → RecvFailsAt m d old last session role
+recv_came_back m d old lent last session given now out rose later rises back role is =
+    let (count, at, low) = out in (
+      is,
+      rises_back (m.disk lent) session roles.Recv (d.count given) (d.count now) (m.disk_faults old) (m.disk_faults lent) (m.disk_faults last) out rose later rises,
+      inr (record { lent = lent; given = count; disk = now; out = at; rose = rose_more count _ _ low rose; back = back }),
+    )

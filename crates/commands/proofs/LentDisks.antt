@@ -110,3 +110,17 @@ stops_at_disk found row (whys.Differs number) is = is refl
 stops_at_disk found row (whys.NotEmpty size) is = is refl
 stops_at_disk found row (whys.Small held capacity) is = is refl
 stops_at_disk found row (whys.TooLong number size) is = is refl
+
+-- the disk that a refusal names
+pub refused_role : (at role : Role) (why : Why) → end_at at (Some why) ≡ Failed role → role ≡ at
+refused_role at role (whys.Device faults) e = cc
+refused_role at role (whys.NotABuffer size bytes) e = cc
+refused_role at role (whys.WrongShape field found wanted) e = cc
+refused_role at role (whys.BadRegister first second) e = cc
+refused_role at role (whys.Mismatch removed accepted) e = cc
+refused_role at role (whys.BadSlot number length) e = cc
+refused_role at role (whys.Apart count bound) e = cc
+refused_role at role (whys.Differs number) e = cc
+refused_role at role (whys.NotEmpty size) e = cc
+refused_role at role (whys.Small held capacity) e = cc
+refused_role at role (whys.TooLong number size) e = cc

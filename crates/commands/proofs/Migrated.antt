@@ -16,7 +16,7 @@ use Rattle.script_replay.specs.declared.disks.TakenDisks.{TakenDisks}
 use Rattle.script_replay.proofs.Shelving.{read_in, name_is}
 use Rattle.commands.specs.LentDisks.{LeavesOtherPair}
 use Rattle.commands.specs.CommandEnds.{end_line}
-use Rattle.commands.specs.Migrating.{AreRows, HasNoRows, Migrates, MigratesSo, ReadsOthersAlike, MigratesTo, MigrateStops, HaltsSo, MovesTo, StopsMove, FailsAt, IsUntaken, counted_line, halt_of, halted, session_at}
+use Rattle.commands.specs.Migrating.{AreInTurn, AreMoved, AreTurned, AreRows, HasNoRows, Migrates, MigratesSo, ReadsOthersAlike, MigratesTo, MigrateStops, HaltsSo, MovesTo, StopsMove, FailsAt, IsUntaken, counted_line, halt_of, halted, session_at}
 use Rattle.commands.specs.Showing.{end_at}
 use Rattle.commands.specs.Tables.{HasRow, IsTableEnd}
 use Rattle.commands.specs.TakenDisks.{AreReadAt, AreOutAt, RiseAt, RoseAt, ReadOn, SpareOn}
@@ -139,14 +139,28 @@ module _ {D : Type 0} (d : Meaning D) (tells : d.tells) (before mid now : Places
       empty = of_read d before new_row.id new (read_at d before new_row.id new new_read) (λ low high recv. first_full low high recv ≡ None) h.empty;
       new = of_read d now new_row.id new_now (back_at d now new_row.id new_now new_on) (StandForFound new_row h.found) h.moved;
       alike = alike_but;
+      written =
+          subst (λ (r : List ℕ). OfDisks now new_row.id (AreMoved new_row h.found r)) (sym (read_at d before row.id old read roles.Recv))
+          (of_read d now new_row.id new_now (back_at d now new_row.id new_now new_on) (AreMoved new_row h.found (d.reading old.recv)) h.written);
     },
     h.counted,
   )
 
+  was_read : (Holds : List ℕ → List ℕ → List ℕ → Type 0) → OfDisks before row.id Holds → Holds (d.reading old.low) (d.reading old.high) (d.reading old.recv)
+  was_read Holds h =
+      let same = read_at d before row.id old read in
+      subst (λ (t : List ℕ × List ℕ × List ℕ). Holds t.0 t.1 t.2) (λ i. (same roles.Low i, same roles.High i, same roles.Recv i)) h
+
+  turned : (fault : MoveFault) → StopsMove d row new_row old old_now new new_now fault → AreTurned before now row new_row fault.role
+  turned fault h = λ f stands.
+      of_read d before new_row.id new (read_at d before new_row.id new new_read) (λ low high recv. OfDisks now new_row.id (AreInTurn new_row f fault.role low high recv))
+      (of_read d now new_row.id new_now (back_at d now new_row.id new_now new_on) (AreInTurn new_row f fault.role (d.reading new.low) (d.reading new.high) (d.reading new.recv))
+      (h.turn tells f (was_read (StandForFound row f) stands)))
+
   pub stops_so : (fault : MoveFault) → StopsMove d row new_row old old_now new new_now fault → MigrateStops before now row new_row fault.new (end_at fault.role (Some fault.why))
   stops_so fault h = elim (ends_at fault.role fault.why) [
     | inl failed ↦ subst (MigrateStops before now row new_row fault.new) (sym failed.1)
-        (alike_but, new_spared d before mid now row.id new_row.id old new old_now new_now taken returned on new_on tells read new_read kept spared)
+        (alike_but, new_spared d before mid now row.id new_row.id old new old_now new_now taken returned on new_on tells read new_read kept spared, turned fault h)
     | inr refused ↦ subst (MigrateStops before now row new_row fault.new) (sym refused.1) (
       of_read d before row.id old (read_at d before row.id old read) (λ low high recv. OfDisks before new_row.id (λ new_low new_high new_recv. IsMoveRefused row new_row receiver_size low high recv new_low new_high new_recv fault))
           (of_read d before new_row.id new (read_at d before new_row.id new new_read)
@@ -196,7 +210,16 @@ role_by role other why e = elim (ends_at role why) [
 
 pub untaken_stops : (before after : Places) (row new_row : SessionRow) (is_new : Bool) (end : CommandEnd) → IsUntaken end → ReadsAlike before after → MigrateStops before after row new_row is_new end
 untaken_stops before after row new_row is_new Memory h alike = alike
-untaken_stops before after row new_row is_new (Failed role) h alike = ((λ name other. alike name), (λ role some. alike (disk_name new_row.id role)))
+untaken_stops before after row new_row is_new (Failed role) h alike = (
+  (λ name other. alike name),
+  (λ role some. alike (disk_name new_row.id role)),
+  λ f stands. record {
+    at_low = λ is. (alike (disk_name new_row.id roles.High), alike (disk_name new_row.id roles.Recv));
+    at_high = λ is. alike (disk_name new_row.id roles.Recv);
+    high = inl (alike (disk_name new_row.id roles.High));
+    recv = inl (alike (disk_name new_row.id roles.Recv));
+  },
+)
 untaken_stops before after row new_row is_new end h alike = absurd h
 
 -- ---- the tables, and the whole ----

@@ -1,18 +1,21 @@
 -- What a move says of its disks, said of disks that were taken off a shelf.
-use Rattle.std.proofs.Common.{◌≡◌, ℕ, Bool, true, false, List, [], ◌∷◌, length, None, Result, Ok, Err, IfOk, IfErr, refl, sym, ap, subst}
+use Rattle.std.proofs.Common.{◌≡◌, ℕ, Bool, true, false, List, [], ◌∷◌, drop, length, None, Result, Ok, Err, IfOk, IfErr, inl, inr, refl, sym, ap, ◌∙◌, subst}
 use Rattle.disk_model.specs.Disk.{Meaning, Moves, Same}
 use Rattle.disk_model.specs.declared.name.Role.{Role}
 use Rattle.disk_model.specs.declared.name.Role.TheVariants as roles
 use Rattle.pump_frame.specs.Rows.{IsLawfulRow}
 use Rattle.pump_frame.specs.declared.row.SessionRow.{SessionRow}
 use Rattle.recovery.specs.Calls.{is_device}
-use Rattle.recovery.specs.Moves.{StandFor, AreFound, AreWritten, IsMoveRefused, IsKept, Counted, is_blamed, first_full}
+use Rattle.recovery.specs.Moves.{StandFor, AreFound, AreWritten, AreWrittenInTurn, IsMoveRefused, IsKept, Counted, is_blamed, first_full, low_bytes, high_bytes}
 use Rattle.recovery.specs.declared.trio.MoveFault.{MoveFault}
 use Rattle.recovery.specs.declared.trio.Trio.{Trio}
 use Rattle.recovery.specs.declared.why.Why.{Why}
 use Rattle.script_replay.specs.declared.disks.TakenDisks.{TakenDisks}
 use Rattle.stable_buffer.specs.Format.{receiver_size}
-use Rattle.commands.specs.Migrating.{MovesTo, StopsMove, FailsAt, counted, taken_of, trio_of}
+use Rattle.script_reader.specs.Openings.{Found, accepted_in}
+use Rattle.two_worlds.specs.Openings.{StandForFound}
+use Rattle.two_worlds.proofs.Opening.Surveying.{same_messages}
+use Rattle.commands.specs.Migrating.{AreInTurn, MovesTo, StopsMove, FailsAt, counted, taken_of, trio_of}
 use Rattle.commands.specs.TakenDisks.{CountOn, ReadOn, SpareOn}
 use Rattle.commands.specs.declared.migrate.Counts.{Counts}
 use Rattle.commands.proofs.MovedFound.{found, stands, new_stands, accepted}
@@ -38,6 +41,13 @@ module _ {D : Type 0} (d : Meaning D) (row new_row : SessionRow) where
     empty = none;
     moved = new_stands row new_row lawful new_lawful e b live received _ _ _ _ _ _ a s;
     counted = (accepted row new_row lawful new_lawful e b live received _ _ _ _ _ _ a s, refl, sym count);
+    written =
+        let all = accepted row new_row lawful new_lawful e b live received _ _ _ _ _ _ a s in
+        let f = found row new_row lawful new_lawful e b live received _ _ _ _ _ _ a s in
+        let low = (stands row new_row lawful new_lawful e b live received _ _ _ _ _ _ a s).low_is in
+        let same : drop b (accepted_in f) ≡ live = same_messages row lawful e b live (d.reading old.low) a.stand.low_stands b (drop b (accepted_in f)) refl (low.count ∙ sym all) low.slots in
+        subst (λ (x : ℕ × ℕ × List (List ℕ)). AreWritten new_row x.0 b x.1 x.2 (d.reading old.recv) (d.reading now.low) (d.reading now.high) (d.reading now.recv))
+        (λ i. (all i, sym count i, sym same i)) written;
   }
 
   pub moved_ok : (lawful : IsLawfulRow row) (new_lawful : IsLawfulRow new_row) (old new now : TakenDisks D) (o t u : Trio D) (end : Result (ℕ × ℕ × ℕ) MoveFault) (r : Result Counts MoveFault)
@@ -69,16 +79,33 @@ module _ {D : Type 0} (d : Meaning D) (old old_now new new_now : TakenDisks D) w
   fails_so true roles.Recv why c e = c.new_recv.rose e
 
   module _ (row new_row : SessionRow) where
+    -- the new disks are written in turn, whatever the old ones stand for
+    abbrev pub Turns : Result (ℕ × ℕ × ℕ) MoveFault → Type 0
+    Turns end = (E B : ℕ) (live received : List (List ℕ)) → StandFor row E B live received (d.reading old.low) (d.reading old.high) (d.reading old.recv)
+        → AreWrittenInTurn d (low_bytes new_row E B live) (high_bytes new_row B) (trio_of new) (trio_of new_now) end
+
+    in_turn : (fault : MoveFault) → Turns (Err fault) → d.tells → (f : Found) → StandForFound row f (d.reading old.low) (d.reading old.high) (d.reading old.recv)
+        → AreInTurn new_row f fault.role (d.reading new.low) (d.reading new.high) (d.reading new.recv) (d.reading new_now.low) (d.reading new_now.high) (d.reading new_now.recv)
+    in_turn fault turns tells f s =
+        let t = turns (length (accepted_in f)) f.removed (drop f.removed (accepted_in f)) f.received (record { low_stands = s.low_is; high_stands = s.high_is; recv_stands = s.recv_is }) in
+        record {
+          at_low = λ is. let m = t.at_low is in (m.0.reads tells, m.1.reads tells);
+          at_high = λ is. let m = t.at_high is in m.reads tells;
+          high = elim (t.high tells) [ inl same ↦ inl (same.reads tells) | inr whole ↦ inr whole ];
+          recv = elim (t.recv tells) [ inl same ↦ inl (same.reads tells) | inr whole ↦ inr whole ];
+        }
+
     -- refused for this cause, by what the disks read
     abbrev Refused : MoveFault → Type 0
     Refused fault = IsMoveRefused row new_row receiver_size (d.reading old.low) (d.reading old.high) (d.reading old.recv) (d.reading new.low) (d.reading new.high) (d.reading new.recv) fault
 
     pub stopped : (end : Result (ℕ × ℕ × ℕ) MoveFault) (r : Result Counts MoveFault) → r ≡ counted end → AreCounted end
         → IfErr end (λ fault. is_device fault.why ≡ false → d.tells → Refused fault) → (d.tells → (fault : MoveFault) → Refused fault → ReadOn d new new_now)
-        → IfErr r (StopsMove d row new_row old old_now new new_now)
-    stopped (Ok n) r same c refused unwritten = subst (λ (x : Result Counts MoveFault). IfErr x (StopsMove d row new_row old old_now new new_now)) (sym same) tt
-    stopped (Err fault) r same c refused unwritten = subst (λ (x : Result Counts MoveFault). IfErr x (StopsMove d row new_row old old_now new new_now)) (sym same) (record {
+        → Turns end → IfErr r (StopsMove d row new_row old old_now new new_now)
+    stopped (Ok n) r same c refused unwritten turns = subst (λ (x : Result Counts MoveFault). IfErr x (StopsMove d row new_row old old_now new new_now)) (sym same) tt
+    stopped (Err fault) r same c refused unwritten turns = subst (λ (x : Result Counts MoveFault). IfErr x (StopsMove d row new_row old old_now new new_now)) (sym same) (record {
       failed = fails_so fault.new fault.role fault.why c;
+      turn = in_turn fault turns;
       unwritten = λ e tells. unwritten tells fault (refused e tells) tells;
       refused = refused;
     })
@@ -122,6 +149,8 @@ pub record Says {D : Type 0} (d : Meaning D) (row new_row : SessionRow) (old new
   pub unwritten : d.tells → (f : MoveFault) → IsMoveRefused row new_row receiver_size (d.reading old.low) (d.reading old.high) (d.reading old.recv)
       (d.reading new.low) (d.reading new.high) (d.reading new.recv) f
       → Moves d Same new.low new_now.low × Moves d Same new.high new_now.high × Moves d Same new.recv new_now.recv
+  pub turn : (E B : ℕ) (live received : List (List ℕ)) → StandFor row E B live received (d.reading old.low) (d.reading old.high) (d.reading old.recv)
+      → AreWrittenInTurn d (low_bytes new_row E B live) (high_bytes new_row B) new new_now end
   pub full : d.tells → (first_full (d.reading new.low) (d.reading new.high) (d.reading new.recv) ≡ None → ⊥)
       → Moves d Same new.low new_now.low × Moves d Same new.high new_now.high × Moves d Same new.recv new_now.recv
 
@@ -146,4 +175,4 @@ module _ {D : Type 0} (d : Meaning D) (row new_row : SessionRow) (old new old_no
   pub stops : (r : Result Counts MoveFault) → r ≡ counted end → IfErr r (StopsMove d row new_row old old_now new new_now)
   stops r same = stopped d old old_now new new_now row new_row end r same
       (record { low = said.low.counted; high = said.high.counted; recv = said.recv.counted; new_low = said.new_low; new_high = said.new_high; new_recv = said.new_recv })
-      said.refused (λ tells fault refused told. let m = said.unwritten tells fault refused in (m.0.reads told, m.1.reads told, m.2.reads told))
+      said.refused (λ tells fault refused told. let m = said.unwritten tells fault refused in (m.0.reads told, m.1.reads told, m.2.reads told)) said.turn

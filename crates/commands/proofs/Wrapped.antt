@@ -1,5 +1,5 @@
 -- What sending a file over a session leaves on the shelf.
-use Rattle.std.proofs.Common.{◌≡◌, ◌⊎◌, inl, inr, ℕ, false, List, [], Option, Some, None, refl, sym, ◌∙◌, subst, arith}
+use Rattle.std.proofs.Common.{◌≡◌, ◌⊎◌, inl, inr, ℕ, false, List, [], Option, Some, None, refl, sym, ap, ◌∙◌, subst, arith}
 use Rattle.std.specs.Io.KnownBytes.{Appends}
 use Rattle.std.proofs.KnownBytes.{Consumes-nil}
 use Rattle.disk_model.specs.Disk.{Meaning}
@@ -31,11 +31,12 @@ use Rattle.commands.specs.CommandEnds.{end_status}
 use Rattle.commands.specs.Showing.{end_at}
 use Rattle.commands.specs.TakenDisks.{RoseAt}
 use Rattle.commands.specs.Tables.{HasRow, IsTableEnd}
-use Rattle.commands.specs.Wrapping.{IsSendStatus, FailsAtFormat, HoldsFile, HoldsOn, Leaves, RefusesSession, StopsAtShelf, Wraps, WrapsFrom, WritesSend, end_of_stop, end_of_wrap, is_long, send_line, send_status}
+use Rattle.commands.specs.Wrapping.{IsSendStatus, FailsAtFormat, HoldsFile, HoldsOn, Leaves, NamesFailedDisk, RefusesSession, StopsAtShelf, Wraps, WrapsFrom, WritesSend, end_of_stop, end_of_wrap, is_long, send_line, send_status}
 use Rattle.commands.specs.declared.command_end.CommandEnd.{CommandEnd}
 use Rattle.commands.specs.declared.command_end.CommandEnd.TheVariants.{Memory, Unread, NoRow, Failed, Unwritten}
 use Rattle.commands.specs.declared.wrap.SendEnd.{SendEnd}
 use Rattle.commands.specs.declared.wrap.SendEnd.TheVariants.{Sent, Differs, TooLong, Stopped}
+use Rattle.commands.proofs.CommandEnds.{names_failed}
 use Rattle.commands.proofs.Formatted.{was, is}
 
 -- ---- ends ----
@@ -78,7 +79,7 @@ of_stop (stops.Device role faults) = tt
 of_stop (stops.Full end length size) = tt
 of_stop (stops.Disk role why) = tt
 
-stopped_end : (a b : CommandEnd) → Stopped a ≡ Stopped b → a ≡ b
+pub stopped_end : (a b : CommandEnd) → Stopped a ≡ Stopped b → a ≡ b
 stopped_end a b e = cc
 
 pub never_unwritten : (answer : WrapEnd) → end_of_wrap answer ≡ Stopped Unwritten → ⊥
@@ -269,3 +270,10 @@ writes Ends session old new (Differs number) other h a = (h, a)
 writes Ends session old new TooLong other h a = (h, a)
 writes Ends session old new (Stopped Unwritten) other h a = absurd (other refl)
 writes Ends session old new (Stopped end) other h a = (h, a)
+
+-- each disk that the end may name failed
+pub names_failed_disk : (fails : ℕ → Role → Type 0) (session : ℕ) (end : SendEnd) → ((role : Role) → end ≡ Stopped (Failed role) → fails session role) → NamesFailedDisk fails session end
+names_failed_disk fails session (Sent bytes messages) names = tt
+names_failed_disk fails session (Differs number) names = tt
+names_failed_disk fails session TooLong names = tt
+names_failed_disk fails session (Stopped end) names = names_failed fails session end (λ role is. names role (ap Stopped is))

@@ -1,6 +1,7 @@
 -- How a command over a session of the table ends, and what it writes then.
 use Rattle.std.specs.Prelude.{◌≡◌, ◌⊎◌, ℕ, List, [], ◌∷◌, Option, codes, decimal}
 use Rattle.std.specs.Io.KnownBytes.{Appends}
+use Rattle.disk_model.specs.declared.name.Role.{Role}
 use Rattle.pump_frame.specs.Counts.{Rose}
 use Rattle.pump_link.specs.Causes.{AppendsFront}
 use Rattle.recovery.specs.Faults.{why_number, why_values}
@@ -43,6 +44,11 @@ end_line session (Ahead number count) = line_with_end (codes "fault" ∷ codes "
 end_line session (Full end length size) = fault_line (faults.Full session end length size)
 end_line session (Denied code number) = line_with_end (codes "fault" ∷ codes "refused" ∷ decimal code ∷ decimal number ∷ [])
 end_line session (Unfinished number) = line_with_end (codes "fault" ∷ codes "unfinished" ∷ decimal number ∷ [])
+
+-- the disk that this end names failed, where `fails` says which did
+abbrev pub NamesFailed : (ℕ → Role → Type 0) → ℕ → CommandEnd → Type 0
+NamesFailed fails session (Failed role) = fails session role
+NamesFailed fails session end = Unit {0}
 
 -- it ends so, and what it is to write then was written; or a front of that was
 abbrev pub EndsSo : (CommandEnd → List ℕ → Type 0) → Option (List ℕ) → Option (List ℕ) → CommandEnd → Type 0

@@ -1,6 +1,6 @@
 -- What moving a session to the disks of another one leaves, by how it ends. `before` and `after` say where each disk is; `file`
 -- and `new_file` are those of the two tables.
-use Rattle.std.specs.Prelude.{◌≡◌, ◌⊎◌, ℕ, Bool, true, false, if◌then◌else◌, List, [], ◌∷◌, length, Option, None, Some, Result, Ok, Err, codes, decimal}
+use Rattle.std.specs.Prelude.{◌≡◌, ◌⊎◌, ℕ, Bool, true, false, if◌then◌else◌, List, [], ◌∷◌, length, Option, None, Some, Result, Ok, Err, codes, decimal, drop}
 use Rattle.disk_model.specs.Disk.{Meaning}
 use Rattle.disk_model.specs.declared.name.DiskName.{DiskName}
 use Rattle.disk_model.specs.declared.name.Role.{Role}
@@ -8,11 +8,12 @@ use Rattle.pump_frame.specs.declared.row.SessionRow.{SessionRow}
 use Rattle.recovery.specs.declared.trio.MoveFault.{MoveFault}
 use Rattle.recovery.specs.declared.trio.Trio.{Trio}
 use Rattle.recovery.specs.Calls.{is_device}
-use Rattle.recovery.specs.Moves.{IsMoveRefused, first_full}
+use Rattle.disk_model.specs.declared.name.Role.TheVariants as roles
+use Rattle.recovery.specs.Moves.{AreWritten, IsMoveRefused, first_full, high_bytes, low_bytes}
 use Rattle.recovery.specs.declared.why.Why.{Why}
 use Rattle.script_reader.specs.Openings.{Found, accepted_in}
 use Rattle.script_reader.specs.Transcript.{line_with_end}
-use Rattle.script_replay.specs.Shelves.{Places, OfDisks, reading_in, ReadsAlike, SparesSession}
+use Rattle.script_replay.specs.Shelves.{Places, OfDisks, reading_at, reading_in, ReadsAlike, SparesSession}
 use Rattle.script_replay.specs.declared.disks.TakenDisks.{TakenDisks}
 use Rattle.stable_buffer.specs.Format.{receiver_size}
 use Rattle.two_worlds.specs.Openings.{StandForFound}
@@ -49,12 +50,21 @@ HasNoRows file new_file session new_session number place =
 abbrev pub ReadsOthersAlike : Places → Places → ℕ → Type 0
 ReadsOthersAlike before after session = (name : DiskName) → (name.session ≡ session → ⊥) → reading_in (after name) ≡ reading_in (before name)
 
+-- the low disk that a move writes: the messages in their slots, and zeros wherever none stands
+abbrev pub moved_low : SessionRow → Found → List ℕ
+moved_low row f = low_bytes row (length (accepted_in f)) f.removed (drop f.removed (accepted_in f))
+
+-- three readings are what a move writes, byte by byte, where the old receiver's disk reads this
+abbrev pub AreMoved : SessionRow → Found → List ℕ → List ℕ → List ℕ → List ℕ → Type 0
+AreMoved row f old_recv low high recv = AreWritten row (length (accepted_in f)) f.removed (length f.received) (drop f.removed (accepted_in f)) old_recv low high recv
+
 -- the row's disks stand for what was found; those of the new row were empty, and stand for just that now. Every other disk
 -- reads as it did, the row's too
 pub record IsMigrated (before after : Places) (row new_row : SessionRow) (f : Found) : Type 0 where
   pub stand : OfDisks before row.id (StandForFound row f)
   pub empty : OfDisks before new_row.id (λ low high recv. first_full low high recv ≡ None)
   pub new : OfDisks after new_row.id (StandForFound new_row f)
+  pub written : OfDisks after new_row.id (AreMoved new_row f (reading_at before row.id roles.Recv))
   pub alike : ReadsOthersAlike before after new_row.id
 
 -- the first cause for which they are not moved, by the readings of the six
@@ -63,11 +73,25 @@ IsRefusedMove places row new_row is_new role why =
     OfDisks places row.id (λ low high recv. OfDisks places new_row.id (λ new_low new_high new_recv.
     IsMoveRefused row new_row receiver_size low high recv new_low new_high new_recv (record { new = is_new; role = role; why = why })))
 
+-- What is read of the new disks before a move and after it, where the disk of this role failed. They are written in turn, low's,
+-- high's and the receiver's: one only where those before it are whole, and none after the one that failed
+pub record AreInTurn (row : SessionRow) (f : Found) (role : Role) (low_was high_was recv_was low_now high_now recv_now : List ℕ) : Type 0 where
+  pub at_low : role ≡ roles.Low → (high_now ≡ high_was) × (recv_now ≡ recv_was)
+  pub at_high : role ≡ roles.High → recv_now ≡ recv_was
+  pub high : (high_now ≡ high_was) ⊎ (low_now ≡ moved_low row f)
+  pub recv : (recv_now ≡ recv_was) ⊎ ((low_now ≡ moved_low row f) × (high_now ≡ high_bytes row f.removed))
+
+-- .. of the new row's disks, where the row's stood for what was found
+abbrev pub AreTurned : Places → Places → SessionRow → SessionRow → Role → Type 0
+AreTurned before after row new_row role = (f : Found) → OfDisks before row.id (StandForFound row f)
+    → OfDisks before new_row.id (λ low high recv. OfDisks after new_row.id (AreInTurn new_row f role low high recv))
+
 -- What is said of the disks where they were not moved. After a failed device call some of the new ones may be written; none that
 -- was not empty is touched
 abbrev pub MigrateStops : Places → Places → SessionRow → SessionRow → Bool → CommandEnd → Type 0
 MigrateStops before after row new_row is_new Memory = ReadsAlike before after
-MigrateStops before after row new_row is_new (Failed role) = ReadsOthersAlike before after new_row.id × SparesSession before after new_row.id
+MigrateStops before after row new_row is_new (Failed role) =
+    ReadsOthersAlike before after new_row.id × SparesSession before after new_row.id × AreTurned before after row new_row role
 MigrateStops before after row new_row is_new (Refused role why) = IsRefusedMove before row new_row is_new role why × ReadsAlike before after
 MigrateStops before after row new_row is_new end = ⊥
 
@@ -149,6 +173,7 @@ pub record MovesTo {D : Type 0} (d : Meaning D) (row new_row : SessionRow) (old 
   pub stand : StandForFound row found (d.reading old.low) (d.reading old.high) (d.reading old.recv)
   pub empty : first_full (d.reading new.low) (d.reading new.high) (d.reading new.recv) ≡ None
   pub moved : StandForFound new_row found (d.reading now.low) (d.reading now.high) (d.reading now.recv)
+  pub written : AreMoved new_row found (d.reading old.recv) (d.reading now.low) (d.reading now.high) (d.reading now.recv)
   pub counted : AreCounts found counts
 
 -- .. the disk of this role failed
@@ -159,6 +184,8 @@ FailsAt d false role old old_now new new_now = RoseAt d role old old_now
 -- .. or it is refused, and nothing was written
 pub record StopsMove {D : Type 0} (d : Meaning D) (row new_row : SessionRow) (old old_now new new_now : TakenDisks D) (fault : MoveFault) : Type 0 where
   pub failed : is_device fault.why ≡ true → FailsAt d fault.new fault.role old old_now new new_now
+  pub turn : d.tells → (f : Found) → StandForFound row f (d.reading old.low) (d.reading old.high) (d.reading old.recv)
+      → AreInTurn new_row f fault.role (d.reading new.low) (d.reading new.high) (d.reading new.recv) (d.reading new_now.low) (d.reading new_now.high) (d.reading new_now.recv)
   pub unwritten : is_device fault.why ≡ false → ReadOn d new new_now
   pub refused : is_device fault.why ≡ false → d.tells → IsMoveRefused row new_row receiver_size (d.reading old.low) (d.reading old.high) (d.reading old.recv)
       (d.reading new.low) (d.reading new.high) (d.reading new.recv) fault

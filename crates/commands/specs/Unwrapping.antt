@@ -1,6 +1,7 @@
 -- What writing the file of a session writes, by how it ends. `before` and `after` say where each disk is.
 use Rattle.std.specs.Prelude.{◌≡◌, ◌⊎◌, ℕ, ◌<◌, ◌≤◌, if◌then◌else◌, List, [], Option, None, Result, Ok, Err}
 use Rattle.std.specs.Io.KnownBytes.{Appends}
+use Rattle.disk_model.specs.declared.name.Role.{Role}
 use Rattle.disk_model.specs.declared.name.Role.TheVariants as roles
 use Rattle.pump_frame.specs.declared.row.SessionRow.{SessionRow}
 use Rattle.pump_wrapper.specs.Gathers.{Gathers}
@@ -11,7 +12,7 @@ use Rattle.recovery.specs.Refusals.{refused_receiver}
 use Rattle.script_replay.specs.Shelves.{Places, reading_at, ReadsAlike}
 use Rattle.stable_buffer.specs.Format.{receiver_size}
 use Rattle.stable_buffer.specs.Log.{RecvStands}
-use Rattle.commands.specs.CommandEnds.{end_status}
+use Rattle.commands.specs.CommandEnds.{NamesFailed, end_status}
 use Rattle.commands.specs.Tables.{StopsAtTable, HasRow}
 use Rattle.commands.specs.LentDisks.{StopsAtDisk}
 use Rattle.commands.specs.declared.command_end.CommandEnd.{CommandEnd}
@@ -50,13 +51,19 @@ UnwrapsFrom row found old new end =
     ((row.message < 9) × (end ≡ Stopped (NoRow 12 row.id)) × Appends old new [])
     ⊎ ((9 ≤ row.message) × UnwrapsOn row found old new end)
 
--- with the row of the session, if the table has one; `file` is the table's. Every disk reads as it did.
-abbrev pub Unwraps : Option (List ℕ) → Places → Places → ℕ → Option (List ℕ) → Option (List ℕ) → UnwrapEnd → Type 0
-Unwraps file before after session old new end =
-    ReadsAlike before after
+-- the disk that the end names failed, where `fails` says which did
+abbrev pub NamesFailedDisk : (ℕ → Role → Type 0) → ℕ → UnwrapEnd → Type 0
+NamesFailedDisk fails session (Stopped end) = NamesFailed fails session end
+NamesFailedDisk fails session end = Unit {0}
+
+-- With the row of the session, if the table has one; `file` is the table's. Every disk reads as it did, and the disk that failed is
+-- named.
+abbrev pub Unwraps : Option (List ℕ) → Places → Places → (ℕ → Role → Type 0) → ℕ → Option (List ℕ) → Option (List ℕ) → UnwrapEnd → Type 0
+Unwraps file before after fails session old new end =
+    ReadsAlike before after × NamesFailedDisk fails session end
     × (((stop : CommandEnd) × StopsAtTable file session stop × (end ≡ Stopped stop) × Appends old new [])
     ⊎ ((row : SessionRow) × HasRow file session row × UnwrapsFrom row (reading_at before row.id roles.Recv) old new end))
 
 -- .. with this status
-abbrev pub EndsUnwrap : Option (List ℕ) → Places → Places → ℕ → Option (List ℕ) → Option (List ℕ) → ℕ → Type 0
-EndsUnwrap file before after session old new status = (end : UnwrapEnd) × (unwrap_status end ≡ status) × Unwraps file before after session old new end
+abbrev pub EndsUnwrap : Option (List ℕ) → Places → Places → (ℕ → Role → Type 0) → ℕ → Option (List ℕ) → Option (List ℕ) → ℕ → Type 0
+EndsUnwrap file before after fails session old new status = (end : UnwrapEnd) × (unwrap_status end ≡ status) × Unwraps file before after fails session old new end

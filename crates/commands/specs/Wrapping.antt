@@ -20,7 +20,7 @@ use Rattle.stable_buffer.specs.Format.{new_bytes}
 use Rattle.script_replay.specs.Shelves.{Places, OfDisks, HasFound, IsRefusedFor, LeavesOtherSessions, ReadiesSession, ReadsAlike, reading_at}
 use Rattle.two_worlds.specs.declared.applied.Stop.{Stop}
 use Rattle.two_worlds.specs.declared.applied.Stop.TheVariants as stops
-use Rattle.commands.specs.CommandEnds.{end_line, end_status}
+use Rattle.commands.specs.CommandEnds.{NamesFailed, end_line, end_status}
 use Rattle.commands.specs.Showing.{end_at}
 use Rattle.commands.specs.Tables.{HasRow, StopsAtFile}
 use Rattle.commands.specs.declared.command_end.CommandEnd.{CommandEnd}
@@ -144,10 +144,15 @@ abbrev pub is_long : SendEnd → Bool
 is_long TooLong = true
 is_long end = false
 
--- .. and it is too long just where the source gave 2^48 bytes
-abbrev pub WrapsAll : ℕ → ℕ → Option (List ℕ) → Places → Places → ℕ → Option (List ℕ) → Option (List ℕ) → SendEnd → Type 0
-WrapsAll faults now_faults file before after session left now_left end =
-    Wraps faults now_faults file before after session left now_left end × Gave 0 left now_left (is_long end)
+-- the disk that the end names failed, where `fails` says which did
+abbrev pub NamesFailedDisk : (ℕ → Role → Type 0) → ℕ → SendEnd → Type 0
+NamesFailedDisk fails session (Stopped end) = NamesFailed fails session end
+NamesFailedDisk fails session end = Unit {0}
+
+-- .. and it is too long just where the source gave 2^48 bytes, and the disk that failed is named
+abbrev pub WrapsAll : ℕ → ℕ → Option (List ℕ) → Places → Places → (ℕ → Role → Type 0) → ℕ → Option (List ℕ) → Option (List ℕ) → SendEnd → Type 0
+WrapsAll faults now_faults file before after fails session left now_left end =
+    Wraps faults now_faults file before after session left now_left end × Gave 0 left now_left (is_long end) × NamesFailedDisk fails session end
 
 -- it ends so, and its line was written; or a front of that was
 abbrev pub WritesSend : (SendEnd → Type 0) → ℕ → Option (List ℕ) → Option (List ℕ) → SendEnd → Type 0
@@ -155,9 +160,9 @@ WritesSend Ends session old new (Stopped Unwritten) = (end : SendEnd) × Ends en
 WritesSend Ends session old new end = Ends end × Appends old new (send_line session end)
 
 -- .. with this status
-abbrev pub EndsWrap : ℕ → ℕ → Option (List ℕ) → Places → Places → ℕ → Option (List ℕ) → Option (List ℕ) → Option (List ℕ) → Option (List ℕ) → ℕ → Type 0
-EndsWrap faults now_faults file before after session left now_left old new status =
-    (end : SendEnd) × (send_status end ≡ status) × WritesSend (WrapsAll faults now_faults file before after session left now_left) session old new end
+abbrev pub EndsWrap : ℕ → ℕ → Option (List ℕ) → Places → Places → (ℕ → Role → Type 0) → ℕ → Option (List ℕ) → Option (List ℕ) → Option (List ℕ) → Option (List ℕ) → ℕ → Type 0
+EndsWrap faults now_faults file before after fails session left now_left old new status =
+    (end : SendEnd) × (send_status end ≡ status) × WritesSend (WrapsAll faults now_faults file before after fails session left now_left) session old new end
 
 -- one of its statuses
 abbrev pub IsSendStatus : ℕ → Type 0

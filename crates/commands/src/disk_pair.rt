@@ -5,6 +5,7 @@ ghost use Rattle.disk_model.specs.Shelf.{IsOut, OnShelf};
 ghost use Rattle.disk_model.specs.declared.name.Role.TheVariants as roles;
 ghost use Rattle.disk_model.specs.declared.shelf.ShelfFault.TheVariants.{Failed};
 ghost use Rattle.pump_frame.specs.Counts.{Rose};
+ghost use Rattle.script_replay.specs.Failing.{IsNotGiven};
 ghost use Rattle.script_replay.specs.Lending.{IsOutAt, ReadAt, RisesAt};
 ghost use Rattle.script_replay.specs.Shelves.{disk_name, AllAreBack, ReadsAlike};
 ghost use Rattle.commands.specs.LentDisks.{LeavesBut};
@@ -32,6 +33,7 @@ pub fn take_pair<S: Shelf>(shelf: &mut S, session: u32) -> Result<DiskPair<S::Di
     ensures role { IfErr result (λ e. (e.role ≡ roles.Low) ⊎ (e.role ≡ roles.High)) }
     ensures later { S.told.disk_faults shelf.old ≤ S.told.disk_faults shelf.new }
     ensures cause { IfErr result (λ e. e.fault ≡ Failed → Rose (S.told.disk_faults shelf.old) (S.told.disk_faults shelf.new)) }
+    ensures asked { IfErr result (λ e. e.fault ≡ Failed → IsNotGiven S.told (S.told.disk shelf.old) session e.role) }
 {
     let low = take_disk(shelf, session, Role::Low)?;
     match take_disk(shelf, session, Role::High) {

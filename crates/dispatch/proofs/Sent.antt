@@ -1,6 +1,7 @@
 -- What a sender's end says, and that of a receiver.
 use Rattle.std.proofs.Common.{◌≡◌, ℕ, true, List, Option, Some, refl}
 use Rattle.disk_model.specs.declared.name.Role.{Role}
+use Rattle.disk_model.specs.declared.name.Role.TheVariants as roles
 use Rattle.pump_frame.specs.Counts.{Rose}
 use Rattle.pump_frame.specs.declared.row.SessionRow.{SessionRow}
 use Rattle.recovery.specs.Calls.{is_device}
@@ -91,6 +92,15 @@ receiver_never receiver.Write = ((λ e. cc), (λ e. cc), λ e. cc)
 receiver_never (receiver.Device faults) = ((λ e. cc), (λ e. cc), λ e. cc)
 receiver_never (receiver.Ahead number count) = ((λ e. cc), (λ e. cc), λ e. cc)
 receiver_never (receiver.LogFull end length size) = ((λ e. cc), (λ e. cc), λ e. cc)
+
+-- .. and the disk that one may name
+pub receiver_role : (end : ReceiveEnd) (role : Role) → end_of_receiver end ≡ Failed role → role ≡ roles.Recv
+receiver_role receiver.Ended role e = absurd (cc)
+receiver_role receiver.Looks role e = absurd (cc)
+receiver_role receiver.Write role e = absurd (cc)
+receiver_role (receiver.Device faults) role e = cc
+receiver_role (receiver.Ahead number count) role e = absurd (cc)
+receiver_role (receiver.LogFull end length size) role e = absurd (cc)
 
 -- ---- a disk that is refused ----
 

@@ -1,6 +1,7 @@
 -- What the end of a call of `serve` says of the session.
 use Rattle.std.proofs.Common.{◌≡◌, ◌⊎◌, ◌≤◌, ℕ, false, List, Option, Some, inl, inr, refl, sym, ap, ◌∙◌, subst}
 use Rattle.disk_model.specs.Disk.{Meaning}
+use Rattle.disk_model.specs.Shelf.{Holdings, OnShelf}
 use Rattle.disk_model.specs.declared.name.Role.{Role}
 use Rattle.disk_model.specs.declared.name.Role.TheVariants as roles
 use Rattle.disk_model.specs.declared.shelf.ShelfFault.{ShelfFault}
@@ -11,8 +12,10 @@ use Rattle.relay_threads.specs.LowStays.{is_kept_by}
 use Rattle.relay_threads.specs.Workers.{CountsEnd}
 use Rattle.relay_threads.specs.declared.rounds_end.RoundsEnd.{RoundsEnd}
 use Rattle.relay_threads.specs.declared.rounds_end.RoundsEnd.TheVariants as rounds
+use Rattle.script_replay.specs.Failing.{CameBackFailed}
 use Rattle.script_replay.specs.Lending.{IsOutAt, RisesAt}
-use Rattle.script_replay.specs.Shelves.{Places, ReadsAlike, reading_in}
+use Rattle.script_replay.specs.Shelves.{Places, ReadsAlike, disk_name, reading_in}
+use Rattle.script_replay.proofs.Shelving.{rose_more}
 use Rattle.relay_side.specs.Sides.{PortsTell, SideTells}
 use Rattle.serving.specs.Doors.{DoorsTell, WantDoor}
 use Rattle.serving.specs.declared.keys.KeyFault.{KeyFault}
@@ -21,6 +24,7 @@ use Rattle.serving.specs.Sessions.{IfEnded, OpensBy, RoseAt, has_run}
 use Rattle.serving.specs.declared.doors.WorkersEnd.{WorkersEnd}
 use Rattle.serving.specs.declared.session.SessionEnd.{SessionEnd}
 use Rattle.serving.specs.declared.session.SessionEnd.TheVariants as session_ends
+use Rattle.commands.specs.CommandEnds.{NamesFailed}
 use Rattle.commands.specs.LentDisks.{LeavesBut}
 use Rattle.dispatch.specs.Servings.{StopsAtShelf, end_of_workers, end_of_session, ServesFor, ServeComes}
 use Rattle.commands.specs.Tables.{HasRow}
@@ -138,6 +142,16 @@ module _ {S : Type 0} (m : Meaning S) (places : Places) (session : ℕ) (low hig
   pair_rises roles.High rose = rises_back places session roles.High _ _ before mid after high_out rose later high_rises
   pair_rises roles.Recv rose = absurd rose
 
+-- the one of the two that failed came back with a count that had risen
+pub pair_came_back : {H S : Type 0} (m : Holdings H) (d : Meaning S) (lent last : H) (session : ℕ) (low high now_low now_high : S) → IsOutAt (m.disk lent) session roles.Low (d.count low) → IsOutAt (m.disk lent) session roles.High (d.count high)
+    → (m.tells → m.disk last (disk_name session roles.Low) ≡ OnShelf (d.reading now_low)) → (m.tells → m.disk last (disk_name session roles.High) ≡ OnShelf (d.reading now_high))
+    → (role : Role) → RoseAt d role low high now_low now_high → CameBackFailed m d (m.disk last) session role
+pair_came_back m d lent last session low high now_low now_high low_out high_out low_back high_back roles.Low rose =
+    let (given, is, least) = low_out in record { lent = lent; given = given; disk = now_low; out = is; rose = rose_more given _ _ least rose; back = low_back }
+pair_came_back m d lent last session low high now_low now_high low_out high_out low_back high_back roles.High rose =
+    let (given, is, least) = high_out in record { lent = lent; given = given; disk = now_high; out = is; rose = rose_more given _ _ least rose; back = high_back }
+pair_came_back m d lent last session low high now_low now_high low_out high_out low_back high_back roles.Recv rose = absurd rose
+
 -- ---- the table's row, and the key ----
 
 pub same_places : (before after : Places) → after ≡ before → ReadsAlike before after
@@ -149,14 +163,16 @@ no_key R Q key_faults.Failed failed short = inl (failed refl)
 no_key R Q key_faults.Short failed short = inr (short refl)
 
 module _ {D L S : Type 0} (t : DoorsTell D L) (m : Meaning S) (looks : ℕ) (low_side high_side : SideTells D L) (written : Option (List ℕ)) (out_faults : ℕ) (before between after : Places)
-    (left now_left : Option (List ℕ)) (read_faults now_read_faults : ℕ) (file : Option (List ℕ)) (file_faults now_file_faults session : ℕ) (row : SessionRow) (end : CommandEnd) (mid : Option (List ℕ)) (mid_faults : ℕ) where
-  pub serves_row : HasRow file session row → between ≡ before → LeavesBut between after row.id
+    (left now_left : Option (List ℕ)) (read_faults now_read_faults : ℕ) (file : Option (List ℕ)) (file_faults now_file_faults : ℕ) (fails : ℕ → Role → Type 0) (session : ℕ) (row : SessionRow) (end : CommandEnd) (mid : Option (List ℕ)) (mid_faults : ℕ) where
+  pub serves_row : NamesFailed fails session end → HasRow file session row → between ≡ before → LeavesBut between after row.id
       → ServesFor t m looks low_side high_side written out_faults between after left now_left read_faults now_read_faults row end mid mid_faults
-      → ServeComes t m looks low_side high_side written out_faults before after left now_left read_faults now_read_faults file file_faults now_file_faults session end mid mid_faults
-  serves_row has same others h =
-      inr (
-        row,
-        has,
-        subst (λ (places : Places). LeavesBut places after row.id) same others,
-        subst (λ (places : Places). ServesFor t m looks low_side high_side written out_faults places after left now_left read_faults now_read_faults row end mid mid_faults) same h,
-      )
+      → ServeComes t m looks low_side high_side written out_faults before after left now_left read_faults now_read_faults file file_faults now_file_faults fails session end mid mid_faults
+  serves_row named has same others h = (
+    named,
+    inr (
+      row,
+      has,
+      subst (λ (places : Places). LeavesBut places after row.id) same others,
+      subst (λ (places : Places). ServesFor t m looks low_side high_side written out_faults places after left now_left read_faults now_read_faults row end mid mid_faults) same h,
+    ),
+  )

@@ -1,6 +1,7 @@
 -- How a call of `receive` comes to its end.
 use Rattle.std.specs.Prelude.{◌≡◌, ◌⊎◌, ℕ, false, List, [], ◌∷◌, ◌++◌, Option, None}
 use Rattle.std.specs.Io.KnownBytes.{Appends}
+use Rattle.disk_model.specs.declared.name.Role.{Role}
 use Rattle.disk_model.specs.declared.name.Role.TheVariants as roles
 use Rattle.pump_frame.specs.declared.row.SessionRow.{SessionRow}
 use Rattle.pump_link.specs.Ports.{PortsStep, Connected, NoConnection, BackToPorts}
@@ -10,6 +11,7 @@ use Rattle.stable_buffer.specs.Format.{receiver_size}
 use Rattle.stable_buffer.specs.Log.{RecvStands}
 use Rattle.stable_buffer.specs.Register.{value_of}
 use Rattle.script_replay.specs.Shelves.{Places, disk_name, reading_at}
+use Rattle.commands.specs.CommandEnds.{NamesFailed}
 use Rattle.commands.specs.LentDisks.{LeavesOtherDisks, StopsAtDisk}
 use Rattle.peers.specs.Receiving.{Place, Reception, Receives, StandsForFront, attempted, is_device, messages}
 use Rattle.peers.specs.declared.receive.ReceiveEnd.{ReceiveEnd}
@@ -63,10 +65,11 @@ module _ {D L : Type 0} (t : LinksTell L) (looks : ℕ) (ports now_ports : List 
       ⊎ ((refused_receiver row receiver_size found ≡ None) × ReceivesOver row end mid mid_faults)
 
 -- With the row of the session, if the table has one; `file` is the table's. `before` and `after` say where each
--- disk is: none but the receiver's has changed.
+-- disk is: none but the receiver's has changed. `fails` says which disk failed, where the end names one.
 abbrev pub ReceiveComes : {D L : Type 0} → LinksTell L → ℕ → (List (PortsStep L D) → Type 0) → (List (PortsStep L D) → Type 0) → Option (List ℕ) → ℕ
-    → Option (List ℕ) → Places → Places → ℕ → CommandEnd → Option (List ℕ) → ℕ → Type 0
-ReceiveComes t looks ports now_ports written out_faults file before after session end mid mid_faults =
-    (StopsAtTable file session end × (after ≡ before) × Grows ports now_ports [] × (mid ≡ written))
+    → Option (List ℕ) → Places → Places → (ℕ → Role → Type 0) → ℕ → CommandEnd → Option (List ℕ) → ℕ → Type 0
+ReceiveComes t looks ports now_ports written out_faults file before after fails session end mid mid_faults =
+    NamesFailed fails session end
+    × ((StopsAtTable file session end × (after ≡ before) × Grows ports now_ports [] × (mid ≡ written))
     ⊎ ((row : SessionRow) × HasRow file session row × LeavesOtherDisks before after (disk_name row.id roles.Recv)
-    × ReceivesFor t looks ports now_ports written out_faults (reading_at before row.id roles.Recv) (reading_at after row.id roles.Recv) row end mid mid_faults)
+    × ReceivesFor t looks ports now_ports written out_faults (reading_at before row.id roles.Recv) (reading_at after row.id roles.Recv) row end mid mid_faults))

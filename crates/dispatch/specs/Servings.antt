@@ -2,6 +2,7 @@
 use Rattle.std.specs.Prelude.{◌≡◌, ◌⊎◌, ℕ, ◌<◌, false, List, [], length, Option, Some, IfSome}
 use Rattle.std.specs.Io.KnownBytes.{Consumes}
 use Rattle.disk_model.specs.Disk.{Meaning}
+use Rattle.disk_model.specs.declared.name.Role.{Role}
 use Rattle.disk_model.specs.declared.name.Role.TheVariants as roles
 use Rattle.pump_frame.specs.Counts.{Rose}
 use Rattle.pump_frame.specs.declared.row.SessionRow.{SessionRow}
@@ -16,6 +17,7 @@ use Rattle.serving.specs.LowServing.{LowServed}
 use Rattle.serving.specs.Sessions.{IfEnded, OpensBy, has_run, is_opened}
 use Rattle.serving.specs.declared.session.SessionEnd.{SessionEnd}
 use Rattle.serving.specs.declared.session.SessionEnd.TheVariants as session_ends
+use Rattle.commands.specs.CommandEnds.{NamesFailed}
 use Rattle.commands.specs.LentDisks.{LeavesBut}
 use Rattle.commands.specs.Tables.{StopsAtFile, HasRow}
 use Rattle.commands.specs.Showing.{end_at}
@@ -86,9 +88,11 @@ module _ {D L S : Type 0} (t : DoorsTell D L) (m : Meaning S) (looks : ℕ) (low
       ((end ≡ Unread) × (Rose key_faults now_key_faults ⊎ IfSome left (λ bytes. length bytes < 32)) × IsIdle mid)
       ⊎ ((key : List ℕ) × (length key ≡ 32) × Consumes left now_left key × ServesWith row key end mid mid_faults)
 
-  -- .. with the row of the session, if the table has one; `file` is the table's, and the counts behind it are those of the files
-  abbrev pub ServeComes : Option (List ℕ) → Option (List ℕ) → ℕ → ℕ → Option (List ℕ) → ℕ → ℕ → ℕ → CommandEnd → Option (List ℕ) → ℕ → Type 0
-  ServeComes left now_left key_faults now_key_faults file file_faults now_file_faults session end mid mid_faults =
-      (StopsAtFile file_faults now_file_faults file session end × IsIdle mid)
+  -- .. with the row of the session, if the table has one; `file` is the table's, and the counts behind it are those of the files.
+  -- `fails` says which disk failed, where the end names one
+  abbrev pub ServeComes : Option (List ℕ) → Option (List ℕ) → ℕ → ℕ → Option (List ℕ) → ℕ → ℕ → (ℕ → Role → Type 0) → ℕ → CommandEnd → Option (List ℕ) → ℕ → Type 0
+  ServeComes left now_left key_faults now_key_faults file file_faults now_file_faults fails session end mid mid_faults =
+      NamesFailed fails session end
+      × ((StopsAtFile file_faults now_file_faults file session end × IsIdle mid)
       ⊎ ((row : SessionRow) × HasRow file session row × LeavesBut before after row.id
-      × ServesFor left now_left key_faults now_key_faults row end mid mid_faults)
+      × ServesFor left now_left key_faults now_key_faults row end mid mid_faults))

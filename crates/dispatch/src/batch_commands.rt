@@ -10,11 +10,13 @@ ghost use Rattle.script_replay.specs.Ends.{EndsReplay};
 ghost use Rattle.script_replay.specs.Failing.{FailsAt};
 ghost use Rattle.script_replay.specs.Replays.{IsFailed, Wrote};
 ghost use Rattle.script_replay.specs.Shelves.{AllAreBack, shelved};
+ghost use Rattle.script_replay.specs.Told.{TellsFault};
 ghost use Rattle.commands.specs.CommandEnds.{EndsWithStatus};
 ghost use Rattle.dispatch.specs.Commands.{is_live, IsNoCommand, IsReplay, IsChain, IsWrap, IsAudit, IsCompare, ReadsScript, TellsWords, RefusesWords};
 ghost use Rattle.commands.specs.Auditing.{EndsAudit, EndsComparison};
 ghost use Rattle.exercises.specs.Exercises.{EndsExercise};
 ghost use Rattle.commands.specs.Formatting.{Formats};
+ghost use Rattle.commands.specs.LentDisks.{RecvFailsAt};
 ghost use Rattle.commands.specs.Migrating.{Migrates};
 ghost use Rattle.commands.specs.Showing.{Shows};
 ghost use Rattle.commands.specs.Unwrapping.{EndsUnwrap};
@@ -115,9 +117,11 @@ pub fn batch<S: Shelf, I: Source, O: Sink>(
     ensures unasked { (ReadsScript (map string_bytes words.now.items) → ⊥) → (IsWrap (map string_bytes words.now.items) → ⊥) → script.new ≡ script.old }
     // Whatever the status is, every disk is back on the shelf.
     ensures back { S.told.tells → AllAreBack (S.told.disk shelf.old) (S.told.disk shelf.new) }
-    // A disk fails only where the shelf's count rose, or a line tells so.
+    // A disk fails only where the shelf's count rose, or where a line of the script tells so of a low side alone, whatever
+    // the shelf tells.
     ensures device { result ≡ 7 → Rose (S.told.disk_faults shelf.old) (S.told.disk_faults shelf.new)
-        ⊎ (S.told.tells → S.Disk.told.tells → Wrote (I.left script.old) (O.written out.old) (O.written out.new) (IsFailed (shelved (S.told.disk shelf.old) (S.told.disk shelf.new)) (I.left script.new))) }
+        ⊎ (TellsFault (I.left script.old) (I.left script.new)
+        × (S.told.tells → S.Disk.told.tells → Wrote (I.left script.old) (O.written out.old) (O.written out.new) (IsFailed (shelved (S.told.disk shelf.old) (S.told.disk shelf.new)) (I.left script.new)))) }
     ensures disk { (IsReplay (map string_bytes words.now.items) → ⊥) → result ≡ 7 → Rose (S.told.disk_faults shelf.old) (S.told.disk_faults shelf.new) }
     // A read fails, and a write, only where the source's, the shelf's or the sink's count rose.
     ensures file { (ReadsScript (map string_bytes words.now.items) → ⊥) → (IsWrap (map string_bytes words.now.items) → ⊥) → result ≡ 3 → Rose (S.told.faults shelf.old) (S.told.faults shelf.new) }
@@ -139,9 +143,9 @@ pub fn batch<S: Shelf, I: Source, O: Sink>(
         → S.told.tells → S.Disk.told.tells → EndsWithStatus (Migrates (S.told.file shelf.old table) (S.told.file shelf.old new_table) (S.told.disk shelf.old) (S.told.disk shelf.new)
         (FailsAt S.told S.Disk.told shelf.old shelf.new) session new_session) (O.written out.old) (O.written out.new) result }
     ensures wrap { (table : List ℕ) (session : ℕ) → AreWordsOf (map string_bytes words.now.items) (commands.Wrap table session) → S.told.tells → S.Disk.told.tells
-        → EndsWrap (S.told.faults shelf.old) (S.told.faults shelf.new) (S.told.file shelf.old table) (S.told.disk shelf.old) (S.told.disk shelf.new) session (I.left script.old) (I.left script.new) (O.written out.old) (O.written out.new) result }
+        → EndsWrap (S.told.faults shelf.old) (S.told.faults shelf.new) (S.told.file shelf.old table) (S.told.disk shelf.old) (S.told.disk shelf.new) (FailsAt S.told S.Disk.told shelf.old shelf.new) session (I.left script.old) (I.left script.new) (O.written out.old) (O.written out.new) result }
     ensures unwrap { (table : List ℕ) (session : ℕ) → AreWordsOf (map string_bytes words.now.items) (commands.Unwrap table session) → S.told.tells → S.Disk.told.tells
-        → EndsUnwrap (S.told.file shelf.old table) (S.told.disk shelf.old) (S.told.disk shelf.new) session (O.written out.old) (O.written out.new) result }
+        → EndsUnwrap (S.told.file shelf.old table) (S.told.disk shelf.old) (S.told.disk shelf.new) (RecvFailsAt S.told S.Disk.told shelf.old shelf.new) session (O.written out.old) (O.written out.new) result }
     ensures exercise { (seed : ℕ) (count : ℕ) → AreWordsOf (map string_bytes words.now.items) (commands.Exercise seed count)
         → (shelf.new ≡ shelf.old) × EndsExercise seed count (O.written out.old) (O.written out.new) result }
     // What is said of a record, and of two.

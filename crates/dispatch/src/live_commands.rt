@@ -8,6 +8,8 @@ ghost use Rattle.command_line.specs.declared.command.Command.TheVariants as comm
 ghost use Rattle.command_line.specs.TimeLists.{AreTimes};
 ghost use Rattle.pump_frame.specs.Counts.{Rose};
 ghost use Rattle.relay_side.specs.Sides.{side};
+ghost use Rattle.commands.specs.LentDisks.{RecvFailsAt};
+ghost use Rattle.script_replay.specs.Failing.{FailsAt};
 ghost use Rattle.script_replay.specs.Shelves.{AllAreBack};
 ghost use Rattle.serving.specs.Doors.{doors, links};
 ghost use Rattle.dispatch.specs.Commands.{is_live, IsNoLiveCommand, IsAtHigh, IsAtLow, IsOverTable, IsSend, IsServe, IsTimed, RefusesWords};
@@ -137,10 +139,10 @@ where
     ensures serve { (table : List ℕ) (session looks : ℕ) → AreWordsOf (map string_bytes words.now.items) (commands.Serve table session looks) → S.told.tells → S.Disk.told.tells
         → EndsLive (ServeComes (doors P.Door.port P.Door.did P.Door.gives (links P.Link.gives P.Link.sent P.Link.faults)) S.Disk.told looks
         (side P.did P.faults K.reads low.old low.new) (side P.did P.faults K.reads high.old high.new) (O.written out.old) (O.faults out.old) (S.told.disk shelf.old) (S.told.disk shelf.new)
-        (Q.left keys.old) (Q.left keys.new) (Q.faults keys.old) (Q.faults keys.new) (S.told.file shelf.old table) (S.told.faults shelf.old) (S.told.faults shelf.new) session) (O.written out.new) (O.faults out.new) session result }
+        (Q.left keys.old) (Q.left keys.new) (Q.faults keys.old) (Q.faults keys.new) (S.told.file shelf.old table) (S.told.faults shelf.old) (S.told.faults shelf.new) (FailsAt S.told S.Disk.told shelf.old shelf.new) session) (O.written out.new) (O.faults out.new) session result }
     ensures receive { (table : List ℕ) (session looks : ℕ) → AreWordsOf (map string_bytes words.now.items) (commands.Receive table session looks) → S.told.tells → S.Disk.told.tells
         → EndsLive (ReceiveComes (links P.Link.gives P.Link.sent P.Link.faults) looks (P.did high.old.ports) (P.did high.new.ports)
-        (O.written out.old) (O.faults out.old) (S.told.file shelf.old table) (S.told.disk shelf.old) (S.told.disk shelf.new) session) (O.written out.new) (O.faults out.new) session result }
+        (O.written out.old) (O.faults out.old) (S.told.file shelf.old table) (S.told.disk shelf.old) (S.told.disk shelf.new) (RecvFailsAt S.told S.Disk.told shelf.old shelf.new) session) (O.written out.new) (O.faults out.new) session result }
     ensures send { (table : List ℕ) (session looks : ℕ) → AreWordsOf (map string_bytes words.now.items) (commands.Send table session looks) → S.told.tells
         → EndsLive (SendComes (links P.Link.gives P.Link.sent P.Link.faults) looks (P.did low.old.ports) (P.did low.new.ports)
         (I.left script.old) (I.left script.new) (I.faults script.old) (I.faults script.new) (O.written out.old) (O.faults out.old) (S.told.file shelf.old table) (S.told.faults shelf.old) (S.told.faults shelf.new) session) (O.written out.new) (O.faults out.new) session result }

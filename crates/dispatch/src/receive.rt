@@ -10,7 +10,7 @@ ghost use Rattle.pump_frame.specs.Rows.{IsLawfulRow};
 ghost use Rattle.stable_buffer.specs.Format.{receiver_size};
 ghost use Rattle.script_replay.specs.Shelves.{AllAreBack, disk_name, reading_at};
 ghost use Rattle.serving.specs.Doors.{links};
-ghost use Rattle.commands.specs.LentDisks.{LeavesOtherDisks};
+ghost use Rattle.commands.specs.LentDisks.{LeavesOtherDisks, RecvFailsAt};
 ghost use Rattle.dispatch.specs.LiveEnds.{EndsLive};
 ghost use Rattle.dispatch.specs.Receptions.{end_of_receiver, ReceivesOver, ReceivesFor, ReceiveComes};
 ghost use Rattle.commands.specs.declared.command_end.CommandEnd.TheVariants as ends;
@@ -61,6 +61,7 @@ fn receive_over<P: Ports, D: Disk, O: Sink>(
     ensures receives { D.told.tells → ReceivesOver (links P.Link.gives P.Link.sent P.Link.faults) looks (P.did ports.old) (P.did ports.new) (O.written out.old) (O.faults out.old)
         (D.told.reading (recv_disk receiver)) (D.told.reading result.disk) row.now result.end (O.written out.new) (O.faults out.new) }
     ensures device { (role : DiskRole) → result.end ≡ ends.Failed role → Rose (D.told.count (recv_disk receiver)) (D.told.count result.disk) }
+    ensures role { (role : DiskRole) → result.end ≡ ends.Failed role → role ≡ roles.Recv }
     ensures readable { result.end ≡ ends.Unread → ⊥ }
     ensures memory { result.end ≡ ends.Memory → out.new ≡ out.old }
     ensures unwritten { result.end ≡ ends.Unwritten → Rose (O.faults out.old) (O.faults out.new) }
@@ -96,6 +97,7 @@ fn receive_on<P: Ports, D: Disk, O: Sink>(
     ensures receives { D.told.tells → ReceivesFor (links P.Link.gives P.Link.sent P.Link.faults) looks (P.did ports.old) (P.did ports.new) (O.written out.old) (O.faults out.old)
         (D.told.reading disk) (D.told.reading result.disk) row.now result.end (O.written out.new) (O.faults out.new) }
     ensures device { (role : DiskRole) → result.end ≡ ends.Failed role → Rose (D.told.count disk) (D.told.count result.disk) }
+    ensures role { (role : DiskRole) → result.end ≡ ends.Failed role → role ≡ roles.Recv }
     ensures readable { result.end ≡ ends.Unread → ⊥ }
     ensures memory { result.end ≡ ends.Memory → out.new ≡ out.old }
     ensures unwritten { result.end ≡ ends.Unwritten → Rose (O.faults out.old) (O.faults out.new) }
@@ -124,7 +126,7 @@ fn receive_row<S: Shelf, P: Ports, O: Sink>(
         (reading_at (S.told.disk shelf.old) row.now.id roles.Recv) (reading_at (S.told.disk shelf.new) row.now.id roles.Recv) row.now result (O.written out.new) (O.faults out.new) }
     ensures others { LeavesOtherDisks (S.told.disk shelf.old) (S.told.disk shelf.new) (disk_name row.now.id roles.Recv) }
     ensures back { S.told.tells → AllAreBack (S.told.disk shelf.old) (S.told.disk shelf.new) }
-    ensures device { (role : DiskRole) → result ≡ ends.Failed role → Rose (S.told.disk_faults shelf.old) (S.told.disk_faults shelf.new) }
+    ensures device { (role : DiskRole) → result ≡ ends.Failed role → RecvFailsAt S.told S.Disk.told shelf.old shelf.new row.now.id role }
     ensures readable { result ≡ ends.Unread → ⊥ }
     ensures memory { result ≡ ends.Memory → out.new ≡ out.old }
     ensures unwritten { result ≡ ends.Unwritten → Rose (O.faults out.old) (O.faults out.new) }
@@ -151,12 +153,12 @@ fn run_receive<S: Shelf, P: Ports, O: Sink>(
     out: &mut O,
 ) -> CommandEnd
     ensures comes { S.told.tells → S.Disk.told.tells → ReceiveComes (links P.Link.gives P.Link.sent P.Link.faults) looks (P.did ports.old) (P.did ports.new)
-        (O.written out.old) (O.faults out.old) (S.told.file shelf.old table.now) (S.told.disk shelf.old) (S.told.disk shelf.new) session result (O.written out.new) (O.faults out.new) }
+        (O.written out.old) (O.faults out.old) (S.told.file shelf.old table.now) (S.told.disk shelf.old) (S.told.disk shelf.new) (RecvFailsAt S.told S.Disk.told shelf.old shelf.new) session result (O.written out.new) (O.faults out.new) }
     ensures back { S.told.tells → AllAreBack (S.told.disk shelf.old) (S.told.disk shelf.new) }
     ensures memory { result ≡ ends.Memory → Appends (O.written out.old) (O.written out.new) [] }
     ensures read { result ≡ ends.Unread → Rose (S.told.faults shelf.old) (S.told.faults shelf.new) }
     ensures unwritten { result ≡ ends.Unwritten → Rose (O.faults out.old) (O.faults out.new) }
-    ensures device { (role : DiskRole) → result ≡ ends.Failed role → Rose (S.told.disk_faults shelf.old) (S.told.disk_faults shelf.new) }
+    ensures device { (role : DiskRole) → result ≡ ends.Failed role → RecvFailsAt S.told S.Disk.told shelf.old shelf.new session role }
     ensures link { result ≡ ends.Unconnected → Rose (P.faults ports.old) (P.faults ports.new) }
     ensures later { O.faults out.old ≤ O.faults out.new }
 {
@@ -179,7 +181,7 @@ pub fn receive_session<S: Shelf, P: Ports, K, O: Sink>(
     out: &mut O,
 ) -> u8
     ensures ends { S.told.tells → S.Disk.told.tells → EndsLive (ReceiveComes (links P.Link.gives P.Link.sent P.Link.faults) looks (P.did high.old.ports) (P.did high.new.ports)
-        (O.written out.old) (O.faults out.old) (S.told.file shelf.old table.now) (S.told.disk shelf.old) (S.told.disk shelf.new) session) (O.written out.new) (O.faults out.new) session result }
+        (O.written out.old) (O.faults out.old) (S.told.file shelf.old table.now) (S.told.disk shelf.old) (S.told.disk shelf.new) (RecvFailsAt S.told S.Disk.told shelf.old shelf.new) session) (O.written out.new) (O.faults out.new) session result }
     ensures back { S.told.tells → AllAreBack (S.told.disk shelf.old) (S.told.disk shelf.new) }
     ensures memory { result ≡ 1 → Appends (O.written out.old) (O.written out.new) [] }
     ensures read { result ≡ 3 → Rose (S.told.faults shelf.old) (S.told.faults shelf.new) }

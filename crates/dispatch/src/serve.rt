@@ -6,6 +6,7 @@ ghost use Rattle.disk_model.specs.declared.name.Role.{Role as DiskRole};
 ghost use Rattle.pump_frame.specs.Counts.{Rose};
 ghost use Rattle.pump_frame.specs.Rows.{IsLawfulRow};
 ghost use Rattle.relay_side.specs.Sides.{side};
+ghost use Rattle.script_replay.specs.Failing.{FailsAt};
 ghost use Rattle.script_replay.specs.Shelves.{AllAreBack};
 ghost use Rattle.serving.specs.Doors.{doors, links};
 ghost use Rattle.dispatch.specs.LiveEnds.{EndsLive};
@@ -82,7 +83,7 @@ where
     ensures back { S.told.tells → AllAreBack (S.told.disk shelf.old) (S.told.disk shelf.new) }
     ensures memory { result ≡ ends.Memory → Appends (O.written out.old) (O.written out.new) [] }
     ensures unwritten { result ≡ ends.Unwritten → Rose (O.faults out.old) (O.faults out.new) }
-    ensures device { (role : DiskRole) → result ≡ ends.Failed role → Rose (S.told.disk_faults shelf.old) (S.told.disk_faults shelf.new) }
+    ensures device { (role : DiskRole) → result ≡ ends.Failed role → FailsAt S.told S.Disk.told shelf.old shelf.new row.now.id role }
     ensures link { result ≡ ends.Unconnected → Rose (P.faults low.old.ports) (P.faults low.new.ports) ⊎ Rose (P.faults high.old.ports) (P.faults high.new.ports) }
     ensures later { O.faults out.old ≤ O.faults out.new }
 {
@@ -131,7 +132,7 @@ where
     ensures back { S.told.tells → AllAreBack (S.told.disk shelf.old) (S.told.disk shelf.new) }
     ensures memory { result ≡ ends.Memory → Appends (O.written out.old) (O.written out.new) [] }
     ensures unwritten { result ≡ ends.Unwritten → Rose (O.faults out.old) (O.faults out.new) }
-    ensures device { (role : DiskRole) → result ≡ ends.Failed role → Rose (S.told.disk_faults shelf.old) (S.told.disk_faults shelf.new) }
+    ensures device { (role : DiskRole) → result ≡ ends.Failed role → FailsAt S.told S.Disk.told shelf.old shelf.new row.now.id role }
     ensures link { result ≡ ends.Unconnected → Rose (P.faults low.old.ports) (P.faults low.new.ports) ⊎ Rose (P.faults high.old.ports) (P.faults high.new.ports) }
     ensures later { O.faults out.old ≤ O.faults out.new }
 {
@@ -169,13 +170,13 @@ where
     P::Door: Send,
     ensures comes { S.told.tells → S.Disk.told.tells → ServeComes (doors P.Door.port P.Door.did P.Door.gives (links P.Link.gives P.Link.sent P.Link.faults)) S.Disk.told looks
         (side P.did P.faults K.reads low.old low.new) (side P.did P.faults K.reads high.old high.new) (O.written out.old) (O.faults out.old) (S.told.disk shelf.old) (S.told.disk shelf.new)
-        (Q.left keys.old) (Q.left keys.new) (Q.faults keys.old) (Q.faults keys.new) (S.told.file shelf.old table.now) (S.told.faults shelf.old) (S.told.faults shelf.new) session result (O.written out.new) (O.faults out.new) }
+        (Q.left keys.old) (Q.left keys.new) (Q.faults keys.old) (Q.faults keys.new) (S.told.file shelf.old table.now) (S.told.faults shelf.old) (S.told.faults shelf.new) (FailsAt S.told S.Disk.told shelf.old shelf.new) session result (O.written out.new) (O.faults out.new) }
     ensures read { result ≡ ends.Unread → Rose (S.told.faults shelf.old) (S.told.faults shelf.new)
         ⊎ (Rose (Q.faults keys.old) (Q.faults keys.new) ⊎ IfSome (Q.left keys.old) (λ bytes. length bytes < 32)) }
     ensures back { S.told.tells → AllAreBack (S.told.disk shelf.old) (S.told.disk shelf.new) }
     ensures memory { result ≡ ends.Memory → Appends (O.written out.old) (O.written out.new) [] }
     ensures unwritten { result ≡ ends.Unwritten → Rose (O.faults out.old) (O.faults out.new) }
-    ensures device { (role : DiskRole) → result ≡ ends.Failed role → Rose (S.told.disk_faults shelf.old) (S.told.disk_faults shelf.new) }
+    ensures device { (role : DiskRole) → result ≡ ends.Failed role → FailsAt S.told S.Disk.told shelf.old shelf.new session role }
     ensures link { result ≡ ends.Unconnected → Rose (P.faults low.old.ports) (P.faults low.new.ports) ⊎ Rose (P.faults high.old.ports) (P.faults high.new.ports) }
     ensures later { O.faults out.old ≤ O.faults out.new }
 {
@@ -216,7 +217,7 @@ where
     P::Door: Send,
     ensures ends { S.told.tells → S.Disk.told.tells → EndsLive (ServeComes (doors P.Door.port P.Door.did P.Door.gives (links P.Link.gives P.Link.sent P.Link.faults)) S.Disk.told looks
         (side P.did P.faults K.reads low.old low.new) (side P.did P.faults K.reads high.old high.new) (O.written out.old) (O.faults out.old) (S.told.disk shelf.old) (S.told.disk shelf.new)
-        (Q.left keys.old) (Q.left keys.new) (Q.faults keys.old) (Q.faults keys.new) (S.told.file shelf.old table.now) (S.told.faults shelf.old) (S.told.faults shelf.new) session) (O.written out.new) (O.faults out.new) session result }
+        (Q.left keys.old) (Q.left keys.new) (Q.faults keys.old) (Q.faults keys.new) (S.told.file shelf.old table.now) (S.told.faults shelf.old) (S.told.faults shelf.new) (FailsAt S.told S.Disk.told shelf.old shelf.new) session) (O.written out.new) (O.faults out.new) session result }
     ensures back { S.told.tells → AllAreBack (S.told.disk shelf.old) (S.told.disk shelf.new) }
     ensures memory { result ≡ 1 → Appends (O.written out.old) (O.written out.new) [] }
     ensures read { result ≡ 3 → Rose (S.told.faults shelf.old) (S.told.faults shelf.new)

@@ -1,5 +1,5 @@
 use Rattle.std.proofs.Common.{subst}
-use Rattle.chain_replay.specs.Private.{AllRiseAt}
+use Rattle.chain_replay.specs.Private.{AllRiseAt, AreBackAt}
 use Rattle.two_worlds.specs.Pumps.{row_of}
 use Rattle.chain_replay.proofs.Returning.{left_so}
 use Rattle.chain_replay.proofs.replaying.leave.Goals as goal
@@ -19,3 +19,9 @@ returns-clause-first_rises g c =
 pub returns-clause-second_rises : goal.returns-clause-second_rises
 returns-clause-second_rises g c =
     subst (λ t. AllRiseAt g.S.Disk.Disk.told (g.S.Shelf.told.disk c.args.shelf.now) c.args.two t (g.S.Shelf.told.disk_faults c.args.shelf.now) (g.S.Shelf.told.disk_faults c.put_six_back.new.shelf)) c.close.ensures.second c.put_six_back.ensures.second_rises
+
+pub returns-clause-first_back : goal.returns-clause-first_back
+returns-clause-first_back g c = λ told. subst (λ t. AreBackAt g.S.Disk.Disk.told (g.S.Shelf.told.disk c.put_six_back.new.shelf) c.args.one t) c.close.ensures.first (c.put_six_back.ensures.first told)
+
+pub returns-clause-second_back : goal.returns-clause-second_back
+returns-clause-second_back g c = λ told. subst (λ t. AreBackAt g.S.Disk.Disk.told (g.S.Shelf.told.disk c.put_six_back.new.shelf) c.args.two t) c.close.ensures.second (c.put_six_back.ensures.second told)

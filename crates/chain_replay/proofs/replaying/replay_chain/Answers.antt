@@ -15,7 +15,7 @@ use Rattle.chain_replay.proofs.Mapped.{mapped}
 use Rattle.chain_replay.proofs.Returning.{keeps_so, outlives_so}
 use Rattle.chain_replay.proofs.Taking.{are_out, others_more}
 use Rattle.chain_replay.proofs.Whole.{no_rows, no_pumps, no_memory, both_begin, not_words, read_rose, stopped_same}
-use Rattle.chain_replay.proofs.Failed.{rose_back, not_device}
+use Rattle.chain_replay.proofs.Failed.{fails_at, rose_back, not_device}
 use Rattle.chain_replay.proofs.replaying.replay_chain.Goals as goal
 
 pub returns-in-Err-clause-ends : goal.returns-in-Err-clause-ends
@@ -64,9 +64,11 @@ returns-clause-ends g c = λ told tells.
     let j = c.in-Ok-open.ensures.joins told tells in
     let read = both_begin j.openings all (g.I.Source.left c.read_rows.new.script) c.read_rows.new.lines one two c.in-Ok.ensures.follows j.linked (c.in-Ok.ensures.rows j.openings) c.read_rows.ensures.number in
     let others = others_more before (g.S.Shelf.told.disk c.open.new.shelf) after one.id two.id c.open.ensures.others c.leave.ensures.others in
-    mapped (lent g.S.Disk.Disk.told c.run-ended.new.chain j.openings one two) (shelved before after (FailsAt g.S.Shelf.told g.S.Disk.Disk.told c.args.shelf.now c.leave.new.shelf)) (λ h. absurd h)
-    (keeps_so g.S.Disk.Disk.told c.run-ended.new.chain before after j.openings one two j.first_found j.second_found (c.leave.ensures.left told tells) others)
-    (outlives_so g.S.Disk.Disk.told c.run-ended.new.chain before after j.openings one two j.first_found j.second_found (c.leave.ensures.left told tells) others) (λ row other h. absurd h) (λ row other fault h. absurd h)
+    mapped (lent g.S.Disk.Disk.told c.in-Ok-open.chain c.run-ended.new.chain j.openings one two) (shelved before after (FailsAt g.S.Shelf.told g.S.Disk.Disk.told c.args.shelf.now c.leave.new.shelf)) (λ h. absurd h)
+    (keeps_so g.S.Disk.Disk.told c.in-Ok-open.chain c.run-ended.new.chain before after j.openings one two j.first_found j.second_found (c.leave.ensures.left told tells) others)
+    (outlives_so g.S.Disk.Disk.told c.in-Ok-open.chain c.run-ended.new.chain before after j.openings one two j.first_found j.second_found (c.leave.ensures.left told tells) others) (λ row other h. absurd h) (λ row other fault h. absurd h)
+    (fails_at g.S.Shelf.told g.S.Disk.Disk.told c.args.shelf.now c.open.new.shelf c.leave.new.shelf one.id two.id c.in-Ok-open.chain c.run-ended.new.chain c.in-Ok-open.ensures.first_out c.in-Ok-open.ensures.second_out c.open.ensures.later
+    c.leave.ensures.first_rises c.leave.ensures.second_rises c.leave.ensures.first_back c.leave.ensures.second_back)
     all (g.I.Source.left c.run-ended.new.script) (g.O.Sink.written c.args.out.now) (g.O.Sink.written c.run-ended.new.out) (g.I.Source.faults c.args.script.now) (g.I.Source.faults c.read_rows.new.script) (g.I.Source.faults c.run-ended.new.script)
     c.read_rows.ensures.later c.run-ended.result (c.run-ended.ensures.ends tells j.openings all one two (chain_of j.openings one two) refl j.stands (refl, refl) read)
 

@@ -48,9 +48,9 @@ returns-in-Refused-clause-ends g c = λ tells o all one two s is stands are h.
     let line = line_with c.next_head.new.body c.in-Line.line in
     let t = c.turns.invariant.0 tells o all one two s is stands are h in
     let m = c.in-Refused.ensures.does tells t.0 t.3 in
-    refuses_by g.D.Disk.told c.turn.new.chain o all (g.I.Source.left c.next_head.new.script) (g.O.Sink.written c.args.out.now) (g.I.Source.faults c.args.script.now) (g.I.Source.faults c.next_head.new.script) one two c.args.first is
+    refuses_by g.D.Disk.told c.args.chain.now c.turn.new.chain o all (g.I.Source.left c.next_head.new.script) (g.O.Sink.written c.args.out.now) (g.I.Source.faults c.args.script.now) (g.I.Source.faults c.next_head.new.script) one two c.args.first is
     t.0 t.1 c.turns.lines c.next_head.new.self (g.I.Source.left c.turns.script) t.2 line n (c.in-Line.ensures.few (λ e. cc) (λ e. cc))
-    (g.O.Sink.written c.turns.out) (g.O.Sink.written c.turn.new.out) (g.O.Sink.written c.refuse.new.out) t.5 t.4
+    (g.O.Sink.written c.turns.out) (g.O.Sink.written c.turn.new.out) (g.O.Sink.written c.refuse.new.out) t.5 t.4 c.turns.chain c.turns.invariant.5
     m.0 c.number.result c.refuse.result _ _ m.1.0 m.1.1 m.1.2 m.2 c.number.ensures c.refuse.ensures
 
 pub returns-in-Stopped-clause-ends : goal.returns-in-Stopped-clause-ends
@@ -59,10 +59,10 @@ returns-in-Stopped-clause-ends g c = λ tells o all one two s is stands are h.
     let line = line_with c.next_head.new.body c.in-Line.line in
     let t = c.turns.invariant.0 tells o all one two s is stands are h in
     let m = c.in-Stopped.ensures.does tells t.0 t.3 in
-    stops_by g.D.Disk.told c.turn.new.chain o all (g.I.Source.left c.next_head.new.script) (g.O.Sink.written c.args.out.now) (g.I.Source.faults c.args.script.now) (g.I.Source.faults c.next_head.new.script) one two c.args.first is
+    stops_by g.D.Disk.told c.args.chain.now c.turn.new.chain o all (g.I.Source.left c.next_head.new.script) (g.O.Sink.written c.args.out.now) (g.I.Source.faults c.args.script.now) (g.I.Source.faults c.next_head.new.script) one two c.args.first is
     t.0 t.1 c.turns.lines c.next_head.new.self (g.I.Source.left c.turns.script) t.2 line n (c.in-Line.ensures.few (λ e. cc) (λ e. cc))
-    (g.O.Sink.written c.turns.out) (g.O.Sink.written c.turn.new.out) (g.O.Sink.written c.stop.new.out) t.5 t.4
-    m.1.0 m.0 c.in-Stopped.fault c.stop.result _ _ m.1.1 m.1.2 m.2 c.stop.ensures
+    (g.O.Sink.written c.turns.out) (g.O.Sink.written c.turn.new.out) (g.O.Sink.written c.stop.new.out) t.5 t.4 c.turns.chain c.turns.invariant.5
+    m.1.0 m.0 c.in-Stopped.fault c.stop.result _ _ m.1.1 m.1.2 m.1.3 m.2 c.stop.ensures
 
 pub returns-in-Unwritten-clause-ends : goal.returns-in-Unwritten-clause-ends
 returns-in-Unwritten-clause-ends g c = λ tells o all one two s is stands are h.
@@ -70,9 +70,9 @@ returns-in-Unwritten-clause-ends g c = λ tells o all one two s is stands are h.
     let line = line_with c.next_head.new.body c.in-Line.line in
     let t = c.turns.invariant.0 tells o all one two s is stands are h in
     let m = c.in-Unwritten.ensures.does tells t.0 t.3 in
-    unwritten_by g.D.Disk.told c.turn.new.chain o all (g.I.Source.left c.next_head.new.script) (g.O.Sink.written c.args.out.now) (g.I.Source.faults c.args.script.now) (g.I.Source.faults c.next_head.new.script) one two c.args.first is
+    unwritten_by g.D.Disk.told c.args.chain.now c.turn.new.chain o all (g.I.Source.left c.next_head.new.script) (g.O.Sink.written c.args.out.now) (g.I.Source.faults c.args.script.now) (g.I.Source.faults c.next_head.new.script) one two c.args.first is
     t.0 t.1 c.turns.lines c.next_head.new.self (g.I.Source.left c.turns.script) t.2 line n (c.in-Line.ensures.few (λ e. cc) (λ e. cc))
-    (g.O.Sink.written c.turns.out) (g.O.Sink.written c.turn.new.out) (g.O.Sink.written c.turn.new.out) t.5 t.4
+    (g.O.Sink.written c.turns.out) (g.O.Sink.written c.turn.new.out) (g.O.Sink.written c.turn.new.out) t.5 t.4 c.turns.chain c.turns.invariant.5
     m.0 m.1 m.2 m.3
 
 pub returns-in-Bad-clause-ends : goal.returns-in-Bad-clause-ends
@@ -81,7 +81,7 @@ returns-in-Bad-clause-ends g c = λ tells o all one two s is stands are h.
     let t = c.turns.invariant.0 tells o all one two s is stands are h in
     let was = g.I.Source.faults c.args.script.now in
     let now = g.I.Source.faults c.next_head.new.script in
-    halts g.D.Disk.told c.turns.chain o all (g.I.Source.left c.next_head.new.script) (g.O.Sink.written c.args.out.now) was now one two c.args.first is
+    halts g.D.Disk.told c.args.chain.now c.turns.chain o all (g.I.Source.left c.next_head.new.script) (g.O.Sink.written c.args.out.now) was now one two c.args.first is
     t.0 t.1 (to_come c.turns.lines (g.I.Source.left c.turns.script)) c.turns.lines.number t.2
     (g.O.Sink.written c.turns.out) (g.O.Sink.written c.refuse-in-Bad.new.out) t.5 c.refuse-in-Bad.result _ _ _ (or_fails g.D.Disk.told c.turns.chain t.0 t.3) t.4
     (halted_bad o all c.turns.lines c.next_head.new.self _ _ (BothPumps one two t.0) t.1 t.2 n c.number-in-Bad.result was now c.number-in-Bad.ensures) c.refuse-in-Bad.ensures
@@ -93,7 +93,7 @@ returns-in-Failed-clause-ends g c = λ tells o all one two s is stands are h.
     let was = g.I.Source.faults c.args.script.now in
     let now = g.I.Source.faults c.next_head.new.script in
     let rest = to_come c.next_head.new.self (g.I.Source.left c.next_head.new.script) in
-    halts g.D.Disk.told c.turns.chain o all (g.I.Source.left c.next_head.new.script) (g.O.Sink.written c.args.out.now) was now one two c.args.first is
+    halts g.D.Disk.told c.args.chain.now c.turns.chain o all (g.I.Source.left c.next_head.new.script) (g.O.Sink.written c.args.out.now) was now one two c.args.first is
     t.0 t.1 rest c.turns.lines.number (t.2.0, so_far_kept o all _ rest t.2.0 (BothPumps one two t.0) t.1 t.2.1 n.0, t.2.2)
     (g.O.Sink.written c.turns.out) (g.O.Sink.written c.stop-in-Failed.new.out) t.5 c.stop-in-Failed.result _ _ _ (or_fails g.D.Disk.told c.turns.chain t.0 t.3) t.4
     (omega (arith, c.in-Failed.ensures.failed refl, c.turns.invariant.3), within_failed c.turns.lines c.next_head.new.self _ _ n) c.stop-in-Failed.ensures
@@ -102,7 +102,7 @@ pub returns-in-End-clause-ends : goal.returns-in-End-clause-ends
 returns-in-End-clause-ends g c = λ tells o all one two s is stands are h.
     let n = c.in-End.ensures.next in
     let t = c.turns.invariant.0 tells o all one two s is stands are h in
-    ends g.D.Disk.told c.turns.chain o all (g.I.Source.left c.next_head.new.script) (g.O.Sink.written c.args.out.now) (g.I.Source.faults c.args.script.now) (g.I.Source.faults c.next_head.new.script) one two c.args.first is
+    ends g.D.Disk.told c.args.chain.now c.turns.chain o all (g.I.Source.left c.next_head.new.script) (g.O.Sink.written c.args.out.now) (g.I.Source.faults c.args.script.now) (g.I.Source.faults c.next_head.new.script) one two c.args.first is
     t.0 t.1 (to_come c.turns.lines (g.I.Source.left c.turns.script)) c.turns.lines.number t.2
     (g.O.Sink.written c.turns.out) (g.O.Sink.written c.finish.new.out) t.5 c.finish.result _ _ (or_fails g.D.Disk.told c.turns.chain t.0 t.3) t.4 n.1 (c.finish.ensures.closes t.0 t.3)
 

@@ -3,7 +3,9 @@ use Rattle.disk_model.specs.Shelf.{OnShelf}
 use Rattle.disk_model.specs.declared.name.Role.TheVariants as roles
 use Rattle.script_replay.proofs.Shelving.{read_in}
 use Rattle.commands.specs.Unwrapping.{UnwrapsOn}
-use Rattle.commands.proofs.LentDisks.{alike, rises_back}
+use Rattle.commands.proofs.Failing.{recv_came_back, recv_untaken_names}
+use Rattle.commands.proofs.LentDisks.{alike}
+use Rattle.commands.proofs.Unwrapped.{stopped_end}
 use Rattle.commands.proofs.unwrap.unwrap_row.Goals as goal
 
 pub returns-clause-unwraps : goal.returns-clause-unwraps
@@ -21,4 +23,11 @@ returns-clause-alike g c = λ told tells.
 
 pub returns-clause-device : goal.returns-clause-device
 returns-clause-device g c = λ role is.
-    rises_back (g.S.Shelf.told.disk c.take_disk.new.shelf) c.args.row.now.id roles.Recv _ _ _ _ _ c.in-Ok.ensures.out (c.unwrap_on-unwrapped.ensures.device role is) c.take_disk.ensures.later c.put_disk_back.ensures.rises
+    let u = c.unwrap_on-unwrapped in
+    recv_came_back g.S.Shelf.told g.S.Disk.Disk.told c.args.shelf.now c.take_disk.new.shelf c.put_disk_back.new.shelf c.args.row.now.id c.in-Ok.disk u.result.disk c.in-Ok.ensures.out (u.ensures.device role is)
+    c.take_disk.ensures.later c.put_disk_back.ensures.rises c.put_disk_back.ensures.back role (u.ensures.role role is)
+
+pub returns-in-Err-clause-device : goal.returns-in-Err-clause-device
+returns-in-Err-clause-device g c = λ role is.
+    let e = c.in-Err.ensures in
+    recv_untaken_names g.S.Shelf.told g.S.Disk.Disk.told c.args.shelf.now c.take_disk.new.shelf c.args.row.now.id c.in-Err.not_taken.role c.in-Err.not_taken.fault c.untaken.result e.role c.untaken.ensures.memory c.untaken.ensures.failed e.none e.cause role (stopped_end _ _ is)

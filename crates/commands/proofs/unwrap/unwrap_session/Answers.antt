@@ -1,11 +1,46 @@
-use Rattle.std.proofs.Common.{ℕ, List, subst}
-use Rattle.commands.specs.Tables.{HasRow}
-use Rattle.commands.proofs.Unwrapped.{unwraps_row}
+use Rattle.std.proofs.Common.{ℕ, List, Err, inl, refl, ap, subst}
+use Rattle.std.proofs.KnownBytes.{Appends-nil}
+use Rattle.commands.specs.LentDisks.{RecvFailsAt}
+use Rattle.commands.specs.Tables.{HasRow, IsRowOf, IsTableEnd}
+use Rattle.commands.specs.declared.command_end.CommandEnd.{CommandEnd}
+use Rattle.script_replay.specs.Shelves.{Places, reading_in}
+use Rattle.commands.proofs.CommandEnds.{names_failed}
+use Rattle.commands.proofs.Failing.{recv_fails_later}
+use Rattle.commands.proofs.TableRows.{stops_at_table}
+use Rattle.commands.proofs.Unwrapped.{names_failed_disk, stopped_end, unwraps_row}
 use Rattle.commands.proofs.unwrap.unwrap_session.Goals as goal
+
+pub returns-in-Ok-clause-device : goal.returns-in-Ok-clause-device
+returns-in-Ok-clause-device g c = λ role is.
+    let r = c.in-Ok.ensures in
+    subst (λ (n : ℕ). RecvFailsAt g.S.Shelf.told g.S.Disk.Disk.told c.args.shelf.now c.unwrap_row.new.shelf n role) r.id
+    (recv_fails_later g.S.Shelf.told g.S.Disk.Disk.told c.args.shelf.now c.row_in_file.new.shelf c.unwrap_row.new.shelf c.in-Ok.row.id role r.disks r.disk_faults (c.unwrap_row.ensures.device role is))
 
 pub returns-in-Ok-clause-unwraps : goal.returns-in-Ok-clause-unwraps
 returns-in-Ok-clause-unwraps g c = λ told tells.
     let row = c.in-Ok.row in
     let r = c.in-Ok.ensures in
-    unwraps_row (g.S.Shelf.told.file c.args.shelf.now c.args.table.now) (g.S.Shelf.told.disk c.args.shelf.now) (g.S.Shelf.told.disk c.row_in_file.new.shelf) (g.S.Shelf.told.disk c.unwrap_row.new.shelf) c.args.session row _ _ c.unwrap_row.result
-    (subst (λ (n : List ℕ). HasRow (g.S.Shelf.told.file c.args.shelf.now n) c.args.session row) c.as_str.ensures.value (r.row told)) r.disks (c.unwrap_row.ensures.alike told tells) (c.unwrap_row.ensures.unwraps told tells)
+    let fails = RecvFailsAt g.S.Shelf.told g.S.Disk.Disk.told c.args.shelf.now c.unwrap_row.new.shelf in
+    unwraps_row (g.S.Shelf.told.file c.args.shelf.now c.args.table.now) (g.S.Shelf.told.disk c.args.shelf.now) (g.S.Shelf.told.disk c.row_in_file.new.shelf) (g.S.Shelf.told.disk c.unwrap_row.new.shelf) fails c.args.session row _ _ c.unwrap_row.result
+    (subst (λ (n : List ℕ). HasRow (g.S.Shelf.told.file c.args.shelf.now n) c.args.session row) c.as_str.ensures.value (r.row told)) r.disks (c.unwrap_row.ensures.alike told tells)
+    (names_failed_disk fails c.args.session c.unwrap_row.result (λ role is.
+    subst (λ (n : ℕ). fails n role) r.id
+    (recv_fails_later g.S.Shelf.told g.S.Disk.Disk.told c.args.shelf.now c.row_in_file.new.shelf c.unwrap_row.new.shelf row.id role r.disks r.disk_faults (c.unwrap_row.ensures.device role is))))
+    (c.unwrap_row.ensures.unwraps told tells)
+
+pub returns-in-Err-clause-device : goal.returns-in-Err-clause-device
+returns-in-Err-clause-device g c = λ role is. absurd (subst (λ (end : CommandEnd). IsTableEnd end) (stopped_end _ _ is) c.in-Err.ensures.only)
+
+pub returns-in-Err-clause-unwraps : goal.returns-in-Err-clause-unwraps
+returns-in-Err-clause-unwraps g c = λ told tells.
+    let e = c.in-Err.ensures in
+    let end = c.in-Err.end in (
+      (λ name. ap (λ (places : Places). reading_in (places name)) e.disks),
+      names_failed (RecvFailsAt g.S.Shelf.told g.S.Disk.Disk.told c.args.shelf.now c.row_in_file.new.shelf) c.args.session end (λ role is. absurd (subst (λ (x : CommandEnd). IsTableEnd x) is e.only)),
+      inl (
+        end,
+        stops_at_table (g.S.Shelf.told.file c.args.shelf.now c.args.table.now) c.args.session end e.only (subst (λ (n : List ℕ). IsRowOf (g.S.Shelf.told.file c.args.shelf.now n) c.args.session (Err end)) c.as_str.ensures.value (e.row told)),
+        refl,
+        Appends-nil _,
+      ),
+    )

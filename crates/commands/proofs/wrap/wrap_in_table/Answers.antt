@@ -1,7 +1,10 @@
 use Rattle.std.proofs.Common.{ℕ, List, Err, inl, refl, subst}
-use Rattle.commands.specs.Tables.{HasRow, IsRowOf}
+use Rattle.commands.specs.Tables.{HasRow, IsRowOf, IsTableEnd}
+use Rattle.commands.specs.declared.command_end.CommandEnd.{CommandEnd}
+use Rattle.script_replay.specs.Failing.{FailsAt}
+use Rattle.commands.proofs.Failing.{fails_later}
 use Rattle.commands.proofs.TableRows.{stops_at_file}
-use Rattle.commands.proofs.Wrapped.{wraps_row}
+use Rattle.commands.proofs.Wrapped.{stopped_end, wraps_row}
 use Rattle.commands.proofs.wrap.wrap_in_table.Goals as goal
 
 pub returns-in-Ok-clause-wraps : goal.returns-in-Ok-clause-wraps
@@ -21,3 +24,12 @@ returns-in-Err-clause-wraps g c = λ told tells.
       refl,
       e.disks,
     )
+
+pub returns-in-Ok-clause-device : goal.returns-in-Ok-clause-device
+returns-in-Ok-clause-device g c = λ role is.
+    let r = c.in-Ok.ensures in
+    subst (λ (n : ℕ). FailsAt g.S.Shelf.told g.S.Disk.Disk.told c.args.shelf.now c.wrap_row.new.shelf n role) r.id
+    (fails_later g.S.Shelf.told g.S.Disk.Disk.told c.args.shelf.now c.row_in_file.new.shelf c.wrap_row.new.shelf c.in-Ok.row.id role r.disks r.disk_faults (c.wrap_row.ensures.device role is))
+
+pub returns-in-Err-clause-device : goal.returns-in-Err-clause-device
+returns-in-Err-clause-device g c = λ role is. absurd (subst (λ (end : CommandEnd). IsTableEnd end) (stopped_end _ _ is) c.in-Err.ensures.only)

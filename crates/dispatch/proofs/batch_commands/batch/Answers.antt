@@ -3,6 +3,7 @@ use Rattle.std.proofs.Common.{rules, inl, inr, refl, sym, ◌∙◌}
 use Rattle.command_line.specs.declared.command.Command.TheVariants as commands
 use Rattle.dispatch.proofs.Asked.{asks, asks_none, live_alone, live_one, is_not, other, not_wrap, not_script, never_wrap, never_script, formats_asked, formats_nothing, shows_asked, shows_nothing, migrates_asked, migrates_nothing, wraps_asked, wraps_nothing, unwraps_asked, unwraps_nothing, exercise_asked}
 use Rattle.dispatch.proofs.Caused.{end_causes, unwrap_causes, send_causes, chain_causes, told_not, exercise_not, audit_not, compare_not, end_in, unwrap_in, send_in, replay_in, told_in, exercise_in, audit_in, compare_in}
+use Rattle.commands.specs.LentDisks.{RecvFailsAt}
 use Rattle.script_replay.specs.Failing.{FailsAt}
 use Rattle.script_replay.proofs.ByStatus.{ends_at_once}
 use Rattle.dispatch.proofs.batch_commands.batch.Goals as goal
@@ -109,7 +110,7 @@ returns-in-Unwrap g c =
     let call = commands.Unwrap c.in-Unwrap.table c.in-Unwrap.session in
     let a = asks _ _ c.in-Ok.asked call c.as_slice.ensures.value c.in-Ok.ensures.found c.in-Ok.ensures.command c.in-Unwrap.is in
     let e = c.unwrap_session.ensures in
-    let k = unwrap_causes _ _ _ c.unwrap_session.result c.status-in-Unwrap.result c.status-in-Unwrap.ensures e.device e.read e.unwritten in
+    let k = unwrap_causes _ _ _ c.unwrap_session.result c.status-in-Unwrap.result c.status-in-Unwrap.ensures (λ role is. (e.device role is).1) e.read e.unwritten in
     record {
       untouched = λ none. elim (none call refl a.are) [ ];
       words = λ none. elim (none call refl a.are) [ ];
@@ -129,7 +130,7 @@ returns-in-Unwrap g c =
       show = λ table session words. elim (other _ call a (commands.Show table session) refl words) [ ];
       migrate = λ table session new_table new_session words. elim (other _ call a (commands.Migrate table session new_table new_session) refl words) [ ];
       wrap = λ table session words. elim (other _ call a (commands.Wrap table session) refl words) [ ];
-      unwrap = λ table session words told tells. unwraps_asked (g.S.Shelf.told.file c.args.shelf.now) (g.S.Shelf.told.disk c.args.shelf.now) (g.S.Shelf.told.disk c.unwrap_session.new.shelf) (g.O.Sink.written c.args.out.now) (g.O.Sink.written c.unwrap_session.new.out)
+      unwrap = λ table session words told tells. unwraps_asked (g.S.Shelf.told.file c.args.shelf.now) (g.S.Shelf.told.disk c.args.shelf.now) (g.S.Shelf.told.disk c.unwrap_session.new.shelf) (RecvFailsAt g.S.Shelf.told g.S.Disk.Disk.told c.args.shelf.now c.unwrap_session.new.shelf) (g.O.Sink.written c.args.out.now) (g.O.Sink.written c.unwrap_session.new.out)
           _ table _ session c.unwrap_session.result c.status-in-Unwrap.result (e.unwraps told tells) c.status-in-Unwrap.ensures call refl (a.only (commands.Unwrap table session) words);
       exercise = λ seed count words. elim (other _ call a (commands.Exercise seed count) refl words) [ ];
       audit = λ words. elim (other _ call a commands.Audit refl (tt, words)) [ ];
@@ -142,7 +143,7 @@ returns-in-Wrap g c =
     let call = commands.Wrap c.in-Wrap.table c.in-Wrap.session in
     let a = asks _ _ c.in-Ok.asked call c.as_slice.ensures.value c.in-Ok.ensures.found c.in-Ok.ensures.command c.in-Wrap.is in
     let e = c.wrap_session.ensures in
-    let k = send_causes _ _ _ c.wrap_session.result c.status-in-Wrap.result c.status-in-Wrap.ensures e.device e.read e.unwritten in
+    let k = send_causes _ _ _ c.wrap_session.result c.status-in-Wrap.result c.status-in-Wrap.ensures (λ role is. (e.device role is).0) e.read e.unwritten in
     record {
       untouched = λ none. elim (none call refl a.are) [ ];
       words = λ none. elim (none call refl a.are) [ ];
@@ -161,7 +162,7 @@ returns-in-Wrap g c =
       format = λ table session words. elim (other _ call a (commands.Format table session) refl words) [ ];
       show = λ table session words. elim (other _ call a (commands.Show table session) refl words) [ ];
       migrate = λ table session new_table new_session words. elim (other _ call a (commands.Migrate table session new_table new_session) refl words) [ ];
-      wrap = λ table session words told tells. wraps_asked (g.S.Shelf.told.faults c.args.shelf.now) (g.S.Shelf.told.faults c.wrap_session.new.shelf) (g.S.Shelf.told.file c.args.shelf.now) (g.S.Shelf.told.disk c.args.shelf.now) (g.S.Shelf.told.disk c.wrap_session.new.shelf) (g.I.Source.left c.args.script.now)
+      wrap = λ table session words told tells. wraps_asked (g.S.Shelf.told.faults c.args.shelf.now) (g.S.Shelf.told.faults c.wrap_session.new.shelf) (g.S.Shelf.told.file c.args.shelf.now) (g.S.Shelf.told.disk c.args.shelf.now) (g.S.Shelf.told.disk c.wrap_session.new.shelf) (FailsAt g.S.Shelf.told g.S.Disk.Disk.told c.args.shelf.now c.wrap_session.new.shelf) (g.I.Source.left c.args.script.now)
           (g.I.Source.left c.wrap_session.new.file) (g.O.Sink.written c.args.out.now) (g.O.Sink.written c.wrap_session.new.out) _ table _ session c.wrap_session.result c.status-in-Wrap.result (e.ends told tells) c.status-in-Wrap.ensures call refl (a.only (commands.Wrap table session) words);
       unwrap = λ table session words. elim (other _ call a (commands.Unwrap table session) refl words) [ ];
       exercise = λ seed count words. elim (other _ call a (commands.Exercise seed count) refl words) [ ];
@@ -406,8 +407,8 @@ returns-in-Err-Memory g c = record {
   format = λ table session words told tells. formats_nothing _ _ (FailsAt g.S.Shelf.told g.S.Disk.Disk.told c.args.shelf.now c.args.shelf.now) _ _ session (search rules);
   show = λ table session words told tells. shows_nothing _ _ (FailsAt g.S.Shelf.told g.S.Disk.Disk.told c.args.shelf.now c.args.shelf.now) _ _ session (search rules);
   migrate = λ table session new_table new_session words told tells. migrates_nothing _ _ _ (FailsAt g.S.Shelf.told g.S.Disk.Disk.told c.args.shelf.now c.args.shelf.now) _ _ session new_session (search rules);
-  wrap = λ table session words told tells. wraps_nothing (g.S.Shelf.told.faults c.args.shelf.now) (g.S.Shelf.told.file c.args.shelf.now table) (g.S.Shelf.told.disk c.args.shelf.now) _ _ _ session (search rules);
-  unwrap = λ table session words told tells. unwraps_nothing (g.S.Shelf.told.file c.args.shelf.now table) (g.S.Shelf.told.disk c.args.shelf.now) _ _ session (search rules);
+  wrap = λ table session words told tells. wraps_nothing (g.S.Shelf.told.faults c.args.shelf.now) (g.S.Shelf.told.file c.args.shelf.now table) (g.S.Shelf.told.disk c.args.shelf.now) (FailsAt g.S.Shelf.told g.S.Disk.Disk.told c.args.shelf.now c.args.shelf.now) _ _ _ session (search rules);
+  unwrap = λ table session words told tells. unwraps_nothing (g.S.Shelf.told.file c.args.shelf.now table) (g.S.Shelf.told.disk c.args.shelf.now) (RecvFailsAt g.S.Shelf.told g.S.Disk.Disk.told c.args.shelf.now c.args.shelf.now) _ _ session (search rules);
   exercise = search rules;
   audit = search rules;
   compare = search rules;

@@ -2,6 +2,8 @@
 use Rattle.std.proofs.Common.{ℕ, List, inl, inr, refl, subst, rules, arith}
 use Rattle.command_line.specs.declared.command.Command.TheVariants as commands
 use Rattle.disk_model.specs.Shelf.{IsOut}
+use Rattle.commands.specs.LentDisks.{RecvFailsAt}
+use Rattle.script_replay.specs.Failing.{FailsAt}
 use Rattle.script_replay.specs.Shelves.{Places}
 use Rattle.serving.specs.Doors.{doors, links}
 use Rattle.dispatch.specs.LiveEnds.{EndsLive}
@@ -65,7 +67,7 @@ returns-in-Serve g c =
       device = e.device;
       link = e.link;
       race = λ seed count times words. elim (other _ call a (commands.Race seed count (record { items = times })) refl words) [ ];
-      serve = λ table session looks words told tells. serve_asked (λ (t : List ℕ) (n l : ℕ). EndsLive (ServeComes (doors g.P.Door.Door.port g.P.Door.Door.did g.P.Door.Door.gives (links g.P.Link.Link.gives g.P.Link.Link.sent g.P.Link.Link.faults)) g.S.Disk.Disk.told l (side g.P.Ports.did g.P.Ports.faults g.K.Clock.reads c.args.low.now c.serve_table.new.low) (side g.P.Ports.did g.P.Ports.faults g.K.Clock.reads c.args.high.now c.serve_table.new.high) (g.O.Sink.written c.args.out.now) (g.O.Sink.faults c.args.out.now) (g.S.Shelf.told.disk c.args.shelf.now) (g.S.Shelf.told.disk c.serve_table.new.shelf) (g.Q.Source.left c.args.keys.now) (g.Q.Source.left c.serve_table.new.keys) (g.Q.Source.faults c.args.keys.now) (g.Q.Source.faults c.serve_table.new.keys) (g.S.Shelf.told.file c.args.shelf.now t) (g.S.Shelf.told.faults c.args.shelf.now) (g.S.Shelf.told.faults c.serve_table.new.shelf) n) (g.O.Sink.written c.serve_table.new.out) (g.O.Sink.faults c.serve_table.new.out) n c.serve_table.result)
+      serve = λ table session looks words told tells. serve_asked (λ (t : List ℕ) (n l : ℕ). EndsLive (ServeComes (doors g.P.Door.Door.port g.P.Door.Door.did g.P.Door.Door.gives (links g.P.Link.Link.gives g.P.Link.Link.sent g.P.Link.Link.faults)) g.S.Disk.Disk.told l (side g.P.Ports.did g.P.Ports.faults g.K.Clock.reads c.args.low.now c.serve_table.new.low) (side g.P.Ports.did g.P.Ports.faults g.K.Clock.reads c.args.high.now c.serve_table.new.high) (g.O.Sink.written c.args.out.now) (g.O.Sink.faults c.args.out.now) (g.S.Shelf.told.disk c.args.shelf.now) (g.S.Shelf.told.disk c.serve_table.new.shelf) (g.Q.Source.left c.args.keys.now) (g.Q.Source.left c.serve_table.new.keys) (g.Q.Source.faults c.args.keys.now) (g.Q.Source.faults c.serve_table.new.keys) (g.S.Shelf.told.file c.args.shelf.now t) (g.S.Shelf.told.faults c.args.shelf.now) (g.S.Shelf.told.faults c.serve_table.new.shelf) (FailsAt g.S.Shelf.told g.S.Disk.Disk.told c.args.shelf.now c.serve_table.new.shelf) n) (g.O.Sink.written c.serve_table.new.out) (g.O.Sink.faults c.serve_table.new.out) n c.serve_table.result)
           _ table _ session _ looks (e.ends told tells) call refl (a.only (commands.Serve table session looks) words);
       receive = λ table session looks words. elim (other _ call a (commands.Receive table session looks) refl words) [ ];
       send = λ table session looks words. elim (other _ call a (commands.Send table session looks) refl words) [ ];
@@ -93,7 +95,7 @@ returns-in-Receive g c =
       link = λ nine. inr (e.link nine);
       race = λ seed count times words. elim (other _ call a (commands.Race seed count (record { items = times })) refl words) [ ];
       serve = λ table session looks words. elim (other _ call a (commands.Serve table session looks) refl words) [ ];
-      receive = λ table session looks words told tells. receive_asked (λ (t : List ℕ) (n l : ℕ). EndsLive (ReceiveComes (links g.P.Link.Link.gives g.P.Link.Link.sent g.P.Link.Link.faults) l (g.P.Ports.did c.args.high.now.ports) (g.P.Ports.did c.receive_session.new.high.ports) (g.O.Sink.written c.args.out.now) (g.O.Sink.faults c.args.out.now) (g.S.Shelf.told.file c.args.shelf.now t) (g.S.Shelf.told.disk c.args.shelf.now) (g.S.Shelf.told.disk c.receive_session.new.shelf) n) (g.O.Sink.written c.receive_session.new.out) (g.O.Sink.faults c.receive_session.new.out) n c.receive_session.result)
+      receive = λ table session looks words told tells. receive_asked (λ (t : List ℕ) (n l : ℕ). EndsLive (ReceiveComes (links g.P.Link.Link.gives g.P.Link.Link.sent g.P.Link.Link.faults) l (g.P.Ports.did c.args.high.now.ports) (g.P.Ports.did c.receive_session.new.high.ports) (g.O.Sink.written c.args.out.now) (g.O.Sink.faults c.args.out.now) (g.S.Shelf.told.file c.args.shelf.now t) (g.S.Shelf.told.disk c.args.shelf.now) (g.S.Shelf.told.disk c.receive_session.new.shelf) (RecvFailsAt g.S.Shelf.told g.S.Disk.Disk.told c.args.shelf.now c.receive_session.new.shelf) n) (g.O.Sink.written c.receive_session.new.out) (g.O.Sink.faults c.receive_session.new.out) n c.receive_session.result)
           _ table _ session _ looks (e.ends told tells) call refl (a.only (commands.Receive table session looks) words);
       send = λ table session looks words. elim (other _ call a (commands.Send table session looks) refl words) [ ];
     }
@@ -171,7 +173,7 @@ returns-in-Err-Memory g c = record {
     end = ends.Memory;
     mid = g.O.Sink.written c.args.out.now;
     mid_faults = g.O.Sink.faults c.args.out.now;
-    comes = inl ((tt, λ e. absurd (cc)), record { low_unused = is_unused _ _ _; high_unused = is_unused _ _ _; unwritten = refl; unchanged = λ name. refl });
+    comes = (tt, inl ((tt, λ e. absurd (cc)), record { low_unused = is_unused _ _ _; high_unused = is_unused _ _ _; unwritten = refl; unchanged = λ name. refl }));
     last = inl (refl, search rules);
     later = omega arith;
   };
@@ -179,7 +181,7 @@ returns-in-Err-Memory g c = record {
     end = ends.Memory;
     mid = g.O.Sink.written c.args.out.now;
     mid_faults = g.O.Sink.faults c.args.out.now;
-    comes = inl (tt, refl, Grows-nil _, refl);
+    comes = (tt, inl (tt, refl, Grows-nil _, refl));
     last = inl (refl, search rules);
     later = omega arith;
   };

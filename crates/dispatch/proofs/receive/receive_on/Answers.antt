@@ -3,7 +3,7 @@ use Rattle.disk_model.specs.declared.name.Role.TheVariants as roles
 use Rattle.pump_link.proofs.Grown.{Grows-nil}
 use Rattle.commands.specs.LentDisks.{StopsAtDisk}
 use Rattle.dispatch.proofs.Received.{found_again}
-use Rattle.commands.proofs.LentDisks.{stops_at_disk}
+use Rattle.commands.proofs.LentDisks.{refused_role, stops_at_disk}
 use Rattle.dispatch.proofs.Sent.{refused_device, refused_never}
 use Rattle.dispatch.proofs.receive.receive_on.Goals as goal
 
@@ -33,3 +33,6 @@ returns-in-Err-clause-link g c = λ is. absurd ((refused_never roles.Recv c.in-E
 
 pub returns-in-Err-clause-unwritten : goal.returns-in-Err-clause-unwritten
 returns-in-Err-clause-unwritten g c = λ is. absurd ((refused_never roles.Recv c.in-Err.why).3 (sym c.end_at.ensures ∙ is))
+
+pub returns-in-Err-clause-role : goal.returns-in-Err-clause-role
+returns-in-Err-clause-role g c = λ role is. refused_role roles.Recv role c.in-Err.why (sym c.end_at.ensures ∙ is)

@@ -7,7 +7,7 @@ use Rattle.stable_buffer.specs.Log.{RecvStands}
 use Rattle.peers.specs.Receiving.{StandsForFront, attempted, messages, place_of}
 use Rattle.two_worlds.proofs.Opening.Opened.{value_by}
 use Rattle.dispatch.proofs.Received.{sized}
-use Rattle.dispatch.proofs.Sent.{receives_device, receives_unwritten, receiver_never}
+use Rattle.dispatch.proofs.Sent.{receives_device, receives_unwritten, receiver_never, receiver_role}
 use Rattle.dispatch.proofs.receive.receive_over.Goals as goal
 
 pub returns-in-Err-clause-receives : goal.returns-in-Err-clause-receives
@@ -61,3 +61,6 @@ returns-clause-memory g c = λ is. absurd ((receiver_never c.receive_with-end.re
 
 pub returns-clause-link : goal.returns-clause-link
 returns-clause-link g c = λ is. absurd ((receiver_never c.receive_with-end.result).2 (sym c.end_of_receiver.ensures ∙ is))
+
+pub returns-clause-role : goal.returns-clause-role
+returns-clause-role g c = λ role is. receiver_role c.receive_with-end.result role (sym c.end_of_receiver.ensures ∙ is)

@@ -4,7 +4,8 @@ use Rattle.pump_link.proofs.Grown.{Grows-nil}
 use Rattle.script_replay.specs.Shelves.{Places, reading_at}
 use Rattle.script_replay.proofs.Shelving.{is_out}
 use Rattle.commands.specs.declared.command_end.CommandEnd.TheVariants.{Failed}
-use Rattle.commands.proofs.LentDisks.{others_so, all_back, untaken_stops, rises_back}
+use Rattle.commands.proofs.Failing.{recv_came_back, recv_untaken_names}
+use Rattle.commands.proofs.LentDisks.{others_so, all_back, untaken_stops}
 use Rattle.dispatch.proofs.Received.{receives_at}
 use Rattle.dispatch.proofs.receive.receive_row.Goals as goal
 
@@ -29,4 +30,11 @@ returns-clause-back g c = λ told.
 
 pub returns-clause-device : goal.returns-clause-device
 returns-clause-device g c = λ role is.
-    rises_back (g.S.Shelf.told.disk c.take_disk.new.shelf) c.args.row.now.id roles.Recv _ _ _ _ _ c.in-Ok.ensures.out (c.receive_on-received.ensures.device role is) c.take_disk.ensures.later c.put_disk_back.ensures.rises
+    let r = c.receive_on-received in
+    recv_came_back g.S.Shelf.told g.S.Disk.Disk.told c.args.shelf.now c.take_disk.new.shelf c.put_disk_back.new.shelf c.args.row.now.id c.in-Ok.disk r.result.disk c.in-Ok.ensures.out (r.ensures.device role is)
+    c.take_disk.ensures.later c.put_disk_back.ensures.rises c.put_disk_back.ensures.back role (r.ensures.role role is)
+
+pub returns-in-Err-clause-device : goal.returns-in-Err-clause-device
+returns-in-Err-clause-device g c = λ role is.
+    let e = c.in-Err.ensures in
+    recv_untaken_names g.S.Shelf.told g.S.Disk.Disk.told c.args.shelf.now c.take_disk.new.shelf c.args.row.now.id c.in-Err.not_taken.role c.in-Err.not_taken.fault c.untaken.result e.role c.untaken.ensures.memory c.untaken.ensures.failed e.none e.cause role is

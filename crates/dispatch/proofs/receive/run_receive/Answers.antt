@@ -1,10 +1,14 @@
-use Rattle.std.proofs.Common.{List, ℕ, Err, inl, refl, sym, subst, rules, arith}
+use Rattle.std.proofs.Common.{◌≡◌, List, ℕ, Err, inl, refl, sym, subst, rules, arith}
 use Rattle.pump_link.proofs.Grown.{Grows-nil}
 use Rattle.commands.specs.Tables.{HasRow, IsRowOf, IsTableEnd}
 use Rattle.commands.specs.declared.command_end.CommandEnd.{CommandEnd}
-use Rattle.pump_frame.specs.Counts.{Rose}
+use Rattle.disk_model.specs.declared.name.Role.{Role}
+use Rattle.commands.specs.LentDisks.{RecvFailsAt}
+use Rattle.commands.specs.declared.command_end.CommandEnd.TheVariants.{Failed}
 use Rattle.script_replay.specs.Shelves.{AllAreBack, Places}
 use Rattle.dispatch.proofs.Received.{receives_row}
+use Rattle.commands.proofs.CommandEnds.{names_failed}
+use Rattle.commands.proofs.Failing.{recv_fails_later}
 use Rattle.commands.proofs.TableRows.{stops_at_table}
 use Rattle.dispatch.proofs.receive.run_receive.Goals as goal
 
@@ -13,15 +17,19 @@ returns-in-Ok g c =
     let row = c.in-Ok.row in
     let r = c.in-Ok.ensures in
     let e = c.receive_row.ensures in
+    let fails = RecvFailsAt g.S.Shelf.told g.S.Disk.Disk.told c.args.shelf.now c.receive_row.new.shelf in
+    let named : (role : Role) → c.receive_row.result ≡ Failed role → fails c.args.session role = λ role failed.
+    subst (λ (n : ℕ). fails n role) r.id
+    (recv_fails_later g.S.Shelf.told g.S.Disk.Disk.told c.args.shelf.now c.row_in_file.new.shelf c.receive_row.new.shelf row.id role r.disks r.disk_faults (e.device role failed)) in
     record {
       comes = λ told tells.
-          receives_row _ _ _ _ _ _ (g.S.Shelf.told.file c.args.shelf.now c.args.table.now) (g.S.Shelf.told.disk c.args.shelf.now) (g.S.Shelf.told.disk c.row_in_file.new.shelf) (g.S.Shelf.told.disk c.receive_row.new.shelf) c.args.session row c.receive_row.result _ _
+          receives_row _ _ _ _ _ _ (g.S.Shelf.told.file c.args.shelf.now c.args.table.now) (g.S.Shelf.told.disk c.args.shelf.now) (g.S.Shelf.told.disk c.row_in_file.new.shelf) (g.S.Shelf.told.disk c.receive_row.new.shelf) fails c.args.session row c.receive_row.result _ _ (names_failed fails c.args.session c.receive_row.result named)
           (subst (λ (n : List ℕ). HasRow (g.S.Shelf.told.file c.args.shelf.now n) c.args.session row) c.as_str.ensures.value (r.row told)) r.disks c.receive_row.ensures.others (c.receive_row.ensures.receives told tells);
       read = λ unread. absurd (e.readable unread);
       back = λ told. subst (λ (places : Places). AllAreBack places (g.S.Shelf.told.disk c.receive_row.new.shelf)) r.disks (e.back told);
       memory = search rules;
       unwritten = e.unwritten;
-      device = λ role failed. subst (λ (n : ℕ). Rose n (g.S.Shelf.told.disk_faults c.receive_row.new.shelf)) r.disk_faults (e.device role failed);
+      device = named;
       link = e.link;
       later = e.later;
     }
@@ -30,8 +38,10 @@ pub returns-in-Err : goal.returns-in-Err
 returns-in-Err g c =
     let r = c.in-Err.ensures in
     record {
-      comes = λ told tells.
-          inl (stops_at_table (g.S.Shelf.told.file c.args.shelf.now c.args.table.now) c.args.session c.in-Err.end c.in-Err.ensures.only (subst (λ (n : List ℕ). IsRowOf (g.S.Shelf.told.file c.args.shelf.now n) c.args.session (Err c.in-Err.end)) c.as_str.ensures.value (c.in-Err.ensures.row told)), c.in-Err.ensures.disks, Grows-nil _, refl);
+      comes = λ told tells. (
+        names_failed (RecvFailsAt g.S.Shelf.told g.S.Disk.Disk.told c.args.shelf.now c.row_in_file.new.shelf) c.args.session c.in-Err.end (λ role failed. absurd (subst (λ (end : CommandEnd). IsTableEnd end) failed r.only)),
+        inl (stops_at_table (g.S.Shelf.told.file c.args.shelf.now c.args.table.now) c.args.session c.in-Err.end c.in-Err.ensures.only (subst (λ (n : List ℕ). IsRowOf (g.S.Shelf.told.file c.args.shelf.now n) c.args.session (Err c.in-Err.end)) c.as_str.ensures.value (c.in-Err.ensures.row told)), c.in-Err.ensures.disks, Grows-nil _, refl),
+      );
       read = search rules;
       back = λ told. subst (λ (places : Places). AllAreBack (g.S.Shelf.told.disk c.args.shelf.now) places) (sym r.disks) (λ name out. out);
       memory = search rules;

@@ -8,8 +8,9 @@ use Rattle.script_replay.specs.Shelves.{reading_in}
 use Rattle.script_replay.proofs.Shelving.{read_in, is_out}
 use Rattle.serving.specs.Sessions.{RoseAt}
 use Rattle.serving.specs.declared.doors.WorkersEnd.{WorkersEnd}
+use Rattle.commands.proofs.Failing.{untaken_names}
 use Rattle.commands.proofs.LentDisks.{both_others, both_back}
-use Rattle.dispatch.proofs.Served.{session_device, session_memory, session_readable, session_link, session_unwritten, either_way, if_ended, pair_stops, pair_rises, wanting_rose}
+use Rattle.dispatch.proofs.Served.{session_device, session_memory, session_readable, session_link, session_unwritten, either_way, if_ended, pair_stops, pair_rises, pair_came_back, wanting_rose}
 use Rattle.dispatch.proofs.serve.serve_row.Goals as goal
 
 pub returns-in-Err-clause-serves : goal.returns-in-Err-clause-serves
@@ -93,8 +94,15 @@ returns-clause-device g c = λ role is.
     let id = c.args.row.now.id in
     let rose : RoseAt d role c.in-Ok.disks.low c.in-Ok.disks.high s.result.low s.result.high =
     session_device d c.in-Ok.disks.low c.in-Ok.disks.high s.result.low s.result.high c.args.row.now s.result.end role s.ensures.opens
-    (if_ended s.result.end _ _ s.ensures.low (λ (ends : WorkersEnd) low. low.device)) (if_ended s.result.end _ _ s.ensures.high (λ (ends : WorkersEnd) high. high.device)) (sym c.end_of_session.ensures ∙ is) in
-    pair_rises d (g.S.Shelf.told.disk c.take_pair.new.shelf) id c.in-Ok.disks.low c.in-Ok.disks.high s.result.low s.result.high _ _ _ t.low_out t.high_out c.take_pair.ensures.later b.low_rises b.high_rises role rose
+    (if_ended s.result.end _ _ s.ensures.low (λ (ends : WorkersEnd) low. low.device)) (if_ended s.result.end _ _ s.ensures.high (λ (ends : WorkersEnd) high. high.device)) (sym c.end_of_session.ensures ∙ is) in (
+      pair_rises d (g.S.Shelf.told.disk c.take_pair.new.shelf) id c.in-Ok.disks.low c.in-Ok.disks.high s.result.low s.result.high _ _ _ t.low_out t.high_out c.take_pair.ensures.later b.low_rises b.high_rises role rose,
+      inr (pair_came_back g.S.Shelf.told d c.take_pair.new.shelf c.put_pair_back.new.shelf id c.in-Ok.disks.low c.in-Ok.disks.high s.result.low s.result.high t.low_out t.high_out b.low_back b.high_back role rose),
+    )
+
+pub returns-in-Err-clause-device : goal.returns-in-Err-clause-device
+returns-in-Err-clause-device g c = λ role is.
+    let e = c.in-Err.ensures in
+    untaken_names g.S.Shelf.told g.S.Disk.Disk.told c.args.shelf.now c.take_pair.new.shelf c.args.row.now.id c.in-Err.not_taken.role c.in-Err.not_taken.fault c.untaken.result c.untaken.ensures.memory c.untaken.ensures.failed e.cause e.asked role is
 
 pub returns-clause-link : goal.returns-clause-link
 returns-clause-link g c = λ is. wanting_rose _ _ _ _ (c.serve_session-served.ensures.wanting (session_link c.serve_session-served.result.end (sym c.end_of_session.ensures ∙ is)))

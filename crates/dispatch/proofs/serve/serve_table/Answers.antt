@@ -27,4 +27,4 @@ pub returns-clause-words : goal.returns-clause-words
 returns-clause-words g c = never_words _ _ _ _ c.finish.ensures.cause
 
 pub returns-clause-device : goal.returns-clause-device
-returns-clause-device g c = λ is. let d = device_ended _ _ _ _ c.finish.ensures.cause is in c.run_serve-end.ensures.device d.0 d.1
+returns-clause-device g c = λ is. let d = device_ended _ _ _ _ c.finish.ensures.cause is in (c.run_serve-end.ensures.device d.0 d.1).0

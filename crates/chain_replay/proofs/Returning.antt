@@ -1,11 +1,11 @@
 -- The disks of a chain are back on the shelf.
-use Rattle.std.proofs.Common.{◌≡◌, inl, inr, ℕ, true, List, Some, ◌&&◌, sym, ap, subst, arith}
+use Rattle.std.proofs.Common.{◌≡◌, inl, inr, ℕ, ◌≤◌, true, List, length, Some, ◌&&◌, sym, ap, subst}
 use Rattle.std.specs.List.{AllByRecursion}
 use Rattle.disk_model.specs.Disk.{Meaning}
 use Rattle.disk_model.specs.declared.disk.Disk.{Ghosts}
 use Rattle.disk_model.specs.declared.name.Role.TheVariants as roles
 use Rattle.pump_chain.specs.Chained.{Chained}
-use Rattle.pump_chain.specs.Standing.{IsLinked, TellFronts, IsAllTold, ChainStandsOrFails}
+use Rattle.pump_chain.specs.Standing.{IsLinked, TellFronts, ChainStandsOrFails}
 use Rattle.pump_chain.specs.declared.chain.Chain.{Chain}
 use Rattle.pump_chain.proofs.Crashing.{pump_lawful}
 use Rattle.pump_chain.proofs.Fronts.{front_then, kept_front, kept_most}
@@ -26,6 +26,7 @@ use Rattle.world_laws.specs.Disks.{StandForLeft}
 use Rattle.world_laws.specs.Laws.{KeepMessages, AckOutlives}
 use Rattle.two_worlds.specs.Pumps.{StandsOrFails}
 use Rattle.two_worlds.specs.declared.pump.Pump.{Pump}
+use Rattle.two_worlds.proofs.Disks.Crashes.{low_later, prefix_length}
 use Rattle.world_laws.proofs.Runs.Outliving.{keeps_messages, run_keeps}
 use Rattle.chain_replay.specs.Opened.{LeavesOthers, KeepsChain, AcknowledgedOutliveBoth}
 use Rattle.chain_replay.specs.Private.{AreBackAt, AreLeftAt, AreOf, IsSoundTimed, lent}
@@ -36,26 +37,37 @@ pub left_so : {D : Type 0} (m : Meaning D) (after : Places) (id : ℕ) (t : Trio
 left_so m after id t row s back is h =
     rw (ap reading_in (back roles.Low), ap reading_in (back roles.High), ap reading_in (back roles.Recv)) (subst (λ (r : SessionRow). StandForLeft r s.past.world (m.reading t.low) (m.reading t.high) (m.reading t.recv)) is h)
 
--- .. and of both tells four lists of which each is a prefix of the next, and all of each
+-- .. and of both tells four lists of which each is a prefix of the next, with every removed message at its receiver
 tell_fronts : (one two : SessionRow) (w v : World) (low high recv next_low next_high next_recv : List ℕ) → StandForLeft one w low high recv → StandForLeft two v next_low next_high next_recv → IsLinked w v
-    → (f : TellFronts one two low high recv next_low next_high next_recv) × IsAllTold f.tell × IsAllTold f.next_tell
+    → (f : TellFronts one two low high recv next_low next_high next_recv)
+    × (f.tell.removed ≤ length f.received) × (f.next_tell.removed ≤ length f.next_received)
 tell_fronts one two w v low high recv next_low next_high next_recv (a, b, c, s) (x, y, z, t) linked =
-    let below = s.lawful.bounded.within.below in
-    let next_below = t.lawful.bounded.within.below in (
+    let front = s.lawful.delivered.prefix in
+    let next_front = t.lawful.delivered.prefix in (
       record {
         accepted = with_kept a w.storing w.accepted;
         received = with_kept (c && w.taking) w.packet w.received;
         next_accepted = with_kept x v.storing v.accepted;
         next_received = with_kept (z && v.taking) v.packet v.received;
-        tell = record { from = _; few = omega (arith, below); low_is = s.low_is; removed = _; high_is = s.high_is; recv_is = s.recv_is };
-        next_tell = record { from = _; few = omega (arith, next_below); low_is = t.low_is; removed = _; high_is = t.high_is; recv_is = t.recv_is };
-        next_taken = t.lawful.delivered.prefix;
+        tell = record {
+          recv_is = s.recv_is;
+          low_is = low_later one _ _ (with_kept a w.storing w.accepted) low s.lawful.delivered.removed (prefix_length _ front.0 _ front.1) s.low_is;
+          removed = _;
+          high_is = s.high_is;
+        };
+        next_tell = record {
+          recv_is = t.recv_is;
+          low_is = low_later two _ _ (with_kept x v.storing v.accepted) next_low t.lawful.delivered.removed (prefix_length _ next_front.0 _ next_front.1) t.low_is;
+          removed = _;
+          high_is = t.high_is;
+        };
+        next_taken = next_front;
         sent_on = front_then _ (with_kept true v.storing v.accepted) _ (kept_most x v.storing v.accepted)
             (front_then _ w.received _ linked (kept_front (c && w.taking) w.packet w.received));
-        taken = s.lawful.delivered.prefix;
+        taken = front;
       },
-      record { removed = s.lawful.delivered.removed; rest = s.lawful.delivered.removed },
-      record { removed = t.lawful.delivered.removed; rest = t.lawful.delivered.removed },
+      s.lawful.delivered.removed,
+      t.lawful.delivered.removed,
     )
 
 -- what a pump has come to is lawful

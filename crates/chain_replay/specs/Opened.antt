@@ -1,12 +1,12 @@
 -- What is read of the disks of a shelf when two pumps are joined over them, and afterwards.
-use Rattle.std.specs.Prelude.{◌≡◌, ◌⊎◌, ℕ, false, List, Some}
+use Rattle.std.specs.Prelude.{◌≡◌, ◌⊎◌, ℕ, ◌≤◌, false, List, length, Some}
 use Rattle.disk_model.specs.declared.name.DiskName.{DiskName}
 use Rattle.disk_model.specs.declared.name.Role.{Role}
 use Rattle.disk_model.specs.declared.name.Role.TheVariants as roles
 use Rattle.pump_chain.specs.Chained.{Chained}
 use Rattle.pump_chain.specs.Comparing.{IsUnlinked}
 use Rattle.pump_chain.specs.Opening.{is_by_device}
-use Rattle.pump_chain.specs.Standing.{TellFronts, IsAllTold}
+use Rattle.pump_chain.specs.Standing.{TellFronts}
 use Rattle.pump_chain.specs.declared.not_chained.ChainWhy.{ChainWhy}
 use Rattle.pump_chain.specs.declared.not_chained.ChainWhy.TheVariants as reasons
 use Rattle.pump_frame.specs.declared.row.SessionRow.{SessionRow}
@@ -72,11 +72,12 @@ NotChained before after fails one two fault = LeavesOthers before after one.id t
 
 -- ---- they are a chain ----
 
--- four lists that what is read of the disks tells, of which each is a prefix of the next; and it tells all of each
+-- four lists that what is read of the disks tells, of which each is a prefix of the next; and each receiver has every message
+-- that is removed
 abbrev pub ReadFronts : Places → SessionRow → SessionRow → Type 0
 ReadFronts after one two = (f : TellFronts one two (reading_at after one.id roles.Low) (reading_at after one.id roles.High) (reading_at after one.id roles.Recv)
     (reading_at after two.id roles.Low) (reading_at after two.id roles.High) (reading_at after two.id roles.Recv))
-    × IsAllTold f.tell × IsAllTold f.next_tell
+    × (f.tell.removed ≤ length f.received) × (f.next_tell.removed ≤ length f.next_received)
 
 -- The six disks were found to hold what the chain began on, and hold what it has come to, in which each call that is
 -- unfinished was kept or lost. In each session every message that was accepted or acknowledged outlives, and the receiver

@@ -26,11 +26,11 @@ use Rattle.two_worlds.specs.declared.pump.Pump.{Pump}
 use Rattle.two_worlds.specs.declared.pump.state.PumpState.{PumpState}
 use Rattle.two_worlds.specs.declared.pump.state.PumpState.TheVariants.{Open, Shut}
 use Rattle.world_laws.specs.Disks.{LowFits, HighFits, RecvFits, DisksFit}
-use Rattle.two_worlds.specs.Doing.{LeavesFit, LeavesOn}
+use Rattle.two_worlds.specs.Doing.{LeavesFit, LeavesOn, LowFitsAfter}
 use Rattle.two_worlds.specs.Pumps.{StandsFor, FailsAt, disks_of, row_of, disk_at, Applies}
 use Rattle.two_worlds.specs.Reads.{ReadsAlone}
 use Rattle.two_worlds.specs.States.{disks_in, StandsIn}
-use Rattle.two_worlds.proofs.Disks.Crashes.{LowAt, low_case, high_case, recv_case, and_right, kept_longer, prefix_length}
+use Rattle.two_worlds.proofs.Disks.Crashes.{LowAt, low_case, low_later, high_case, recv_case, and_right, kept_longer, prefix_length}
 use Rattle.two_worlds.proofs.Disks.Leaving.{leaves_by_step, leaves_since}
 use Rattle.pump_chain.specs.Standing.{IsLinked, Tell, LeaveFronts}
 use Rattle.pump_chain.proofs.Fronts.{front_same, front_then, kept_front, kept_most}
@@ -117,8 +117,8 @@ AreSame m s t = (role : Role) → DiskMoves m Same (disk_at role s) (disk_at rol
 
 module _ {D : Type 0} {g : _} (m : Meaning D) (s t : Pump D g) (p : Past) (stands : StandsFor m s p) (same : AreSame m s t) where
   -- a disk that is read, or is as it was, leaves what it left
-  unmoved : (P : List ℕ → Type 0) (old new : D) → Each m P old → DiskMoves m Same old new → LeavesOn m old new (λ x. P x ⊎ P x)
-  unmoved P old new each same = leaves_by_step m P (λ x. P x ⊎ P x) Same old new each (λ x y fit is. inl (subst P (sym is) fit)) same
+  unmoved : (P Q : List ℕ → Type 0) (old new : D) → Each m P old → DiskMoves m Same old new → LeavesOn m old new (λ x. P x ⊎ Q x)
+  unmoved P Q old new each same = leaves_by_step m P (λ x. P x ⊎ Q x) Same old new each (λ x y fit is. inl (subst P (sym is) fit)) same
 
   still_last : m.tells_images → (c : List ℕ) → m.images (disk_at roles.Recv t) c → length p.world.received ≤ (value_of c).0
   still_last told c image =
@@ -129,9 +129,9 @@ module _ {D : Type 0} {g : _} (m : Meaning D) (s t : Pump D g) (p : Past) (stand
   left_still = record {
     before = fits m s p stands;
     leaves = record {
-      low = unmoved (LowFits (row_of s) p.world) _ _ (fits m s p stands).low_disk (same roles.Low);
-      high = unmoved (HighFits (row_of s) p.world) _ _ (fits m s p stands).high_disk (same roles.High);
-      recv = unmoved (RecvFits (row_of s) p.world) _ _ (fits m s p stands).recv_disk (same roles.Recv);
+      low = unmoved (LowFits (row_of s) p.world) (LowFitsAfter (row_of s) p p) _ _ (fits m s p stands).low_disk (same roles.Low);
+      high = unmoved (HighFits (row_of s) p.world) (HighFits (row_of s) p.world) _ _ (fits m s p stands).high_disk (same roles.High);
+      recv = unmoved (RecvFits (row_of s) p.world) (RecvFits (row_of s) p.world) _ _ (fits m s p stands).recv_disk (same roles.Recv);
     };
     last = still_last;
     lawful = pump_lawful m s p stands;
@@ -200,7 +200,7 @@ left_by_line m s t line printed p stands (Some (Disk role why)) a = absurd a
 
 -- what crashes since s left of each disk
 module _ {D : Type 0} {g : _} (m : Meaning D) (s t : Pump D g) (p q : Past) (l : Left m s t p q) where
-  low_since : Leaves m (disk_at roles.Low s) (disk_at roles.Low t) (λ x. LowFits (row_of s) p.world x ⊎ LowFits (row_of s) q.world x)
+  low_since : Leaves m (disk_at roles.Low s) (disk_at roles.Low t) (λ x. LowFits (row_of s) p.world x ⊎ LowFitsAfter (row_of s) p q x)
   low_since = leaves_since m _ (disk_at roles.Low s) (disk_at roles.Low t) (λ told x image. inl (l.before.low_disk.images told x image)) l.leaves.low
 
   high_since : Leaves m (disk_at roles.High s) (disk_at roles.High t) (λ x. HighFits (row_of s) p.world x ⊎ HighFits (row_of s) q.world x)
@@ -215,20 +215,24 @@ module _ (Fits : World → List ℕ → Type 0) (p q : World) (disk : List ℕ) 
   which (inl f) = (p, inl refl, f)
   which (inr f) = (q, inr refl, f)
 
+-- .. of the low disk, one in which as many messages are removed as at p
+which_low : (row : SessionRow) (p q : Past) (disk : List ℕ) → LowFits row p.world disk ⊎ LowFitsAfter row p q disk → (w : World) × ((w ≡ p.world) ⊎ (w ≡ q.world)) × LowFits row w disk × (w.removed ≡ p.world.removed)
+which_low row p q disk (inl f) = (p.world, inl refl, f, refl)
+which_low row p q disk (inr (still, f)) = (q.world, inr refl, f, still)
+
 -- the lists that the disks of a pump tell, by the worlds that they fit
 module _ (row : SessionRow) (w x v : World) (low high recv : List ℕ) (a : (kept : Bool) × LowAt row w.removed (with_kept kept w.storing w.accepted) low)
     (b : (kept : Bool) × HighStands row (if kept && x.removing then x.removed + 1 else x.removed) high) (r : (kept : Bool) × RecvStands row (with_kept (kept && v.taking) v.packet v.received) recv) where
   abbrev Lists : Type 0
   Lists = Tell row (with_kept a.0 w.storing w.accepted) (with_kept (r.0 && v.taking) v.packet v.received) low high recv
 
-  tell_lists : IsLawful w → Lists
-  tell_lists lawful = record {
-    from = w.removed;
-    few = (let below = lawful.bounded.within.below in let more = kept_longer a.0 w.storing w.accepted in omega (arith, below, more));
-    low_is = a.1;
+  -- what is removed by the low disk was received
+  tell_lists : w.removed ≤ length (with_kept (r.0 && v.taking) v.packet v.received) → IsPrefixOf (with_kept (r.0 && v.taking) v.packet v.received) (with_kept a.0 w.storing w.accepted) → Lists
+  tell_lists few front = record {
+    recv_is = r.1;
+    low_is = low_later row w.removed (length (with_kept (r.0 && v.taking) v.packet v.received)) (with_kept a.0 w.storing w.accepted) low few (prefix_length _ front.0 _ front.1) a.1;
     removed = if b.0 && x.removing then x.removed + 1 else x.removed;
     high_is = b.1;
-    recv_is = r.1;
   }
 
 -- what is removed, or is being removed, was received
@@ -239,7 +243,7 @@ removed_by x kept lawful = by (kept && x.removing) (and_right kept x.removing)
     by true is = (let less = lawful.delivered.due (lawful.bounded.removal.cause (is refl)) in omega (arith, less))
     by false is = lawful.delivered.removed
 
--- all is told where the receiver's list is no shorter than that of the world after the line
+-- what is removed was received where the receiver's list is no shorter than that of the world after the line
 module _ (p q : World) (moves : Above p q ⊎ Below p q) (lawful_p : IsLawful p) (lawful_q : IsLawful q) where
   grows : length p.received ≤ length q.received
   grows = (let front = received_grows p q lawful_p lawful_q moves in prefix_length p.received front.0 q.received front.1)
@@ -247,6 +251,14 @@ module _ (p q : World) (moves : Above p q ⊎ Below p q) (lawful_p : IsLawful p)
   within : (w : World) (n : ℕ) → (w ≡ p) ⊎ (w ≡ q) → (told : ℕ) → length q.received ≤ told → n ≤ length w.received → n ≤ told
   within w n (inl e) told last few = (let long = grows in let same = ap (λ (x : World). length x.received) e in omega (arith, long, same, last, few))
   within w n (inr e) told last few = (let same = ap (λ (x : World). length x.received) e in omega (arith, same, last, few))
+
+  -- what was removed before the line was received, whatever is told
+  removed_before : (w v : World) (kept : Bool) → w.removed ≡ p.removed → (v ≡ p) ⊎ (v ≡ q) → w.removed ≤ length (told_received p q lawful_p lawful_q moves v kept)
+  removed_before w v kept still is_v =
+      let few = lawful_p.delivered.removed in
+      let front = received_from p q lawful_p lawful_q moves v kept is_v in
+      let long = prefix_length p.received front.0 _ front.1 in
+      omega (arith, still, few, long)
 
 module _ {D : Type 0} {g : _} (m : Meaning D) (s t s' t' : Pump D g) (p q p' q' : Past) (l : Left m s t p q) (l' : Left m s' t' p' q')
     (lawful : IsLawful p.world) (lawful' : IsLawful p'.world) (before : IsLinked p.world p'.world) (after : IsLinked p.world q'.world) where
@@ -260,10 +272,10 @@ module _ {D : Type 0} {g : _} (m : Meaning D) (s t s' t' : Pump D g) (p q p' q' 
   pub fronts : LeaveFronts m s t s' t'
   unfolding tell_lists
   fronts told low high recv low' high' recv' since_low since_high since_recv since_low' since_high' since_recv' =
-      let (w, is_w, fit_w) = which (LowFits (row_of s)) p.world q.world low (low_since m s t p q l told low since_low) in
+      let (w, is_w, fit_w, still) = which_low (row_of s) p q low (low_since m s t p q l told low since_low) in
       let (x, is_x, fit_x) = which (HighFits (row_of s)) p.world q.world high (high_since m s t p q l told high since_high) in
       let (v, is_v, fit_v) = which (RecvFits (row_of s)) p.world q.world recv (recv_since m s t p q l told recv since_recv) in
-      let (w', is_w', fit_w') = which (LowFits (row_of s')) p'.world q'.world low' (low_since m s' t' p' q' l' told low' since_low') in
+      let (w', is_w', fit_w', still') = which_low (row_of s') p' q' low' (low_since m s' t' p' q' l' told low' since_low') in
       let (x', is_x', fit_x') = which (HighFits (row_of s')) p'.world q'.world high' (high_since m s' t' p' q' l' told high' since_high') in
       let (v', is_v', fit_v') = which (RecvFits (row_of s')) p'.world q'.world recv' (recv_since m s' t' p' q' l' told recv' since_recv') in
       let lawful_w = lawful_of p.world q.world w lawful l.lawful is_w in
@@ -275,32 +287,30 @@ module _ {D : Type 0} {g : _} (m : Meaning D) (s t s' t' : Pump D g) (p q p' q' 
       let r = recv_case (row_of s) v recv fit_v in
       let a' = low_case (row_of s') w' low' lawful_w'.bounded.within.below fit_w' in
       let b' = high_case (row_of s') x' high' fit_x' in
-      let r' = recv_case (row_of s') v' recv' fit_v' in (
+      let r' = recv_case (row_of s') v' recv' fit_v' in
+      let taken : IsPrefixOf (with_kept (r.0 && v.taking) v.packet v.received) (with_kept a.0 w.storing w.accepted) =
+      front_then _ p.world.accepted _ (received_to p.world q.world lawful l.lawful l.moves v r.0 is_v) (accepted_from p.world q.world lawful l.lawful l.moves w a.0 is_w) in
+      let taken' : IsPrefixOf (with_kept (r'.0 && v'.taking) v'.packet v'.received) (with_kept a'.0 w'.storing w'.accepted) =
+      front_then _ p'.world.accepted _ (received_to p'.world q'.world lawful' l'.lawful l'.moves v' r'.0 is_v') (accepted_from p'.world q'.world lawful' l'.lawful l'.moves w' a'.0 is_w') in (
         record {
           accepted = with_kept a.0 w.storing w.accepted;
           received = with_kept (r.0 && v.taking) v.packet v.received;
           next_accepted = with_kept a'.0 w'.storing w'.accepted;
           next_received = with_kept (r'.0 && v'.taking) v'.packet v'.received;
-          tell = tell_lists (row_of s) w x v low high recv a b r lawful_w;
-          next_tell = tell_lists (row_of s') w' x' v' low' high' recv' a' b' r' lawful_w';
-          taken = front_then _ p.world.accepted _ (received_to p.world q.world lawful l.lawful l.moves v r.0 is_v) (accepted_from p.world q.world lawful l.lawful l.moves w a.0 is_w);
-          next_taken = front_then _ p'.world.accepted _ (received_to p'.world q'.world lawful' l'.lawful l'.moves v' r'.0 is_v') (accepted_from p'.world q'.world lawful' l'.lawful l'.moves w' a'.0 is_w');
+          tell = tell_lists (row_of s) w x v low high recv a b r (removed_before p.world q.world l.moves lawful l.lawful w v r.0 still is_v) taken;
+          next_tell = tell_lists (row_of s') w' x' v' low' high' recv' a' b' r' (removed_before p'.world q'.world l'.moves lawful' l'.lawful w' v' r'.0 still' is_v') taken';
+          taken = taken;
+          next_taken = taken';
           sent_on = front_then _ p.world.received _ (linked_to w' is_w' a'.0) (received_from p.world q.world lawful l.lawful l.moves v r.0 is_v);
         },
         (λ image.
             let last = l.last told recv image in
             let count = ap (λ (n : ℕ × ℕ). n.0) r.1.value in
             let enough : length q.world.received ≤ length (with_kept (r.0 && v.taking) v.packet v.received) = omega (arith, last, count) in
-            record {
-              removed = within p.world q.world l.moves lawful l.lawful x _ is_x _ enough (removed_by x b.0 lawful_x);
-              rest = within p.world q.world l.moves lawful l.lawful w _ is_w _ enough lawful_w.delivered.removed;
-            }),
+            within p.world q.world l.moves lawful l.lawful x _ is_x _ enough (removed_by x b.0 lawful_x)),
         (λ image.
             let last = l'.last told recv' image in
             let count = ap (λ (n : ℕ × ℕ). n.0) r'.1.value in
             let enough : length q'.world.received ≤ length (with_kept (r'.0 && v'.taking) v'.packet v'.received) = omega (arith, last, count) in
-            record {
-              removed = within p'.world q'.world l'.moves lawful' l'.lawful x' _ is_x' _ enough (removed_by x' b'.0 lawful_x');
-              rest = within p'.world q'.world l'.moves lawful' l'.lawful w' _ is_w' _ enough lawful_w'.delivered.removed;
-            }),
+            within p'.world q'.world l'.moves lawful' l'.lawful x' _ is_x' _ enough (removed_by x' b'.0 lawful_x')),
       )

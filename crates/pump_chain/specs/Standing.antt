@@ -169,24 +169,17 @@ ChainApplies m s t line c printed stop = AppliesBy m s t c (share c line) printe
 
 -- ---- the six disks at every moment ----
 
--- the disks of a pump tell that these messages are accepted, of which the low disk has the last ones, that so many are
--- removed, and that these are received
+-- the disks of a pump tell that these messages are received, that these are accepted, of which the low disk has all behind as
+-- many as are received, and that so many are removed
 pub record Tell (row : SessionRow) (accepted received : List Payload) (low high recv : List ℕ) : Type 0 where
-  pub from : ℕ
-  pub few : from ≤ length accepted
-  pub low_is : LowStands row (length accepted) from (drop from accepted) low
+  pub recv_is : RecvStands row received recv
+  pub low_is : LowStands row (length accepted) (length received) (drop (length received) accepted) low
   pub removed : ℕ
   pub high_is : HighStands row removed high
-  pub recv_is : RecvStands row received recv
-
--- the receiver has every message that is removed, and the low disk every accepted one that the receiver has not: all that is
--- accepted is the receiver's list, and then what stands in the live slots of the low disk
-pub record IsAllTold {row : SessionRow} {accepted received : List Payload} {low high recv : List ℕ} (t : Tell row accepted received low high recv) : Type 0 where
-  pub removed : t.removed ≤ length received
-  pub rest : t.from ≤ length received
 
 -- four lists that the disks of two pumps tell, of which each is a prefix of the next: what the second receiver has, what
--- the second pump has accepted, what the first receiver has, and what the first pump has accepted
+-- the second pump has accepted, what the first receiver has, and what the first pump has accepted. So what a pump has accepted
+-- is its receiver's list, and then the low disk's messages from there on
 pub record TellFronts (first second : SessionRow) (low high recv next_low next_high next_recv : List ℕ) : Type 0 where
   pub accepted : List Payload
   pub received : List Payload
@@ -198,8 +191,8 @@ pub record TellFronts (first second : SessionRow) (low high recv next_low next_h
   pub sent_on : IsPrefixOf next_accepted received
   pub taken : IsPrefixOf received accepted
 
--- whatever crashes at any moment since the two pumps were these left of their disks tells such lists; and beside what a
--- crash leaves of a receiver's disk at the end, those of its session are all told
+-- whatever crashes at any moment since the two pumps were these left of their disks tells such lists; and what a crash leaves
+-- of a receiver's disk at the end has every message that is removed
 abbrev pub LeaveFronts : {D : Type 0} {g : _} → Meaning D → Pump D g → Pump D g → Pump D g → Pump D g → Type 0
 LeaveFronts m first first_now second second_now = m.tells_images → (low high recv next_low next_high next_recv : List ℕ)
     → m.since (pumps.disk_at roles.Low first_now) (m.moment (pumps.disk_at roles.Low first)) low
@@ -209,8 +202,8 @@ LeaveFronts m first first_now second second_now = m.tells_images → (low high r
     → m.since (pumps.disk_at roles.High second_now) (m.moment (pumps.disk_at roles.High second)) next_high
     → m.since (pumps.disk_at roles.Recv second_now) (m.moment (pumps.disk_at roles.Recv second)) next_recv
     → (f : TellFronts (pumps.row_of first) (pumps.row_of second) low high recv next_low next_high next_recv)
-    × (m.images (pumps.disk_at roles.Recv first_now) recv → IsAllTold f.tell)
-    × (m.images (pumps.disk_at roles.Recv second_now) next_recv → IsAllTold f.next_tell)
+    × (m.images (pumps.disk_at roles.Recv first_now) recv → f.tell.removed ≤ length f.received)
+    × (m.images (pumps.disk_at roles.Recv second_now) next_recv → f.next_tell.removed ≤ length f.next_received)
 
 -- .. since the chain was s
 abbrev pub LeavesFronts : {D : Type 0} {g : _} → Meaning D → Chain D g → Chain D g → Type 0

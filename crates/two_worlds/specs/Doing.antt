@@ -3,6 +3,7 @@ use Rattle.std.specs.Prelude.{◌≡◌, ◌⊎◌, ℕ, ◌≤◌, true, List, 
 use Rattle.disk_model.specs.Disk.{Meaning}
 use Rattle.disk_model.specs.declared.name.Role.{Role}
 use Rattle.pump_core.specs.Lawful.{IsLawful}
+use Rattle.pump_frame.specs.declared.row.SessionRow.{SessionRow}
 use Rattle.script_reader.specs.declared.event.Event.{Event}
 use Rattle.script_reader.specs.Past.{Past}
 use Rattle.two_worlds.specs.declared.applied.Stop.{Stop}
@@ -24,9 +25,14 @@ pub record LeavesOn {D : Type 0} (m : Meaning D) (old new : D) (P : List ℕ →
   pub later : m.moment old ≤ m.moment new
   pub each : m.tells_images → (t : ℕ) (c : List ℕ) → t ≤ m.moment old → m.since new t c → m.since old t c ⊎ P c
 
--- whatever a crash at any moment leaves of each disk, it could leave before c, or fits the world at c or the one at d
+-- a low disk fits the world at q, and from p to q no message was removed
+abbrev pub LowFitsAfter : SessionRow → Past → Past → List ℕ → Type 0
+LowFitsAfter row p q disk = (q.world.removed ≡ p.world.removed) × LowFits row q.world disk
+
+-- whatever a crash at any moment leaves of each disk, it could leave before c, or fits the world at c or the one at d; the low
+-- disk fits the one at d only where no message was removed on the way
 pub record LeavesFit {D : Type 0} (m : Meaning D) (c d : BareDisks D) (p q : Past) : Type 0 where
-  pub low : LeavesOn m c.low d.low (λ disk. LowFits c.row p.world disk ⊎ LowFits c.row q.world disk)
+  pub low : LeavesOn m c.low d.low (λ disk. LowFits c.row p.world disk ⊎ LowFitsAfter c.row p q disk)
   pub high : LeavesOn m c.high d.high (λ disk. HighFits c.row p.world disk ⊎ HighFits c.row q.world disk)
   pub recv : LeavesOn m c.recv d.recv (λ disk. RecvFits c.row p.world disk ⊎ RecvFits c.row q.world disk)
 

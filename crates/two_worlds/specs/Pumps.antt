@@ -14,7 +14,7 @@ use Rattle.two_worlds.specs.declared.applied.Stop.TheVariants.{Line, Device, Ful
 use Rattle.two_worlds.specs.declared.pump.Pump.{Pump}
 use Rattle.two_worlds.specs.declared.pump.state.BareDisks.{BareDisks}
 use Rattle.two_worlds.specs.Standing.{bare_disk}
-use Rattle.two_worlds.specs.States.{disks_in, counts_in, is_down_in, kept_moment_in, IsOpenWith, StandsIn}
+use Rattle.two_worlds.specs.States.{disks_in, counts_in, is_down_in, kept_moment_in, IsOpenWith, StandsIn, RefusesAheadIn}
 use Rattle.two_worlds.specs.Doing.{Fails, LeavesFit}
 use Rattle.world_laws.specs.Timelines.{IsTimeline, RunGoesOn}
 use Rattle.two_worlds.specs.Timely as timely
@@ -88,13 +88,9 @@ CanApply s line = IsOpenWith (λ c. timely.CanApply c line) s.state
 abbrev pub CannotApply : {D : Type 0} {g : _} → Pump D g → ScriptLine → Type 0
 CannotApply s line = IsOpenWith (λ c. timely.CannotApply c line) s.state
 
--- the packet of this line is refused, by what the pump keeps
-abbrev pub IsAhead : {D : Type 0} {g : _} → Pump D g → ScriptLine → Type 0
-IsAhead s line = IsOpenWith (λ c. working.IsAheadBy c line) s.state
-
--- .. and then nothing is printed, and no disk is changed
+-- where the packet of this line is refused, by what the pump keeps, nothing is printed, and no disk is changed
 abbrev pub RefusesAhead : {D : Type 0} {g : _} → Pump D g → Pump D g → ScriptLine → List Event → Type 0
-RefusesAhead s t line printed = IsAhead s line → (printed ≡ []) × (disks_of t ≡ disks_of s)
+RefusesAhead s t line printed = RefusesAheadIn s.state t.state line [] printed
 
 -- a message of this length would end past the size of the receiver's disk, whose records end here
 abbrev pub IsTooLong : {D : Type 0} {g : _} → Pump D g → ℕ → ℕ → ℕ → Type 0

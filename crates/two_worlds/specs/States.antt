@@ -1,15 +1,18 @@
 -- A pump that is open, and one that is shut.
-use Rattle.std.specs.Prelude.{ℕ, Bool, true}
+use Rattle.std.specs.Prelude.{◌≡◌, ℕ, Bool, true, List}
 use Rattle.disk_model.specs.Disk.{Meaning}
 use Rattle.high_process.specs.States as high
 use Rattle.high_receiver.specs.Receiving.{recv_count}
 use Rattle.low_process.specs.Looks as low
+use Rattle.script_reader.specs.declared.event.Event.{Event}
+use Rattle.script_reader.specs.declared.line.Line.{Line as ScriptLine}
 use Rattle.script_reader.specs.Past.{Past}
 use Rattle.two_worlds.specs.declared.pump.parts.Parts.{Parts}
 use Rattle.two_worlds.specs.declared.pump.state.BareDisks.{BareDisks}
 use Rattle.two_worlds.specs.declared.pump.state.PumpState.{PumpState}
 use Rattle.two_worlds.specs.declared.pump.state.PumpState.TheVariants.{Open, Shut}
 use Rattle.two_worlds.specs.Standing.{Stands, bare_of, is_down}
+use Rattle.two_worlds.specs.Working.{IsAheadBy}
 
 -- its disks
 abbrev pub disks_in : {D : Type 0} → PumpState D → BareDisks D
@@ -44,3 +47,7 @@ IsOpenWith P (Shut d) = ⊥
 -- it stands for what a session has been through
 abbrev pub StandsIn : {D : Type 0} → Meaning D → PumpState D → Past → Type 0
 StandsIn m s p = IsOpenWith (λ c. Stands m c p) s
+
+-- where the packet of this line is refused nothing is printed after `out`, and no disk is changed
+abbrev pub RefusesAheadIn : {D : Type 0} → PumpState D → PumpState D → ScriptLine → List Event → List Event → Type 0
+RefusesAheadIn s t line out now = IsOpenWith (λ c. IsAheadBy c line) s → (now ≡ out) × (disks_in t ≡ disks_in s)

@@ -31,8 +31,8 @@ use Rattle.script_reader.specs.Highs.{place, overfills, receiver_size, printed_c
 use Rattle.script_reader.specs.Breaks.{IsUntaken}
 use Rattle.two_worlds.specs.declared.pump.parts.Parts.{Parts}
 use Rattle.two_worlds.specs.Private.Carrying.{printed_taken}
-use Rattle.world_laws.specs.Disks.{DisksFit, LowFits, HighFits, RecvFits}
-use Rattle.two_worlds.specs.Doing.{LeavesOn, PartsFail, PartsLeaveFit}
+use Rattle.world_laws.specs.Disks.{DisksFit, HighFits, RecvFits}
+use Rattle.two_worlds.specs.Doing.{LeavesOn, LowFitsAfter, PartsFail, PartsLeaveFit}
 use Rattle.two_worlds.specs.Standing.{kept_of, HoldsWorld, Stands, is_down, disk_at}
 use Rattle.world_laws.specs.Timelines.{IsAtRest}
 use Rattle.two_worlds.proofs.Disks.Images.{low_alone, high_alone, all_alone}
@@ -148,7 +148,7 @@ module _ {D : Type 0} (m : Meaning D) (c : Parts D) (p : Past) (back : ℕ) (pac
       → disk_at roles.Low d ≡ disk_at roles.Low c → disk_at roles.High d ≡ disk_at roles.High c → disk_at roles.Recv d ≡ recv_disk new
       → ((x : List ℕ) → RecvStands c.row (p.world.received ++ packet.payload ∷ []) x → RecvFits c.row q.world x) → PartsLeaveFit m c d p q
   taking_fits d q result s low high recv more = record {
-    low = low_alone m c p stands (LowFits c.row q.world) (disk_at roles.Low d) low;
+    low = low_alone m c p stands (LowFitsAfter c.row p q) (disk_at roles.Low d) low;
     high = high_alone m c p stands (HighFits c.row q.world) (disk_at roles.High d) high;
     recv = subst (λ (e : D). LeavesOn m (recv_disk c.receiver) e (λ x. RecvFits c.row p.world x ⊎ RecvFits c.row q.world x)) (sym recv)
         (leaves_by_step m (RecvFits c.row p.world) (λ x. RecvFits c.row p.world x ⊎ RecvFits c.row q.world x) (MayTake (recv_row c.receiver) packet.payload) (recv_disk c.receiver) (recv_disk new) stands.disks.recv_disk

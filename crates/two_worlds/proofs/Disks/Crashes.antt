@@ -1,7 +1,7 @@
 -- What crashes leave of the disks of a lawful world stands for a lawful world.
-use Rattle.std.proofs.Common.{◌≡◌, inl, inr, ℕ, suc, ◌+◌, ◌≤◌, ◌<◌, Bool, true, false, List, [], ◌∷◌, ◌++◌, length, drop, Option, Some, None, refl, sym, ap, subst, arith, length-append, length-drop}
+use Rattle.std.proofs.Common.{◌≡◌, inl, inr, ℕ, ◌+◌, ◌-◌, ◌≤◌, ◌<◌, Bool, true, false, List, [], ◌∷◌, ◌++◌, length, drop, Option, Some, None, refl, sym, ap, ◌∙◌, subst, arith, length-append, length-drop, get_or-drop}
 use Rattle.std.specs.Prelude.{◌&&◌, if◌then◌else◌, slice_index_or}
-use Rattle.std.proofs.lemmas.List.{drop-drop, drop-append-le}
+use Rattle.std.proofs.lemmas.List.{drop-append-le}
 use Rattle.disk_model.specs.Disk.{Meaning}
 use Rattle.pump_frame.specs.declared.row.SessionRow.{SessionRow}
 use Rattle.pump_frame.specs.declared.payload.Payload.{Payload}
@@ -14,26 +14,28 @@ use Rattle.pump_core.specs.Lawful.{IsLawful}
 use Rattle.pump_core.proofs.Laws.{stays_lawful}
 use Rattle.world_laws.specs.Disks.{LowFits, HighFits, RecvFits, Hold, Opens, CrashesOpen}
 
--- the oldest message may be left out
-without_oldest : (row : SessionRow) (E b : ℕ) (messages : List (List ℕ)) (disk : List ℕ) → 0 < length messages → LowStands row E b messages disk → LowStands row E (b + 1) (drop 1 messages) disk
-without_oldest row E b [] disk some stands = absurd (omega (arith, some))
-without_oldest row E b (m ∷ messages) disk some stands = record {
-  header = stands.header;
-  size = stands.size;
-  value = stands.value;
-  kept = omega (arith, stands.kept);
-  count = omega (arith, stands.count);
-  slots = λ i lt. let e : b + suc i ≡ b + 1 + i = omega arith in subst (λ n. InSlot row n (slice_index_or messages i []) disk) e (stands.slots (suc i) (omega arith));
-}
-
 abbrev pub LowAt : SessionRow → ℕ → List Payload → List ℕ → Type 0
 LowAt row removed accepted disk = LowStands row (length accepted) removed (drop removed accepted) disk
 
+-- the oldest messages may be left out
+pub low_later : (row : SessionRow) (b n : ℕ) (accepted : List Payload) (disk : List ℕ) → b ≤ n → n ≤ length accepted → LowAt row b accepted disk → LowAt row n accepted disk
+low_later row b n accepted disk le most stands = record {
+  header = stands.header;
+  size = stands.size;
+  value = stands.value;
+  kept = omega (arith, stands.kept, le);
+  count = omega (arith, length-drop n accepted, most);
+  slots = λ i lt.
+      let on : b + (n - b + i) ≡ n + i = omega (arith, le) in
+      let less : n - b + i < length (drop b accepted) = omega (arith, lt, le, most, length-drop b accepted, length-drop n accepted) in
+      let same : slice_index_or (drop b accepted) (n - b + i) [] ≡ slice_index_or (drop n accepted) i [] =
+      get_or-drop b accepted (n - b + i) [] ∙ ap (λ (k : ℕ). slice_index_or accepted k []) on ∙ sym (get_or-drop n accepted i []) in
+      subst (λ (t : ℕ × List ℕ). InSlot row t.0 t.1 disk) (λ j. (on j, same j)) (stands.slots (n - b + i) less);
+}
+
 pub low_from : (row : SessionRow) (gone : Bool) (removed : ℕ) (accepted : List Payload) (disk : List ℕ) → (gone ≡ true → removed < length accepted) → LowAt row removed accepted disk → LowAt row (if gone then removed + 1 else removed) accepted disk
 low_from row false removed accepted disk some is = is
-low_from row true removed accepted disk some is =
-    subst (λ l. LowStands row (length accepted) (removed + 1) l disk) (drop-drop 1 removed accepted)
-    (without_oldest row (length accepted) removed (drop removed accepted) disk (omega (arith, some refl, length-drop removed accepted)) is)
+low_from row true removed accepted disk some is = low_later row removed (removed + 1) accepted disk (omega arith) (omega (arith, some refl)) is
 
 pub low_case : (row : SessionRow) (w : World) (disk : List ℕ) → w.removed ≤ length w.accepted → LowFits row w disk → (kept : Bool) × LowAt row w.removed (with_kept kept w.storing w.accepted) disk
 low_case row w disk le (inl is) = (false, is)

@@ -21,7 +21,7 @@ use Rattle.low_process.specs.declared.values.LowLook.{LowLook}
 use Rattle.script_reader.specs.Past.{Past}
 use Rattle.two_worlds.specs.declared.pump.parts.Parts.{Parts}
 use Rattle.world_laws.specs.Disks.{live_messages, LowFits, HighFits, RecvFits}
-use Rattle.two_worlds.specs.Doing.{LeavesOn, PartsLeaveFit, PartsFail}
+use Rattle.two_worlds.specs.Doing.{LeavesOn, LowFitsAfter, PartsLeaveFit, PartsFail}
 use Rattle.two_worlds.specs.Standing.{Stands, disk_at, number_of}
 use Rattle.two_worlds.proofs.Low.Disks.{live_push}
 use Rattle.two_worlds.proofs.Low.Grows.{Grows}
@@ -44,7 +44,7 @@ module _ {D : Type 0} (m : Meaning D) (c : Parts D) (p : Past) (stands : Stands 
   -- no call was made
   pub all_alone : (d : Parts D) (q : Past) → disk_at roles.Low d ≡ disk_at roles.Low c → disk_at roles.High d ≡ disk_at roles.High c → disk_at roles.Recv d ≡ disk_at roles.Recv c → PartsLeaveFit m c d p q
   all_alone d q low high recv = record {
-    low = low_alone (LowFits c.row q.world) (disk_at roles.Low d) low;
+    low = low_alone (LowFitsAfter c.row p q) (disk_at roles.Low d) low;
     high = high_alone (HighFits c.row q.world) (disk_at roles.High d) high;
     recv = recv_alone (RecvFits c.row q.world) (disk_at roles.Recv d) recv;
   }
@@ -114,8 +114,8 @@ module _ {D : Type 0} (m : Meaning D) (c d : Parts D) (p : Past) (moment word : 
   pub grown_fits : (q : Past) → Grows p.world q.world (option_to_list (message_in c.low a)) → PartsLeaveFit m c d p q
   unfolding Stored
   grown_fits q grows = record {
-    low = leaves_by (LowFits c.row q.world) (message_in c.low a) refl did.step.keeps
-        (λ message e x is. inl (grown c.row p.world q.world (message_in c.low a) message x stands.sound.lawful.bounded.within.below grows e is));
+    low = leaves_by (LowFitsAfter c.row p q) (message_in c.low a) refl did.step.keeps
+        (λ message e x is. (grows.removed, inl (grown c.row p.world q.world (message_in c.low a) message x stands.sound.lawful.bounded.within.below grows e is)));
     high = high_alone m c p stands (HighFits c.row q.world) (high_disk d.high_store) high_same;
     recv = recv_alone m c p stands (RecvFits c.row q.world) (recv_disk d.receiver) recv_same;
   }
@@ -124,11 +124,13 @@ module _ {D : Type 0} (m : Meaning D) (c d : Parts D) (p : Past) (moment word : 
   pub lost_fits : (q : Past) (message stored : Payload) → message_in c.low a ≡ Some message → message ≡ stored → q.world ≡ record p.world { storing = Some stored } → PartsLeaveFit m c d p q
   unfolding Stored
   lost_fits q message stored e same world = record {
-    low = leaves_by (LowFits c.row q.world) (message_in c.low a) refl did.step.keeps
+    low = leaves_by (LowFitsAfter c.row p q) (message_in c.low a) refl did.step.keeps
         (λ t f x is.
-        let one : t ≡ stored = some_same t message (sym f ∙ e) ∙ same in
-        subst (λ (w : World). LowFits c.row w x) (sym world)
-        (inr (stored, refl, subst (λ (u : Payload). LowStands c.row (length p.world.accepted + 1) p.world.removed (live_messages p.world ++ u ∷ []) x) one is)));
+        let one : t ≡ stored = some_same t message (sym f ∙ e) ∙ same in (
+          ap (λ (w : World). w.removed) world,
+          subst (λ (w : World). LowFits c.row w x) (sym world)
+              (inr (stored, refl, subst (λ (u : Payload). LowStands c.row (length p.world.accepted + 1) p.world.removed (live_messages p.world ++ u ∷ []) x) one is)),
+        ));
     high = high_alone m c p stands (HighFits c.row q.world) (high_disk d.high_store) high_same;
     recv = recv_alone m c p stands (RecvFits c.row q.world) (recv_disk d.receiver) recv_same;
   } where
@@ -198,7 +200,7 @@ module _ {D : Type 0} (m : Meaning D) (c e d : Parts D) (p mid q : Past) (stands
   -- the first part called no disk, and the second not the low one
   pub later_fits : disk_at roles.Low d ≡ disk_at roles.Low c → disk_at roles.High e ≡ disk_at roles.High c → disk_at roles.Recv e ≡ disk_at roles.Recv c → PartsLeaveFit m e d mid q → PartsLeaveFit m c d p q
   later_fits low high recv fits = record {
-    low = low_alone m c p stands (LowFits c.row q.world) (disk_at roles.Low d) low;
+    low = low_alone m c p stands (LowFitsAfter c.row p q) (disk_at roles.Low d) low;
     high = high_later high fits;
     recv = leaves_weaker m (λ x. RecvFits e.row mid.world x ⊎ RecvFits e.row q.world x) (λ x. RecvFits c.row p.world x ⊎ RecvFits c.row q.world x) (disk_at roles.Recv c) (disk_at roles.Recv d)
         (λ told x. ⊎_elim
@@ -211,7 +213,7 @@ module _ {D : Type 0} (m : Meaning D) (c e d : Parts D) (p mid q : Past) (stands
   pub both_fit : disk_at roles.Low d ≡ disk_at roles.Low c → disk_at roles.High e ≡ disk_at roles.High c → disk_at roles.Recv d ≡ disk_at roles.Recv e → d.row ≡ e.row → Reads m d q
       → PartsLeaveFit m c e p mid → PartsLeaveFit m e d mid q → PartsLeaveFit m c d p q
   both_fit low high recv row' reads first second = record {
-    low = low_alone m c p stands (LowFits c.row q.world) (disk_at roles.Low d) low;
+    low = low_alone m c p stands (LowFitsAfter c.row p q) (disk_at roles.Low d) low;
     high = high_later high second;
     recv = leaves_weaker m (λ x. RecvFits c.row p.world x ⊎ RecvFits c.row mid.world x) (λ x. RecvFits c.row p.world x ⊎ RecvFits c.row q.world x) (disk_at roles.Recv c) (disk_at roles.Recv d)
         (λ told x. ⊎_elim

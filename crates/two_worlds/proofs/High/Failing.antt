@@ -23,8 +23,8 @@ use Rattle.high_process.specs.declared.values.Task.TheVariants.{Refuse, Remove, 
 use Rattle.script_reader.specs.Past.{Past}
 use Rattle.script_reader.specs.Highs.{IsReturnBy}
 use Rattle.two_worlds.specs.Standing.{Stands}
-use Rattle.world_laws.specs.Disks.{LowFits, HighFits, RecvFits}
-use Rattle.two_worlds.specs.Doing.{PartsFail, PartsLeaveFit}
+use Rattle.world_laws.specs.Disks.{HighFits, RecvFits}
+use Rattle.two_worlds.specs.Doing.{LowFitsAfter, PartsFail, PartsLeaveFit}
 use Rattle.two_worlds.specs.Private.HighLooks.{ComesBack, LeadsWith, BreaksWith}
 use Rattle.two_worlds.specs.declared.pump.parts.Parts.{Parts}
 use Rattle.two_worlds.proofs.Disks.Images.{low_alone, recv_alone, all_alone, high_leaves}
@@ -71,7 +71,7 @@ module _ {D : Type 0} (m : Meaning D) (c : Parts D) (p : Past) (stands : Stands 
       },
     );
     fits = record {
-      low = low_alone m c p stands (LowFits c.row (with_begun p.world)) (low_disk c.low_store) refl;
+      low = low_alone m c p stands (LowFitsAfter c.row p (record p { world = with_begun p.world; moment = moment })) (low_disk c.low_store) refl;
       high = high_leaves m c p stands (HighFits c.row (with_begun p.world)) store fares.0.moves (λ x is. inr (refl, is));
       recv = recv_alone m c p stands (RecvFits c.row (with_begun p.world)) (recv_disk c.receiver) refl;
     };

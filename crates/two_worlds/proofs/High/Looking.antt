@@ -32,8 +32,8 @@ use Rattle.two_worlds.specs.Standing.{HoldsWorld, Stands, kept_of, high_past_of}
 use Rattle.two_worlds.specs.Working.{Works}
 use Rattle.world_laws.specs.Timelines.{IsAtRest}
 use Rattle.stable_buffer.specs.Stands.{HighStands}
-use Rattle.world_laws.specs.Disks.{LowFits, HighFits, RecvFits, DisksFit}
-use Rattle.two_worlds.specs.Doing.{PartsLeaveFit}
+use Rattle.world_laws.specs.Disks.{HighFits, RecvFits, DisksFit}
+use Rattle.two_worlds.specs.Doing.{LowFitsAfter, PartsLeaveFit}
 use Rattle.two_worlds.specs.Private.HighLooks.{ComesBack, LeadsWith, most_lines, removed_line, sent_line, printed_look}
 use Rattle.two_worlds.specs.declared.pump.parts.Parts.{Parts}
 use Rattle.two_worlds.proofs.Disks.Images.{low_alone, recv_alone, all_alone, high_leaves}
@@ -188,7 +188,7 @@ module _ {D : Type 0} (m : Meaning D) (c : Parts D) (p : Past) (stands : Stands 
             printed_is = ap (λ (l : List Event). first ++ l) e.printed_is ∙ sym (ap (λ (t : Option ℕ × Option ℕ). removed_line c.row.id moment t.0 t.1 ++ sent_line c.row.id moment look.sent) (λ i. (removed i, published i)));
             stand = e.stand;
             fits = record {
-              low = low_alone m c p stands (LowFits c.row e.end.world) (low_disk c.low_store) refl;
+              low = low_alone m c p stands (LowFitsAfter c.row p e.end) (low_disk c.low_store) refl;
               high = high_leaves m c p stands (HighFits c.row e.end.world) store removing.moves (λ x is. inl (subst (λ n. HighStands c.row n x) (sym e.removed_is) is));
               recv = recv_alone m c p stands (RecvFits c.row e.end.world) (recv_disk c.receiver) refl;
             };

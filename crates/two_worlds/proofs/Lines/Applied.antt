@@ -12,7 +12,7 @@ use Rattle.two_worlds.specs.declared.applied.Stop.TheVariants.{Line, Device, Ful
 use Rattle.two_worlds.specs.declared.pump.parts.Parts.{Parts}
 use Rattle.two_worlds.specs.declared.pump.state.PumpState.{PumpState}
 use Rattle.two_worlds.specs.declared.pump.state.PumpState.TheVariants.{Open, Shut}
-use Rattle.two_worlds.specs.States.{disks_in, IsOpenWith}
+use Rattle.two_worlds.specs.States.{IsOpenWith, RefusesAheadIn}
 use Rattle.two_worlds.specs.Working.{IsAheadBy}
 use Rattle.two_worlds.specs.Private.StateSteps.{StateApplies, StateAppliesOn}
 use Rattle.two_worlds.specs.Private.LineSteps.{AttemptsFrom, AttemptsOn, RefusesAhead, answer_of}
@@ -49,8 +49,8 @@ module _ {D : Type 0} (m : Meaning D) (s t : PumpState D) (c d : Parts D) (was :
   applied_on printed (Some (Disk role why)) a = absurd a
 
   -- a packet that is refused
-  pub applied_ahead : (printed : List Event) → RefusesAhead c d line [] printed → IsOpenWith (λ x. IsAheadBy x line) s → (printed ≡ []) × (disks_in t ≡ disks_in s)
-  applied_ahead printed refuses = of_states (λ x y. IsOpenWith (λ z. IsAheadBy z line) x → (printed ≡ []) × (disks_in y ≡ disks_in x)) refuses
+  pub applied_ahead : (printed : List Event) → RefusesAhead c d line [] printed → RefusesAheadIn s t line [] printed
+  applied_ahead printed refuses = of_states (λ x y. RefusesAheadIn x y line [] printed) refuses
 
 -- a line that brings no packet
 pub no_packet : {D : Type 0} (s : PumpState D) (line other : ScriptLine) → line ≡ other → ((c : Parts D) → IsAheadBy c other → ⊥) → IsOpenWith (λ c. IsAheadBy c line) s → ⊥

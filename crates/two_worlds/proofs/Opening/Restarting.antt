@@ -31,7 +31,7 @@ use Rattle.two_worlds.specs.declared.pump.parts.Parts.{Parts}
 use Rattle.two_worlds.specs.declared.pump.state.BareDisks.{BareDisks}
 use Rattle.two_worlds.specs.declared.pump.state.PumpState.TheVariants.{Shut}
 use Rattle.world_laws.specs.Disks.{LowFits, HighFits, RecvFits, RemovesBehind}
-use Rattle.two_worlds.specs.Doing.{Fails, LeavesFit, LeavesOn}
+use Rattle.two_worlds.specs.Doing.{Fails, LowFitsAfter, LeavesFit, LeavesOn}
 use Rattle.two_worlds.specs.Private.Restarting.{stop_for, RestartsFrom, RestartsOn, DisksRestart}
 use Rattle.two_worlds.specs.Rooms.{Serves, stops_at}
 use Rattle.two_worlds.specs.Standing.{Stands, StandsForSome, bare_of, bare_disk}
@@ -166,7 +166,7 @@ module _ {D : Type 0} (m : Meaning D) (c : Parts D) (low high : D) (role : Role)
 
     left : LeavesFit m (bare_of c) shut p p
     left = record {
-      low = leaves_same m (LowFits c.row p.world) (low_disk c.low_store) low s.disks.low_disk n.low_same (LowFits c.row p.world);
+      low = leaves_same m (LowFits c.row p.world) (low_disk c.low_store) low s.disks.low_disk n.low_same (LowFitsAfter c.row p p);
       high = leaves_same m (HighFits c.row p.world) (high_disk c.high_store) high s.disks.high_disk n.high_same (HighFits c.row p.world);
       recv = recv_alone m c p s (RecvFits c.row p.world) (recv_disk c.receiver) refl;
     }
@@ -212,7 +212,7 @@ opened_serves m c d some row recv calls_low calls_high same event = (
 pub opened_leaves : {D : Type 0} (m : Meaning D) (c d : Parts D) (p q : Past) → Stands m c p → d.receiver ≡ c.receiver
     → Moves m Same (low_disk c.low_store) (low_disk d.low_store) → Moves m Same (high_disk c.high_store) (high_disk d.high_store) → LeavesFit m (bare_of c) (bare_of d) p q
 opened_leaves m c d p q s recv low_same high_same = record {
-  low = leaves_same m (LowFits c.row p.world) (low_disk c.low_store) (low_disk d.low_store) s.disks.low_disk low_same (LowFits c.row q.world);
+  low = leaves_same m (LowFits c.row p.world) (low_disk c.low_store) (low_disk d.low_store) s.disks.low_disk low_same (LowFitsAfter c.row p q);
   high = leaves_same m (HighFits c.row p.world) (high_disk c.high_store) (high_disk d.high_store) s.disks.high_disk high_same (HighFits c.row q.world);
   recv = recv_alone m c p s (RecvFits c.row q.world) (recv_disk d.receiver) (ap (λ (r : Receiver _). recv_disk r) recv);
 }

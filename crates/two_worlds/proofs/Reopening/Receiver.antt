@@ -14,8 +14,8 @@ use Rattle.script_reader.specs.Past.{Past}
 use Rattle.script_reader.specs.Highs.{receiver_size}
 use Rattle.two_worlds.specs.declared.pump.parts.Parts.{Parts}
 use Rattle.two_worlds.specs.declared.pump.state.PumpState.TheVariants.{Open}
-use Rattle.world_laws.specs.Disks.{LowFits, HighFits, RecvFits}
-use Rattle.two_worlds.specs.Doing.{LeavesFit}
+use Rattle.world_laws.specs.Disks.{HighFits, RecvFits}
+use Rattle.two_worlds.specs.Doing.{LowFitsAfter, LeavesFit}
 use Rattle.two_worlds.specs.Private.Reopening.{Reopens}
 use Rattle.two_worlds.specs.Rooms.{Serves}
 use Rattle.two_worlds.specs.Standing.{Stands, bare_of}
@@ -64,7 +64,7 @@ module _ {D : Type 0} (m : Meaning D) (c : Parts D) (recv : D) (same : Moves m S
   -- a crash at any moment of the opening leaves what it left before
   pub still_fits : (p : Past) → Stands m c p → LeavesFit m (bare_of c) (record (bare_of c) { recv = recv }) p p
   still_fits p s = record {
-    low = low_alone m c p s (LowFits c.row p.world) (low_disk c.low_store) refl;
+    low = low_alone m c p s (LowFitsAfter c.row p p) (low_disk c.low_store) refl;
     high = high_alone m c p s (HighFits c.row p.world) (high_disk c.high_store) refl;
     recv = leaves_by_step m (RecvFits c.row p.world) (λ x. RecvFits c.row p.world x ⊎ RecvFits c.row p.world x) Same (recv_disk c.receiver) recv s.disks.recv_disk
         (λ x y fits is. inl (onto (RecvFits c.row p.world) x y fits is)) same;

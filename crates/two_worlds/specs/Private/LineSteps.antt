@@ -10,8 +10,9 @@ use Rattle.script_reader.specs.Breaks.{Breaks}
 use Rattle.two_worlds.specs.declared.applied.Stop.{Stop}
 use Rattle.two_worlds.specs.declared.applied.Stop.TheVariants.{Line, Device, Full, Disk}
 use Rattle.two_worlds.specs.declared.pump.parts.Parts.{Parts}
-use Rattle.two_worlds.specs.Standing.{Stands, bare_of}
-use Rattle.two_worlds.specs.Working.{IsAheadBy}
+use Rattle.two_worlds.specs.declared.pump.state.PumpState.TheVariants.{Open}
+use Rattle.two_worlds.specs.Standing.{Stands}
+use Rattle.two_worlds.specs.States.{RefusesAheadIn}
 use Rattle.two_worlds.specs.Doing.{DoesFrom}
 use Rattle.two_worlds.specs.Timely.{IsCrowdedBy, IsUncrowdedBy, CanApply, CannotApply}
 use Rattle.two_worlds.specs.Private.GoingOn.{WorksOn}
@@ -71,9 +72,9 @@ RunsOn m c d line out now (Err (Device role faults)) = IsUncrowdedBy c line × W
 RunsOn m c d line out now (Err (Full end size_of_message size)) = IsUncrowdedBy c line × WorksOn m d (Err (Full end size_of_message size))
 RunsOn m c d line out now (Err (Disk role why)) = ⊥
 
--- a packet that is refused prints nothing, and no disk is changed
+-- where its packet is refused
 abbrev pub RefusesAhead : {D : Type 0} → Parts D → Parts D → ScriptLine → List Event → List Event → Type 0
-RefusesAhead c d line out now = IsAheadBy c line → (now ≡ out) × (bare_of d ≡ bare_of c)
+RefusesAhead c d line out now = RefusesAheadIn (Open c) (Open d) line out now
 
 -- what is said of a line for which the test holds
 pub record Ran {D : Type 0} (m : Meaning D) (c d : Parts D) (line : ScriptLine) (out now : List Event) (result : Result (Unit {0}) Stop) : Type 0 where

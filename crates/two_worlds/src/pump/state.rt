@@ -7,8 +7,8 @@ ghost use Rattle.script_reader.specs.Past.{Past};
 ghost use Rattle.two_worlds.specs.Printing.{lines_in};
 ghost use Rattle.two_worlds.specs.Rooms.{DisksGo};
 ghost use Rattle.two_worlds.specs.Standing.{bare_of};
-ghost use Rattle.two_worlds.specs.States.{disks_in, IsOpenWith, StandsIn};
-ghost use Rattle.two_worlds.specs.Working.{IsAble, IsAheadBy};
+ghost use Rattle.two_worlds.specs.States.{disks_in, IsOpenWith, StandsIn, RefusesAheadIn};
+ghost use Rattle.two_worlds.specs.Working.{IsAble};
 ghost use Rattle.two_worlds.specs.Private.StateSteps.{StateApplies, StateAppliesOn};
 
 use crate::applied::Stop;
@@ -75,8 +75,7 @@ impl<D: Disk> PumpState<D> {
         ensures applies { D.told.tells → (p : Past) → StandsIn D.told self.old p
             → StateApplies D.told self.old self.new (line_with bytes.now line.now) p (lines_in out.new.items) result }
         ensures on { StateAppliesOn D.told self.old self.new (line_with bytes.now line.now) (lines_in out.new.items) result }
-        ensures ahead { IsOpenWith (λ c. IsAheadBy c (line_with bytes.now line.now)) self.old
-            → (lines_in out.new.items ≡ []) × (disks_in self.new ≡ disks_in self.old) }
+        ensures ahead { RefusesAheadIn self.old self.new (line_with bytes.now line.now) [] (lines_in out.new.items) }
         ensures serve { DisksGo D.told (disks_in self.old).row (disks_in self.old).low (disks_in self.old).high (disks_in self.old).recv
             (disks_in self.new).low (disks_in self.new).high (disks_in self.new).recv result }
         ensures row { (disks_in self.new).row ≡ (disks_in self.old).row }

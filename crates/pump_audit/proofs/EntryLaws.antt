@@ -76,8 +76,8 @@ module _ (bytes : List ℕ) (i : ℕ) (low : i < length bytes) (now next : Readi
       let w = within now next (take i bytes) (get_or bytes i 0) (Bad at) begun fed in
       absurd (w.0 (f, drop (i + 1) bytes, lawful, e ∙ sym (cut_behind bytes i low)))
 
-pub one_whole : (bytes : List ℕ) (g f : Frame) → IsLawful g → spelling g ≡ bytes → IsLawful f → spelling f ≡ bytes → Some g ≡ Some f
-one_whole bytes g f a e b d = ap Some (same_frame g f a b (e ∙ sym d))
+pub one_whole : (bytes : List ℕ) (g f : Frame) → IsLawful g → spelling g ≡ bytes → IsLawful f → spelling f ≡ bytes → g ≡ f
+one_whole bytes g f a e b d = same_frame g f a b (e ∙ sym d)
 
 pub no_frame_ends : (bytes : List ℕ) (now : Reading) → now ≡ Within bytes → HasBegun now → (f : Frame) → IsLawful f → spelling f ≡ bytes → None ≡ Some f
 no_frame_ends bytes now e begun f lawful s = absurd (apart bytes f lawful s (subst HasBegun e begun))

@@ -5,6 +5,7 @@ pub mod Comparing
 pub mod Entries
 pub mod Machine
 pub mod Noting
+pub mod Offers
 pub mod Pairs
 pub mod Places
 pub mod Records

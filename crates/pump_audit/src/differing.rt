@@ -1,16 +1,18 @@
 // How two sides differ.
 ghost use Rattle.std.specs.Prelude.{◌≡◌, ◌+◌, ◌^◌, ◌<◌, true, false, ◌&&◌, List, [], ◌∷◌, ◌++◌, Option, None, Some, length, OnOk, MatchOption, map};
 ghost use Rattle.std.specs.Str.{bytes_eq};
+ghost use Rattle.pump_frame.specs.Frames.{IsLawful};
+ghost use Rattle.pump_frame.specs.Spellings.{spelling};
 ghost use Rattle.pump_audit.specs.Comparing.{ItemTold, SideTold, SidesAre, AreAlike, DifferAt, item_of, offered_bytes, same_told, unlike};
 ghost use Rattle.pump_audit.specs.Entries.{IsPlain};
 ghost use Rattle.pump_audit.specs.Siding.{tells, LooksTell, Matches, Opens, Stands, has_same_numbers, has_same_row, has_same_opening};
 
 use crate::compared::{Compared, What};
-use crate::entry::LookLine;
-use crate::items::{item, uncounted, write_offered};
+use crate::entry::{LookLine, Offer};
+use crate::items::{item, uncounted};
 use crate::side::{Item, Looks, Matching, Opened, Side};
 use arrayvec::ArrayVec;
-use pump_frame::{OutOfMemory, SessionRow};
+use pump_frame::{Frame, OutOfMemory, SessionRow, encode};
 use script_reader::ToldFeedback;
 use std::alloc::Global;
 
@@ -32,14 +34,27 @@ fn same_told(a: &ToldFeedback, b: &ToldFeedback) -> bool
     }
 }
 
+// Whether these are the frame's bytes.
+fn is_spelling(bytes: &[u8], frame: &Frame) -> bool
+    requires { IsLawful frame.now }
+    ensures { result ≡ bytes_eq bytes.now (spelling frame.now) }
+{
+    let mut room = ArrayVec::new();
+    encode(frame, &mut room);
+    bytes == room.as_slice()
+}
+
 // Whether the look was offered just these bytes.
 fn has_offered(line: &LookLine, bytes: &[u8]) -> bool
     requires { IsPlain line.now }
     ensures { result ≡ bytes_eq bytes.now (offered_bytes line.now.coming) }
 {
-    let mut offered = ArrayVec::new();
-    write_offered(line, &mut offered);
-    bytes == offered.as_slice()
+    match line.coming.offer() {
+        Offer::Nothing => bytes == [].as_slice(),
+        Offer::Frame(frame) => is_spelling(bytes, frame),
+        Offer::Bad => bytes == [0].as_slice(),
+        Offer::Gone => bytes == [1].as_slice(),
+    }
 }
 
 // The first part in which a look that was kept and another one differ.

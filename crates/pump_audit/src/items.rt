@@ -1,13 +1,15 @@
 // What a comparison sees of a look.
-ghost use Rattle.std.specs.Prelude.{◌≡◌, [], IfOk};
+ghost use Rattle.std.specs.Prelude.{◌≡◌, IfOk};
+ghost use Rattle.pump_frame.specs.Frames.{IsLawful};
+ghost use Rattle.pump_frame.specs.Spellings.{spelling};
 ghost use Rattle.pump_audit.specs.Comparing.{offered_bytes, uncounted, item_of};
 ghost use Rattle.pump_audit.specs.Entries.{IsPlain};
 ghost use Rattle.pump_audit.specs.Siding.{tells};
 
-use crate::entry::{Coming, LookLine};
+use crate::entry::{LookLine, Offer};
 use crate::side::Item;
 use arrayvec::ArrayVec;
-use pump_frame::{OutOfMemory, encode};
+use pump_frame::{Frame, OutOfMemory, encode};
 use script_reader::ToldFeedback;
 use std::alloc::Global;
 
@@ -25,17 +27,26 @@ pub(crate) fn uncounted(told: &ToldFeedback) -> ToldFeedback
     }
 }
 
-/// What the look was offered, as bytes, into the empty room.
-pub(crate) fn write_offered(line: &LookLine, room: &mut ArrayVec<u8, 1042>)
-    requires plain { IsPlain line.now }
-    requires empty { room.old.items ≡ [] }
-    ensures { room.new.items ≡ offered_bytes line.now.coming }
+// The frame's bytes.
+fn spelled(alloc: Global, frame: &Frame) -> Result<Vec<u8>, OutOfMemory>
+    requires { IsLawful frame.now }
+    ensures { IfOk result (λ bytes. bytes.items ≡ spelling frame.now) }
 {
-    match &line.coming {
-        Coming::Nothing => {}
-        Coming::Frame(frame) => encode(frame, room),
-        Coming::Bad => room.push(0),
-        Coming::Gone => room.push(1),
+    let mut room = ArrayVec::new();
+    encode(frame, &mut room);
+    Ok(Vec::from_slice(alloc, room.as_slice())?)
+}
+
+// What the look was offered, as bytes.
+fn offered(alloc: Global, line: &LookLine) -> Result<Vec<u8>, OutOfMemory>
+    requires { IsPlain line.now }
+    ensures { IfOk result (λ bytes. bytes.items ≡ offered_bytes line.now.coming) }
+{
+    match line.coming.offer() {
+        Offer::Nothing => Ok(Vec::new(alloc)),
+        Offer::Frame(frame) => spelled(alloc, frame),
+        Offer::Bad => Ok(Vec::from_slice(alloc, [0].as_slice())?),
+        Offer::Gone => Ok(Vec::from_slice(alloc, [1].as_slice())?),
     }
 }
 
@@ -44,12 +55,10 @@ pub(crate) fn item(alloc: Global, line: &LookLine) -> Result<Item, OutOfMemory>
     requires { IsPlain line.now }
     ensures { IfOk result (λ x. tells x ≡ item_of line.now) }
 {
-    let mut offered = ArrayVec::new();
-    write_offered(line, &mut offered);
     Ok(Item {
         moment: line.moment,
         word: line.word,
-        offered: Vec::from_slice(alloc, offered.as_slice())?,
+        offered: offered(alloc, line)?,
         is_fault: line.is_fault,
         told: uncounted(&line.told),
     })

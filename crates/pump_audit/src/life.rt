@@ -2,8 +2,7 @@
 ghost use Rattle.std.specs.Prelude.{◌≡◌, ◌+◌, ◌^◌, ◌<◌, ◌≤◌, false, ◌&&◌, ◌==◌, IsTrue, IfSome, Option, Some, None, option_map, if◌then◌else◌};
 ghost use Rattle.pump_frame.specs.Frames.{IsLawful};
 ghost use Rattle.pump_frame.specs.Rows.{IsLawfulRow};
-ghost use Rattle.pump_core.specs.Comings.{is_nothing as nothing_in};
-ghost use Rattle.pump_core.specs.Exchanges.{is_gone as gone_in, permits_frame, is_fit, is_repeat, is_next, average_told, due};
+ghost use Rattle.pump_core.specs.Exchanges.{permits_frame, is_fit, is_repeat, is_next, average_told, due};
 ghost use Rattle.pump_core.specs.Replies.{refusal, answer_to};
 ghost use Rattle.pump_core.specs.ReplyFrames.{frame_of};
 ghost use Rattle.pump_core.specs.Step.{opened, after, taken, reply_at, reply_taken};
@@ -12,7 +11,7 @@ ghost use Rattle.pump_audit.specs.Entries.{arrival_of, IsPlain};
 ghost use Rattle.pump_audit.specs.Machine.{Lets, state_of, pair_in, of_nothing, of_release, of_offer, of_arrival, of_look, takes_all, begins_store, IsInBounds, stored, answered};
 ghost use Rattle.pump_audit.specs.Records.{look_of};
 
-use crate::entry::{Coming, LookLine};
+use crate::entry::{LookLine, Offer, Offered};
 use delay_table::delay;
 use moving_avg::{down, is_level};
 use pump_core::{Feedback, Refusal, Reply, Seen};
@@ -138,20 +137,6 @@ fn average_in(feedback: &Feedback) -> u32
     }
 }
 
-impl Coming {
-    fn is_nothing(&self) -> bool
-        ensures { result ≡ nothing_in (arrival_of self.now) }
-    {
-        matches!(self, Coming::Nothing)
-    }
-
-    fn is_gone(&self) -> bool
-        ensures { result ≡ gone_in (arrival_of self.now) }
-    {
-        matches!(self, Coming::Gone)
-    }
-}
-
 impl Life {
     /// The process of a life that begins with this opening.
     pub fn open(row: &SessionRow, next: u64, is_held: bool) -> Life
@@ -205,15 +190,15 @@ impl Life {
     fn of_arrival(&self, line: &LookLine) -> Option<Feedback>
         ensures { result ≡ of_arrival self.now.row (state_of self.now) (arrival_of line.now.coming) line.now.told }
     {
-        match &line.coming {
-            Coming::Frame(frame) => {
+        match line.coming.offer() {
+            Offer::Frame(frame) => {
                 if self.is_repeat(frame) {
                     Some(Feedback::Repeat(pair_in(&self.row, &line.told)?))
                 } else {
                     of_nothing(&line.told)
                 }
             }
-            Coming::Nothing | Coming::Bad | Coming::Gone => of_nothing(&line.told),
+            Offer::Nothing | Offer::Bad | Offer::Gone => of_nothing(&line.told),
         }
     }
 
@@ -236,19 +221,19 @@ impl Life {
     }
 
     // Whether a look takes what the line offers it.
-    fn takes(&self, coming: &Coming) -> bool
+    fn takes(&self, coming: &Offered) -> bool
         ensures { result ≡ takes_all (arrival_of coming.now) (state_of self.now).phase }
     {
         matches!(self.phase, Phase::Idle) || coming.is_nothing() || coming.is_gone()
     }
 
     // Whether a look begins to store the message of its arrival.
-    fn begins_store(&self, coming: &Coming) -> bool
+    fn begins_store(&self, coming: &Offered) -> bool
         ensures { result ≡ begins_store self.now.row (state_of self.now) (arrival_of coming.now) (state_of self.now).phase }
     {
         match &self.phase {
-            Phase::Idle => match coming {
-                Coming::Frame(frame) => !self.is_repeat(frame) && self.is_next(frame),
+            Phase::Idle => match coming.offer() {
+                Offer::Frame(frame) => !self.is_repeat(frame) && self.is_next(frame),
                 _ => false,
             },
             _ => false,
@@ -409,17 +394,17 @@ impl Life {
         ensures row { self.new.row ≡ self.old.row }
         ensures last { self.new.last ≡ self.old.last }
     {
-        match &line.coming {
-            Coming::Nothing => None,
-            Coming::Bad => {
+        match line.coming.offer() {
+            Offer::Nothing => None,
+            Offer::Bad => {
                 self.greeted = false;
                 Some(refuse(Refusal::Frame, 0))
             }
-            Coming::Gone => {
+            Offer::Gone => {
                 self.greeted = false;
                 None
             }
-            Coming::Frame(frame) => self.take(frame, line, feedback),
+            Offer::Frame(frame) => self.take(frame, line, feedback),
         }
     }
 

@@ -1,5 +1,5 @@
 // Reading the lines of a record.
-ghost use Rattle.std.specs.Prelude.{◌≡◌, ◌+◌, IfSome, Some};
+ghost use Rattle.std.specs.Prelude.{◌≡◌, ◌+◌, IfSome, Some, true};
 ghost use Rattle.pump_frame.specs.Frames.{IsLawful};
 ghost use Rattle.pump_frame.specs.Spellings.{spelling};
 ghost use Rattle.pump_frame.specs.declared.frame.Frame.{Frame as FrameValue};
@@ -7,10 +7,11 @@ ghost use Rattle.script_reader.specs.declared.line.Line.{Line};
 ghost use Rattle.script_reader.specs.Grammar.{IsLine};
 ghost use Rattle.script_reader.specs.Heads.{arriving_with, line_with};
 ghost use Rattle.script_reader.specs.Lawful.{IsLawfulLine};
+ghost use Rattle.pump_audit.specs.declared.entry.Coming.{Coming};
 ghost use Rattle.pump_audit.specs.Entries.{IsEntry};
 ghost use Rattle.pump_audit.specs.Noting.{IsComing, IsScript, IsSmall};
 
-use crate::entry::{Coming, Entry, LookLine};
+use crate::entry::{Entry, LookLine, Offer, Offered};
 use crate::notes::read_note;
 use pump_frame::{Frame, Reader, Step};
 use script_reader::{ArrivingHead, Body, LineHead, ToldFeedback, read_head};
@@ -31,10 +32,10 @@ impl Room {
     }
 }
 
-/// The frame whose bytes these are.
-fn read_frame(bytes: &[u8], room: &mut Frame) -> Option<Frame>
-    ensures found { IfSome result (λ f. IsLawful f × (spelling f ≡ bytes.now)) }
-    ensures only { (f : FrameValue) → IsLawful f → spelling f ≡ bytes.now → result ≡ Some f }
+/// Whether these are the bytes of a frame, which is in the room then.
+fn read_frame(bytes: &[u8], room: &mut Frame) -> bool
+    ensures found { result ≡ true → IsLawful room.new × (spelling room.new ≡ bytes.now) }
+    ensures only { (f : FrameValue) → IsLawful f → spelling f ≡ bytes.now → (result ≡ true) × (room.new ≡ f) }
 {
     let mut reader = Reader::new();
     for i in 0..bytes.len() {
@@ -42,41 +43,44 @@ fn read_frame(bytes: &[u8], room: &mut Frame) -> Option<Frame>
             Step::More => {}
             Step::Whole => {
                 if i + 1 < bytes.len() {
-                    return None;
+                    return false;
                 }
-                return Some(*room);
+                return true;
             }
-            Step::Bad { .. } => return None,
+            Step::Bad { .. } => return false,
         }
     }
-    None
+    false
 }
 
 /// What a look took, by the raw bytes of its line.
-fn read_raw(bytes: &[u8], room: &mut Frame) -> Option<Coming>
+fn read_raw<'a>(bytes: &[u8], room: &'a mut Frame) -> Option<Offered<'a>>
     ensures found { IfSome result (λ c. IsComing c (arriving_with bytes.now ArrivingHead.Raw)) }
     ensures only { (c : Coming) → IsComing c (arriving_with bytes.now ArrivingHead.Raw) → result ≡ Some c }
 {
     if bytes == [0].as_slice() {
-        return Some(Coming::Bad);
+        return Some(Offered::new(Offer::Bad));
     }
-    Some(Coming::Frame(read_frame(bytes, room)?))
+    if !read_frame(bytes, room) {
+        return None;
+    }
+    Some(Offered::new(Offer::Frame(room)))
 }
 
 /// What a look took, by its line.
-fn read_coming(arrival: &ArrivingHead, bytes: &[u8], room: &mut Frame) -> Option<Coming>
+fn read_coming<'a>(arrival: &ArrivingHead, bytes: &[u8], room: &'a mut Frame) -> Option<Offered<'a>>
     ensures found { IfSome result (λ c. IsComing c (arriving_with bytes.now arrival.now)) }
     ensures only { (c : Coming) → IsComing c (arriving_with bytes.now arrival.now) → result ≡ Some c }
 {
     match arrival {
-        ArrivingHead::Nothing => Some(Coming::Nothing),
+        ArrivingHead::Nothing => Some(Offered::new(Offer::Nothing)),
         ArrivingHead::Raw => read_raw(bytes, room),
         ArrivingHead::Hello { .. } | ArrivingHead::Data { .. } => None,
     }
 }
 
 /// The line of a record that this line of a script is, but for comments.
-fn read_script(head: &LineHead, bytes: &[u8], room: &mut Frame) -> Option<Entry>
+fn read_script<'a>(head: &LineHead, bytes: &[u8], room: &'a mut Frame) -> Option<Entry<'a>>
     ensures found { IfSome result (λ e. IsScript e (line_with bytes.now head.now)) }
     ensures only { (e : Entry) → IsScript e (line_with bytes.now head.now) → result ≡ Some e }
 {
@@ -113,14 +117,19 @@ fn read_script(head: &LineHead, bytes: &[u8], room: &mut Frame) -> Option<Entry>
             word: 0,
             is_fault: false,
             told: ToldFeedback::Quiet,
-            coming: Coming::Gone,
+            coming: Offered::new(Offer::Gone),
         })),
         _ => None,
     }
 }
 
 // The line of a record that the text is, by the line of a script that it is.
-fn read_headed(head: &LineHead, bytes: &[u8], text: &[u8], room: &mut Frame) -> Option<Entry>
+fn read_headed<'a>(
+    head: &LineHead,
+    bytes: &[u8],
+    text: &[u8],
+    room: &'a mut Frame,
+) -> Option<Entry<'a>>
     requires line { IsLine (line_with bytes.now head.now) text.now }
     requires only { (line : Line) → IsLine line text.now → line_with bytes.now head.now ≡ line }
     requires lawful { IsLawfulLine (line_with bytes.now head.now) }
@@ -135,7 +144,7 @@ fn read_headed(head: &LineHead, bytes: &[u8], text: &[u8], room: &mut Frame) -> 
 }
 
 /// The line of a record that the text is, which has no line end; `None` exactly where it is none.
-pub(crate) fn read_entry(text: &[u8], room: &mut Room) -> Option<Entry>
+pub(crate) fn read_entry<'a>(text: &[u8], room: &'a mut Room) -> Option<Entry<'a>>
     ensures found { IfSome result (λ e. IsEntry e text.now) }
     ensures only { (e : Entry) → IsEntry e text.now → result ≡ Some e }
     ensures small { IfSome result IsSmall }

@@ -6,4 +6,4 @@ use Rattle.pump_audit.proofs.reading.read_raw.Goals as goal
 pub returns-then-eq-clause-only : goal.returns-then-eq-clause-only
 returns-then-eq-clause-only c =
     let same : c.args.bytes.now ≡ 0 ∷ [] = search (rules, bytes_eq-Decides) in
-    only_bad c.args.bytes.now same
+    rw c.new.ensures (only_bad c.args.bytes.now same)

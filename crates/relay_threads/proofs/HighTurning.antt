@@ -95,7 +95,7 @@ back_by session t frame Keep o is e = subst (λ x. IfSome x (λ b. (b ≡ t.remo
 back_by session t frame (Refuse x) o is e = subst (λ x. IfSome x (λ b. (b ≡ t.removed) × GivenBack session b frame)) (sym e) tt
 
 -- the past has the process's count and hand, so a frame asks the same of both
-same_task : (p : HighProcess) (t : ProcessPast) (frame : Option Frame) → StandsFor p t → task_at p frame ≡ task_of p.row.id t.removed t.hand frame
+pub same_task : (p : HighProcess) (t : ProcessPast) (frame : Option Frame) → StandsFor p t → task_at p frame ≡ task_of p.row.id t.removed t.hand frame
 same_task p t frame st = ap (λ (c : ℕ × Option Item). task_of p.row.id c.0 c.1 frame) (λ i. (st.holds.removed i, st.holds.hand i))
 
 abbrev pub made_ok : HighProcess → Option Frame → HighLook → Made

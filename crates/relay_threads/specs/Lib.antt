@@ -1,5 +1,6 @@
 pub mod Heards
 pub mod Hearings
+pub mod HighEnds
 pub mod HighRounds
 pub mod HighServes
 pub mod HighStays

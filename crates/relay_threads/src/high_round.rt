@@ -14,6 +14,7 @@ ghost use Rattle.relay_threads.specs.Heards.{heard_with};
 ghost use Rattle.relay_threads.specs.Hearings.{held_in, heard_as};
 ghost use Rattle.relay_threads.specs.Workers.{SendsFront};
 ghost use Rattle.relay_threads.specs.HighRounds.{Made, Round, plan_of, frame_heard, is_frame, why_of, removes, removes_by, looks_in_round, data_in, data_made, cause, cause_look};
+ghost use Rattle.relay_threads.specs.HighEnds.{LookTakes};
 ghost use Rattle.relay_threads.specs.HighServes.{IsData, IsOpen, LookMade, RoundMade, device_in, CountsFaultIn};
 
 use crate::hear::{HeardHead, hear};
@@ -180,7 +181,8 @@ fn look<R: Wait, C: Link, D: Disk, H: WaitHighEnd>(
     ensures look { (x : Made) × (is_sent : Bool)
         × LookMade process.old process.new moment (frame_of frame.entry) x
         × SendsFront (C.sent link.old) (C.sent link.new) is_sent (spellings (data_made (row_of process.old).id (Some x)))
-        × (result.why ≡ cause_look x.result is_sent) × (result.has_removed ≡ removes_by x.result) }
+        × (result.why ≡ cause_look x.result is_sent) × (result.has_removed ≡ removes_by x.result)
+        × LookTakes H.stands ends.old ends.new process.old process.new moment (Some x) }
     ensures gives { Draws (C.gives link.old) (C.gives link.new) [] }
     ensures message { IsData (row_of process.old).id message.new }
     ensures ready { is_down process.new ≡ false → Ready D.told process.new store.new (H.stands ends.new) }
@@ -243,7 +245,8 @@ impl HighConnection {
             × SendsFront (C.sent link.old) (C.sent link.new) r.is_sent (spellings (data_made (row_of process.old).id r.made))
             × Draws (K.reads clock.old) (K.reads clock.new) (r.moment ∷ [])
             × (result.why ≡ cause self.old.is_attached r) × (result.has_removed ≡ removes r.made)
-            × (self.new.is_attached ≡ (self.old.is_attached || is_frame (heard_as r.heard.ending))) }
+            × (self.new.is_attached ≡ (self.old.is_attached || is_frame (heard_as r.heard.ending)))
+            × LookTakes H.stands ends.old ends.new process.old process.new r.moment r.made }
         ensures begun { HasBegun self.new.reader }
         ensures message { IsData (row_of process.old).id self.new.message }
         ensures ready { is_down process.new ≡ false → Ready D.told process.new store.new (H.stands ends.new) }

@@ -9,6 +9,7 @@ ghost use Rattle.high_process.specs.States.{row_of, last_of, is_down};
 ghost use Rattle.relay_threads.specs.declared.high_served.HighWhy.TheVariants.{LinkFailed, Stopped};
 ghost use Rattle.relay_threads.specs.Workers.{SendsFront};
 ghost use Rattle.relay_threads.specs.HighRounds.{Round, looks_of_rounds, moments, data_sent, asks_of};
+ghost use Rattle.relay_threads.specs.HighEnds.{TakesSo};
 ghost use Rattle.relay_threads.specs.HighServes.{Serves, IsServed, all_sent, is_device, CountsFault};
 
 use crate::gate::Gate;
@@ -39,8 +40,8 @@ fn counted(removed: u64, has_removed: bool) -> u64
 /// that is no ATTACH; that round makes no look. `LinkFailed` comes only where the link's count of
 /// faults rose, and `Device` only where the disk's did; the process is then down. `Ahead` and
 /// `Behind` come as the look refuses them, and change nothing. `Looks` comes exactly where all
-/// rounds were made and none of them ended the call, and `Stopped` only where the gate's count of
-/// stops rose.
+/// rounds were made and none of them ended the call, and `Stopped` exactly where the gate's count of
+/// stops rose: a gate that answers false stops the worker.
 pub fn serve_high<R: Wait, C: Link, K: Clock, D: Disk, H: WaitHighEnd, G: Gate>(
     rt: &R,
     link: &mut C,
@@ -58,7 +59,8 @@ pub fn serve_high<R: Wait, C: Link, K: Clock, D: Disk, H: WaitHighEnd, G: Gate>(
         × Draws (C.gives link.old) (C.gives link.new) (looks_of_rounds rounds)
         × SendsFront (C.sent link.old) (C.sent link.new) (all_sent rounds) (spellings (data_sent (row_of process.old).id rounds))
         × Draws (K.reads clock.old) (K.reads clock.new) (moments rounds)
-        × Grows (G.asked gate.old) (G.asked gate.new) (asks_of result.why rounds) }
+        × Grows (G.asked gate.old) (G.asked gate.new) (asks_of result.why rounds)
+        × TakesSo H.stands ends.old ends.new process.old process.new rounds }
     ensures ready { is_down process.new ≡ false → Ready D.told process.new store.new (H.stands ends.new) }
     ensures up { is_device result.why ≡ false → is_down process.new ≡ false }
     ensures order { last_of process.new ≤ K.floor clock.new }
@@ -68,6 +70,7 @@ pub fn serve_high<R: Wait, C: Link, K: Clock, D: Disk, H: WaitHighEnd, G: Gate>(
     ensures counts { D.told.count (high_disk store.old) ≤ D.told.count (high_disk store.new) }
     ensures device { CountsFault result.why (D.told.count (high_disk store.old)) (D.told.count (high_disk store.new)) }
     ensures stopped { result.why ≡ Stopped → Rose (G.stops gate.old) (G.stops gate.new) }
+    ensures went { (result.why ≡ Stopped → ⊥) → G.stops gate.new ≡ G.stops gate.old }
 {
     let mut connection = HighConnection::new(process.session());
     let mut rounds = 0;

@@ -6,6 +6,7 @@ ghost use Rattle.stable_buffer.specs.High.{high_disk};
 ghost use Rattle.high_process.specs.Ready.{Ready};
 ghost use Rattle.high_process.specs.States.{row_of, last_of, is_down};
 ghost use Rattle.relay_threads.specs.Workers.{CountsEnd};
+ghost use Rattle.relay_threads.specs.HighEnds.{StayTakes, StaysTake};
 ghost use Rattle.relay_threads.specs.HighStays.{Stay, StaySo, StaysSo, EndsStay, EndsStays, end_by, is_broken, steps_at, steps, answers_at, answers, moments_at, moments_in, TellsVisit};
 
 use crate::gate::Open;
@@ -49,7 +50,8 @@ fn stay<R: Wait, P: Door, K: Clock, D: Disk, H: WaitHighEnd, V: Watch>(
         × Grows (P.did door.old) (P.did door.new) (steps_at x)
         × Draws (P.gives door.old) (P.gives door.new) (answers_at x)
         × TellsVisit P.Link.gives P.Link.sent P.Link.faults (row_of process.old).id x
-        × Draws (K.reads clock.old) (K.reads clock.new) (moments_at x) }
+        × Draws (K.reads clock.old) (K.reads clock.new) (moments_at x)
+        × StayTakes H.stands ends.old ends.new process.old process.new x }
     ensures port { (n : ℕ) → P.port door.old n → P.port door.new n }
     ensures ready { is_down process.new ≡ false → Ready D.told process.new store.new (H.stands ends.new) }
     ensures up { is_broken result.end ≡ false → is_down process.new ≡ false }
@@ -113,7 +115,8 @@ pub fn high_rounds<R: Wait, P: Door, K: Clock, D: Disk, H: WaitHighEnd, V: Watch
         × Grows (P.did door.old) (P.did door.new) (steps stays)
         × Draws (P.gives door.old) (P.gives door.new) (answers stays)
         × AllByRecursion (TellsVisit P.Link.gives P.Link.sent P.Link.faults (row_of process.old).id) stays
-        × Draws (K.reads clock.old) (K.reads clock.new) (moments_in stays) }
+        × Draws (K.reads clock.old) (K.reads clock.new) (moments_in stays)
+        × StaysTake H.stands ends.old ends.new process.old process.new stays }
     ensures port { (n : ℕ) → P.port door.old n → P.port door.new n }
     ensures ready { is_down process.new ≡ false → Ready D.told process.new store.new (H.stands ends.new) }
     ensures up { is_broken (Some result) ≡ false → is_down process.new ≡ false }

@@ -3,6 +3,7 @@ use Rattle.high_process.specs.Tasks.{frame_of}
 use Rattle.high_process.specs.Ends.{StandsFitting}
 use Rattle.high_process.proofs.Fitting.{looked_some}
 use Rattle.pump_link.proofs.Grown.{Draws-nil, Grows-nil}
+use Rattle.relay_threads.proofs.HighEnding.{look_takes, fault_takes}
 use Rattle.relay_threads.proofs.HighTurning.{look_ok, look_err, made_ok, made_err, same_err, ready_again, look_counts, err_counts, err_up, err_order, err_link, calm_counts}
 use Rattle.high_process.specs.States.{task_at, attaches_at}
 use Rattle.relay_threads.specs.HighServes.{IsData}
@@ -23,6 +24,7 @@ returns-in-Ok g c = record {
         (sent.0, sent.1, (search rules), sent.3, sent.4),
         c.why_sent.ensures.why,
         c.is_some.ensures,
+        look_takes g.H.HighSide.stands c.args.ends.now c.look_waiting.new.ends (g.H.HighSide.shape c.args.ends.now) g.H.HighSide.on_one_thread p q c.args.moment frame c.in-Ok.look e.looks,
       );
   gives = c.send_hand-is_sent.ensures.gives;
   message = subst (λ row. IsData row.id c.send_hand-is_sent.new.message) c.in-Ok.ensures.row c.send_hand-is_sent.ensures.message;
@@ -69,6 +71,7 @@ returns-in-Err g c = record {
         ([], [], refl, (λ t. refl), Grows-nil _),
         (search rules),
         refl,
+        fault_takes g.H.HighSide.stands c.args.ends.now c.look_waiting.new.ends p q c.args.moment frame c.in-Err.fault e.refused e.fault,
       );
   gives = Draws-nil _;
   message = c.requires.message;

@@ -1,6 +1,8 @@
 use Rattle.std.proofs.Common.{◌≤◌, [], ◌∷◌, length, Some, refl, sym, ap, ◌∙◌, subst, le_refl, le_trans}
+use Rattle.pump_frame.specs.Counts.{Rose}
 use Rattle.high_process.specs.States.{row_of}
 use Rattle.relay_threads.specs.HighServes.{IsData, device_in}
+use Rattle.relay_threads.proofs.HighEnding.{takes_nothing, rounds_take}
 use Rattle.relay_threads.proofs.HighServing.{within_of, data_at, so_far_none, so_far_more, serves_more, told_none, told_more, each_more, sends_at, sent_all, asks_more, asks_ended, counts_more, counts_few, ended_by, no_stop, fault_since, stopped_no_link, looks_no_link, looks_no_stop}
 use Rattle.relay_threads.proofs.Counting.{none_at_most, one_more, same_more, some_left, next_at_most, none_left}
 use Rattle.relay_threads.proofs.Reaching.{rose_later}
@@ -11,6 +13,7 @@ loop-rounds-init g c = record {
   rounds = [];
   so_far = so_far_none c.args.process.now _ _ c.new-connection.ensures.reader c.new-connection.ensures.attached;
   told = told_none _ _ _ _ _;
+  takes = takes_nothing g.H.HighSide.stands c.args.ends.now c.args.process.now;
   begun = c.new-connection.ensures.open.begun;
   message = subst (λ n. IsData n c.new-connection.result.message) c.session.ensures c.new-connection.ensures.open.message;
   removed = refl;
@@ -22,7 +25,7 @@ loop-rounds-init g c = record {
   most = none_at_most c.args.looks;
   link = le_refl _;
   counts = le_refl _;
-  gate = le_refl _;
+  gate = refl;
 }
 
 pub round-turn-requires-clause-open : goal.round-turn-requires-clause-open
@@ -54,6 +57,7 @@ returns-then-not-pass g c =
         sent_all _ _ _ _ was.told.bytes,
         was.told.moments,
         asks_more _ _ _ was.rounds c.loop-rounds.rounds c.loop-rounds.removed was.told.asks f.long was.removed e.asked,
+        was.takes,
       );
       ready = λ up. was.ready;
       up = λ calm. was.ready.up;
@@ -63,7 +67,8 @@ returns-then-not-pass g c =
       link = λ failed. absurd (stopped_no_link failed);
       counts = was.counts;
       device = tt;
-      stopped = λ stopped. rose_later _ _ _ was.gate (e.stopped c.if-not-pass.true);
+      stopped = λ stopped. subst (λ n. Rose n (g.G.Gate.stops c.pass.new.self)) was.gate (e.stopped c.if-not-pass.true);
+      went = λ went. absurd (went refl);
     }
 
 pub returns-in-Some : goal.returns-in-Some
@@ -92,6 +97,7 @@ returns-in-Some g c =
         more.1,
         more.2,
         asks_ended _ _ c.loop-rounds.connection.is_attached r (r ∷ rs) c.in-Some.why is asks,
+        rounds_take g.H.HighSide.stands c.args.ends.now c.loop-rounds.ends c.round-turn.new.ends c.args.process.now c.loop-rounds.process c.round-turn.new.process r rs f.serves.row (f.serves.past was.ready.up) was.takes t.8,
       );
       ready = e.ready;
       up = λ calm. e.up (ap device_in c.in-Some.is ∙ calm);
@@ -102,6 +108,7 @@ returns-in-Some g c =
       counts = le_trans was.counts e.counts;
       device = fault_since c.round-turn.result.why c.in-Some.why _ _ _ c.in-Some.is was.counts e.device;
       stopped = λ stopped. absurd (no_stop c.loop-rounds.connection.is_attached r c.in-Some.why is stopped);
+      went = λ _. c.pass.ensures.passed c.if-not-pass.false ∙ was.gate;
     }
 
 pub returns : goal.returns
@@ -118,6 +125,7 @@ returns g c =
         sent_all _ _ _ _ was.told.bytes,
         was.told.moments,
         was.told.asks,
+        was.takes,
       );
       ready = λ up. was.ready;
       up = λ calm. was.ready.up;
@@ -128,6 +136,7 @@ returns g c =
       counts = was.counts;
       device = tt;
       stopped = λ stopped. absurd (looks_no_stop stopped);
+      went = λ _. was.gate;
     }
 
 pub loop-rounds-preserved : goal.loop-rounds-preserved
@@ -149,6 +158,7 @@ loop-rounds-preserved g c =
       rounds = r ∷ rs;
       so_far = so_far_more c.args.process.now c.loop-rounds.process c.round-turn.new.process c.loop-rounds.connection.reader c.round-turn.new.self.reader c.loop-rounds.connection.is_attached c.round-turn.new.self.is_attached c.loop-rounds.rounds _ r rs was.ready.up f t.1 calm t.7 refl;
       told = told;
+      takes = rounds_take g.H.HighSide.stands c.args.ends.now c.loop-rounds.ends c.round-turn.new.ends c.args.process.now c.loop-rounds.process c.round-turn.new.process r rs f.serves.row (f.serves.past was.ready.up) was.takes t.8;
       begun = c.round-turn.ensures.begun;
       message = data_at c.loop-rounds.process c.args.process.now c.round-turn.new.self.message f.serves.row c.round-turn.ensures.message;
       removed = counts_more r rs _ _ _ was.removed t.6 c.counted-removed.ensures;
@@ -160,5 +170,5 @@ loop-rounds-preserved g c =
       most = one_more c.loop-rounds.rounds c.args.looks c.loop-rounds-test.true;
       link = le_trans was.link c.round-turn.ensures.later;
       counts = le_trans was.counts c.round-turn.ensures.counts;
-      gate = le_trans was.gate c.pass.ensures.later;
+      gate = c.pass.ensures.passed c.if-not-pass.false ∙ was.gate;
     }

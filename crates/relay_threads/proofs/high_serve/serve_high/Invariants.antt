@@ -4,6 +4,7 @@ use Rattle.stable_buffer.specs.High.{high_disk}
 use Rattle.high_process.specs.Ready.{Ready}
 use Rattle.high_process.specs.States.{row_of, last_of}
 use Rattle.relay_threads.specs.HighRounds.{Round, removals}
+use Rattle.relay_threads.specs.HighEnds.{TakesSo}
 use Rattle.relay_threads.specs.HighServes.{IsData}
 use Rattle.relay_threads.proofs.HighServing.{Told, SoFar}
 use Rattle.relay_threads.proofs.high_serve.serve_high.Given as goal
@@ -13,6 +14,7 @@ invariant-loop-rounds g l = record {
   rounds : List Round;
   so_far : SoFar l.fn.process l.process l.connection.reader l.connection.is_attached l.rounds rounds;
   told : Told (g.C.Link.gives l.fn.link) (g.C.Link.gives l.link) (g.C.Link.sent l.fn.link) (g.C.Link.sent l.link) (g.K.Clock.reads l.fn.clock) (g.K.Clock.reads l.clock) (g.G.Gate.asked l.fn.gate) (g.G.Gate.asked l.gate) (row_of l.fn.process).id rounds;
+  takes : TakesSo g.H.HighSide.stands l.fn.ends l.ends l.fn.process l.process rounds;
   begun : HasBegun l.connection.reader;
   message : IsData (row_of l.fn.process).id l.connection.message;
   removed : l.removed ≡ removals rounds;
@@ -24,7 +26,7 @@ invariant-loop-rounds g l = record {
   most : l.rounds ≤ l.looks;
   link : g.C.Link.faults l.fn.link ≤ g.C.Link.faults l.link;
   counts : g.D.Disk.told.count (high_disk l.fn.store) ≤ g.D.Disk.told.count (high_disk l.store);
-  gate : g.G.Gate.stops l.fn.gate ≤ g.G.Gate.stops l.gate;
+  gate : g.G.Gate.stops l.gate ≡ g.G.Gate.stops l.fn.gate;
 }
 
 abbrev pub decreases-loop-rounds : goal.decreases-loop-rounds

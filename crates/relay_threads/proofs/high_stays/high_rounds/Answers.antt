@@ -1,6 +1,7 @@
 use Rattle.std.proofs.Common.{◌≤◌, ◌+◌, ◌-◌, [], ◌∷◌, refl, ap, ◌∙◌, subst, arith, None}
 use Rattle.pump_link.proofs.Grown.{Draws-nil, Draws-then, Grows-nil, Grows-then}
 use Rattle.relay_threads.specs.HighStays.{count, count_at, EndsStayBy, is_broken}
+use Rattle.relay_threads.proofs.HighEnding.{takes_nothing, stays_take}
 use Rattle.relay_threads.proofs.HighStaying.{stays_none, stays_more, tells_at, worker_ends, end_since}
 use Rattle.relay_threads.proofs.high_stays.high_rounds.Goals as goal
 
@@ -8,6 +9,7 @@ pub loop-made-init : goal.loop-made-init
 loop-made-init g c = record {
   stays = [];
   so = stays_none c.args.process.now;
+  takes = takes_nothing g.H.HighSide.stands c.args.ends.now c.args.process.now;
   over = λ lt. tt;
   calm = refl;
   told = record { door = Grows-nil _; came = Draws-nil _; links = tt; moments = Draws-nil _ };
@@ -37,6 +39,7 @@ returns-in-Some g c = record {
         Draws-then _ _ _ _ _ t.came s.4,
         (tells_at _ _ _ c.args.process.now c.loop-made.process x was.so.row s.5, t.links),
         Draws-then _ _ _ _ _ t.moments s.6,
+        stays_take g.H.HighSide.stands c.args.ends.now c.loop-made.ends c.stay-turn.new.ends c.args.process.now c.loop-made.process c.stay-turn.new.process x past was.so.row (was.so.past was.ready.up) was.takes s.7,
       );
   port = λ n h. c.stay-turn.ensures.port n (c.loop-made.invariant.port n h);
   ready = c.stay-turn.ensures.ready;
@@ -59,6 +62,7 @@ loop-made-preserved g c =
     record {
       stays = x ∷ past;
       so = stays_more c.args.process.now c.loop-made.process c.stay-turn.new.process x past was.ready.up (was.over c.loop-made-test.true) was.so s.1;
+      takes = stays_take g.H.HighSide.stands c.args.ends.now c.loop-made.ends c.stay-turn.new.ends c.args.process.now c.loop-made.process c.stay-turn.new.process x past was.so.row (was.so.past was.ready.up) was.takes s.7;
       over = λ lt. (ends.0 (omega (arith, lt, c.loop-made-test.true)), was.over c.loop-made-test.true);
       calm = ends.1;
       told = record {
@@ -82,7 +86,7 @@ returns g c = record {
   rounds =
       let was = c.loop-made.invariant in
       let t = was.told in
-      (was.stays, was.so, (omega (arith, was.made, was.most, c.loop-made-test.false, c.from-most.ensures), was.calm), t.door, t.came, t.links, t.moments);
+      (was.stays, was.so, (omega (arith, was.made, was.most, c.loop-made-test.false, c.from-most.ensures), was.calm), t.door, t.came, t.links, t.moments, was.takes);
   port = c.loop-made.invariant.port;
   ready = λ _. c.loop-made.invariant.ready;
   up = λ _. c.loop-made.invariant.ready.up;

@@ -3,6 +3,7 @@ use Rattle.std.specs.List.{AllByRecursion}
 use Rattle.stable_buffer.specs.High.{high_disk}
 use Rattle.high_process.specs.Ready.{Ready}
 use Rattle.high_process.specs.States.{row_of, last_of}
+use Rattle.relay_threads.specs.HighEnds.{StaysTake}
 use Rattle.relay_threads.specs.HighServes.{device_in}
 use Rattle.relay_threads.specs.HighStays.{Stay, StaysSo, IsOver, count, newest_stay_cause}
 use Rattle.relay_threads.proofs.HighStaying.{StaysTold}
@@ -12,6 +13,7 @@ abbrev pub invariant-loop-made : goal.invariant-loop-made
 invariant-loop-made g l = record {
   stays : List (Stay g.row.P-Link.Denot);
   so : StaysSo l.fn.process l.process stays;
+  takes : StaysTake g.H.HighSide.stands l.fn.ends l.ends l.fn.process l.process stays;
   over : l.made < l.most → AllByRecursion IsOver stays;
   calm : device_in (newest_stay_cause stays) ≡ false;
   told : StaysTold g.P.Link.Link.gives g.P.Link.Link.sent g.P.Link.Link.faults (row_of l.fn.process).id (g.P.Door.did l.fn.door) (g.P.Door.did l.door) (g.P.Door.gives l.fn.door) (g.P.Door.gives l.door) (g.K.Clock.reads l.fn.clock) (g.K.Clock.reads l.clock) stays;

@@ -3,6 +3,7 @@ use Rattle.pump_link.specs.Doors.{answered}
 use Rattle.pump_link.proofs.Grown.{Draws-kept, Draws-then, Grows-then}
 use Rattle.relay_threads.specs.declared.high_served.HighWhy.TheVariants.{Stopped}
 use Rattle.relay_threads.specs.HighStays.{Alone, With, Visit, EndsStay}
+use Rattle.relay_threads.proofs.HighEnding.{takes_nothing}
 use Rattle.relay_threads.proofs.HighStaying.{nobody, alone_so, alone_ends, with_so, with_ends, failed_link}
 use Rattle.relay_threads.proofs.high_stays.stay.Goals as goal
 
@@ -24,6 +25,7 @@ returns-in-Came-clause-stay g c =
       Draws-kept _ _ _ _ c.in-Came.ensures.gives c.back.ensures.gives,
       (s.3, s.4, failed_link m v c.args.most left looks s.2.0 rest w _ _ open_gate s.2.1 c.serve_high-served.ensures.link),
       Draws-then _ _ _ _ _ c.moment.ensures.reads s.5,
+      s.7,
     )
 
 pub returns-in-NotYet-clause-stay : goal.returns-in-NotYet-clause-stay
@@ -35,4 +37,5 @@ returns-in-NotYet-clause-stay g c = (
   c.accept.ensures.gives,
   tt,
   c.moment.ensures.reads,
+  takes_nothing g.H.HighSide.stands c.args.ends.now c.args.process.now,
 )

@@ -3,6 +3,7 @@ use Rattle.std.proofs.Common.{Some, [], refl, ap, ◌∙◌, le_refl, le_trans}
 use Rattle.pump_link.proofs.Grown.{Draws-kept, Grows-after}
 use Rattle.relay_threads.specs.Heards.{heard_with}
 use Rattle.relay_threads.proofs.Hearing.{head_failed}
+use Rattle.relay_threads.proofs.HighEnding.{takes_nothing}
 use Rattle.relay_threads.proofs.HighTurning.{plan_is, frame_is, attached_is, round_without, round_with, ended_turn, passed_turn, ended_cause, passed_cause, looked_turn, looked_cause, ended_failed, ended_calm, calm_counts, none_no_link}
 use Rattle.relay_threads.proofs.Reaching.{rose_later}
 use Rattle.relay_threads.proofs.high_round.HighConnection.round.Goals as goal
@@ -22,6 +23,7 @@ returns-in-End g c = record {
         ended_cause c.args.process.now _ _ was m h.0 h.1 h.3 _ is,
         refl,
         attached_is was _ h.0 (heard_with c.hear-heard.new.room c.hear-heard.result) h.2 (ap (λ b. was || b) (c.is_frame.ensures c.hear-heard.new.room)),
+        takes_nothing g.H.HighSide.stands c.args.ends.now c.args.process.now,
       );
   begun = c.hear-heard.ensures.begun;
   message = c.requires.open.message;
@@ -51,6 +53,7 @@ returns-in-Pass g c = record {
         passed_cause c.args.process.now _ _ was m h.0 h.1 h.3 is,
         refl,
         attached_is was _ h.0 (heard_with c.hear-heard.new.room c.hear-heard.result) h.2 (ap (λ b. was || b) (c.is_frame.ensures c.hear-heard.new.room)),
+        takes_nothing g.H.HighSide.stands c.args.ends.now c.args.process.now,
       );
   begun = c.hear-heard.ensures.begun;
   message = c.requires.open.message;
@@ -81,6 +84,7 @@ returns-in-Look g c = record {
         l.4 ∙ looked_cause c.args.process.now _ _ was m h.0 h.1 h.3 l.0 l.1 is,
         l.5,
         attached_is was _ h.0 (heard_with c.hear-heard.new.room c.hear-heard.result) h.2 (ap (λ b. was || b) (c.is_frame.ensures c.hear-heard.new.room)),
+        l.6,
       );
   begun = c.hear-heard.ensures.begun;
   message = c.look.ensures.message;

@@ -1,5 +1,5 @@
 -- What the high worker does at its end of the passage, look by look.
-use Rattle.std.proofs.Common.{◌≡◌, ℕ, ◌+◌, ◌≤◌, Bool, true, false, List, [], ◌∷◌, ◌++◌, length, Option, Some, None, Result, Ok, Err, refl, sym, ap, ◌∙◌, subst, arith, append_assoc, append-nil, length-append}
+use Rattle.std.proofs.Common.{◌≡◌, ℕ, ◌+◌, ◌≤◌, Bool, true, false, List, [], ◌∷◌, ◌++◌, length, Option, Some, None, Ok, refl, sym, ap, ◌∙◌, subst, arith, append_assoc, append-nil, length-append}
 use Rattle.std.specs.Prelude.{is_some, is_none, not, ◌&&◌, cond, option_to_list}
 use Rattle.std.proofs.lemmas.Grind.{flat_map-append}
 use Rattle.std.proofs.lemmas.List.Sums.{sum_by-append}
@@ -14,21 +14,20 @@ use Rattle.high_process.specs.declared.values.HighFault.TheVariants as faults
 use Rattle.high_process.specs.declared.values.HighLook.{HighLook}
 use Rattle.high_process.specs.declared.values.Task.{Task}
 use Rattle.high_process.specs.declared.values.Task.TheVariants.{Refuse, Remove, Keep}
-use Rattle.high_process.specs.Tasks.{task_of}
-use Rattle.high_process.specs.Past.{ProcessPast, begun, published_in, taken_up, finished, wants}
-use Rattle.high_process.specs.States.{row_of, hand_of, removed_of, published_of, is_down, task_at, attaches_at}
+use Rattle.high_process.specs.Past.{ProcessPast, begun, published_in, taken_up, wants}
+use Rattle.high_process.specs.States.{row_of, hand_of, task_at, attaches_at}
 use Rattle.pump_core.specs.Sendings.{expected}
 use Rattle.high_process.specs.Storing.{IsAfter}
 use Rattle.high_process.specs.Ends.{TakesUp, told_time, FitsEnd, StandsFitting}
 use Rattle.high_process.specs.Looks.{StandsFor, Looked}
-use Rattle.relay_threads.specs.HighRounds.{Made, Round, past_after, past_by, served, with_hand}
+use Rattle.relay_threads.specs.HighRounds.{Round, past_after, past_by, served}
 use Rattle.relay_threads.specs.HighStays.{Stay, stayed, stay_after}
 use Rattle.relay_threads.specs.HighEnds.{payloads, answer_if, answer_by, answer_made, answers_in, answers_at_stay, answers_over, given, misses, HasTaken, TakesBy, LookTakes, TakesSo, StayTakes, StaysTake}
 use Rattle.relay_threads.proofs.HighTurning.{same_task, made_ok, made_err}
 
 -- ---- lists of answers ----
 
-given_more : (xs ys : List (Option (List ℕ))) → given (xs ++ ys) ≡ given xs ++ given ys
+pub given_more : (xs ys : List (Option (List ℕ))) → given (xs ++ ys) ≡ given xs ++ given ys
 given_more xs ys = flat_map-append option_to_list xs ys
 
 misses_more : (xs ys : List (Option (List ℕ))) → misses (xs ++ ys) ≡ misses xs + misses ys
@@ -57,7 +56,7 @@ begun_times Keep t m = sym (append-nil t.times)
 begun_times (Refuse e) t m = sym (append-nil t.times)
 
 -- a look asks with an empty hand, so that what is in it after a look that found nothing is nothing
-wanted_none : (hand : Option Item) (below : Bool) → not (is_some hand) && below ≡ true → hand ≡ None
+pub wanted_none : (hand : Option Item) (below : Bool) → not (is_some hand) && below ≡ true → hand ≡ None
 wanted_none None below e = refl
 wanted_none (Some x) below e = absurd (cc)
 

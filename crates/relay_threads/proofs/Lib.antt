@@ -2,6 +2,7 @@ pub mod Alike
 pub mod Counting
 pub mod Hearing
 pub mod HighEnding
+pub mod HighSending
 pub mod HighServing
 pub mod HighStaying
 pub mod HighTurning

@@ -33,15 +33,16 @@ fn counted(removed: u64, has_removed: bool) -> u64
 /// Serves one connection of a receiver, with at most `looks` rounds (`docs/design.md`,
 /// "Serving"). Each round draws a moment, in microseconds, and reads the link. No look is made
 /// before the first frame, which is to be an ATTACH, and then one in each round; what it sends goes
-/// out as a DATA. The gate is asked before each round, with the rounds made and the messages removed
-/// in this call.
+/// out as a DATA. At its end of the passage it takes up just what comes into the hand in these looks,
+/// and publishes just the times of their removals. The gate is asked before each round, with the
+/// rounds made and the messages removed in this call.
 ///
 /// `Gone`, `Bad` and `NotAttach` come where a round read the link's end, bad bytes, or a first frame
 /// that is no ATTACH; that round makes no look. `LinkFailed` comes only where the link's count of
 /// faults rose, and `Device` only where the disk's did; the process is then down. `Ahead` and
 /// `Behind` come as the look refuses them, and change nothing. `Looks` comes exactly where all
-/// rounds were made and none of them ended the call, and `Stopped` exactly where the gate's count of
-/// stops rose: a gate that answers false stops the worker.
+/// rounds were made and none of them ended the call. `Stopped` comes only where the gate's count of
+/// stops rose, and with any other answer that count is as before.
 pub fn serve_high<R: Wait, C: Link, K: Clock, D: Disk, H: WaitHighEnd, G: Gate>(
     rt: &R,
     link: &mut C,

@@ -92,8 +92,8 @@ fn stay<R: Wait, P: Door, K: Clock, D: Disk, H: WaitHighEnd, V: Watch>(
 /// The high worker of a session over its door, with this many rounds (`docs/design.md`,
 /// "Serving"). A round without connection draws a moment, in microseconds, asks the door, and makes
 /// no look; a link that comes is served by `serve_high`, and given back to the door when its
-/// connection or the worker ends. A connection's failure ends that connection alone. The watch is told of
-/// each link.
+/// connection or the worker ends. At its end of the passage nothing is done but by `serve_high`. A
+/// connection's failure ends that connection alone. The watch is told of each link.
 ///
 /// `Rounds` comes exactly where all rounds were made and none of them ended the worker. `Device`
 /// comes only where the disk's count of faults rose; the process is then down. `RecordFailed` never

@@ -3,6 +3,7 @@
 
 mod gate;
 mod hear;
+mod high_law;
 mod high_round;
 mod high_serve;
 mod high_served;
@@ -18,6 +19,7 @@ mod tape;
 mod watch;
 
 pub use gate::{Gate, Open};
+pub use high_law::sends_what_came;
 pub use high_serve::serve_high;
 pub use high_served::{HighServed, HighWhy};
 pub use high_stays::high_rounds;

@@ -4,6 +4,7 @@ use Rattle.std.specs.List.{AllByRecursion}
 use Rattle.disk_model.specs.Disk.{Meaning}
 use Rattle.pump_frame.specs.declared.frame.Item.{Item}
 use Rattle.pump_frame.specs.declared.row.SessionRow.{SessionRow}
+use Rattle.pump_core.specs.Passage.{Low, High}
 use Rattle.pump_link.proofs.Grown.{Grows-all}
 use Rattle.stable_buffer.specs.High.{StandsForRemoved, high_disk}
 use Rattle.stable_buffer.specs.Stands.{HighStands}
@@ -22,9 +23,9 @@ use Rattle.relay_side.specs.Sides.{SideTells}
 use Rattle.serving.specs.declared.high_half.HighParts.{HighParts}
 use Rattle.serving.proofs.LowServes.{counts_from}
 
-module _ {D L S E : Type 0} (t : DoorsTell D L) (m : Meaning S) (row : SessionRow) (rounds : ℕ) (side : SideTells D L)
+module _ {D L S E : Type 0} (t : DoorsTell D L) (m : Meaning S) (ends_stand : E → Low → High → Type 0) (row : SessionRow) (rounds : ℕ) (side : SideTells D L)
     (removed : ℕ) (hand : Option Item) (parts : HighParts S E) (was store : HighStore S) (disk now_disk : S) (end : RoundsEnd)
-    (lent : HighLent t m side row.high_port rounds parts store end)
+    (lent : HighLent t m ends_stand side row.high_port rounds parts store end)
     (row_is : row_of parts.process ≡ row) (stands : StandsFor parts.process (fresh removed hand))
     (found : m.tells → HighStands row removed (m.reading disk)) (next : IfSome hand (λ item. item.number ≡ removed))
     (store_was : parts.store ≡ was) (now_is : now_disk ≡ high_disk store) (counts : m.count disk ≤ m.count (high_disk was)) where

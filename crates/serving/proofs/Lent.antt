@@ -49,10 +49,10 @@ module _ {P K R L : Type 0} (did : P → List (PortsStep L R) → Type 0) (fault
           ran = done.ran;
         }
 
-    pub high_lent : {H : Type 0} (parts w : HighParts S H)
-        → HighDone t m (side did faults reads (record { ports = mid; clock = old.clock }) now) rounds (Some door) now_door parts w end
-        → HighLent t m (side did faults reads old (record { ports = last; clock = now.clock })) port rounds parts w.store end
-    high_lent parts w done =
+    pub high_lent : {H : Type 0} (stands : H → Low → High → Type 0) (parts w : HighParts S H)
+        → HighDone t m stands (side did faults reads (record { ports = mid; clock = old.clock }) now) rounds (Some door) now_door parts w end
+        → HighLent t m stands (side did faults reads old (record { ports = last; clock = now.clock })) port rounds parts w.store end
+    high_lent stands parts w done =
         let is = same_Some door done.opened done.had in
         record {
           opened = done.opened;

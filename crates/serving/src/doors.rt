@@ -129,7 +129,7 @@ where
     ensures low { IfOk result.ends (λ ends. LowLent (doors P.Door.port P.Door.did P.Door.gives (links P.Link.gives P.Link.sent P.Link.faults)) D.told W.gives L.stands L.shape
         (side P.did P.faults K.reads low_side.old low_side.new) (O.written tape.old) (O.written tape.new) (O.faults tape.old) (O.faults tape.new)
         row.now.low_port rounds low result.low ends.low) }
-    ensures high { IfOk result.ends (λ ends. HighLent (doors P.Door.port P.Door.did P.Door.gives (links P.Link.gives P.Link.sent P.Link.faults)) D.told
+    ensures high { IfOk result.ends (λ ends. HighLent (doors P.Door.port P.Door.did P.Door.gives (links P.Link.gives P.Link.sent P.Link.faults)) D.told H.stands
         (side P.did P.faults K.reads high_side.old high_side.new) row.now.high_port rounds high result.high ends.high) }
     ensures wanting { IfErr result.ends (λ why. why ≡ NoDoor → WantDoor (ports P.did P.faults low_side.old.ports low_side.new.ports) (ports P.did P.faults high_side.old.ports high_side.new.ports) row.now.low_port row.now.high_port) }
     ensures unstarted { IfErr result.ends (λ why. why ≡ NoThread → OpensAndShuts (ports P.did P.faults low_side.old.ports low_side.new.ports) row.now.low_port × OpensAndShuts (ports P.did P.faults high_side.old.ports high_side.new.ports) row.now.high_port) }

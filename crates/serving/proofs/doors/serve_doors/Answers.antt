@@ -17,7 +17,7 @@ returns-clause-high g c =
     let served = c.serve_halves-served in
     ended served.result _ _ c.workers_end.result c.workers_end.ensures _ _ served.ensures.high (λ done.
     high_lent g.P.Ports.did g.P.Ports.faults c.args.high_side.now served.new.high_side c.open_doors.new.high_ports c.shut_left-2.new.ports _ c.in-Ok.high_door served.new.high.door e.high.0
-    _ g.D.Disk.told g.K.Clock.reads _ served.new.high.end e.high.1 e.high.2 c.shut_left-2.ensures.none c.args.high served.new.high.parts done)
+    _ g.D.Disk.told g.K.Clock.reads _ served.new.high.end e.high.1 e.high.2 c.shut_left-2.ensures.none g.H.HighSide.stands c.args.high served.new.high.parts done)
 
 pub returns-clause-wanting : goal.returns-clause-wanting
 returns-clause-wanting g c = has_doors c.serve_halves-served.result _ _ c.workers_end.result c.workers_end.ensures _

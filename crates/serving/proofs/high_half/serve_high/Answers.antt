@@ -1,0 +1,23 @@
+use Rattle.serving.proofs.high_half.serve_high.Goals as goal
+
+pub returns : goal.returns
+returns g c =
+    let e = c.high_rounds.ensures in
+    let r = e.rounds in
+    record {
+      stays = r.0;
+      so = r.1;
+      ends = r.2;
+      did = r.3;
+      gave = r.4;
+      port = e.port;
+      links = r.5;
+      moments = r.6;
+      takes = r.7;
+      device = e.device;
+      store =
+          λ sound.
+          let now = e.ready (e.up sound) in
+          record { up = now.up; ready = now.ready; count = now.count };
+      counts = e.counts;
+    }

@@ -78,6 +78,7 @@ pub fn serve_low<R: Wait, C: Link, K: Clock, W: Words, D: Disk, L: WaitLowEnd, O
     ensures counts { D.told.count (low_disk store.old) ≤ D.told.count (low_disk store.new) }
     ensures device { CountsFault result.why (D.told.count (low_disk store.old)) (D.told.count (low_disk store.new)) }
     ensures stopped { result.why ≡ Stopped → Rose (G.stops gate.old) (G.stops gate.new) }
+    ensures went { (result.why ≡ Stopped → ⊥) → G.stops gate.new ≡ G.stops gate.old }
 {
     let mut connection = LowConnection::new();
     let mut was_full = false;

@@ -1,5 +1,6 @@
 use Rattle.std.proofs.Common.{◌≤◌, [], ◌∷◌, Some, length, refl, sym, ap, ◌∙◌, subst, le_refl, le_trans, arith}
 use Rattle.std.specs.Io.KnownBytes.{Appends}
+use Rattle.pump_frame.specs.Counts.{Rose}
 use Rattle.relay_threads.specs.LowRounds.{made_in, reply_bytes}
 use Rattle.relay_threads.specs.LowServes.{is_device_in, all_sent, all_kept}
 use Rattle.relay_threads.specs.Records.{record_of}
@@ -31,7 +32,7 @@ loop-rounds-init g c = record {
   link = le_refl _;
   counts = le_refl _;
   tape = le_refl _;
-  gate = le_refl _;
+  gate = refl;
 }
 
 pub low_round-turn-requires-clause-within : goal.low_round-turn-requires-clause-within
@@ -83,7 +84,7 @@ loop-rounds-preserved g c =
       link = sends.later;
       counts = le_trans was.counts c.low_round-turn.ensures.counts;
       tape = keeps.later;
-      gate = le_trans was.gate c.pass.ensures.later;
+      gate = c.pass.ensures.passed (c.if-not-pass.false) ∙ was.gate;
     }
 
 pub returns-then-not-pass : goal.returns-then-not-pass
@@ -117,7 +118,8 @@ returns-then-not-pass g c =
       tape = λ e. absurd (stopped_no_record e);
       counts = was.counts;
       device = tt;
-      stopped = λ _. rose_later _ _ _ was.gate (c.pass.ensures.stopped c.if-not-pass.true);
+      stopped = λ _. subst (λ n. Rose n (G.stops c.pass.new.self)) was.gate (c.pass.ensures.stopped c.if-not-pass.true);
+      went = λ goes_on. absurd (goes_on refl);
     }
 
 pub returns-in-Some : goal.returns-in-Some
@@ -162,6 +164,7 @@ returns-in-Some g c =
       counts = le_trans was.counts e.counts;
       device = fault_since c.low_round-turn.result.why c.in-Some.why _ _ _ c.in-Some.is was.counts e.device;
       stopped = λ is. absurd (no_stop r c.in-Some.why why is);
+      went = λ _. c.pass.ensures.passed (c.if-not-pass.false) ∙ was.gate;
     }
 
 pub returns : goal.returns
@@ -195,4 +198,5 @@ returns g c =
       counts = was.counts;
       device = tt;
       stopped = λ e. absurd (looks_no_stop e);
+      went = λ _. was.gate;
     }

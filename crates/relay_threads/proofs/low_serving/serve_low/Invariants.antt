@@ -28,7 +28,7 @@ invariant-loop-rounds g l = record {
   link : g.C.Link.faults l.fn.link ≤ g.C.Link.faults l.link;
   counts : g.D.Disk.told.count (low_disk l.fn.store) ≤ g.D.Disk.told.count (low_disk l.store);
   tape : g.O.Sink.faults l.fn.tape ≤ g.O.Sink.faults l.tape;
-  gate : g.G.Gate.stops l.fn.gate ≤ g.G.Gate.stops l.gate;
+  gate : g.G.Gate.stops l.gate ≡ g.G.Gate.stops l.fn.gate;
 }
 
 abbrev pub decreases-loop-rounds : goal.decreases-loop-rounds

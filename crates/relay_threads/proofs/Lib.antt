@@ -8,6 +8,7 @@ pub mod HighStaying
 pub mod HighTurning
 pub mod Kept
 pub mod Levels
+pub mod LowEnds
 pub mod LowLives
 pub mod LowRecord
 pub mod LowReplays
@@ -16,10 +17,10 @@ pub mod LowStaying
 pub mod LowTurning
 pub mod LowVisiting
 pub mod Machine
-pub mod PairsRead
 pub mod Reaching
 pub mod ReadingBack
 pub mod Replaying
 pub mod ReplyKinds
 pub mod Scripting
+pub mod StoredMessages
 pub mod Telling

@@ -206,3 +206,13 @@ end_counts why end before now is counted = subst (λ e. CountsEnd e before now) 
 pub kept_counts : (k : Bool) (end : Option RoundsEnd) (before now : ℕ) → end ≡ (if k then None else Some RecordBroke) → CountsEnd end before now
 kept_counts true end before now is = subst (λ e. CountsEnd e before now) (sym is) tt
 kept_counts false end before now is = subst (λ e. CountsEnd e before now) (sym is) tt
+
+-- a call after which a look with Gone follows ended so, too
+pub left_calm : (why : LowWhy) → is_left_so why ≡ true → (is_device why ≡ false) × (why ≡ RecordFailed → ⊥)
+left_calm Gone left = absurd (cc)
+left_calm Bad left = (refl, λ e. cc)
+left_calm LinkFailed left = (refl, λ e. cc)
+left_calm (Device n) left = absurd (cc)
+left_calm RecordFailed left = absurd (cc)
+left_calm Looks left = absurd (cc)
+left_calm Stopped left = absurd (cc)

@@ -5,6 +5,7 @@ pub mod HighRounds
 pub mod HighServes
 pub mod HighStays
 pub mod Levels
+pub mod LowEnds
 pub mod LowRounds
 pub mod LowServes
 pub mod Pairs
@@ -14,4 +15,5 @@ pub mod Reaching
 pub mod RecordLines
 pub mod Records
 pub mod Replays
+pub mod StoredMessages
 pub mod Workers

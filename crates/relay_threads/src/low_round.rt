@@ -14,7 +14,7 @@ ghost use Rattle.relay_threads.specs.declared.low_round.LowWhy.TheVariants.{Link
 ghost use Rattle.relay_threads.specs.Heards.{heard_with};
 ghost use Rattle.relay_threads.specs.Hearings.{held_in, IsLawfulHeard};
 ghost use Rattle.relay_threads.specs.Levels.{IsEndOf};
-ghost use Rattle.relay_threads.specs.PairsRead.{ReadsPairs};
+ghost use Rattle.relay_threads.specs.LowEnds.{DoesSo, StoresSo};
 ghost use Rattle.relay_threads.specs.Reaching.{Reaches};
 ghost use Rattle.relay_threads.specs.Replays.{TellsLevel};
 ghost use Rattle.relay_threads.specs.Records.{Made, was_full as full_before};
@@ -212,7 +212,8 @@ pub fn low_round<R: Wait, C: Link, K: Clock, W: Words, D: Disk, L: WaitLowEnd, O
         → Reaches (Appends (O.written tape.old) (O.written tape.new)) (O.faults tape.old) (O.faults tape.new) r.is_kept (text_made (row_of process.old) before r.made))
         × (result.why ≡ cause r) × (result.is_full ≡ full_after was_full r.made) × (result.is_acked ≡ is_ack_made r.made)
         × (IsEndOf L.stands L.shape ends.old (row_of process.old) → IfSome r.made (TellsLevel (row_of process.old)))
-        × ReadsPairs L.stands ends.old ends.new process.old process.new (with_look r.made []) }
+        × DoesSo L.stands L.shape ends.old ends.new process.old process.new (with_look r.made [])
+        × StoresSo D.told store.old store.new process.old process.new (with_look r.made []) }
     ensures begun { HasBegun connection.new.reader }
     ensures ready { Ready D.told process.new store.new (L.stands ends.new) }
     ensures up { is_device_in result.why ≡ false → (result.why ≡ Some RecordFailed → ⊥) → is_down process.new ≡ false }

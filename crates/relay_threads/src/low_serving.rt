@@ -8,7 +8,7 @@ ghost use Rattle.low_process.specs.Ready.{Ready};
 ghost use Rattle.low_process.specs.Looks.{row_of, last_of, is_down};
 ghost use Rattle.relay_threads.specs.declared.low_round.LowWhy.TheVariants.{LinkFailed, RecordFailed, Stopped};
 ghost use Rattle.relay_threads.specs.Levels.{IsEndOf};
-ghost use Rattle.relay_threads.specs.PairsRead.{ReadsPairs};
+ghost use Rattle.relay_threads.specs.LowEnds.{DoesSo, StoresSo};
 ghost use Rattle.relay_threads.specs.Reaching.{Reaches};
 ghost use Rattle.relay_threads.specs.Replays.{TellLevels};
 ghost use Rattle.relay_threads.specs.Records.{record_of};
@@ -40,9 +40,11 @@ fn counted(acks: u64, is_acked: bool) -> u64
 }
 
 /// Serves one connection of the low party, for at most `looks` rounds (`docs/design.md`,
-/// "Serving"). The process replies over the link, and the tape takes the record of its looks. The gate
-/// is asked before each round, with the rounds so far and the messages that were acknowledged in them.
-/// The call may wait for the other end of the passage.
+/// "Serving"). The process replies over the link, and the tape takes the record of its looks. What the
+/// looks pass on is forwarded at the end of the passage, and what they store is on the disk. The gate is
+/// asked before each round, with the rounds so far and the messages that were acknowledged in them, and
+/// the answer is `Stopped` exactly where it stops the worker. The call may wait for the other end of the
+/// passage.
 pub fn serve_low<R: Wait, C: Link, K: Clock, W: Words, D: Disk, L: WaitLowEnd, O: Sink, G: Gate>(
     rt: &R,
     link: &mut C,
@@ -67,7 +69,8 @@ pub fn serve_low<R: Wait, C: Link, K: Clock, W: Words, D: Disk, L: WaitLowEnd, O
         (looks_text (row_of process.old) (record_of (made_in rounds)))
         × Grows (G.asked gate.old) (G.asked gate.new) (asked_in rounds result.why)
         × (IsEndOf L.stands L.shape ends.old (row_of process.old) → TellLevels (row_of process.old) (made_in rounds))
-        × ReadsPairs L.stands ends.old ends.new process.old process.new (made_in rounds) }
+        × DoesSo L.stands L.shape ends.old ends.new process.old process.new (made_in rounds)
+        × StoresSo D.told store.old store.new process.old process.new (made_in rounds) }
     ensures ready { Ready D.told process.new store.new (L.stands ends.new) }
     ensures up { is_device result.why ≡ false → (result.why ≡ RecordFailed → ⊥) → is_down process.new ≡ false }
     ensures order { last_of process.new ≤ K.floor clock.new }

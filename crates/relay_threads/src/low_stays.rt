@@ -12,7 +12,7 @@ ghost use Rattle.low_process.specs.Looks.{row_of, last_of, is_down};
 ghost use Rattle.relay_threads.specs.declared.low_round.LowWhy.TheVariants.{LinkFailed};
 ghost use Rattle.relay_threads.specs.declared.rounds_end.RoundsEnd.TheVariants.{Rounds as RoundsMade, RecordFailed as RecordBroke};
 ghost use Rattle.relay_threads.specs.Levels.{IsEndOf};
-ghost use Rattle.relay_threads.specs.PairsRead.{ReadsPairs};
+ghost use Rattle.relay_threads.specs.LowEnds.{DoesSo, StoresSo};
 ghost use Rattle.relay_threads.specs.Reaching.{Reaches};
 ghost use Rattle.relay_threads.specs.Workers.{CountsEnd};
 ghost use Rattle.relay_threads.specs.Records.{Made};
@@ -52,7 +52,8 @@ fn leave<R: Wait, K: Clock, D: Disk, L: WaitLowEnd, O: Sink>(
         × Draws (K.reads clock.old) (K.reads clock.new) (m.look.moment ∷ [])
         × Reaches (Appends (O.written tape.old) (O.written tape.new)) (O.faults tape.old) (O.faults tape.new) result (text_made (row_of process.old) [] (Some m))
         × (IsEndOf L.stands L.shape ends.old (row_of process.old) → TellsLevel (row_of process.old) m)
-        × ReadsPairs L.stands ends.old ends.new process.old process.new (m ∷ []) }
+        × DoesSo L.stands L.shape ends.old ends.new process.old process.new (m ∷ [])
+        × StoresSo D.told store.old store.new process.old process.new (m ∷ []) }
     ensures ready { Ready D.told process.new store.new (L.stands ends.new) }
     ensures up { is_down process.new ≡ false }
     ensures order { last_of process.new ≤ K.floor clock.new }
@@ -127,7 +128,8 @@ fn visit<R: Wait, C: Link, K: Clock, W: Words, D: Disk, L: WaitLowEnd, O: Sink, 
         × Draws (W.gives words.old) (W.gives words.new) (words_of rounds)
         × Reaches (Appends (O.written tape.old) (O.written tape.new)) (O.faults tape.old) (O.faults tape.new) (is_kept_by result.end) (visit_text (row_of process.old) rounds gone)
         × (IsEndOf L.stands L.shape ends.old (row_of process.old) → TellLevels (row_of process.old) (visited [] rounds gone))
-        × ReadsPairs L.stands ends.old ends.new process.old process.new (visited [] rounds gone) }
+        × DoesSo L.stands L.shape ends.old ends.new process.old process.new (visited [] rounds gone)
+        × StoresSo D.told store.old store.new process.old process.new (visited [] rounds gone) }
     ensures ready { Ready D.told process.new store.new (L.stands ends.new) }
     ensures up { is_ended result.end ≡ false → is_down process.new ≡ false }
     ensures order { last_of process.new ≤ K.floor clock.new }
@@ -181,7 +183,8 @@ fn stay<R: Wait, P: Door, K: Clock, W: Words, D: Disk, L: WaitLowEnd, O: Sink, V
         × Draws (W.gives words.old) (W.gives words.new) (words_at x)
         × Reaches (Appends (O.written tape.old) (O.written tape.new)) (O.faults tape.old) (O.faults tape.new) (is_kept_by result.end) (text_at (row_of process.old) x)
         × (IsEndOf L.stands L.shape ends.old (row_of process.old) → TellLevels (row_of process.old) (stay_after [] x))
-        × ReadsPairs L.stands ends.old ends.new process.old process.new (stay_after [] x) }
+        × DoesSo L.stands L.shape ends.old ends.new process.old process.new (stay_after [] x)
+        × StoresSo D.told store.old store.new process.old process.new (stay_after [] x) }
     ensures port { (n : ℕ) → P.port door.old n → P.port door.new n }
     ensures ready { Ready D.told process.new store.new (L.stands ends.new) }
     ensures up { is_ended result.end ≡ false → is_down process.new ≡ false }
@@ -224,8 +227,9 @@ fn stay<R: Wait, P: Door, K: Clock, W: Words, D: Disk, L: WaitLowEnd, O: Sink, V
 /// A round without connection draws a moment, in microseconds, asks the door, and makes no look; a link
 /// that comes is served by `serve_low`, and given back to the door when its connection or the worker
 /// ends. After a link that failed or showed bad bytes the process makes a look with Gone, which counts as
-/// no round. A connection's failure ends that connection alone. The tape takes the record of all looks, and
-/// the watch is told of each link.
+/// no round. A connection's failure ends that connection alone. The tape takes the record of all looks, what
+/// they pass on is forwarded at the end of the passage, and what they store is on the disk. The watch is told
+/// of each link.
 ///
 /// `Rounds` comes exactly where all rounds were made and nothing ended the worker. `Device` comes only
 /// where the disk's count of faults rose; the process is then down. `RecordFailed` comes only where the
@@ -255,7 +259,8 @@ pub fn low_rounds<R: Wait, P: Door, K: Clock, W: Words, D: Disk, L: WaitLowEnd, 
         × Reaches (Appends (O.written tape.old) (O.written tape.new)) (O.faults tape.old) (O.faults tape.new) (is_kept_by (Some result)) (text_in (row_of process.old) stays)
         × ((o : Opening) → Lives process.old o [] → IsRecord (row_of process.old) stays)
         × (IsEndOf L.stands L.shape ends.old (row_of process.old) → TellLevels (row_of process.old) (stayed [] stays))
-        × ReadsPairs L.stands ends.old ends.new process.old process.new (stayed [] stays) }
+        × DoesSo L.stands L.shape ends.old ends.new process.old process.new (stayed [] stays)
+        × StoresSo D.told store.old store.new process.old process.new (stayed [] stays) }
     ensures port { (n : ℕ) → P.port door.old n → P.port door.new n }
     ensures ready { Ready D.told process.new store.new (L.stands ends.new) }
     ensures up { result ≡ RoundsMade → is_down process.new ≡ false }

@@ -21,7 +21,7 @@ use Rattle.relay_threads.specs.RecordLines.{made_by}
 use Rattle.relay_threads.specs.Replays.{ReadsBack}
 use Rattle.relay_threads.specs.LowServes.{bytes_of, text_after}
 use Rattle.relay_threads.proofs.Levels.{step_tells}
-use Rattle.relay_threads.proofs.PairsRead.{step_reads, reads_none}
+use Rattle.relay_threads.proofs.LowEnds.{look_does, look_stores, does_none, stores_none}
 use Rattle.relay_threads.proofs.Reaching.{rose_later, reaches_all, reaches_behind}
 use Rattle.relay_threads.proofs.LowTurning.{counts_by, rose_by, fault_by, down_is, round_failed, failed_turn, made_turn, round, failed_cause, made_cause, link_by}
 use Rattle.relay_threads.proofs.low_round.low_round.Goals as goal
@@ -49,7 +49,8 @@ returns-then-is_failed g c = record {
         refl,
         refl,
         (λ end. tt),
-        reads_none g.L.LowSide.stands c.args.ends.now p,
+        does_none g.L.LowSide.stands g.L.LowSide.shape c.args.ends.now p,
+        stores_none g.D.Disk.told c.args.store.now p,
       );
   begun = c.hear_if-heard.ensures.begun;
   ready = c.requires.ready;
@@ -111,7 +112,10 @@ returns g c = record {
             let was = c.requires.ready in
             step_tells g.L.LowSide.stands g.L.LowSide.shape c.look_waiting_into.new.ends (row_of p) end.0 (ap (λ (s : Shape). s.averaging) c.look_waiting_into.ensures.shape ∙ end.1)
             (g.L.LowSide.shape c.args.ends.now) g.L.LowSide.on_one_thread q was.l was.h (hand_of p) head.feedback (c.look_waiting_into.ensures.ends was.l was.h was.fitting)),
-        (λ l h fits. step_reads (g.L.LowSide.shape c.args.ends.now) g.L.LowSide.on_one_thread (StandsFitting (g.L.LowSide.stands c.look_waiting_into.new.ends) q) l h (hand_of p) head.feedback (c.look_waiting_into.ensures.ends l h fits)),
+        (λ low h fits.
+            look_does p q m w a looks.0 l c.look_waiting_into.ensures.row looks.1.looks c.look_waiting_into.ensures.hand (g.L.LowSide.shape c.args.ends.now) g.L.LowSide.on_one_thread
+            (StandsFitting (g.L.LowSide.stands c.look_waiting_into.new.ends) q) low h (c.look_waiting_into.ensures.ends low h fits)),
+        look_stores g.D.Disk.told p q m w a looks.0 l c.look_waiting_into.ensures.row looks.1.looks c.args.store.now c.look_waiting_into.new.store c.requires.up c.requires.ready.of looks.1.keeps looks.1.falls,
       );
   begun = c.hear_if-heard.ensures.begun;
   ready =

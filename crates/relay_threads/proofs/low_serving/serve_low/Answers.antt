@@ -7,7 +7,7 @@ use Rattle.relay_threads.specs.Records.{record_of}
 use Rattle.relay_threads.specs.RecordLines.{looks_text}
 use Rattle.relay_threads.proofs.Counting.{none_at_most, one_more, same_more, some_left, next_at_most, none_left}
 use Rattle.relay_threads.proofs.Levels.{levels_then}
-use Rattle.relay_threads.proofs.PairsRead.{reads_none, reads_more}
+use Rattle.relay_threads.proofs.LowEnds.{does_none, does_rounds, stores_none, stores_rounds}
 use Rattle.relay_threads.proofs.Reaching.{reaches_whole, rose_later}
 use Rattle.relay_threads.proofs.LowServing.{acks_few, calm_round, sent_on, kept_on, within_of, serves_more, so_far_none, so_far_more, told_none, sends_more, keeps_more, ended_by, broken_round, asked_by, asks_more, up_after, fault_since, no_stop, not_lost, stopped_no_link, stopped_no_record, looks_no_link, looks_no_record, looks_no_stop}
 use Rattle.low_process.specs.Looks.{row_of}
@@ -21,7 +21,8 @@ loop-rounds-init g c = record {
   so_far = so_far_none c.args.process.now _ c.new-connection.ensures.value;
   told = told_none _ _ _ _ _ _ _;
   levels = λ end. tt;
-  pairs = reads_none g.L.LowSide.stands c.args.ends.now c.args.process.now;
+  does = does_none g.L.LowSide.stands g.L.LowSide.shape c.args.ends.now c.args.process.now;
+  stores = stores_none g.D.Disk.told c.args.store.now c.args.process.now;
   begun = c.new-connection.ensures.begun;
   ready = c.requires.ready;
   up = c.requires.up;
@@ -73,7 +74,8 @@ loop-rounds-preserved g c =
         asks = asks_more (G.asked c.args.gate.now) (G.asked c.loop-rounds.gate) (G.asked c.pass.new.self) rs c.loop-rounds.rounds c.loop-rounds.acks f.long f.acked told.asks c.pass.ensures.asked;
       };
       levels = levels_then g.L.LowSide.stands g.L.LowSide.shape c.args.ends.now c.loop-rounds.ends (row_of c.args.process.now) (row_of c.loop-rounds.process) r.made (made_in rs) was.shape f.serves.row was.levels t.11;
-      pairs = reads_more g.L.LowSide.stands c.args.ends.now c.loop-rounds.ends c.low_round-turn.new.ends c.args.process.now c.loop-rounds.process c.low_round-turn.new.process r.made (made_in rs) was.pairs t.12;
+      does = does_rounds g.L.LowSide.stands g.L.LowSide.shape c.args.ends.now c.loop-rounds.ends c.low_round-turn.new.ends c.args.process.now c.loop-rounds.process c.low_round-turn.new.process was.shape r.made rs f.serves was.does t.12;
+      stores = stores_rounds g.D.Disk.told c.args.store.now c.loop-rounds.store c.low_round-turn.new.store c.args.process.now c.loop-rounds.process c.low_round-turn.new.process was.up r.made rs f.serves was.stores t.13;
       begun = c.low_round-turn.ensures.begun;
       ready = c.low_round-turn.ensures.ready;
       up = c.low_round-turn.ensures.up (ap is_device_in c.in_default.is) (not_lost c.low_round-turn.result.why c.in_default.is);
@@ -107,7 +109,8 @@ returns-then-not-pass g c =
         reaches_whole (Appends (O.written c.args.tape.now) (O.written c.loop-rounds.tape)) (O.faults c.args.tape.now) (O.faults c.loop-rounds.tape) (all_kept was.rounds) (looks_text (row_of c.args.process.now) (record_of (made_in was.rounds))) (kept_on was.rounds f.go_on) was.tape t.lines,
         asks_more (G.asked c.args.gate.now) (G.asked c.loop-rounds.gate) (G.asked c.pass.new.self) was.rounds c.loop-rounds.rounds c.loop-rounds.acks f.long f.acked t.asks c.pass.ensures.asked,
         was.levels,
-        was.pairs,
+        was.does,
+        was.stores,
       );
       ready = was.ready;
       up = λ _ _. was.up;
@@ -152,7 +155,8 @@ returns-in-Some g c =
         keeps,
         subst (Grows (G.asked c.args.gate.now) (G.asked c.pass.new.self)) (sym (asked_by r rs c.in-Some.why why)) (asks_more (G.asked c.args.gate.now) (G.asked c.loop-rounds.gate) (G.asked c.pass.new.self) rs c.loop-rounds.rounds c.loop-rounds.acks f.long f.acked told.asks c.pass.ensures.asked),
         levels_then g.L.LowSide.stands g.L.LowSide.shape c.args.ends.now c.loop-rounds.ends (row_of c.args.process.now) (row_of c.loop-rounds.process) r.made (made_in rs) was.shape f.serves.row was.levels t.11,
-        reads_more g.L.LowSide.stands c.args.ends.now c.loop-rounds.ends c.low_round-turn.new.ends c.args.process.now c.loop-rounds.process c.low_round-turn.new.process r.made (made_in rs) was.pairs t.12,
+        does_rounds g.L.LowSide.stands g.L.LowSide.shape c.args.ends.now c.loop-rounds.ends c.low_round-turn.new.ends c.args.process.now c.loop-rounds.process c.low_round-turn.new.process was.shape r.made rs f.serves was.does t.12,
+        stores_rounds g.D.Disk.told c.args.store.now c.loop-rounds.store c.low_round-turn.new.store c.args.process.now c.loop-rounds.process c.low_round-turn.new.process was.up r.made rs f.serves was.stores t.13,
       );
       ready = e.ready;
       up = up_after c.low_round-turn.result.why c.in-Some.why c.in-Some.is e.up;
@@ -186,7 +190,8 @@ returns g c =
         reaches_whole (Appends (O.written c.args.tape.now) (O.written c.loop-rounds.tape)) (O.faults c.args.tape.now) (O.faults c.loop-rounds.tape) (all_kept was.rounds) (looks_text (row_of c.args.process.now) (record_of (made_in was.rounds))) (kept_on was.rounds f.go_on) was.tape t.lines,
         t.asks,
         was.levels,
-        was.pairs,
+        was.does,
+        was.stores,
       );
       ready = was.ready;
       up = λ _ _. was.up;

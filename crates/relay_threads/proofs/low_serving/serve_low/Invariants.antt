@@ -5,7 +5,7 @@ use Rattle.low_process.specs.Ready.{Ready}
 use Rattle.low_process.specs.Looks.{row_of, last_of, is_down}
 use Rattle.relay_threads.specs.Levels.{IsEndOf}
 use Rattle.relay_threads.specs.LowRounds.{Round, made_in}
-use Rattle.relay_threads.specs.PairsRead.{ReadsPairs}
+use Rattle.relay_threads.specs.LowEnds.{DoesSo, StoresSo}
 use Rattle.relay_threads.specs.Replays.{TellLevels}
 use Rattle.relay_threads.proofs.LowServing.{Told, SoFar}
 use Rattle.relay_threads.proofs.low_serving.serve_low.Given as goal
@@ -17,7 +17,8 @@ invariant-loop-rounds g l = record {
   told : Told (g.C.Link.gives l.fn.link) (g.C.Link.gives l.link) (g.C.Link.sent l.fn.link) (g.C.Link.sent l.link) (g.K.Clock.reads l.fn.clock) (g.K.Clock.reads l.clock) (g.W.Words.gives l.fn.words) (g.W.Words.gives l.words)
       (g.G.Gate.asked l.fn.gate) (g.G.Gate.asked l.gate) (g.O.Sink.written l.fn.tape) (g.O.Sink.written l.tape) (row_of l.fn.process) rounds;
   levels : IsEndOf g.L.LowSide.stands g.L.LowSide.shape l.fn.ends (row_of l.fn.process) → TellLevels (row_of l.fn.process) (made_in rounds);
-  pairs : ReadsPairs g.L.LowSide.stands l.fn.ends l.ends l.fn.process l.process (made_in rounds);
+  does : DoesSo g.L.LowSide.stands g.L.LowSide.shape l.fn.ends l.ends l.fn.process l.process (made_in rounds);
+  stores : StoresSo g.D.Disk.told l.fn.store l.store l.fn.process l.process (made_in rounds);
   begun : HasBegun l.connection.reader;
   ready : Ready g.D.Disk.told l.process l.store (g.L.LowSide.stands l.ends);
   up : is_down l.process ≡ false;

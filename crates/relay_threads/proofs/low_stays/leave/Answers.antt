@@ -17,7 +17,7 @@ use Rattle.relay_threads.specs.Replays.{ReadsBack}
 use Rattle.relay_threads.specs.LowServes.{text_after}
 use Rattle.relay_threads.proofs.Levels.{step_tells}
 use Rattle.relay_threads.proofs.LowLives.{look_made, lives_on}
-use Rattle.relay_threads.proofs.PairsRead.{step_reads}
+use Rattle.relay_threads.proofs.LowEnds.{look_does, look_stores}
 use Rattle.relay_threads.proofs.low_stays.leave.Goals as goal
 
 pub returns-clause-leaves : goal.returns-clause-leaves
@@ -45,7 +45,10 @@ returns-clause-leaves g c =
           let was = c.requires.ready in
           step_tells g.L.LowSide.stands g.L.LowSide.shape c.look_waiting_into.new.ends (row_of p) end.0 (ap (λ (s : Shape). s.averaging) e.shape ∙ end.1)
           (g.L.LowSide.shape c.args.ends.now) g.L.LowSide.on_one_thread q was.l was.h (hand_of p) l.feedback (e.ends was.l was.h was.fitting)),
-      (λ low high fits. step_reads (g.L.LowSide.shape c.args.ends.now) g.L.LowSide.on_one_thread (StandsFitting (g.L.LowSide.stands c.look_waiting_into.new.ends) q) low high (hand_of p) l.feedback (e.ends low high fits)),
+      (λ low high fits.
+          look_does p q m 0 Gone e.looks.0 l e.row e.looks.1.looks e.hand (g.L.LowSide.shape c.args.ends.now) g.L.LowSide.on_one_thread
+          (StandsFitting (g.L.LowSide.stands c.look_waiting_into.new.ends) q) low high (e.ends low high fits)),
+      look_stores g.D.Disk.told p q m 0 Gone e.looks.0 l e.row e.looks.1.looks c.args.store.now c.look_waiting_into.new.store c.requires.up c.requires.ready.of e.looks.1.keeps e.looks.1.falls,
     )
 
 pub returns-clause-ready : goal.returns-clause-ready

@@ -6,7 +6,7 @@ use Rattle.relay_threads.specs.Reaching.{Reaches}
 use Rattle.relay_threads.specs.LowStays.{count, count_at, is_ended, is_kept_by, text_at}
 use Rattle.relay_threads.proofs.Counting.{none_at_most}
 use Rattle.relay_threads.proofs.Levels.{levels_stays, still_end}
-use Rattle.relay_threads.proofs.PairsRead.{reads_none, reads_stays}
+use Rattle.relay_threads.proofs.LowEnds.{does_none, does_stays, stores_none, stores_stays}
 use Rattle.relay_threads.proofs.Reaching.{rose_later, reaches_all}
 use Rattle.relay_threads.proofs.LowStaying.{stays_none, stays_more, stays_told_none, lines_more, worker_ends, no_rounds, recorded_as}
 use Rattle.relay_threads.proofs.low_stays.low_rounds.Goals as goal
@@ -17,7 +17,8 @@ loop-made-init g c = record {
   so = stays_none g.row.P-Link.Denot c.args.process.now;
   told = stays_told_none _ _ _ _ _ _ _ _ _;
   levels = λ end. tt;
-  pairs = reads_none g.L.LowSide.stands c.args.ends.now c.args.process.now;
+  does = does_none g.L.LowSide.stands g.L.LowSide.shape c.args.ends.now c.args.process.now;
+  stores = stores_none g.D.Disk.told c.args.store.now c.args.process.now;
   on = refl;
   over = λ lt. tt;
   made = refl;
@@ -57,7 +58,8 @@ returns-in-Some g c = record {
         recorded_as c.args.process.now c.stay-turn.new.process (x ∷ past) (stays_more c.args.process.now c.loop-made.process c.stay-turn.new.process x past (was.over c.loop-made-test.true) was.so s.1),
         (λ end. levels_stays (row_of c.args.process.now) (row_of c.loop-made.process) x past was.so.row (was.levels end)
             (s.9 (still_end g.L.LowSide.stands g.L.LowSide.shape c.args.ends.now c.loop-made.ends (row_of c.args.process.now) (row_of c.loop-made.process) was.shape was.so.row end))),
-        reads_stays g.L.LowSide.stands c.args.ends.now c.loop-made.ends c.stay-turn.new.ends c.args.process.now c.loop-made.process c.stay-turn.new.process x past was.pairs s.10,
+        does_stays g.L.LowSide.stands g.L.LowSide.shape c.args.ends.now c.loop-made.ends c.stay-turn.new.ends c.args.process.now c.loop-made.process c.stay-turn.new.process was.shape x past was.so was.does s.10,
+        stores_stays g.D.Disk.told c.args.store.now c.loop-made.store c.stay-turn.new.store c.args.process.now c.loop-made.process c.stay-turn.new.process was.up x past was.so was.stores s.11,
       );
   port = λ n h. c.stay-turn.ensures.port n (c.loop-made.invariant.port n h);
   ready = c.stay-turn.ensures.ready;
@@ -90,7 +92,8 @@ returns g c = record {
         reaches_all _ _ _ _ was.tape t.lines,
         recorded_as c.args.process.now c.loop-made.process was.stays was.so,
         was.levels,
-        was.pairs,
+        was.does,
+        was.stores,
       );
   port = c.loop-made.invariant.port;
   ready = c.loop-made.invariant.ready;
@@ -129,7 +132,8 @@ loop-made-preserved g c =
       };
       levels = (λ end. levels_stays (row_of c.args.process.now) (row_of c.loop-made.process) x past was.so.row (was.levels end)
           (s.9 (still_end g.L.LowSide.stands g.L.LowSide.shape c.args.ends.now c.loop-made.ends (row_of c.args.process.now) (row_of c.loop-made.process) was.shape was.so.row end)));
-      pairs = reads_stays g.L.LowSide.stands c.args.ends.now c.loop-made.ends c.stay-turn.new.ends c.args.process.now c.loop-made.process c.stay-turn.new.process x past was.pairs s.10;
+      does = does_stays g.L.LowSide.stands g.L.LowSide.shape c.args.ends.now c.loop-made.ends c.stay-turn.new.ends c.args.process.now c.loop-made.process c.stay-turn.new.process was.shape x past was.so was.does s.10;
+      stores = stores_stays g.D.Disk.told c.args.store.now c.loop-made.store c.stay-turn.new.store c.args.process.now c.loop-made.process c.stay-turn.new.process was.up x past was.so was.stores s.11;
       on = none;
       over = λ lt. (ends.over (omega (arith, lt, ends.looks)) none, was.over c.loop-made-test.true);
       made = omega (arith, was.made, ends.looks);

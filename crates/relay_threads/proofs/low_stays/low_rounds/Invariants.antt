@@ -4,7 +4,7 @@ use Rattle.stable_buffer.specs.Low.{low_disk}
 use Rattle.low_process.specs.Ready.{Ready}
 use Rattle.low_process.specs.Looks.{row_of, last_of, is_down}
 use Rattle.relay_threads.specs.Levels.{IsEndOf}
-use Rattle.relay_threads.specs.PairsRead.{ReadsPairs}
+use Rattle.relay_threads.specs.LowEnds.{DoesSo, StoresSo}
 use Rattle.relay_threads.specs.LowStays.{Stay, StaysSo, IsOver, count, newest_end, stayed}
 use Rattle.relay_threads.specs.Replays.{TellLevels}
 use Rattle.relay_threads.proofs.LowStaying.{StaysTold}
@@ -16,7 +16,8 @@ invariant-loop-made g l = record {
   so : StaysSo l.fn.process l.process stays;
   told : StaysTold g.P.Link.Link.gives g.P.Link.Link.sent g.P.Link.Link.faults (g.P.Door.did l.fn.door) (g.P.Door.did l.door) (g.P.Door.gives l.fn.door) (g.P.Door.gives l.door) (g.K.Clock.reads l.fn.clock) (g.K.Clock.reads l.clock) (g.W.Words.gives l.fn.words) (g.W.Words.gives l.words) (g.O.Sink.written l.fn.tape) (g.O.Sink.written l.tape) (row_of l.fn.process) stays;
   levels : IsEndOf g.L.LowSide.stands g.L.LowSide.shape l.fn.ends (row_of l.fn.process) → TellLevels (row_of l.fn.process) (stayed [] stays);
-  pairs : ReadsPairs g.L.LowSide.stands l.fn.ends l.ends l.fn.process l.process (stayed [] stays);
+  does : DoesSo g.L.LowSide.stands g.L.LowSide.shape l.fn.ends l.ends l.fn.process l.process (stayed [] stays);
+  stores : StoresSo g.D.Disk.told l.fn.store l.store l.fn.process l.process (stayed [] stays);
   on : newest_end stays ≡ None;
   over : l.made < l.most → AllByRecursion IsOver stays;
   made : l.made ≡ count stays;

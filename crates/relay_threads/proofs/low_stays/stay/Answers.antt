@@ -5,7 +5,7 @@ use Rattle.pump_link.proofs.Known.{Appends-none}
 use Rattle.relay_threads.specs.LowStays.{Alone, With, Visit}
 use Rattle.relay_threads.proofs.HighStaying.{nobody}
 use Rattle.relay_threads.proofs.LowStaying.{alone_so, alone_ends, with_so, ends_stay}
-use Rattle.relay_threads.proofs.PairsRead.{reads_none}
+use Rattle.relay_threads.proofs.LowEnds.{does_none, stores_none}
 use Rattle.relay_threads.proofs.Reaching.{reaches_all}
 use Rattle.relay_threads.proofs.low_stays.stay.Goals as goal
 
@@ -26,6 +26,7 @@ returns-in-Came-clause-stay g c =
       v.10,
       v.11,
       v.12,
+      v.13,
     )
 
 pub returns-in-NotYet-clause-stay : goal.returns-in-NotYet-clause-stay
@@ -42,5 +43,6 @@ returns-in-NotYet-clause-stay g c =
       Draws-nil _,
       reaches_all _ _ _ [] (le_refl _) (Appends-none _),
       (λ end. tt),
-      reads_none g.L.LowSide.stands c.args.ends.now c.args.process.now,
+      does_none g.L.LowSide.stands g.L.LowSide.shape c.args.ends.now c.args.process.now,
+      stores_none g.D.Disk.told c.args.store.now c.args.process.now,
     )

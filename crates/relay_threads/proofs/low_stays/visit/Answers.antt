@@ -5,8 +5,8 @@ use Rattle.low_process.specs.Looks.{row_of}
 use Rattle.stable_buffer.specs.Low.{low_disk}
 use Rattle.relay_threads.specs.LowRounds.{made_in, moments_of}
 use Rattle.relay_threads.proofs.Levels.{levels_then}
-use Rattle.relay_threads.proofs.LowVisiting.{stays_on, goes, caused_by, bound_of, left_of, ends_without, ends_with, kept_alone, kept_both, calm_end, end_counts, kept_counts}
-use Rattle.relay_threads.proofs.PairsRead.{reads_more}
+use Rattle.relay_threads.proofs.LowVisiting.{stays_on, goes, caused_by, bound_of, left_of, ends_without, ends_with, kept_alone, kept_both, left_calm, calm_end, end_counts, kept_counts}
+use Rattle.relay_threads.proofs.LowEnds.{does_rounds, stores_rounds}
 use Rattle.relay_threads.proofs.low_stays.visit.Goals as goal
 
 pub returns-then-not-is_left_so : goal.returns-then-not-is_left_so
@@ -31,6 +31,7 @@ returns-then-not-is_left_so g c = record {
         kept_alone _ _ _ _ (row_of c.args.process.now) rounds most why e s.7 c.end_by.result c.end_by.ensures,
         s.9,
         s.10,
+        s.11,
       );
   ready = c.serve_low-served.ensures.ready;
   up = λ calm. let end = calm_end c.serve_low-served.result.why c.end_by.result c.end_by.ensures calm in c.serve_low-served.ensures.up end.0 end.1;
@@ -50,6 +51,7 @@ returns g c = record {
       let rounds = s.0 in
       let e = s.2.1 in
       let left = sym c.if-not-is_left_so.ensures in
+      let calm = left_calm why left in
       let l = c.leave-is_kept.ensures.leaves in (
         rounds,
         Some l.0,
@@ -63,7 +65,8 @@ returns g c = record {
         s.6,
         kept_both _ _ _ _ (row_of c.args.process.now) rounds most why e s.7 _ _ (row_of c.serve_low-served.new.process) l.0 c.leave-is_kept.result c.end_kept.result left s.1.row c.end_kept.ensures l.4,
         levels_then g.L.LowSide.stands g.L.LowSide.shape c.args.ends.now c.serve_low-served.new.ends (row_of c.args.process.now) (row_of c.serve_low-served.new.process) (Some l.0) (made_in rounds) c.serve_low-served.ensures.shape s.1.row s.9 l.5,
-        reads_more g.L.LowSide.stands c.args.ends.now c.serve_low-served.new.ends c.leave-is_kept.new.ends c.args.process.now c.serve_low-served.new.process c.leave-is_kept.new.process (Some l.0) (made_in rounds) s.10 l.6,
+        does_rounds g.L.LowSide.stands g.L.LowSide.shape c.args.ends.now c.serve_low-served.new.ends c.leave-is_kept.new.ends c.args.process.now c.serve_low-served.new.process c.leave-is_kept.new.process c.serve_low-served.ensures.shape (Some l.0) rounds s.1 s.10 l.6,
+        stores_rounds g.D.Disk.told c.args.store.now c.serve_low-served.new.store c.leave-is_kept.new.store c.args.process.now c.serve_low-served.new.process c.leave-is_kept.new.process (c.serve_low-served.ensures.up calm.0 calm.1) (Some l.0) rounds s.1 s.11 l.7,
       );
   ready = c.leave-is_kept.ensures.ready;
   up = λ _. c.leave-is_kept.ensures.up;

@@ -17,5 +17,6 @@ pub mod RaceItems
 pub mod Receiving
 pub mod RecordTexts
 pub mod Replayable
+pub mod Stops
 pub mod Tapes
 pub mod Unstarted

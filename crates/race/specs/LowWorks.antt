@@ -2,7 +2,6 @@
 use Rattle.std.specs.Prelude.{◌≡◌, ℕ, ◌≤◌, true, false, List, [], Option}
 use Rattle.std.specs.List.{AllByRecursion}
 use Rattle.atomic_table.specs.Seated.{TableId}
-use Rattle.pump_frame.specs.Counts.{Rose}
 use Rattle.pump_link.specs.Tells.{Draws, Grows}
 use Rattle.pump_core.specs.Passage.{Low, High, Shape}
 use Rattle.low_process.specs.Looks.{last_of, next_of, is_idle}
@@ -13,7 +12,7 @@ use Rattle.script_reader.specs.Generated.{generated_row}
 use Rattle.race.specs.LowHalf.{LowRests}
 use Rattle.race.specs.MadeLooks.{moments_of, acks_of}
 use Rattle.race.specs.Tape.{row_in, Prints}
-use Rattle.race.specs.Turns.{asks_in_run}
+use Rattle.race.specs.Turns.{asks_in_run, CountsStop}
 use Rattle.race.specs.declared.low.LowHalf.{LowHalf}
 use Rattle.race.specs.declared.low_work.LowWork.{LowWork}
 
@@ -41,7 +40,7 @@ module _ {K O L G : Type 0} (reads : K → List ℕ → Type 0) (floor : K → �
     pub count : w.half.now.count ≡ v.half.now.count
 
   -- after these looks, which drew the clock's readings, and whose record was printed, while the gate was
-  -- asked this
+  -- asked this, and counted a stop where it stopped the worker
   pub record LowSoFar (v w : LowWork K O L G) (made : List Made) (asks : List (ℕ × ℕ)) : Type 0 where
     pub keeps : KeepsLow v w
     pub at : LowRests stands shape w.half.now made
@@ -51,11 +50,10 @@ module _ {K O L G : Type 0} (reads : K → List ℕ → Type 0) (floor : K → �
     pub prints : Prints v.tape.now w.tape.now (written v.out.now) (written w.out.now) (faults v.out.now) (faults w.out.now) (looks_text generated_row (record_of made))
     pub readable : AllByRecursion (IsReadable generated_row) (record_of made)
     pub asks_are : Grows (asked v.gate.now) (asked w.gate.now) asks
-    pub stops_rise : stops v.gate.now ≤ stops w.gate.now
+    pub stops_so : CountsStop w.is_stopped (stops v.gate.now) (stops w.gate.now)
 
   -- the work is over: all messages were acknowledged, or its gate stopped it
   pub record LowRuns (v w : LowWork K O L G) : Type 0 where
     pub made : List Made
     pub so_far : LowSoFar v w made (asks_in_run w.is_stopped (acks_of made))
     pub ended : w.is_stopped ≡ false → IsLowDone w.half.now
-    pub stopped : w.is_stopped ≡ true → Rose (stops v.gate.now) (stops w.gate.now)

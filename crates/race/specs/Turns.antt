@@ -2,7 +2,7 @@
 -- of a worker is asked.
 use Rattle.std.specs.Prelude.{◌≡◌, ℕ, zero, suc, ◌+◌, ◌%◌, ◌^◌, ◌<◌, ◌≤◌, Bool, true, false, if◌then◌else◌, List, [], ◌∷◌, ◌++◌, length, slice_index}
 use Rattle.std.specs.List.{All}
-use Rattle.pump_frame.specs.Counts.{raised}
+use Rattle.pump_frame.specs.Counts.{raised, Rose}
 use Rattle.pump_frame.specs.declared.frame.Item.{Item}
 use Rattle.stable_buffer.specs.Log.{RecvStands}
 use Rattle.pump_link.specs.Tells.{Grows}
@@ -66,3 +66,8 @@ pub record AsksHigh (count : ℕ) (is_stopped : Bool) (old new : List (ℕ × �
   pub taken : length received ≡ done_in turns_made
   pub most : done_in turns_made ≤ count
   pub ended : is_stopped ≡ false → done_in turns_made ≡ count
+
+-- the gate has counted a stop where it stopped the worker, and none where it did not
+abbrev pub CountsStop : Bool → ℕ → ℕ → Type 0
+CountsStop true before now = Rose before now
+CountsStop false before now = now ≡ before

@@ -11,7 +11,7 @@ ghost use Rattle.race.specs.HighHalf.{HighAt};
 ghost use Rattle.race.specs.LowHalf.{LowRests};
 ghost use Rattle.race.specs.Race.{IsRaceRecord, IsStoppedRecord, AreRaceDisks};
 ghost use Rattle.race.specs.Tape.{Written};
-ghost use Rattle.race.specs.Turns.{CanTurn, AsksHigh};
+ghost use Rattle.race.specs.Turns.{CanTurn, AsksHigh, CountsStop};
 
 use crate::high::HighHalf;
 use crate::low::LowHalf;
@@ -79,8 +79,8 @@ fn race_halves<
         × IsStoppedRecord low.entry.seed low.entry.count end.low_stopped readings asks bytes) }
     ensures disks { IfOk result (λ end. end.low_stopped ≡ false → end.high_stopped ≡ false
         → AreRaceDisks low.entry.seed high.entry.count end.low.bytes end.high.bytes end.recv.bytes) }
-    ensures low_stopped { IfOk result (λ end. end.low_stopped ≡ true → Rose (G.stops low_gate.old) (G.stops low_gate.new)) }
-    ensures high_stopped { IfOk result (λ end. end.high_stopped ≡ true → Rose (H.stops high_gate.old) (H.stops high_gate.new)) }
+    ensures low_stopped { IfOk result (λ end. CountsStop end.low_stopped (G.stops low_gate.old) (G.stops low_gate.new)) }
+    ensures high_stopped { IfOk result (λ end. CountsStop end.high_stopped (H.stops high_gate.old) (H.stops high_gate.new)) }
     ensures asked_high { IfOk result (λ end. AsksHigh high.entry.count end.high_stopped (H.asked high_gate.old) (H.asked high_gate.new) end.recv.bytes) }
     ensures nothing { OnErr result (out.new ≡ out.old) }
 {
@@ -155,8 +155,8 @@ pub fn race_with<
     ensures disks { IfOk result (λ end. end.low_stopped ≡ false → end.high_stopped ≡ false
         → AreRaceDisks seed count end.low.bytes end.high.bytes end.recv.bytes) }
     ensures failed { IfOk result (λ end. end.write_failed ≡ true → Rose (O.faults out.old) (O.faults out.new)) }
-    ensures low_stopped { IfOk result (λ end. end.low_stopped ≡ true → Rose (G.stops low_gate.old) (G.stops low_gate.new)) }
-    ensures high_stopped { IfOk result (λ end. end.high_stopped ≡ true → Rose (H.stops high_gate.old) (H.stops high_gate.new)) }
+    ensures low_stopped { IfOk result (λ end. CountsStop end.low_stopped (G.stops low_gate.old) (G.stops low_gate.new)) }
+    ensures high_stopped { IfOk result (λ end. CountsStop end.high_stopped (H.stops high_gate.old) (H.stops high_gate.new)) }
     // The high worker's gate is asked before each look, with the messages that the receiver has.
     ensures asked_high { IfOk result (λ end. AsksHigh count end.high_stopped (H.asked high_gate.old) (H.asked high_gate.new) end.recv.bytes) }
     ensures nothing { OnErr result (out.new ≡ out.old) }

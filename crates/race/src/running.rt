@@ -1,7 +1,6 @@
 // The two works of a race, run side by side.
 ghost use Rattle.std.specs.Prelude.{◌≡◌, ◌≤◌, List, [], true, false, IfOk, OnErr};
 ghost use Rattle.std.specs.List.{AllByRecursion};
-ghost use Rattle.pump_frame.specs.Counts.{Rose};
 ghost use Rattle.pump_link.specs.Tells.{Draws, Grows};
 ghost use Rattle.pump_core.specs.Passage.{High, new_low};
 ghost use Rattle.low_process.specs.Looks.{last_of};
@@ -16,7 +15,7 @@ ghost use Rattle.race.specs.LowHalf.{LowRests};
 ghost use Rattle.race.specs.LowWorks.{IsLowDone};
 ghost use Rattle.race.specs.MadeLooks.{moments_of, acks_of};
 ghost use Rattle.race.specs.Tape.{row_in, Prints};
-ghost use Rattle.race.specs.Turns.{AsksHigh, asks_in_run};
+ghost use Rattle.race.specs.Turns.{AsksHigh, asks_in_run, CountsStop};
 
 use crate::high::HighHalf;
 use crate::high_work::HighWork;
@@ -68,13 +67,13 @@ pub fn run_halves<
         × Grows (G.asked low_gate.old) (G.asked low_gate.new) (asks_in_run raced.low_stopped (acks_of made))
         × AllByRecursion (IsReadable generated_row) (record_of made)) }
     ensures low_ended { IfOk result (λ raced. raced.low_stopped ≡ false → IsLowDone low.new) }
-    ensures low_stopped { IfOk result (λ raced. raced.low_stopped ≡ true → Rose (G.stops low_gate.old) (G.stops low_gate.new)) }
+    ensures low_stopped { IfOk result (λ raced. CountsStop raced.low_stopped (G.stops low_gate.old) (G.stops low_gate.new)) }
     ensures low_place { IfOk result (λ _. L.place low.new.ends ≡ L.place low.old.ends) }
     ensures seed { IfOk result (λ _. low.new.seed ≡ low.old.seed) }
     ensures low_count { IfOk result (λ _. low.new.count ≡ low.old.count) }
     ensures high { IfOk result (λ _. (h : High) × H.stands high.new.ends new_low h) }
     ensures high_ended { IfOk result (λ raced. raced.high_stopped ≡ false → HighAt H.stands false high.new × (high.new.count ≤ removed_of high.new.process)) }
-    ensures high_stopped { IfOk result (λ raced. raced.high_stopped ≡ true → Rose (I.stops high_gate.old) (I.stops high_gate.new)) }
+    ensures high_stopped { IfOk result (λ raced. CountsStop raced.high_stopped (I.stops high_gate.old) (I.stops high_gate.new)) }
     ensures high_asks { IfOk result (λ raced. AsksHigh high.new.count raced.high_stopped (I.asked high_gate.old) (I.asked high_gate.new) (recv_disk high.new.receiver).bytes) }
     ensures high_place { IfOk result (λ _. H.place high.new.ends ≡ H.place high.old.ends) }
     ensures high_shape { IfOk result (λ _. H.shape high.new.ends ≡ H.shape high.old.ends) }

@@ -1,10 +1,10 @@
-use Rattle.std.proofs.Common.{◌≡◌, ◌∙◌, Bool, true, false, refl, sym, ap, subst, le_refl, le_trans, [], ◌∷◌}
-use Rattle.pump_frame.specs.Counts.{raised}
+use Rattle.std.proofs.Common.{ℕ, ◌∙◌, Bool, true, false, refl, ap, subst, [], ◌∷◌}
+use Rattle.pump_frame.specs.Counts.{raised, Rose}
 use Rattle.pump_link.proofs.Grown.{Grows-nil}
 use Rattle.high_process.specs.States.{removed_of}
 use Rattle.race.specs.HighHalf.{HighAt}
-use Rattle.relay_threads.proofs.Reaching.{rose_later}
 use Rattle.race.proofs.HighAsks.{all_removed, none_taken, more_taken, given_back, asks_more, asks_of_all, asks_of_stopped}
+use Rattle.race.proofs.Stops.{none_counted}
 use Rattle.race.proofs.high_work.HighWorkWork.run.Goals as goal
 
 pub loop-init : goal.loop-init
@@ -16,7 +16,7 @@ loop-init g c = (
     going = c.requires.2;
     taken = none_taken g.H.HighSide.stands _ c.requires.0 c.requires.1;
     asks = Grows-nil _;
-    stops_rise = le_refl _;
+    stops_stay = refl;
   },
   refl,
 )
@@ -43,7 +43,7 @@ loop-preserved-then-has_taken g c =
         going = s.going;
         taken = given_back stands was c.give_back.new.self i.0 at e.at e.removed s.taken;
         asks = asks_more _ _ _ false i.0 c.loop.looks c.taken-taken.result i.2 (c.taken-taken.ensures ∙ s.taken) s.asks c.pass.ensures.asked;
-        stops_rise = le_trans s.stops_rise c.pass.ensures.later;
+        stops_stay = c.pass.ensures.passed c.if-not-pass.false ∙ s.stops_stay;
       },
       c.saturating_add-looks.ensures ∙ ap raised i.2,
     )
@@ -73,7 +73,7 @@ loop-preserved-then-not-has_taken g c =
         going = s.going;
         taken = more_taken stands was now took i.0 at f.at (ap removed_of f.process ∙ e.removed) s.taken;
         asks = asks_more _ _ _ took i.0 c.loop.looks c.taken-taken.result i.2 (c.taken-taken.ensures ∙ s.taken) s.asks c.pass.ensures.asked;
-        stops_rise = le_trans s.stops_rise c.pass.ensures.later;
+        stops_stay = c.pass.ensures.passed c.if-not-pass.false ∙ s.stops_stay;
       },
       c.saturating_add-looks.ensures ∙ ap raised i.2,
     )
@@ -103,7 +103,7 @@ loop-preserved g c =
         going = s.going;
         taken = more_taken stands was now took i.0 at f.at (ap removed_of f.process ∙ e.removed) s.taken;
         asks = asks_more _ _ _ took i.0 c.loop.looks c.taken-taken.result i.2 (c.taken-taken.ensures ∙ s.taken) s.asks c.pass.ensures.asked;
-        stops_rise = le_trans s.stops_rise c.pass.ensures.later;
+        stops_stay = c.pass.ensures.passed c.if-not-pass.false ∙ s.stops_stay;
       },
       c.saturating_add-looks.ensures ∙ ap raised i.2,
     )
@@ -119,7 +119,7 @@ returns-then-is_done g c =
       keeps = s.keeps;
       any = (s.at.high, s.at.fitting.0);
       ended = λ e. (all_removed stands c.loop.has_taken w s.at all, all);
-      stopped = λ e. let no : false ≡ true = sym s.going ∙ e in absurd (cc);
+      stops_so = none_counted c.loop.self.is_stopped (g.G.Gate.stops c.args.self.now.gate.now) (g.G.Gate.stops c.loop.self.gate.now) s.going s.stops_stay;
       asks = asks_of_all stands c.loop.has_taken c.loop.self.is_stopped w i.0 _ _ s.at s.taken s.asks s.going all;
     }
 
@@ -140,6 +140,6 @@ returns-then-not-pass g c =
       };
       any = (s.at.high, s.at.fitting.0);
       ended = λ e. absurd (cc);
-      stopped = λ e. rose_later _ _ _ s.stops_rise (c.pass.ensures.stopped c.if-not-pass.true);
+      stops_so = subst (λ (n : ℕ). Rose n (g.G.Gate.stops c.pass.new.self)) s.stops_stay (c.pass.ensures.stopped c.if-not-pass.true);
       asks = asks_of_stopped stands c.loop.has_taken w i.0 _ _ s.at s.taken (asks_more _ _ _ false i.0 c.loop.looks c.taken-taken.result i.2 (c.taken-taken.ensures ∙ s.taken) s.asks c.pass.ensures.asked);
     }

@@ -1,4 +1,4 @@
-use Rattle.std.proofs.Common.{ℕ, false, List, [], ◌∷◌, ◌++◌, refl, sym, ap, ◌∙◌, subst, le_refl, arith}
+use Rattle.std.proofs.Common.{ℕ, false, List, [], ◌∷◌, ◌++◌, refl, sym, ap, ◌∙◌, subst, arith}
 use Rattle.pump_frame.specs.Counts.{raised}
 use Rattle.pump_link.specs.Tells.{Draws}
 use Rattle.pump_link.proofs.Grown.{Grows-nil}
@@ -17,6 +17,7 @@ use Rattle.race.proofs.HighAsks.{asks_more}
 use Rattle.race.proofs.LowAsks.{acks_are}
 use Rattle.race.proofs.LowRuns.{draws_none, draws_then, looks_more}
 use Rattle.race.proofs.Replayable.{readable_more}
+use Rattle.race.proofs.Stops.{none_counted, goes_on, stops_here}
 use Rattle.race.proofs.Tapes.{prints_none, prints_then}
 use Rattle.race.proofs.low_work.LowWorkWork.run.Goals as goal
 
@@ -32,7 +33,7 @@ loop-init g c = (
     prints = prints_none _ _ _;
     readable = tt;
     asks_are = Grows-nil _;
-    stops_rise = le_refl _;
+    stops_so = none_counted c.args.self.now.is_stopped (g.G.Gate.stops c.args.self.now.gate.now) (g.G.Gate.stops c.args.self.now.gate.now) c.requires.going refl;
   },
   refl,
   c.requires.going,
@@ -88,7 +89,7 @@ loop-preserved g c =
             (looks_text generated_row (record_of made)) (look_lines made m) s.prints (c.look.ensures.prints made i.2));
         readable = readable_more made m (c.look.ensures.reads made i.2) s.readable;
         asks_are = asks_more _ _ _ (is_ack m.reply) (acks_of made) c.loop.looks c.acknowledged-acknowledged.result i.4 done s.asks_are c.pass.ensures.asked;
-        stops_rise = omega (arith, s.stops_rise, c.pass.ensures.later);
+        stops_so = goes_on c.loop.self.is_stopped (g.G.Gate.stops c.args.self.now.gate.now) (g.G.Gate.stops c.loop.self.gate.now) (g.G.Gate.stops c.pass.new.self) i.3 (c.pass.ensures.passed c.if-not-pass.false) s.stops_so;
       },
       c.found_full-was_full.ensures,
       i.3,
@@ -114,10 +115,9 @@ returns-then-not-pass g c =
         prints = s.prints;
         readable = s.readable;
         asks_are = asks_more _ _ _ false (acks_of made) c.loop.looks taken.result i.4 done s.asks_are c.pass.ensures.asked;
-        stops_rise = omega (arith, s.stops_rise, c.pass.ensures.later);
+        stops_so = stops_here c.loop.self.is_stopped (g.G.Gate.stops c.args.self.now.gate.now) (g.G.Gate.stops c.loop.self.gate.now) (g.G.Gate.stops c.pass.new.self) i.3 s.stops_so (c.pass.ensures.stopped c.if-not-pass.true);
       };
       ended = λ e. absurd (cc);
-      stopped = λ _. omega (arith, s.stops_rise, c.pass.ensures.stopped c.if-not-pass.true);
     }
 
 pub returns-then-is_done : goal.returns-then-is_done
@@ -127,5 +127,4 @@ returns-then-is_done g c =
       made = i.0;
       so_far = subst (λ b. LowSoFar g.K.Clock.reads g.K.Clock.floor g.O.Sink.written g.O.Sink.faults g.L.LowSide.stands g.L.LowSide.place g.L.LowSide.shape g.G.Gate.asked g.G.Gate.stops c.args.self.now c.loop.self i.0 (asks_in_run b (acks_of i.0))) (sym i.3) i.1;
       ended = λ _. c.is_done.ensures c.if-is_done.true;
-      stopped = λ stop. let going = i.3 in absurd (cc);
     }

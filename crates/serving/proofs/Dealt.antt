@@ -1,11 +1,15 @@
 -- The messages that an opening deals out, as the two processes begin with them.
 use Rattle.std.proofs.Common.{◌≡◌, ℕ, ◌+◌, ◌-◌, ◌≤◌, Bool, true, false, List, length, Option, Some, None, refl, sym, ap, ◌∙◌, arith}
 use Rattle.std.specs.Prelude.{◌==◌, if◌then◌else◌, is_some, IfSome}
-use Rattle.pump_core.specs.Passage.{ComesNext}
+use Rattle.pump_core.specs.Passage.{Low, High, ComesNext}
 use Rattle.pump_frame.specs.declared.frame.Item.{Item}
 use Rattle.low_process.specs.Ends.{number_offered}
-use Rattle.low_process.specs.Looks.{IsHand}
-use Rattle.recovery.specs.Deals.{HandsFit, number_of, numbered, passing}
+use Rattle.low_process.specs.Looks.{IsHand, opening_of}
+use Rattle.disk_model.specs.Disk.{Meaning}
+use Rattle.pump_frame.specs.declared.row.SessionRow.{SessionRow}
+use Rattle.stable_buffer.specs.Stands.{LowStands, HighStands}
+use Rattle.recovery.specs.Deals.{HandsFit, IsDealt, number_of, numbered, passing}
+use Rattle.serving.specs.LowServing.{FindsLow}
 use Rattle.recovery.proofs.Refill.{passing_next}
 use Rattle.two_worlds.proofs.Opening.Restarting.{number_some}
 
@@ -37,8 +41,21 @@ some_if true n = refl
 some_if false n = refl
 
 -- a message is held exactly where all places are taken
-pub held_is : (hand : Option Item) (b : Bool) (n : ℕ) → number_of hand ≡ (if b then Some n else None) → is_some hand ≡ b
+held_is : (hand : Option Item) (b : Bool) (n : ℕ) → number_of hand ≡ (if b then Some n else None) → is_some hand ≡ b
 held_is hand b n is = sym (number_some hand) ∙ ap is_some is ∙ some_if b n
+
+-- what the low worker finds
+pub finds_low : {S : Type 0} (m : Meaning S) (row : SessionRow) (removed next : ℕ) (messages : List (List ℕ)) (high low : Option Item) (before after : Low → High → Type 0) (disk high_disk : S)
+    → IsDealt row removed next messages high low before after → HandsFit row.capacity removed next high low → (m.tells → LowStands row next removed messages (m.reading disk)) → (m.tells → HighStands row removed (m.reading high_disk))
+    → FindsLow m row (opening_of next low) removed messages low disk high_disk
+finds_low m row removed next messages high low before after disk high_disk dealt fit stands high_stands = record {
+  opened = refl;
+  count = dealt.count;
+  places = dealt.places;
+  held = held_is low (next == removed + row.capacity) (next - 1) fit.last;
+  in_hand = dealt.hands.last;
+  stands = λ told. (stands told, high_stands told);
+}
 
 -- where a message is in the hand, one is stored
 pub some_next : (next : ℕ) (hand : Option Item) → IsHand next hand → is_some hand ≡ true → 1 ≤ next

@@ -14,6 +14,7 @@ use Rattle.pump_core.specs.Exchanges.{Part, IsCut, count_after}
 use Rattle.pump_core.specs.History.{Opening}
 use Rattle.pump_core.specs.Passage.{Shape, Low, High, NeverFall}
 use Rattle.pump_core.specs.Standing.{State, phase_after}
+use Rattle.pump_core.proofs.Cuts.{one_cut}
 use Rattle.script_reader.specs.Grammar.{IsCount}
 use Rattle.script_reader.specs.Spelling.{line_text}
 use Rattle.stable_buffer.specs.Low.{StandsForCount, low_disk}
@@ -26,15 +27,18 @@ use Rattle.low_process.specs.Looks.{row_of, next_of, opening_of, is_down, is_dow
 use Rattle.relay_threads.specs.Levels.{IsEndOf}
 use Rattle.relay_threads.specs.LowServes.{Lives}
 use Rattle.relay_threads.specs.LowStays.{AreStays, is_kept_by, stayed, words_in, text_in}
+use Rattle.relay_threads.specs.LowEnds.{HasStored}
 use Rattle.relay_threads.specs.PairsRead.{pairs_of}
 use Rattle.relay_threads.specs.Reaching.{Reaches}
 use Rattle.relay_threads.specs.RecordLines.{opening_line, coarse_text, first_text, looks_text, record_text}
-use Rattle.relay_threads.specs.Records.{AreMade, life_made, record_of}
+use Rattle.relay_threads.specs.Records.{Made, AreMade, life_made, record_of}
 use Rattle.relay_threads.specs.Replays.{BeginsReadable, TellLevels}
+use Rattle.relay_threads.specs.StoredMessages.{stored_in, payloads, StandsForLast}
 use Rattle.relay_threads.specs.Workers.{CountsEnd}
 use Rattle.relay_threads.specs.declared.rounds_end.RoundsEnd.{RoundsEnd}
 use Rattle.relay_threads.specs.declared.rounds_end.RoundsEnd.TheVariants as ends
 use Rattle.relay_threads.proofs.LowReplays.{stays_readable}
+use Rattle.relay_threads.proofs.StoredMessages.{stands_for_last}
 use Rattle.serving.specs.Doors.{DoorsTell}
 use Rattle.serving.specs.LowRuns.{LowLent, found_in, opening_text}
 use Rattle.serving.specs.LowServing.{FindsLow, LowServed, is_lost}
@@ -91,12 +95,13 @@ lost_is (phases.Waiting number due) hand = refl
 lost_is phases.Down hand = refl
 
 module _ {D L S E : Type 0} (t : DoorsTell D L) (m : Meaning S) (stands : E → Low → High → Type 0) (shape : E → Shape) (row : SessionRow) (rounds : ℕ) (key : List ℕ) (side : SideTells D L)
-    (written now_written : Option (List ℕ)) (faults now_faults next : ℕ) (hand : Option Item) (parts : LowParts ChaCha S E) (was store : LowStore S) (disk now_disk : S) (end : RoundsEnd)
+    (written now_written : Option (List ℕ)) (faults now_faults next : ℕ) (hand : Option Item) (parts : LowParts ChaCha S E) (was store : LowStore S) (disk high now_disk : S) (end : RoundsEnd)
     (lent : LowLent t m words_given stands shape side written now_written faults now_faults row.low_port rounds parts store end)
     (row_is : row_of parts.process ≡ row) (next_is : next_of parts.process ≡ next) (held_is : parts.is_held ≡ is_some hand)
     (lives : Lives parts.process (opening_of next hand) []) (words_are : parts.words ≡ record { key = key_of key; stream = 0; word_pos = 0 })
     (store_was : parts.store ≡ was) (now_is : now_disk ≡ low_disk store)
-    (found : FindsLow m row (opening_of next hand) disk) (counts : m.count disk ≤ m.count (low_disk was)) where
+    (removed : ℕ) (messages : List (List ℕ)) (found : FindsLow m row (opening_of next hand) removed messages hand disk high) (same : m.tells → m.reading (low_disk was) ≡ m.reading disk)
+    (counts : m.count disk ≤ m.count (low_disk was)) where
   abbrev o : Opening
   o = opening_of next hand
 
@@ -165,6 +170,22 @@ module _ {D L S E : Type 0} (t : DoorsTell D L) (m : Meaning S) (stands : E → 
   left_by told sound =
       subst (λ (x : ℕ × S). StandsForCount row x.0 (m.reading x.1)) (λ i. (ap (λ (s : State). s.next) lives_on.stands.stands.state i, now_disk_is i)) (stands_for told (is_up sound))
 
+  -- .. and has the last of the messages that were found and stored
+  stands_first : m.tells → HasStored (row_of p) o [] removed messages (m.reading (low_disk parts.store))
+  stands_first told parts' cut =
+      let none : parts' ≡ [] = one_cut (row_of p) (life_made o []) parts' [] cut (record { are_parts = tt; looks = refl }) in
+      let all : messages ≡ messages ++ payloads (stored_in parts') = sym (append-nil messages) ∙ ap (λ (z : List Part). messages ++ payloads (stored_in z)) (sym none) in
+      let there : m.reading disk ≡ m.reading (low_disk parts.store) = sym (same told) ∙ ap (λ (z : LowStore S). m.reading (low_disk z)) (sym store_was) in
+      subst (λ (z : SessionRow × List (List ℕ) × List ℕ). StandsForLast z.0 removed z.1 z.2) (λ i. (sym row_is i, all i, there i))
+      (stands_for_last row next removed messages (m.reading disk) found.count (found.stands told).0)
+
+  stored_by : m.tells → is_lost (phase_after row o lived_parts) ≡ false → StandsForLast row removed (messages ++ payloads (stored_in lived_parts)) (m.reading now_disk)
+  stored_by told sound =
+      let has = lent.ran.stores told (is_up sound) o [] removed messages lived (stands_first told) in
+      let made : List Made = stayed [] lent.ran.stays in
+      let cut : IsCut (row_of q) (life_made o (made ++ [])) lived_parts = subst (λ (z : List Made). IsCut (row_of q) (life_made o z) lived_parts) (sym (append-nil made)) lives_on.stands.stands.cut in
+      subst (λ (z : SessionRow × S). StandsForLast z.0 removed (messages ++ payloads (stored_in lived_parts)) (m.reading z.1)) (λ i. (row_after i, now_disk_is i)) (has lived_parts cut)
+
   levels : IsEndOf stands shape parts.ends (row_of parts.process) → TellLevels row (stayed [] lent.ran.stays)
   levels end =
       subst (λ (z : SessionRow). TellLevels z (stayed [] lent.ran.stays)) row_before (lent.ran.levels end)
@@ -172,13 +193,16 @@ module _ {D L S E : Type 0} (t : DoorsTell D L) (m : Meaning S) (stands : E → 
   -- the end had read nothing before
   rising : (l : Low) (h : High) → l.pairs ≡ [] → StandsFitting (stands parts.ends) parts.process l h → NeverFall (pairs_of (stayed [] lent.ran.stays))
   rising l h none fits =
-      let read = lent.ran.pairs l h fits in
+      let read = lent.ran.does l h fits in
       subst NeverFall (read.pairs_are ∙ ap (λ (ps : List (ℕ × ℕ)). ps ++ pairs_of (stayed [] lent.ran.stays)) none) (read.falls (subst NeverFall (sym none) tt))
 
   pub low_served : IsLawfulRow row → IsCount next (is_some hand) → IsEndOf stands shape parts.ends (row_of parts.process) → (l : Low) (h : High) → l.pairs ≡ [] → StandsFitting (stands parts.ends) parts.process l h
-      → LowServed t m row rounds key side written now_written faults now_faults disk now_disk end
+      → LowServed t m row rounds key side written now_written faults now_faults disk high now_disk end
   low_served lawful counted end_is_rows l h none fits = record {
     opening = o;
+    removed = removed;
+    messages = messages;
+    hand = hand;
     found = found;
     is_opened = lent.ran.is_opened;
     stays = lent.ran.stays;
@@ -200,7 +224,7 @@ module _ {D L S E : Type 0} (t : DoorsTell D L) (m : Meaning S) (stands : E → 
     readable = record { opening = (begins counted).opening; coarse = (begins counted).coarse; looks = stays_readable row o lent.ran.stays lawful are_stays };
     levels = levels end_is_rows;
     rising = rising l h none fits;
-    left = λ told. (lived_parts, subst (λ (r : SessionRow). IsCut r (life_made o (stayed [] lent.ran.stays)) lived_parts) row_after lives_on.stands.stands.cut, left_by told);
+    left = λ told. (lived_parts, subst (λ (r : SessionRow). IsCut r (life_made o (stayed [] lent.ran.stays)) lived_parts) row_after lives_on.stands.stands.cut, λ sound. (left_by told sound, stored_by told sound));
     device = counts_from (Some end) (m.count disk) (m.count (low_disk parts.store)) (m.count now_disk) first_counts
         (subst (λ (x : S). CountsEnd (Some end) (m.count (low_disk parts.store)) (m.count x)) now_disk_is lent.ran.device);
   }

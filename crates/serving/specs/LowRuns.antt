@@ -15,7 +15,7 @@ use Rattle.low_process.specs.Whole.{HasStore}
 use Rattle.relay_threads.specs.Levels.{IsEndOf}
 use Rattle.relay_threads.specs.LowServes.{Lives}
 use Rattle.relay_threads.specs.LowStays.{Stay, IsRecord, StaysSo, TellsVisit, is_kept_by, stayed, steps, answers, moments_in, words_in, text_in}
-use Rattle.relay_threads.specs.PairsRead.{ReadsPairs}
+use Rattle.relay_threads.specs.LowEnds.{DoesSo, StoresSo}
 use Rattle.relay_threads.specs.Reaching.{Reaches}
 use Rattle.relay_threads.specs.RecordLines.{first_text}
 use Rattle.relay_threads.specs.Replays.{BeginsReadable, TellLevels}
@@ -50,7 +50,8 @@ pub record LowRan {R L W S E : Type 0} (t : DoorsTell R L) (m : Meaning S) (give
   pub tape : Reaches (Appends written now_written) faults now_faults (is_kept_by (Some end)) (opening_text v ++ text_in (row_of v.process) stays)
   pub begins : IsCount (found_in v).count (found_in v).is_held → BeginsReadable (row_of v.process) (found_in v)
   pub levels : IsEndOf stands shape v.ends (row_of v.process) → TellLevels (row_of v.process) (stayed [] stays)
-  pub pairs : ReadsPairs stands v.ends w.ends v.process w.process (stayed [] stays)
+  pub does : DoesSo stands shape v.ends w.ends v.process w.process (stayed [] stays)
+  pub stores : StoresSo m v.store w.store v.process w.process (stayed [] stays)
   pub is_record : (o : Opening) → Lives v.process o [] → IsRecord (row_of v.process) stays
   pub store : HasStore m w.process w.store
   pub counts : m.count (low_disk v.store) ≤ m.count (low_disk w.store)

@@ -80,7 +80,7 @@ where
     requires high_ends { (l : Low) × H.stands high_ends l new_high }
     ensures low { IfEnded result.end (λ ends. LowServed (doors P.Door.port P.Door.did P.Door.gives (links P.Link.gives P.Link.sent P.Link.faults)) D.told row.now rounds key
         (side P.did P.faults K.reads low_side.old low_side.new) (O.written tape.old) (O.written tape.new) (O.faults tape.old) (O.faults tape.new)
-        low result.low ends.low) }
+        low high result.low ends.low) }
     ensures high { IfEnded result.end (λ ends. HighServed (doors P.Door.port P.Door.did P.Door.gives (links P.Link.gives P.Link.sent P.Link.faults)) D.told row.now rounds
         (side P.did P.faults K.reads high_side.old high_side.new) high result.high ends.high) }
     ensures opens { OpensBy D.told row.now low high result.low result.high result.end }
@@ -168,7 +168,7 @@ where
     // The two workers, each by itself.
     ensures low { IfEnded result.end (λ ends. LowServed (doors P.Door.port P.Door.did P.Door.gives (links P.Link.gives P.Link.sent P.Link.faults)) D.told row.now rounds key
         (side P.did P.faults K.reads low_side.old low_side.new) (O.written tape.old) (O.written tape.new) (O.faults tape.old) (O.faults tape.new)
-        low result.low ends.low) }
+        low high result.low ends.low) }
     ensures high { IfEnded result.end (λ ends. HighServed (doors P.Door.port P.Door.did P.Door.gives (links P.Link.gives P.Link.sent P.Link.faults)) D.told row.now rounds
         (side P.did P.faults K.reads high_side.old high_side.new) high result.high ends.high) }
     // The other ends, by their causes, and what they leave.

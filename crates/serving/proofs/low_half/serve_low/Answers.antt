@@ -4,7 +4,7 @@ use Rattle.std.specs.Io.KnownBytes.{Appends}
 use Rattle.pump_link.proofs.Grown.{Draws-nil, Grows-nil}
 use Rattle.relay_threads.specs.LowStays.{Stay}
 use Rattle.relay_threads.proofs.LowStaying.{stays_none}
-use Rattle.relay_threads.proofs.PairsRead.{reads_none}
+use Rattle.relay_threads.proofs.LowEnds.{does_none, stores_none}
 use Rattle.relay_threads.proofs.Reaching.{reaches_behind}
 use Rattle.serving.specs.LowRuns.{opening_text}
 use Rattle.serving.proofs.LowServes.{opening_broke, opening_reads, opening_written}
@@ -31,7 +31,8 @@ returns-then-is_err g c =
           c.row.ensures c.next-next.ensures c.is_err.ensures.value c.if-is_err.true w.err w.cause;
       begins = opening_reads _ _ parts c.row.ensures c.next-next.ensures w.reads;
       levels = λ end. tt;
-      pairs = reads_none g.L.LowSide.stands parts.ends parts.process;
+      does = does_none g.L.LowSide.stands g.L.LowSide.shape parts.ends parts.process;
+      stores = stores_none g.D.Disk.told parts.store parts.process;
       is_record = λ o lives. refl;
       store = c.requires.ready.of;
       counts = omega arith;
@@ -42,7 +43,7 @@ pub returns : goal.returns
 returns g c =
     let r = c.low_rounds.ensures in
     let w = c.write_opening.ensures in
-    let (stays, so, ends, did, gave, links, moments, words, tape, is_record, levels, pairs) = r.rounds in
+    let (stays, so, ends, did, gave, links, moments, words, tape, is_record, levels, does, stores) = r.rounds in
     let opening = opening_written _ _ _ _ _ c.args.parts.now c.row.ensures c.next-next.ensures (c.is_err.ensures.value) c.if-is_err.false w.ok in
     record {
       is_opened = true;
@@ -58,7 +59,8 @@ returns g c =
       begins = opening_reads _ _ c.args.parts.now c.row.ensures c.next-next.ensures w.reads;
       tape = reaches_behind (Appends (g.O.Sink.written c.args.tape.now) (g.O.Sink.written c.low_rounds.new.tape)) (Appends (g.O.Sink.written c.write_opening.new.tape) (g.O.Sink.written c.low_rounds.new.tape)) _ _ _ _ (opening_text c.args.parts.now) _ w.cause.later (λ rest more. Appends-trans _ _ _ _ rest opening more) tape;
       levels = levels;
-      pairs = pairs;
+      does = does;
+      stores = stores;
       is_record = is_record;
       store = r.ready.of;
       counts = r.counts;

@@ -9,7 +9,7 @@ use Rattle.script_reader.proofs.Opened.{row_capacity}
 use Rattle.stable_buffer.specs.Low.{low_disk}
 use Rattle.stable_buffer.specs.High.{high_disk}
 use Rattle.serving.specs.declared.doors.WorkersEnd.{WorkersEnd}
-use Rattle.serving.proofs.Dealt.{comes_next, first_number, held_is}
+use Rattle.serving.proofs.Dealt.{comes_next, first_number, finds_low}
 use Rattle.serving.proofs.HighServes.{high_served, high_counts}
 use Rattle.serving.proofs.LowServes.{low_served, low_counts}
 use Rattle.serving.proofs.Opens.{ended_so, no_doors, wants_door, wants_thread, always_opened, opens_so, both_ways, high_calls, rose_so}
@@ -60,8 +60,8 @@ returns g c = record {
       let row = c.args.row.now in
       let (messages, stands, dealt) = e.dealt in
       ended_so served.result.ends c.end_of.result c.end_of.ensures _ _ served.ensures.low
-      (λ (ends : WorkersEnd) lent. low_served _ g.D.Disk.told g.L.LowSide.stands g.L.LowSide.shape row _ c.args.key _ _ _ _ _ o.next o.low_hand c.start_low-low.result o.low served.result.low c.args.low c.into_disk.result ends.low lent
-      s.row s.next s.held s.lives s.words s.store c.into_disk.ensures (λ told. (o.removed, messages, stands told, held_is o.low_hand (o.next == o.removed + row.capacity) (o.next - 1) e.hands.last)) e.calls_low.counts c.requires.lawful s.counted
+      (λ (ends : WorkersEnd) lent. low_served _ g.D.Disk.told g.L.LowSide.stands g.L.LowSide.shape row _ c.args.key _ _ _ _ _ o.next o.low_hand c.start_low-low.result o.low served.result.low c.args.low c.args.high c.into_disk.result ends.low lent
+      s.row s.next s.held s.lives s.words s.store c.into_disk.ensures o.removed messages (finds_low g.D.Disk.told row o.removed o.next messages o.high_hand o.low_hand _ _ c.args.low c.args.high dealt e.hands stands e.removed) e.moves_low.reads e.calls_low.counts c.requires.lawful s.counted
       (still_end g.L.LowSide.stands g.L.LowSide.shape c.args.low_ends c.start_low-low.result.ends row (row_of c.start_low-low.result.process) (ap g.L.LowSide.shape s.kept ∙ e.ends.0) s.row c.requires.averages)
       (record new_low { forwarded = passing row.capacity (numbered o.removed messages) }) new_high refl
       (s.fits _ _ (dealt.fills new_low new_high c.requires.low_ends refl) (comes_next row.capacity o.removed o.next messages o.high_hand o.low_hand (row_capacity row c.requires.lawful).0 dealt.count dealt.places e.hands)));
@@ -106,8 +106,8 @@ returns g c = record {
       let calls = high_calls m row c.args.low c.args.high (high_disk o.high) _ e.calls_high in (
         both_ways served.result.ends _ _ _ served.ensures.low_kept
             (λ low. subst (λ (d : g.row.D.Denot). m.count c.args.low ≤ m.count d) (sym (c.into_disk.ensures ∙ ap low_disk (low ∙ s.store))) e.calls_low.counts) served.ensures.low
-            (λ (ends : WorkersEnd) lent. low_counts _ m g.L.LowSide.stands g.L.LowSide.shape row _ c.args.key _ _ _ _ _ o.next o.low_hand c.start_low-low.result o.low served.result.low c.args.low c.into_disk.result ends.low lent
-            s.row s.next s.held s.lives s.words s.store c.into_disk.ensures (λ told. (o.removed, messages, stands told, held_is o.low_hand (o.next == o.removed + row.capacity) (o.next - 1) e.hands.last)) e.calls_low.counts),
+            (λ (ends : WorkersEnd) lent. low_counts _ m g.L.LowSide.stands g.L.LowSide.shape row _ c.args.key _ _ _ _ _ o.next o.low_hand c.start_low-low.result o.low served.result.low c.args.low c.args.high c.into_disk.result ends.low lent
+            s.row s.next s.held s.lives s.words s.store c.into_disk.ensures o.removed messages (finds_low g.D.Disk.told row o.removed o.next messages o.high_hand o.low_hand _ _ c.args.low c.args.high dealt e.hands stands e.removed) e.moves_low.reads e.calls_low.counts),
         both_ways served.result.ends _ _ _ served.ensures.high_kept
             (λ high. subst (λ (d : g.row.D.Denot). m.count c.args.high ≤ m.count d) (sym (c.into_disk-2.ensures ∙ ap high_disk (high ∙ h.store))) calls) served.ensures.high
             (λ (ends : WorkersEnd) lent. high_counts _ m g.H.HighSide.stands row _ _ o.removed o.high_hand c.start_high-high.result o.high served.result.high c.args.high c.into_disk-2.result ends.high lent

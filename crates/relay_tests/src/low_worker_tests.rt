@@ -4,12 +4,12 @@ ghost use Rattle.passage.specs.Plain.{StandsFor as EndsStandFor};
 ghost use Rattle.low_process.specs.Ready.{Ready};
 ghost use Rattle.low_process.specs.Looks.{last_of, is_down};
 
-use crate::fixtures::{bytes, link, row};
+use crate::fixtures::{Few, bytes, link, row};
 use crate::low_bench::{LowBench, low_bench};
 use disk_model::{Disk, MemDisk, PlainDisk};
 use pump_link::{Clock, ListWords, MemLink, MemPorts, MemSink, Ports, Sink, StepClock};
 use relay_threads::{
-    LowServed, LowWhy, Open, RoundsEnd, Unwatched, low_rounds, serve_low, write_opening,
+    LowServed, LowWhy, RoundsEnd, Unwatched, low_rounds, serve_low, write_opening,
 };
 use std::alloc::Global;
 use std::sync::Wait;
@@ -65,6 +65,7 @@ fn serve<D: Disk + Drop, R: Wait>(
     mut bench: LowBench<D>,
     desk: &mut Desk,
     link: &mut MemLink,
+    gate: &mut Few,
     looks: u64,
 ) -> (LowServed, u64)
     requires ready { Ready D.told bench.process bench.store (EndsStandFor bench.ends.0) }
@@ -80,7 +81,7 @@ fn serve<D: Disk + Drop, R: Wait>(
         &mut bench.store,
         &mut bench.ends,
         &mut desk.tape,
-        &mut Open,
+        gate,
         looks,
     );
     (served, bench.store.accepted())
@@ -92,6 +93,8 @@ struct Case {
     coming: &'static str,
     is_failing: bool,
     looks: u64,
+    // How many rounds the gate lets pass.
+    passes: u64,
     why: LowWhy,
     rounds: u64,
     sent: &'static str,
@@ -104,6 +107,7 @@ const CASE: Case = Case {
     coming: SENDS,
     is_failing: false,
     looks: 10,
+    passes: 10,
     why: LowWhy::Gone,
     rounds: 5,
     sent: SERVED,
@@ -124,7 +128,11 @@ fn is_served_so<R: Wait>(rt: &R, alloc: Global, case: Case) -> Result<bool, Fail
     let mut link = link(alloc, 0, coming.as_slice(), case.is_failing)?;
     let mut desk = Desk::new(alloc, 1000)?;
     let bench = low_bench(alloc, PlainDisk::new(alloc, 110)?, 0)?;
-    let (served, stored) = serve(rt, bench, &mut desk, &mut link, case.looks);
+    let mut gate = Few {
+        looks: case.passes,
+        stops: 0,
+    };
+    let (served, stored) = serve(rt, bench, &mut desk, &mut link, &mut gate, case.looks);
     let wanted = LowServed {
         why: case.why,
         looks: case.rounds,
@@ -208,6 +216,17 @@ fn connections_are_served(rt: HostRuntime) -> Result<(), Fail> {
                      # low 1 10 welcome 0\n",
             ..CASE
         },
+        Case {
+            // as many rounds as the gate lets pass
+            passes: 1,
+            why: LowWhy::Stopped,
+            rounds: 1,
+            sent: WELCOME,
+            stored: 0,
+            record: "told 1 10 00000001 fine - raw 4e500101000000010000000000000000000d776561746865723a7761746368\n\
+                     # low 1 10 welcome 0\n",
+            ..CASE
+        },
     ]
     .into_iter()
     .enumerate()
@@ -233,7 +252,11 @@ fn a_message_that_comes_often_is_stored_once(rt: HostRuntime) -> Result<(), Fail
     let mut link = repeats(alloc, 1000)?;
     let mut desk = Desk::new(alloc, 400_000)?;
     let bench = low_bench(alloc, PlainDisk::new(alloc, 110)?, 0)?;
-    let (served, stored) = serve(&rt, bench, &mut desk, &mut link, 5000);
+    let mut gate = Few {
+        looks: 5000,
+        stops: 0,
+    };
+    let (served, stored) = serve(&rt, bench, &mut desk, &mut link, &mut gate, 5000);
     // The HELLO, the message in three rounds, each repeat in two, and the end.
     let wanted = LowServed {
         why: LowWhy::Gone,

@@ -22,7 +22,8 @@ use Rattle.high_process.specs.Ends.{TakesUp, told_time, FitsEnd, StandsFitting}
 use Rattle.high_process.specs.Looks.{StandsFor, Looked}
 use Rattle.relay_threads.specs.HighRounds.{Round, past_after, past_by, served}
 use Rattle.relay_threads.specs.HighStays.{Stay, stayed, stay_after}
-use Rattle.relay_threads.specs.HighEnds.{payloads, answer_if, answer_by, answer_made, answers_in, answers_at_stay, answers_over, given, misses, HasTaken, TakesBy, LookTakes, TakesSo, StayTakes, StaysTake}
+use Rattle.relay_threads.specs.StoredMessages.{payloads}
+use Rattle.relay_threads.specs.HighEnds.{answer_if, answer_by, answer_made, answers_in, answers_at_stay, answers_over, given, misses, HasTaken, TakesBy, LookTakes, TakesSo, StayTakes, StaysTake}
 use Rattle.relay_threads.proofs.HighTurning.{same_task, made_ok, made_err}
 
 -- ---- lists of answers ----

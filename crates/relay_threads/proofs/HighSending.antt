@@ -18,7 +18,8 @@ use Rattle.relay_threads.specs.declared.high_round.Plan.TheVariants.{End, Pass, 
 use Rattle.relay_threads.specs.Hearings.{heard_as}
 use Rattle.relay_threads.specs.HighRounds.{Made, Round, IsDone, LooksBy, MakesLook, AreRounds, past_by, past_after, served, with_hand, data_of, data_by, data_made, data_sent, plan_of, frame_heard, is_attached}
 use Rattle.relay_threads.specs.HighStays.{Stay, Alone, With, IsStay, AreStays, stayed, stay_after}
-use Rattle.relay_threads.specs.HighEnds.{payloads, answer_if, answer_by, answer_made, answers_in, answers_at_stay, answers_over, given, HasMessage, data_at, data_over, messages_of}
+use Rattle.relay_threads.specs.StoredMessages.{payloads}
+use Rattle.relay_threads.specs.HighEnds.{answer_if, answer_by, answer_made, answers_in, answers_at_stay, answers_over, given, HasMessage, data_at, data_over, messages_of}
 use Rattle.relay_threads.proofs.HighEnding.{given_more, wanted_none}
 
 -- the messages are those that are removed, and the one in the hand

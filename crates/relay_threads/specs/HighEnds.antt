@@ -1,6 +1,6 @@
 -- What a high worker does at its end of the passage. Rounds and stays have their newest first, all other
 -- lists their oldest.
-use Rattle.std.specs.Prelude.{◌≡◌, ℕ, ◌+◌, ◌-◌, ◌≤◌, Bool, true, false, List, [], ◌∷◌, ◌++◌, length, map, slice_get, flat_map, count_by, Option, Some, None, is_none, option_map, option_to_list, Result, Ok, Err}
+use Rattle.std.specs.Prelude.{◌≡◌, ℕ, ◌+◌, ◌-◌, ◌≤◌, Bool, true, false, List, [], ◌∷◌, ◌++◌, length, slice_get, flat_map, count_by, Option, Some, None, is_none, option_map, option_to_list, Result, Ok, Err}
 use Rattle.pump_frame.specs.declared.frame.Frame.{Frame}
 use Rattle.pump_frame.specs.declared.frame.Item.{Item}
 use Rattle.pump_frame.specs.declared.row.SessionRow.{SessionRow}
@@ -16,9 +16,7 @@ use Rattle.high_process.specs.Ends.{StandsFitting}
 use Rattle.high_process.specs.Looks.{StandsFor}
 use Rattle.relay_threads.specs.HighRounds.{Made, Round, past_after, served, data_sent}
 use Rattle.relay_threads.specs.HighStays.{Stay, Alone, With, stayed, stay_after}
-
-abbrev pub payloads : List Item → List (List ℕ)
-payloads items = map (λ x. x.payload) items
+use Rattle.relay_threads.specs.StoredMessages.{payloads}
 
 -- ---- what the end answers ----
 

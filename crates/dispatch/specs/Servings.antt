@@ -57,7 +57,7 @@ module _ {D L S : Type 0} (t : DoorsTell D L) (m : Meaning S) (looks : ℕ) (low
     pub unchanged : ReadsAlike before after
 
   -- The session was opened over its two disks, and where both doors were too, each worker served: the low one with
-  -- the words of the key, and the high one by itself.
+  -- the words of the key, and the high one with the hand that the low disk gives.
   pub record HasServed (row : SessionRow) (key : List ℕ) (end : SessionEnd) (now_written : Option (List ℕ)) (now_out_faults : ℕ) : Type 0 where
     pub low : S
     pub now_low : S
@@ -71,7 +71,7 @@ module _ {D L S : Type 0} (t : DoorsTell D L) (m : Meaning S) (looks : ℕ) (low
     pub wanting : end ≡ session_ends.NoDoor → WantDoor low_side.ports high_side.ports row.low_port row.high_port
     pub unstarted : end ≡ session_ends.NoThread → OpensAndShuts low_side.ports row.low_port × OpensAndShuts high_side.ports row.high_port
     pub low_worker : IfEnded end (λ ends. LowServed t m row looks key low_side written now_written out_faults now_out_faults low high now_low ends.low)
-    pub high_worker : IfEnded end (λ ends. HighServed t m row looks high_side high now_high ends.high)
+    pub high_worker : IfEnded end (λ ends. HighServed t m row looks high_side low high now_high ends.high)
     pub still : has_run end ≡ false → (m.reading now_low ≡ m.reading low) × (m.reading now_high ≡ m.reading high) × (now_written ≡ written)
         × Draws low_side.reads low_side.now_reads [] × Draws high_side.reads high_side.now_reads []
     pub closed : is_opened end ≡ false → IsUnused low_side × IsUnused high_side

@@ -18,17 +18,17 @@ use Rattle.relay_threads.specs.Workers.{CountsEnd}
 use Rattle.relay_threads.specs.declared.rounds_end.RoundsEnd.{RoundsEnd}
 use Rattle.serving.specs.Doors.{DoorsTell}
 use Rattle.serving.specs.HighRuns.{HighLent}
-use Rattle.serving.specs.HighServing.{HighServed}
+use Rattle.serving.specs.HighServing.{HighServed, IsOldest}
 use Rattle.relay_side.specs.Sides.{SideTells}
 use Rattle.serving.specs.declared.high_half.HighParts.{HighParts}
 use Rattle.serving.proofs.LowServes.{counts_from}
 
 module _ {D L S E : Type 0} (t : DoorsTell D L) (m : Meaning S) (ends_stand : E → Low → High → Type 0) (row : SessionRow) (rounds : ℕ) (side : SideTells D L)
-    (removed : ℕ) (hand : Option Item) (parts : HighParts S E) (was store : HighStore S) (disk now_disk : S) (end : RoundsEnd)
+    (removed : ℕ) (hand : Option Item) (parts : HighParts S E) (was store : HighStore S) (low disk now_disk : S) (end : RoundsEnd)
     (lent : HighLent t m ends_stand side row.high_port rounds parts store end)
     (row_is : row_of parts.process ≡ row) (stands : StandsFor parts.process (fresh removed hand))
     (found : m.tells → HighStands row removed (m.reading disk)) (next : IfSome hand (λ item. item.number ≡ removed))
-    (store_was : parts.store ≡ was) (now_is : now_disk ≡ high_disk store) (counts : m.count disk ≤ m.count (high_disk was)) where
+    (dealt : m.tells → IsOldest row removed hand (m.reading low)) (store_was : parts.store ≡ was) (now_is : now_disk ≡ high_disk store) (counts : m.count disk ≤ m.count (high_disk was)) where
   abbrev p : HighProcess
   p = parts.process
 
@@ -57,12 +57,13 @@ module _ {D L S E : Type 0} (t : DoorsTell D L) (m : Meaning S) (ends_stand : E 
       let stands = subst (λ (r : SessionRow). StandsFor q (stayed r (fresh removed hand) lent.ran.stays)) row_before (lent.ran.so.past has.up (fresh removed hand) stood) in
       subst (λ (x : ℕ × S). StandsForRemoved x.0 (m.reading x.1)) (λ i. ((has.count ∙ stands.holds.removed) i, now_disk_is i)) (has.ready.stands told)
 
-  pub high_served : HighServed t m row rounds side disk now_disk end
+  pub high_served : HighServed t m row rounds side low disk now_disk end
   high_served = record {
     removed = removed;
     hand = hand;
     found = found;
     next = next;
+    dealt = dealt;
     stays = lent.ran.stays;
     are = subst (λ (r : SessionRow). AreStays r (fresh removed hand) lent.ran.stays) row_before (lent.ran.so.rule (fresh removed hand) stood);
     ends = lent.ran.ends;

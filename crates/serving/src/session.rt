@@ -82,7 +82,7 @@ where
         (side P.did P.faults K.reads low_side.old low_side.new) (O.written tape.old) (O.written tape.new) (O.faults tape.old) (O.faults tape.new)
         low high result.low ends.low) }
     ensures high { IfEnded result.end (λ ends. HighServed (doors P.Door.port P.Door.did P.Door.gives (links P.Link.gives P.Link.sent P.Link.faults)) D.told row.now rounds
-        (side P.did P.faults K.reads high_side.old high_side.new) high result.high ends.high) }
+        (side P.did P.faults K.reads high_side.old high_side.new) low high result.high ends.high) }
     ensures opens { OpensBy D.told row.now low high result.low result.high result.end }
     ensures wanting { result.end ≡ SessionEnd.NoDoor → WantDoor (ports P.did P.faults low_side.old.ports low_side.new.ports) (ports P.did P.faults high_side.old.ports high_side.new.ports) row.now.low_port row.now.high_port }
     ensures unstarted { result.end ≡ SessionEnd.NoThread → OpensAndShuts (ports P.did P.faults low_side.old.ports low_side.new.ports) row.now.low_port × OpensAndShuts (ports P.did P.faults high_side.old.ports high_side.new.ports) row.now.high_port }
@@ -170,7 +170,7 @@ where
         (side P.did P.faults K.reads low_side.old low_side.new) (O.written tape.old) (O.written tape.new) (O.faults tape.old) (O.faults tape.new)
         low high result.low ends.low) }
     ensures high { IfEnded result.end (λ ends. HighServed (doors P.Door.port P.Door.did P.Door.gives (links P.Link.gives P.Link.sent P.Link.faults)) D.told row.now rounds
-        (side P.did P.faults K.reads high_side.old high_side.new) high result.high ends.high) }
+        (side P.did P.faults K.reads high_side.old high_side.new) low high result.high ends.high) }
     // The other ends, by their causes, and what they leave.
     ensures opens { OpensBy D.told row.now low high result.low result.high result.end }
     ensures wanting { result.end ≡ SessionEnd.NoDoor → WantDoor (ports P.did P.faults low_side.old.ports low_side.new.ports) (ports P.did P.faults high_side.old.ports high_side.new.ports) row.now.low_port row.now.high_port }

@@ -71,9 +71,10 @@ returns g c = record {
       let s = c.start_high-high.ensures in
       let served = c.serve_doors-served in
       let row = c.args.row.now in
+      let (messages, stands, dealt) = e.dealt in
       ended_so served.result.ends c.end_of.result c.end_of.ensures _ _ served.ensures.high
-      (λ (ends : WorkersEnd) lent. high_served _ g.D.Disk.told g.H.HighSide.stands row _ _ o.removed o.high_hand c.start_high-high.result o.high served.result.high c.args.high c.into_disk-2.result ends.high lent
-      s.row s.stands e.removed (first_number o.high_hand _ o.removed e.hands.first) s.store c.into_disk-2.ensures (high_calls g.D.Disk.told row c.args.low c.args.high (high_disk o.high) _ e.calls_high));
+      (λ (ends : WorkersEnd) lent. high_served _ g.D.Disk.told g.H.HighSide.stands row _ _ o.removed o.high_hand c.start_high-high.result o.high served.result.high c.args.low c.args.high c.into_disk-2.result ends.high lent
+      s.row s.stands e.removed (first_number o.high_hand _ o.removed e.hands.first) (λ told. (o.next, messages, stands told, dealt.hands.first)) s.store c.into_disk-2.ensures (high_calls g.D.Disk.told row c.args.low c.args.high (high_disk o.high) _ e.calls_high));
   opens = opens_so c.serve_doors-served.result.ends c.end_of.result c.end_of.ensures g.D.Disk.told c.args.row.now c.args.low c.args.high c.into_disk.result c.into_disk-2.result c.in-Ok.ensures.fine;
   wanting =
       λ is.
@@ -110,8 +111,8 @@ returns g c = record {
             s.row s.next s.held s.lives s.words s.store c.into_disk.ensures o.removed messages (finds_low g.D.Disk.told row o.removed o.next messages o.high_hand o.low_hand _ _ c.args.low c.args.high dealt e.hands stands e.removed) e.moves_low.reads e.calls_low.counts),
         both_ways served.result.ends _ _ _ served.ensures.high_kept
             (λ high. subst (λ (d : g.row.D.Denot). m.count c.args.high ≤ m.count d) (sym (c.into_disk-2.ensures ∙ ap high_disk (high ∙ h.store))) calls) served.ensures.high
-            (λ (ends : WorkersEnd) lent. high_counts _ m g.H.HighSide.stands row _ _ o.removed o.high_hand c.start_high-high.result o.high served.result.high c.args.high c.into_disk-2.result ends.high lent
-            h.row h.stands e.removed (first_number o.high_hand _ o.removed e.hands.first) h.store c.into_disk-2.ensures calls),
+            (λ (ends : WorkersEnd) lent. high_counts _ m g.H.HighSide.stands row _ _ o.removed o.high_hand c.start_high-high.result o.high served.result.high c.args.low c.args.high c.into_disk-2.result ends.high lent
+            h.row h.stands e.removed (first_number o.high_hand _ o.removed e.hands.first) (λ told. (o.next, messages, stands told, dealt.hands.first)) h.store c.into_disk-2.ensures calls),
       );
   some_memory = search rules;
 }

@@ -1,3 +1,4 @@
+pub mod Appending
 pub mod Asking
 pub mod Bytes
 pub mod Comparing
@@ -7,5 +8,9 @@ pub mod OneSending
 pub mod Outgoing
 pub mod PayloadLaws
 pub mod SendingLines
+pub mod Streaming
 pub mod Taking
+pub mod Tries
 pub mod Turning
+pub mod Visiting
+pub mod Welcoming

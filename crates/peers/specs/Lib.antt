@@ -1,3 +1,5 @@
+pub mod Appender
+pub mod Appending
 pub mod Laws
 pub mod Looks
 pub mod Outputs

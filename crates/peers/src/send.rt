@@ -35,7 +35,7 @@ pub enum SendEnd {
 }
 
 /// Prints that a message is acknowledged, and says whether the line was written whole.
-fn print_ack<O: Sink>(out: &mut O, number: u64) -> bool
+pub(crate) fn print_ack<O: Sink>(out: &mut O, number: u64) -> bool
     ensures printed { PrintsPart (O.written out.old) (O.written out.new) result (ack_line number) }
     ensures later { O.faults out.old ≤ O.faults out.new }
     ensures failed { result ≡ false → Rose (O.faults out.old) (O.faults out.new) }

@@ -7,9 +7,9 @@ ghost use Rattle.high_receiver.specs.Receiving.{IsRecvReady, recv_row};
 use crate::fixtures::{link, row};
 use disk_model::{Disk, PlainDisk, Role};
 use high_receiver::Receiver;
-use peers::{ReceiveEnd, SendEnd, receive_with, send_with};
+use peers::{AppendEnd, Appended, ReceiveEnd, SendEnd, append_with, receive_with, send_with};
 use pump_frame::SessionRow;
-use pump_link::{MemLink, MemSink, MemSource};
+use pump_link::{MemLink, MemPorts, MemSink, MemSource};
 use stable_buffer::{Register, format};
 use std::alloc::Global;
 use std::test::Fail;
@@ -96,6 +96,109 @@ fn a_sender_sends_what_is_not_stored(rt: HostRuntime) -> Result<(), Fail> {
     ];
     for (number, case) in rows.iter().enumerate() {
         assert!(rt; sends(rt.alloc(), &row, case)?, "case {number}");
+    }
+    Ok(())
+}
+
+// What a sender of a stream is given on its links, one after the other, and what must come of it.
+#[derive(Clone, Copy)]
+struct AppendRow<'a> {
+    script: &'a [u8],
+    links: &'a [&'a [&'a [u8]]],
+    looks: u32,
+    end: AppendEnd,
+    lines: u32,
+    next: u64,
+    printed: &'a [u8],
+    sent: &'a [&'a [&'a [u8]]],
+}
+
+// Whether the links that came back were sent these frames.
+fn were_sent(alloc: Global, ports: &MemPorts, sent: &[&[&[u8]]]) -> Result<bool, Fail> {
+    let backs = ports.given_back();
+    if backs.len() != sent.len() {
+        return Ok(false);
+    }
+    for (back, frames) in backs.iter().zip(sent) {
+        let bytes = joined(alloc, frames)?;
+        if back.sent() != bytes.as_slice() {
+            return Ok(false);
+        }
+    }
+    Ok(true)
+}
+
+fn appends(alloc: Global, row: &SessionRow, case: &AppendRow) -> Result<bool, Fail> {
+    let mut links = Vec::new(alloc);
+    for frames in case.links {
+        let coming = joined(alloc, frames)?;
+        links.push(link(alloc, 0, coming.as_slice(), false)?)?;
+    }
+    let script = joined(alloc, &[case.script])?;
+    let room = vec![in alloc; 0; 64]?;
+    let mut ports = MemPorts::new(links, Vec::new(alloc));
+    let mut script = MemSource::new(script, 3, Vec::new(alloc));
+    let mut out = MemSink::new(room, 3, Vec::new(alloc));
+    let appended = append_with(row, case.looks, &mut ports, &mut script, &mut out);
+    let wanted = Appended {
+        end: case.end,
+        lines: case.lines,
+        next: case.next,
+    };
+    Ok(appended == wanted && out.written() == case.printed && were_sent(alloc, &ports, case.sent)?)
+}
+
+// A connection breaks before a message is accepted, and after it. Once another sender has appended, and once no
+// look is left.
+#[test]
+fn a_stream_goes_on_behind_what_is_accepted(rt: HostRuntime) -> Result<(), Fail> {
+    let Some(row) = row() else {
+        return Err(Fail::new("no row"));
+    };
+    let rows = [
+        AppendRow {
+            script: b"61\n61\n",
+            links: &[&[WELCOME_0], &[WELCOME_0, ACK_0, ACK_1]],
+            looks: 100,
+            end: AppendEnd::Done,
+            lines: 2,
+            next: 2,
+            printed: b"ack 0\nack 1\n",
+            sent: &[&[HELLO, DATA_0], &[HELLO, DATA_0, DATA_1]],
+        },
+        AppendRow {
+            script: b"61\n61\n",
+            links: &[&[WELCOME_0], &[WELCOME_1, ACK_1]],
+            looks: 100,
+            end: AppendEnd::Done,
+            lines: 2,
+            next: 2,
+            printed: b"ack 0\nack 1\n",
+            sent: &[&[HELLO, DATA_0], &[HELLO, DATA_1]],
+        },
+        AppendRow {
+            script: b"61\n",
+            links: &[&[WELCOME_1], &[WELCOME_0]],
+            looks: 100,
+            end: AppendEnd::Elsewhere { number: 0 },
+            lines: 0,
+            next: 1,
+            printed: b"",
+            sent: &[&[HELLO, DATA_1], &[HELLO]],
+        },
+        AppendRow {
+            script: b"61\n61\n",
+            links: &[&[WELCOME_0, ACK_0]],
+            looks: 100,
+            end: AppendEnd::Unfinished,
+            lines: 1,
+            next: 1,
+            printed: b"ack 0\n",
+            sent: &[&[HELLO, DATA_0, DATA_1]],
+        },
+    ];
+    for (number, case) in rows.iter().enumerate() {
+        assert!(rt; appends(rt.alloc(), &row, case)?, "case {number}");
     }
     Ok(())
 }

@@ -7,6 +7,15 @@ use crate::rounds_end::RoundsEnd;
 /// Is told what happens at the doors of a relay, at once and by the worker of that door, in its own thread.
 /// Nothing that the relay does depends on it: it takes nothing back.
 pub trait Watch {
+    /// The low worker begins its rounds, and its door is open.
+    fn low_began(&self);
+
+    /// A message waits in Low's hand, since the buffer is full. Told at each look that finds it so.
+    fn low_full(&self);
+
+    /// A message passed into the buffer.
+    fn low_passed(&self);
+
     /// A link came at the low door.
     fn low_came(&self);
 
@@ -15,6 +24,9 @@ pub trait Watch {
 
     /// The low worker has ended, and its door is shut.
     fn low_ended(&self, end: RoundsEnd);
+
+    /// The high worker begins its rounds, and its door is open.
+    fn high_began(&self);
 
     /// A link came at the high door.
     fn high_came(&self);
@@ -30,11 +42,19 @@ pub trait Watch {
 pub struct Unwatched;
 
 impl Watch for Unwatched {
+    fn low_began(&self) {}
+
+    fn low_full(&self) {}
+
+    fn low_passed(&self) {}
+
     fn low_came(&self) {}
 
     fn low_left(&self, _why: LowWhy) {}
 
     fn low_ended(&self, _end: RoundsEnd) {}
+
+    fn high_began(&self) {}
 
     fn high_came(&self) {}
 

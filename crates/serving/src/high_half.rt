@@ -74,6 +74,7 @@ impl<P: Ports, K: Clock, D: Disk, H: WaitHighEnd> ServesHigh<RelaySide<P, K>>
         let Some(mut door) = self.door.take() else {
             return;
         };
+        watch.high_began();
         let parts = &mut self.parts;
         self.end = serve_high(rt, &mut door, parts, &mut side.clock, watch, rounds);
         side.ports.shut(door);

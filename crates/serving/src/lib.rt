@@ -9,6 +9,7 @@ mod laws;
 mod low_half;
 mod session;
 mod starting;
+mod watched;
 mod works;
 
 pub use doors::WorkersEnd;

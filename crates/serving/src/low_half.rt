@@ -89,6 +89,7 @@ impl<P: Ports, K: Clock, W: Words, D: Disk, L: WaitLowEnd, O: Sink> ServesLow<Re
         let Some(mut door) = self.door.take() else {
             return;
         };
+        watch.low_began();
         let parts = &mut self.parts;
         self.end = serve_low(rt, &mut door, parts, &mut side.clock, tape, watch, rounds);
         side.ports.shut(door);

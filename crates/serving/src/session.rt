@@ -11,6 +11,7 @@ ghost use Rattle.relay_side.specs.Sides.{ports, side};
 
 use crate::doors::{NotServed, WorkersEnd, serve_doors};
 use crate::starting::{start_high, start_low};
+use crate::watched::WatchedLow;
 use disk_model::{Disk, Role};
 use passage::{Calm, WaitHighEnd, WaitLowEnd};
 use pump_frame::SessionRow;
@@ -188,12 +189,16 @@ where
         };
     };
     let (low_end, high_end) = passage.ends();
+    let low_end = WatchedLow {
+        ends: Calm(low_end),
+        watch,
+    };
     serve_over(
         rt,
         row,
         low,
         high,
-        Calm(low_end),
+        low_end,
         Calm(high_end),
         low_side,
         high_side,

@@ -13,6 +13,6 @@ serve_over-requires-clause-high_ends g c κs within = (new_low, c.ends-low_end.e
 
 pub serve_over-requires-clause-averages : goal.serve_over-requires-clause-averages
 serve_over-requires-clause-averages g c κs within = (
-  (λ e l h stands. subst (λ (z : Low). All (λ p. IsAveraged (e.0).averaging p.1) z.pairs) (sym stands.1) stands.0.averaged),
+  (λ e l h stands. subst (λ (z : Low). All (λ p. IsAveraged (e.ends.0).averaging p.1) z.pairs) (sym stands.1) stands.0.averaged),
   ap (λ (s : Shape). s.averaging) (c.ends-low_end.ensures.low_shape ∙ c.in-Ok.ensures.shape),
 )
